@@ -1,0 +1,9 @@
+pub mod Closing
+pub mod Jumps
+pub mod Lines
+pub mod Overlay
+pub mod PairSteps
+pub mod Tables
+pub mod TextSteps
+pub mod TokensOf
+pub mod Writing

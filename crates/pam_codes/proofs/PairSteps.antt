@@ -1,0 +1,34 @@
+use Rattle.std.proofs.Common.{◌≡◌, ℕ, List, [], ◌∷◌, Result, Ok, Err, refl}
+use Rattle.pam_codes.specs.declared.action.Action.{Action}
+use Rattle.pam_codes.specs.declared.subject.Subject.{Subject}
+use Rattle.pam_codes.specs.declared.error.ControlError.{ControlError}
+use Rattle.pam_codes.specs.declared.error.ControlError.TheVariants.{BadControl, BadAction}
+use Rattle.pam_codes.specs.Control.{◌>>=◌, Pairs, subject_of, equals_sign, action_named, pairs_of, with_front}
+
+-- where the first of three tokens is wrong
+pub bad_subject : (word : List ℕ) (rest : List (List ℕ)) (e : ControlError) → subject_of word ≡ Err e → pairs_of (word ∷ rest) ≡ Err e
+unfolding pairs_of
+bad_subject word [] e h = rw h refl
+bad_subject word (b ∷ []) e h = rw h refl
+bad_subject word (b ∷ c ∷ rest) e h = rw h refl
+
+pub no_sign : (word : List ℕ) (rest : List (List ℕ)) (s : Subject) → subject_of word ≡ Ok s → rest ≡ [] → pairs_of (word ∷ rest) ≡ Err BadControl
+unfolding pairs_of
+no_sign word rest s h e = rw (e, h) refl
+
+pub bad_sign : (word sign : List ℕ) (rest behind : List (List ℕ)) (s : Subject) (f : ControlError) → subject_of word ≡ Ok s → rest ≡ sign ∷ behind → equals_sign sign ≡ Err f → pairs_of (word ∷ rest) ≡ Err f
+unfolding pairs_of
+bad_sign word sign rest [] s f h e n = rw (e, h, n) refl
+bad_sign word sign rest (c ∷ more) s f h e n = rw (e, h, n) refl
+
+pub no_action : (word sign : List ℕ) (rest behind : List (List ℕ)) (s : Subject) → subject_of word ≡ Ok s → rest ≡ sign ∷ behind → equals_sign sign ≡ Ok tt → behind ≡ [] → pairs_of (word ∷ rest) ≡ Err BadAction
+unfolding pairs_of
+no_action word sign rest behind s h e n m = rw (e, m, h, n) refl
+
+pub bad_action : (word sign name : List ℕ) (rest behind last : List (List ℕ)) (s : Subject) (f : ControlError) → subject_of word ≡ Ok s → rest ≡ sign ∷ behind → equals_sign sign ≡ Ok tt → behind ≡ name ∷ last → action_named name ≡ Err f → pairs_of (word ∷ rest) ≡ Err f
+unfolding pairs_of
+bad_action word sign name rest behind last s f h e n m a = rw (e, m, h, n, a) refl
+
+pub whole_pair : (word sign name : List ℕ) (rest behind last : List (List ℕ)) (s : Subject) (x : Action) → subject_of word ≡ Ok s → rest ≡ sign ∷ behind → equals_sign sign ≡ Ok tt → behind ≡ name ∷ last → action_named name ≡ Ok x → pairs_of (word ∷ rest) ≡ with_front (s, x) (pairs_of last)
+unfolding pairs_of
+whole_pair word sign name rest behind last s x h e n m a = rw (e, m, h, n, a) refl

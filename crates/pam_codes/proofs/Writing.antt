@@ -1,0 +1,97 @@
+-- How what was written joins up, call by call.
+use Rattle.std.proofs.Common.{◌≡◌, ℕ, ◌+◌, ◌-◌, ◌^◌, ◌<◌, ◌≤◌, min, List, [], ◌++◌, length, take, drop, refl, sym, ap, subst, ◌∙◌, arith, length-append, length-take, length-drop, append_assoc, append-nil, Option, Some, None, Result, Ok, Err}
+use Rattle.std.proofs.lemmas.List.{take-append-drop}
+use Rattle.std.proofs.KnownBytes.{Appends-trans, Appends-nil}
+use lib.Seq.{take-add, take-take}
+use Rattle.std.specs.Io.KnownBytes.{Appends, Keeps}
+use Rattle.pam_codes.specs.Out.{saturated, Took, TookAll, TookFront, Writes}
+use Rattle.std.specs.Prelude.{IsErr}
+use Rattle.pam_codes.specs.declared.out.Out.{Out}
+use Rattle.pam_codes.specs.declared.out.Device.{Device}
+
+Appends-kept_nil : (a b : Option (List ℕ)) → Keeps a b → Appends a b []
+Appends-kept_nil None b k = tt
+Appends-kept_nil (Some x) None k = absurd k
+Appends-kept_nil (Some x) (Some y) k = k ∙ sym (append-nil x)
+
+module _ {W : Type 0} {contents : W → Option (List ℕ)} where
+  -- nothing was written yet
+  pub took-none : (s : Out W) → Took contents s s []
+  took-none s = let fits = s.countable in record { held = Appends-nil _; counted = omega arith }
+
+  -- nothing was asked for yet
+  pub all-none : (s : Out W) → TookAll contents s s []
+  all-none s = record { took = took-none s; as_before = refl }
+
+  -- a call that took nothing
+  pub took-kept : {old new : Out W} → Keeps (contents old.inner) (contents new.inner) → new.taken ≡ old.taken → Took contents old new []
+  took-kept {old} k e = let fits = old.countable in record { held = Appends-kept_nil _ _ k; counted = omega arith }
+
+  pub took-then : {old mid new : Out W} {a b : List ℕ} → Took contents old mid a → Took contents mid new b → Took contents old new (a ++ b)
+  took-then {a} {b} s t = record {
+    held = Appends-trans _ _ _ _ _ s.held t.held;
+    counted = let e = length-append a b in let f = s.counted in let g = t.counted in omega (arith, e, f, g);
+  }
+
+  -- one more piece of the bytes, after the first k
+  pub took-more : {old mid new : Out W} (bytes : List ℕ) (k n : ℕ) → n ≤ length bytes - k
+      → Took contents old mid (take k bytes) → Took contents mid new (take n (take (length bytes - k) (drop k bytes)))
+      → Took contents old new (take (k + n) bytes)
+  took-more {old} {mid} {new} bytes k n fits s t =
+      let joined = ap (λ l. take k bytes ++ l) (take-take n (length bytes - k) (drop k bytes) fits) ∙ sym (take-add k n bytes) in
+      subst (λ l. Took contents old new l) joined (took-then s t)
+
+  -- a failure after the first k bytes
+  pub front-at : {old mid new : Out W} (bytes : List ℕ) (k : ℕ) → Took contents old mid (take k bytes) → Took contents mid new []
+      → new.failures ≡ old.failures + 1 → TookFront contents old new bytes
+  front-at {old} {mid} {new} bytes k s t e = record {
+    front = take k bytes;
+    rest = drop k bytes;
+    parts = take-append-drop k bytes;
+    took = subst (λ l. Took contents old new l) (append-nil (take k bytes)) (took-then s t);
+    failed = e;
+  }
+
+  -- two texts, both taken whole
+  pub all-then : {old mid new : Out W} {a b : List ℕ} → TookAll contents old mid a → TookAll contents mid new b → TookAll contents old new (a ++ b)
+  all-then s t = record { took = took-then s.took t.took; as_before = t.as_before ∙ s.as_before }
+
+  -- a text taken whole, and then a prefix of the next
+  pub front-then : {old mid new : Out W} {a b : List ℕ} → TookAll contents old mid a → TookFront contents mid new b → TookFront contents old new (a ++ b)
+  front-then {a = a} s t = record {
+    front = a ++ t.front;
+    rest = t.rest;
+    parts = append_assoc a t.front t.rest ∙ ap (λ l. a ++ l) t.parts;
+    took = took-then s.took t.took;
+    failed = t.failed ∙ ap (λ n. n + 1) s.as_before;
+  }
+
+  -- a prefix of a text is one of each longer text
+  pub front-longer : {old new : Out W} {a : List ℕ} (b : List ℕ) → TookFront contents old new a → TookFront contents old new (a ++ b)
+  front-longer b s = record {
+    front = s.front;
+    rest = s.rest ++ b;
+    parts = sym (append_assoc s.front s.rest b) ∙ ap (λ l. l ++ b) s.parts;
+    took = s.took;
+    failed = s.failed;
+  }
+
+  -- the call that ends a function
+  pub writes-then : {old mid : Out W} {a : List ℕ} (new : Out W) (b : List ℕ) (r : Result (Unit {0}) Device) → TookAll contents old mid a → Writes contents mid new r b → Writes contents old new r (a ++ b)
+  writes-then new b (Ok x) s t = all-then s t
+  writes-then new b (Err x) s t = front-then s t
+
+  -- the call that failed ends a function
+  pub err-front : {old new : Out W} {text : List ℕ} (r : Result (Unit {0}) Device) → IsErr r → TookFront contents old new text → Writes contents old new r text
+  err-front (Ok x) e s = cc
+  err-front (Err x) e s = s
+
+  -- the same text, written another way
+  pub all-is : {old new : Out W} {a b : List ℕ} → TookAll contents old new a → a ≡ b → TookAll contents old new b
+  all-is {old} {new} s e = subst (λ l. TookAll contents old new l) e s
+
+  pub front-is : {old new : Out W} {a b : List ℕ} → TookFront contents old new a → a ≡ b → TookFront contents old new b
+  front-is {old} {new} s e = subst (λ l. TookFront contents old new l) e s
+
+pub writes-is : {W : Type 0} (contents : W → Option (List ℕ)) (old new : Out W) (a b : List ℕ) (r : Result (Unit {0}) Device) → Writes contents old new r a → a ≡ b → Writes contents old new r b
+writes-is contents old new a b r s e = subst (λ l. Writes contents old new r l) e s

@@ -1,0 +1,17 @@
+use Rattle.std.proofs.Common.{◌≡◌, length, Ok}
+use Rattle.pam_codes.specs.Tokens.{tokens_of}
+use Rattle.pam_codes.specs.Control.{pairs_of, listed, ◌>>=◌}
+use Rattle.pam_codes.proofs.Overlay.{actions_after}
+use Rattle.pam_codes.proofs.control.Control.from_list.Given as goal
+
+-- what is read so far and the pairs of what is left make what all make
+abbrev pub invariant-loop-word : goal.invariant-loop-word
+invariant-loop-word l = record {
+  can : (goal.iterator-loop-word).can_next l.tokens;
+  finite : (goal.iterator-loop-word).is_finite l.tokens;
+  few : length l.named ≡ 31;
+  same : (pairs_of (tokens_of l.tokens.rest.now) >>= λ ps. Ok (actions_after l.named l.default ps)) ≡ listed (tokens_of l.text);
+}
+
+abbrev pub decreases-loop-word : goal.decreases-loop-word
+decreases-loop-word l = length (tokens_of l.tokens.rest.now)

@@ -1,0 +1,16 @@
+-- The text of a line that is written in pieces.
+use Rattle.std.specs.Prelude.{ℕ, List, [], ◌∷◌, ◌++◌, decimal, codes}
+use Rattle.pam_codes.specs.declared.line.Piece.{Piece}
+use Rattle.pam_codes.specs.declared.line.Piece.TheVariants.{Bytes, Number}
+
+abbrev pub piece_text : Piece → List ℕ
+piece_text (Bytes bytes) = bytes.now
+piece_text (Number n) = decimal n
+
+abbrev pub line_text : List Piece → List ℕ
+line_text [] = []
+line_text (piece ∷ pieces) = piece_text piece ++ line_text pieces
+
+-- `NUMBER FILE:LINE` of a module, as an example
+abbrev pub place_text : List ℕ → ℕ → List ℕ
+place_text file line = file ++ codes ":" ++ decimal line ++ codes "\n"

@@ -1,0 +1,106 @@
+ghost use Rattle.std.specs.Prelude.{◌≡◌, ◌<◌, ◌^◌, Some, None, position, option_and_then, slice_get, nat_lt, if◌then◌else◌};
+ghost use Rattle.pam_codes.specs.Code.{code_names, same_name};
+
+use std::marker::Model;
+
+/// The number of codes.
+pub const CODES: usize = 31;
+
+/// Whether two texts are one name, whatever the case of their letters.
+pub fn is_name(name: &[u8], text: &[u8]) -> bool
+    ensures { result ≡ same_name name.now text.now }
+{
+    name.eq_ignore_ascii_case(text)
+}
+
+/// What a module returns: a number from 0 to 30.
+#[derive(Clone, Copy, Debug, PartialEq, Eq, PartialOrd, Ord)]
+pub struct Code {
+    number: u8,
+}
+
+impl Model for Code {
+    ghost use Rattle.std.specs.Prelude.{ℕ, ◌<◌};
+
+    ghost Value = { ℕ };
+
+    ghost view = { λ c. c.number };
+
+    ghost invariant = { λ c. c.number < 31 };
+
+    ghost inverse = { λ n. record { number = n } };
+}
+
+impl Code {
+    /// The code of a number, if it has one.
+    pub fn new(number: u8) -> Option<Code>
+        ensures { result ≡ (if nat_lt number 31 then Some number else None) }
+    {
+        if number < 31 {
+            Some(Code { number })
+        } else {
+            None
+        }
+    }
+
+    pub fn number(self) -> u8
+        ensures value { result ≡ self }
+        ensures range { result < 31 }
+    {
+        self.number
+    }
+
+    /// The name in configuration text.
+    #[tactic(auto, unfolding(crate::specs::Code::code_names))]
+    pub fn name(self) -> &'static str
+        ensures { slice_get code_names self ≡ Some result.now }
+    {
+        match self.number {
+            0 => "success",
+            1 => "open_err",
+            2 => "symbol_err",
+            3 => "service_err",
+            4 => "system_err",
+            5 => "buf_err",
+            6 => "perm_denied",
+            7 => "auth_err",
+            8 => "cred_insufficient",
+            9 => "authinfo_unavail",
+            10 => "user_unknown",
+            11 => "maxtries",
+            12 => "new_authtok_reqd",
+            13 => "acct_expired",
+            14 => "session_err",
+            15 => "cred_unavail",
+            16 => "cred_expired",
+            17 => "cred_err",
+            18 => "no_module_data",
+            19 => "conv_err",
+            20 => "authtok_err",
+            21 => "authtok_recover_err",
+            22 => "authtok_lock_busy",
+            23 => "authtok_disable_aging",
+            24 => "try_again",
+            25 => "ignore",
+            26 => "abort",
+            27 => "authtok_expired",
+            28 => "module_unknown",
+            29 => "bad_item",
+            30 => "conv_again",
+            _ => unreachable!(),
+        }
+    }
+
+    /// The code of a name, in either case.
+    pub fn from_name(name: &[u8]) -> Option<Code>
+        ensures { result ≡ position (λ n. same_name n name.now) code_names }
+    {
+        for number in 0..31 {
+            let code = Code { number };
+            if code.name().as_bytes().eq_ignore_ascii_case(name) {
+                return Some(code);
+            }
+        }
+        None
+    }
+}

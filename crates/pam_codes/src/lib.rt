@@ -1,0 +1,21 @@
+//! Return codes, actions and controls of PAM rules; the text of a file; the writer that counts.
+#![tactic(auto)]
+
+mod action;
+mod code;
+mod control;
+mod error;
+mod line;
+mod out;
+mod subject;
+mod text;
+mod tokens;
+
+pub use action::Action;
+pub use code::{Code, is_name};
+pub use control::Control;
+pub use error::ControlError;
+pub use line::Piece;
+pub use out::{Device, Out};
+pub use text::Text;
+pub use tokens::is_blank_byte;

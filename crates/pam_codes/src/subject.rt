@@ -1,0 +1,32 @@
+ghost use Rattle.std.specs.Prelude.{◌≡◌};
+ghost use Rattle.pam_codes.specs.Control.{subject_of};
+
+use crate::code::{Code, is_name};
+use crate::error::ControlError;
+
+/// What a pair of a control speaks of.
+#[derive(Clone, Copy, Debug, PartialEq, Eq)]
+pub(crate) enum Subject {
+    Named(Code),
+    /// A value that is read and never used.
+    Incomplete,
+    /// Each code that no pair names.
+    Default,
+}
+
+impl Subject {
+    #[tactic(auto, unfolding(crate::specs::Control::subject_of))]
+    pub(crate) fn from_name(word: &[u8]) -> Result<Subject, ControlError>
+        ensures { result ≡ subject_of word.now }
+    {
+        if let Some(code) = Code::from_name(word) {
+            Ok(Subject::Named(code))
+        } else if is_name(b"incomplete", word) {
+            Ok(Subject::Incomplete)
+        } else if is_name(b"default", word) {
+            Ok(Subject::Default)
+        } else {
+            Err(ControlError::BadValue)
+        }
+    }
+}

@@ -1,0 +1,133 @@
+ghost use Rattle.std.specs.Prelude.{◌≡◌, ◌∷◌, ◌+◌, ◌^◌, ◌≤◌, ◌<◌, [], ℕ, List, length, false, not, ◌==◌, MatchOption, IfSome, IsTrue, ◌↔◌};
+ghost use Rattle.std.specs.List.{prefix_len};
+ghost use Rattle.std.specs.Iterator.{YieldsFirst, item_count};
+ghost use Rattle.pam_codes.specs.Text.{text_of, past_comment};
+
+/// The bytes of a file from a place on, without comments and with continued lines joined: each with the number of its line.
+#[derive(Drop)]
+pub struct Text<'a> {
+    rest: &'a [u8],
+    line: usize,
+    ghost counted: { line + length rest.now < 2 ^ 64 },
+}
+
+/// How many bytes stand before the first line feed.
+fn comment_len(bytes: &[u8]) -> usize
+    ensures value { result ≡ prefix_len (λ b. not (b == 10)) bytes.now }
+    ensures bound { result ≤ length bytes.now }
+{
+    bytes.iter().take_while(|b| **b != b'\n').count()
+}
+
+/// What follows when a comment that may stand here is passed over.
+fn skip_comment(bytes: &[u8]) -> &[u8]
+    ensures value { result.now ≡ past_comment bytes.now }
+    ensures bound { length result.now ≤ length bytes.now }
+{
+    if !bytes.is_empty() && bytes[0] == b'#' {
+        bytes.split_at(comment_len(bytes)).1
+    } else {
+        bytes
+    }
+}
+
+/// A byte of the text, the bytes behind it, and how many line feeds it takes.
+#[derive(Clone, Copy)]
+struct Step<'a> {
+    byte: u8,
+    behind: &'a [u8],
+    feeds: usize,
+}
+
+/// The first byte of the text that the bytes spell.
+fn first_step(bytes: &[u8]) -> Option<Step<'_>>
+    ensures text { MatchOption result ((line : ℕ) → text_of line bytes.now ≡ [])
+        (λ s. (line : ℕ) → text_of line bytes.now ≡ (line, s.byte) ∷ text_of (line + s.feeds) s.behind.now) }
+    ensures bound { IfSome result (λ s. s.feeds + length s.behind.now ≤ length bytes.now) }
+{
+    let (first, behind) = skip_comment(bytes).split_first()?;
+    match *first {
+        b'\n' => Some(Step {
+            byte: b'\n',
+            behind,
+            feeds: 1,
+        }),
+        b'\\' => Some(backslash_step(behind)),
+        byte => Some(Step {
+            byte,
+            behind,
+            feeds: 0,
+        }),
+    }
+}
+
+/// What a backslash spells with the bytes behind it: one space where a line feed follows.
+fn backslash_step(behind: &[u8]) -> Step<'_>
+    ensures text { (bytes : List ℕ) (line : ℕ) → past_comment bytes ≡ 92 ∷ behind.now → text_of line bytes ≡ (line, result.byte) ∷ text_of (line + result.feeds) result.behind.now }
+    ensures bound { result.feeds + length result.behind.now ≤ length behind.now }
+{
+    match after_feed(skip_comment(behind)) {
+        Some(joined) => Step {
+            byte: b' ',
+            behind: joined,
+            feeds: 1,
+        },
+        None => Step {
+            byte: b'\\',
+            behind,
+            feeds: 0,
+        },
+    }
+}
+
+/// What stands behind a line feed, if one comes first.
+fn after_feed(bytes: &[u8]) -> Option<&[u8]>
+    ensures value { MatchOption result ((more : List ℕ) → bytes.now ≡ 10 ∷ more → ⊥) (λ r. bytes.now ≡ 10 ∷ r.now) }
+    ensures bound { IfSome result (λ r. length r.now < length bytes.now) }
+{
+    let (first, rest) = bytes.split_first()?;
+    if *first == b'\n' { Some(rest) } else { None }
+}
+
+impl<'a> Text<'a> {
+    pub fn of(rest: &'a [u8]) -> Self
+        requires { length rest.now < 2 ^ 32 }
+        ensures line { result.line ≡ 1 }
+        ensures rest { result.rest.now ≡ rest.now }
+    {
+        Text { rest, line: 1 }
+    }
+
+    /// The number of the line in which the rest begins.
+    pub fn line(&self) -> usize
+        ensures { result ≡ self.now.line }
+    {
+        self.line
+    }
+
+    /// Whether nothing is left.
+    pub fn is_done(&self) -> bool
+        ensures { IsTrue result ↔ (text_of self.now.line self.now.rest.now ≡ []) }
+    {
+        match first_step(self.rest) {
+            None => true,
+            Some(_) => false,
+        }
+    }
+}
+
+impl<'a> Iterator for Text<'a> {
+    type Item = (usize, u8);
+
+    ghost next_gives = { YieldsFirst (λ s. text_of s.line s.rest.now) };
+
+    ghost remaining = { item_count (λ s. text_of s.line s.rest.now) };
+
+    fn next(&mut self) -> Option<(usize, u8)> {
+        let step = first_step(self.rest)?;
+        let line = self.line;
+        self.rest = step.behind;
+        self.line += step.feeds;
+        Some((line, step.byte))
+    }
+}
