@@ -1,9 +1,15 @@
 pub mod Closing
+pub mod CodeSets
+pub mod ControlParts
 pub mod Jumps
 pub mod Lines
+pub mod Mentions
 pub mod Overlay
 pub mod PairSteps
 pub mod Tables
+pub mod TextLines
 pub mod TextSteps
 pub mod TokensOf
 pub mod Writing
+pub mod WrittenPairs
+pub mod WrittenWords

@@ -1,4 +1,4 @@
-use Rattle.std.proofs.Common.{◌≡◌, ◌<◌, ◌≤◌, ◌+◌, ℕ, Bool, true, false, List, [], ◌∷◌, length, get_or, slice_set, Option, Some, None, unwrap_or, Result, Ok, Err, map, cond, eqb, ap, ◌∙◌, sym, refl, arith, get_or-set_same, get_or-set_other, replicate, zero, suc}
+use Rattle.std.proofs.Common.{◌≡◌, ◌<◌, ◌≤◌, ℕ, Bool, true, false, List, [], ◌∷◌, length, get_or, slice_set, Option, Some, None, unwrap_or, Result, Ok, Err, map, cond, eqb, ap, ◌∙◌, sym, refl, arith, get_or-set_same, get_or-set_other, replicate, zero, suc}
 use Rattle.std.specs.List.{range_with_len}
 use Rattle.std.specs.Option.{option_or}
 use Rattle.std.proofs.lemmas.List.{ext_get_or}
@@ -9,7 +9,8 @@ use Rattle.pam_codes.specs.declared.action.Action.TheVariants.{Bad}
 use Rattle.pam_codes.specs.declared.subject.Subject.{Subject}
 use Rattle.pam_codes.specs.declared.subject.Subject.TheVariants.{Named, Incomplete, Default}
 use Rattle.pam_codes.specs.declared.error.ControlError.{ControlError}
-use Rattle.pam_codes.specs.Control.{◌>>=◌, Pairs, last_named, first_default, action_of, actions_of, all_codes, pairs_of, with_front, listed}
+use Rattle.pam_codes.specs.Code.{all_codes}
+use Rattle.pam_codes.specs.Control.{◌>>=◌, Pairs, last_named, first_default, actions_of, pairs_of, with_front}
 
 -- the action of a code, where pairs that were read before gave `named` and `default`, and ps are still to come
 abbrev pub action_after : List (Option Action) → Option Action → Pairs → ℕ → Action

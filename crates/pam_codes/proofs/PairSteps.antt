@@ -1,9 +1,11 @@
-use Rattle.std.proofs.Common.{◌≡◌, ℕ, List, [], ◌∷◌, Result, Ok, Err, refl}
+use Rattle.std.proofs.Common.{◌≡◌, ℕ, List, [], ◌∷◌, Ok, Err, refl}
 use Rattle.pam_codes.specs.declared.action.Action.{Action}
 use Rattle.pam_codes.specs.declared.subject.Subject.{Subject}
 use Rattle.pam_codes.specs.declared.error.ControlError.{ControlError}
 use Rattle.pam_codes.specs.declared.error.ControlError.TheVariants.{BadControl, BadAction}
-use Rattle.pam_codes.specs.Control.{◌>>=◌, Pairs, subject_of, equals_sign, action_named, pairs_of, with_front}
+use Rattle.pam_codes.specs.Action.{action_named}
+use Rattle.pam_codes.specs.Subject.{subject_of}
+use Rattle.pam_codes.specs.Control.{equals_sign, pairs_of, with_front}
 
 -- where the first of three tokens is wrong
 pub bad_subject : (word : List ℕ) (rest : List (List ℕ)) (e : ControlError) → subject_of word ≡ Err e → pairs_of (word ∷ rest) ≡ Err e

@@ -1,6 +1,6 @@
-use Rattle.std.proofs.Common.{◌≡◌, ◌<◌, ◌≤◌, ◌+◌, ◌&&◌, ◌||◌, ℕ, Bool, true, false, not, List, [], ◌∷◌, length, get_or, drop, cond, eqb, ap, ◌∙◌, sym, refl, arith, one-add}
+use Rattle.std.proofs.Common.{◌≡◌, ◌+◌, ℕ, Bool, true, false, not, List, [], ◌∷◌, length, get_or, drop, cond, eqb, ap, ◌∙◌, sym, refl, arith, one-add}
 use Rattle.std.specs.List.{prefix_len}
-use Rattle.std.proofs.lemmas.Bool.{eqb-true, eqb-false, false≢true}
+use Rattle.std.proofs.lemmas.Bool.{eqb-true}
 use Rattle.pam_codes.specs.Text.{Mark, marked, uncommented, joined, text_of, past_comment}
 
 pub unequal : (a b : ℕ) → (a ≡ b → ⊥) → eqb a b ≡ false

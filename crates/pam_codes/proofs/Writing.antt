@@ -1,13 +1,23 @@
--- How what was written joins up, call by call.
-use Rattle.std.proofs.Common.{◌≡◌, ℕ, ◌+◌, ◌-◌, ◌^◌, ◌<◌, ◌≤◌, min, List, [], ◌++◌, length, take, drop, refl, sym, ap, subst, ◌∙◌, arith, length-append, length-take, length-drop, append_assoc, append-nil, Option, Some, None, Result, Ok, Err}
+-- How what was written joins up, call by call. A function that writes `a ++ b ++ c` by three calls needs, at the call that
+-- fails, `err-then` or `err-then-more` over `all-then` of the calls before it, and for a last call without `?` `writes-then`.
+use Rattle.std.proofs.Common.{◌≡◌, ℕ, ◌+◌, ◌-◌, ◌<◌, ◌≤◌, List, [], ◌++◌, length, take, drop, ◌==◌, ◌&&◌, not, if◌then◌else◌, ◌∷◌, refl, sym, ap, subst, ◌∙◌, arith, length-append, append_assoc, append-nil, Option, Some, None, Result, Ok, Err}
 use Rattle.std.proofs.lemmas.List.{take-append-drop}
 use Rattle.std.proofs.KnownBytes.{Appends-trans, Appends-nil}
 use lib.Seq.{take-add, take-take}
 use Rattle.std.specs.Io.KnownBytes.{Appends, Keeps}
-use Rattle.pam_codes.specs.Out.{saturated, Took, TookAll, TookFront, Writes}
+use Rattle.pam_codes.proofs.TextSteps.{unequal}
+use Rattle.pam_codes.specs.Out.{Took, TookAll, TookFront, Writes}
 use Rattle.std.specs.Prelude.{IsErr}
 use Rattle.pam_codes.specs.declared.out.Out.{Out}
 use Rattle.pam_codes.specs.declared.out.Device.{Device}
+
+-- what a `write` that took nothing adds to the failures, and one that took some bytes
+pub fails-taking_none : (n : ℕ) (bytes : List ℕ) → n ≡ 0 → 0 < length bytes → let count : ℕ = if n == 0 && not (length bytes == 0) then 1 else 0 in count ≡ 1
+fails-taking_none n [] e h = absurd (omega (arith, h))
+fails-taking_none n (b ∷ bs) e h = rw (e, unequal (length (b ∷ bs)) 0 (λ q. omega (arith, q, h))) refl
+
+pub fails-taking_some : (n : ℕ) (bytes : List ℕ) → (n ≡ 0 → ⊥) → let count : ℕ = if n == 0 && not (length bytes == 0) then 1 else 0 in count ≡ 0
+fails-taking_some n bytes h = rw (unequal n 0 h) refl
 
 Appends-kept_nil : (a b : Option (List ℕ)) → Keeps a b → Appends a b []
 Appends-kept_nil None b k = tt
@@ -85,6 +95,13 @@ module _ {W : Type 0} {contents : W → Option (List ℕ)} where
   pub err-front : {old new : Out W} {text : List ℕ} (r : Result (Unit {0}) Device) → IsErr r → TookFront contents old new text → Writes contents old new r text
   err-front (Ok x) e s = cc
   err-front (Err x) e s = s
+
+  -- the call that failed behind all of a text, with more of the text to come
+  pub err-then : {old mid new : Out W} {a b : List ℕ} (r : Result (Unit {0}) Device) → IsErr r → TookAll contents old mid a → TookFront contents mid new b → Writes contents old new r (a ++ b)
+  err-then r e s t = err-front r e (front-then s t)
+
+  pub err-then-more : {old mid new : Out W} {a b : List ℕ} (r : Result (Unit {0}) Device) (more : List ℕ) → IsErr r → TookAll contents old mid a → TookFront contents mid new b → Writes contents old new r (a ++ b ++ more)
+  err-then-more r more e s t = err-front r e (front-longer more (front-then s t))
 
   -- the same text, written another way
   pub all-is : {old new : Out W} {a b : List ℕ} → TookAll contents old new a → a ≡ b → TookAll contents old new b

@@ -1,6 +1,12 @@
+pub mod Action
 pub mod Code
-pub mod Tokens
 pub mod Control
-pub mod Text
-pub mod Out
+pub mod ControlText
+pub mod Laws
 pub mod Line
+pub mod Out
+pub mod Set
+pub mod SetBits
+pub mod Subject
+pub mod Text
+pub mod Tokens

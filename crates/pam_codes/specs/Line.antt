@@ -1,5 +1,5 @@
 -- The text of a line that is written in pieces.
-use Rattle.std.specs.Prelude.{ℕ, List, [], ◌∷◌, ◌++◌, decimal, codes}
+use Rattle.std.specs.Prelude.{ℕ, List, [], ◌∷◌, ◌++◌, decimal}
 use Rattle.pam_codes.specs.declared.line.Piece.{Piece}
 use Rattle.pam_codes.specs.declared.line.Piece.TheVariants.{Bytes, Number}
 
@@ -10,7 +10,3 @@ piece_text (Number n) = decimal n
 abbrev pub line_text : List Piece → List ℕ
 line_text [] = []
 line_text (piece ∷ pieces) = piece_text piece ++ line_text pieces
-
--- `NUMBER FILE:LINE` of a module, as an example
-abbrev pub place_text : List ℕ → ℕ → List ℕ
-place_text file line = file ++ codes ":" ++ decimal line ++ codes "\n"

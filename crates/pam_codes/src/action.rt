@@ -1,21 +1,31 @@
-ghost use Rattle.std.specs.Prelude.{◌≡◌, ◌<◌, length, IsTrue};
+//! What a control does with an answer.
+
+ghost use Rattle.std.specs.Prelude.{◌≡◌, ◌≤◌, IsTrue, IfOk};
 ghost use Rattle.std.specs.List.{list_all};
 ghost use Rattle.std.specs.Char.{is_ascii_digit};
-ghost use Rattle.pam_codes.specs.Control.{action_named, decimal_value, is_jump_text};
+ghost use Rattle.pam_codes.specs.Action.{IsAction, action_named, action_text, decimal_value, is_jump_text, same_action};
+ghost use Rattle.pam_codes.specs.Line.{piece_text};
 
 use crate::code::is_name;
 use crate::error::ControlError;
+use crate::line::Piece;
 
-/// What the answer of a module does.
+/// What the answer of a module does to the run of its list, by pam.conf(5).
 #[derive(Clone, Copy, Debug, PartialEq, Eq)]
 pub enum Action {
+    /// Leaves the answer aside.
     Ignore,
+    /// Lets the answer count, unless an earlier one failed.
     Ok,
+    /// As `Ok`, and ends the list where none failed.
     Done,
+    /// Makes the list fail with this answer, if it is the first to fail.
     Bad,
+    /// As `Bad`, and ends the list.
     Die,
+    /// Forgets what the list has come to.
     Reset,
-    /// Passes over so many items.
+    /// Passes over so many items: in a control 1 to 999,999,999.
     Jump(u32),
 }
 
@@ -38,7 +48,8 @@ fn is_jump(word: &[u8]) -> bool
 /// The number that digits spell.
 fn decimal(digits: &[u8]) -> u32
     requires { IsTrue (is_jump_text digits.now) }
-    ensures { result ≡ decimal_value digits.now }
+    ensures value { result ≡ decimal_value digits.now }
+    ensures bound { result ≤ 999999999 }
 {
     let mut number = 0;
     for digit in digits {
@@ -48,9 +59,11 @@ fn decimal(digits: &[u8]) -> u32
 }
 
 impl Action {
-    #[tactic(auto, unfolding(crate::specs::Control::action_named))]
+    /// The action of a word of a control, in either case.
+    #[tactic(auto, unfolding(crate::specs::Action::action_named))]
     pub(crate) fn from_name(word: &[u8]) -> Result<Action, ControlError>
-        ensures { result ≡ action_named word.now }
+        ensures value { result ≡ action_named word.now }
+        ensures action { IfOk result IsAction }
     {
         if is_name(b"ignore", word) {
             Ok(Action::Ignore)
@@ -72,5 +85,27 @@ impl Action {
                 items => Ok(Action::Jump(items)),
             }
         }
+    }
+
+    /// The word in a control.
+    pub(crate) fn piece(self) -> Piece<'static>
+        ensures { piece_text result ≡ action_text self }
+    {
+        match self {
+            Action::Ignore => Piece::Bytes(b"ignore"),
+            Action::Ok => Piece::Bytes(b"ok"),
+            Action::Done => Piece::Bytes(b"done"),
+            Action::Bad => Piece::Bytes(b"bad"),
+            Action::Die => Piece::Bytes(b"die"),
+            Action::Reset => Piece::Bytes(b"reset"),
+            Action::Jump(items) => Piece::Number(u64::from(items)),
+        }
+    }
+
+    /// Whether the other is the same action.
+    pub(crate) fn is_same(self, other: Action) -> bool
+        ensures { result ≡ same_action self other }
+    {
+        self == other
     }
 }

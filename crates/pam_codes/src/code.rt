@@ -1,3 +1,5 @@
+//! Return codes and their names.
+
 ghost use Rattle.std.specs.Prelude.{◌≡◌, ◌<◌, ◌^◌, Some, None, position, option_and_then, slice_get, nat_lt, if◌then◌else◌};
 ghost use Rattle.pam_codes.specs.Code.{code_names, same_name};
 
@@ -13,7 +15,7 @@ pub fn is_name(name: &[u8], text: &[u8]) -> bool
     name.eq_ignore_ascii_case(text)
 }
 
-/// What a module returns: a number from 0 to 30.
+/// What a module returns: one of the 31 codes that pam.conf(5) names.
 #[derive(Clone, Copy, Debug, PartialEq, Eq, PartialOrd, Ord)]
 pub struct Code {
     number: u8,
@@ -43,6 +45,15 @@ impl Code {
         }
     }
 
+    /// The code of a number that is known to have one.
+    pub(crate) fn of_number(number: u8) -> Code
+        requires { number < 31 }
+        ensures { result ≡ number }
+    {
+        Code { number }
+    }
+
+    /// The number, from 0 to 30.
     pub fn number(self) -> u8
         ensures value { result ≡ self }
         ensures range { result < 31 }
@@ -91,7 +102,7 @@ impl Code {
         }
     }
 
-    /// The code of a name, in either case.
+    /// The code of a name, in either case; `incomplete` and `default` are none.
     pub fn from_name(name: &[u8]) -> Option<Code>
         ensures { result ≡ position (λ n. same_name n name.now) code_names }
     {

@@ -1,17 +1,26 @@
-ghost use Rattle.std.specs.Prelude.{◌≡◌, ◌<◌, ◌≤◌, ◌+◌, Ok, Err, false, ◌∷◌, [], List, Option, Some, None, MatchResult, OnOk, MatchOption, map, get_or, length, unwrap_or, slice_get, slice_index_or, IfSome};
+//! The control of a rule: its text, and what it makes of each return code.
+
+ghost use Rattle.std.specs.Prelude.{◌≡◌, ◌<◌, ◌≤◌, ◌+◌, ◌-◌, ◌^◌, Ok, Err, false, ◌∷◌, [], All, List, Option, Some, None, MatchResult, IfOk, OnOk, MatchOption, map, get_or, length, unwrap_or, slice_get, slice_index_or, IfSome};
 ghost use Rattle.std.specs.Option.{option_map};
+ghost use Rattle.pam_codes.specs.Action.{IsAction};
+ghost use Rattle.pam_codes.specs.Code.{all_codes, code_names};
+ghost use Rattle.pam_codes.specs.Control.{IsControl, control_of, bracket_actions, keyword_pairs, actions_of, pairs_of, closing_at, granting_pairs, token_actions, with_front, equals_sign as equals_sign_of};
+ghost use Rattle.pam_codes.specs.ControlText.{control_text, default_of, keyword_of, list_text, mention, mentions, same_actions};
+ghost use Rattle.pam_codes.specs.Out.{Writes};
 ghost use Rattle.pam_codes.specs.Tokens.{tokens_of};
-ghost use Rattle.pam_codes.specs.Control.{control_of, bracketed, keyword_pairs, actions_of, all_codes, pairs_of, closing_at, listed, with_front, equals_sign as equals_sign_of};
 
 use crate::action::Action;
 use crate::code::{CODES, Code, is_name};
 use crate::error::ControlError;
+use crate::line::Piece;
+use crate::out::{Device, Out};
 use crate::subject::Subject;
 use crate::tokens::Tokens;
+use std::io::Write;
 use std::marker::Model;
 
-/// What each return code does: an action for each of the 31.
-#[derive(Clone, Copy, Debug)]
+/// What a rule makes of each return code: an action for each of the 31.
+#[derive(Clone, Copy, Debug, PartialEq, Eq)]
 pub struct Control {
     actions: [Action; CODES],
 }
@@ -19,10 +28,13 @@ pub struct Control {
 impl Model for Control {
     ghost use Rattle.std.specs.Prelude.{List};
     ghost use Rattle.pam_codes.specs.declared.action.Action.{Action};
+    ghost use Rattle.pam_codes.specs.Control.{IsControl};
 
     ghost Value = { List Action };
 
     ghost view = { λ c. c.actions };
+
+    ghost invariant = { λ c. IsControl c.actions };
 
     ghost inverse = { λ l. record { actions = l } };
 }
@@ -30,15 +42,19 @@ impl Model for Control {
 impl Control {
     /// The action of a code.
     pub fn action(&self, code: Code) -> Action
-        ensures { slice_get self.now code ≡ Some result }
+        ensures of_code { slice_get self.now code ≡ Some result }
+        ensures action { IsAction result }
+        ensures control { IsControl self.now }
     {
         self.actions[code.number() as usize]
     }
 
     /// A control that lets success and a new token pass, and passes over ignore.
-    #[tactic(auto, unfolding(crate::specs::Control::actions_of, crate::specs::Control::all_codes))]
+    #[tactic(auto, unfolding(crate::specs::Control::actions_of, crate::specs::Code::all_codes))]
     fn keyword(granted: Action, other: Action) -> Control
-        ensures { result ≡ actions_of ((Subject.Named 0, granted) ∷ (Subject.Named 12, granted) ∷ (Subject.Named 25, Action.Ignore) ∷ (Subject.Default, other) ∷ []) }
+        requires granted { IsAction granted }
+        requires other { IsAction other }
+        ensures { result ≡ actions_of (granting_pairs granted other) }
     {
         let mut actions = [other; CODES];
         actions[0] = granted;
@@ -48,7 +64,7 @@ impl Control {
     }
 
     /// The control of a keyword, in either case.
-    #[tactic(auto, unfolding(crate::specs::Control::keyword_pairs, crate::specs::Control::actions_of, crate::specs::Control::all_codes))]
+    #[tactic(auto, unfolding(crate::specs::Control::keywords, crate::specs::Control::keyword_pairs, crate::specs::Control::actions_of, crate::specs::Code::all_codes))]
     fn from_keyword(word: &[u8]) -> Option<Control>
         ensures { result ≡ option_map actions_of (keyword_pairs word.now) }
     {
@@ -67,6 +83,8 @@ impl Control {
 
     /// The control that the actions by name and the default make.
     fn of(named: [Option<Action>; CODES], default: Action) -> Control
+        requires named { All (λ action. IfSome action IsAction) named }
+        requires default { IsAction default }
         ensures { result ≡ map (λ code. unwrap_or (slice_index_or named code None) default) all_codes }
     {
         let mut actions = [default; CODES];
@@ -78,7 +96,7 @@ impl Control {
 
     /// The control that stands between brackets.
     fn from_list(text: &[u8]) -> Result<Control, ControlError>
-        ensures { result ≡ listed (tokens_of text.now) }
+        ensures { result ≡ token_actions (tokens_of text.now) }
     {
         let mut tokens = Tokens::of(text);
         let mut named = [None; CODES];
@@ -95,9 +113,9 @@ impl Control {
     }
 
     /// The control that stands behind an opening bracket.
-    #[tactic(auto, unfolding(crate::specs::Control::bracketed))]
+    #[tactic(auto, unfolding(crate::specs::Control::bracket_actions))]
     fn from_brackets(text: &[u8]) -> Result<Control, ControlError>
-        ensures { result ≡ bracketed text.now }
+        ensures { result ≡ bracket_actions text.now }
     {
         match closing(text) {
             None => Err(ControlError::OpenBracket),
@@ -106,7 +124,8 @@ impl Control {
         }
     }
 
-    /// The control of a word as it is written, brackets included.
+    /// The control of a word as it is written, brackets included, by pam.conf(5); its first fault comes from the left,
+    /// save that an open bracket and bytes behind the closing one come before all else.
     #[tactic(auto, unfolding(crate::specs::Control::control_of))]
     pub fn read(text: &[u8]) -> Result<Control, ControlError>
         ensures { result ≡ control_of text.now }
@@ -116,6 +135,102 @@ impl Control {
         }
         Control::from_keyword(text).ok_or(ControlError::BadControl)
     }
+
+    /// Whether this is the control of a keyword with these actions.
+    fn is_keyword(&self, granted: Action, other: Action) -> bool
+        requires granted { IsAction granted }
+        requires other { IsAction other }
+        ensures { result ≡ same_actions (actions_of (granting_pairs granted other)) self.now }
+    {
+        Control::keyword(granted, other).actions == self.actions
+    }
+
+    /// The keyword that has these actions.
+    #[tactic(auto, unfolding(crate::specs::Control::keywords, crate::specs::Control::actions_of, crate::specs::Code::all_codes))]
+    fn keyword_name(&self) -> Option<&'static str>
+        ensures { MatchOption result (keyword_of self.now ≡ None) (λ word. keyword_of self.now ≡ Some word.now) }
+    {
+        if self.is_keyword(Action::Ok, Action::Bad) {
+            Some("required")
+        } else if self.is_keyword(Action::Ok, Action::Die) {
+            Some("requisite")
+        } else if self.is_keyword(Action::Done, Action::Ignore) {
+            Some("sufficient")
+        } else if self.is_keyword(Action::Ok, Action::Ignore) {
+            Some("optional")
+        } else {
+            None
+        }
+    }
+
+    /// The action that is written as `default`: that of the last code.
+    fn default_action(&self) -> Action
+        ensures value { result ≡ default_of self.now }
+        ensures control { IsControl self.now }
+    {
+        self.actions[CODES - 1]
+    }
+
+    /// Writes the pairs of the codes whose action is not the default.
+    fn write_mentions<W: Write>(&self, default: Action, out: &mut Out<W>) -> Result<(), Device>
+        requires room { out.old.failures < 2 ^ 64 - 1 }
+        requires control { IsControl self.now }
+        ensures { Writes W.contents out.old out.new result (mentions default code_names self.now) }
+    {
+        for number in 0..31 {
+            let code = Code::of_number(number);
+            write_mention(code, self.action(code), default, out)?;
+        }
+        Ok(())
+    }
+
+    /// Writes the pairs between brackets.
+    fn write_list<W: Write>(&self, out: &mut Out<W>) -> Result<(), Device>
+        requires { out.old.failures < 2 ^ 64 - 1 }
+        ensures { Writes W.contents out.old out.new result (list_text self.now) }
+    {
+        let default = self.default_action();
+        out.put(b"[")?;
+        self.write_mentions(default, out)?;
+        out.put_line(&[
+            Piece::Bytes(b"default="),
+            default.piece(),
+            Piece::Bytes(b"]"),
+        ])
+    }
+
+    /// Writes the keyword that has these actions, or else a pair for each code whose action is not that of the last,
+    /// and a default.
+    pub fn write_text<W: Write>(&self, out: &mut Out<W>) -> Result<(), Device>
+        requires { out.old.failures < 2 ^ 64 - 1 }
+        ensures { Writes W.contents out.old out.new result (control_text self.now) }
+    {
+        match self.keyword_name() {
+            Some(word) => out.put(word.as_bytes()),
+            None => self.write_list(out),
+        }
+    }
+}
+
+/// Writes the pair of a code, unless its action is the default.
+fn write_mention<W: Write>(
+    code: Code,
+    action: Action,
+    default: Action,
+    out: &mut Out<W>,
+) -> Result<(), Device>
+    requires { out.old.failures < 2 ^ 64 - 1 }
+    ensures { Writes W.contents out.old out.new result (mention default (slice_index_or code_names code []) action) }
+{
+    if action.is_same(default) {
+        return Ok(());
+    }
+    out.put_line(&[
+        Piece::Bytes(code.name().as_bytes()),
+        Piece::Bytes(b"="),
+        action.piece(),
+        Piece::Bytes(b" "),
+    ])
 }
 
 /// Where the first closing bracket stands that has no backslash directly before it.
@@ -150,6 +265,7 @@ fn pair(word: &[u8], tokens: &mut Tokens) -> Result<(Subject, Action), ControlEr
         (λ p. pairs_of (word.now ∷ tokens_of tokens.old.rest.now) ≡ with_front p (pairs_of (tokens_of tokens.new.rest.now)))
         (λ e. pairs_of (word.now ∷ tokens_of tokens.old.rest.now) ≡ Err e) }
     ensures less { length (tokens_of tokens.new.rest.now) ≤ length (tokens_of tokens.old.rest.now) }
+    ensures action { IfOk result (λ p. IsAction p.1) }
 {
     let subject = Subject::from_name(word)?;
     let Some(sign) = tokens.next() else {

@@ -5,9 +5,13 @@ mod action;
 mod code;
 mod control;
 mod error;
+pub mod laws;
 mod line;
 mod out;
+mod set;
 mod subject;
+#[cfg(test)]
+mod tests;
 mod text;
 mod tokens;
 
@@ -17,5 +21,6 @@ pub use control::Control;
 pub use error::ControlError;
 pub use line::Piece;
 pub use out::{Device, Out};
+pub use set::CodeSet;
 pub use text::Text;
 pub use tokens::is_blank_byte;

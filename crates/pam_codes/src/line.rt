@@ -1,8 +1,8 @@
 //! A line, written in pieces.
 
-ghost use Rattle.std.specs.Prelude.{◌≡◌, ℕ, ◌+◌, ◌-◌, ◌<◌, ◌^◌};
+ghost use Rattle.std.specs.Prelude.{◌-◌, ◌<◌, ◌^◌};
 ghost use Rattle.pam_codes.specs.Out.{Writes};
-ghost use Rattle.pam_codes.specs.Line.{line_text, piece_text, place_text};
+ghost use Rattle.pam_codes.specs.Line.{line_text, piece_text};
 
 use crate::out::{Device, Out};
 use std::io::Write;
@@ -11,6 +11,7 @@ use std::io::Write;
 #[derive(Clone, Copy, Debug)]
 pub enum Piece<'a> {
     Bytes(&'a [u8]),
+    /// Written in decimal digits.
     Number(u64),
 }
 
@@ -21,11 +22,11 @@ impl<W: Write> Out<W> {
     {
         match piece {
             Piece::Bytes(bytes) => self.put(bytes),
-            Piece::Number(n) => self.put_number(n),
+            Piece::Number(number) => self.put_number(number),
         }
     }
 
-    /// Writes the pieces in turn.
+    /// Writes the pieces one after another, as `put` does.
     pub fn put_line(&mut self, pieces: &[Piece<'_>]) -> Result<(), Device>
         requires { self.old.failures < 2 ^ 64 - 1 }
         ensures { Writes W.contents self.old self.new result (line_text pieces.now) }
@@ -33,31 +34,6 @@ impl<W: Write> Out<W> {
         for piece in pieces {
             self.put_piece(*piece)?;
         }
-        Ok(())
-    }
-
-    /// In one call of pieces.
-    pub fn place_by_pieces(&mut self, file: &[u8], line: u64) -> Result<(), Device>
-        requires { self.old.failures < 2 ^ 64 - 1 }
-        ensures { Writes W.contents self.old self.new result (place_text file.now line) }
-    {
-        self.put_line(&[
-            Piece::Bytes(file),
-            Piece::Bytes(b":"),
-            Piece::Number(line),
-            Piece::Bytes(b"\n"),
-        ])
-    }
-
-    /// In calls, one after another.
-    pub fn place_by_calls(&mut self, file: &[u8], line: u64) -> Result<(), Device>
-        requires { self.old.failures < 2 ^ 64 - 1 }
-        ensures { Writes W.contents self.old self.new result (place_text file.now line) }
-    {
-        self.put(file)?;
-        self.put(b":")?;
-        self.put_number(line)?;
-        self.put(b"\n")?;
         Ok(())
     }
 }

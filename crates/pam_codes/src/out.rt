@@ -1,16 +1,19 @@
-//! The writer that counts.
+//! A writer that counts what was taken and what failed.
 
 ghost use Rattle.std.specs.Prelude.{◌<◌, ◌^◌};
 
 use itoa::Buffer;
 use std::io;
 use std::io::Write;
+use thiserror::Error;
 
-/// A write that failed.
-#[derive(Clone, Copy, Debug, PartialEq, Eq)]
+/// A call of the writer that failed: it answered an error, or took nothing of what it was given.
+#[derive(Clone, Copy, Debug, PartialEq, Eq, Error)]
+#[error("the writer failed")]
 pub struct Device;
 
-/// A writer that counts the bytes taken and the calls that failed.
+/// A writer over another one, with the number of bytes taken and the number of calls that failed.
+/// Both stay at `u64::MAX` once there. It has no buffer of its own.
 #[derive(Drop)]
 pub struct Out<W> {
     inner: W,
@@ -20,10 +23,8 @@ pub struct Out<W> {
 }
 
 impl<W: Write> Out<W> {
-    ghost use Rattle.std.specs.Prelude.{◌≡◌, ℕ, ◌+◌, ◌-◌, ◌<◌, ◌≤◌, ◌^◌, min, length, IfOk, MatchResult, take, decimal, []};
-    ghost use Rattle.std.specs.Io.KnownBytes.{Keeps, Appends, WriteAppends};
-    ghost use Rattle.std.specs.Io.{WritesAtMost};
-    ghost use Rattle.pam_codes.specs.Out.{saturated, Took, TookAll, TookFront, Writes};
+    ghost use Rattle.std.specs.Prelude.{◌≡◌, ◌-◌, ◌<◌, ◌^◌, decimal, []};
+    ghost use Rattle.pam_codes.specs.Out.{Writes};
 
     pub fn new(inner: W) -> Self
         ensures inner { result.inner ≡ inner }
@@ -37,78 +38,21 @@ impl<W: Write> Out<W> {
         }
     }
 
-    pub fn inner(&self) -> &W
-        ensures { result.now ≡ self.now.inner }
-    {
-        &self.inner
-    }
-
+    /// The number of bytes that the inner writer took.
     pub fn taken(&self) -> u64
         ensures { result ≡ self.now.taken }
     {
         self.taken
     }
 
+    /// The number of calls of the inner writer that failed.
     pub fn failures(&self) -> u64
         ensures { result ≡ self.now.failures }
     {
         self.failures
     }
-}
 
-impl<W: Write> Write for Out<W> {
-    ghost use Rattle.std.specs.Prelude.{◌≡◌, ℕ, ◌+◌, ◌-◌, ◌<◌, ◌≤◌, ◌^◌, min, length, IfOk, MatchResult, take, decimal, []};
-    ghost use Rattle.std.specs.Io.KnownBytes.{Keeps, Appends, WriteAppends};
-    ghost use Rattle.std.specs.Io.{WritesAtMost};
-    ghost use Rattle.pam_codes.specs.Out.{saturated, Took, TookAll, TookFront, Writes};
-
-    ghost contents = { λ o. W.contents o.inner };
-
-    fn write(&mut self, buf: &[u8]) -> io::Result<usize>
-        ensures bound { WritesAtMost result buf.now }
-        ensures bytes { WriteAppends (W.contents self.old.inner) (W.contents self.new.inner) result buf.now }
-        ensures counted { MatchResult result (λ n. self.new.taken ≡ saturated (self.old.taken + n)) (λ _. self.new.taken ≡ self.old.taken) }
-        ensures failed { MatchResult result (λ n. n ≡ 0 → 0 < length buf.now → self.new.failures ≡ saturated (self.old.failures + 1)) (λ _. self.new.failures ≡ saturated (self.old.failures + 1)) }
-        ensures well { IfOk result (λ n. 0 < n → self.new.failures ≡ self.old.failures) }
-        ensures nothing { IfOk result (λ n. length buf.now ≡ 0 → self.new.failures ≡ self.old.failures) }
-    {
-        match self.inner.write(buf) {
-            Ok(n) => {
-                self.taken = self.taken.saturating_add(n as u64);
-                if n == 0 && !buf.is_empty() {
-                    self.failures = self.failures.saturating_add(1);
-                }
-                Ok(n)
-            }
-            Err(e) => {
-                self.failures = self.failures.saturating_add(1);
-                Err(e)
-            }
-        }
-    }
-
-    fn flush(&mut self) -> io::Result<()>
-        ensures bytes { Keeps (W.contents self.old.inner) (W.contents self.new.inner) }
-        ensures counted { self.new.taken ≡ self.old.taken }
-        ensures failed { MatchResult result (λ _. self.new.failures ≡ self.old.failures) (λ _. self.new.failures ≡ saturated (self.old.failures + 1)) }
-    {
-        match self.inner.flush() {
-            Ok(()) => Ok(()),
-            Err(e) => {
-                self.failures = self.failures.saturating_add(1);
-                Err(e)
-            }
-        }
-    }
-}
-
-impl<W: Write> Out<W> {
-    ghost use Rattle.std.specs.Prelude.{◌≡◌, ℕ, ◌+◌, ◌-◌, ◌<◌, ◌≤◌, ◌^◌, min, length, IfOk, MatchResult, take, decimal, []};
-    ghost use Rattle.std.specs.Io.KnownBytes.{Keeps, Appends, WriteAppends};
-    ghost use Rattle.std.specs.Io.{WritesAtMost};
-    ghost use Rattle.pam_codes.specs.Out.{saturated, Took, TookAll, TookFront, Writes};
-
-    /// Writes all of the bytes: on after a short write, and no more after a failure.
+    /// Writes all of the bytes: goes on after a short write, and tries nothing again after a failure, of whatever kind.
     pub fn put(&mut self, bytes: &[u8]) -> Result<(), Device>
         requires { self.old.failures < 2 ^ 64 - 1 }
         ensures { Writes W.contents self.old self.new result bytes.now }
@@ -117,22 +61,23 @@ impl<W: Write> Out<W> {
         while written < bytes.len() {
             match self.write(&bytes[written..]) {
                 Ok(0) => return Err(Device),
-                Ok(n) => written += n,
+                Ok(count) => written += count,
                 Err(_) => return Err(Device),
             }
         }
         Ok(())
     }
 
-    pub fn put_number(&mut self, n: u64) -> Result<(), Device>
+    /// Writes the number in decimal digits.
+    pub fn put_number(&mut self, number: u64) -> Result<(), Device>
         requires { self.old.failures < 2 ^ 64 - 1 }
-        ensures { Writes W.contents self.old self.new result (decimal n) }
+        ensures { Writes W.contents self.old self.new result (decimal number) }
     {
         let mut buffer = Buffer::new();
-        self.put(buffer.format(n).as_bytes())
+        self.put(buffer.format(number).as_bytes())
     }
 
-    /// Flushes, which takes no bytes.
+    /// Flushes the inner writer, once.
     pub fn finish(&mut self) -> Result<(), Device>
         requires { self.old.failures < 2 ^ 64 - 1 }
         ensures { Writes W.contents self.old self.new result [] }
@@ -141,5 +86,46 @@ impl<W: Write> Out<W> {
             Ok(()) => Ok(()),
             Err(_) => Err(Device),
         }
+    }
+}
+
+/// Each call makes one call of the inner writer.
+impl<W: Write> Write for Out<W> {
+    ghost use Rattle.std.specs.Prelude.{◌≡◌, ◌+◌};
+    ghost use Rattle.std.specs.Io.{WritesAtMost};
+    ghost use Rattle.std.specs.Io.KnownBytes.{Keeps, WriteAppends};
+    ghost use Rattle.pam_codes.specs.Out.{saturated, bytes_taken, write_failures, flush_failures};
+
+    ghost contents = { λ o. W.contents o.inner };
+
+    fn write(&mut self, buf: &[u8]) -> io::Result<usize>
+        ensures bound { WritesAtMost result buf.now }
+        ensures bytes { WriteAppends (W.contents self.old.inner) (W.contents self.new.inner) result buf.now }
+        ensures taken { self.new.taken ≡ saturated (self.old.taken + bytes_taken result) }
+        ensures failures { self.new.failures ≡ saturated (self.old.failures + write_failures result buf.now) }
+    {
+        let answer = self.inner.write(buf);
+        match &answer {
+            Ok(count) => {
+                self.taken = self.taken.saturating_add(*count as u64);
+                if *count == 0 && !buf.is_empty() {
+                    self.failures = self.failures.saturating_add(1);
+                }
+            }
+            Err(_) => self.failures = self.failures.saturating_add(1),
+        }
+        answer
+    }
+
+    fn flush(&mut self) -> io::Result<()>
+        ensures bytes { Keeps (W.contents self.old.inner) (W.contents self.new.inner) }
+        ensures taken { self.new.taken ≡ self.old.taken }
+        ensures failures { self.new.failures ≡ saturated (self.old.failures + flush_failures result) }
+    {
+        let answer = self.inner.flush();
+        if answer.is_err() {
+            self.failures = self.failures.saturating_add(1);
+        }
+        answer
     }
 }

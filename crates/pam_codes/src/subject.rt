@@ -1,5 +1,7 @@
+//! What a pair between brackets speaks of.
+
 ghost use Rattle.std.specs.Prelude.{◌≡◌};
-ghost use Rattle.pam_codes.specs.Control.{subject_of};
+ghost use Rattle.pam_codes.specs.Subject.{subject_of};
 
 use crate::code::{Code, is_name};
 use crate::error::ControlError;
@@ -15,7 +17,7 @@ pub(crate) enum Subject {
 }
 
 impl Subject {
-    #[tactic(auto, unfolding(crate::specs::Control::subject_of))]
+    #[tactic(auto, unfolding(crate::specs::Subject::subject_of))]
     pub(crate) fn from_name(word: &[u8]) -> Result<Subject, ControlError>
         ensures { result ≡ subject_of word.now }
     {

@@ -1,9 +1,12 @@
-ghost use Rattle.std.specs.Prelude.{◌≡◌, ◌∷◌, ◌+◌, ◌^◌, ◌≤◌, ◌<◌, [], ℕ, List, length, false, not, ◌==◌, MatchOption, IfSome, IsTrue, ◌↔◌};
+//! The text of a file: what is left of it without comments and with continued lines joined.
+
+ghost use Rattle.std.specs.Prelude.{◌≡◌, ◌∷◌, ◌+◌, ◌^◌, ◌≤◌, ◌<◌, [], ℕ, List, length, not, ◌==◌, MatchOption, IfSome, IsTrue, ◌↔◌};
 ghost use Rattle.std.specs.List.{prefix_len};
 ghost use Rattle.std.specs.Iterator.{YieldsFirst, item_count};
 ghost use Rattle.pam_codes.specs.Text.{text_of, past_comment};
 
-/// The bytes of a file from a place on, without comments and with continued lines joined: each with the number of its line.
+/// The text of a file from a place on, as pam.conf(5) reads it. Each byte comes with the number, from 1, of the line of
+/// the file in which it stands; the space for a continuation stands in the line that ends there.
 #[derive(Drop)]
 pub struct Text<'a> {
     rest: &'a [u8],
@@ -11,27 +14,54 @@ pub struct Text<'a> {
     ghost counted: { line + length rest.now < 2 ^ 64 },
 }
 
-/// How many bytes stand before the first line feed.
-fn comment_len(bytes: &[u8]) -> usize
-    ensures value { result ≡ prefix_len (λ b. not (b == 10)) bytes.now }
-    ensures bound { result ≤ length bytes.now }
-{
-    bytes.iter().take_while(|b| **b != b'\n').count()
-}
+impl<'a> Text<'a> {
+    /// The whole text of a file.
+    pub fn of(file: &'a [u8]) -> Self
+        requires { length file.now < 2 ^ 32 }
+        ensures line { result.line ≡ 1 }
+        ensures rest { result.rest.now ≡ file.now }
+    {
+        Text {
+            rest: file,
+            line: 1,
+        }
+    }
 
-/// What follows when a comment that may stand here is passed over.
-fn skip_comment(bytes: &[u8]) -> &[u8]
-    ensures value { result.now ≡ past_comment bytes.now }
-    ensures bound { length result.now ≤ length bytes.now }
-{
-    if !bytes.is_empty() && bytes[0] == b'#' {
-        bytes.split_at(comment_len(bytes)).1
-    } else {
-        bytes
+    /// The number of the line in which the rest begins.
+    pub fn line(&self) -> usize
+        ensures { result ≡ self.now.line }
+    {
+        self.line
+    }
+
+    /// Whether no byte of the text is left, though a comment may be.
+    pub fn is_done(&self) -> bool
+        ensures { IsTrue result ↔ (text_of self.now.line self.now.rest.now ≡ []) }
+    {
+        match first_step(self.rest) {
+            None => true,
+            Some(_) => false,
+        }
     }
 }
 
-/// A byte of the text, the bytes behind it, and how many line feeds it takes.
+impl<'a> Iterator for Text<'a> {
+    type Item = (usize, u8);
+
+    ghost next_gives = { YieldsFirst (λ s. text_of s.line s.rest.now) };
+
+    ghost remaining = { item_count (λ s. text_of s.line s.rest.now) };
+
+    fn next(&mut self) -> Option<(usize, u8)> {
+        let step = first_step(self.rest)?;
+        let line = self.line;
+        self.rest = step.behind;
+        self.line += step.feeds;
+        Some((line, step.byte))
+    }
+}
+
+/// A byte of the text, the bytes of the file behind it, and how many line feeds it took.
 #[derive(Clone, Copy)]
 struct Step<'a> {
     byte: u8,
@@ -61,9 +91,10 @@ fn first_step(bytes: &[u8]) -> Option<Step<'_>>
     }
 }
 
-/// What a backslash spells with the bytes behind it: one space where a line feed follows.
+/// What a backslash spells with the bytes behind it: one space where, past a comment, a line feed follows.
 fn backslash_step(behind: &[u8]) -> Step<'_>
-    ensures text { (bytes : List ℕ) (line : ℕ) → past_comment bytes ≡ 92 ∷ behind.now → text_of line bytes ≡ (line, result.byte) ∷ text_of (line + result.feeds) result.behind.now }
+    ensures text { (bytes : List ℕ) (line : ℕ) → past_comment bytes ≡ 92 ∷ behind.now
+        → text_of line bytes ≡ (line, result.byte) ∷ text_of (line + result.feeds) result.behind.now }
     ensures bound { result.feeds + length result.behind.now ≤ length behind.now }
 {
     match after_feed(skip_comment(behind)) {
@@ -89,45 +120,22 @@ fn after_feed(bytes: &[u8]) -> Option<&[u8]>
     if *first == b'\n' { Some(rest) } else { None }
 }
 
-impl<'a> Text<'a> {
-    pub fn of(rest: &'a [u8]) -> Self
-        requires { length rest.now < 2 ^ 32 }
-        ensures line { result.line ≡ 1 }
-        ensures rest { result.rest.now ≡ rest.now }
-    {
-        Text { rest, line: 1 }
-    }
-
-    /// The number of the line in which the rest begins.
-    pub fn line(&self) -> usize
-        ensures { result ≡ self.now.line }
-    {
-        self.line
-    }
-
-    /// Whether nothing is left.
-    pub fn is_done(&self) -> bool
-        ensures { IsTrue result ↔ (text_of self.now.line self.now.rest.now ≡ []) }
-    {
-        match first_step(self.rest) {
-            None => true,
-            Some(_) => false,
-        }
+/// The bytes from the line feed on where they begin with a comment; else all of them.
+fn skip_comment(bytes: &[u8]) -> &[u8]
+    ensures value { result.now ≡ past_comment bytes.now }
+    ensures bound { length result.now ≤ length bytes.now }
+{
+    if !bytes.is_empty() && bytes[0] == b'#' {
+        bytes.split_at(comment_len(bytes)).1
+    } else {
+        bytes
     }
 }
 
-impl<'a> Iterator for Text<'a> {
-    type Item = (usize, u8);
-
-    ghost next_gives = { YieldsFirst (λ s. text_of s.line s.rest.now) };
-
-    ghost remaining = { item_count (λ s. text_of s.line s.rest.now) };
-
-    fn next(&mut self) -> Option<(usize, u8)> {
-        let step = first_step(self.rest)?;
-        let line = self.line;
-        self.rest = step.behind;
-        self.line += step.feeds;
-        Some((line, step.byte))
-    }
+/// How many bytes stand before the first line feed.
+fn comment_len(bytes: &[u8]) -> usize
+    ensures value { result ≡ prefix_len (λ b. not (b == 10)) bytes.now }
+    ensures bound { result ≤ length bytes.now }
+{
+    bytes.iter().take_while(|b| **b != b'\n').count()
 }

@@ -1,2 +1,9 @@
-pub mod RuleSteps
+pub mod DepthLemmas
+pub mod FileLemmas
+pub mod LineSteps
+pub mod ResolutionLemmas
+pub mod Splits
+pub mod StackTree
+pub mod TableLemmas
+pub mod WalkLemmas
 pub mod WordSteps

@@ -1,9 +1,11 @@
-use Rattle.std.proofs.Common.{◌≡◌, ◌+◌, ◌&&◌, ◌||◌, ◌++◌, ℕ, Bool, true, false, not, List, [], ◌∷◌, Option, Some, None, cond, eqb, map, ap, ◌∙◌, sym, refl, arith, append_assoc, append-nil}
+use Rattle.std.proofs.Common.{◌≡◌, ◌≤◌, ◌<◌, get_or, take, drop, length, ◌&&◌, ◌++◌, ℕ, Bool, true, false, not, List, [], ◌∷◌, Option, Some, None, cond, eqb, ap, ◌∙◌, sym, refl, arith, append_assoc, append-nil}
 use Rattle.std.specs.Option.{option_map}
 use Rattle.std.specs.List.{onto_first}
 use Rattle.std.proofs.lemmas.Bool.{eqb-true, false≢true}
-use Rattle.pam_conf.specs.Words.{Place, Between, Plain, Bracket, words_in, is_blank}
-use Rattle.pam_conf.specs.AllWords.{glued}
+use Rattle.std.proofs.lemmas.List.{drop_all}
+use Rattle.pam_conf.specs.Words.{Between, Plain, Bracket, words_in, unescaped}
+use Rattle.pam_codes.specs.Tokens.{is_blank}
+use Rattle.pam_conf.specs.Spot.{glued}
 use Rattle.pam_codes.proofs.TextSteps.{unequal}
 
 option_map_same : {A B : Type 0} (f g : A → B) → ((x : A) → f x ≡ g x) → (o : Option A) → option_map f o ≡ option_map g o
@@ -78,3 +80,31 @@ ends_bracket d w e = refl
 pub nothing_done : (o : Option (List (List ℕ))) → option_map (λ ws. [] ++ ws) o ≡ o
 nothing_done None = refl
 nothing_done (Some ws) = refl
+
+-- THE TEXT BETWEEN BRACKETS
+
+-- where `\]` stands
+pub unescaped_pair : (xs : List ℕ) → 2 ≤ length xs → get_or xs 0 0 ≡ 92 → get_or xs 1 0 ≡ 93 → unescaped xs ≡ get_or xs 1 0 ∷ unescaped (drop 2 xs)
+unfolding unescaped
+unescaped_pair [] h f g = absurd (omega arith)
+unescaped_pair (a ∷ []) h f g = absurd (omega arith)
+unescaped_pair (a ∷ b ∷ xs) h f g = rw (f, g) refl
+
+-- where another byte stands
+pub unescaped_one : (xs : List ℕ) → 0 < length xs → (2 ≤ length xs → get_or xs 0 0 ≡ 92 → get_or xs 1 0 ≡ 93 → ⊥) → unescaped xs ≡ get_or xs 0 0 ∷ unescaped (drop 1 xs)
+unfolding unescaped
+unescaped_one [] h n = absurd (omega arith)
+unescaped_one (a ∷ []) h n = refl
+unescaped_one (a ∷ b ∷ xs) h n =
+    elim (eqb a 92) as (λ (t : Bool). eqb a 92 ≡ t → cond (t && eqb b 93) (93 ∷ unescaped xs) (a ∷ unescaped (b ∷ xs)) ≡ a ∷ unescaped (b ∷ xs)) [
+      | true ↦ λ e. elim (eqb b 93) as (λ (t : Bool). eqb b 93 ≡ t → cond (true && t) (93 ∷ unescaped xs) (a ∷ unescaped (b ∷ xs)) ≡ a ∷ unescaped (b ∷ xs)) [
+        | true ↦ λ f. absurd (n (omega arith) (eqb-true a 92 e) (eqb-true b 93 f))
+        | false ↦ λ f. refl
+      ] refl
+      | false ↦ λ e. refl
+    ] refl
+
+-- where nothing is left
+pub unescaped_done : (w s : List ℕ) (k r : ℕ) → length w ≤ r → take k w ++ unescaped (drop r w) ≡ s → take k w ≡ s
+unfolding unescaped
+unescaped_done w s k r h e = sym (append-nil (take k w)) ∙ ap (λ t. take k w ++ unescaped t) (sym (drop_all r w h)) ∙ e

@@ -1,5 +1,6 @@
 -- The stack of a service, as a tree: pam.conf(5).
-use Rattle.std.specs.Prelude.{ℕ, Bool, List}
+use Rattle.std.specs.Prelude.{◌≡◌, ℕ, ◌+◌, ◌==◌, max, Bool, List, [], ◌∷◌, ◌++◌, Option, Some, None, if◌then◌else◌}
+use Rattle.std.specs.List.{range_with_len}
 use Rattle.pam_codes.specs.declared.action.Action.{Action}
 
 -- a module: its number from the left, its rule, and where that stands
@@ -23,3 +24,50 @@ pub data Items : Type 0 where
   End : Items
   ThenModule : ModuleText → Items → Items
   ThenSub : SubText → Items → Items → Items
+
+-- a substack: its rule and its items
+pub record SubList : Type 0 where
+  pub text : SubText
+  pub inner : Items
+
+-- the items of one list before those of another
+abbrev pub joined : Items → Items → Items
+joined End after = after
+joined (ThenModule m rest) after = ThenModule m (joined rest after)
+joined (ThenSub s inner rest) after = ThenSub s inner (joined rest after)
+
+-- how many modules stand in the list and in its substacks
+abbrev pub module_count : Items → ℕ
+module_count End = 0
+module_count (ThenModule m rest) = module_count rest + 1
+module_count (ThenSub s inner rest) = module_count inner + module_count rest
+
+-- how many lists are open where the most are, this one among them
+abbrev pub depth : Items → ℕ
+depth End = 1
+depth (ThenModule m rest) = depth rest
+depth (ThenSub s inner rest) = max (depth inner + 1) (depth rest)
+
+-- the numbers of the modules, from the left
+abbrev pub numbers_of : Items → List ℕ
+numbers_of End = []
+numbers_of (ThenModule m rest) = m.number ∷ numbers_of rest
+numbers_of (ThenSub s inner rest) = numbers_of inner ++ numbers_of rest
+
+-- the modules have the numbers from one on, from the left
+unfoldable pub IsNumberedFrom : ℕ → Items → Type 0
+IsNumberedFrom first items = numbers_of items ≡ range_with_len first (module_count items)
+
+abbrev pub IsNumbered : Items → Type 0
+IsNumbered = IsNumberedFrom 1
+
+-- the first of two that is there
+abbrev pub first_there : Option ModuleText → Option ModuleText → Option ModuleText
+first_there None other = other
+first_there (Some m) other = Some m
+
+-- the first module with a number, from the left
+abbrev pub module_at : ℕ → Items → Option ModuleText
+module_at number End = None
+module_at number (ThenModule m rest) = if m.number == number then Some m else module_at number rest
+module_at number (ThenSub s inner rest) = first_there (module_at number inner) (module_at number rest)

@@ -1,34 +1,86 @@
-use pam_codes::ControlError;
-use std::alloc::AllocFailed;
+ghost use Rattle.std.specs.Prelude.{◌≡◌};
 
-/// Why a file gives no rules.
-#[derive(Clone, Copy, Debug, PartialEq, Eq)]
+use pam_codes::ControlError;
+use std::alloc::{AllocError, AllocFailed};
+use thiserror::Error;
+
+/// What is wrong with a file, or with the files that a service reads.
+#[derive(Clone, Copy, Debug, PartialEq, Eq, Error)]
 pub enum FaultKind {
+    /// E1, at the line of the first one, in a comment too.
+    #[error("a NUL byte")]
     NulByte,
+    /// E2
+    #[error("the kind, the control or the path is missing")]
     MissingField,
+    /// E3
+    #[error("not one of auth, account, password and session")]
     BadKind,
+    /// E4 to E8. An open bracket is E8 wherever in the line it stands.
+    #[error(transparent)]
     Control(ControlError),
-    OpenBracket,
+    /// E9
+    #[error("no target is named")]
     MissingTarget,
+    /// E10
+    #[error("the target is empty or lies in another folder")]
     BadTarget,
-    FileTooLong,
+    /// E11
+    #[error("the target is being read already")]
     Cycle,
+    /// E12
+    #[error("more than 16 files would be open")]
     TooDeep,
+    /// E13
+    #[error("more than 64 modules")]
     TooManyModules,
+    /// E14
+    #[error("an include in pam.conf")]
+    IncludeInSingleFile,
+    /// E15
+    #[error("no rules for the service, or no file of this name")]
     NoService,
-    TooManyFollowed,
+    /// E16, at line 0.
+    #[error("the file is longer than 1,048,576 bytes")]
+    FileTooLong,
+    /// E17, at line 0.
+    #[error("out of memory")]
     Memory,
+    /// E18
+    #[error("more than 256 includes and substacks")]
+    TooManyFollowed,
 }
 
-/// A fault, and its line.
-#[derive(Clone, Copy, Debug, PartialEq, Eq)]
+impl From<AllocError> for FaultKind {
+    ghost use Rattle.pam_conf.specs.declared.error.FaultKind.TheVariants.{Memory};
+
+    ghost from_gives = { λ _ e. e ≡ Memory };
+
+    fn from(_: AllocError) -> FaultKind {
+        FaultKind::Memory
+    }
+}
+
+impl<T: Drop> From<AllocFailed<T>> for FaultKind {
+    ghost use Rattle.pam_conf.specs.declared.error.FaultKind.TheVariants.{Memory};
+
+    ghost from_gives = { λ _ e. e ≡ Memory };
+
+    fn from(_: AllocFailed<T>) -> FaultKind {
+        FaultKind::Memory
+    }
+}
+
+/// Why a file gives no rules: the first fault, and its line.
+#[derive(Clone, Copy, Debug, PartialEq, Eq, Error)]
+#[error("line {line}: {kind}")]
 pub struct RuleFault {
     pub kind: FaultKind,
+    /// From 1; 0 where the fault is of no line.
     pub line: usize,
 }
 
 impl<T: Drop> From<AllocFailed<T>> for RuleFault {
-    ghost use Rattle.std.specs.Prelude.{◌≡◌};
     ghost use Rattle.pam_conf.specs.declared.error.FaultKind.TheVariants.{Memory};
 
     ghost from_gives = { λ _ e. e ≡ record { kind = Memory; line = 0 } };

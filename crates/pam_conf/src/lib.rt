@@ -1,13 +1,22 @@
 //! Rules of PAM configuration, and the stacks that they make.
 #![tactic(auto)]
 
+mod conf_error;
 mod error;
 mod files;
+pub mod laws;
+mod lines;
+mod resolution;
 mod rule;
 mod stack;
+mod trail;
+mod walk;
 mod words;
 
+pub use conf_error::ConfError;
 pub use error::{FaultKind, RuleFault};
 pub use files::Files;
-pub use rule::{Body, Kind, Rule, rules};
+pub use lines::rules;
+pub use resolution::resolve;
+pub use rule::{Body, Form, Kind, Rule};
 pub use stack::{Item, Module, Stack, Sub};

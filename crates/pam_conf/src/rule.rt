@@ -1,15 +1,19 @@
-ghost use Rattle.std.specs.Prelude.{◌≡◌, ◌<◌, ◌^◌, [], ℕ, OnOk, Option, length, map};
+ghost use Rattle.std.specs.Prelude.{◌≡◌, IfOk, map};
+ghost use Rattle.std.specs.Char.{to_ascii_lowercase};
 ghost use Rattle.std.specs.Option.{option_map};
-ghost use Rattle.pam_codes.specs.Text.{text_of, lines_of, behind_line, first_marks};
-ghost use Rattle.pam_conf.specs.Rules.{rule_of, rule_at, rules_of, rules_in, at_line, nul_line as nul_line_of};
-ghost use Rattle.pam_conf.specs.GivesRules.{rule_view, Gives};
+ghost use Rattle.pam_conf.specs.Gives.{GivesKind};
+ghost use Rattle.pam_conf.specs.Rule.{body_view, rule_view, kind_named, kind_or_fault_of, dashed_kind_of};
+ghost use Rattle.pam_conf.specs.Rule.{file_name_of, without_folder_of, target_of};
+ghost use Rattle.pam_conf.specs.Rule.{module_of, control_body_of, body_of};
+ghost use Rattle.pam_conf.specs.Rule.{kind_rule_of, include_rule_of, plain_rule_of, first_rule_of, rule_of};
+ghost use Rattle.pam_conf.specs.Spot.{still_to_come, texts};
 
-use crate::error::{FaultKind, RuleFault};
-use crate::words::{LineError, line_words};
-use pam_codes::{Control, Text};
-use std::alloc::Global;
+use crate::error::FaultKind;
+use crate::words::{Words, next_word, word_text, word_texts};
+use pam_codes::{Control, is_name};
+use std::alloc::{AllocError, Global};
 
-/// What a stack is for.
+/// What a stack is for: pam.conf(5), `type`.
 #[derive(Clone, Copy, Debug, PartialEq, Eq)]
 pub enum Kind {
     Auth,
@@ -18,101 +22,268 @@ pub enum Kind {
     Session,
 }
 
+/// How the rules of a service are kept: pam.conf(5).
+#[derive(Clone, Copy, Debug, PartialEq, Eq)]
+pub enum Form {
+    /// A folder with a file for each service.
+    Dir,
+    /// One file, pam.conf, whose rules begin with the service.
+    Single,
+}
+
 /// What a rule does.
-#[derive(Drop)]
+#[derive(Debug, Drop)]
 pub enum Body {
+    /// Asks a module: its control, its path and its arguments.
     Module(Control, Vec<u8>, Vec<Vec<u8>>),
+    /// Takes in the rules of a file, as if they stood here.
     Include(Vec<u8>),
+    /// Takes in the rules of a file as one item.
     Sub(Vec<u8>),
 }
 
 /// A rule of a file.
-#[derive(Drop)]
+#[derive(Debug, Drop)]
 pub struct Rule {
+    /// The first line that it stands on, from 1.
     pub line: usize,
-    /// None: it is for every kind.
+    /// In pam.conf the service, in lower case; in a folder None.
+    pub service: Option<Vec<u8>>,
+    /// None for an `@include`, which is of every kind.
     pub kind: Option<Kind>,
+    /// Whether a `-` stands before the kind.
     pub dashed: bool,
     pub body: Body,
 }
 
-/// STUB: gives up for memory, so only its contract counts.
-fn line_rule(_alloc: Global, line: usize, words: &[Vec<u8>]) -> Result<Option<Rule>, RuleFault>
-    ensures { Gives (option_map rule_view) result (at_line line (rule_of line (map (λ w. w.items) words.now))) }
+impl Kind {
+    /// The kind of a name, in either case: pam.conf(5), `type`.
+    #[tactic(auto, unfolding(crate::specs::Rule::kind_named))]
+    pub fn from_name(name: &[u8]) -> Option<Kind>
+        ensures { result ≡ kind_named name.now }
+    {
+        if is_name(b"auth", name) {
+            Some(Kind::Auth)
+        } else if is_name(b"account", name) {
+            Some(Kind::Account)
+        } else if is_name(b"password", name) {
+            Some(Kind::Password)
+        } else if is_name(b"session", name) {
+            Some(Kind::Session)
+        } else {
+            None
+        }
+    }
+}
+
+/// The kind of a name, with whether a dash stands before it.
+fn kind_or_fault(dashed: bool, name: &[u8]) -> Result<(bool, Kind), FaultKind>
+    ensures { result ≡ kind_or_fault_of dashed name.now }
 {
-    let _ = words;
-    Err(RuleFault {
-        kind: FaultKind::Memory,
+    match Kind::from_name(name) {
+        Some(kind) => Ok((dashed, kind)),
+        None => Err(FaultKind::BadKind),
+    }
+}
+
+/// The kind of a text, and whether a dash stands before it.
+#[tactic(auto, unfolding(crate::specs::Rule::dashed_kind_of))]
+fn dashed_kind(text: &[u8]) -> Result<(bool, Kind), FaultKind>
+    ensures { result ≡ dashed_kind_of text.now }
+{
+    let Some((first, name)) = text.split_first() else {
+        return Err(FaultKind::BadKind);
+    };
+    if *first == b'-' {
+        kind_or_fault(true, name)
+    } else {
+        kind_or_fault(false, text)
+    }
+}
+
+/// The name of a file of the folder.
+fn file_name(name: Vec<u8>) -> Result<Vec<u8>, FaultKind>
+    ensures { GivesKind (λ n. n.items) result (file_name_of name.items) }
+{
+    if name.is_empty() || name.contains(&b'/') {
+        Err(FaultKind::BadTarget)
+    } else {
+        Ok(name)
+    }
+}
+
+/// A target without the folder in front.
+fn without_folder(alloc: Global, text: Vec<u8>) -> Result<Vec<u8>, AllocError>
+    ensures { IfOk result (λ n. n.items ≡ without_folder_of text.items) }
+{
+    let folder = b"/etc/pam.d/";
+    if text.starts_with(folder) {
+        Vec::from_slice(alloc, &text[folder.len()..])
+    } else {
+        Ok(text)
+    }
+}
+
+/// The target that the words begin with.
+#[tactic(auto, unfolding(crate::specs::Rule::target_of))]
+fn target(alloc: Global, form: Form, mut words: Words) -> Result<Vec<u8>, FaultKind>
+    ensures { GivesKind (λ t. t.items) result (target_of form (still_to_come words)) }
+{
+    match form {
+        Form::Single => Err(FaultKind::IncludeInSingleFile),
+        Form::Dir => {
+            let Some(word) = next_word(&mut words) else {
+                return Err(FaultKind::MissingTarget);
+            };
+            let name = without_folder(alloc, word_text(word))?;
+            file_name(name)
+        }
+    }
+}
+
+/// What a rule does whose control asks a module.
+fn module_body(alloc: Global, control: Control, mut words: Words) -> Result<Body, FaultKind>
+    ensures { GivesKind body_view result (module_of control (still_to_come words)) }
+{
+    let Some(path) = next_word(&mut words) else {
+        return Err(FaultKind::MissingField);
+    };
+    let arguments = word_texts(alloc, words)?;
+    Ok(Body::Module(control, word_text(path), arguments))
+}
+
+/// What a rule does whose control is a word as it is written.
+fn control_body(alloc: Global, control: &[u8], words: Words) -> Result<Body, FaultKind>
+    ensures { GivesKind body_view result (control_body_of control.now (still_to_come words)) }
+{
+    match Control::read(control) {
+        Ok(control) => module_body(alloc, control, words),
+        Err(error) => Err(FaultKind::Control(error)),
+    }
+}
+
+/// What stands behind the kind.
+#[tactic(auto, unfolding(crate::specs::Rule::body_of))]
+fn rule_body(alloc: Global, form: Form, mut words: Words) -> Result<Body, FaultKind>
+    ensures { GivesKind body_view result (body_of form (still_to_come words)) }
+{
+    let Some(control) = next_word(&mut words) else {
+        return Err(FaultKind::MissingField);
+    };
+    if is_name(b"include", &control) {
+        let name = target(alloc, form, words)?;
+        return Ok(Body::Include(name));
+    }
+    if is_name(b"substack", &control) {
+        let name = target(alloc, form, words)?;
+        return Ok(Body::Sub(name));
+    }
+    control_body(alloc, &control, words)
+}
+
+/// The rule of a line, from the text of its kind on.
+#[tactic(auto, unfolding(crate::specs::Rule::kind_rule_of))]
+fn kind_rule(
+    alloc: Global,
+    form: Form,
+    line: usize,
+    service: Option<Vec<u8>>,
+    kind: &[u8],
+    words: Words,
+) -> Result<Rule, FaultKind>
+    ensures { GivesKind rule_view result
+        (kind_rule_of form line (option_map (λ s. s.items) service) kind.now (still_to_come words)) }
+{
+    let (dashed, kind) = dashed_kind(kind)?;
+    let body = rule_body(alloc, form, words)?;
+    Ok(Rule {
         line,
+        service,
+        kind: Some(kind),
+        dashed,
+        body,
     })
 }
 
-/// The rule of the text's first line, if that line has one. The text goes on behind it.
-fn next_rule(alloc: Global, text: &mut Text) -> Result<Option<Rule>, RuleFault>
-    ensures rule { Gives (option_map rule_view) result (rule_at (first_marks (text_of text.old.line text.old.rest.now))) }
-    ensures rest { OnOk result (text_of text.new.line text.new.rest.now ≡ behind_line (text_of text.old.line text.old.rest.now)) }
+/// The rule of an `@include`, from its target on.
+#[tactic(auto, unfolding(crate::specs::Rule::include_rule_of))]
+fn include_rule(alloc: Global, form: Form, line: usize, words: Words) -> Result<Rule, FaultKind>
+    ensures { GivesKind rule_view result (include_rule_of form line (still_to_come words)) }
 {
-    let line = text.line();
-    match line_words(alloc, text) {
-        Ok(words) => line_rule(alloc, line, words.as_slice()),
-        Err(LineError::OpenBracket) => Err(RuleFault {
-            kind: FaultKind::OpenBracket,
-            line,
-        }),
-        Err(LineError::Memory) => Err(RuleFault {
-            kind: FaultKind::Memory,
-            line: 0,
-        }),
+    let name = target(alloc, form, words)?;
+    Ok(Rule {
+        line,
+        service: None,
+        kind: None,
+        dashed: false,
+        body: Body::Include(name),
+    })
+}
+
+/// Makes the letters small.
+pub(crate) fn lower(text: &mut [u8])
+    ensures { text.new ≡ map to_ascii_lowercase text.old }
+{
+    for byte in text.iter_mut() {
+        *byte = byte.to_ascii_lowercase();
     }
 }
 
-/// The line of the first NUL byte.
-fn nul_line(bytes: &[u8]) -> Option<usize>
-    ensures { result ≡ nul_line_of 1 bytes.now }
+/// The rule of a line that begins with a text that is no `@include`.
+#[tactic(auto, unfolding(crate::specs::Rule::plain_rule_of))]
+fn plain_rule(
+    alloc: Global,
+    form: Form,
+    line: usize,
+    mut first: Vec<u8>,
+    mut words: Words,
+) -> Result<Rule, FaultKind>
+    ensures { GivesKind rule_view result (plain_rule_of form line first.items (still_to_come words)) }
 {
-    let mut line = 1;
-    for byte in bytes {
-        if *byte == 0 {
-            return Some(line);
-        }
-        if *byte == b'\n' {
-            line += 1;
+    match form {
+        Form::Dir => kind_rule(alloc, form, line, None, &first, words),
+        Form::Single => {
+            let Some(kind) = next_word(&mut words) else {
+                return Err(FaultKind::MissingField);
+            };
+            lower(&mut first);
+            kind_rule(alloc, form, line, Some(first), &word_text(kind), words)
         }
     }
-    None
 }
 
-/// The rules of a file in the directory form.
-#[tactic(auto, unfolding(crate::specs::Rules::rules_of))]
-pub fn rules(alloc: Global, bytes: &[u8]) -> Result<Vec<Rule>, RuleFault>
-    ensures { Gives (λ rules. map rule_view rules.items) result (rules_of bytes.now) }
+/// The rule of a line that begins with a text.
+#[tactic(auto, unfolding(crate::specs::Rule::first_rule_of))]
+fn first_rule(
+    alloc: Global,
+    form: Form,
+    line: usize,
+    first: Vec<u8>,
+    words: Words,
+) -> Result<Rule, FaultKind>
+    ensures { GivesKind rule_view result (first_rule_of form line first.items (still_to_come words)) }
 {
-    if bytes.len() > 1_048_576 {
-        return Err(RuleFault {
-            kind: FaultKind::FileTooLong,
-            line: 0,
-        });
+    if is_name(b"@include", &first) {
+        include_rule(alloc, form, line, words)
+    } else {
+        plain_rule(alloc, form, line, first, words)
     }
-    if let Some(line) = nul_line(bytes) {
-        return Err(RuleFault {
-            kind: FaultKind::NulByte,
-            line,
-        });
-    }
-    text_rules(alloc, bytes)
 }
 
-/// The rules of all lines.
-fn text_rules(alloc: Global, bytes: &[u8]) -> Result<Vec<Rule>, RuleFault>
-    requires { length bytes.now < 2 ^ 32 }
-    ensures { Gives (λ rules. map rule_view rules.items) result (rules_in (lines_of (text_of 1 bytes.now))) }
+/// The rule that the words of a line give, if there are any.
+#[tactic(auto, unfolding(crate::specs::Rule::rule_of))]
+pub(crate) fn line_rule(
+    alloc: Global,
+    form: Form,
+    line: usize,
+    words: Vec<Vec<u8>>,
+) -> Result<Option<Rule>, FaultKind>
+    ensures { GivesKind (option_map rule_view) result (rule_of form line (texts words)) }
 {
-    let mut text = Text::of(bytes);
-    let mut rules = Vec::new(alloc);
-    while !text.is_done() {
-        if let Some(rule) = next_rule(alloc, &mut text)? {
-            rules.push(rule)?;
-        }
-    }
-    Ok(rules)
+    let mut words = words.into_iter();
+    let Some(first) = next_word(&mut words) else {
+        return Ok(None);
+    };
+    let rule = first_rule(alloc, form, line, word_text(first), words)?;
+    Ok(Some(rule))
 }

@@ -1,6 +1,11 @@
 //! The stack of a service: its modules and substacks, in order.
+ghost use Rattle.std.specs.Prelude.{◌≡◌, ◌≤◌, ◌↔◌, IsSome};
+ghost use Rattle.std.specs.Option.{option_map};
+ghost use Rattle.pam_conf.specs.Stack.{depth, module_at, module_count, IsNumbered};
+ghost use Rattle.pam_conf.specs.ItemsOf.{items_of, module_text};
 
 use pam_codes::Control;
+use std::marker::Model;
 
 /// A module of a stack, as its rule names it.
 #[derive(Debug, Drop)]
@@ -29,6 +34,27 @@ pub struct Sub {
     pub items: Vec<Item>,
 }
 
+impl Model for Sub {
+    ghost use Rattle.std.specs.Prelude.{◌+◌};
+    ghost use Rattle.std.proofs.Common.{arith};
+    ghost use Rattle.pam_conf.specs.Stack.{SubList};
+    ghost use Rattle.pam_conf.specs.StackCode.{sub_code};
+
+    ghost Value = { SubList };
+
+    ghost coded = { sub_code };
+
+    ghost use Rattle.pam_conf.specs.ItemsOf.{sub_list, sub_count};
+
+    ghost view = { sub_list };
+
+    ghost size = { λ s. sub_count s.inner + 1 };
+
+    ghost use Rattle.pam_conf.specs.SubFalls.{most_le-sub_count};
+
+    ghost size_decreases = { λ a h. omega (arith, most_le-sub_count a.items.items) };
+}
+
 /// An item of a list.
 #[cycle(stack)]
 #[derive(Debug, Drop)]
@@ -37,8 +63,85 @@ pub enum Item {
     Sub(Sub),
 }
 
-/// The stack of a service.
+/// The stack of a service: at most 64 modules, numbered from the left, and at most 16 lists open.
 #[derive(Debug, Drop)]
 pub struct Stack {
     items: Vec<Item>,
+    modules: usize,
+}
+
+impl Model for Stack {
+    ghost use Rattle.std.specs.Prelude.{◌≡◌, ◌≤◌};
+    ghost use Rattle.pam_conf.specs.Stack.{Items, depth, module_count, IsNumbered};
+    ghost use Rattle.pam_conf.specs.StackCode.{items_code};
+
+    ghost Value = { Items };
+
+    ghost coded = { items_code };
+
+    ghost use Rattle.pam_conf.specs.ItemsOf.{items_of};
+
+    ghost view = { λ s. items_of s.items.items };
+
+    ghost invariant = { λ s. (s.modules ≡ module_count (items_of s.items.items)) × (module_count (items_of s.items.items) ≤ 64) × (depth (items_of s.items.items) ≤ 16) × IsNumbered (items_of s.items.items) };
+}
+
+impl Stack {
+    /// The stack of these items, which have so many modules.
+    pub(crate) fn of(items: Vec<Item>, modules: usize) -> Stack
+        requires counted { modules ≡ module_count (items_of items.items) }
+        requires few { modules ≤ 64 }
+        requires shallow { depth (items_of items.items) ≤ 16 }
+        requires numbered { IsNumbered (items_of items.items) }
+        ensures { result ≡ items_of items.items }
+    {
+        Stack { items, modules }
+    }
+
+    /// The items of the outermost list.
+    pub fn items(&self) -> &[Item]
+        ensures items { items_of result.now ≡ self.now }
+        ensures few { module_count self.now ≤ 64 }
+        ensures shallow { depth self.now ≤ 16 }
+        ensures numbered { IsNumbered self.now }
+    {
+        self.items.as_slice()
+    }
+
+    /// How many modules there are.
+    pub fn modules(&self) -> usize
+        ensures count { result ≡ module_count self.now }
+        ensures most { result ≤ 64 }
+    {
+        self.modules
+    }
+
+    /// The module with a number; none, unless it is from 1 to `modules`.
+    pub fn module(&self, number: usize) -> Option<&Module>
+        ensures module { option_map (λ m. module_text m.now) result ≡ module_at number self.now }
+        ensures range { IsSome result ↔ (1 ≤ number) × (number ≤ module_count self.now) }
+    {
+        module_in(&self.items, number)
+    }
+}
+
+/// The first module with a number.
+fn module_in(items: &[Item], number: usize) -> Option<&Module>
+    ensures { option_map (λ m. module_text m.now) result ≡ module_at number (items_of items.now) }
+{
+    for item in items {
+        match item {
+            Item::Module(module) => {
+                if module.number == number {
+                    return Some(module);
+                }
+            }
+            Item::Sub(sub) => {
+                if let Some(module) = module_in(&sub.items, number) {
+                    return Some(module);
+                }
+            }
+        }
+    }
+    None
 }

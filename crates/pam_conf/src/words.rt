@@ -1,18 +1,18 @@
-ghost use Rattle.std.specs.Prelude.{◌≡◌, ◌∷◌, ◌++◌, [], ℕ, List, map, IfOk, OnOk, MatchResult, Option, Some, None};
-ghost use Rattle.pam_conf.specs.Words.{is_blank, words_of};
-ghost use Rattle.pam_conf.specs.AllWords.{all_words};
-ghost use Rattle.pam_codes.specs.Text.{text_of, first_line, behind_line};
-ghost use Rattle.pam_conf.specs.Gives.{GivesWords};
+ghost use Rattle.std.specs.Prelude.{◌≡◌, ◌≤◌, ◌<◌, ◌-◌, ◌∷◌, [], ℕ, List, map, drop, length, slice_index};
+ghost use Rattle.std.specs.Prelude.{IfOk, OnOk, MatchOption};
+ghost use Rattle.pam_codes.specs.Text.{first_line, behind_line};
+ghost use Rattle.pam_conf.specs.Gives.{GivesKind};
+ghost use Rattle.pam_conf.specs.Lines.{text_left};
+ghost use Rattle.pam_conf.specs.Spot.{all_words, texts, still_to_come};
+ghost use Rattle.pam_conf.specs.Words.{words_or_fault, unescaped, text_of_word};
 
-use pam_codes::Text;
-use std::alloc::{AllocError, AllocFailed, Global};
-use thiserror::Error;
+use crate::error::FaultKind;
+use pam_codes::{ControlError, Text, is_blank_byte};
+use std::alloc::{AllocError, Global};
+use std::vec::IntoIter;
 
-fn is_blank_byte(byte: u8) -> bool
-    ensures { result ≡ is_blank byte }
-{
-    byte == b' ' || byte == b'\t' || byte == b'\r'
-}
+/// The words of a line that are still to come, as they are written.
+pub(crate) type Words = IntoIter<Vec<u8>>;
 
 /// Where a line is read, with the word that is begun.
 #[derive(Drop)]
@@ -34,7 +34,7 @@ fn one_byte(alloc: Global, byte: u8) -> Result<Vec<u8>, AllocError>
 /// The spot behind one more byte of the line. A word that ends there goes to those that are done.
 fn advance(alloc: Global, spot: Spot, byte: u8, done: &mut Vec<Vec<u8>>) -> Result<Spot, AllocError>
     ensures { IfOk result (λ next. (rest : List ℕ) →
-        all_words (map (λ w. w.items) done.new.items) next rest ≡ all_words (map (λ w. w.items) done.old.items) spot (byte ∷ rest)) }
+        all_words (texts done.new) next rest ≡ all_words (texts done.old) spot (byte ∷ rest)) }
 {
     let blank = is_blank_byte(byte);
     match spot {
@@ -67,38 +67,9 @@ fn advance(alloc: Global, spot: Spot, byte: u8, done: &mut Vec<Vec<u8>>) -> Resu
     }
 }
 
-/// Why a line gives no words.
-#[derive(Clone, Copy, Debug, PartialEq, Eq, Error)]
-pub(crate) enum LineError {
-    #[error("a bracket stays open")]
-    OpenBracket,
-    #[error("out of memory")]
-    Memory,
-}
-
-impl From<AllocError> for LineError {
-    ghost use Rattle.pam_conf.specs.declared.words.LineError.TheVariants.{Memory};
-
-    ghost from_gives = { λ _ e. e ≡ Memory };
-
-    fn from(_: AllocError) -> LineError {
-        LineError::Memory
-    }
-}
-
-impl<T: Drop> From<AllocFailed<T>> for LineError {
-    ghost use Rattle.pam_conf.specs.declared.words.LineError.TheVariants.{Memory};
-
-    ghost from_gives = { λ _ e. e ≡ Memory };
-
-    fn from(_: AllocFailed<T>) -> LineError {
-        LineError::Memory
-    }
-}
-
 /// The words of a line that ends at a spot.
-fn finish(spot: Spot, mut done: Vec<Vec<u8>>) -> Result<Vec<Vec<u8>>, LineError>
-    ensures { GivesWords result (all_words (map (λ w. w.items) done.items) spot []) }
+fn finish(spot: Spot, mut done: Vec<Vec<u8>>) -> Result<Vec<Vec<u8>>, FaultKind>
+    ensures { GivesKind texts result (all_words (texts done) spot []) }
 {
     match spot {
         Spot::Between => Ok(done),
@@ -106,14 +77,14 @@ fn finish(spot: Spot, mut done: Vec<Vec<u8>>) -> Result<Vec<Vec<u8>>, LineError>
             done.push(word)?;
             Ok(done)
         }
-        Spot::Bracket(_, _) => Err(LineError::OpenBracket),
+        Spot::Bracket(_, _) => Err(FaultKind::Control(ControlError::OpenBracket)),
     }
 }
 
 /// The words of the text's first line, as they are written. The text goes on behind it.
-pub(crate) fn line_words(alloc: Global, text: &mut Text) -> Result<Vec<Vec<u8>>, LineError>
-    ensures words { GivesWords result (words_of (first_line (text_of text.old.line text.old.rest.now))) }
-    ensures rest { OnOk result (text_of text.new.line text.new.rest.now ≡ behind_line (text_of text.old.line text.old.rest.now)) }
+pub(crate) fn line_words(alloc: Global, text: &mut Text) -> Result<Vec<Vec<u8>>, FaultKind>
+    ensures words { GivesKind texts result (words_or_fault (first_line (text_left text.old))) }
+    ensures rest { OnOk result (text_left text.new ≡ behind_line (text_left text.old)) }
 {
     let mut done = Vec::new(alloc);
     let mut spot = Spot::Between;
@@ -124,4 +95,64 @@ pub(crate) fn line_words(alloc: Global, text: &mut Text) -> Result<Vec<Vec<u8>>,
         spot = advance(alloc, spot, byte, &mut done)?;
     }
     finish(spot, done)
+}
+
+/// How many bytes spell the first byte of a text between brackets: two at `\]`.
+fn spelling_len(inside: &[u8]) -> usize
+    requires { 0 < length inside.now }
+    ensures bound { result ≤ length inside.now }
+    ensures positive { 0 < result }
+    ensures text { unescaped inside.now
+        ≡ slice_index inside.now (result - 1) ∷ unescaped (drop result inside.now) }
+{
+    if inside.len() >= 2 && inside[0] == b'\\' && inside[1] == b']' {
+        2
+    } else {
+        1
+    }
+}
+
+/// Puts `]` for each `\]`, from the left.
+fn unescape(word: &mut Vec<u8>)
+    ensures { word.new.items ≡ unescaped word.old.items }
+{
+    let mut kept = 0;
+    let mut read = 0;
+    while read < word.len() {
+        read += spelling_len(&word[read..]);
+        word[kept] = word[read - 1];
+        kept += 1;
+    }
+    word.truncate(kept);
+}
+
+/// The text of a word: what stands between its brackets, if it has them.
+pub(crate) fn word_text(mut word: Vec<u8>) -> Vec<u8>
+    ensures { result.items ≡ text_of_word word.items }
+{
+    if !word.is_empty() && word[0] == b'[' {
+        word.remove(0);
+        word.pop();
+        unescape(&mut word);
+    }
+    word
+}
+
+/// The next word, as it is written.
+pub(crate) fn next_word(words: &mut Words) -> Option<Vec<u8>>
+    ensures { MatchOption result (still_to_come words.old ≡ [])
+        (λ w. still_to_come words.old ≡ w.items ∷ still_to_come words.new) }
+{
+    words.next()
+}
+
+/// The texts of the words.
+pub(crate) fn word_texts(alloc: Global, words: Words) -> Result<Vec<Vec<u8>>, AllocError>
+    ensures { IfOk result (λ v. texts v ≡ map text_of_word (still_to_come words)) }
+{
+    let mut texts = Vec::with_capacity(alloc, words.len())?;
+    for word in words {
+        texts.push(word_text(word))?;
+    }
+    Ok(texts)
 }

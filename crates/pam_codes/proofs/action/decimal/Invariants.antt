@@ -1,5 +1,5 @@
 use Rattle.std.proofs.Common.{◌≡◌, ◌<◌, ◌^◌, take}
-use Rattle.pam_codes.specs.Control.{decimal_value}
+use Rattle.pam_codes.specs.Action.{decimal_value}
 use Rattle.pam_codes.proofs.action.decimal.Given as goal
 
 abbrev pub invariant-loop-digit : goal.invariant-loop-digit

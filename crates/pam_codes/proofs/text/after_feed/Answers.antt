@@ -1,4 +1,3 @@
-use Rattle.std.proofs.Common.{◌≡◌, ◌∙◌, ap, ◌∷◌, ℕ, List, arith}
 use Rattle.pam_codes.proofs.TextSteps.{not_first, none_first}
 use Rattle.pam_codes.proofs.text.after_feed.Goals as goal
 

@@ -1,4 +1,4 @@
-use Rattle.std.proofs.Common.{◌≡◌, ◌∙◌, sym, ap, add-zero, ℕ}
+use Rattle.std.proofs.Common.{◌∙◌, sym, add-zero}
 use Rattle.pam_codes.proofs.TextSteps.{step_joined, step_backslash}
 use Rattle.pam_codes.proofs.text.backslash_step.Goals as goal
 

@@ -1,4 +1,4 @@
-use Rattle.std.proofs.Common.{◌≡◌, ◌∙◌, sym, ap, add-zero, ◌∷◌, ℕ, List, arith}
+use Rattle.std.proofs.Common.{◌∙◌, sym, ap, add-zero, ◌∷◌, ℕ, arith}
 use Rattle.pam_codes.proofs.TextSteps.{step_none, step_feed, step_plain, empty_list}
 use Rattle.pam_codes.proofs.text.first_step.Goals as goal
 

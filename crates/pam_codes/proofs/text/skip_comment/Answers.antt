@@ -1,4 +1,4 @@
-use Rattle.std.proofs.Common.{◌≡◌, ◌∙◌, sym, ap, ℕ, drop, length, List, get_or, arith}
+use Rattle.std.proofs.Common.{◌∙◌, sym, ap, ℕ, drop}
 use Rattle.std.proofs.lemmas.Bool.{eqb-true}
 use Rattle.pam_codes.proofs.TextSteps.{past_comment-yes, past_comment-no, past_comment-empty}
 use Rattle.pam_codes.proofs.text.skip_comment.Goals as goal

@@ -1,0 +1,5 @@
+mod code;
+mod control;
+mod out;
+mod set;
+mod text;

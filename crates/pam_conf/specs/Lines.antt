@@ -1,0 +1,61 @@
+-- The rules of a file: pam.conf(5), on comments, continued lines and rules.
+use Rattle.std.specs.Prelude.{ℕ, ◌+◌, List, [], ◌∷◌, length, map, take, count_by, position, ◌==◌, nat_lt, if◌then◌else◌, Option, Some, None, Result, Ok, Err}
+use Rattle.std.specs.Option.{option_map, option_map_or}
+use Rattle.pam_codes.specs.Text.{Mark, text_of, lines_of}
+use Rattle.pam_codes.specs.declared.text.Text.{Text}
+use Rattle.pam_conf.specs.Words.{words_or_fault}
+use Rattle.pam_conf.specs.Rule.{RuleText, rule_of, ◌>>=◌}
+use Rattle.pam_conf.specs.declared.error.FaultKind.{FaultKind}
+use Rattle.pam_conf.specs.declared.error.FaultKind.TheVariants as faults
+use Rattle.pam_conf.specs.declared.error.RuleFault.{RuleFault}
+use Rattle.pam_conf.specs.declared.rule.Form.{Form}
+
+-- the rule of a line of this number, if it has one
+unfoldable pub line_rule_of : Form → ℕ → List ℕ → Result (Option RuleText) FaultKind
+line_rule_of form number bytes = words_or_fault bytes >>= rule_of form number
+
+-- the text that a reader has left
+abbrev pub text_left : Text → List Mark
+text_left text = text_of text.line text.rest.now
+
+-- the number of a line: that of its first byte
+abbrev pub line_number : List Mark → ℕ
+line_number [] = 0
+line_number (m ∷ ms) = m.0
+
+-- a fault of one line, with its number
+abbrev pub at_line : {A : Type 0} → ℕ → Result A FaultKind → Result A RuleFault
+at_line line (Ok x) = Ok x
+at_line line (Err kind) = Err record { kind = kind; line = line }
+
+-- the same where memory ran out, which is a fault of no line
+abbrev pub fault_at : ℕ → FaultKind → RuleFault
+fault_at line faults.Memory = record { kind = faults.Memory; line = 0 }
+fault_at line kind = record { kind = kind; line = line }
+
+-- what a line gives
+abbrev pub rule_at : Form → List Mark → Result (Option RuleText) RuleFault
+rule_at form line = at_line (line_number line) (line_rule_of form (line_number line) (map (λ m. m.1) line))
+
+-- the rules of a line, and behind it those of others
+abbrev pub onto_rules : Result (Option RuleText) RuleFault → Result (List RuleText) RuleFault → Result (List RuleText) RuleFault
+onto_rules (Err fault) others = Err fault
+onto_rules (Ok None) others = others
+onto_rules (Ok (Some rule)) (Ok rules) = Ok (rule ∷ rules)
+onto_rules (Ok (Some rule)) (Err fault) = Err fault
+
+-- the rules of lines, or the first fault
+unfoldable pub rules_in : Form → List (List Mark) → Result (List RuleText) RuleFault
+rules_in form [] = Ok []
+rules_in form (line ∷ lines) = onto_rules (rule_at form line) (rules_in form lines)
+
+-- the line of the first NUL byte: one more than the line feeds before it
+abbrev pub nul_line : List ℕ → Option ℕ
+nul_line bytes = option_map (λ n. 1 + count_by (λ b. b == 10) (take n bytes)) (position (λ b. b == 0) bytes)
+
+-- THE RULES OF A FILE, or its first fault
+unfoldable pub rules_of : Form → List ℕ → Result (List RuleText) RuleFault
+rules_of form bytes =
+    if nat_lt 1048576 (length bytes) then Err record { kind = faults.FileTooLong; line = 0 }
+    else option_map_or (λ line. Err record { kind = faults.NulByte; line = line }) (nul_line bytes)
+    (rules_in form (lines_of (text_of 1 bytes)))

@@ -1,0 +1,41 @@
+-- What a walk has made so far, said by what it makes of every rest: the walk of pam.conf(5)'s includes, piece by piece.
+use Rattle.std.specs.Prelude.{◌≡◌, ℕ, ◌+◌, List, ◌++◌, length, map, filter, slice_index_or, Option, Some, None, Result, Ok, Err, Vec}
+use Rattle.std.specs.Global.{Global}
+use Rattle.pam_conf.specs.Files.{Folder}
+use Rattle.pam_conf.specs.Rule.{RuleText, rule_view}
+use Rattle.pam_conf.specs.Resolution.{UnlessMemory}
+use Rattle.pam_conf.specs.Stack.{Items, joined, module_count}
+use Rattle.pam_conf.specs.Walk.{Walk, Event, refusal, numbered, is_of_kind, rules_at, fault_at}
+use Rattle.pam_conf.specs.declared.conf_error.ConfError.{ConfError}
+use Rattle.pam_conf.specs.declared.error.RuleFault.{RuleFault}
+use Rattle.pam_conf.specs.declared.rule.Kind.{Kind}
+use Rattle.pam_conf.specs.declared.rule.Rule.{Rule}
+
+-- from so many modules and follows, and these items, the walk leads to others
+pub record Passes (modules follows : ℕ) (items : Items) (w : Walk) (new_modules new_follows : ℕ) (new_items : Items) : Type 0 where
+  pub refused : (rest : List Event) → refusal modules follows (w.events ++ rest) ≡ refusal new_modules new_follows rest
+  pub counted : new_modules ≡ modules + module_count w.items
+  pub added : new_items ≡ joined items (numbered (modules + 1) w.items)
+
+-- the walk is refused, whatever comes behind it
+abbrev pub Refuses : ℕ → ℕ → Walk → ConfError → Type 0
+Refuses modules follows w error = UnlessMemory error error.kind ((rest : List Event) → refusal modules follows (w.events ++ rest) ≡ Some error)
+
+-- the rules of one kind
+abbrev pub of_kind : Kind → Result (List RuleText) RuleFault → Result (List RuleText) RuleFault
+of_kind kind (Ok rules) = Ok (filter (is_of_kind kind) rules)
+of_kind kind (Err fault) = Err fault
+
+-- what reading the file at a position gives
+abbrev pub in_file : {X : Type 0} → ℕ → Result X RuleFault → Result X ConfError
+in_file file (Ok x) = Ok x
+in_file file (Err fault) = Err (fault_at file fault.line fault.kind)
+
+-- rules that are kept are those that the file has of the kind
+abbrev pub IsKept : Folder → Kind → ℕ → Option (Vec Rule Global) → Type 0
+IsKept folder kind file None = Unit {0}
+IsKept folder kind file (Some rules) = of_kind kind (rules_at folder file) ≡ Ok (map rule_view rules.items)
+
+pub record IsTable (folder : Folder) (kind : Kind) (table : List (Option (Vec Rule Global))) : Type 0 where
+  pub full : length table ≡ length folder.entries
+  pub kept : (file : ℕ) → IsKept folder kind file (slice_index_or table file None)

@@ -1,0 +1,7 @@
+-- Where the rules of a service stand, as the code keeps it: pam.conf(5).
+use Rattle.std.specs.Option.{option_map}
+use Rattle.pam_conf.specs.Resolution.{StartText}
+use Rattle.pam_conf.specs.declared.resolution.Start.{Start}
+
+abbrev pub start_text : Start → StartText
+start_text s = record { file = s.file; service = option_map (λ b. b.now) s.service }

@@ -1,0 +1,47 @@
+//! Why a service has no stack.
+ghost use Rattle.std.specs.Prelude.{◌≡◌};
+
+use crate::error::FaultKind;
+use std::alloc::{AllocError, AllocFailed};
+use thiserror::Error;
+
+/// Why a service has no stack: the first fault, and where it is.
+#[derive(Clone, Copy, Debug, PartialEq, Eq, Error)]
+#[error("{kind}")]
+pub struct ConfError {
+    pub kind: FaultKind,
+    /// The position of the file in `Files`; None where the service has no rules, and for want of memory.
+    pub at: Option<usize>,
+    /// From 1; 0 where the fault is of no line.
+    pub line: usize,
+}
+
+impl From<AllocError> for ConfError {
+    ghost use Rattle.std.specs.Prelude.{None};
+    ghost use Rattle.pam_conf.specs.declared.error.FaultKind.TheVariants.{Memory};
+
+    ghost from_gives = { λ _ e. e ≡ record { kind = Memory; at = None; line = 0 } };
+
+    fn from(_: AllocError) -> ConfError {
+        ConfError {
+            kind: FaultKind::Memory,
+            at: None,
+            line: 0,
+        }
+    }
+}
+
+impl<T: Drop> From<AllocFailed<T>> for ConfError {
+    ghost use Rattle.std.specs.Prelude.{None};
+    ghost use Rattle.pam_conf.specs.declared.error.FaultKind.TheVariants.{Memory};
+
+    ghost from_gives = { λ _ e. e ≡ record { kind = Memory; at = None; line = 0 } };
+
+    fn from(_: AllocFailed<T>) -> ConfError {
+        ConfError {
+            kind: FaultKind::Memory,
+            at: None,
+            line: 0,
+        }
+    }
+}

@@ -1,0 +1,114 @@
+ghost use Rattle.std.specs.Prelude.{◌≡◌, ◌==◌, ◌<◌, ◌≤◌, ◌^◌, length, map, position, count_by};
+ghost use Rattle.std.specs.Prelude.{OnOk, IfSome};
+ghost use Rattle.std.specs.Option.{option_map};
+ghost use Rattle.pam_codes.specs.Text.{text_of, lines_of, first_line, first_marks, behind_line};
+ghost use Rattle.pam_conf.specs.Gives.{Gives, GivesKind};
+ghost use Rattle.pam_conf.specs.Lines.{text_left, line_rule_of, rule_at, rules_in, rules_of};
+ghost use Rattle.pam_conf.specs.Lines.{fault_at as fault_at_line, nul_line as nul_line_of};
+ghost use Rattle.pam_conf.specs.Rule.{rule_view};
+
+use crate::error::{FaultKind, RuleFault};
+use crate::rule::{Form, Rule, line_rule};
+use crate::words::line_words;
+use pam_codes::Text;
+use std::alloc::Global;
+
+/// The longest file that is read, in bytes.
+const LONGEST: usize = 1_048_576;
+
+/// The rules of a file in the order of its lines, or its first fault: pam.conf(5).
+/// E16 comes before E1, and E1 before a fault of a line. Want of memory has line 0.
+#[tactic(auto, unfolding(crate::specs::Lines::rules_of))]
+pub fn rules(alloc: Global, bytes: &[u8], form: Form) -> Result<Vec<Rule>, RuleFault>
+    ensures { Gives (λ rules. map rule_view rules.items) result (rules_of form bytes.now) }
+{
+    if bytes.len() > LONGEST {
+        return Err(RuleFault {
+            kind: FaultKind::FileTooLong,
+            line: 0,
+        });
+    }
+    if let Some(line) = nul_line(bytes) {
+        return Err(RuleFault {
+            kind: FaultKind::NulByte,
+            line,
+        });
+    }
+    text_rules(alloc, form, bytes)
+}
+
+fn nul_place(bytes: &[u8]) -> Option<usize>
+    ensures value { result ≡ position (λ b. b == 0) bytes.now }
+    ensures bound { IfSome result (λ n. n < length bytes.now) }
+{
+    bytes.iter().position(|byte| *byte == 0)
+}
+
+fn line_feeds(bytes: &[u8]) -> usize
+    ensures value { result ≡ count_by (λ b. b == 10) bytes.now }
+    ensures bound { result ≤ length bytes.now }
+{
+    bytes.iter().filter(|byte| **byte == b'\n').count()
+}
+
+/// The line of the first NUL byte.
+fn nul_line(bytes: &[u8]) -> Option<usize>
+    ensures { result ≡ nul_line_of bytes.now }
+{
+    match nul_place(bytes) {
+        Some(place) => Some(1 + line_feeds(&bytes[..place])),
+        None => None,
+    }
+}
+
+/// The rules of all lines.
+fn text_rules(alloc: Global, form: Form, bytes: &[u8]) -> Result<Vec<Rule>, RuleFault>
+    requires { length bytes.now < 2 ^ 32 }
+    ensures { Gives (λ rules. map rule_view rules.items) result
+        (rules_in form (lines_of (text_of 1 bytes.now))) }
+{
+    let mut text = Text::of(bytes);
+    let mut rules = Vec::new(alloc);
+    while !text.is_done() {
+        if let Some(rule) = next_rule(alloc, form, &mut text)? {
+            rules.push(rule)?;
+        }
+    }
+    Ok(rules)
+}
+
+/// The rule of the text's first line, if that line has one. The text goes on behind it.
+fn next_rule(alloc: Global, form: Form, text: &mut Text) -> Result<Option<Rule>, RuleFault>
+    ensures rule { Gives (option_map rule_view) result (rule_at form (first_marks (text_left text.old))) }
+    ensures rest { OnOk result (text_left text.new ≡ behind_line (text_left text.old)) }
+{
+    let line = text.line();
+    match read_line(alloc, form, text) {
+        Ok(rule) => Ok(rule),
+        Err(kind) => Err(fault_at(line, kind)),
+    }
+}
+
+/// The same with a fault of no line yet.
+fn read_line(alloc: Global, form: Form, text: &mut Text) -> Result<Option<Rule>, FaultKind>
+    ensures rule { GivesKind (option_map rule_view) result
+        (line_rule_of form text.old.line (first_line (text_left text.old))) }
+    ensures rest { OnOk result (text_left text.new ≡ behind_line (text_left text.old)) }
+{
+    let line = text.line();
+    let words = line_words(alloc, text)?;
+    line_rule(alloc, form, line, words)
+}
+
+/// A fault of a line. Want of memory is of none.
+fn fault_at(line: usize, kind: FaultKind) -> RuleFault
+    ensures { result ≡ fault_at_line line kind }
+{
+    match kind {
+        FaultKind::Memory => RuleFault { kind, line: 0 },
+        _ => RuleFault { kind, line },
+    }
+}
+
+#[cfg(test)]
+mod tests;

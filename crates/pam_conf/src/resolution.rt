@@ -1,0 +1,187 @@
+//! The stack of a service, or why it has none.
+ghost use Rattle.std.specs.Prelude.{◌≡◌, ◌<◌, IfOk, IfSome, OnOk, codes, length, map};
+ghost use Rattle.std.specs.Char.{to_ascii_lowercase};
+ghost use Rattle.std.specs.List.{list_any};
+ghost use Rattle.std.specs.Option.{option_map};
+ghost use Rattle.pam_conf.specs.Progress.{IsTable};
+ghost use Rattle.pam_conf.specs.Resolution.{Resolves, carried, from_starts, resolved, stack_from, start_in};
+ghost use Rattle.pam_conf.specs.Rule.{rule_view};
+ghost use Rattle.pam_conf.specs.StartOf.{start_text};
+ghost use Rattle.pam_conf.specs.Walk.{carries};
+ghost use Rattle.pam_conf.specs.declared.rule.Form.TheVariants.{Dir, Single};
+
+use crate::conf_error::ConfError;
+use crate::error::FaultKind;
+use crate::files::Files;
+use crate::rule::{Form, Kind, Rule, lower};
+use crate::stack::Stack;
+use crate::trail::Trail;
+use crate::walk::{Progress, Walker, file_rules, has_service, kept};
+use std::alloc::{AllocError, Global};
+
+#[cfg(test)]
+mod tests;
+
+/// The name of the one file of the one-file form.
+const ONE_FILE: &[u8] = b"pam.conf";
+
+/// The service whose rules serve where a service has none.
+const OTHER: &[u8] = b"other";
+
+/// Where the rules of a service stand: a file, and in pam.conf the service that they carry.
+#[derive(Drop)]
+struct Start<'a> {
+    file: usize,
+    service: Option<&'a [u8]>,
+}
+
+/// No rules of a service, and none of `other`.
+fn no_service() -> ConfError
+    ensures { result ≡ record { kind = FaultKind.NoService; at = None; line = 0 } }
+{
+    ConfError {
+        kind: FaultKind::NoService,
+        at: None,
+        line: 0,
+    }
+}
+
+/// A text in lower case.
+fn lower_case(alloc: Global, text: &[u8]) -> Result<Vec<u8>, AllocError>
+    ensures { IfOk result (λ lowered. lowered.items ≡ map to_ascii_lowercase text.now) }
+{
+    let mut lowered = text.to_vec(alloc)?;
+    lower(&mut lowered);
+    Ok(lowered)
+}
+
+/// Where the rules of a service stand in a folder: in its file, if there is one.
+fn folder_start(files: &Files, service: &[u8]) -> Option<Start<'static>>
+    ensures start { option_map start_text result ≡ start_in Dir files.now service.now }
+    ensures within { IfSome result (λ s. s.file < length files.now.entries) }
+{
+    let file = files.find(service)?;
+    Some(Start {
+        file,
+        service: None,
+    })
+}
+
+/// Where the rules of a service stand in the one file: in it, if a rule carries the service.
+fn carried_start<'a>(rules: &[Rule], file: usize, service: &'a [u8]) -> Option<Start<'a>>
+    ensures { option_map start_text result ≡ carried (list_any (carries service.now) (map rule_view rules.now)) file service.now }
+{
+    for rule in rules {
+        if has_service(rule, service) {
+            return Some(Start {
+                file,
+                service: Some(service),
+            });
+        }
+    }
+    None
+}
+
+/// The stack that begins at a start.
+fn stack_at(
+    alloc: Global,
+    files: &Files,
+    kind: Kind,
+    progress: &mut Progress,
+    start: Start,
+) -> Result<Stack, ConfError>
+    requires table { IsTable files.now kind progress.old.table.items }
+    requires within { start.file < length files.now.entries }
+    ensures table { OnOk result (IsTable files.now kind progress.new.table.items) }
+    ensures stack { Resolves (λ s. s) result (stack_from files.now kind (start_text start.entry)) }
+{
+    progress.modules = 0;
+    progress.follows = 0;
+    let walker = Walker {
+        alloc,
+        files,
+        kind,
+        service: start.service,
+    };
+    let mut items = Vec::new(alloc);
+    let trail = Trail::of(start.file);
+    walker.walk_file(progress, &trail, start.file, &mut items)?;
+    Ok(Stack::of(items, progress.modules))
+}
+
+/// The stack of a service, or that of `other` where the service has no rules or an empty stack.
+fn stack_of_starts(
+    alloc: Global,
+    files: &Files,
+    kind: Kind,
+    progress: &mut Progress,
+    own: Option<Start>,
+    other: Option<Start>,
+) -> Result<Stack, ConfError>
+    requires table { IsTable files.now kind progress.old.table.items }
+    requires own { IfSome own (λ s. s.file < length files.now.entries) }
+    requires other { IfSome other (λ s. s.file < length files.now.entries) }
+    ensures { Resolves (λ s. s) result (from_starts files.now kind (option_map start_text own.entry) (option_map start_text other.entry)) }
+{
+    let Some(own) = own else {
+        let Some(other) = other else {
+            return Err(no_service());
+        };
+        return stack_at(alloc, files, kind, progress, other);
+    };
+    let stack = stack_at(alloc, files, kind, progress, own)?;
+    if !stack.items().is_empty() {
+        return Ok(stack);
+    }
+    let Some(other) = other else {
+        return Ok(stack);
+    };
+    stack_at(alloc, files, kind, progress, other)
+}
+
+/// The stack of a service of a folder.
+fn folder_stack(
+    alloc: Global,
+    files: &Files,
+    service: &[u8],
+    kind: Kind,
+) -> Result<Stack, ConfError>
+    ensures { Resolves (λ s. s) result (from_starts files.now kind (start_in Dir files.now service.now) (start_in Dir files.now (codes "other"))) }
+{
+    let mut progress = Progress::new(alloc, files, kind)?;
+    let own = folder_start(files, service);
+    let other = folder_start(files, OTHER);
+    stack_of_starts(alloc, files, kind, &mut progress, own, other)
+}
+
+/// The stack of a service of pam.conf. A fault of any of its lines is the answer.
+fn one_file_stack(
+    alloc: Global,
+    files: &Files,
+    service: &[u8],
+    kind: Kind,
+) -> Result<Stack, ConfError>
+    ensures { Resolves (λ s. s) result (from_starts files.now kind (start_in Single files.now service.now) (start_in Single files.now (codes "other"))) }
+{
+    let Some(file) = files.find(ONE_FILE) else {
+        return Err(no_service());
+    };
+    let rules = file_rules(alloc, files, file)?;
+    let own = carried_start(rules.as_slice(), file, service);
+    let other = carried_start(rules.as_slice(), file, OTHER);
+    let mut progress = Progress::new(alloc, files, kind)?;
+    progress.table[file] = Some(kept(rules, kind));
+    stack_of_starts(alloc, files, kind, &mut progress, own, other)
+}
+
+/// The stack of a service, in either case, for a kind; or the first fault of the walk over its files.
+/// `other` serves where the service has no rules, or an empty stack: pam.conf(5).
+pub fn resolve(alloc: Global, files: &Files, service: &[u8], kind: Kind) -> Result<Stack, ConfError>
+    ensures { Resolves (λ s. s) result (resolved files.now service.now kind) }
+{
+    let service = lower_case(alloc, service)?;
+    match files.form() {
+        Form::Dir => folder_stack(alloc, files, service.as_slice(), kind),
+        Form::Single => one_file_stack(alloc, files, service.as_slice(), kind),
+    }
+}

@@ -1,0 +1,311 @@
+//! The walk over a service's file and the files that its rules include.
+ghost use Rattle.std.specs.Prelude.{◌≡◌, ◌<◌, ◌≤◌, ◌+◌, ◌-◌, IsOkAnd, MatchResult, IfOk, OnOk, filter, length, map};
+ghost use Rattle.std.specs.Option.{option_map};
+ghost use Rattle.pam_conf.specs.Files.{position_of};
+ghost use Rattle.pam_conf.specs.ItemsOf.{items_of};
+ghost use Rattle.pam_conf.specs.Progress.{IsTable, Passes, Refuses, in_file, of_kind};
+ghost use Rattle.pam_conf.specs.Resolution.{Resolves, UnlessMemory};
+ghost use Rattle.pam_conf.specs.Rule.{rule_view};
+ghost use Rattle.pam_conf.specs.Walk.{carries, counts, deeper, fault_at, followed, include_walk, is_of_kind, rule_walk, rules_at, rules_walk, same_kind, target_walk, walk};
+
+use crate::conf_error::ConfError;
+use crate::error::{FaultKind, RuleFault};
+use crate::files::Files;
+use crate::lines::rules;
+use crate::rule::{Body, Kind, Rule};
+use crate::stack::{Item, Module, Sub};
+use crate::trail::Trail;
+use std::alloc::{AllocError, Global};
+
+/// The most modules of one stack.
+const MODULES: usize = 64;
+
+/// The most includes and substacks that are followed in one walk.
+const FOLLOWS: usize = 256;
+
+/// What a walk has met so far, and the rules that it has read.
+#[derive(Drop)]
+pub(crate) struct Progress {
+    /// By position in `Files`, the rules of the kind of each file that was read and is not open.
+    pub table: Vec<Option<Vec<Rule>>>,
+    pub modules: usize,
+    pub follows: usize,
+    ghost few_modules: { modules ≤ 64 },
+    ghost few_follows: { follows ≤ 256 },
+}
+
+impl Progress {
+    /// Nothing met, and nothing read, of so many files.
+    pub(crate) fn new(alloc: Global, files: &Files, kind: Kind) -> Result<Progress, AllocError>
+        ensures { IfOk result (λ p. IsTable files.now kind p.table.items) }
+    {
+        let mut table = Vec::with_capacity(alloc, files.len())?;
+        for _ in 0..files.len() {
+            table.push(None)?;
+        }
+        Ok(Progress {
+            table,
+            modules: 0,
+            follows: 0,
+        })
+    }
+}
+
+/// A fault at a line of a file.
+fn fault(file: usize, line: usize, kind: FaultKind) -> ConfError
+    ensures { result ≡ fault_at file line kind }
+{
+    ConfError {
+        kind,
+        at: Some(file),
+        line,
+    }
+}
+
+/// A fault of a file's own lines. Want of memory has no position.
+fn fault_in(file: usize, found: RuleFault) -> ConfError
+    ensures kind { result.kind ≡ found.kind }
+    ensures place { UnlessMemory result found.kind (result ≡ fault_at file found.line found.kind) }
+{
+    match found.kind {
+        FaultKind::Memory => ConfError {
+            kind: FaultKind::Memory,
+            at: None,
+            line: 0,
+        },
+        kind => fault(file, found.line, kind),
+    }
+}
+
+/// The rules of the file at a position, or its first fault.
+pub(crate) fn file_rules(alloc: Global, files: &Files, file: usize) -> Result<Vec<Rule>, ConfError>
+    requires { file < length files.now.entries }
+    ensures { Resolves (λ rules. map rule_view rules.items) result (in_file file (rules_at files.now file)) }
+{
+    let bytes = files.bytes(file).unwrap_or(b"");
+    rules(alloc, bytes, files.form()).map_err(|found| fault_in(file, found))
+}
+
+/// Whether two kinds are one.
+fn is_same(kind: Kind, other: Kind) -> bool
+    ensures { result ≡ same_kind kind other }
+{
+    kind == other
+}
+
+/// Whether a rule is of a kind.
+fn is_of(rule: &Rule, kind: Kind) -> bool
+    ensures { result ≡ is_of_kind kind (rule_view rule.now) }
+{
+    match rule.kind {
+        Some(own) => is_same(kind, own),
+        None => true,
+    }
+}
+
+/// Whether a rule of pam.conf carries a service.
+pub(crate) fn has_service(rule: &Rule, service: &[u8]) -> bool
+    ensures { result ≡ carries service.now (rule_view rule.now) }
+{
+    match &rule.service {
+        Some(own) => service == own.as_slice(),
+        None => false,
+    }
+}
+
+/// The rules of a kind.
+pub(crate) fn kept(mut rules: Vec<Rule>, kind: Kind) -> Vec<Rule>
+    ensures { map rule_view result.items ≡ filter (is_of_kind kind) (map rule_view rules.items) }
+{
+    rules.retain(|rule| is_of(rule, kind));
+    rules
+}
+
+/// A walk for one kind, and in pam.conf for one service.
+#[derive(Drop)]
+pub(crate) struct Walker<'a> {
+    pub alloc: Global,
+    pub files: &'a Files,
+    pub kind: Kind,
+    pub service: Option<&'a [u8]>,
+}
+
+impl Walker<'_> {
+    /// Whether a rule is of the kind, and in pam.conf of the service.
+    fn counts(&self, rule: &Rule) -> bool
+        ensures { result ≡ counts self.now.kind (option_map (λ s. s.now) self.now.service) (rule_view rule.now) }
+    {
+        let is_carried = match self.service {
+            Some(service) => has_service(rule, service),
+            None => true,
+        };
+        is_of(rule, self.kind) && is_carried
+    }
+
+    /// The rules of the kind of a file, which is then not in the table.
+    fn take_rules(
+        &self,
+        table: &mut Vec<Option<Vec<Rule>>>,
+        file: usize,
+    ) -> Result<Vec<Rule>, ConfError>
+        requires table { IsTable self.now.files.now self.now.kind table.old.items }
+        requires within { file < length self.now.files.now.entries }
+        ensures table { IsTable self.now.files.now self.now.kind table.new.items }
+        ensures rules { Resolves (λ rules. map rule_view rules.items) result (in_file file (of_kind self.now.kind (rules_at self.now.files.now file))) }
+    {
+        let taken = std::mem::replace(&mut table[file], None);
+        if let Some(rules) = taken {
+            return Ok(rules);
+        }
+        let rules = file_rules(self.alloc, self.files, file)?;
+        Ok(kept(rules, self.kind))
+    }
+
+    /// Walks a file that was just opened; it is the last of the trail. Its items come behind those that are there.
+    #[cycle(walk)]
+    pub(crate) fn walk_file(
+        &self,
+        progress: &mut Progress,
+        trail: &Trail,
+        file: usize,
+        items: &mut Vec<Item>,
+    ) -> Result<(), ConfError>
+        requires table { IsTable self.now.files.now self.now.kind progress.old.table.items }
+        requires within { file < length self.now.files.now.entries }
+        ensures table { OnOk result (IsTable self.now.files.now self.now.kind progress.new.table.items) }
+        ensures walked { let w = walk self.now.files.now self.now.kind (option_map (λ s. s.now) self.now.service) (16 - length trail.now) trail.now file in
+            MatchResult result
+            (λ _. Passes progress.old.modules progress.old.follows (items_of items.old.items) w progress.new.modules progress.new.follows (items_of items.new.items))
+            (λ e. Refuses progress.old.modules progress.old.follows w e) }
+    {
+        let rules = self.take_rules(&mut progress.table, file)?;
+        self.walk_rules(progress, trail, file, rules.as_slice(), items)?;
+        progress.table[file] = Some(rules);
+        Ok(())
+    }
+
+    /// Walks rules of a file.
+    #[cycle(walk)]
+    fn walk_rules(
+        &self,
+        progress: &mut Progress,
+        trail: &Trail,
+        file: usize,
+        rules: &[Rule],
+        items: &mut Vec<Item>,
+    ) -> Result<(), ConfError>
+        requires table { IsTable self.now.files.now self.now.kind progress.old.table.items }
+        ensures table { OnOk result (IsTable self.now.files.now self.now.kind progress.new.table.items) }
+        ensures walked { let service = option_map (λ s. s.now) self.now.service in
+            let w = rules_walk self.now.files.now self.now.kind service (deeper self.now.files.now self.now.kind service (16 - length trail.now)) trail.now file (map rule_view rules.now) in
+            MatchResult result
+            (λ _. Passes progress.old.modules progress.old.follows (items_of items.old.items) w progress.new.modules progress.new.follows (items_of items.new.items))
+            (λ e. Refuses progress.old.modules progress.old.follows w e) }
+    {
+        for rule in rules {
+            self.walk_rule(progress, trail, file, rule, items)?;
+        }
+        Ok(())
+    }
+
+    /// Walks a rule.
+    #[cycle(walk)]
+    fn walk_rule(
+        &self,
+        progress: &mut Progress,
+        trail: &Trail,
+        file: usize,
+        rule: &Rule,
+        items: &mut Vec<Item>,
+    ) -> Result<(), ConfError>
+        requires table { IsTable self.now.files.now self.now.kind progress.old.table.items }
+        ensures table { OnOk result (IsTable self.now.files.now self.now.kind progress.new.table.items) }
+        ensures walked { let service = option_map (λ s. s.now) self.now.service in
+            let w = rule_walk self.now.files.now self.now.kind service (deeper self.now.files.now self.now.kind service (16 - length trail.now)) trail.now file (rule_view rule.now) in
+            MatchResult result
+            (λ _. Passes progress.old.modules progress.old.follows (items_of items.old.items) w progress.new.modules progress.new.follows (items_of items.new.items))
+            (λ e. Refuses progress.old.modules progress.old.follows w e) }
+    {
+        if !self.counts(rule) {
+            return Ok(());
+        }
+        match &rule.body {
+            Body::Module(control, path, arguments) => {
+                if progress.modules == MODULES {
+                    return Err(fault(file, rule.line, FaultKind::TooManyModules));
+                }
+                let module = Module {
+                    number: progress.modules + 1,
+                    dashed: rule.dashed,
+                    control: *control,
+                    path: path.clone()?,
+                    arguments: arguments.clone()?,
+                    file,
+                    line: rule.line,
+                };
+                items.push(Item::Module(module))?;
+                progress.modules += 1;
+                Ok(())
+            }
+            Body::Include(target) => {
+                self.follow(progress, trail, file, rule.line, target.as_slice(), items)?;
+                Ok(())
+            }
+            Body::Sub(target) => {
+                let mut inner = Vec::new(self.alloc);
+                let target = self.follow(
+                    progress,
+                    trail,
+                    file,
+                    rule.line,
+                    target.as_slice(),
+                    &mut inner,
+                )?;
+                let sub = Sub {
+                    file,
+                    line: rule.line,
+                    target,
+                    items: inner,
+                };
+                items.push(Item::Sub(sub))?;
+                Ok(())
+            }
+        }
+    }
+
+    /// Follows the target of a rule at a line of a file, and gives the target's position.
+    #[cycle(walk)]
+    fn follow(
+        &self,
+        progress: &mut Progress,
+        trail: &Trail,
+        file: usize,
+        line: usize,
+        target: &[u8],
+        items: &mut Vec<Item>,
+    ) -> Result<usize, ConfError>
+        requires table { IsTable self.now.files.now self.now.kind progress.old.table.items }
+        ensures table { OnOk result (IsTable self.now.files.now self.now.kind progress.new.table.items) }
+        ensures walked { let found = target_walk (deeper self.now.files.now self.now.kind (option_map (λ s. s.now) self.now.service) (16 - length trail.now)) trail.now (position_of target.now self.now.files.now.entries) in
+            MatchResult result
+            (λ position. IsOkAnd found (λ t. (t.0 ≡ position) × Passes progress.old.modules progress.old.follows (items_of items.old.items) (followed file line t.1) progress.new.modules progress.new.follows (items_of items.new.items)))
+            (λ e. Refuses progress.old.modules progress.old.follows (include_walk file line found) e) }
+    {
+        let Some(position) = self.files.find(target) else {
+            return Err(fault(file, line, FaultKind::NoService));
+        };
+        if trail.contains(position) {
+            return Err(fault(file, line, FaultKind::Cycle));
+        }
+        if trail.room() == 0 {
+            return Err(fault(file, line, FaultKind::TooDeep));
+        }
+        if progress.follows == FOLLOWS {
+            return Err(fault(file, line, FaultKind::TooManyFollowed));
+        }
+        progress.follows += 1;
+        let longer = trail.with(position);
+        self.walk_file(progress, &longer, position, items)?;
+        Ok(position)
+    }
+}

@@ -1,0 +1,94 @@
+-- Where a program finds the control of a module.
+use Rattle.std.proofs.Common.{◌≡◌, ℕ, ◌+◌, ◌-◌, ◌<◌, ◌≤◌, List, [], refl, sym, ◌∙◌, ap, subst, arith, length, get_or, Some}
+use Rattle.std.specs.Prelude.{is_some}
+use Rattle.std.proofs.lemmas.List.{get_or_default}
+use Rattle.pam_codes.specs.declared.action.Action.{Action}
+use Rattle.pam_dispatch.specs.declared.entry.Entry.{Entry}
+use Rattle.pam_dispatch.specs.declared.entry.Entry.TheVariants.{Module, Substack}
+use Rattle.pam_dispatch.specs.declared.place.Place.{Place}
+use Rattle.pam_dispatch.specs.Runs.{Runs, asked_module, next_ask}
+use Rattle.pam_dispatch.specs.Flat.{IsNumbered, IsPlaceOf, controls_in, control_at, modules_of, rest_of}
+use Rattle.pam_dispatch.specs.Program.{IsProgram}
+use Rattle.pam_dispatch.proofs.Asking.{number-next_ask}
+use Rattle.pam_dispatch.proofs.Numbering.{ModuleAt, control_of, at_positions_from, control_in-module, length-positions_from}
+use Rattle.pam_dispatch.proofs.Places.{place_asks, place_no_substack, place_within}
+use Rattle.pam_dispatch.proofs.Resume.{ask_at}
+
+-- each module of a program has a position
+pub length-positions : (entries program : List Entry) (positions : List ℕ) → IsProgram entries positions → entries ≡ program →
+    length positions ≡ modules_of program
+length-positions entries program positions p is =
+    ap (λ (x : List ℕ). length x) p.found ∙ length-positions_from 0 entries ∙ ap (λ (ts : List Entry). modules_of ts) is
+
+-- a module that stands in a program has the control of its number
+pub control_at-module : (program : List Entry) (position : ℕ) (past : Entry) (level number : ℕ) (control : List Action) (behind : ℕ) →
+    IsNumbered 0 program → position < length program → get_or program position past ≡ Module level number control behind →
+    control_at program number ≡ control
+control_at-module program position past level number control behind n within is =
+    let found = control_in-module program 0 position past level number control behind n within is in
+    let same : number - 1 ≡ found.0 = omega (arith, found.1) in
+    ap (λ (x : ℕ). get_or (controls_in program) x []) same ∙ found.2
+
+-- a place that asks a module stands at that module, and no other
+at_entry : (program : List Entry) (place : Place) (number : ℕ) → IsNumbered 0 program → IsPlaceOf program place →
+    asked_module (rest_of program place) ≡ Some number → place.position < length program →
+    (e : Entry) → get_or program place.position (Substack 0) ≡ e → (next_ask (rest_of program place)).control ≡ control_at program number
+unfolding ask_at
+at_entry program place number numbered valid asked within (Substack level) is =
+    absurd (place_no_substack program place valid (Substack 0) level within is)
+at_entry program place number numbered valid asked within (Module level m control behind) is =
+    let asks = place_asks program place valid (Substack 0) level m control behind within is in
+    let same : m ≡ number = sym (ap (λ (r : Runs). (next_ask r).module_number) asks) ∙ number-next_ask (rest_of program place) number asked in
+    ap (λ (r : Runs). (next_ask r).control) asks
+    ∙ sym (control_at-module program place.position (Substack 0) level m control behind numbered within is)
+    ∙ ap (λ (x : ℕ). control_at program x) same
+
+-- how a module of a program is asked, by its number
+pub place-control : (program : List Entry) (place : Place) (number : ℕ) → IsNumbered 0 program → IsPlaceOf program place →
+    asked_module (rest_of program place) ≡ Some number → (next_ask (rest_of program place)).control ≡ control_at program number
+place-control program place number numbered valid asked =
+    at_entry program place number numbered valid asked (place_within program place valid (ap is_some asked))
+    (get_or program place.position (Substack 0)) refl
+
+module _ (entries program : List Entry) (positions : List ℕ) (p : IsProgram entries positions) (is : entries ≡ program) (number : ℕ)
+    (first : 1 ≤ number) (last : number ≤ modules_of program) where
+  index_within : number - 1 < modules_of entries
+  index_within = omega (arith, first, last, ap (λ (ts : List Entry). modules_of ts) is)
+
+  pub number_within : number - 1 < length positions
+  number_within = omega (arith, first, last, length-positions entries program positions p is)
+
+  module _ (position : ℕ) (at : position ≡ get_or positions (number - 1) position) where
+    module_there : ModuleAt entries position number (get_or (controls_in entries) (number - 1) [])
+    module_there =
+        let found = at_positions_from entries 0 0 (number - 1) p.numbered index_within in
+        let here : found.0 ≡ position =
+        sym (at ∙ get_or_default positions (number - 1) position 0 number_within
+        ∙ ap (λ (x : List ℕ). get_or x (number - 1) 0) p.found ∙ found.1 ∙ (let z : 0 + found.0 ≡ found.0 = omega arith in z)) in
+        let same : 0 + (number - 1) + 1 ≡ number = omega (arith, first) in
+        subst (λ (x : ℕ). ModuleAt entries x number (get_or (controls_in entries) (number - 1) [])) here
+        (subst (λ (x : ℕ). ModuleAt entries found.0 x (get_or (controls_in entries) (number - 1) [])) same found.2)
+
+    pub position_within : position < length entries
+    position_within = module_there.within
+
+    module _ (e : Entry) (there : e ≡ get_or entries position e) where
+      -- the entry that was found is the module of the number
+      found_module : e ≡ Module module_there.level number (get_or (controls_in entries) (number - 1) []) module_there.behind
+      found_module = there ∙ module_there.is e
+
+      pub found_no_substack : (level : ℕ) → e ≡ Substack level → ⊥
+      found_no_substack level substack =
+          let no : Module module_there.level number (get_or (controls_in entries) (number - 1) []) module_there.behind ≡ Substack level = sym found_module ∙ substack in
+          cc
+
+      pub found_control : (level m : ℕ) (control : List Action) (behind : ℕ) → e ≡ Module level m control behind → control ≡ control_at program number
+      found_control level m control behind found =
+          ap control_of (sym found ∙ found_module) ∙ ap (λ (ts : List Entry). control_at ts number) is
+
+      pub found_asked : (level m : ℕ) (control : List Action) (behind : ℕ) → e ≡ Module level m control behind →
+          (place : Place) → IsPlaceOf program place → asked_module (rest_of program place) ≡ Some number →
+          (next_ask (rest_of program place)).control ≡ control
+      found_asked level m control behind found place valid asked =
+          place-control program place number (subst (λ ts. IsNumbered 0 ts) is p.numbered) valid asked
+          ∙ sym (found_control level m control behind found)

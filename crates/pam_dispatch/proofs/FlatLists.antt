@@ -1,0 +1,62 @@
+-- The flat list of a tree of items.
+use Rattle.std.proofs.Common.{◌≡◌, ℕ, ◌+◌, ◌<◌, ◌≤◌, List, [], ◌∷◌, ◌++◌, zero, suc, refl, sym, ◌∙◌, ap, arith, drop, length, length-drop, get_or, append_assoc, append-nil, drop_of_length-le}
+use Rattle.std.proofs.Math.Seq.{drop-nil}
+use Rattle.pam_conf.specs.declared.stack.Module.{Module}
+use Rattle.pam_conf.specs.declared.stack.Item.{Item}
+use Rattle.pam_conf.specs.declared.stack.Item.TheVariants.{Module as ModuleItem, Sub as SubItem}
+use Rattle.pam_conf.specs.Stack.{Items, SubList, depth}
+use Rattle.pam_conf.specs.ItemsOf.{items_of}
+use Rattle.pam_conf.proofs.StackTree.{items_of-drop_module, items_of-drop_sub}
+use Rattle.pam_dispatch.specs.declared.entry.Entry.{Entry}
+use Rattle.pam_dispatch.specs.declared.entry.Entry.TheVariants.{Module as ModuleEntry, Substack}
+use Rattle.pam_dispatch.specs.Tree.{count}
+use Rattle.pam_dispatch.specs.Flat.{flat_list}
+
+count-items_of : (xs : List Item) → count (items_of xs) ≡ length xs
+unfolding count
+count-items_of [] = refl
+count-items_of (ModuleItem m ∷ xs) = ap suc (count-items_of xs)
+count-items_of (SubItem s ∷ xs) = ap suc (count-items_of xs)
+
+-- a module behind the entries of what stands before it
+pub flat_list-module : (level i behind : ℕ) (xs : List Item) (entries : List Entry) (d : Item) (m : Module) → i < length xs → get_or xs i d ≡ ModuleItem m →
+    behind + (i + 1) ≡ length xs →
+    (entries ++ ModuleEntry level m.number m.control behind ∷ []) ++ flat_list level (items_of (drop (i + 1) xs)) ≡ entries ++ flat_list level (items_of (drop i xs))
+unfolding flat_list
+flat_list-module level i behind xs entries d m h e b =
+    let next : i + 1 ≡ suc i = omega arith in
+    let left : length (drop (suc i) xs) ≡ behind = length-drop (suc i) xs ∙ omega (arith, b) in
+    append_assoc entries (ModuleEntry level m.number m.control behind ∷ []) (flat_list level (items_of (drop (i + 1) xs)))
+    ∙ ap (λ (k : ℕ). entries ++ ModuleEntry level m.number m.control behind ∷ flat_list level (items_of (drop k xs))) next
+    ∙ ap (λ (k : ℕ). entries ++ ModuleEntry level m.number m.control k ∷ flat_list level (items_of (drop (suc i) xs))) (sym (count-items_of (drop (suc i) xs) ∙ left))
+    ∙ ap (λ (x : Items). entries ++ flat_list level x) (sym (items_of-drop_module xs i d m h e))
+
+-- a substack and its entries behind those of what stands before it
+pub flat_list-sub : (level i : ℕ) (xs : List Item) (entries : List Entry) (d : Item) (s : SubList) → i < length xs → get_or xs i d ≡ SubItem s →
+    ((entries ++ Substack level ∷ []) ++ flat_list (level + 1) s.inner) ++ flat_list level (items_of (drop (i + 1) xs)) ≡ entries ++ flat_list level (items_of (drop i xs))
+unfolding flat_list
+flat_list-sub level i xs entries d s h e =
+    let next : i + 1 ≡ suc i = omega arith in
+    let behind = flat_list level (items_of (drop (i + 1) xs)) in
+    append_assoc (entries ++ Substack level ∷ []) (flat_list (level + 1) s.inner) behind
+    ∙ append_assoc entries (Substack level ∷ []) (flat_list (level + 1) s.inner ++ behind)
+    ∙ ap (λ (k : ℕ). entries ++ Substack level ∷ (flat_list (level + 1) s.inner ++ flat_list level (items_of (drop k xs)))) next
+    ∙ ap (λ (x : Items). entries ++ flat_list level x) (sym (items_of-drop_sub xs i d s h e))
+
+-- nothing is left behind the last item
+pub flat_list-end : (level i : ℕ) (xs : List Item) (entries : List Entry) → length xs ≤ i → entries ++ flat_list level (items_of (drop i xs)) ≡ entries
+unfolding flat_list
+flat_list-end level i xs entries h =
+    ap (λ (ys : List Item). entries ++ flat_list level (items_of ys)) (drop_of_length-le xs h) ∙ append-nil entries
+
+depth-drop_suc : (xs : List Item) (i : ℕ) → depth (items_of (drop (suc i) xs)) ≤ depth (items_of (drop i xs))
+depth-drop_suc [] i = rw (drop-nil i) (omega arith)
+depth-drop_suc (ModuleItem m ∷ xs) zero = omega arith
+depth-drop_suc (SubItem s ∷ xs) zero = omega arith
+depth-drop_suc (x ∷ xs) (suc i) = depth-drop_suc xs i
+
+-- behind an item no more lists are open
+pub shallow-behind : (level i : ℕ) (xs : List Item) → level + depth (items_of (drop i xs)) ≤ 16 → level + depth (items_of (drop (i + 1) xs)) ≤ 16
+shallow-behind level i xs h =
+    let next : i + 1 ≡ suc i = omega arith in
+    rw next (omega (arith, h, depth-drop_suc xs i))

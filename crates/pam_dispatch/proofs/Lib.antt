@@ -1,0 +1,10 @@
+pub mod Asking
+pub mod Controls
+pub mod FlatLists
+pub mod Flattening
+pub mod Numbering
+pub mod OpenRuns
+pub mod Places
+pub mod Positions
+pub mod Resume
+pub mod StackLists

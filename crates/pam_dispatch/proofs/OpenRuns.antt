@@ -1,0 +1,109 @@
+-- Runs over trees: the rules that they follow, and their open form under an assignment.
+use Rattle.std.proofs.Common.{◌≡◌, ℕ, ◌-◌, ◌≤◌, List, ◌∷◌, ◌++◌, zero, suc, refl, sym, ◌∙◌, ap, arith, leb, append_assoc, append-nil}
+use Rattle.pam_conf.specs.Stack.{Items, End, ThenModule, ThenSub}
+use Rattle.pam_dispatch.specs.declared.state.State.{State}
+use Rattle.std.proofs.lemmas.Bool.{cond_both}
+use Rattle.pam_codes.specs.declared.action.Action.{Action}
+use Rattle.pam_codes.specs.declared.action.Action.TheVariants.{Ignore, Ok, Done, Bad, Die, Reset, Jump}
+use Rattle.pam_dispatch.specs.declared.state.Impression.{Impression}
+use Rattle.pam_dispatch.specs.declared.state.Impression.TheVariants.{Undef, Positive, Negative}
+use Rattle.pam_dispatch.specs.Decision.{decision_of}
+use Rattle.pam_dispatch.specs.State.{start_state, action_of, accepted, left_of, left_unless_positive}
+use Rattle.pam_dispatch.specs.Runs.{Ask, Assignment, Runs, outcome_of, final_state, asked_by}
+use Rattle.pam_dispatch.specs.Tree.{count, items_behind, ask_of, run_behind, asked_behind, run, asked, runs_after, runs_of_stack, decided}
+
+-- a run behind the first items is the run of what is behind them
+pub run_behind-items_behind : (skip : ℕ) (items : Items) (s entry : State) (answers : Assignment) →
+    run_behind skip items s entry answers ≡ run (items_behind skip items) s entry answers
+unfolding run_behind items_behind
+run_behind-items_behind zero End s entry answers = refl
+run_behind-items_behind zero (ThenModule m rest) s entry answers = refl
+run_behind-items_behind zero (ThenSub sub inner rest) s entry answers = refl
+run_behind-items_behind (suc skip) End s entry answers = refl
+run_behind-items_behind (suc skip) (ThenModule m rest) s entry answers = run_behind-items_behind skip rest s entry answers
+run_behind-items_behind (suc skip) (ThenSub sub inner rest) s entry answers = run_behind-items_behind skip rest s entry answers
+
+pub asked_behind-items_behind : (skip : ℕ) (items : Items) (s entry : State) (answers : Assignment) →
+    asked_behind skip items s entry answers ≡ asked (items_behind skip items) s entry answers
+unfolding asked_behind items_behind
+asked_behind-items_behind zero End s entry answers = refl
+asked_behind-items_behind zero (ThenModule m rest) s entry answers = refl
+asked_behind-items_behind zero (ThenSub sub inner rest) s entry answers = refl
+asked_behind-items_behind (suc skip) End s entry answers = refl
+asked_behind-items_behind (suc skip) (ThenModule m rest) s entry answers = asked_behind-items_behind skip rest s entry answers
+asked_behind-items_behind (suc skip) (ThenSub sub inner rest) s entry answers = asked_behind-items_behind skip rest s entry answers
+
+-- so many items are behind the first ones
+pub count-items_behind : (skip : ℕ) (items : Items) → count (items_behind skip items) ≡ count items - skip
+unfolding count items_behind
+count-items_behind zero items = omega arith
+count-items_behind (suc skip) End = omega arith
+count-items_behind (suc skip) (ThenModule m rest) = omega (arith, count-items_behind skip rest)
+count-items_behind (suc skip) (ThenSub sub inner rest) = omega (arith, count-items_behind skip rest)
+
+-- an open run, followed by an assignment, goes on as its tree's run does
+pub final_state-runs_after : (skip : ℕ) (items : Items) (s entry : State) (next : State → Runs) (answers : Assignment) →
+    final_state (runs_after skip items s entry next) answers
+    ≡ final_state (next (run_behind skip items s entry answers)) answers
+unfolding run_behind runs_after final_state
+final_state-runs_after skip End s entry next answers = refl
+final_state-runs_after (suc skip) (ThenModule m rest) s entry next answers = final_state-runs_after skip rest s entry next answers
+final_state-runs_after (suc skip) (ThenSub sub inner rest) s entry next answers = final_state-runs_after skip rest s entry next answers
+final_state-runs_after zero (ThenModule m rest) s entry next answers = final_state-runs_after _ rest _ entry next answers
+final_state-runs_after zero (ThenSub sub inner rest) s entry next answers =
+    final_state-runs_after zero inner s s (λ t. runs_after zero rest t entry next) answers
+    ∙ final_state-runs_after zero rest (run_behind zero inner s s answers) entry next answers
+
+-- and asks what its tree's run asks
+pub asked_by-runs_after : (skip : ℕ) (items : Items) (s entry : State) (next : State → Runs) (answers : Assignment) →
+    asked_by (runs_after skip items s entry next) answers
+    ≡ asked_behind skip items s entry answers ++ asked_by (next (run_behind skip items s entry answers)) answers
+unfolding run_behind runs_after asked_by asked_behind
+asked_by-runs_after skip End s entry next answers = refl
+asked_by-runs_after (suc skip) (ThenModule m rest) s entry next answers = asked_by-runs_after skip rest s entry next answers
+asked_by-runs_after (suc skip) (ThenSub sub inner rest) s entry next answers = asked_by-runs_after skip rest s entry next answers
+asked_by-runs_after zero (ThenModule m rest) s entry next answers =
+    let outcome = outcome_of (ask_of m rest s entry) (answers m.number) in
+    ap (λ (x : List Ask). ask_of m rest s entry ∷ x)
+    (asked_by-runs_after (count rest - outcome.left) rest outcome.state entry next answers)
+asked_by-runs_after zero (ThenSub sub inner rest) s entry next answers =
+    asked_by-runs_after zero inner s s (λ t. runs_after zero rest t entry next) answers
+    ∙ ap (λ (x : List Ask). asked_behind zero inner s s answers ++ x)
+    (asked_by-runs_after zero rest (run_behind zero inner s s answers) entry next answers)
+    ∙ sym (append_assoc (asked_behind zero inner s s answers) _ _)
+
+pub final_state-runs_of_stack : (items : Items) (answers : Assignment) →
+    final_state (runs_of_stack items) answers ≡ run items start_state start_state answers
+unfolding final_state
+final_state-runs_of_stack items answers = final_state-runs_after 0 items start_state start_state _ answers
+
+pub decision_of-runs_of_stack : (items : Items) (answers : Assignment) →
+    decision_of (final_state (runs_of_stack items) answers) ≡ decided items answers
+unfolding decided
+decision_of-runs_of_stack items answers = ap (λ (s : State). decision_of s) (final_state-runs_of_stack items answers)
+
+pub asked_by-runs_of_stack : (items : Items) (answers : Assignment) →
+    asked_by (runs_of_stack items) answers ≡ asked items start_state start_state answers
+unfolding asked_by
+asked_by-runs_of_stack items answers =
+    asked_by-runs_after 0 items start_state start_state _ answers ∙ append-nil _
+
+-- no action leaves more items than there are
+left_of-fits : (action : Action) (code : ℕ) (s : State) (behind : ℕ) → left_of action code s behind ≤ behind
+left_of-fits Ignore code s behind = omega arith
+left_of-fits Ok code s behind = omega arith
+left_of-fits Bad code s behind = omega arith
+left_of-fits Reset code s behind = omega arith
+left_of-fits Die code s behind = omega arith
+left_of-fits Done code s behind = unless_positive (accepted s.impression s.status code).impression
+  where
+    unless_positive : (impression : Impression) → left_unless_positive impression behind ≤ behind
+    unless_positive Undef = omega arith
+    unless_positive Positive = omega arith
+    unless_positive Negative = omega arith
+left_of-fits (Jump items) code s behind =
+    cond_both (leb items behind) (behind - items) 0 (λ x. x ≤ behind) (λ h. omega arith) (λ h. omega arith)
+
+pub left-fits : (ask : Ask) (code : ℕ) → (outcome_of ask code).left ≤ ask.behind
+unfolding outcome_of
+left-fits ask code = left_of-fits (action_of ask.control code) code ask.state ask.behind

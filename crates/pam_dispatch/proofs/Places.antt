@@ -1,0 +1,108 @@
+-- What a place tells of the run from it on.
+use Rattle.std.proofs.Common.{◌≡◌, ℕ, ◌+◌, ◌-◌, ◌<◌, ◌&&◌, List, [], ◌∷◌, ◌++◌, eqb, ltb, refl, sym, ◌∙◌, ap, subst, inl, inr, arith, take, drop, length, get_or, Option}
+use Rattle.std.specs.Prelude.{IsSome}
+use Rattle.std.proofs.lemmas.Bool.{cases_lt, cond_both, false≢true}
+use Rattle.std.proofs.lemmas.List.{drop_all}
+use Rattle.pam_dispatch.specs.declared.state.State.{State}
+use Rattle.pam_dispatch.specs.declared.place.Place.{Place}
+use Rattle.pam_codes.specs.declared.action.Action.{Action}
+use Rattle.pam_dispatch.specs.declared.entry.Entry.{Entry}
+use Rattle.pam_dispatch.specs.declared.entry.Entry.TheVariants.{Module, Substack}
+use Rattle.pam_dispatch.specs.State.{start_state, act, left_of, action_of}
+use Rattle.pam_dispatch.specs.declared.step.Outcome.{Outcome}
+use Rattle.pam_dispatch.specs.Runs.{outcome_of, Runs, asked_module, state_in, after_answer, outcome_in}
+use Rattle.pam_dispatch.specs.Flat.{resume, StandsAt, IsPlaceOf, rest_of}
+use Rattle.pam_dispatch.proofs.Resume.{resume-module, ask_at, asked_module-ask_at, at_place, at_module-asks}
+
+abbrev outcome : State → ℕ → Outcome
+outcome s l = record { state = s; left = l }
+
+-- a run begins in its state
+pub state_in-resume : (ts : List Entry) (level skip : ℕ) (es : List State) (s : State) → state_in (resume ts level skip es s) ≡ s
+unfolding resume
+state_in-resume [] level skip es s = refl
+state_in-resume (Module here m control behind ∷ rest) level skip es s =
+    cond_both (ltb level here) (resume rest level skip es s) _ (λ r. state_in r ≡ s)
+    (λ k. state_in-resume rest level skip es s)
+    (λ k. cond_both (eqb here level && ltb 0 skip) (resume rest level (skip - 1) es s) _ (λ r. state_in r ≡ s)
+    (λ j. state_in-resume rest level (skip - 1) es s) (λ j. refl))
+state_in-resume (Substack here ∷ rest) level skip es s =
+    cond_both (ltb level here) (resume rest level skip es s) _ (λ r. state_in r ≡ s)
+    (λ k. state_in-resume rest level skip es s)
+    (λ k. cond_both (eqb here level && ltb 0 skip) (resume rest level (skip - 1) es s) (resume rest (here + 1) 0 (take (here + 1) es ++ s ∷ []) s) (λ r. state_in r ≡ s)
+    (λ j. state_in-resume rest level (skip - 1) es s) (λ j. state_in-resume rest (here + 1) 0 _ s))
+
+asked-resume : (ts : List Entry) (depth : ℕ) (n : Option ℕ) (es : List State) (s : State) → StandsAt ts depth n → n ≡ asked_module (resume ts depth 0 es s)
+unfolding resume
+asked-resume [] depth n es s h = h
+asked-resume (Module here m control behind ∷ rest) depth n es s h =
+    h.1 ∙ sym (asked_module-ask_at here m control behind rest es s) ∙ sym (ap asked_module (resume-module here m control behind rest depth 0 es s (omega (arith, h.0)) (λ e l. omega arith)))
+asked-resume (Substack here ∷ rest) depth n es s h = absurd h
+
+module _ (program : List Entry) (place : Place) (valid : IsPlaceOf program place) where
+  -- a place tells what is asked and the state
+  pub place_module : place.module_number ≡ asked_module (rest_of program place)
+  unfolding IsPlaceOf rest_of
+  place_module = asked-resume (drop place.position program) place.depth place.module_number (take place.depth place.entered.states) place.state valid
+
+  pub place_state : place.state ≡ state_in (rest_of program place)
+  unfolding rest_of
+  place_state = sym (state_in-resume _ _ _ _ _)
+
+  -- a place that asks is within the list
+  pub place_within : IsSome (asked_module (rest_of program place)) → place.position < length program
+  unfolding rest_of resume
+  place_within some =
+      elim (cases_lt place.position (length program)) [
+        | inl l ↦ l
+        | inr out ↦
+            let e : drop place.position program ≡ [] = drop_all _ _ out in
+            absurd (false≢true (subst (λ ts. IsSome (asked_module (resume ts place.depth 0 (take place.depth place.entered.states) place.state))) e some))
+      ]
+
+  pub place_no_substack : (d : Entry) (l : ℕ) → place.position < length program → get_or program place.position d ≡ Substack l → ⊥
+  unfolding IsPlaceOf
+  place_no_substack d l within is =
+      subst (λ ts. StandsAt ts place.depth place.module_number) (at_place program place.position d (Substack l) within is) valid
+
+  module _ (d : Entry) (l m : ℕ) (control : List Action) (behind : ℕ) (within : place.position < length program)
+      (is : get_or program place.position d ≡ Module l m control behind) where
+    pub place_depth : place.depth ≡ l + 1
+    unfolding IsPlaceOf
+    place_depth =
+        let P : List Entry → Type 0 = λ ts. StandsAt ts place.depth place.module_number in
+        let k : P (Module l m control behind ∷ drop (place.position + 1) program) = subst P (at_place program place.position d (Module l m control behind) within is) valid in
+        k.0
+
+    pub place_asks : rest_of program place ≡ ask_at l m control behind (drop (place.position + 1) program) place.entered.states place.state
+    unfolding rest_of
+    place_asks =
+        at_module-asks program place.position d l m control behind within is place.entered.states place.state place.depth place.depth 0
+        (omega (arith, place_depth)) (λ e z. omega arith) (omega (arith, place_depth))
+
+    module _ (code left : ℕ) (state entry : State) (action : Action) (r : Runs)
+        (action_is : action_of control code ≡ action)
+        (entry_is : entry ≡ get_or place.entered.states l start_state)
+        (left_is : left ≡ left_of action code place.state behind)
+        (state_is : state ≡ act action code place.state entry behind)
+        (r_is : r ≡ resume (drop (place.position + 1) program) l (behind - left) (take place.depth place.entered.states) state) where
+      outcome_is : record { state = state; left = left } ≡ outcome_of (record { module_number = m; control = control; state = place.state; entry = get_or place.entered.states l start_state; behind = behind }) code
+      unfolding outcome_of
+      outcome_is =
+          ap (λ (x : ℕ). outcome state x) left_is
+          ∙ ap (λ (x : State). outcome x (left_of action code place.state behind)) state_is
+          ∙ ap (λ (x : State). outcome (act action code place.state x behind) (left_of action code place.state behind)) entry_is
+          ∙ sym (ap (λ (a : Action). outcome (act a code place.state (get_or place.entered.states l start_state) behind) (left_of a code place.state behind)) action_is)
+
+      pub step_rest : r ≡ after_answer (rest_of program place) code
+      unfolding ask_at
+      step_rest =
+          let rest = drop (place.position + 1) program in
+          r_is
+          ∙ ap (λ (x : ℕ). resume rest l (behind - left) (take x place.entered.states) state) place_depth
+          ∙ ap (λ (o : Outcome). resume rest l (behind - o.left) (take (l + 1) place.entered.states) o.state) outcome_is
+          ∙ sym (ap (λ (q : Runs). after_answer q code) place_asks)
+
+      pub step_outcome : outcome_in (rest_of program place) code ≡ record { state = state; left = left }
+      unfolding ask_at
+      step_outcome = ap (λ (q : Runs). outcome_in q code) place_asks ∙ sym outcome_is

@@ -1,0 +1,14 @@
+use Rattle.std.proofs.Common.{◌≡◌, ◌+◌, ◌≤◌, ◌++◌, drop, length}
+use Rattle.pam_conf.specs.Stack.{depth}
+use Rattle.pam_conf.specs.ItemsOf.{items_of}
+use Rattle.pam_dispatch.specs.Flat.{flat_list}
+use Rattle.pam_dispatch.proofs.flatten.+flatten.Given as goal
+
+abbrev pub decreases-flatten : goal.decreases-flatten
+decreases-flatten l = goal.size-flatten l
+
+abbrev pub invariant-loop-item : goal.invariant-loop-item
+invariant-loop-item l =
+    (l.entries.items ++ flat_list l.level (items_of (drop l.item-index l.items)) ≡ l.initial.entries.items ++ flat_list l.level (items_of l.items))
+    × (l.behind + l.item-index ≡ length l.items)
+    × (l.level + depth (items_of (drop l.item-index l.items)) ≤ 16)

@@ -1,0 +1,86 @@
+-- The flat list of a stack's items, in the order of pam.conf(5), DESCRIPTION, with a level for each substack around them.
+use Rattle.std.specs.Prelude.{◌≡◌, ℕ, ◌+◌, ◌-◌, ◌<◌, ◌==◌, nat_lt, ◌&&◌, if◌then◌else◌, List, [], ◌∷◌, ◌++◌, length, take, drop, slice_index_or, Option, Some, None}
+use Rattle.pam_codes.specs.declared.action.Action.{Action}
+use Rattle.pam_conf.specs.Stack.{Items, End, ThenModule, ThenSub}
+use Rattle.pam_dispatch.specs.declared.state.State.{State}
+use Rattle.pam_dispatch.specs.declared.entry.Entry.{Entry}
+use Rattle.pam_dispatch.specs.declared.entry.Entry.TheVariants.{Module, Substack}
+use Rattle.pam_dispatch.specs.declared.place.Place.{Place}
+use Rattle.pam_dispatch.specs.State.{start_state}
+use Rattle.pam_dispatch.specs.Runs.{Runs, ends, asks}
+use Rattle.pam_dispatch.specs.Tree.{count}
+
+-- each item with its level, a substack before its items
+unfoldable pub flat_list : ℕ → Items → List Entry
+flat_list level End = []
+flat_list level (ThenModule m rest) = Module level m.number m.control (count rest) ∷ flat_list level rest
+flat_list level (ThenSub sub inner rest) = Substack level ∷ (flat_list (level + 1) inner ++ flat_list level rest)
+
+abbrev pub level_of : Entry → ℕ
+level_of (Module level number control behind) = level
+level_of (Substack level) = level
+
+-- the controls of the modules, from the left
+unfoldable pub controls_in : List Entry → List (List Action)
+controls_in [] = []
+controls_in (Module level number control behind ∷ rest) = control ∷ controls_in rest
+controls_in (Substack level ∷ rest) = controls_in rest
+
+-- how many modules there are
+abbrev pub modules_of : List Entry → ℕ
+modules_of program = length (controls_in program)
+
+-- the control of the module of a number, from 1
+abbrev pub control_at : List Entry → ℕ → List Action
+control_at program number = slice_index_or (controls_in program) (number - 1) []
+
+-- the positions of the modules, from the left, where so many entries stand before the list
+unfoldable pub positions_from : ℕ → List Entry → List ℕ
+positions_from before [] = []
+positions_from before (Module level number control behind ∷ rest) = before ∷ positions_from (before + 1) rest
+positions_from before (Substack level ∷ rest) = positions_from (before + 1) rest
+
+-- the modules are numbered from the left, where so many stand before the list
+unfoldable pub IsNumbered : ℕ → List Entry → Type 0
+IsNumbered before [] = Unit {0}
+IsNumbered before (Module level number control behind ∷ rest) = (number ≡ before + 1) × IsNumbered (before + 1) rest
+IsNumbered before (Substack level ∷ rest) = IsNumbered before rest
+
+-- at most 16 lists are open at an entry, or behind it
+abbrev pub IsShallow : Entry → Type 0
+IsShallow (Module level number control behind) = level < 16
+IsShallow (Substack level) = level + 1 < 16
+
+-- the open run of a flat list: entries deeper than a level are passed over, and so many items of the
+-- level; then come the entry states of the open lists, the outermost first, and the state
+unfoldable pub resume : List Entry → ℕ → ℕ → List State → State → Runs
+resume [] level skip entered s = ends s
+resume (Module here number control behind ∷ rest) level skip entered s =
+    if nat_lt level here then resume rest level skip entered s
+    else if here == level && nat_lt 0 skip then resume rest level (skip - 1) entered s
+    else asks
+    (record { module_number = number; control = control; state = s; entry = slice_index_or entered here start_state; behind = behind })
+    (λ o. resume rest here (behind - o.left) (take (here + 1) entered) o.state)
+resume (Substack here ∷ rest) level skip entered s =
+    if nat_lt level here then resume rest level skip entered s
+    else if here == level && nat_lt 0 skip then resume rest level (skip - 1) entered s
+    else resume rest (here + 1) 0 (take (here + 1) entered ++ s ∷ []) s
+
+-- THE OPEN RUN of a program
+unfoldable pub runs_of : List Entry → Runs
+runs_of program = resume program 0 0 (start_state ∷ []) start_state
+
+-- what is left of it from a place on
+unfoldable pub rest_of : List Entry → Place → Runs
+rest_of program place =
+    resume (drop place.position program) place.depth 0 (take place.depth place.entered.states) place.state
+
+-- a place stands at a module, with an entry state for each open list, or at the end
+abbrev pub StandsAt : List Entry → ℕ → Option ℕ → Type 0
+StandsAt [] depth here = here ≡ None
+StandsAt (Module level number control behind ∷ rest) depth here = (depth ≡ level + 1) × (here ≡ Some number)
+StandsAt (Substack level ∷ rest) depth here = ⊥
+
+-- a place is one of the program
+unfoldable pub IsPlaceOf : List Entry → Place → Type 0
+IsPlaceOf program place = StandsAt (drop place.position program) place.depth place.module_number

@@ -1,0 +1,64 @@
+-- The rules of a run, in the words of pam.conf(5), DESCRIPTION, and of its open form.
+use Rattle.std.specs.Prelude.{◌≡◌, ◌≤◌, ℕ, [], ◌∷◌, ◌++◌}
+use Rattle.pam_conf.specs.Stack.{Items, End, ThenModule, ThenSub, ModuleText, SubText}
+use Rattle.pam_dispatch.specs.declared.state.State.{State}
+use Rattle.pam_dispatch.specs.Runs.{Ask, Assignment, outcome_of, final_state, asked_by}
+use Rattle.pam_dispatch.specs.Decision.{decision_of}
+use Rattle.pam_dispatch.specs.State.{start_state}
+use Rattle.pam_dispatch.specs.Tree.{count, ask_of, last_items, run, asked, decided, runs_of_stack}
+
+-- an empty list leaves the state as it is, and asks nothing
+abbrev pub RunOfNothing : Type 0
+RunOfNothing = (s entry : State) (answers : Assignment) → run End s entry answers ≡ s
+
+abbrev pub AskedOfNothing : Type 0
+AskedOfNothing = (s entry : State) (answers : Assignment) → asked End s entry answers ≡ []
+
+-- a substack runs first, entered in the state that its parent has there; then the rest, with the state reached
+abbrev pub RunOfSubstack : Type 0
+RunOfSubstack =
+    (sub : SubText) (inner rest : Items) (s entry : State) (answers : Assignment) →
+    run (ThenSub sub inner rest) s entry answers ≡ run rest (run inner s s answers) entry answers
+
+abbrev pub AskedOfSubstack : Type 0
+AskedOfSubstack =
+    (sub : SubText) (inner rest : Items) (s entry : State) (answers : Assignment) →
+    asked (ThenSub sub inner rest) s entry answers
+    ≡ asked inner s s answers ++ asked rest (run inner s s answers) entry answers
+
+-- a module is asked; then run the last items of the rest, as many as the outcome leaves, with its state
+abbrev pub RunOfModule : Type 0
+RunOfModule =
+    (m : ModuleText) (rest : Items) (s entry : State) (answers : Assignment) →
+    let outcome = outcome_of (ask_of m rest s entry) (answers m.number) in
+    run (ThenModule m rest) s entry answers ≡ run (last_items outcome.left rest) outcome.state entry answers
+
+abbrev pub AskedOfModule : Type 0
+AskedOfModule =
+    (m : ModuleText) (rest : Items) (s entry : State) (answers : Assignment) →
+    let outcome = outcome_of (ask_of m rest s entry) (answers m.number) in
+    asked (ThenModule m rest) s entry answers
+    ≡ ask_of m rest s entry ∷ asked (last_items outcome.left rest) outcome.state entry answers
+
+-- an outcome leaves no more items than there are, and the last so many of a list are so many
+abbrev pub LeftFits : Type 0
+LeftFits = (ask : Ask) (code : ℕ) → (outcome_of ask code).left ≤ ask.behind
+
+abbrev pub LastItemsCount : Type 0
+LastItemsCount = (left : ℕ) (items : Items) → left ≤ count items → count (last_items left items) ≡ left
+
+-- the open run of a stack, followed by an assignment, ends as the run of its tree, asks the same, and decides the same
+abbrev pub OpenRunEnds : Type 0
+OpenRunEnds =
+    (items : Items) (answers : Assignment) →
+    final_state (runs_of_stack items) answers ≡ run items start_state start_state answers
+
+abbrev pub OpenRunAsks : Type 0
+OpenRunAsks =
+    (items : Items) (answers : Assignment) →
+    asked_by (runs_of_stack items) answers ≡ asked items start_state start_state answers
+
+abbrev pub OpenRunDecides : Type 0
+OpenRunDecides =
+    (items : Items) (answers : Assignment) →
+    decision_of (final_state (runs_of_stack items) answers) ≡ decided items answers

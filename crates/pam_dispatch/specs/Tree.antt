@@ -1,0 +1,85 @@
+-- The run of a stack, over its tree of items: pam.conf(5), DESCRIPTION.
+use Rattle.std.specs.Prelude.{ℕ, ◌-◌, List, [], ◌∷◌, ◌++◌}
+use Rattle.std.proofs.Common.{zero, suc}
+use Rattle.pam_codes.specs.declared.action.Action.{Action}
+use Rattle.pam_conf.specs.Stack.{Items, End, ThenModule, ThenSub, ModuleText}
+use Rattle.pam_dispatch.specs.declared.state.State.{State}
+use Rattle.pam_dispatch.specs.State.{start_state}
+use Rattle.pam_dispatch.specs.Decision.{decision_of}
+use Rattle.pam_dispatch.specs.Runs.{Ask, Assignment, Runs, ends, asks, outcome_of}
+
+-- how many items a list has; a substack is one
+unfoldable pub count : Items → ℕ
+count End = 0
+count (ThenModule m rest) = suc (count rest)
+count (ThenSub sub inner rest) = suc (count rest)
+
+-- the controls of all modules, from the left
+unfoldable pub controls_of : Items → List (List Action)
+controls_of End = []
+controls_of (ThenModule m rest) = m.control ∷ controls_of rest
+controls_of (ThenSub sub inner rest) = controls_of inner ++ controls_of rest
+
+-- the items behind the first so many
+unfoldable pub items_behind : ℕ → Items → Items
+items_behind zero items = items
+items_behind (suc skip) End = End
+items_behind (suc skip) (ThenModule m rest) = items_behind skip rest
+items_behind (suc skip) (ThenSub sub inner rest) = items_behind skip rest
+
+-- the last so many items of a list
+abbrev pub last_items : ℕ → Items → Items
+last_items left items = items_behind (count items - left) items
+
+-- how a module is asked before the rest of its list, in a state, where its list was entered in another
+abbrev pub ask_of : ModuleText → Items → State → State → Ask
+ask_of m rest s entry = record { module_number = m.number; control = m.control; state = s; entry = entry; behind = count rest }
+
+-- the state that a run of the items behind the first so many reaches
+unfoldable pub run_behind : ℕ → Items → State → State → Assignment → State
+run_behind skip End s entry answers = s
+run_behind (suc skip) (ThenModule m rest) s entry answers = run_behind skip rest s entry answers
+run_behind (suc skip) (ThenSub sub inner rest) s entry answers = run_behind skip rest s entry answers
+run_behind zero (ThenModule m rest) s entry answers =
+    let outcome = outcome_of (ask_of m rest s entry) (answers m.number) in
+    run_behind (count rest - outcome.left) rest outcome.state entry answers
+run_behind zero (ThenSub sub inner rest) s entry answers =
+    run_behind zero rest (run_behind zero inner s s answers) entry answers
+
+-- what that run asks, in turn
+unfoldable pub asked_behind : ℕ → Items → State → State → Assignment → List Ask
+asked_behind skip End s entry answers = []
+asked_behind (suc skip) (ThenModule m rest) s entry answers = asked_behind skip rest s entry answers
+asked_behind (suc skip) (ThenSub sub inner rest) s entry answers = asked_behind skip rest s entry answers
+asked_behind zero (ThenModule m rest) s entry answers =
+    let outcome = outcome_of (ask_of m rest s entry) (answers m.number) in
+    ask_of m rest s entry ∷ asked_behind (count rest - outcome.left) rest outcome.state entry answers
+asked_behind zero (ThenSub sub inner rest) s entry answers =
+    asked_behind zero inner s s answers
+    ++ asked_behind zero rest (run_behind zero inner s s answers) entry answers
+
+-- the state that a run of these items reaches from a state, where their list was entered in another
+abbrev pub run : Items → State → State → Assignment → State
+run items s entry answers = run_behind 0 items s entry answers
+
+-- what that run asks, in turn
+abbrev pub asked : Items → State → State → Assignment → List Ask
+asked items s entry answers = asked_behind 0 items s entry answers
+
+-- THE DECISION of a stack, where the modules answer so
+unfoldable pub decided : Items → Assignment → ℕ
+decided items answers = decision_of (run items start_state start_state answers)
+
+-- the open run of the items behind the first so many, with what follows it
+unfoldable pub runs_after : ℕ → Items → State → State → (State → Runs) → Runs
+runs_after skip End s entry next = next s
+runs_after (suc skip) (ThenModule m rest) s entry next = runs_after skip rest s entry next
+runs_after (suc skip) (ThenSub sub inner rest) s entry next = runs_after skip rest s entry next
+runs_after zero (ThenModule m rest) s entry next =
+    asks (ask_of m rest s entry) (λ o. runs_after (count rest - o.left) rest o.state entry next)
+runs_after zero (ThenSub sub inner rest) s entry next =
+    runs_after zero inner s s (λ t. runs_after zero rest t entry next)
+
+-- the open run of a stack
+abbrev pub runs_of_stack : Items → Runs
+runs_of_stack items = runs_after 0 items start_state start_state (λ s. ends s)

@@ -1,0 +1,46 @@
+//! What a stack decides.
+
+ghost use Rattle.std.specs.Prelude.{◌≡◌};
+ghost use Rattle.pam_dispatch.specs.Decision.{decision_of};
+
+use crate::state::{Impression, State, is_success, perm_denied};
+use pam_codes::Code;
+use std::marker::Model;
+
+/// What a stack decides: the code that its caller gets.
+#[derive(Clone, Copy, Debug, PartialEq, Eq)]
+pub struct Decision {
+    code: Code,
+}
+
+impl Model for Decision {
+    ghost use Rattle.std.specs.Prelude.{ℕ};
+
+    ghost Value = { ℕ };
+
+    ghost view = { λ d. d.code };
+
+    ghost inverse = { λ n. record { code = n } };
+}
+
+impl Decision {
+    /// The decision of a last state.
+    pub(crate) fn of(state: State) -> Decision
+        ensures { result ≡ decision_of state }
+    {
+        match state.impression {
+            Impression::Positive => Decision { code: state.status },
+            Impression::Undef | Impression::Negative if is_success(state.status) => Decision {
+                code: perm_denied(),
+            },
+            Impression::Undef | Impression::Negative => Decision { code: state.status },
+        }
+    }
+
+    /// The code of the decision.
+    pub fn code(&self) -> Code
+        ensures { result ≡ self.now }
+    {
+        self.code
+    }
+}

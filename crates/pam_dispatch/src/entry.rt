@@ -1,0 +1,34 @@
+//! The entries of the flat list.
+
+use pam_codes::Control;
+
+/// An item of a stack, with the number of substacks around it.
+#[derive(Clone, Copy, Debug)]
+pub enum Entry {
+    Module {
+        level: usize,
+        /// From 1, in the order of the list.
+        number: usize,
+        control: Control,
+        /// How many items of its own list follow.
+        behind: usize,
+    },
+    /// The items of the substack follow, one level deeper.
+    Substack {
+        level: usize,
+    },
+}
+
+impl Entry {
+    ghost use Rattle.std.specs.Prelude.{◌≡◌};
+    ghost use Rattle.pam_dispatch.specs.Flat.{level_of};
+
+    pub(crate) fn level(&self) -> usize
+        ensures { result ≡ level_of self.now }
+    {
+        match self {
+            Entry::Module { level, .. } => *level,
+            Entry::Substack { level } => *level,
+        }
+    }
+}

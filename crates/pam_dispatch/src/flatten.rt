@@ -1,0 +1,34 @@
+//! The flat list of a stack's items.
+
+ghost use Rattle.std.specs.Prelude.{◌≡◌, ◌+◌, ◌≤◌, ◌++◌, OnOk};
+ghost use Rattle.pam_conf.specs.Stack.{depth};
+ghost use Rattle.pam_conf.specs.ItemsOf.{items_of};
+ghost use Rattle.pam_dispatch.specs.Flat.{flat_list};
+
+use crate::entry::Entry;
+use crate::error::Memory;
+use pam_conf::Item;
+
+/// Puts the items of a list, which has so many substacks around it, behind the entries that are there.
+pub(crate) fn flatten(items: &[Item], level: usize, entries: &mut Vec<Entry>) -> Result<(), Memory>
+    requires { level + depth (items_of items.now) ≤ 16 }
+    ensures { OnOk result (entries.new.items ≡ entries.old.items ++ flat_list level (items_of items.now)) }
+{
+    let mut behind = items.len();
+    for item in items {
+        behind -= 1;
+        match item {
+            Item::Module(module) => entries.push(Entry::Module {
+                level,
+                number: module.number,
+                control: module.control,
+                behind,
+            })?,
+            Item::Sub(sub) => {
+                entries.push(Entry::Substack { level })?;
+                flatten(&sub.items, level + 1, entries)?;
+            }
+        }
+    }
+    Ok(())
+}

@@ -1,0 +1,30 @@
+//! Laws of the definitions that the contracts of this crate cite.
+
+ghost use Rattle.pam_dispatch.specs.Laws.{AskedOfModule, AskedOfNothing, AskedOfSubstack, LastItemsCount, LeftFits, OpenRunAsks, OpenRunDecides, OpenRunEnds, RunOfModule, RunOfNothing, RunOfSubstack};
+
+/// How a run goes through a list of items.
+pub fn run_of_items()
+    ensures nothing { RunOfNothing }
+    ensures substack { RunOfSubstack }
+    ensures module { RunOfModule }
+{}
+
+/// Which modules a run through a list of items asks.
+pub fn asked_of_items()
+    ensures nothing { AskedOfNothing }
+    ensures substack { AskedOfSubstack }
+    ensures module { AskedOfModule }
+{}
+
+/// How many items an outcome leaves.
+pub fn items_left()
+    ensures fits { LeftFits }
+    ensures count { LastItemsCount }
+{}
+
+/// The open run of a stack is the run of its tree.
+pub fn open_run()
+    ensures ends { OpenRunEnds }
+    ensures asks { OpenRunAsks }
+    ensures decides { OpenRunDecides }
+{}

@@ -1,0 +1,25 @@
+//! The dispatcher: what a stack makes of the answers of its modules.
+#![tactic(auto)]
+
+mod decision;
+mod entered;
+mod entry;
+mod error;
+mod flatten;
+pub mod laws;
+mod place;
+mod program;
+mod settle;
+mod state;
+mod step;
+#[cfg(test)]
+mod tests;
+mod work;
+
+pub use decision::Decision;
+pub use error::{Memory, WrongCount};
+pub use place::Place;
+pub use program::Program;
+pub use state::{Impression, State};
+pub use step::{Outcome, Step};
+pub use work::Work;

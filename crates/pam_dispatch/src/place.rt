@@ -1,0 +1,59 @@
+//! Where a run stands.
+
+ghost use Rattle.std.specs.Prelude.{◌≤◌};
+
+use crate::entered::{Entered, LISTS};
+use crate::state::State;
+
+/// Where a run stands: at a module that is asked next, or at the end.
+#[derive(Clone, Copy, Debug)]
+pub struct Place {
+    pub(crate) position: usize,
+    pub(crate) depth: usize,
+    pub(crate) entered: Entered,
+    pub(crate) state: State,
+    pub(crate) module_number: Option<usize>,
+    pub ghost shallow: { depth ≤ 16 },
+}
+
+/// The place of a stack that has no modules.
+impl Default for Place {
+    ghost use Rattle.std.specs.Prelude.{[]};
+    ghost use Rattle.pam_dispatch.specs.Flat.{IsPlaceOf};
+
+    ghost is_default = { λ p. IsPlaceOf [] p };
+
+    #[tactic(auto, unfolding(crate::specs::Flat::IsPlaceOf))]
+    fn default() -> Place {
+        Place {
+            position: 0,
+            depth: 0,
+            entered: Entered {
+                states: [State::start(); LISTS],
+            },
+            state: State::start(),
+            module_number: None,
+        }
+    }
+}
+
+impl Place {
+    ghost use Rattle.std.specs.Prelude.{◌≡◌, List};
+    ghost use Rattle.pam_dispatch.specs.declared.entry.Entry.{Entry};
+    ghost use Rattle.pam_dispatch.specs.Flat.{IsPlaceOf, rest_of};
+    ghost use Rattle.pam_dispatch.specs.Runs.{asked_module, state_in};
+
+    /// The number of the module that is asked here; none at the end.
+    pub fn module(&self) -> Option<usize>
+        ensures { (program : List Entry) → IsPlaceOf program self.now → result ≡ asked_module (rest_of program self.now) }
+    {
+        self.module_number
+    }
+
+    /// The state here.
+    pub fn state(&self) -> State
+        ensures { (program : List Entry) → IsPlaceOf program self.now → result ≡ state_in (rest_of program self.now) }
+    {
+        self.state
+    }
+}

@@ -1,0 +1,216 @@
+//! The program of a stack.
+
+ghost use Rattle.std.specs.Prelude.{◌≡◌, ◌+◌, ◌-◌, ◌≤◌, ◌^◌, ℕ, All, IfErr, IfOk, IfSome, IsSome, None, OnOk, Some, length, min, ◌≢◌, ◌∷◌};
+ghost use Rattle.pam_conf.specs.Stack.{Items, module_at, module_count};
+ghost use Rattle.pam_dispatch.specs.Decision.{decision_of};
+ghost use Rattle.pam_dispatch.specs.Flat.{IsPlaceOf, IsShallow, control_at, modules_of, positions_from, rest_of, runs_of};
+ghost use Rattle.pam_dispatch.specs.Runs.{AsksRise, Assignment, after_answer, answers_of, asked_by, asked_module, final_state, next_ask, outcome_in, state_in};
+ghost use Rattle.pam_dispatch.specs.Tree.{decided, runs_of_stack};
+
+use crate::decision::Decision;
+use crate::entered::{Entered, LISTS};
+use crate::entry::Entry;
+use crate::error::{Memory, WrongCount};
+use crate::flatten::flatten;
+use crate::place::Place;
+use crate::settle::settle;
+use crate::state::State;
+use crate::step::{Outcome, Step};
+use crate::work::Work;
+use pam_codes::{Code, Control};
+use pam_conf::Stack;
+use std::alloc::Global;
+use std::marker::Model;
+
+/// The program of a stack: its items as a flat list.
+#[derive(Debug, Drop)]
+pub struct Program {
+    entries: Vec<Entry>,
+    /// Where the modules stand in the list, in the order of their numbers.
+    positions: Vec<usize>,
+}
+
+impl Model for Program {
+    ghost use Rattle.std.specs.Prelude.{◌≡◌, ◌≤◌, All, List};
+    ghost use Rattle.pam_dispatch.specs.declared.entry.Entry.{Entry};
+
+    ghost Value = { List Entry };
+
+    ghost use Rattle.pam_dispatch.specs.Program.{IsProgram};
+
+    ghost view = { λ p. p.entries.items };
+
+    ghost invariant = { λ p. IsProgram p.entries.items p.positions.items };
+}
+
+/// Where the modules stand in a flat list.
+fn module_positions(alloc: Global, entries: &[Entry]) -> Result<Vec<usize>, Memory>
+    ensures { IfOk result (λ positions. positions.items ≡ positions_from 0 entries.now) }
+{
+    let mut positions = Vec::new(alloc);
+    for (position, entry) in entries.iter().enumerate() {
+        match entry {
+            Entry::Module { .. } => positions.push(position)?,
+            Entry::Substack { .. } => {}
+        }
+    }
+    Ok(positions)
+}
+
+/// The step from a place.
+fn step_in(entries: &[Entry], place: &Place, code: Code) -> Step
+    requires entries { All IsShallow entries.now }
+    requires place { IsPlaceOf entries.now place.now }
+    requires asking { IsSome (asked_module (rest_of entries.now place.now)) }
+    ensures place { IsPlaceOf entries.now result.place }
+    ensures rest { rest_of entries.now result.place ≡ after_answer (rest_of entries.now place.now) code }
+    ensures outcome { outcome_in (rest_of entries.now place.now) code ≡ result.outcome }
+    ensures state { result.place.state ≡ result.outcome.state }
+{
+    match &entries[place.position] {
+        Entry::Module {
+            level,
+            control,
+            behind,
+            ..
+        } => {
+            let entry = place.entered.at(*level);
+            let outcome = Outcome::of(control.action(code), code, place.state, entry, *behind);
+            let next = settle(
+                entries,
+                place.position + 1,
+                *level,
+                *behind - outcome.left,
+                place.depth,
+                place.entered,
+                &outcome.state,
+            );
+            Step {
+                place: next,
+                outcome,
+            }
+        }
+        Entry::Substack { .. } => unreachable!(),
+    }
+}
+
+impl Program {
+    /// The program of a stack. `Memory` where a growth was refused.
+    pub fn of(alloc: Global, stack: &Stack) -> Result<Program, Memory>
+        ensures runs { IfOk result (λ program. runs_of program ≡ runs_of_stack stack.now) }
+        ensures modules { IfOk result (λ program. modules_of program ≡ module_count stack.now) }
+        ensures control { IfOk result (λ program. (number : ℕ) → IfSome (module_at number stack.now) (λ m. control_at program number ≡ m.control)) }
+    {
+        let mut entries = Vec::new(alloc);
+        flatten(stack.items(), 0, &mut entries)?;
+        let positions = module_positions(alloc, &entries)?;
+        Ok(Program { entries, positions })
+    }
+
+    /// How many modules there are.
+    pub fn modules(&self) -> usize
+        ensures count { result ≡ modules_of self.now }
+        ensures most { result ≤ 64 }
+        ensures rise { AsksRise 0 (modules_of self.now) (runs_of self.now) }
+    {
+        self.positions.len()
+    }
+
+    /// The control of a module.
+    pub fn control(&self, number: usize) -> &Control
+        requires first { 1 ≤ number }
+        requires last { number ≤ modules_of self.now }
+        ensures value { result.now ≡ control_at self.now number }
+
+        // The control by which the module is asked, wherever that is.
+        ensures asked { (place : Place) → IsPlaceOf self.now place → asked_module (rest_of self.now place) ≡ Some number
+            → (next_ask (rest_of self.now place)).control ≡ result.now }
+    {
+        match &self.entries[self.positions[number - 1]] {
+            Entry::Module { control, .. } => control,
+            Entry::Substack { .. } => unreachable!(),
+        }
+    }
+
+    /// Where a run begins.
+    pub fn first(&self) -> Place
+        ensures place { IsPlaceOf self.now result }
+        ensures whole { rest_of self.now result ≡ runs_of self.now }
+        ensures few { modules_of self.now ≤ 64 }
+        ensures rise { AsksRise 0 (modules_of self.now) (runs_of self.now) }
+    {
+        let start = State::start();
+        let entered = Entered {
+            states: [start; LISTS],
+        };
+        settle(&self.entries, 0, 0, 0, 1, entered, &start)
+    }
+
+    /// The step that an answer makes. It is counted in `work`.
+    pub fn step(&self, place: &Place, code: Code, work: &mut Work) -> Step
+        requires place { IsPlaceOf self.now place.now }
+        requires asking { IsSome (asked_module (rest_of self.now place.now)) }
+        ensures place { IsPlaceOf self.now result.place }
+        ensures outcome { outcome_in (rest_of self.now place.now) code ≡ result.outcome }
+        ensures state { state_in (rest_of self.now result.place) ≡ result.outcome.state }
+        ensures rest { rest_of self.now result.place ≡ after_answer (rest_of self.now place.now) code }
+
+        // Under an assignment with that answer the run goes on to where it went from the old place.
+        ensures run { (answers : Assignment) → IfSome (asked_module (rest_of self.now place.now)) (λ number. answers number ≡ code)
+            → final_state (rest_of self.now result.place) answers ≡ final_state (rest_of self.now place.now) answers }
+
+        // It asked the module at the old place, and then what it asks from the new one.
+        ensures asks { (answers : Assignment) → IfSome (asked_module (rest_of self.now place.now)) (λ number. answers number ≡ code)
+            → asked_by (rest_of self.now place.now) answers ≡ next_ask (rest_of self.now place.now) ∷ asked_by (rest_of self.now result.place) answers }
+        ensures counted { work.new ≡ min (work.old + 1) (2 ^ 64 - 1) }
+    {
+        work.count();
+        self.step_by(place, code)
+    }
+
+    /// The step that an answer makes, not counted.
+    fn step_by(&self, place: &Place, code: Code) -> Step
+        requires place { IsPlaceOf self.now place.now }
+        requires asking { IsSome (asked_module (rest_of self.now place.now)) }
+        ensures place { IsPlaceOf self.now result.place }
+        ensures rest { rest_of self.now result.place ≡ after_answer (rest_of self.now place.now) code }
+        ensures outcome { outcome_in (rest_of self.now place.now) code ≡ result.outcome }
+        ensures state { result.place.state ≡ result.outcome.state }
+    {
+        step_in(&self.entries, place, code)
+    }
+
+    /// The decision at the end of a run.
+    pub fn decision(&self, place: &Place) -> Decision
+        requires place { IsPlaceOf self.now place.now }
+        requires end { asked_module (rest_of self.now place.now) ≡ None }
+        ensures { result ≡ decision_of (state_in (rest_of self.now place.now)) }
+    {
+        Decision::of(place.state())
+    }
+
+    /// The decision where each module answers its code, from module 1 on; also modules that are never asked have one.
+    pub fn decide(&self, codes: &[Code]) -> Result<Decision, WrongCount>
+        ensures count { OnOk result (length codes.now ≡ modules_of self.now) }
+        ensures decision { IfOk result (λ d. d ≡ decision_of (final_state (runs_of self.now) (answers_of codes.now))) }
+        ensures stack { (items : Items) → runs_of self.now ≡ runs_of_stack items → IfOk result (λ d. d ≡ decided items (answers_of codes.now)) }
+        ensures wrong { IfErr result (λ e. (length codes.now ≢ modules_of self.now) × (e.modules ≡ modules_of self.now)) }
+    {
+        let modules = self.modules();
+        if codes.len() != modules {
+            return Err(WrongCount { modules });
+        }
+        Ok(self.decision_by(codes))
+    }
+
+    fn decision_by(&self, codes: &[Code]) -> Decision
+        requires { length codes.now ≡ modules_of self.now }
+        ensures { result ≡ decision_of (final_state (runs_of self.now) (answers_of codes.now)) }
+    {
+        let mut place = self.first();
+        while let Some(number) = place.module() {
+            place = self.step_by(&place, codes[number - 1]).place;
+        }
+        self.decision(&place)
+    }
+}

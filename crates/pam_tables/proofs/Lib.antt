@@ -1,0 +1,13 @@
+pub mod AccessSteps
+pub mod Addresses
+pub mod BitSteps
+pub mod Cutting
+pub mod Digits
+pub mod GroupSteps
+pub mod LineSteps
+pub mod ListSteps
+pub mod OptionSteps
+pub mod PieceSteps
+pub mod ReadSteps
+pub mod SeparatorSteps
+pub mod TokenSteps

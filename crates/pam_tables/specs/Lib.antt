@@ -1,0 +1,10 @@
+pub mod Access
+pub mod Address
+pub mod Error
+pub mod Groups
+pub mod Lines
+pub mod Lists
+pub mod Login
+pub mod Network
+pub mod Options
+pub mod Tokens

@@ -1,0 +1,41 @@
+-- A login, and where it comes from: access.conf(5), pam_access(8).
+use Rattle.std.specs.Prelude.{◌≡◌, ℕ, List, length, take, drop, codes, ◌==◌, not, if◌then◌else◌}
+use Rattle.std.specs.Str.{bytes_eq}
+use Rattle.pam_tables.specs.Address.{address_of}
+use Rattle.pam_tables.specs.declared.login.Login.{Login}
+use Rattle.pam_tables.specs.declared.login.Origin.{Origin}
+use Rattle.pam_tables.specs.declared.login.Origin.TheVariants as origins
+
+pub record LoginText : Type 0 where
+  pub user : List ℕ
+  pub service : List ℕ
+  pub tty : List ℕ
+  pub rhost : List ℕ
+
+abbrev pub login_view : Login → LoginText
+login_view l = record { user = l.user.now; service = l.service.now; tty = l.tty.now; rhost = l.rhost.now }
+
+-- a remote host, or a local place
+pub data OriginText : Type 0 where
+  Remote : List ℕ → OriginText
+  Local : List ℕ → OriginText
+
+-- a terminal without one `/dev/` in front
+abbrev pub without_dev : List ℕ → List ℕ
+without_dev tty = if bytes_eq (take 5 tty) (codes "/dev/") then drop 5 tty else tty
+
+-- the remote host; without one the terminal, and without that the service
+unfoldable pub origin_of : LoginText → OriginText
+origin_of l =
+    if not (length l.rhost == 0) then Remote l.rhost
+    else if not (length l.tty == 0) then Local (without_dev l.tty)
+    else Local l.service
+
+abbrev pub origin_view : Origin → OriginText
+origin_view (origins.Remote host address) = Remote host.now
+origin_view (origins.Local text) = Local text.now
+
+-- the address that is kept is that of the host's text
+abbrev pub IsKnown : Origin → Type 0
+IsKnown (origins.Remote host address) = address ≡ address_of host.now
+IsKnown (origins.Local text) = Unit {0}

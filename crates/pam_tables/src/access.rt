@@ -1,0 +1,263 @@
+ghost use Rattle.std.specs.Prelude.{◌≡◌, ℕ, IfOk, IfErr, map};
+ghost use Rattle.std.specs.Option.{option_map};
+ghost use Rattle.pam_tables.specs.Access.{line_view, permission_of, is_passed_over as is_passed_over_of, line_of_fields, fields_of as fields_of_line, access_line, table_of, users_match as users_match_of, origins_match as origins_match_of, answer_with, first_answer, access_answer};
+ghost use Rattle.pam_tables.specs.Error.{Gives, GivesPart, read_lines as read_lines_of};
+ghost use Rattle.pam_tables.specs.Lines.{checked, is_among, lines_from};
+ghost use Rattle.pam_tables.specs.Login.{IsKnown, login_view, origin_view, origin_of};
+ghost use Rattle.pam_tables.specs.Tokens.{user_view, origin_token_view};
+
+use crate::error::{Table, TableError, TableFault};
+use crate::groups::Groups;
+use crate::lines::{Lines, check_bytes, cut, distinct, is_blank_text, trim};
+use crate::lists::Parts;
+use crate::login::{Login, Origin};
+use crate::options::AccessOptions;
+use crate::tokens::{OriginToken, UserToken, has_token, origin_tokens, user_tokens};
+use std::alloc::Global;
+use std::marker::Model;
+
+/// Whether a login is granted, and the number of the line that decides. No line grants too.
+#[derive(Clone, Copy, Debug, PartialEq, Eq)]
+pub enum AccessAnswer {
+    Granted(Option<u32>),
+    Denied(u32),
+}
+
+/// What a line does with the logins that it matches.
+#[derive(Clone, Copy, Debug, PartialEq, Eq)]
+enum Permission {
+    Grant,
+    Deny,
+}
+
+impl Permission {
+    #[tactic(auto, unfolding(crate::specs::Access::permission_of))]
+    fn read(text: &[u8]) -> Result<Permission, TableFault>
+        ensures { result ≡ permission_of text.now }
+    {
+        if text == b"+".as_slice() {
+            Ok(Permission::Grant)
+        } else if text == b"-".as_slice() {
+            Ok(Permission::Deny)
+        } else {
+            Err(TableFault::BadPermission)
+        }
+    }
+
+    fn answer(self, number: u32) -> AccessAnswer
+        ensures { result ≡ answer_with self number }
+    {
+        match self {
+            Permission::Grant => AccessAnswer::Granted(Some(number)),
+            Permission::Deny => AccessAnswer::Denied(number),
+        }
+    }
+}
+
+/// A line of an access table.
+#[derive(Drop)]
+struct AccessLine<'a> {
+    number: u32,
+    permission: Permission,
+    users: Vec<UserToken<'a>>,
+    origins: Vec<OriginToken<'a>>,
+}
+
+/// Permission, users and origins of a line.
+#[derive(Clone, Copy)]
+struct Fields<'a> {
+    permission: &'a [u8],
+    users: &'a [u8],
+    origins: &'a [u8],
+}
+
+/// A comment, or a line of blanks.
+#[tactic(auto, unfolding(crate::specs::Access::is_passed_over))]
+fn is_passed_over(line: &[u8]) -> bool
+    ensures { result ≡ is_passed_over_of line.now }
+{
+    line.starts_with(b"#") || is_blank_text(line)
+}
+
+#[tactic(auto, unfolding(crate::specs::Access::fields_of))]
+fn cut_fields<'a>(line: &'a [u8], separators: &[u8]) -> Option<Fields<'a>>
+    ensures { option_map (λ f. (f.permission.now, f.users.now, f.origins.now)) result ≡ fields_of_line separators.now line.now }
+{
+    match cut(line, separators) {
+        Some((permission, rest)) => match cut(rest, separators) {
+            Some((users, origins)) => Some(Fields {
+                permission,
+                users,
+                origins,
+            }),
+            None => None,
+        },
+        None => None,
+    }
+}
+
+/// The line of three fields.
+fn line_of<'a>(
+    alloc: Global,
+    number: u32,
+    fields: Fields<'a>,
+    separators: &[u8],
+) -> Result<AccessLine<'a>, TableFault>
+    ensures { GivesPart line_view result (line_of_fields separators.now number fields.entry.permission.now fields.entry.users.now fields.entry.origins.now) }
+{
+    if !has_token(fields.users, separators) {
+        return Err(TableFault::MissingField);
+    }
+    if !has_token(fields.origins, separators) {
+        return Err(TableFault::MissingField);
+    }
+    let permission = Permission::read(trim(fields.permission))?;
+    let users = user_tokens(alloc, fields.users, separators)?;
+    let origins = origin_tokens(alloc, fields.origins, separators)?;
+    Ok(AccessLine {
+        number,
+        permission,
+        users,
+        origins,
+    })
+}
+
+/// What a line spells, if it is not passed over.
+fn read_line<'a>(
+    alloc: Global,
+    number: u32,
+    line: &'a [u8],
+    field_separators: &[u8],
+    list_separators: &[u8],
+) -> Result<Option<AccessLine<'a>>, TableFault>
+    ensures { GivesPart (option_map line_view) result (access_line field_separators.now list_separators.now number line.now) }
+{
+    if is_passed_over(line) {
+        return Ok(None);
+    }
+    match cut_fields(line, field_separators) {
+        Some(parts) => match line_of(alloc, number, parts, list_separators) {
+            Ok(line) => Ok(Some(line)),
+            Err(fault) => Err(fault),
+        },
+        None => Err(TableFault::MissingField),
+    }
+}
+
+fn users_match(users: &[UserToken<'_>], user: &[u8], groups: &Groups, by_name: bool) -> bool
+    ensures { result ≡ users_match_of groups.now by_name user.now (map user_view users.now) }
+{
+    let mut parts = Parts::new();
+    for token in users {
+        parts = parts.then(token.mark(user, groups, by_name));
+    }
+    parts.matches()
+}
+
+fn origins_match(origins: &[OriginToken<'_>], origin: &Origin<'_>) -> bool
+    requires { IsKnown origin.now }
+    ensures { result ≡ origins_match_of (origin_view origin.now) (map origin_token_view origins.now) }
+{
+    let mut parts = Parts::new();
+    for token in origins {
+        parts = parts.then(token.mark(origin));
+    }
+    parts.matches()
+}
+
+/// The answer of the first line that matches.
+fn first_match(
+    lines: &[AccessLine<'_>],
+    by_name: bool,
+    user: &[u8],
+    origin: &Origin<'_>,
+    groups: &Groups,
+) -> AccessAnswer
+    requires { IsKnown origin.now }
+    ensures { result ≡ first_answer groups.now by_name user.now (origin_view origin.now) (map line_view lines.now) }
+{
+    for line in lines {
+        if users_match(&line.users, user, groups, by_name) && origins_match(&line.origins, origin) {
+            return line.permission.answer(line.number);
+        }
+    }
+    AccessAnswer::Granted(None)
+}
+
+/// A table of pam_access: access.conf(5). It borrows the bytes that it was read from.
+#[derive(Drop)]
+pub struct AccessTable<'a> {
+    lines: Vec<AccessLine<'a>>,
+    group_names: bool,
+}
+
+impl<'a> Model for AccessTable<'a> {
+    ghost use Rattle.std.specs.Prelude.{map};
+    ghost use Rattle.pam_tables.specs.Access.{TableText, line_view};
+
+    ghost Value = { TableText };
+
+    ghost view = { λ t. record { lines = map line_view t.lines.items; group_names = t.group_names } };
+}
+
+/// The separators of a table, each once.
+fn separators(alloc: Global, bytes: &[u8]) -> Result<Vec<u8>, TableError>
+    ensures same { IfOk result (λ v. (b : ℕ) → is_among v.items b ≡ is_among bytes.now b) }
+    ensures memory { IfErr result (λ e. e ≡ record { table = Table.Access; fault = TableFault.Memory; line = 0 }) }
+{
+    match distinct(alloc, bytes) {
+        Ok(kept) => Ok(kept),
+        Err(_) => Err(TableError::new(Table::Access, TableFault::Memory, 0)),
+    }
+}
+
+fn read_lines<'a>(
+    alloc: Global,
+    bytes: &'a [u8],
+    field_separators: &[u8],
+    list_separators: &[u8],
+) -> Result<Vec<AccessLine<'a>>, TableError>
+    ensures { Gives Table.Access (λ v. map line_view v.items) result (checked bytes.now (read_lines_of (access_line field_separators.now list_separators.now) (lines_from 1 bytes.now))) }
+{
+    check_bytes(Table::Access, bytes)?;
+    let mut lines = Vec::new(alloc);
+    for (number, text) in Lines::of(bytes) {
+        match read_line(alloc, number, text, field_separators, list_separators) {
+            Ok(None) => {}
+            Ok(Some(line)) => {
+                if lines.push(line).is_err() {
+                    return Err(TableError::new(Table::Access, TableFault::Memory, number));
+                }
+            }
+            Err(fault) => return Err(TableError::new(Table::Access, fault, number)),
+        }
+    }
+    Ok(lines)
+}
+
+impl<'a> AccessTable<'a> {
+    /// The table of these bytes. Its first fault is an error: too long a table, then a NUL byte,
+    /// then the lines from the top.
+    pub fn read(
+        alloc: Global,
+        bytes: &'a [u8],
+        options: &AccessOptions<'_>,
+    ) -> Result<AccessTable<'a>, TableError>
+        ensures { Gives Table.Access (λ table. table) result (table_of options.now bytes.now) }
+    {
+        let field_separators = separators(alloc, options.field_separators)?;
+        let list_separators = separators(alloc, options.list_separators)?;
+        let group_names = options.group_names;
+        let lines = read_lines(alloc, bytes, &field_separators, &list_separators)?;
+        Ok(AccessTable { lines, group_names })
+    }
+
+    /// What the table says of a login. It takes no memory.
+    #[tactic(auto, unfolding(crate::specs::Access::access_answer))]
+    pub fn decide(&self, login: &Login<'_>, groups: &Groups) -> AccessAnswer
+        ensures { result ≡ access_answer self.now (login_view login.now) groups.now }
+    {
+        let origin = Origin::of(login);
+        first_match(&self.lines, self.group_names, login.user, &origin, groups)
+    }
+}

@@ -1,0 +1,87 @@
+ghost use Rattle.std.specs.Prelude.{◌≡◌};
+ghost use Rattle.pam_tables.specs.Error.{line_of_fault};
+
+use std::alloc::{AllocError, AllocFailed};
+use thiserror::Error;
+
+/// The kind of a table.
+#[derive(Clone, Copy, Debug, PartialEq, Eq)]
+pub enum Table {
+    Access,
+    Time,
+    Group,
+}
+
+/// Why bytes are no table.
+#[derive(Clone, Copy, Debug, PartialEq, Eq, Error)]
+pub enum TableFault {
+    #[error("a field is missing")]
+    MissingField,
+    #[error("the permission is neither + nor -")]
+    BadPermission,
+    #[error("a netgroup")]
+    Netgroup,
+    #[error("a user at a host")]
+    UserAtHost,
+    #[error("the mask of a network is neither a number of bits nor an address of its family")]
+    BadMask,
+    #[error("no days and range of times")]
+    BadTimes,
+    #[error("more than one * in a token")]
+    TwoWildcards,
+    #[error("no list of tokens with &, | and !")]
+    BadLogic,
+    #[error("no name, password, number and members of a group")]
+    BadGroup,
+    #[error("a NUL byte")]
+    NulByte,
+    #[error("no memory")]
+    Memory,
+    #[error("the table is too long")]
+    TableTooLong,
+}
+
+impl<T: Drop> From<AllocFailed<T>> for TableFault {
+    ghost use Rattle.std.specs.Prelude.{◌≡◌};
+    ghost use Rattle.pam_tables.specs.declared.error.TableFault.TheVariants.{Memory};
+
+    ghost from_gives = { λ _ fault. fault ≡ Memory };
+
+    fn from(_: AllocFailed<T>) -> TableFault {
+        TableFault::Memory
+    }
+}
+
+impl From<AllocError> for TableFault {
+    ghost use Rattle.std.specs.Prelude.{◌≡◌};
+    ghost use Rattle.pam_tables.specs.declared.error.TableFault.TheVariants.{Memory};
+
+    ghost from_gives = { λ _ fault. fault ≡ Memory };
+
+    fn from(_: AllocError) -> TableFault {
+        TableFault::Memory
+    }
+}
+
+/// The fault of a table, and its line. The line is 0 where memory ran out and where the table is
+/// too long.
+#[derive(Clone, Copy, Debug, PartialEq, Eq, Error)]
+#[error("{table:?}, line {line}: {fault}")]
+pub struct TableError {
+    pub table: Table,
+    pub fault: TableFault,
+    pub line: u32,
+}
+
+impl TableError {
+    /// A fault that was found in this line; want of memory has the line 0.
+    pub fn new(table: Table, fault: TableFault, line: u32) -> TableError
+        ensures { result ≡ record { table = table; fault = fault; line = line_of_fault fault line } }
+    {
+        let line = match fault {
+            TableFault::Memory => 0,
+            _ => line,
+        };
+        TableError { table, fault, line }
+    }
+}

@@ -1,0 +1,124 @@
+ghost use Rattle.std.specs.Prelude.{◌≡◌, ◌==◌, [], codes, MatchOption, Ok, Err};
+ghost use Rattle.std.specs.List.{list_any};
+ghost use Rattle.std.specs.Str.{bytes_eq};
+ghost use Rattle.pam_tables.specs.Error.{Gives, GivesPart};
+ghost use Rattle.pam_tables.specs.Groups.{lists_user, members_of, group_of_fields, group_at, groups_of, with_line};
+ghost use Rattle.pam_tables.specs.Lines.{is_among};
+ghost use Rattle.std.specs.List.{slice_split};
+
+use crate::error::{Table, TableError, TableFault};
+use crate::lines::{Lines, check_bytes, cut, is_blank_text};
+use indexmap::IndexMap;
+use std::alloc::Global;
+use std::marker::Model;
+
+/// The members of groups, by the names of the groups: group(5).
+#[derive(Drop)]
+pub struct Groups {
+    // the members stand as in the line of their group, joined by commas
+    members: IndexMap<Vec<u8>, Vec<u8>>,
+}
+
+impl Model for Groups {
+    ghost use Rattle.std.specs.Prelude.{List, map};
+    ghost use Rattle.pam_tables.specs.Groups.{Group, members_of};
+
+    ghost Value = { List Group };
+
+    ghost view = { λ g. map (λ e. (e.0.items, members_of e.1.items)) g.members.entries };
+}
+
+/// The name and the members of a group, as its line has them.
+#[derive(Clone, Copy)]
+struct GroupLine<'a> {
+    name: &'a [u8],
+    members: &'a [u8],
+}
+
+/// The name and the members, if a line has four fields and the first is not empty.
+fn group_line(line: &[u8]) -> Option<GroupLine<'_>>
+    ensures { MatchOption result (group_of_fields (slice_split (is_among (codes ":")) line.now) ≡ Err TableFault.BadGroup)
+        (λ g. group_of_fields (slice_split (is_among (codes ":")) line.now) ≡ Ok (g.name.now, members_of g.members.now)) }
+{
+    let (name, rest) = cut(line, b":")?;
+    let (_, rest) = cut(rest, b":")?;
+    let (_, members) = cut(rest, b":")?;
+    if name.is_empty() {
+        return None;
+    }
+    match cut(members, b":") {
+        Some(_) => None,
+        None => Some(GroupLine { name, members }),
+    }
+}
+
+fn has_member(members: &[u8], user: &[u8]) -> bool
+    ensures { result ≡ list_any (λ m. bytes_eq m user.now) (members_of members.now) }
+{
+    if user.is_empty() {
+        return false;
+    }
+    let mut rest = members;
+    while let Some((member, behind)) = cut(rest, b",") {
+        if member == user {
+            return true;
+        }
+        rest = behind;
+    }
+    rest == user
+}
+
+impl Groups {
+    /// No groups.
+    pub fn new(alloc: Global) -> Self
+        ensures { result ≡ [] }
+    {
+        Groups {
+            members: IndexMap::new(alloc),
+        }
+    }
+
+    /// The groups of a file. Of each name the first line counts.
+    pub fn read(alloc: Global, bytes: &[u8]) -> Result<Groups, TableError>
+        ensures { Gives Table.Group (λ groups. groups) result (groups_of bytes.now) }
+    {
+        check_bytes(Table::Group, bytes)?;
+        let mut groups = Groups::new(alloc);
+        for (number, line) in Lines::of(bytes) {
+            if let Err(fault) = groups.add_line(alloc, line) {
+                return Err(TableError::new(Table::Group, fault, number));
+            }
+        }
+        Ok(groups)
+    }
+
+    /// Adds the group of a line, if its name is new.
+    fn add_line(&mut self, alloc: Global, line: &[u8]) -> Result<(), TableFault>
+        ensures { GivesPart (λ _. self.new) result (with_line self.old (group_at line.now)) }
+    {
+        if is_blank_text(line) {
+            return Ok(());
+        }
+        let group = match group_line(line) {
+            Some(group) => group,
+            None => return Err(TableFault::BadGroup),
+        };
+        if self.members.contains_key(group.name) {
+            return Ok(());
+        }
+        let name = Vec::from_slice(alloc, group.name)?;
+        let members = Vec::from_slice(alloc, group.members)?;
+        self.members.insert(name, members)?;
+        Ok(())
+    }
+
+    /// Whether the group of exactly that name lists the user.
+    pub fn lists(&self, group: &[u8], user: &[u8]) -> bool
+        ensures { result ≡ lists_user self.now group.now user.now }
+    {
+        match self.members.get(group) {
+            Some(members) => has_member(members, user),
+            None => false,
+        }
+    }
+}

@@ -1,0 +1,23 @@
+//! The tables of pam_access and pam_time, and the groups that they name.
+#![tactic(auto)]
+
+mod access;
+mod address;
+mod error;
+mod groups;
+mod lines;
+mod lists;
+mod login;
+mod network;
+mod options;
+mod pieces;
+#[cfg(test)]
+mod tests;
+mod tokens;
+
+pub use access::{AccessAnswer, AccessTable};
+pub use error::{Table, TableError, TableFault};
+pub use groups::Groups;
+pub use lines::{check_bytes, cut};
+pub use login::{Login, drop_dev};
+pub use options::AccessOptions;

@@ -1,0 +1,76 @@
+ghost use Rattle.std.specs.Prelude.{◌≡◌, ◌∷◌, [], List};
+ghost use Rattle.pam_tables.specs.declared.lists.Mark.{Mark as MarkOf};
+ghost use Rattle.pam_tables.specs.Lists.{list_matches, mark_of, matches_behind};
+
+/// What a token does in a list.
+#[derive(Clone, Copy, Debug, PartialEq, Eq)]
+pub(crate) enum Mark {
+    /// It is the word EXCEPT.
+    Except,
+    Match,
+    Miss,
+}
+
+impl Mark {
+    /// The mark of a token that is not EXCEPT.
+    pub(crate) fn of(matches: bool) -> Mark
+        ensures { result ≡ mark_of matches }
+    {
+        if matches { Mark::Match } else { Mark::Miss }
+    }
+}
+
+/// A list with EXCEPTs, as far as its tokens were looked at.
+#[derive(Clone, Copy)]
+pub(crate) struct Parts {
+    /// Whether an odd number of parts is closed.
+    is_odd: bool,
+    /// Whether a token of the open part matches.
+    holds: bool,
+    /// Whether a closed part does not hold, so that nothing more counts.
+    is_decided: bool,
+}
+
+impl Parts {
+    pub(crate) fn new() -> Parts
+        ensures { (rest : List MarkOf) → matches_behind result rest ≡ list_matches rest }
+    {
+        Parts {
+            is_odd: false,
+            holds: false,
+            is_decided: false,
+        }
+    }
+
+    /// The list with its next token.
+    pub(crate) fn then(self, mark: Mark) -> Parts
+        ensures { (rest : List MarkOf) → matches_behind result rest ≡ matches_behind self (mark ∷ rest) }
+    {
+        if self.is_decided {
+            return self;
+        }
+        match mark {
+            Mark::Match => Parts {
+                holds: true,
+                ..self
+            },
+            Mark::Miss => self,
+            Mark::Except => Parts {
+                is_odd: self.is_odd != self.holds,
+                holds: false,
+                is_decided: !self.holds,
+            },
+        }
+    }
+
+    /// Whether the list matches, if it ends here.
+    pub(crate) fn matches(self) -> bool
+        ensures { result ≡ matches_behind self [] }
+    {
+        if self.is_decided {
+            self.is_odd
+        } else {
+            self.is_odd != self.holds
+        }
+    }
+}

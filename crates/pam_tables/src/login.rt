@@ -1,0 +1,49 @@
+ghost use Rattle.std.specs.Prelude.{◌≡◌};
+ghost use Rattle.pam_tables.specs.Login.{login_view, origin_of, origin_view, without_dev, IsKnown};
+
+use crate::address::Address;
+
+/// Who logs in, to which service, on which terminal and from which host. An empty terminal or
+/// host is an absent one.
+#[derive(Clone, Copy, Debug)]
+pub struct Login<'a> {
+    pub user: &'a [u8],
+    pub service: &'a [u8],
+    pub tty: &'a [u8],
+    pub rhost: &'a [u8],
+}
+
+/// Where a login comes from.
+#[derive(Clone, Copy)]
+pub(crate) enum Origin<'a> {
+    /// A remote host, and the address that its text writes.
+    Remote(&'a [u8], Option<Address>),
+    /// A terminal without `/dev/`, or a service.
+    Local(&'a [u8]),
+}
+
+/// A terminal without one `/dev/` in front.
+pub fn drop_dev(tty: &[u8]) -> &[u8]
+    ensures { result.now ≡ without_dev tty.now }
+{
+    match tty.strip_prefix(b"/dev/") {
+        Some(name) => name,
+        None => tty,
+    }
+}
+
+impl<'a> Origin<'a> {
+    #[tactic(auto, unfolding(crate::specs::Login::origin_of))]
+    pub(crate) fn of(login: &Login<'a>) -> Self
+        ensures origin { origin_view result ≡ origin_of (login_view login.now) }
+        ensures known { IsKnown result }
+    {
+        if !login.rhost.is_empty() {
+            Origin::Remote(login.rhost, Address::read(login.rhost))
+        } else if !login.tty.is_empty() {
+            Origin::Local(drop_dev(login.tty))
+        } else {
+            Origin::Local(login.service)
+        }
+    }
+}

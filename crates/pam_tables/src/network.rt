@@ -1,0 +1,131 @@
+ghost use Rattle.std.specs.Prelude.{◌≡◌, ◌≤◌, ◌-◌, ◌^◌};
+ghost use Rattle.pam_tables.specs.Network.{ones, v4_mask_of, v6_mask_of, is_in_network, network_of, bits_agree};
+
+use crate::address::{Address, numeral, v4};
+use crate::error::TableFault;
+use crate::lines::cut;
+use crate::pieces::v6;
+
+/// The addresses that agree with one address in each bit of a mask.
+#[derive(Clone, Copy, Debug, PartialEq, Eq)]
+pub(crate) enum Network {
+    V4 { address: u32, mask: u32 },
+    V6 { address: u128, mask: u128 },
+}
+
+fn v4_ones(count: u32) -> u32
+    requires { count ≤ 32 }
+    ensures { result ≡ ones 32 count }
+{
+    if count == 0 {
+        0
+    } else {
+        u32::MAX << (32 - count)
+    }
+}
+
+fn v6_ones(count: u32) -> u128
+    requires { count ≤ 128 }
+    ensures { result ≡ ones 128 count }
+{
+    if count == 0 {
+        0
+    } else {
+        u128::MAX << (128 - count)
+    }
+}
+
+/// A mask of IPv4: a number of bits, or an address.
+#[tactic(auto, unfolding(crate::specs::Network::v4_mask_of))]
+fn v4_mask(text: &[u8]) -> Option<u32>
+    ensures { result ≡ v4_mask_of text.now }
+{
+    match numeral(10, 3, text) {
+        Some(count) => {
+            if count <= 32 {
+                Some(v4_ones(count))
+            } else {
+                None
+            }
+        }
+        None => v4(text),
+    }
+}
+
+/// A mask of IPv6: a number of bits, or an address.
+#[tactic(auto, unfolding(crate::specs::Network::v6_mask_of))]
+fn v6_mask(text: &[u8]) -> Option<u128>
+    ensures { result ≡ v6_mask_of text.now }
+{
+    match numeral(10, 3, text) {
+        Some(count) => {
+            if count <= 128 {
+                Some(v6_ones(count))
+            } else {
+                None
+            }
+        }
+        None => v6(text),
+    }
+}
+
+fn v4_agree(first: u32, second: u32, mask: u32) -> bool
+    ensures { result ≡ bits_agree 32 first second mask }
+{
+    first & mask == second & mask
+}
+
+fn v6_agree(first: u128, second: u128, mask: u128) -> bool
+    ensures { result ≡ bits_agree 128 first second mask }
+{
+    first & mask == second & mask
+}
+
+impl Network {
+    /// The network of an address, a slash and a mask. None where no address stands before a
+    /// slash, and `BadMask` where no mask follows it.
+    #[tactic(auto, unfolding(crate::specs::Network::network_of))]
+    pub(crate) fn read(text: &[u8]) -> Result<Option<Network>, TableFault>
+        ensures { result ≡ network_of text.now }
+    {
+        let (front, behind) = match cut(text, b"/") {
+            Some(parts) => parts,
+            None => return Ok(None),
+        };
+        match Address::read(front) {
+            Some(Address::V4(address)) => match v4_mask(behind) {
+                Some(mask) => Ok(Some(Network::V4 { address, mask })),
+                None => Err(TableFault::BadMask),
+            },
+            Some(Address::V6(address)) => match v6_mask(behind) {
+                Some(mask) => Ok(Some(Network::V6 { address, mask })),
+                None => Err(TableFault::BadMask),
+            },
+            None => Ok(None),
+        }
+    }
+
+    /// Whether an address is of the same family, and agrees in each bit of the mask.
+    pub(crate) fn contains(&self, address: Address) -> bool
+        ensures { result ≡ is_in_network self.now address }
+    {
+        match *self {
+            Network::V4 {
+                address: own,
+                mask,
+                ..
+            } => match address {
+                Address::V4(number) => v4_agree(number, own, mask),
+                Address::V6(_) => false,
+            },
+            Network::V6 {
+                address: own,
+                mask,
+                ..
+            } => match address {
+                Address::V4(_) => false,
+                Address::V6(number) => v6_agree(number, own, mask),
+            },
+        }
+    }
+}

@@ -1,0 +1,169 @@
+//! Entries of times: days of the week and a range of the day.
+
+ghost use Rattle.std.specs.Prelude.{◌≡◌, ◌+◌, ◌<◌, ◌≤◌, ◌&&◌, nat_le, length, slice_index, slice_index_or, false, IfSome};
+ghost use Rattle.std.specs.Option.{option_map};
+ghost use Rattle.pam_times.specs.Entry.{covers, named_days, toggled, days_of, time_at, finish_at, entry_of, holds};
+
+use crate::moments::pair;
+use pam_codes::is_name;
+
+/// Days of the week that follow one another, from 0 for Monday.
+#[derive(Clone, Copy)]
+struct DayRun {
+    first: u8,
+    last: u8,
+}
+
+impl DayRun {
+    const fn new(first: u8, last: u8) -> Self
+        ensures { result ≡ record { first = first; last = last } }
+    {
+        DayRun { first, last }
+    }
+
+    fn covers(self, day: u8) -> bool
+        ensures { result ≡ covers self day }
+    {
+        self.first <= day && day <= self.last
+    }
+}
+
+/// The days that two letters name, without case.
+#[tactic(auto, unfolding(crate::specs::Entry::named_days))]
+fn named_days(name: &[u8]) -> Option<DayRun>
+    ensures { result ≡ named_days name.now }
+{
+    if is_name(name, b"mo") {
+        Some(DayRun::new(0, 0))
+    } else if is_name(name, b"tu") {
+        Some(DayRun::new(1, 1))
+    } else if is_name(name, b"we") {
+        Some(DayRun::new(2, 2))
+    } else if is_name(name, b"th") {
+        Some(DayRun::new(3, 3))
+    } else if is_name(name, b"fr") {
+        Some(DayRun::new(4, 4))
+    } else if is_name(name, b"sa") {
+        Some(DayRun::new(5, 5))
+    } else if is_name(name, b"su") {
+        Some(DayRun::new(6, 6))
+    } else if is_name(name, b"wk") {
+        Some(DayRun::new(0, 4))
+    } else if is_name(name, b"wd") {
+        Some(DayRun::new(5, 6))
+    } else if is_name(name, b"al") {
+        Some(DayRun::new(0, 6))
+    } else {
+        None
+    }
+}
+
+/// A set of days with those of a run changed: in where they were out, and out where they were in.
+fn toggled(days: [bool; 7], run: DayRun) -> [bool; 7]
+    ensures { result ≡ toggled days run }
+{
+    [
+        days[0] != run.covers(0),
+        days[1] != run.covers(1),
+        days[2] != run.covers(2),
+        days[3] != run.covers(3),
+        days[4] != run.covers(4),
+        days[5] != run.covers(5),
+        days[6] != run.covers(6),
+    ]
+}
+
+/// The days that pairs of letters name. A day that they cover twice is not among them.
+fn days(text: &[u8]) -> Option<[bool; 7]>
+    ensures { result ≡ days_of text.now }
+{
+    let mut days = [false; 7];
+    let mut rest = text;
+    while !rest.is_empty() {
+        let (name, behind) = rest.split_at_checked(2)?;
+        days = toggled(days, named_days(name)?);
+        rest = behind;
+    }
+    Some(days)
+}
+
+/// The minute of the day that four digits give, hours and minutes.
+fn time(text: &[u8], at: usize) -> Option<u16>
+    requires { at + 3 < length text.now }
+    ensures { result ≡ time_at text.now at }
+{
+    let hour = pair(text, at)?;
+    let minute = pair(text, at + 2)?;
+    if hour <= 23 && minute <= 59 {
+        Some(60 * u16::from(hour) + u16::from(minute))
+    } else {
+        None
+    }
+}
+
+/// The same, or `2400` for the end of the day.
+fn finish(text: &[u8], at: usize) -> Option<u16>
+    requires { at + 3 < length text.now }
+    ensures { result ≡ finish_at text.now at }
+{
+    if text[at] == b'2' && text[at + 1] == b'4' && text[at + 2] == b'0' && text[at + 3] == b'0' {
+        Some(1440)
+    } else {
+        time(text, at)
+    }
+}
+
+/// Days of the week, from Monday on, and the minutes of a day at which a range starts and
+/// finishes. A range that goes past midnight belongs to the day on which it starts.
+#[derive(Clone, Copy)]
+pub(crate) struct Entry {
+    days: [bool; 7],
+    start: u16,
+    finish: u16,
+}
+
+impl Entry {
+    /// One or more days and `HHMM-HHMM`.
+    #[tactic(auto, unfolding(crate::specs::Entry::entry_of))]
+    pub(crate) fn read(text: &[u8]) -> Option<Entry>
+        ensures { result ≡ entry_of text.now }
+    {
+        if text.len() < 11 {
+            return None;
+        }
+        let at = text.len() - 9;
+        let days = days(text.split_at(at).0)?;
+        let start = time(text, at)?;
+        if text[at + 4] != b'-' {
+            return None;
+        }
+        let finish = finish(text, at + 5)?;
+        Some(Entry {
+            days,
+            start,
+            finish,
+        })
+    }
+
+    fn is_on(&self, day: u8) -> bool
+        requires { day < 7 }
+        ensures { result ≡ slice_index_or self.now.days day false }
+    {
+        self.days[usize::from(day)]
+    }
+
+    /// Whether the entry holds a minute of a weekday.
+    #[tactic(auto, unfolding(crate::specs::Entry::holds))]
+    pub(crate) fn holds(&self, day: u8, minute: u16) -> bool
+        requires { day < 7 }
+        ensures { result ≡ holds self.now day minute }
+    {
+        if self.start < self.finish {
+            return self.is_on(day) && self.start <= minute && minute < self.finish;
+        }
+        if minute >= self.start && self.is_on(day) {
+            return true;
+        }
+        minute < self.finish && self.is_on((day + 6) % 7)
+    }
+}

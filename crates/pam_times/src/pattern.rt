@@ -1,0 +1,43 @@
+//! Names with a wildcard.
+
+ghost use Rattle.std.specs.Prelude.{◌≡◌, ◌↔◌, ◌<◌, ◌==◌, length, position, nat_lt, count_by, IfSome, IsTrue};
+ghost use Rattle.pam_times.specs.Pattern.{is_star, has_two_stars, matches, is_framed, Means};
+
+fn star_at(pattern: &[u8]) -> Option<usize>
+    ensures value { result ≡ position is_star pattern.now }
+    ensures within { IfSome result (λ i. i < length pattern.now) }
+{
+    pattern.iter().position(|b| *b == b'*')
+}
+
+/// Whether more than one `*` stands in a name.
+pub(crate) fn has_two_stars(pattern: &[u8]) -> bool
+    ensures { result ≡ has_two_stars pattern.now }
+{
+    pattern.iter().filter(|b| **b == b'*').count() > 1
+}
+
+/// Whether a text begins with the front and ends with the back, which do not overlap.
+fn is_framed(front: &[u8], back: &[u8], text: &[u8]) -> bool
+    ensures { result ≡ is_framed front.now back.now text.now }
+{
+    if text.len() < front.len() {
+        return false;
+    }
+    let (begin, rest) = text.split_at(front.len());
+    begin == front && rest.ends_with(back)
+}
+
+/// Whether a text matches a name byte for byte, where the first `*` stands for any bytes.
+pub(crate) fn matches(pattern: &[u8], text: &[u8]) -> bool
+    ensures value { result ≡ matches pattern.now text.now }
+    ensures means { IsTrue result ↔ Means pattern.now text.now }
+{
+    match star_at(pattern) {
+        None => pattern == text,
+        Some(place) => {
+            let (front, rest) = pattern.split_at(place);
+            is_framed(front, rest.split_at(1).1, text)
+        }
+    }
+}

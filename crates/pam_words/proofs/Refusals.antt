@@ -1,0 +1,44 @@
+-- What `clap` answers, and what then is answered.
+use Rattle.std.proofs.Common.{◌≡◌, [], Result, Ok, Err, subst, sym, inl, inr, ◌∙◌}
+use Rattle.clap.specs.Words.{HasKind, IsAmong, Kinds, kind_of}
+use Rattle.clap.specs.declared.Error.{Error}
+use Rattle.clap.specs.declared.error.ErrorKind.{ErrorKind}
+use Rattle.pam_words.specs.Asked.{Asked, Refusal}
+use Rattle.pam_words.specs.Wanted.{Answers, IsRefusalOf, Reads, RefusesBy}
+use Rattle.pam_words.specs.declared.wanted.Request.{Request}
+use Rattle.pam_words.specs.declared.wanted.Usage.{Usage}
+use Rattle.pam_words.specs.declared.wanted.Usage.TheVariants as usage
+
+pub answers-clean : (kinds : Kinds) (asked : Result Asked Refusal) (r : Result Request Usage) → Answers asked r → kinds ≡ [] → RefusesBy kinds r
+answers-clean kinds asked (Ok request) h e = e
+answers-clean kinds asked (Err usage.Source) h e = e
+answers-clean kinds asked (Err usage.KindName) h e = e
+answers-clean kinds asked (Err usage.CodeName) h e = e
+answers-clean kinds asked (Err usage.Moment) h e = e
+answers-clean kinds asked (Err usage.Memory) h e = tt
+answers-clean kinds asked (Err (usage.Help error)) h e = absurd h
+answers-clean kinds asked (Err (usage.Words error)) h e = absurd h
+
+pub answers-reads : (asked : Result Asked Refusal) (r : Result Request Usage) → Answers asked r → Reads asked r
+answers-reads asked (Ok request) h = h
+answers-reads asked (Err usage.Source) h = h
+answers-reads asked (Err usage.KindName) h = h
+answers-reads asked (Err usage.CodeName) h = h
+answers-reads asked (Err usage.Moment) h = h
+answers-reads asked (Err usage.Memory) h = tt
+answers-reads asked (Err (usage.Help error)) h = absurd h
+answers-reads asked (Err (usage.Words error)) h = absurd h
+
+among : (kinds : Kinds) (k : ErrorKind) (error : Error) → k ≡ kind_of error → IsAmong (kind_of error) kinds → IsAmong k kinds
+among kinds k error e h = subst (λ (x : ErrorKind). IsAmong x kinds) (sym e) h
+
+pub refused-by : (kinds : Kinds) (error : Error) (u : Usage) → IsRefusalOf error u → HasKind kinds error → RefusesBy kinds (Err u)
+refused-by kinds error usage.Memory h k = tt
+refused-by kinds error (usage.Help e) h (inl m) = let a = h.0 in let b = h.1 in cc
+refused-by kinds error (usage.Help e) h (inr k) = (among kinds _ error (sym h.1 ∙ h.0) k, h.1)
+refused-by kinds error (usage.Words e) h (inl m) = absurd (h.2 (h.0 ∙ m))
+refused-by kinds error (usage.Words e) h (inr k) = (among kinds _ error h.0 k, h.1)
+refused-by kinds error usage.Source h k = absurd h
+refused-by kinds error usage.KindName h k = absurd h
+refused-by kinds error usage.CodeName h k = absurd h
+refused-by kinds error usage.Moment h k = absurd h

@@ -1,0 +1,8 @@
+-- the codes so far, and then those of the names that are left
+use Rattle.std.proofs.Common.{◌≡◌, map, drop, ◌++◌, option_map}
+use Rattle.pam_words.specs.Asked.{codes_named}
+use Rattle.pam_words.proofs.reading.codes_named.Given as goal
+
+abbrev pub invariant-loop-name : goal.invariant-loop-name
+invariant-loop-name l =
+    option_map (λ cs. l.codes.items ++ cs) (codes_named (map (λ s. s.now) (drop l.name-index l.names))) ≡ codes_named (map (λ s. s.now) l.names)

@@ -1,0 +1,181 @@
+-- The command line: what the values that `clap` found for the words ask for.
+use Rattle.std.specs.Prelude.{ℕ, ℤ, pos, ◌&&◌, nat_le, nat_lt, length, List, [], ◌∷◌, Option, Some, None, Result, Ok, Err, codes, option_map, position, unwrap_or, if◌then◌else◌}
+use Rattle.std.specs.Char.{is_ascii_digit}
+use Rattle.std.specs.List.{list_all}
+use Rattle.std.specs.Str.{bytes_eq}
+use Rattle.std.specs.Str.Parse.{digits_value}
+use Rattle.pam_codes.specs.Code.{code_names, same_name}
+use Rattle.pam_conf.specs.declared.Kind.{Kind}
+use Rattle.pam_conf.specs.declared.Kind.TheVariants.{Auth, Account, Password, Session}
+use Rattle.clap.specs.Words.{Row, Text, all_of, first_of}
+
+pub data Place : Type 0 where
+  dir : Text → Place
+  conf : Text → Place
+
+pub data When : Type 0 where
+  civil : Text → When
+  instant : ℤ → Text → When
+
+pub record AccessWish : Type 0 where
+  pub table : Text
+  pub groups : Option Text
+  pub user : Text
+  pub rhost : Text
+  pub tty : Text
+  pub arguments : List Text
+
+pub record TimeWish : Type 0 where
+  pub table : Text
+  pub user : Text
+  pub tty : Text
+  pub moment : When
+
+pub data Wish : Type 0 where
+  show : Place → Kind → Wish
+  decide : Place → Kind → List ℕ → Wish
+  access : AccessWish → Wish
+  time : TimeWish → Wish
+
+pub record Asked : Type 0 where
+  pub service : Text
+  pub wish : Wish
+
+-- U2, U3, U4 and U6
+pub data Refusal : Type 0 where
+  source : Refusal
+  kind_name : Refusal
+  code_name : Refusal
+  moment : Refusal
+
+-- ---- words
+
+-- the text of an id; the empty one where there is none
+abbrev pub text_of : Text → List Row → Text
+text_of id rows = unwrap_or (first_of id rows) []
+
+-- all texts of an id, in order
+abbrev pub texts_of : Text → List Row → List Text
+texts_of id rows = unwrap_or (all_of id rows) []
+
+-- exactly one source
+abbrev pub one_place : Option Text → Option Text → Option Place
+one_place (Some name) None = Some (dir name)
+one_place None (Some name) = Some (conf name)
+one_place (Some name) (Some other) = None
+one_place None None = None
+
+abbrev pub place_of : List Row → Option Place
+place_of rows = one_place (first_of (codes "dir") rows) (first_of (codes "conf") rows)
+
+abbrev pub kind_named : Text → Option Kind
+kind_named name =
+    if same_name name (codes "auth") then Some Auth
+    else if same_name name (codes "account") then Some Account
+    else if same_name name (codes "password") then Some Password
+    else if same_name name (codes "session") then Some Session
+    else None
+
+abbrev pub kind_of_rows : List Row → Option Kind
+kind_of_rows rows = kind_named (text_of (codes "kind") rows)
+
+unfoldable pub code_named : Text → Option ℕ
+code_named name = position (λ n. same_name n name) code_names
+
+abbrev pub both : Option ℕ → Option (List ℕ) → Option (List ℕ)
+both (Some code) (Some rest) = Some (code ∷ rest)
+both (Some code) None = None
+both None rest = None
+
+-- the codes of the names in turn, where each is the name of one
+abbrev pub codes_named : List Text → Option (List ℕ)
+codes_named [] = Some []
+codes_named (name ∷ names) = both (code_named name) (codes_named names)
+
+abbrev pub codes_of_rows : List Row → Option (List ℕ)
+codes_of_rows rows = codes_named (texts_of (codes "code") rows)
+
+-- the number of 1 to 12 decimal digits
+abbrev pub seconds_of : Text → Option ℤ
+seconds_of text =
+    if nat_lt 0 (length text) && nat_le (length text) 12 && list_all is_ascii_digit text
+    then Some (pos (digits_value 10 text)) else None
+
+abbrev pub instant_of : Text → Option Text → Option When
+instant_of digits zone = option_map (λ seconds. instant seconds (unwrap_or zone (codes "UTC0"))) (seconds_of digits)
+
+-- `--at` alone, or `--at-unix` with or without `--zone`
+abbrev pub one_when : Option Text → Option Text → Option Text → Option When
+one_when (Some text) None None = Some (civil text)
+one_when (Some text) None (Some rule) = None
+one_when None (Some digits) rule = instant_of digits rule
+one_when (Some text) (Some digits) rule = None
+one_when None None rule = None
+
+abbrev pub when_of : List Row → Option When
+when_of rows =
+    one_when (first_of (codes "at") rows) (first_of (codes "at-unix") rows) (first_of (codes "zone") rows)
+
+-- ---- commands
+
+-- the refusal where there is no value, else what the value gives
+abbrev pub or_refuse : {A B : Type 0} → Option A → Refusal → (A → Result B Refusal) → Result B Refusal
+or_refuse None refusal next = Err refusal
+or_refuse (Some value) refusal next = next value
+
+infixl 10 ◌>>=◌
+abbrev pub ◌>>=◌ : {A B : Type 0} → Result A Refusal → (A → Result B Refusal) → Result B Refusal
+(Ok value) >>= next = next value
+(Err refusal) >>= next = Err refusal
+
+-- the source, and then KIND
+abbrev pub stack_of : List Row → Result (Place × Kind) Refusal
+stack_of rows =
+    or_refuse (place_of rows) source (λ place.
+    or_refuse (kind_of_rows rows) kind_name (λ kind.
+    Ok (place, kind)))
+
+-- `show SERVICE KIND`
+abbrev pub show_wish : List Row → Result Wish Refusal
+show_wish rows = stack_of rows >>= λ stack. Ok (show stack.0 stack.1)
+
+-- `decide SERVICE KIND [CODE]...`
+abbrev pub decide_wish : List Row → Result Wish Refusal
+decide_wish rows =
+    stack_of rows >>= λ stack.
+    or_refuse (codes_of_rows rows) code_name (λ codes.
+    Ok (decide stack.0 stack.1 codes))
+
+-- `access SERVICE [ARGUMENT]...`
+abbrev pub access_wish : List Row → Result Wish Refusal
+access_wish rows = Ok (access (record {
+  table = text_of (codes "access") rows;
+  groups = first_of (codes "group") rows;
+  user = text_of (codes "user") rows;
+  rhost = text_of (codes "rhost") rows;
+  tty = text_of (codes "tty") rows;
+  arguments = texts_of (codes "argument") rows;
+}))
+
+-- `time SERVICE`
+abbrev pub time_wish : List Row → Result Wish Refusal
+time_wish rows =
+    or_refuse (when_of rows) moment (λ when.
+    Ok (time (record {
+      table = text_of (codes "time") rows;
+      user = text_of (codes "user") rows;
+      tty = text_of (codes "tty") rows;
+      moment = when;
+    })))
+
+abbrev pub wish_of : Text → List Row → Result Wish Refusal
+wish_of command rows =
+    if bytes_eq command (codes "show") then show_wish rows
+    else if bytes_eq command (codes "decide") then decide_wish rows
+    else if bytes_eq command (codes "access") then access_wish rows
+    else time_wish rows
+
+-- what a command asks for, or the first refusal
+abbrev pub asked_of : Text → List Row → Result Asked Refusal
+asked_of command rows =
+    wish_of command rows >>= λ wish. Ok (record { service = text_of (codes "service") rows; wish = wish })

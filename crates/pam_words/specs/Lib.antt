@@ -1,0 +1,4 @@
+pub mod Asked
+pub mod Usage
+pub mod Wanted
+pub mod Words

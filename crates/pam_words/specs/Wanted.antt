@@ -1,0 +1,104 @@
+-- The command line: what a request shows, and what an answer may be.
+use Rattle.std.specs.Prelude.{◌≡◌, ◌≢◌, ⊤, Result, Ok, Err, [], map}
+use Rattle.std.specs.Option.{option_copied}
+use Rattle.clap.specs.Words.{IsAmong, Kinds, kind_of}
+use Rattle.clap.specs.declared.Error.{Error}
+use Rattle.clap.specs.declared.error.ErrorKind.TheVariants.{DisplayHelp, OutOfMemory}
+use Rattle.pam_words.specs.Asked.{Asked, Place, Refusal, When, Wish}
+use Rattle.pam_words.specs.Asked as asked
+use Rattle.pam_words.specs.declared.wanted.Source.{Source}
+use Rattle.pam_words.specs.declared.wanted.Source.TheVariants.{Dir, Conf}
+use Rattle.pam_words.specs.declared.wanted.Moment.{Moment}
+use Rattle.pam_words.specs.declared.wanted.Moment.TheVariants.{Civil, Instant}
+use Rattle.pam_words.specs.declared.wanted.Task.{Task}
+use Rattle.pam_words.specs.declared.wanted.Task.TheVariants.{Show, Decide, Access, Time}
+use Rattle.pam_words.specs.declared.wanted.Request.{Request}
+use Rattle.pam_words.specs.declared.wanted.Usage.{Usage}
+use Rattle.pam_words.specs.declared.wanted.Usage.TheVariants as usage
+
+-- ---- what a request shows
+
+abbrev pub shown_place : Source → Place
+shown_place (Dir name) = asked.dir name.now
+shown_place (Conf name) = asked.conf name.now
+
+abbrev pub shown_when : Moment → When
+shown_when (Civil text) = asked.civil text.now
+shown_when (Instant seconds zone) = asked.instant seconds zone.now
+
+abbrev pub shown_wish : Task → Wish
+shown_wish (Show source kind) = asked.show (shown_place source) kind
+shown_wish (Decide source kind codes) = asked.decide (shown_place source) kind codes.items
+shown_wish (Access table groups user rhost tty arguments) = asked.access (record {
+  table = table.now;
+  groups = option_copied groups;
+  user = user.now;
+  rhost = rhost.now;
+  tty = tty.now;
+  arguments = map (λ a. a.items) arguments.items;
+})
+shown_wish (Time table user tty moment) = asked.time (record {
+  table = table.now;
+  user = user.now;
+  tty = tty.now;
+  moment = shown_when moment;
+})
+
+abbrev pub shown : Request → Asked
+shown request = record { service = request.service.now; wish = shown_wish request.task }
+
+-- ---- the answer, where `clap` takes the words
+
+-- the result is the value, or its refusal, or memory ran out
+abbrev pub Gives : {A B : Type 0} → (A → B) → Result B Refusal → Result A Usage → Type 0
+Gives view value (Ok x) = value ≡ Ok (view x)
+Gives view value (Err usage.Source) = value ≡ Err asked.source
+Gives view value (Err usage.KindName) = value ≡ Err asked.kind_name
+Gives view value (Err usage.CodeName) = value ≡ Err asked.code_name
+Gives view value (Err usage.Moment) = value ≡ Err asked.moment
+Gives view value (Err usage.Memory) = ⊤
+Gives view value (Err (usage.Help error)) = ⊥
+Gives view value (Err (usage.Words error)) = ⊥
+
+abbrev pub AsksFor : Result Wish Refusal → Result Task Usage → Type 0
+AsksFor = Gives shown_wish
+
+abbrev pub Answers : Result Asked Refusal → Result Request Usage → Type 0
+Answers = Gives shown
+
+-- ---- the answer, where `clap` may refuse the words
+
+-- memory ran out, or `clap` refused the words
+abbrev pub IsRefusal : Result Request Usage → Type 0
+IsRefusal (Err usage.Memory) = ⊤
+IsRefusal (Err (usage.Help error)) = ⊤
+IsRefusal (Err (usage.Words error)) = ⊤
+IsRefusal _ = ⊥
+
+-- `clap` did not refuse the words
+abbrev pub IsRead : Result Request Usage → Type 0
+IsRead (Err (usage.Help error)) = ⊥
+IsRead (Err (usage.Words error)) = ⊥
+IsRead _ = ⊤
+
+-- the answer is what is asked for, unless `clap` refused the words
+abbrev pub Reads : Result Asked Refusal → Result Request Usage → Type 0
+Reads asked (Err (usage.Help error)) = ⊤
+Reads asked (Err (usage.Words error)) = ⊤
+Reads asked (Err other) = Answers asked (Err other)
+Reads asked (Ok request) = Answers asked (Ok request)
+
+-- the refusal that stands for an error of `clap`
+abbrev pub IsRefusalOf : Error → Usage → Type 0
+IsRefusalOf error usage.Memory = kind_of error ≡ OutOfMemory
+IsRefusalOf error (usage.Help e) = (kind_of e ≡ kind_of error) × (kind_of e ≡ DisplayHelp)
+IsRefusalOf error (usage.Words e) = (kind_of e ≡ kind_of error) × (kind_of e ≢ DisplayHelp) × (kind_of e ≢ OutOfMemory)
+IsRefusalOf error _ = ⊥
+
+-- `clap` refuses the words where it has a kind of error for them, and only there: with help where
+-- that is the kind, and else as wrong words
+abbrev pub RefusesBy : Kinds → Result Request Usage → Type 0
+RefusesBy kinds (Err usage.Memory) = ⊤
+RefusesBy kinds (Err (usage.Help error)) = IsAmong DisplayHelp kinds × (kind_of error ≡ DisplayHelp)
+RefusesBy kinds (Err (usage.Words error)) = IsAmong (kind_of error) kinds × (kind_of error ≢ DisplayHelp)
+RefusesBy kinds _ = kinds ≡ []

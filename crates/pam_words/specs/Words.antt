@@ -1,0 +1,65 @@
+-- The command line: which words each command takes.
+use Rattle.std.specs.Prelude.{Some, codes, true}
+use Rattle.clap.specs.Words.{App, Rule, Text, new_app, new_rule, with_rule, with_subcommand}
+use Rattle.clap.specs.declared.builder.ArgAction.TheVariants.{Append}
+
+-- a word that must be there
+abbrev pub required_rule : Text → Rule
+required_rule id = record (new_rule id) { value_names = 1; required = true }
+
+-- `--ID VALUE`
+abbrev pub option_rule : Text → Rule
+option_rule id = record (new_rule id) { long = Some id; value_names = 1 }
+
+-- `--ID VALUE` that must be there
+abbrev pub required_option_rule : Text → Rule
+required_option_rule id = record (option_rule id) { required = true }
+
+-- any number of words
+abbrev pub repeated_rule : Text → Rule
+repeated_rule id = record (new_rule id) { value_names = 1; action = Some Append }
+
+-- NAME SERVICE KIND, with `--dir` and `--conf`
+abbrev pub stack_app : Text → App
+stack_app name =
+    with_rule (with_rule (with_rule (with_rule (new_app name)
+    (required_rule (codes "service"))) (required_rule (codes "kind")))
+    (option_rule (codes "dir"))) (option_rule (codes "conf"))
+
+-- `show SERVICE KIND`
+unfoldable pub show_app : App
+show_app = stack_app (codes "show")
+
+-- `decide SERVICE KIND [CODE]...`
+unfoldable pub decide_app : App
+decide_app = with_rule (stack_app (codes "decide")) (repeated_rule (codes "code"))
+
+-- NAME SERVICE for a login, by the table of `--NAME`
+abbrev pub login_app : Text → App
+login_app name =
+    with_rule (with_rule (with_rule (with_rule (new_app name)
+    (required_rule (codes "service"))) (required_option_rule name))
+    (required_option_rule (codes "user"))) (option_rule (codes "tty"))
+
+-- `access SERVICE [ARGUMENT]...`
+unfoldable pub access_app : App
+access_app =
+    with_rule (with_rule (with_rule (login_app (codes "access"))
+    (option_rule (codes "group"))) (option_rule (codes "rhost")))
+    (repeated_rule (codes "argument"))
+
+-- `time SERVICE`
+unfoldable pub time_app : App
+time_app =
+    with_rule (with_rule (with_rule (login_app (codes "time"))
+    (option_rule (codes "at"))) (option_rule (codes "at-unix")))
+    (option_rule (codes "zone"))
+
+-- no words but those of a command
+unfoldable pub bare_app : App
+bare_app = let app = new_app (codes "pamcheck") in record app { top = record app.top { subcommand_required = true } }
+
+unfoldable pub pamcheck_app : App
+pamcheck_app =
+    with_subcommand (with_subcommand (with_subcommand (with_subcommand bare_app
+    show_app.top) decide_app.top) access_app.top) time_app.top

@@ -1,0 +1,13 @@
+//! The words of the command line: what they ask for, and why they are refused.
+#![tactic(auto)]
+
+mod reading;
+#[cfg(test)]
+mod tests;
+mod usage;
+mod wanted;
+mod words;
+
+pub use reading::request;
+pub use usage::{usage_status, usage_text};
+pub use wanted::{Moment, Request, Source, Task, Usage};

@@ -1,0 +1,282 @@
+//! What the words ask for.
+
+ghost use Rattle.std.specs.Prelude.{◌≡◌, true, map, IfOk, MatchOption, option_map, codes};
+ghost use Rattle.std.specs.Char.{is_ascii_digit};
+ghost use Rattle.std.specs.List.{list_all};
+ghost use Rattle.std.specs.Option.{option_copied};
+ghost use Rattle.clap.specs.Words.{found_of, rows_of, first_of, all_of, takes, fault_of, subcommand_of};
+ghost use Rattle.pam_words.specs.Asked.{access_wish, asked_of, code_named as code_of_name, codes_named as codes_of_names, codes_of_rows, decide_wish, instant_of, kind_named as kind_of_name, kind_of_rows, place_of, seconds_of, show_wish, stack_of, text_of, texts_of, time_wish, when_of};
+ghost use Rattle.pam_words.specs.Wanted.{Answers, AsksFor, Gives, IsRead, IsRefusal, IsRefusalOf, Reads, RefusesBy, shown_place, shown_when};
+ghost use Rattle.pam_words.specs.Words.{pamcheck_app};
+
+use crate::wanted::{Moment, Request, Source, Task, Usage};
+use crate::words::pamcheck_command;
+use clap::error::ErrorKind;
+use clap::{ArgMatches, Error};
+use pam_codes::{Code, is_name};
+use pam_conf::Kind;
+use std::alloc::{AllocError, Global};
+use std::convert::AsStr;
+
+/// The value of an id.
+fn value<'a>(matches: &ArgMatches<'a>, id: &str) -> Option<&'a str>
+    ensures { option_copied result ≡ first_of id.now (rows_of (found_of matches.now)) }
+{
+    matches.get_str(id)
+}
+
+/// The value of an id, or the empty text.
+fn text<'a>(matches: &ArgMatches<'a>, id: &str) -> &'a str
+    ensures { result.now ≡ text_of id.now (rows_of (found_of matches.now)) }
+{
+    value(matches, id).unwrap_or("")
+}
+
+/// All values of an id, in order.
+fn values<'m, 'a>(matches: &'m ArgMatches<'a>, id: &str) -> Option<&'m [&'a str]>
+    ensures { option_map (λ s. map (λ v. v.now) s.now) result ≡ all_of id.now (rows_of (found_of matches.now)) }
+{
+    matches.get_strs(id)
+}
+
+/// The one source that is given.
+fn source<'a>(matches: &ArgMatches<'a>) -> Option<Source<'a>>
+    ensures { option_map shown_place result ≡ place_of (rows_of (found_of matches.now)) }
+{
+    match (value(matches, "dir"), value(matches, "conf")) {
+        (Some(dir), None) => Some(Source::Dir(dir)),
+        (None, Some(conf)) => Some(Source::Conf(conf)),
+        (Some(_), Some(_)) => None,
+        (None, None) => None,
+    }
+}
+
+fn kind_named(name: &str) -> Option<Kind>
+    ensures { result ≡ kind_of_name name.now }
+{
+    if is_name(name.as_bytes(), b"auth") {
+        Some(Kind::Auth)
+    } else if is_name(name.as_bytes(), b"account") {
+        Some(Kind::Account)
+    } else if is_name(name.as_bytes(), b"password") {
+        Some(Kind::Password)
+    } else if is_name(name.as_bytes(), b"session") {
+        Some(Kind::Session)
+    } else {
+        None
+    }
+}
+
+fn kind(matches: &ArgMatches<'_>) -> Option<Kind>
+    ensures { result ≡ kind_of_rows (rows_of (found_of matches.now)) }
+{
+    kind_named(text(matches, "kind"))
+}
+
+#[tactic(auto, unfolding(crate::specs::Asked::code_named))]
+fn code_named(name: &str) -> Option<Code>
+    ensures { result ≡ code_of_name name.now }
+{
+    Code::from_name(name.as_bytes())
+}
+
+/// The codes of the names in turn; none where one is no code's name.
+fn codes_named(alloc: Global, names: &[&str]) -> Result<Option<Vec<Code>>, AllocError>
+    ensures { IfOk result (λ r. option_map (λ v. v.items) r ≡ codes_of_names (map (λ s. s.now) names.now)) }
+{
+    let mut codes = Vec::new(alloc);
+    for name in names {
+        match code_named(name) {
+            Some(code) => codes.push(code)?,
+            None => return Ok(None),
+        }
+    }
+    Ok(Some(codes))
+}
+
+fn codes(alloc: Global, matches: &ArgMatches<'_>) -> Result<Option<Vec<Code>>, AllocError>
+    ensures { IfOk result (λ r. option_map (λ v. v.items) r ≡ codes_of_rows (rows_of (found_of matches.now))) }
+{
+    match values(matches, "code") {
+        Some(names) => codes_named(alloc, names),
+        None => Ok(Some(Vec::new(alloc))),
+    }
+}
+
+/// The number of 1 to 12 decimal digits.
+fn seconds(text: &str) -> Option<i64>
+    ensures { result ≡ seconds_of text.now }
+{
+    if text.is_empty() || text.len() > 12 || !is_digits(text) {
+        return None;
+    }
+    text.parse::<i64>().ok()
+}
+
+fn is_digits(text: &str) -> bool
+    ensures { result ≡ list_all is_ascii_digit text.now }
+{
+    text.as_bytes().iter().all(|byte| byte.is_ascii_digit())
+}
+
+fn instant<'a>(digits: &str, zone: Option<&'a str>) -> Option<Moment<'a>>
+    ensures { option_map shown_when result ≡ instant_of digits.now (option_copied zone.entry) }
+{
+    let Some(seconds) = seconds(digits) else {
+        return None;
+    };
+    Some(Moment::Instant {
+        seconds,
+        zone: zone.unwrap_or("UTC0"),
+    })
+}
+
+/// The one moment that is given.
+fn moment<'a>(matches: &ArgMatches<'a>) -> Option<Moment<'a>>
+    ensures { option_map shown_when result ≡ when_of (rows_of (found_of matches.now)) }
+{
+    let zone = value(matches, "zone");
+    match (value(matches, "at"), value(matches, "at-unix")) {
+        (Some(text), None) => match zone {
+            Some(_) => None,
+            None => Some(Moment::Civil(text)),
+        },
+        (None, Some(digits)) => instant(digits, zone),
+        (Some(_text), Some(_digits)) => None,
+        (None, None) => None,
+    }
+}
+
+/// The bytes of each text.
+fn copies(alloc: Global, texts: &[&str]) -> Result<Vec<Vec<u8>>, AllocError>
+    ensures { IfOk result (λ v. map (λ t. t.items) v.items ≡ map (λ s. s.now) texts.now) }
+{
+    let mut copies = Vec::new(alloc);
+    for text in texts {
+        copies.push(text.as_bytes().to_vec(alloc)?)?;
+    }
+    Ok(copies)
+}
+
+fn arguments(alloc: Global, matches: &ArgMatches<'_>) -> Result<Vec<Vec<u8>>, AllocError>
+    ensures { IfOk result (λ v. map (λ t. t.items) v.items ≡ texts_of (codes "argument") (rows_of (found_of matches.now))) }
+{
+    match values(matches, "argument") {
+        Some(texts) => copies(alloc, texts),
+        None => Ok(Vec::new(alloc)),
+    }
+}
+
+/// The source and the kind.
+fn stack<'a>(matches: &ArgMatches<'a>) -> Result<(Source<'a>, Kind), Usage>
+    ensures { Gives (λ p. (shown_place p.0, p.1)) (stack_of (rows_of (found_of matches.now))) result }
+{
+    let Some(source) = source(matches) else {
+        return Err(Usage::Source);
+    };
+    let Some(kind) = kind(matches) else {
+        return Err(Usage::KindName);
+    };
+    Ok((source, kind))
+}
+
+fn show<'a>(matches: &ArgMatches<'a>) -> Result<Task<'a>, Usage>
+    ensures { AsksFor (show_wish (rows_of (found_of matches.now))) result }
+{
+    let (source, kind) = stack(matches)?;
+    Ok(Task::Show { source, kind })
+}
+
+fn decide<'a>(alloc: Global, matches: &ArgMatches<'a>) -> Result<Task<'a>, Usage>
+    ensures { AsksFor (decide_wish (rows_of (found_of matches.now))) result }
+{
+    let (source, kind) = stack(matches)?;
+    match codes(alloc, matches) {
+        Ok(Some(codes)) => Ok(Task::Decide {
+            source,
+            kind,
+            codes,
+        }),
+        Ok(None) => Err(Usage::CodeName),
+        Err(_) => Err(Usage::Memory),
+    }
+}
+
+fn access<'a>(alloc: Global, matches: &ArgMatches<'a>) -> Result<Task<'a>, Usage>
+    ensures { AsksFor (access_wish (rows_of (found_of matches.now))) result }
+{
+    match arguments(alloc, matches) {
+        Ok(arguments) => Ok(Task::Access {
+            table: text(matches, "access"),
+            groups: value(matches, "group"),
+            user: text(matches, "user"),
+            rhost: text(matches, "rhost"),
+            tty: text(matches, "tty"),
+            arguments,
+        }),
+        Err(_) => Err(Usage::Memory),
+    }
+}
+
+fn time<'a>(matches: &ArgMatches<'a>) -> Result<Task<'a>, Usage>
+    ensures { AsksFor (time_wish (rows_of (found_of matches.now))) result }
+{
+    let Some(moment) = moment(matches) else {
+        return Err(Usage::Moment);
+    };
+    Ok(Task::Time {
+        table: text(matches, "time"),
+        user: text(matches, "user"),
+        tty: text(matches, "tty"),
+        moment,
+    })
+}
+
+/// What a command asks for, by the values that `clap` found for its words.
+fn read<'a>(alloc: Global, command: &str, matches: &ArgMatches<'a>) -> Result<Request<'a>, Usage>
+    ensures { Answers (asked_of command.now (rows_of (found_of matches.now))) result }
+{
+    let task = if command == "show" {
+        show(matches)?
+    } else if command == "decide" {
+        decide(alloc, matches)?
+    } else if command == "access" {
+        access(alloc, matches)?
+    } else {
+        time(matches)?
+    };
+    Ok(Request {
+        service: text(matches, "service"),
+        task,
+    })
+}
+
+/// The refusal of words that `clap` does not take.
+fn refused(error: Error) -> Usage
+    ensures { IsRefusalOf error result }
+{
+    match error.kind() {
+        ErrorKind::OutOfMemory => Usage::Memory,
+        ErrorKind::DisplayHelp => Usage::Help(error),
+        _ => Usage::Words(error),
+    }
+}
+
+/// What the words ask for; the first word is the program's name.
+pub fn request<'a, S: AsStr>(alloc: Global, words: &'a [S]) -> Result<Request<'a>, Usage>
+    ensures reads { MatchOption (subcommand_of pamcheck_app (map S.text words.entry.now)) (IsRefusal result) (λ p. Reads (asked_of p.0 p.1) result) }
+    ensures taken { takes pamcheck_app (map S.text words.entry.now) ≡ true → IsRead result }
+    ensures refused { RefusesBy (fault_of pamcheck_app (map S.text words.entry.now)) result }
+{
+    let Ok(command) = pamcheck_command(alloc) else {
+        return Err(Usage::Memory);
+    };
+    let matches = match command.try_get_matches_from(words) {
+        Ok(matches) => matches,
+        Err(error) => return Err(refused(error)),
+    };
+    match matches.subcommand() {
+        Some((name, inner)) => read(alloc, name, inner),
+        None => unreachable!(),
+    }
+}

@@ -1,0 +1,50 @@
+//! What a refusal of the words prints and answers.
+
+ghost use Rattle.std.specs.Prelude.{◌≡◌, IfOk, string_bytes};
+ghost use Rattle.pam_words.specs.Usage.{IsNumbered, line_of, name_of, status_of};
+
+use crate::wanted::Usage;
+use std::alloc::{AllocError, Global};
+
+/// The number and the name.
+fn name(usage: &Usage) -> &'static str
+    requires { IsNumbered usage.now }
+    ensures { result.now ≡ name_of usage.now }
+{
+    match usage {
+        Usage::Source => "U2 Source",
+        Usage::KindName => "U3 KindName",
+        Usage::CodeName => "U4 CodeName",
+        Usage::Moment => "U6 Moment",
+        Usage::Memory => "U7 Memory",
+        Usage::Help(_) => unreachable!(),
+        Usage::Words(_) => unreachable!(),
+    }
+}
+
+/// The line of a refusal, with its line feed. `Help` and `Words` have the text of `clap` in its
+/// place.
+pub fn usage_text(alloc: Global, usage: &Usage) -> Result<String, AllocError>
+    requires { IsNumbered usage.now }
+    ensures { IfOk result (λ text. string_bytes text ≡ line_of usage.now) }
+{
+    let mut line = String::from_str(alloc, "pamcheck: ")?;
+    line.push_str(name(usage))?;
+    line.push('\n')?;
+    Ok(line)
+}
+
+/// The exit status.
+pub fn usage_status(usage: &Usage) -> u8
+    ensures { result ≡ status_of usage.now }
+{
+    match usage {
+        Usage::Help(_) => 0,
+        Usage::Words(_) => 2,
+        Usage::Source => 2,
+        Usage::KindName => 2,
+        Usage::CodeName => 2,
+        Usage::Moment => 2,
+        Usage::Memory => 6,
+    }
+}

@@ -1,0 +1,175 @@
+//! The command that `clap` reads the words by.
+
+ghost use Rattle.std.specs.Prelude.{◌≡◌, IfOk, false};
+ghost use Rattle.clap.specs.Words.{app_of, new_app, rule_of};
+ghost use Rattle.clap.specs.declared.builder.Command.TheViews.{out-Command as fields_of};
+ghost use Rattle.pam_words.specs.Words.{access_app, bare_app, decide_app, login_app, option_rule, pamcheck_app, repeated_rule, required_option_rule, required_rule, show_app, stack_app, time_app};
+
+use clap::{Arg, ArgAction, Command};
+use std::alloc::{AllocError, Global};
+
+fn named<'a>(alloc: Global, name: &'a str, about: &'a str) -> Command<'a>
+    ensures app { app_of result ≡ new_app name.entry.now }
+    ensures local { (fields_of result).has_globals ≡ false }
+{
+    Command::new(alloc, name).about(about)
+}
+
+/// A word that must be there.
+fn positional<'a>(alloc: Global, id: &'a str, name: &'a str, help: &'a str) -> Arg<'a>
+    ensures rule { rule_of result ≡ required_rule id.entry.now }
+    ensures local { result.global ≡ false }
+{
+    Arg::new(alloc, id)
+        .value_name(name)
+        .help(help)
+        .required(true)
+}
+
+/// `--ID NAME`.
+fn option<'a>(alloc: Global, id: &'a str, name: &'a str, help: &'a str) -> Arg<'a>
+    ensures rule { rule_of result ≡ option_rule id.entry.now }
+    ensures local { result.global ≡ false }
+{
+    Arg::new(alloc, id).long(id).value_name(name).help(help)
+}
+
+/// `--ID NAME` that must be there.
+fn required_option<'a>(alloc: Global, id: &'a str, name: &'a str, help: &'a str) -> Arg<'a>
+    ensures rule { rule_of result ≡ required_option_rule id.entry.now }
+    ensures local { result.global ≡ false }
+{
+    option(alloc, id, name, help).required(true)
+}
+
+/// Any number of words, before and after the options.
+fn repeated<'a>(alloc: Global, id: &'a str, name: &'a str, help: &'a str) -> Arg<'a>
+    ensures rule { rule_of result ≡ repeated_rule id.entry.now }
+    ensures local { result.global ≡ false }
+{
+    Arg::new(alloc, id)
+        .value_name(name)
+        .help(help)
+        .action(ArgAction::Append)
+}
+
+/// SERVICE, KIND and the source.
+fn stack_command<'a>(
+    alloc: Global,
+    name: &'a str,
+    about: &'a str,
+) -> Result<Command<'a>, AllocError>
+    ensures app { IfOk result (λ c. app_of c ≡ stack_app name.entry.now) }
+    ensures local { IfOk result (λ c. (fields_of c).has_globals ≡ false) }
+{
+    named(alloc, name, about)
+        .arg(positional(alloc, "service", "SERVICE", "The service"))?
+        .arg(positional(alloc, "kind", "KIND", "auth, account, password or session"))?
+        .arg(option(
+            alloc,
+            "dir",
+            "DIR",
+            "The folder with a file for each service",
+        ))?
+        .arg(option(alloc, "conf", "FILE", "The file for all services"))
+}
+
+#[tactic(auto, unfolding(crate::specs::Words::show_app))]
+fn show_command<'a>(alloc: Global) -> Result<Command<'a>, AllocError>
+    ensures app { IfOk result (λ c. app_of c ≡ show_app) }
+    ensures local { IfOk result (λ c. (fields_of c).has_globals ≡ false) }
+{
+    stack_command(alloc, "show", "Shows the modules of a stack")
+}
+
+#[tactic(auto, unfolding(crate::specs::Words::decide_app))]
+fn decide_command<'a>(alloc: Global) -> Result<Command<'a>, AllocError>
+    ensures app { IfOk result (λ c. app_of c ≡ decide_app) }
+    ensures local { IfOk result (λ c. (fields_of c).has_globals ≡ false) }
+{
+    stack_command(alloc, "decide", "Runs a stack with given return codes")?.arg(repeated(
+        alloc,
+        "code",
+        "CODE",
+        "The return code of each module, in turn",
+    ))
+}
+
+/// SERVICE, a user at a terminal, and the table of `--NAME`.
+fn login_command<'a>(
+    alloc: Global,
+    name: &'a str,
+    about: &'a str,
+) -> Result<Command<'a>, AllocError>
+    ensures app { IfOk result (λ c. app_of c ≡ login_app name.entry.now) }
+    ensures local { IfOk result (λ c. (fields_of c).has_globals ≡ false) }
+{
+    named(alloc, name, about)
+        .arg(positional(alloc, "service", "SERVICE", "The service"))?
+        .arg(required_option(alloc, name, "FILE", "The table"))?
+        .arg(required_option(alloc, "user", "NAME", "The user"))?
+        .arg(option(alloc, "tty", "TTY", "The terminal"))
+}
+
+#[tactic(auto, unfolding(crate::specs::Words::access_app))]
+fn access_command<'a>(alloc: Global) -> Result<Command<'a>, AllocError>
+    ensures app { IfOk result (λ c. app_of c ≡ access_app) }
+    ensures local { IfOk result (λ c. (fields_of c).has_globals ≡ false) }
+{
+    login_command(alloc, "access", "Looks a login up in an access table")?
+        .arg(option(alloc, "group", "FILE", "The group file"))?
+        .arg(option(alloc, "rhost", "HOST", "The remote host"))?
+        .arg(repeated(
+            alloc,
+            "argument",
+            "ARGUMENT",
+            "The arguments of pam_access.so",
+        ))
+}
+
+#[tactic(auto, unfolding(crate::specs::Words::time_app))]
+fn time_command<'a>(alloc: Global) -> Result<Command<'a>, AllocError>
+    ensures app { IfOk result (λ c. app_of c ≡ time_app) }
+    ensures local { IfOk result (λ c. (fields_of c).has_globals ≡ false) }
+{
+    login_command(alloc, "time", "Looks a login up in a time table")?
+        .arg(option(alloc, "at", "CIVIL", "The moment, as 2024-05-06T10:00"))?
+        .arg(option(
+            alloc,
+            "at-unix",
+            "SECONDS",
+            "The moment, in seconds since 1970",
+        ))?
+        .arg(option(
+            alloc,
+            "zone",
+            "RULE",
+            "The POSIX zone rule of --at-unix; UTC0 if left out",
+        ))
+}
+
+/// The program, which wants a command.
+#[tactic(auto, unfolding(crate::specs::Words::bare_app))]
+fn bare_command<'a>(alloc: Global) -> Command<'a>
+    ensures app { app_of result ≡ bare_app }
+    ensures local { (fields_of result).has_globals ≡ false }
+{
+    named(alloc, "pamcheck", "Explains what a PAM stack can decide").subcommand_required(true)
+}
+
+/// The whole command: `clap` takes no other words.
+#[tactic(auto, unfolding(crate::specs::Words::pamcheck_app))]
+pub fn pamcheck_command<'a>(alloc: Global) -> Result<Command<'a>, AllocError>
+    ensures app { IfOk result (λ c. app_of c ≡ pamcheck_app) }
+    ensures local { IfOk result (λ c. (fields_of c).has_globals ≡ false) }
+{
+    let show = show_command(alloc)?;
+    let decide = decide_command(alloc)?;
+    let access = access_command(alloc)?;
+    let time = time_command(alloc)?;
+    bare_command(alloc)
+        .subcommand(show)?
+        .subcommand(decide)?
+        .subcommand(access)?
+        .subcommand(time)
+}

@@ -1,0 +1,5 @@
+pub mod Civil
+pub mod FlatTexts
+pub mod ItemTexts
+pub mod ShowTexts
+pub mod TraceSteps

@@ -1,0 +1,3 @@
+mod fault;
+mod running;
+mod writers;
