@@ -105,7 +105,8 @@ fn controls_as_they_are_written(rt: HostRuntime) -> Result<(), Fail> {
         ("[]", "[default=bad]"),
         ("[default=1 conv_again=done]", WRITTEN_ONE_BY_ONE),
     ] {
-        let mut out = Out::new(Vec::new(rt.alloc()));
+        let mut bytes = Vec::new(rt.alloc());
+        let mut out = Out::new(&mut bytes);
         let control = Control::read(text.as_bytes());
         assert_eq!(rt; out.failures(), 0);
         assert_eq!(rt;
@@ -113,7 +114,7 @@ fn controls_as_they_are_written(rt: HostRuntime) -> Result<(), Fail> {
             Ok(Ok(())),
             "{text}"
         );
-        assert_eq!(rt; out.inner().as_slice(), written.as_bytes(), "{text}");
+        assert_eq!(rt; bytes.as_slice(), written.as_bytes(), "{text}");
     }
     Ok(())
 }
