@@ -1,9 +1,10 @@
 #!/usr/bin/env python3
-"""Measures the built program: python3 benches/run.py PROGRAM [--only WORD] [--runs N]
+"""Measures the built program: python3 benches/run.py PROGRAM [--decisions PROGRAM] [--only WORD] [--runs N]
 
 For each case the inputs are made anew in a temporary folder, the program is run once to warm up and then N times, and
 the least and the median wall time and the peak memory are printed, with the same for an input twice as large where
-growth is of interest. Python's standard library is all that it needs.
+growth is of interest. It needs Python's standard library and, for peak memory, /usr/bin/time. With --decisions it also
+runs that program, which decides one stack many times by the library alone.
 """
 import argparse
 import os
@@ -53,6 +54,29 @@ def sized(line):
     return [pam_d(login=STACK + repeated(line, size - len(STACK))) for size in (MIB // 2, MIB)]
 
 
+def access_tables(size):
+    """Networks, lists with EXCEPT and groups, and a last line that grants; none of the others matches."""
+    def make(folder):
+        line = 0
+        table = bytearray()
+        while len(table) < size - 64:
+            line += 1
+            table += b"-:(group%d) EXCEPT bob EXCEPT user%d:10.%d.%d.0/24 2001:db8:%x::/48\n" % (
+                line % 5000, line, line // 256 % 256, line % 256, line % 65536)
+        put(folder, "access", bytes(table) + b"+:ALL:ALL\n")
+        groups = bytearray()
+        while len(groups) < size - 256:
+            groups += b"group%d:x:%d:" % (len(groups) // 180, len(groups)) + b",".join(b"member%d" % n for n in range(18)) + b"\n"
+        put(folder, "group", bytes(groups))
+    return make
+
+
+def time_tables(size):
+    def make(folder):
+        put(folder, "time", repeated(b"login&!ftp;tty*;!root|bob;Al0000-2400|Wk1800-0800\n", size))
+    return make
+
+
 CASES = [
     # name, words, the makers of inputs (the last one is the stated case)
     ("start-up: one decide of two lines", ["decide", "login", "auth", "success", "auth_err", "--dir", "d"],
@@ -64,28 +88,44 @@ CASES = [
     ("a folder of 200 files", ["show", "service7", "auth", "--dir", "d"], [folder_of(100), folder_of(200)]),
     ("256 includes of a 60 kB file", ["show", "login", "auth", "--dir", "d"],
      [pam_d(login=b"auth include big\n" * count + STACK, big=repeated(b"session required pam_x.so debug\n", 60000)) for count in (128, 256)]),
+    ("an access table and a group file of 1 MiB each", ["access", "login", "--access", "access", "--group", "group", "--user", "alice", "--rhost", "10.1.2.3"],
+     [access_tables(MIB // 2), access_tables(MIB)]),
+    ("a time table of 1 MiB", ["time", "login", "--time", "time", "--user", "alice", "--tty", "tty1", "--at", "2024-05-06T10:00"],
+     [time_tables(MIB // 2), time_tables(MIB)]),
 ]
+
+
+def run(command, folder):
+    done = subprocess.run(command, cwd=folder, stdin=subprocess.DEVNULL, stdout=subprocess.DEVNULL, stderr=subprocess.PIPE)
+    if done.returncode not in (0, 1):
+        raise SystemExit("%s: status %d: %s" % (" ".join(command), done.returncode, done.stderr.decode()))
+    return done.stderr
 
 
 def measure(program, words, folder, runs):
     times = []
-    peak = 0
     for _ in range(runs + 1):
         begin = time.perf_counter()
-        child = subprocess.Popen([program] + words, cwd=folder, stdin=subprocess.DEVNULL, stdout=subprocess.DEVNULL, stderr=subprocess.PIPE)
-        error = child.stderr.read()
-        _, status, usage = os.wait4(child.pid, 0)
+        run([program] + words, folder)
         times.append(time.perf_counter() - begin)
-        peak = max(peak, usage.ru_maxrss)
-        code = os.waitstatus_to_exitcode(status)
-        if code not in (0, 1):
-            raise SystemExit("%s: status %d: %s" % (" ".join(words), code, error.decode()))
+    peak = int(run(["/usr/bin/time", "-q", "-f", "%M", program] + words, folder).split()[-1])
     return min(times[1:]), statistics.median(times[1:]), peak
+
+
+def measure_decisions(program):
+    for modules in (10, 64):
+        times = []
+        for _ in range(5):
+            begin = time.perf_counter()
+            subprocess.run([program, str(modules), "1000000"], stdout=subprocess.DEVNULL, check=True)
+            times.append(time.perf_counter() - begin)
+        print("decisions of %d modules: %.1f million a second" % (modules, 1 / min(times)))
 
 
 def main():
     parser = argparse.ArgumentParser()
     parser.add_argument("program")
+    parser.add_argument("--decisions")
     parser.add_argument("--only", default="")
     parser.add_argument("--runs", type=int, default=20)
     args = parser.parse_args()
@@ -103,6 +143,8 @@ def main():
         least, median, peak = rows[-1]
         half = "%.1f ms" % (rows[0][0] * 1000) if len(rows) > 1 else "-"
         print("| %s | %.1f ms | %.1f ms | %.1f MB | %s |" % (name, least * 1000, median * 1000, peak / 1000, half))
+    if args.decisions:
+        measure_decisions(os.path.abspath(args.decisions))
 
 
 if __name__ == "__main__":

@@ -2,6 +2,7 @@ use Rattle.std.proofs.Common.{◌≡◌, ◌+◌, ◌++◌, ◌&&◌, ◌⊎◌,
 use Rattle.std.specs.List.{onto_first}
 use Rattle.std.proofs.lemmas.Bool.{eqb-true}
 use Rattle.pam_codes.specs.Text.{Mark, marked, uncommented, joined, text_of, lines_of, first_line, first_marks, behind_line}
+use Rattle.pam_codes.proofs.TextLines.{HeadIs, head_is, bytes_of_marks, shorter, split_first}
 use Rattle.pam_conf.specs.Words.{words_in, words_or_fault}
 use Rattle.pam_conf.specs.Rule.{RuleText, rule_of, ◌>>=◌}
 use Rattle.pam_conf.specs.Lines.{line_rule_of, rule_at, at_line, rules_in, onto_rules, fault_at}
@@ -10,41 +11,6 @@ use Rattle.pam_conf.specs.declared.error.FaultKind.{FaultKind}
 use Rattle.pam_conf.specs.declared.error.FaultKind.TheVariants as faults
 use Rattle.pam_conf.specs.declared.error.RuleFault.{RuleFault}
 use Rattle.pam_conf.specs.declared.rule.Form.{Form}
-
--- the first byte, if there is one, is of this line
-unfoldable pub HeadIs : ℕ → List Mark → Type 0
-HeadIs l [] = Unit {0}
-HeadIs l (m ∷ ms) = m.0 ≡ l
-
-head_in_comment : (l : ℕ) (bs : List ℕ) → HeadIs l (uncommented true (marked l bs))
-unfolding HeadIs marked uncommented
-head_in_comment l [] = tt
-head_in_comment l (b ∷ bs) = elim (eqb b 10) as (λ (t : Bool). HeadIs l (cond t ((l, b) ∷ uncommented false (marked (cond t (l + 1) l) bs)) (uncommented true (marked (cond t (l + 1) l) bs)))) [ true ↦ refl | false ↦ head_in_comment l bs ]
-
-head_of_rest : (l : ℕ) (bs : List ℕ) → HeadIs l (uncommented false (marked l bs))
-unfolding HeadIs marked uncommented
-head_of_rest l [] = tt
-head_of_rest l (b ∷ bs) = elim (eqb b 35) as (λ (t : Bool). eqb b 35 ≡ t → HeadIs l (cond t (uncommented true (marked (cond (eqb b 10) (l + 1) l) bs)) ((l, b) ∷ uncommented false (marked (cond (eqb b 10) (l + 1) l) bs)))) [
-  | true ↦ λ e. let is : b ≡ 35 = eqb-true b 35 e in rw is (head_in_comment l bs)
-  | false ↦ λ e. refl
-] refl
-
-head_joined : (l : ℕ) (ms : List Mark) → HeadIs l ms → HeadIs l (joined ms)
-unfolding HeadIs joined
-head_joined l [] h = tt
-head_joined l (m ∷ []) h = h
-head_joined l (m ∷ n ∷ ms) h = elim (eqb m.1 92 && eqb n.1 10) as (λ (t : Bool). HeadIs l (cond t ((m.0, 32) ∷ joined ms) (m ∷ joined (n ∷ ms)))) [ true ↦ h | false ↦ h ]
-
-pub head_is : (l : ℕ) (bs : List ℕ) → HeadIs l (text_of l bs)
-head_is l bs = head_joined l _ (head_of_rest l bs)
-
-pub bytes_of_marks : (ms : List Mark) → map (λ m. m.1) (first_marks ms) ≡ first_line ms
-bytes_of_marks [] = refl
-bytes_of_marks (m ∷ ms) = elim (eqb m.1 10) as (λ (t : Bool). map (λ m. m.1) (cond t [] (m ∷ first_marks ms)) ≡ cond t [] (m.1 ∷ first_line ms)) [ true ↦ refl | false ↦ ap (λ bs. m.1 ∷ bs) (bytes_of_marks ms) ]
-
-no_longer : (ms : List Mark) → length (behind_line ms) ≤ length ms
-no_longer [] = omega arith
-no_longer (m ∷ ms) = elim (eqb m.1 10) as (λ (t : Bool). length (cond t ms (behind_line ms)) ≤ length (m ∷ ms)) [ true ↦ omega arith | false ↦ let k : length (behind_line ms) ≤ length ms = no_longer ms in omega arith ]
 
 -- what a line gives, by its number and its bytes
 pub rule_at_line : (form : Form) (l : ℕ) (ms : List Mark) → HeadIs l ms → rule_at form (first_marks ms) ≡ at_line l (line_rule_of form l (first_line ms))
@@ -78,14 +44,6 @@ onto_none : (r : Result (Option RuleText) RuleFault) → onto_rules r (Ok []) �
 onto_none (Ok None) = refl
 onto_none (Ok (Some x)) = refl
 onto_none (Err f) = refl
-
--- the lines of a text are its first, and those behind it, if a line feed ends it
-split_first : (ms : List Mark) → (lines_of ms ≡ first_marks ms ∷ lines_of (behind_line ms)) ⊎ ((lines_of ms ≡ first_marks ms ∷ []) × (behind_line ms ≡ []))
-split_first [] = inr (refl, refl)
-split_first (m ∷ ms) = elim (eqb m.1 10) as (λ (t : Bool). (cond t ([] ∷ lines_of ms) (onto_first m (lines_of ms)) ≡ cond t [] (m ∷ first_marks ms) ∷ lines_of (cond t ms (behind_line ms))) ⊎ ((cond t ([] ∷ lines_of ms) (onto_first m (lines_of ms)) ≡ cond t [] (m ∷ first_marks ms) ∷ []) × (cond t ms (behind_line ms) ≡ []))) [
-  | true ↦ inl refl
-  | false ↦ ⊎_elim (λ e. inl (ap (onto_first m) e)) (λ p. inr (ap (onto_first m) p.0, p.1)) (split_first ms)
-]
 
 empty_line : (form : Form) → rule_at form [] ≡ Ok None
 unfolding line_rule_of words_in rule_of
@@ -128,11 +86,6 @@ one_more front x (Err f) = refl
 
 pub step_rule : (form : Form) (ms ts : List Mark) (front : List RuleText) (x : RuleText) → rule_at form (first_marks ms) ≡ Ok (Some x) → ts ≡ behind_line ms → with_rules (front ++ x ∷ []) (rules_in form (lines_of ts)) ≡ with_rules front (rules_in form (lines_of ms))
 step_rule form ms ts front x h e = ap (λ (us : List Mark). with_rules (front ++ x ∷ []) (rules_in form (lines_of us))) e ∙ one_more front x _ ∙ sym (ap (with_rules front) (rules_step form ms ∙ ap (λ r. onto_rules r (rules_in form (lines_of (behind_line ms)))) h))
-
--- a line of a text that is not empty makes it shorter
-pub shorter : (ms : List Mark) → (ms ≡ [] → ⊥) → length (behind_line ms) < length ms
-shorter [] n = absurd (n refl)
-shorter (m ∷ ms) n = elim (eqb m.1 10) as (λ (t : Bool). length (cond t ms (behind_line ms)) < length (m ∷ ms)) [ true ↦ omega arith | false ↦ let k : length (behind_line ms) ≤ length ms = no_longer ms in omega arith ]
 
 -- what fails a line fails the file
 pub fails_on : (fault : RuleFault) (kind : FaultKind) (r : Result (Option RuleText) RuleFault) (s : Result (List RuleText) RuleFault) → (r ≡ Err fault → s ≡ Err fault) → FailsAs fault kind r → FailsAs fault kind s

@@ -5,8 +5,8 @@ use Rattle.std.specs.List.{list_all}
 use Rattle.std.specs.Str.{bytes_eq}
 use Rattle.std.specs.Str.Parse.{digits_value}
 use Rattle.pam_codes.specs.Code.{code_names, same_name}
+use Rattle.pam_conf.specs.Rule.{kind_named}
 use Rattle.pam_conf.specs.declared.Kind.{Kind}
-use Rattle.pam_conf.specs.declared.Kind.TheVariants.{Auth, Account, Password, Session}
 use Rattle.clap.specs.Words.{Row, Text, all_of, first_of}
 
 pub data Place : Type 0 where
@@ -67,14 +67,6 @@ one_place None None = None
 
 abbrev pub place_of : List Row → Option Place
 place_of rows = one_place (first_of (codes "dir") rows) (first_of (codes "conf") rows)
-
-abbrev pub kind_named : Text → Option Kind
-kind_named name =
-    if same_name name (codes "auth") then Some Auth
-    else if same_name name (codes "account") then Some Account
-    else if same_name name (codes "password") then Some Password
-    else if same_name name (codes "session") then Some Session
-    else None
 
 abbrev pub kind_of_rows : List Row → Option Kind
 kind_of_rows rows = kind_named (text_of (codes "kind") rows)

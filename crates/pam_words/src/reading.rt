@@ -5,7 +5,7 @@ ghost use Rattle.std.specs.Char.{is_ascii_digit};
 ghost use Rattle.std.specs.List.{list_all};
 ghost use Rattle.std.specs.Option.{option_copied};
 ghost use Rattle.clap.specs.Words.{found_of, rows_of, first_of, all_of, takes, fault_of, subcommand_of};
-ghost use Rattle.pam_words.specs.Asked.{access_wish, asked_of, code_named as code_of_name, codes_named as codes_of_names, codes_of_rows, decide_wish, instant_of, kind_named as kind_of_name, kind_of_rows, place_of, seconds_of, show_wish, stack_of, text_of, texts_of, time_wish, when_of};
+ghost use Rattle.pam_words.specs.Asked.{access_wish, asked_of, code_named as code_of_name, codes_named as codes_of_names, codes_of_rows, decide_wish, instant_of, kind_of_rows, place_of, seconds_of, show_wish, stack_of, text_of, texts_of, time_wish, when_of};
 ghost use Rattle.pam_words.specs.Wanted.{Answers, AsksFor, Gives, IsRead, IsRefusal, IsRefusalOf, Reads, RefusesBy, shown_place, shown_when};
 ghost use Rattle.pam_words.specs.Words.{pamcheck_app};
 
@@ -13,7 +13,7 @@ use crate::wanted::{Moment, Request, Source, Task, Usage};
 use crate::words::pamcheck_command;
 use clap::error::ErrorKind;
 use clap::{ArgMatches, Error};
-use pam_codes::{Code, is_name};
+use pam_codes::Code;
 use pam_conf::Kind;
 use std::alloc::{AllocError, Global};
 use std::convert::AsStr;
@@ -51,26 +51,10 @@ fn source<'a>(matches: &ArgMatches<'a>) -> Option<Source<'a>>
     }
 }
 
-fn kind_named(name: &str) -> Option<Kind>
-    ensures { result ≡ kind_of_name name.now }
-{
-    if is_name(name.as_bytes(), b"auth") {
-        Some(Kind::Auth)
-    } else if is_name(name.as_bytes(), b"account") {
-        Some(Kind::Account)
-    } else if is_name(name.as_bytes(), b"password") {
-        Some(Kind::Password)
-    } else if is_name(name.as_bytes(), b"session") {
-        Some(Kind::Session)
-    } else {
-        None
-    }
-}
-
 fn kind(matches: &ArgMatches<'_>) -> Option<Kind>
     ensures { result ≡ kind_of_rows (rows_of (found_of matches.now)) }
 {
-    kind_named(text(matches, "kind"))
+    Kind::from_name(text(matches, "kind").as_bytes())
 }
 
 #[tactic(auto, unfolding(crate::specs::Asked::code_named))]

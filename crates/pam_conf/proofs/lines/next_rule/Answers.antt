@@ -1,7 +1,8 @@
 use Rattle.std.proofs.Common.{◌∙◌, ap}
 use Rattle.pam_codes.specs.Text.{text_of}
 use Rattle.pam_conf.specs.Lines.{at_line}
-use Rattle.pam_conf.proofs.LineSteps.{head_is, numbered_fault, rule_at_line}
+use Rattle.pam_codes.proofs.TextLines.{head_is}
+use Rattle.pam_conf.proofs.LineSteps.{numbered_fault, rule_at_line}
 use Rattle.pam_conf.proofs.lines.next_rule.Goals as goal
 
 pub returns-in-Ok-clause-rule : goal.returns-in-Ok-clause-rule

@@ -3,7 +3,8 @@ use Rattle.std.proofs.lemmas.Bool.{false≢true}
 use Rattle.std.proofs.lemmas.List.{map-append}
 use Rattle.std.proofs.lemmas.Result.{err_from_is_err_and}
 use Rattle.pam_codes.specs.Text.{text_of}
-use Rattle.pam_conf.proofs.LineSteps.{no_rules, all_read, step_fault, step_nothing, step_rule, shorter, fails_on}
+use Rattle.pam_codes.proofs.TextLines.{shorter}
+use Rattle.pam_conf.proofs.LineSteps.{no_rules, all_read, step_fault, step_nothing, step_rule, fails_on}
 use Rattle.pam_conf.proofs.lines.text_rules.Goals as goal
 
 pub loop-text-init : goal.loop-text-init
