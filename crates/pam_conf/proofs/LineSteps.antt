@@ -1,16 +1,16 @@
-use Rattle.std.proofs.Common.{◌≡◌, ◌+◌, ◌++◌, ◌&&◌, ◌⊎◌, ◌<◌, ◌≤◌, inl, inr, ⊎_elim, length, append-nil, append_assoc, arith, ℕ, Bool, true, false, List, [], ◌∷◌, map, cond, eqb, ap, ◌∙◌, sym, refl, Option, Some, None, Result, Ok, Err}
-use Rattle.std.specs.List.{onto_first}
-use Rattle.std.proofs.lemmas.Bool.{eqb-true}
-use Rattle.pam_codes.specs.Text.{Mark, marked, uncommented, joined, text_of, lines_of, first_line, first_marks, behind_line}
-use Rattle.pam_codes.proofs.TextLines.{HeadIs, head_is, bytes_of_marks, shorter, split_first}
+use Rattle.std.proofs.Common.{◌≡◌, ◌++◌, ⊎_elim, append-nil, append_assoc, ℕ, Bool, true, false, List, [], ◌∷◌, cond, eqb, filter, ap, ◌∙◌, sym, refl, Option, Some, None, Result, Ok, Err}
+use Rattle.pam_codes.specs.Text.{Mark, lines_of, first_line, first_marks, behind_line}
+use Rattle.pam_codes.proofs.TextLines.{HeadIs, bytes_of_marks, split_first}
 use Rattle.pam_conf.specs.Words.{words_in, words_or_fault}
 use Rattle.pam_conf.specs.Rule.{RuleText, rule_of, ◌>>=◌}
 use Rattle.pam_conf.specs.Lines.{line_rule_of, rule_at, at_line, rules_in, onto_rules, fault_at}
+use Rattle.pam_conf.specs.Wanted.{wants, only_wanted}
 use Rattle.pam_conf.specs.Gives.{FailsAs, FailsKind}
 use Rattle.pam_conf.specs.declared.error.FaultKind.{FaultKind}
 use Rattle.pam_conf.specs.declared.error.FaultKind.TheVariants as faults
 use Rattle.pam_conf.specs.declared.error.RuleFault.{RuleFault}
 use Rattle.pam_conf.specs.declared.rule.Form.{Form}
+use Rattle.pam_conf.specs.declared.rule.Kind.{Kind}
 
 -- what a line gives, by its number and its bytes
 pub rule_at_line : (form : Form) (l : ℕ) (ms : List Mark) → HeadIs l ms → rule_at form (first_marks ms) ≡ at_line l (line_rule_of form l (first_line ms))
@@ -68,24 +68,54 @@ unfolding with_rules
 no_rules (Ok x) = refl
 no_rules (Err f) = refl
 
-pub all_read : (form : Form) (ms : List Mark) (front : List RuleText) → ms ≡ [] → with_rules front (rules_in form (lines_of ms)) ≡ Ok front
-unfolding with_rules rules_in line_rule_of words_in rule_of
-all_read form ms front e = ap (λ (ts : List Mark). with_rules front (rules_in form (lines_of ts))) e ∙ ap Ok (append-nil front)
+-- the wanted ones among rules that were read, or the first fault
+abbrev pub sifted : Option Kind → Result (List RuleText) RuleFault → Result (List RuleText) RuleFault
+sifted wanted (Ok rules) = Ok (filter (wants wanted) rules)
+sifted wanted (Err f) = Err f
 
-pub step_fault : (form : Form) (ms : List Mark) (front : List RuleText) (f : RuleFault) → rule_at form (first_marks ms) ≡ Err f → with_rules front (rules_in form (lines_of ms)) ≡ Err f
-unfolding with_rules
-step_fault form ms front f h = ap (with_rules front) (rules_step form ms ∙ ap (λ r. onto_rules r (rules_in form (lines_of (behind_line ms)))) h)
+each_wanted : (rules : List RuleText) → filter (wants None) rules ≡ rules
+each_wanted [] = refl
+each_wanted (x ∷ rules) = ap (λ xs. x ∷ xs) (each_wanted rules)
 
-pub step_nothing : (form : Form) (ms ts : List Mark) (front : List RuleText) → rule_at form (first_marks ms) ≡ Ok None → ts ≡ behind_line ms → with_rules front (rules_in form (lines_of ts)) ≡ with_rules front (rules_in form (lines_of ms))
-step_nothing form ms ts front h e = ap (λ (us : List Mark). with_rules front (rules_in form (lines_of us))) e ∙ sym (ap (with_rules front) (rules_step form ms ∙ ap (λ r. onto_rules r (rules_in form (lines_of (behind_line ms)))) h))
+pub sifted_wanted : (wanted : Option Kind) (r : Result (List RuleText) RuleFault) → sifted wanted r ≡ only_wanted wanted r
+sifted_wanted None (Ok rules) = ap Ok (each_wanted rules)
+sifted_wanted None (Err f) = refl
+sifted_wanted (Some kind) (Ok rules) = refl
+sifted_wanted (Some kind) (Err f) = refl
 
-one_more : (front : List RuleText) (x : RuleText) (r : Result (List RuleText) RuleFault) → with_rules (front ++ x ∷ []) r ≡ with_rules front (onto_rules (Ok (Some x)) r)
-unfolding with_rules
-one_more front x (Ok xs) = ap Ok (append_assoc front (x ∷ []) xs)
-one_more front x (Err f) = refl
+module _ (wanted : Option Kind) (form : Form) (front : List RuleText) where
+  -- the wanted rules of a text, behind those that were read before
+  abbrev pub read_on : Result (List RuleText) RuleFault → Result (List RuleText) RuleFault
+  read_on r = with_rules front (sifted wanted r)
 
-pub step_rule : (form : Form) (ms ts : List Mark) (front : List RuleText) (x : RuleText) → rule_at form (first_marks ms) ≡ Ok (Some x) → ts ≡ behind_line ms → with_rules (front ++ x ∷ []) (rules_in form (lines_of ts)) ≡ with_rules front (rules_in form (lines_of ms))
-step_rule form ms ts front x h e = ap (λ (us : List Mark). with_rules (front ++ x ∷ []) (rules_in form (lines_of us))) e ∙ one_more front x _ ∙ sym (ap (with_rules front) (rules_step form ms ∙ ap (λ r. onto_rules r (rules_in form (lines_of (behind_line ms)))) h))
+  pub all_read : (ms : List Mark) → ms ≡ [] → read_on (rules_in form (lines_of ms)) ≡ Ok front
+  unfolding with_rules rules_in line_rule_of words_in rule_of
+  all_read ms e = ap (λ (ts : List Mark). read_on (rules_in form (lines_of ts))) e ∙ ap Ok (append-nil front)
+
+  -- what a text gives, where its first line is read
+  first_read : (ms : List Mark) (r : Result (Option RuleText) RuleFault) → rule_at form (first_marks ms) ≡ r → read_on (rules_in form (lines_of ms)) ≡ read_on (onto_rules r (rules_in form (lines_of (behind_line ms))))
+  first_read ms r h = ap read_on (rules_step form ms ∙ ap (λ s. onto_rules s (rules_in form (lines_of (behind_line ms)))) h)
+
+  pub step_fault : (ms : List Mark) (f : RuleFault) → rule_at form (first_marks ms) ≡ Err f → read_on (rules_in form (lines_of ms)) ≡ Err f
+  unfolding with_rules
+  step_fault ms f h = first_read ms (Err f) h
+
+  pub step_nothing : (ms ts : List Mark) → rule_at form (first_marks ms) ≡ Ok None → ts ≡ behind_line ms → read_on (rules_in form (lines_of ts)) ≡ read_on (rules_in form (lines_of ms))
+  step_nothing ms ts h e = ap (λ (us : List Mark). read_on (rules_in form (lines_of us))) e ∙ sym (first_read ms (Ok None) h)
+
+  filtered_apart : (x : RuleText) (xs : List RuleText) → (front ++ filter (wants wanted) (x ∷ [])) ++ filter (wants wanted) xs ≡ front ++ filter (wants wanted) (x ∷ xs)
+  filtered_apart x xs = elim (wants wanted x) as (λ (t : Bool). (front ++ cond t (x ∷ []) []) ++ filter (wants wanted) xs ≡ front ++ cond t (x ∷ filter (wants wanted) xs) (filter (wants wanted) xs)) [
+    | true ↦ append_assoc front (x ∷ []) (filter (wants wanted) xs)
+    | false ↦ ap (λ ys. ys ++ filter (wants wanted) xs) (append-nil front)
+  ]
+
+  one_more : (x : RuleText) (r : Result (List RuleText) RuleFault) → with_rules (front ++ filter (wants wanted) (x ∷ [])) (sifted wanted r) ≡ read_on (onto_rules (Ok (Some x)) r)
+  unfolding with_rules
+  one_more x (Ok xs) = ap Ok (filtered_apart x xs)
+  one_more x (Err f) = refl
+
+  pub step_rule : (ms ts : List Mark) (x : RuleText) → rule_at form (first_marks ms) ≡ Ok (Some x) → ts ≡ behind_line ms → with_rules (front ++ filter (wants wanted) (x ∷ [])) (sifted wanted (rules_in form (lines_of ts))) ≡ read_on (rules_in form (lines_of ms))
+  step_rule ms ts x h e = ap (λ (us : List Mark). with_rules (front ++ filter (wants wanted) (x ∷ [])) (sifted wanted (rules_in form (lines_of us)))) e ∙ one_more x _ ∙ sym (first_read ms (Ok (Some x)) h)
 
 -- what fails a line fails the file
 pub fails_on : (fault : RuleFault) (kind : FaultKind) (r : Result (Option RuleText) RuleFault) (s : Result (List RuleText) RuleFault) → (r ≡ Err fault → s ≡ Err fault) → FailsAs fault kind r → FailsAs fault kind s

@@ -1,4 +1,4 @@
-use Rattle.std.proofs.Common.{◌≡◌, ◌≤◌, ◌<◌, get_or, take, drop, length, ◌&&◌, ◌++◌, ℕ, Bool, true, false, not, List, [], ◌∷◌, Option, Some, None, cond, eqb, ap, ◌∙◌, sym, refl, arith, append_assoc, append-nil}
+use Rattle.std.proofs.Common.{◌≡◌, ◌≤◌, ◌<◌, get_or, take, drop, length, ◌&&◌, ◌++◌, ℕ, Bool, true, false, not, List, [], ◌∷◌, Option, Some, None, Result, Ok, Err, OnOk, cond, eqb, ap, ◌∙◌, sym, refl, arith, append_assoc, append-nil}
 use Rattle.std.specs.Option.{option_map}
 use Rattle.std.specs.List.{onto_first}
 use Rattle.std.proofs.lemmas.Bool.{eqb-true, false≢true}
@@ -63,6 +63,11 @@ stays b false h = elim (eqb b 93) as (λ (t : Bool). eqb b 93 ≡ t → (t && tr
 
 pub bracket_more : (d : List (List ℕ)) (w v : List ℕ) (b : ℕ) (e : Bool) (rest : List ℕ) → (b ≡ 93 → e ≡ true) → v ≡ w ++ b ∷ [] → option_map (λ ws. d ++ glued v ws) (words_in (Bracket (eqb b 92)) rest) ≡ option_map (λ ws. d ++ glued w ws) (words_in (Bracket e) (b ∷ rest))
 bracket_more d w v b e rest h k = rw (bracket b e false rest (stays b e h), k) (chained (λ ws. d ++ glued (w ++ b ∷ []) ws) (λ ws. d ++ glued w ws) (onto_first b) (λ ws. ap (λ xs. d ++ xs) (glued-onto w b ws)) (words_in (Bracket (eqb b 92)) rest))
+
+-- what follows from two facts that a success shows
+pub on_ok_both : {X E : Type 0} (r : Result X E) (A B C : Type 0) → OnOk r A → OnOk r B → (A → B → C) → OnOk r C
+on_ok_both (Ok x) A B C a b f = f a b
+on_ok_both (Err e) A B C a b f = tt
 
 -- at the end of the line
 pub ends_between : (d : List (List ℕ)) → option_map (λ ws. d ++ ws) (words_in Between []) ≡ Some d

@@ -12,4 +12,5 @@ pub mod StackCode
 pub mod StartOf
 pub mod SubFalls
 pub mod Walk
+pub mod Wanted
 pub mod Words

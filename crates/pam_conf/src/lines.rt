@@ -1,4 +1,4 @@
-ghost use Rattle.std.specs.Prelude.{◌≡◌, ◌==◌, ◌<◌, ◌≤◌, ◌^◌, length, map, position, count_by};
+ghost use Rattle.std.specs.Prelude.{◌≡◌, ◌==◌, ◌<◌, ◌≤◌, ◌^◌, ◌∷◌, ◌++◌, [], filter, length, map, position, count_by};
 ghost use Rattle.std.specs.Prelude.{OnOk, IfSome};
 ghost use Rattle.std.specs.Option.{option_map};
 ghost use Rattle.pam_codes.specs.Text.{text_of, lines_of, first_line, first_marks, behind_line};
@@ -6,21 +6,34 @@ ghost use Rattle.pam_conf.specs.Gives.{Gives, GivesKind};
 ghost use Rattle.pam_conf.specs.Lines.{text_left, line_rule_of, rule_at, rules_in, rules_of};
 ghost use Rattle.pam_conf.specs.Lines.{fault_at as fault_at_line, nul_line as nul_line_of};
 ghost use Rattle.pam_conf.specs.Rule.{rule_view};
+ghost use Rattle.pam_conf.specs.Wanted.{only_wanted, wants};
 
 use crate::error::{FaultKind, RuleFault};
-use crate::rule::{Form, Rule, line_rule};
-use crate::words::line_words;
+use crate::rule::{Form, Kind, Rule, is_wanted, line_rule};
+use crate::words::LineReader;
 use pam_codes::Text;
-use std::alloc::Global;
+use std::alloc::{AllocFailed, Global};
 
 /// The longest file that is read, in bytes.
 const LONGEST: usize = 1_048_576;
 
 /// The rules of a file in the order of its lines, or its first fault: pam.conf(5).
 /// E16 comes before E1, and E1 before a fault of a line. Want of memory has line 0.
-#[tactic(auto, unfolding(crate::specs::Lines::rules_of))]
 pub fn rules(alloc: Global, bytes: &[u8], form: Form) -> Result<Vec<Rule>, RuleFault>
     ensures { Gives (λ rules. map rule_view rules.items) result (rules_of form bytes.now) }
+{
+    wanted_rules(alloc, bytes, form, None)
+}
+
+/// Of these rules those that are wanted. A fault of another rule is one all the same.
+#[tactic(auto, unfolding(crate::specs::Lines::rules_of))]
+pub(crate) fn wanted_rules(
+    alloc: Global,
+    bytes: &[u8],
+    form: Form,
+    wanted: Option<Kind>,
+) -> Result<Vec<Rule>, RuleFault>
+    ensures { Gives (λ rules. map rule_view rules.items) result (only_wanted wanted (rules_of form bytes.now)) }
 {
     if bytes.len() > LONGEST {
         return Err(RuleFault {
@@ -34,7 +47,7 @@ pub fn rules(alloc: Global, bytes: &[u8], form: Form) -> Result<Vec<Rule>, RuleF
             line,
         });
     }
-    text_rules(alloc, form, bytes)
+    text_rules(alloc, form, bytes, wanted)
 }
 
 fn nul_place(bytes: &[u8]) -> Option<usize>
@@ -61,43 +74,70 @@ fn nul_line(bytes: &[u8]) -> Option<usize>
     }
 }
 
-/// The rules of all lines.
-fn text_rules(alloc: Global, form: Form, bytes: &[u8]) -> Result<Vec<Rule>, RuleFault>
+/// The rules of all lines that are wanted.
+fn text_rules(
+    alloc: Global,
+    form: Form,
+    bytes: &[u8],
+    wanted: Option<Kind>,
+) -> Result<Vec<Rule>, RuleFault>
     requires { length bytes.now < 2 ^ 32 }
     ensures { Gives (λ rules. map rule_view rules.items) result
-        (rules_in form (lines_of (text_of 1 bytes.now))) }
+        (only_wanted wanted (rules_in form (lines_of (text_of 1 bytes.now)))) }
 {
     let mut text = Text::of(bytes);
+    let mut reader = LineReader::new(alloc);
     let mut rules = Vec::new(alloc);
     while !text.is_done() {
-        if let Some(rule) = next_rule(alloc, form, &mut text)? {
-            rules.push(rule)?;
+        if let Some(rule) = next_rule(alloc, form, &mut reader, &mut text)? {
+            keep(&mut rules, rule, wanted)?;
         }
     }
     Ok(rules)
 }
 
+/// Puts a rule behind the others if it is wanted.
+fn keep(rules: &mut Vec<Rule>, rule: Rule, wanted: Option<Kind>) -> Result<(), AllocFailed<Rule>>
+    ensures { OnOk result (map rule_view rules.new.items
+        ≡ map rule_view rules.old.items ++ filter (wants wanted) (rule_view rule ∷ [])) }
+{
+    if !is_wanted(&rule, wanted) {
+        return Ok(());
+    }
+    rules.push(rule)
+}
+
 /// The rule of the text's first line, if that line has one. The text goes on behind it.
-fn next_rule(alloc: Global, form: Form, text: &mut Text) -> Result<Option<Rule>, RuleFault>
+fn next_rule(
+    alloc: Global,
+    form: Form,
+    reader: &mut LineReader,
+    text: &mut Text,
+) -> Result<Option<Rule>, RuleFault>
     ensures rule { Gives (option_map rule_view) result (rule_at form (first_marks (text_left text.old))) }
     ensures rest { OnOk result (text_left text.new ≡ behind_line (text_left text.old)) }
 {
     let line = text.line();
-    match read_line(alloc, form, text) {
+    match read_line(alloc, form, reader, text) {
         Ok(rule) => Ok(rule),
         Err(kind) => Err(fault_at(line, kind)),
     }
 }
 
 /// The same with a fault of no line yet.
-fn read_line(alloc: Global, form: Form, text: &mut Text) -> Result<Option<Rule>, FaultKind>
+fn read_line(
+    alloc: Global,
+    form: Form,
+    reader: &mut LineReader,
+    text: &mut Text,
+) -> Result<Option<Rule>, FaultKind>
     ensures rule { GivesKind (option_map rule_view) result
         (line_rule_of form text.old.line (first_line (text_left text.old))) }
     ensures rest { OnOk result (text_left text.new ≡ behind_line (text_left text.old)) }
 {
     let line = text.line();
-    let words = line_words(alloc, text)?;
-    line_rule(alloc, form, line, words)
+    reader.read(text)?;
+    line_rule(alloc, form, line, reader.words())
 }
 
 /// A fault of a line. Want of memory is of none.
@@ -109,6 +149,3 @@ fn fault_at(line: usize, kind: FaultKind) -> RuleFault
         _ => RuleFault { kind, line },
     }
 }
-
-#[cfg(test)]
-mod tests;

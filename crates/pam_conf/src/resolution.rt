@@ -19,9 +19,6 @@ use crate::trail::Trail;
 use crate::walk::{Progress, Walker, file_rules, has_service, kept};
 use std::alloc::{AllocError, Global};
 
-#[cfg(test)]
-mod tests;
-
 /// The name of the one file of the one-file form.
 const ONE_FILE: &[u8] = b"pam.conf";
 
@@ -166,7 +163,7 @@ fn one_file_stack(
     let Some(file) = files.find(ONE_FILE) else {
         return Err(no_service());
     };
-    let rules = file_rules(alloc, files, file)?;
+    let rules = file_rules(alloc, files, file, None)?;
     let own = carried_start(rules.as_slice(), file, service);
     let other = carried_start(rules.as_slice(), file, OTHER);
     let mut progress = Progress::new(alloc, files, kind)?;

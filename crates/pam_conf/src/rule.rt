@@ -6,10 +6,12 @@ ghost use Rattle.pam_conf.specs.Rule.{body_view, rule_view, kind_named, kind_or_
 ghost use Rattle.pam_conf.specs.Rule.{file_name_of, without_folder_of, target_of};
 ghost use Rattle.pam_conf.specs.Rule.{module_of, control_body_of, body_of};
 ghost use Rattle.pam_conf.specs.Rule.{kind_rule_of, include_rule_of, plain_rule_of, first_rule_of, rule_of};
-ghost use Rattle.pam_conf.specs.Spot.{still_to_come, texts};
+ghost use Rattle.pam_conf.specs.Spot.{still_to_come};
+ghost use Rattle.pam_conf.specs.Walk.{is_of_kind, same_kind};
+ghost use Rattle.pam_conf.specs.Wanted.{wants};
 
 use crate::error::FaultKind;
-use crate::words::{Words, next_word, word_text, word_texts};
+use crate::words::{next_word, word_text, word_texts};
 use pam_codes::{Control, is_name};
 use std::alloc::{AllocError, Global};
 
@@ -76,6 +78,33 @@ impl Kind {
     }
 }
 
+/// Whether two kinds are one.
+fn is_same(kind: Kind, other: Kind) -> bool
+    ensures { result ≡ same_kind kind other }
+{
+    kind == other
+}
+
+/// Whether a rule is of a kind.
+pub(crate) fn is_of(rule: &Rule, kind: Kind) -> bool
+    ensures { result ≡ is_of_kind kind (rule_view rule.now) }
+{
+    match rule.kind {
+        Some(own) => is_same(kind, own),
+        None => true,
+    }
+}
+
+/// Whether a rule is of the kind that is wanted. With none, each is.
+pub(crate) fn is_wanted(rule: &Rule, wanted: Option<Kind>) -> bool
+    ensures { result ≡ wants wanted (rule_view rule.now) }
+{
+    match wanted {
+        Some(kind) => is_of(rule, kind),
+        None => true,
+    }
+}
+
 /// The kind of a name, with whether a dash stands before it.
 fn kind_or_fault(dashed: bool, name: &[u8]) -> Result<(bool, Kind), FaultKind>
     ensures { result ≡ kind_or_fault_of dashed name.now }
@@ -126,35 +155,36 @@ fn without_folder(alloc: Global, text: Vec<u8>) -> Result<Vec<u8>, AllocError>
 
 /// The target that the words begin with.
 #[tactic(auto, unfolding(crate::specs::Rule::target_of))]
-fn target(alloc: Global, form: Form, mut words: Words) -> Result<Vec<u8>, FaultKind>
-    ensures { GivesKind (λ t. t.items) result (target_of form (still_to_come words)) }
+fn target(alloc: Global, form: Form, words: &[Vec<u8>]) -> Result<Vec<u8>, FaultKind>
+    ensures { GivesKind (λ t. t.items) result (target_of form (still_to_come words.now)) }
 {
     match form {
         Form::Single => Err(FaultKind::IncludeInSingleFile),
         Form::Dir => {
-            let Some(word) = next_word(&mut words) else {
+            let Some((word, _)) = next_word(words) else {
                 return Err(FaultKind::MissingTarget);
             };
-            let name = without_folder(alloc, word_text(word))?;
+            let name = without_folder(alloc, word_text(alloc, word)?)?;
             file_name(name)
         }
     }
 }
 
 /// What a rule does whose control asks a module.
-fn module_body(alloc: Global, control: Control, mut words: Words) -> Result<Body, FaultKind>
-    ensures { GivesKind body_view result (module_of control (still_to_come words)) }
+fn module_body(alloc: Global, control: Control, words: &[Vec<u8>]) -> Result<Body, FaultKind>
+    ensures { GivesKind body_view result (module_of control (still_to_come words.now)) }
 {
-    let Some(path) = next_word(&mut words) else {
+    let Some((path, arguments)) = next_word(words) else {
         return Err(FaultKind::MissingField);
     };
-    let arguments = word_texts(alloc, words)?;
-    Ok(Body::Module(control, word_text(path), arguments))
+    let path = word_text(alloc, path)?;
+    let arguments = word_texts(alloc, arguments)?;
+    Ok(Body::Module(control, path, arguments))
 }
 
 /// What a rule does whose control is a word as it is written.
-fn control_body(alloc: Global, control: &[u8], words: Words) -> Result<Body, FaultKind>
-    ensures { GivesKind body_view result (control_body_of control.now (still_to_come words)) }
+fn control_body(alloc: Global, control: &[u8], words: &[Vec<u8>]) -> Result<Body, FaultKind>
+    ensures { GivesKind body_view result (control_body_of control.now (still_to_come words.now)) }
 {
     match Control::read(control) {
         Ok(control) => module_body(alloc, control, words),
@@ -164,21 +194,21 @@ fn control_body(alloc: Global, control: &[u8], words: Words) -> Result<Body, Fau
 
 /// What stands behind the kind.
 #[tactic(auto, unfolding(crate::specs::Rule::body_of))]
-fn rule_body(alloc: Global, form: Form, mut words: Words) -> Result<Body, FaultKind>
-    ensures { GivesKind body_view result (body_of form (still_to_come words)) }
+fn rule_body(alloc: Global, form: Form, words: &[Vec<u8>]) -> Result<Body, FaultKind>
+    ensures { GivesKind body_view result (body_of form (still_to_come words.now)) }
 {
-    let Some(control) = next_word(&mut words) else {
+    let Some((control, words)) = next_word(words) else {
         return Err(FaultKind::MissingField);
     };
-    if is_name(b"include", &control) {
+    if is_name(b"include", control) {
         let name = target(alloc, form, words)?;
         return Ok(Body::Include(name));
     }
-    if is_name(b"substack", &control) {
+    if is_name(b"substack", control) {
         let name = target(alloc, form, words)?;
         return Ok(Body::Sub(name));
     }
-    control_body(alloc, &control, words)
+    control_body(alloc, control, words)
 }
 
 /// The rule of a line, from the text of its kind on.
@@ -189,10 +219,10 @@ fn kind_rule(
     line: usize,
     service: Option<Vec<u8>>,
     kind: &[u8],
-    words: Words,
+    words: &[Vec<u8>],
 ) -> Result<Rule, FaultKind>
     ensures { GivesKind rule_view result
-        (kind_rule_of form line (option_map (λ s. s.items) service) kind.now (still_to_come words)) }
+        (kind_rule_of form line (option_map (λ s. s.items) service) kind.now (still_to_come words.now)) }
 {
     let (dashed, kind) = dashed_kind(kind)?;
     let body = rule_body(alloc, form, words)?;
@@ -207,8 +237,13 @@ fn kind_rule(
 
 /// The rule of an `@include`, from its target on.
 #[tactic(auto, unfolding(crate::specs::Rule::include_rule_of))]
-fn include_rule(alloc: Global, form: Form, line: usize, words: Words) -> Result<Rule, FaultKind>
-    ensures { GivesKind rule_view result (include_rule_of form line (still_to_come words)) }
+fn include_rule(
+    alloc: Global,
+    form: Form,
+    line: usize,
+    words: &[Vec<u8>],
+) -> Result<Rule, FaultKind>
+    ensures { GivesKind rule_view result (include_rule_of form line (still_to_come words.now)) }
 {
     let name = target(alloc, form, words)?;
     Ok(Rule {
@@ -236,18 +271,19 @@ fn plain_rule(
     form: Form,
     line: usize,
     mut first: Vec<u8>,
-    mut words: Words,
+    words: &[Vec<u8>],
 ) -> Result<Rule, FaultKind>
-    ensures { GivesKind rule_view result (plain_rule_of form line first.items (still_to_come words)) }
+    ensures { GivesKind rule_view result (plain_rule_of form line first.items (still_to_come words.now)) }
 {
     match form {
         Form::Dir => kind_rule(alloc, form, line, None, &first, words),
         Form::Single => {
-            let Some(kind) = next_word(&mut words) else {
+            let Some((kind, words)) = next_word(words) else {
                 return Err(FaultKind::MissingField);
             };
             lower(&mut first);
-            kind_rule(alloc, form, line, Some(first), &word_text(kind), words)
+            let kind = word_text(alloc, kind)?;
+            kind_rule(alloc, form, line, Some(first), &kind, words)
         }
     }
 }
@@ -259,9 +295,9 @@ fn first_rule(
     form: Form,
     line: usize,
     first: Vec<u8>,
-    words: Words,
+    words: &[Vec<u8>],
 ) -> Result<Rule, FaultKind>
-    ensures { GivesKind rule_view result (first_rule_of form line first.items (still_to_come words)) }
+    ensures { GivesKind rule_view result (first_rule_of form line first.items (still_to_come words.now)) }
 {
     if is_name(b"@include", &first) {
         include_rule(alloc, form, line, words)
@@ -276,14 +312,14 @@ pub(crate) fn line_rule(
     alloc: Global,
     form: Form,
     line: usize,
-    words: Vec<Vec<u8>>,
+    words: &[Vec<u8>],
 ) -> Result<Option<Rule>, FaultKind>
-    ensures { GivesKind (option_map rule_view) result (rule_of form line (texts words)) }
+    ensures { GivesKind (option_map rule_view) result (rule_of form line (still_to_come words.now)) }
 {
-    let mut words = words.into_iter();
-    let Some(first) = next_word(&mut words) else {
+    let Some((first, words)) = next_word(words) else {
         return Ok(None);
     };
-    let rule = first_rule(alloc, form, line, word_text(first), words)?;
+    let first = word_text(alloc, first)?;
+    let rule = first_rule(alloc, form, line, first, words)?;
     Ok(Some(rule))
 }

@@ -6,13 +6,14 @@ ghost use Rattle.pam_conf.specs.ItemsOf.{items_of};
 ghost use Rattle.pam_conf.specs.Progress.{IsTable, Passes, Refuses, in_file, of_kind};
 ghost use Rattle.pam_conf.specs.Resolution.{Resolves, UnlessMemory};
 ghost use Rattle.pam_conf.specs.Rule.{rule_view};
-ghost use Rattle.pam_conf.specs.Walk.{carries, counts, deeper, fault_at, followed, include_walk, is_of_kind, rule_walk, rules_at, rules_walk, same_kind, target_walk, walk};
+ghost use Rattle.pam_conf.specs.Walk.{carries, counts, deeper, fault_at, followed, include_walk, is_of_kind, rule_walk, rules_at, rules_walk, target_walk, walk};
+ghost use Rattle.pam_conf.specs.Wanted.{only_wanted};
 
 use crate::conf_error::ConfError;
 use crate::error::{FaultKind, RuleFault};
 use crate::files::Files;
-use crate::lines::rules;
-use crate::rule::{Body, Kind, Rule};
+use crate::lines::wanted_rules;
+use crate::rule::{Body, Kind, Rule, is_of};
 use crate::stack::{Item, Module, Sub};
 use crate::trail::Trail;
 use std::alloc::{AllocError, Global};
@@ -77,30 +78,18 @@ fn fault_in(file: usize, found: RuleFault) -> ConfError
     }
 }
 
-/// The rules of the file at a position, or its first fault.
-pub(crate) fn file_rules(alloc: Global, files: &Files, file: usize) -> Result<Vec<Rule>, ConfError>
+/// The rules of the file at a position that are wanted, or its first fault.
+pub(crate) fn file_rules(
+    alloc: Global,
+    files: &Files,
+    file: usize,
+    wanted: Option<Kind>,
+) -> Result<Vec<Rule>, ConfError>
     requires { file < length files.now.entries }
-    ensures { Resolves (λ rules. map rule_view rules.items) result (in_file file (rules_at files.now file)) }
+    ensures { Resolves (λ rules. map rule_view rules.items) result (in_file file (only_wanted wanted (rules_at files.now file))) }
 {
     let bytes = files.bytes(file).unwrap_or(b"");
-    rules(alloc, bytes, files.form()).map_err(|found| fault_in(file, found))
-}
-
-/// Whether two kinds are one.
-fn is_same(kind: Kind, other: Kind) -> bool
-    ensures { result ≡ same_kind kind other }
-{
-    kind == other
-}
-
-/// Whether a rule is of a kind.
-fn is_of(rule: &Rule, kind: Kind) -> bool
-    ensures { result ≡ is_of_kind kind (rule_view rule.now) }
-{
-    match rule.kind {
-        Some(own) => is_same(kind, own),
-        None => true,
-    }
+    wanted_rules(alloc, bytes, files.form(), wanted).map_err(|found| fault_in(file, found))
 }
 
 /// Whether a rule of pam.conf carries a service.
@@ -157,8 +146,7 @@ impl Walker<'_> {
         if let Some(rules) = taken {
             return Ok(rules);
         }
-        let rules = file_rules(self.alloc, self.files, file)?;
-        Ok(kept(rules, self.kind))
+        file_rules(self.alloc, self.files, file, Some(self.kind))
     }
 
     /// Walks a file that was just opened; it is the last of the trail. Its items come behind those that are there.

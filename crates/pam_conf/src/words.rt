@@ -1,7 +1,7 @@
-ghost use Rattle.std.specs.Prelude.{◌≡◌, ◌≤◌, ◌<◌, ◌-◌, ◌∷◌, [], ℕ, List, map, drop, length, slice_index};
-ghost use Rattle.std.specs.Prelude.{IfOk, OnOk, MatchOption};
+ghost use Rattle.std.specs.Prelude.{◌≡◌, ◌≤◌, ◌<◌, ◌-◌, ◌∷◌, ◌++◌, [], ℕ, List, map, drop, length, slice_index};
+ghost use Rattle.std.specs.Prelude.{IfOk, Ok, OnOk, MatchOption, MatchResult};
 ghost use Rattle.pam_codes.specs.Text.{first_line, behind_line};
-ghost use Rattle.pam_conf.specs.Gives.{GivesKind};
+ghost use Rattle.pam_conf.specs.Gives.{FailsKind};
 ghost use Rattle.pam_conf.specs.Lines.{text_left};
 ghost use Rattle.pam_conf.specs.Spot.{all_words, texts, still_to_come};
 ghost use Rattle.pam_conf.specs.Words.{words_or_fault, unescaped, text_of_word};
@@ -9,92 +9,147 @@ ghost use Rattle.pam_conf.specs.Words.{words_or_fault, unescaped, text_of_word};
 use crate::error::FaultKind;
 use pam_codes::{ControlError, Text, is_blank_byte};
 use std::alloc::{AllocError, Global};
-use std::vec::IntoIter;
 
-/// The words of a line that are still to come, as they are written.
-pub(crate) type Words = IntoIter<Vec<u8>>;
-
-/// Where a line is read, with the word that is begun.
-#[derive(Drop)]
+/// Where a line is read.
+#[derive(Clone, Copy)]
 pub(crate) enum Spot {
     Between,
-    Plain(Vec<u8>),
+    Plain,
     /// The flag: a backslash stands directly before.
-    Bracket(Vec<u8>, bool),
+    Bracket(bool),
 }
 
-fn one_byte(alloc: Global, byte: u8) -> Result<Vec<u8>, AllocError>
-    ensures { IfOk result (λ v. v.items ≡ byte ∷ []) }
-{
-    let mut word = Vec::new(alloc);
-    word.push(byte)?;
-    Ok(word)
+/// A line that is read up to a spot. Line after line uses the memory of the words before.
+#[derive(Drop)]
+pub(crate) struct LineReader {
+    alloc: Global,
+    done: Vec<Vec<u8>>,
+    /// Memory for words to come. What it holds says nothing.
+    spare: Vec<Vec<u8>>,
+    /// What is read of the word that is begun. Between words it says nothing.
+    word: Vec<u8>,
+    spot: Spot,
 }
 
-/// The spot behind one more byte of the line. A word that ends there goes to those that are done.
-fn advance(alloc: Global, spot: Spot, byte: u8, done: &mut Vec<Vec<u8>>) -> Result<Spot, AllocError>
-    ensures { IfOk result (λ next. (rest : List ℕ) →
-        all_words (texts done.new) next rest ≡ all_words (texts done.old) spot (byte ∷ rest)) }
-{
-    let blank = is_blank_byte(byte);
-    match spot {
-        Spot::Between => {
-            if blank {
-                return Ok(Spot::Between);
-            }
-            let word = one_byte(alloc, byte)?;
-            if byte == b'[' {
-                return Ok(Spot::Bracket(word, false));
-            }
-            Ok(Spot::Plain(word))
-        }
-        Spot::Plain(mut word) => {
-            if blank {
-                done.push(word)?;
-                return Ok(Spot::Between);
-            }
-            word.push(byte)?;
-            Ok(Spot::Plain(word))
-        }
-        Spot::Bracket(mut word, escaped) => {
-            word.push(byte)?;
-            if byte == b']' && !escaped {
-                done.push(word)?;
-                return Ok(Spot::Between);
-            }
-            Ok(Spot::Bracket(word, byte == b'\\'))
+impl LineReader {
+    pub(crate) fn new(alloc: Global) -> Self {
+        LineReader {
+            alloc,
+            done: Vec::new(alloc),
+            spare: Vec::new(alloc),
+            word: Vec::new(alloc),
+            spot: Spot::Between,
         }
     }
-}
 
-/// The words of a line that ends at a spot.
-fn finish(spot: Spot, mut done: Vec<Vec<u8>>) -> Result<Vec<Vec<u8>>, FaultKind>
-    ensures { GivesKind texts result (all_words (texts done) spot []) }
-{
-    match spot {
-        Spot::Between => Ok(done),
-        Spot::Plain(word) => {
-            done.push(word)?;
-            Ok(done)
-        }
-        Spot::Bracket(_, _) => Err(FaultKind::Control(ControlError::OpenBracket)),
+    /// The words that are done.
+    pub(crate) fn words(&self) -> &[Vec<u8>]
+        ensures { result.now ≡ self.now.done.items }
+    {
+        self.done.as_slice()
     }
-}
 
-/// The words of the text's first line, as they are written. The text goes on behind it.
-pub(crate) fn line_words(alloc: Global, text: &mut Text) -> Result<Vec<Vec<u8>>, FaultKind>
-    ensures words { GivesKind texts result (words_or_fault (first_line (text_left text.old))) }
-    ensures rest { OnOk result (text_left text.new ≡ behind_line (text_left text.old)) }
-{
-    let mut done = Vec::new(alloc);
-    let mut spot = Spot::Between;
-    while let Some((_, byte)) = text.next() {
-        if byte == b'\n' {
-            return finish(spot, done);
-        }
-        spot = advance(alloc, spot, byte, &mut done)?;
+    /// Goes before the first byte of a line.
+    fn begin(&mut self) -> Result<(), AllocError>
+        ensures { OnOk result ((rest : List ℕ) → all_words self.new rest ≡ words_or_fault rest) }
+    {
+        self.spare.append(&mut self.done)?;
+        self.spot = Spot::Between;
+        Ok(())
     }
-    finish(spot, done)
+
+    /// Goes behind one more byte of the line.
+    fn advance(&mut self, byte: u8) -> Result<(), AllocError>
+        ensures { OnOk result ((rest : List ℕ) → all_words self.new rest ≡ all_words self.old (byte ∷ rest)) }
+    {
+        match self.spot {
+            Spot::Between => self.advance_between(byte),
+            Spot::Plain => self.advance_plain(byte),
+            Spot::Bracket(escaped) => self.advance_bracket(byte, escaped),
+        }
+    }
+
+    fn advance_between(&mut self, byte: u8) -> Result<(), AllocError>
+        requires { self.old.spot ≡ Spot.Between }
+        ensures { OnOk result ((rest : List ℕ) → all_words self.new rest ≡ all_words self.old (byte ∷ rest)) }
+    {
+        if is_blank_byte(byte) {
+            return Ok(());
+        }
+        self.word.clear();
+        self.word.push(byte)?;
+        if byte == b'[' {
+            self.spot = Spot::Bracket(false);
+            return Ok(());
+        }
+        self.spot = Spot::Plain;
+        Ok(())
+    }
+
+    fn advance_plain(&mut self, byte: u8) -> Result<(), AllocError>
+        requires { self.old.spot ≡ Spot.Plain }
+        ensures { OnOk result ((rest : List ℕ) → all_words self.new rest ≡ all_words self.old (byte ∷ rest)) }
+    {
+        if is_blank_byte(byte) {
+            return self.end_word();
+        }
+        self.word.push(byte)?;
+        Ok(())
+    }
+
+    fn advance_bracket(&mut self, byte: u8, escaped: bool) -> Result<(), AllocError>
+        requires { self.old.spot ≡ Spot.Bracket escaped }
+        ensures { OnOk result ((rest : List ℕ) → all_words self.new rest ≡ all_words self.old (byte ∷ rest)) }
+    {
+        self.word.push(byte)?;
+        if byte == b']' && !escaped {
+            return self.end_word();
+        }
+        self.spot = Spot::Bracket(byte == b'\\');
+        Ok(())
+    }
+
+    /// The word that is begun goes to those that are done.
+    fn end_word(&mut self) -> Result<(), AllocError>
+        ensures done { OnOk result (texts self.new.done ≡ texts self.old.done ++ self.old.word.items ∷ []) }
+        ensures spot { OnOk result (self.new.spot ≡ Spot.Between) }
+    {
+        let next = self.spare.pop().unwrap_or(Vec::new(self.alloc));
+        self.done.push(std::mem::replace(&mut self.word, next))?;
+        self.spot = Spot::Between;
+        Ok(())
+    }
+
+    /// Ends the line. Its words are then those that are done.
+    fn finish(&mut self) -> Result<(), FaultKind>
+        ensures { MatchResult result (λ _. all_words self.old [] ≡ Ok (texts self.new.done)) (λ kind. FailsKind kind (all_words self.old [])) }
+    {
+        match self.spot {
+            Spot::Between => Ok(()),
+            Spot::Plain => {
+                self.end_word()?;
+                Ok(())
+            }
+            Spot::Bracket(_) => Err(FaultKind::Control(ControlError::OpenBracket)),
+        }
+    }
+
+    /// Reads the text's first line. The text goes on behind it.
+    pub(crate) fn read(&mut self, text: &mut Text) -> Result<(), FaultKind>
+        ensures words { MatchResult result
+            (λ _. words_or_fault (first_line (text_left text.old)) ≡ Ok (texts self.new.done))
+            (λ kind. FailsKind kind (words_or_fault (first_line (text_left text.old)))) }
+        ensures rest { OnOk result (text_left text.new ≡ behind_line (text_left text.old)) }
+    {
+        self.begin()?;
+        while let Some((_, byte)) = text.next() {
+            if byte == b'\n' {
+                return self.finish();
+            }
+            self.advance(byte)?;
+        }
+        self.finish()
+    }
 }
 
 /// How many bytes spell the first byte of a text between brackets: two at `\]`.
@@ -127,32 +182,34 @@ fn unescape(word: &mut Vec<u8>)
 }
 
 /// The text of a word: what stands between its brackets, if it has them.
-pub(crate) fn word_text(mut word: Vec<u8>) -> Vec<u8>
-    ensures { result.items ≡ text_of_word word.items }
+pub(crate) fn word_text(alloc: Global, word: &[u8]) -> Result<Vec<u8>, AllocError>
+    ensures { IfOk result (λ text. text.items ≡ text_of_word word.now) }
 {
-    if !word.is_empty() && word[0] == b'[' {
-        word.remove(0);
-        word.pop();
-        unescape(&mut word);
+    let mut text = word.to_vec(alloc)?;
+    if !text.is_empty() && text[0] == b'[' {
+        text.remove(0);
+        text.pop();
+        unescape(&mut text);
     }
-    word
+    Ok(text)
 }
 
-/// The next word, as it is written.
-pub(crate) fn next_word(words: &mut Words) -> Option<Vec<u8>>
-    ensures { MatchOption result (still_to_come words.old ≡ [])
-        (λ w. still_to_come words.old ≡ w.items ∷ still_to_come words.new) }
+/// The first of the words, as it is written, and those behind it.
+pub(crate) fn next_word(words: &[Vec<u8>]) -> Option<(&[u8], &[Vec<u8>])>
+    ensures { MatchOption result (still_to_come words.now ≡ [])
+        (λ p. still_to_come words.now ≡ p.0.now ∷ still_to_come p.1.now) }
 {
-    words.next()
+    let (word, behind) = words.split_first()?;
+    Some((word.as_slice(), behind))
 }
 
 /// The texts of the words.
-pub(crate) fn word_texts(alloc: Global, words: Words) -> Result<Vec<Vec<u8>>, AllocError>
-    ensures { IfOk result (λ v. texts v ≡ map text_of_word (still_to_come words)) }
+pub(crate) fn word_texts(alloc: Global, words: &[Vec<u8>]) -> Result<Vec<Vec<u8>>, AllocError>
+    ensures { IfOk result (λ v. texts v ≡ map text_of_word (still_to_come words.now)) }
 {
     let mut texts = Vec::with_capacity(alloc, words.len())?;
     for word in words {
-        texts.push(word_text(word))?;
+        texts.push(word_text(alloc, word)?)?;
     }
     Ok(texts)
 }

@@ -1,12 +1,12 @@
 use Rattle.std.proofs.Common.{◌≡◌, length}
 use Rattle.pam_codes.specs.Text.{text_of, first_line, behind_line}
 use Rattle.pam_conf.specs.Words.{words_or_fault}
-use Rattle.pam_conf.specs.Spot.{all_words, texts}
-use Rattle.pam_conf.proofs.words.line_words.Given as goal
+use Rattle.pam_conf.specs.Spot.{all_words}
+use Rattle.pam_conf.proofs.words.LineReader.read.Given as goal
 
 abbrev pub invariant-loop-byte : goal.invariant-loop-byte
 invariant-loop-byte l = record {
-  words : all_words (texts l.done) l.spot (first_line (text_of l.text.line l.text.rest.now)) ≡ words_or_fault (first_line (text_of l.fn.text.line l.fn.text.rest.now));
+  words : all_words l.self (first_line (text_of l.text.line l.text.rest.now)) ≡ words_or_fault (first_line (text_of l.fn.text.line l.fn.text.rest.now));
   rest : behind_line (text_of l.text.line l.text.rest.now) ≡ behind_line (text_of l.fn.text.line l.fn.text.rest.now);
 }
 

@@ -1,0 +1,15 @@
+-- The rules that a reader wants: those of one kind, or with no kind all.
+use Rattle.std.specs.Prelude.{Bool, true, List, Option, Some, None, Result}
+use Rattle.pam_conf.specs.Progress.{of_kind}
+use Rattle.pam_conf.specs.Rule.{RuleText}
+use Rattle.pam_conf.specs.Walk.{is_of_kind}
+use Rattle.pam_conf.specs.declared.error.RuleFault.{RuleFault}
+use Rattle.pam_conf.specs.declared.rule.Kind.{Kind}
+
+abbrev pub wants : Option Kind → RuleText → Bool
+wants None rule = true
+wants (Some kind) rule = is_of_kind kind rule
+
+abbrev pub only_wanted : Option Kind → Result (List RuleText) RuleFault → Result (List RuleText) RuleFault
+only_wanted None rules = rules
+only_wanted (Some kind) rules = of_kind kind rules
