@@ -1,0 +1,10 @@
+use Rattle.std.proofs.Common.{◌∙◌, ap, true}
+use Rattle.clap.specs.declared.builder.Arg.{Arg}
+use Rattle.clap.specs.Words.{Rule, rule_of}
+use Rattle.pam_words.proofs.words.required_option.Goals as goal
+
+pub returns-clause-rule : goal.returns-clause-rule
+returns-clause-rule c = ap rule_of c.required.ensures ∙ ap (λ (r : Rule). record r { required = true }) c.option.ensures.rule
+
+pub returns-clause-local : goal.returns-clause-local
+returns-clause-local c = ap (λ (a : Arg). a.global) c.required.ensures ∙ c.option.ensures.local
