@@ -1,15 +1,8 @@
 //! Explains what a stack of PAM modules can decide.
 #![tactic(auto)]
 
-mod fault;
-mod inputs;
-mod report;
-mod run;
-#[cfg(test)]
-mod tests;
-
 use pam_codes::Out;
-use run::run;
+use pam_report::run;
 use std::alloc::Global;
 use std::io::{BufWriter, ErrorKind, Write};
 use std::process::ExitCode;

@@ -1,0 +1,192 @@
+-- What an answer is: a text and a status, or the first fault.
+use Rattle.std.specs.Prelude.{◌≡◌, ℕ, ℤ, List, [], map, IsSome, Option, Some, None, Result, Ok, Err, ◌==◌, if◌then◌else◌, length}
+use Rattle.std.specs.Char.{to_ascii_lowercase}
+use Rattle.pam_codes.specs.Out.{TookAll, TookFront}
+use Rattle.pam_codes.specs.declared.out.Out.{Out}
+use Rattle.pam_conf.specs.Files.{Folder}
+use Rattle.pam_conf.specs.Resolution.{resolved}
+use Rattle.pam_conf.specs.Stack.{Items, module_count}
+use Rattle.pam_conf.specs.declared.error.FaultKind.{FaultKind}
+use Rattle.pam_conf.specs.declared.error.FaultKind.TheVariants as conf
+use Rattle.pam_conf.specs.declared.conf_error.ConfError.{ConfError}
+use Rattle.pam_conf.specs.declared.rule.Kind.{Kind}
+use Rattle.jiff.specs.Types.{DateTime}
+use Rattle.jiff.specs.Words.{read_whole}
+use Rattle.pam_dispatch.specs.Runs.{answers_of}
+use Rattle.pam_dispatch.specs.Tree.{decided}
+use Rattle.pam_tables.specs.Access.{TableText, access_answer, table_of}
+use Rattle.pam_tables.specs.Groups.{Group, groups_of}
+use Rattle.pam_tables.specs.Login.{LoginText}
+use Rattle.pam_tables.specs.Options.{Options, options_of}
+use Rattle.pam_tables.specs.declared.access.AccessAnswer.{AccessAnswer}
+use Rattle.pam_tables.specs.declared.access.AccessAnswer.TheVariants as access
+use Rattle.pam_tables.specs.declared.error.Table.{Table}
+use Rattle.pam_tables.specs.declared.error.Table.TheVariants as tables
+use Rattle.pam_tables.specs.declared.error.TableFault.{TableFault}
+use Rattle.pam_tables.specs.declared.error.TableFault.TheVariants as reasons
+use Rattle.pam_times.specs.Moments.{Exist, HasParts, IsInstant, Shows, parts_of}
+use Rattle.pam_times.specs.Reading.{rules_of}
+use Rattle.pam_times.specs.Times.{Rule, answer_of as time_answer_of}
+use Rattle.pam_times.specs.declared.moments.MomentError.{MomentError}
+use Rattle.pam_times.specs.declared.moments.MomentError.TheVariants as moments
+use Rattle.pam_times.specs.declared.times.TimeAnswer.{TimeAnswer}
+use Rattle.pam_times.specs.declared.times.TimeAnswer.TheVariants as times
+use Rattle.pam_words.specs.declared.wanted.Moment.{Moment}
+use Rattle.pam_words.specs.declared.wanted.Moment.TheVariants.{Civil, Instant}
+use Rattle.pam_words.specs.declared.wanted.Task.{Task}
+use Rattle.pam_words.specs.declared.wanted.Task.TheVariants.{Show, Decide, Access, Time}
+use Rattle.pam_words.specs.declared.wanted.Request.{Request}
+use Rattle.pam_report.specs.Decide.{decide_text}
+use Rattle.pam_report.specs.Inputs.{bytes_given, groups_given}
+use Rattle.pam_report.specs.Show.{show_text}
+use Rattle.pam_report.specs.Tables.{access_text, time_text}
+use Rattle.pam_report.specs.declared.inputs.Inputs.{Inputs}
+use Rattle.pam_report.specs.declared.fault.Fault.{Fault}
+use Rattle.pam_report.specs.declared.fault.Fault.TheVariants as faults
+use Rattle.pam_report.specs.declared.report.Status.{Status}
+use Rattle.pam_report.specs.declared.report.Status.TheVariants.{Success, Refusal}
+
+-- the text that is written, and the status
+pub record Report : Type 0 where
+  pub text : List ℕ
+  pub status : Status
+
+abbrev pub Answer : Type 0
+Answer = Result Report Fault
+
+abbrev pub status_number : Status → ℕ
+status_number Success = 0
+status_number Refusal = 1
+
+-- a success is code 0
+abbrev pub status_of_decision : ℕ → Status
+status_of_decision code = if code == 0 then Success else Refusal
+
+-- what follows from a stack, or its fault
+abbrev pub with_stack : Result Items ConfError → (Items → Answer) → Answer
+with_stack (Err e) next = Err (faults.Conf e)
+with_stack (Ok items) next = next items
+
+abbrev pub shown : List ℕ → Kind → Folder → Items → Answer
+shown service kind files items = Ok (record { text = show_text service kind files items; status = Success })
+
+-- one code is given for each module, also for those never asked
+abbrev pub decided_by : List ℕ → Kind → List ℕ → Items → Answer
+decided_by service kind answered items =
+    if length answered == module_count items
+    then Ok (record { text = decide_text service kind items answered; status = status_of_decision (decided items (answers_of answered)) })
+    else Err (faults.Count (record { modules = module_count items }))
+
+-- ---- access tables
+
+abbrev pub access_status : AccessAnswer → Status
+access_status (access.Granted line) = Success
+access_status (access.Denied line) = Refusal
+
+abbrev pub access_report : AccessAnswer → Report
+access_report found = record { text = access_text found; status = access_status found }
+
+abbrev pub table_fault : Table → TableFault × ℕ → Fault
+table_fault table e = faults.Table (record { table = table; fault = e.0; line = e.1 })
+
+abbrev pub with_table : LoginText → List Group → Result TableText (TableFault × ℕ) → Answer
+with_table login groups (Err e) = Err (table_fault tables.Access e)
+with_table login groups (Ok table) = Ok (access_report (access_answer table login groups))
+
+-- the group file is judged before the table
+abbrev pub with_groups : LoginText → Options → List ℕ → Result (List Group) (TableFault × ℕ) → Answer
+with_groups login options bytes (Err e) = Err (table_fault tables.Group e)
+with_groups login options bytes (Ok groups) = with_table login groups (table_of options bytes)
+
+abbrev pub looked_up : LoginText → List (List ℕ) → Inputs → Answer
+looked_up login arguments inputs = with_groups login (options_of arguments) (bytes_given inputs.access) (groups_given inputs.groups)
+
+-- ---- time tables
+
+abbrev pub time_status : TimeAnswer → Status
+time_status times.Granted = Success
+time_status (times.Denied line) = Refusal
+
+abbrev pub time_report : TimeAnswer → Report
+time_report found = record { text = time_text found; status = time_status found }
+
+abbrev pub with_rules : LoginText → DateTime → Result (List Rule) (TableFault × ℕ) → Answer
+with_rules login moment (Err e) = Err (table_fault tables.Time e)
+with_rules login moment (Ok rules) = Ok (time_report (time_answer_of rules login moment))
+
+-- the moment is judged before the table
+abbrev pub timed : LoginText → List ℕ → Result DateTime MomentError → Answer
+timed login bytes (Err e) = Err (faults.Moment e)
+timed login bytes (Ok moment) = with_rules login moment (rules_of bytes)
+
+-- the civil time that is written, or why there is none
+abbrev pub IsWritten : List ℕ → Result DateTime MomentError → Type 0
+IsWritten text (Ok moment) = HasParts (parts_of text) moment
+IsWritten text (Err e) = (e ≡ moments.Syntax) × (Exist (parts_of text) → ⊥)
+
+-- the civil time that a zone's clock shows at an instant, or why there is none
+abbrev pub IsShownAt : ℤ → List ℕ → Result DateTime MomentError → Type 0
+IsShownAt seconds zone (Ok moment) = Shows seconds zone moment
+IsShownAt seconds zone (Err moments.Range) = IsInstant seconds → ⊥
+IsShownAt seconds zone (Err moments.Rule) = IsInstant seconds × (IsSome (read_whole zone) → ⊥)
+IsShownAt seconds zone (Err moments.Memory) = ⊥
+IsShownAt seconds zone (Err moments.Syntax) = ⊥
+
+-- the civil time that the words give
+abbrev pub IsMoment : Moment → Result DateTime MomentError → Type 0
+IsMoment (Civil text) at = IsWritten text.now at
+IsMoment (Instant seconds zone) at = IsShownAt seconds zone.now at
+
+-- ---- the answer to a request
+
+-- a login to a service, which is in lower case
+abbrev pub login_to : List ℕ → List ℕ → List ℕ → List ℕ → LoginText
+login_to service user tty rhost = record { user = user; service = map to_ascii_lowercase service; tty = tty; rhost = rhost }
+
+-- the fact, unless memory ran out
+abbrev pub OrMemory : FaultKind → Type 0 → Type 0
+OrMemory conf.Memory fact = Unit {0}
+OrMemory _ fact = fact
+
+abbrev pub OrNoMemory : TableFault → Type 0 → Type 0
+OrNoMemory reasons.Memory fact = Unit {0}
+OrNoMemory _ fact = fact
+
+-- what is left of the writer: all of the text where there is an answer, a prefix of it where a write failed, and
+-- nothing where there is a fault or no memory
+abbrev pub LeavesFault : {W : Type 0} → (W → Option (List ℕ)) → Out W → Out W → Fault → Answer → Type 0
+LeavesFault contents old new faults.Device answer = (report : Report) × (answer ≡ Ok report) × TookFront contents old new report.text
+LeavesFault contents old new faults.Memory answer = new ≡ old
+LeavesFault contents old new (faults.Conf e) answer = (new ≡ old) × OrMemory e.kind (answer ≡ Err (faults.Conf e))
+LeavesFault contents old new (faults.Count e) answer = (new ≡ old) × (answer ≡ Err (faults.Count e))
+LeavesFault contents old new (faults.Moment e) answer = (new ≡ old) × (answer ≡ Err (faults.Moment e))
+LeavesFault contents old new (faults.Table e) answer = (new ≡ old) × OrNoMemory e.fault (answer ≡ Err (faults.Table e))
+
+abbrev pub Leaves : {W : Type 0} → (W → Option (List ℕ)) → Out W → Out W → Result Status Fault → Answer → Type 0
+Leaves contents old new (Ok status) answer = (text : List ℕ) × (answer ≡ Ok (record { text = text; status = status })) × TookAll contents old new text
+Leaves contents old new (Err fault) answer = LeavesFault contents old new fault answer
+
+-- THE ANSWER to a task for a service, of these inputs, and what it leaves of the writer
+abbrev pub Answers : {W : Type 0} → (W → Option (List ℕ)) → Out W → Out W → Result Status Fault → List ℕ → Task → Inputs → Type 0
+Answers contents old new result service (Show source kind) inputs =
+    Leaves contents old new result (with_stack (resolved inputs.files service kind) (shown service kind inputs.files))
+Answers contents old new result service (Decide source kind answered) inputs =
+    Leaves contents old new result (with_stack (resolved inputs.files service kind) (decided_by service kind answered.items))
+Answers contents old new result service (Access table groups user rhost tty arguments) inputs =
+    Leaves contents old new result (looked_up (login_to service user.now tty.now rhost.now) (map (λ a. a.items) arguments.items) inputs)
+Answers contents old new result service (Time table user tty moment) inputs =
+    (at : Result DateTime MomentError) × IsMoment moment at
+    × Leaves contents old new result (timed (login_to service user.now tty.now []) (bytes_given inputs.time) at)
+
+-- what a look-up finds is the answer, or its fault, unless memory ran out
+abbrev pub FindsFault : Fault → Answer → Type 0
+FindsFault (faults.Table e) answer = OrNoMemory e.fault (answer ≡ Err (faults.Table e))
+FindsFault _ answer = ⊥
+
+abbrev pub FindsAccess : Result AccessAnswer Fault → Answer → Type 0
+FindsAccess (Ok found) answer = answer ≡ Ok (access_report found)
+FindsAccess (Err fault) answer = FindsFault fault answer
+
+abbrev pub FindsTime : Result TimeAnswer Fault → Answer → Type 0
+FindsTime (Ok found) answer = answer ≡ Ok (time_report found)
+FindsTime (Err fault) answer = FindsFault fault answer

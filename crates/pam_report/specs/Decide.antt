@@ -1,0 +1,72 @@
+-- What `decide` prints: the modules that a run asks, as pam.conf(5) tells it, and the decision.
+use Rattle.std.specs.Prelude.{ℕ, List, ◌∷◌, [], ◌++◌, codes, decimal}
+use Rattle.std.specs.List.{concat}
+use Rattle.std.specs.Option.{option_map_or}
+use Rattle.pam_codes.specs.declared.action.Action.{Action}
+use Rattle.pam_codes.specs.declared.action.Action.TheVariants.{Ignore, Ok, Done, Bad, Die, Reset, Jump}
+use Rattle.pam_conf.specs.Stack.{Items, module_at, module_count}
+use Rattle.pam_conf.specs.declared.rule.Kind.{Kind}
+use Rattle.pam_dispatch.specs.Runs.{Ask, Assignment, answers_of, outcome_of}
+use Rattle.pam_dispatch.specs.State.{action_of, start_state}
+use Rattle.pam_dispatch.specs.Tree.{asked, decided}
+use Rattle.pam_dispatch.specs.declared.state.Impression.{Impression}
+use Rattle.pam_dispatch.specs.declared.state.Impression.TheVariants.{Undef, Positive, Negative}
+use Rattle.pam_dispatch.specs.declared.state.State.{State}
+use Rattle.pam_report.specs.Header.{code_name, header_text}
+use Rattle.pam_report.specs.WordText.{word_text}
+
+unfoldable pub action_text : Action → List ℕ
+action_text Ignore = codes "ignore"
+action_text Ok = codes "ok"
+action_text Done = codes "done"
+action_text Bad = codes "bad"
+action_text Die = codes "die"
+action_text Reset = codes "reset"
+action_text (Jump items) = codes "jump:" ++ decimal items
+
+abbrev pub impression_name : Impression → List ℕ
+impression_name Undef = codes "undef"
+impression_name Positive = codes "positive"
+impression_name Negative = codes "negative"
+
+-- the path of the module of a number
+unfoldable pub path_at : ℕ → Items → List ℕ
+path_at number items = option_map_or (λ m. m.path) (module_at number items) []
+
+-- `NUMBER PATH`
+unfoldable pub path_text : ℕ → List ℕ → List ℕ
+path_text number path = concat (decimal number ∷ codes " " ∷ []) ++ word_text path
+
+-- ` CODE `
+unfoldable pub code_text : ℕ → List ℕ
+code_text code = concat (codes " " ∷ code_name code ∷ codes " " ∷ [])
+
+-- ` IMPRESSION STATUS`, to the end of the line
+unfoldable pub state_text : State → List ℕ
+state_text s = concat (codes " " ∷ impression_name s.impression ∷ codes " " ∷ code_name s.status ∷ codes "\n" ∷ [])
+
+-- ` CODE ACTION IMPRESSION STATUS`, the state being that after the action
+unfoldable pub outcome_text : ℕ → Action → State → List ℕ
+outcome_text code action s = code_text code ++ action_text action ++ state_text s
+
+-- the line of a module that is asked and answers a code
+unfoldable pub asked_text : Items → Ask → ℕ → List ℕ
+asked_text items ask code =
+    path_text ask.module_number (path_at ask.module_number items)
+    ++ outcome_text code (action_of ask.control code) (outcome_of ask code).state
+
+-- the lines of the modules that are asked, in turn
+unfoldable pub trace_text : Items → Assignment → List Ask → List ℕ
+trace_text items answers [] = []
+trace_text items answers (ask ∷ asks) = asked_text items ask (answers ask.module_number) ++ trace_text items answers asks
+
+-- `decision CODE`
+unfoldable pub decision_text : ℕ → List ℕ
+decision_text code = concat (codes "decision " ∷ code_name code ∷ codes "\n" ∷ [])
+
+-- THE TEXT of `decide`, where the modules answer these codes
+unfoldable pub decide_text : List ℕ → Kind → Items → List ℕ → List ℕ
+decide_text service kind items answered =
+    header_text service kind (module_count items)
+    ++ trace_text items (answers_of answered) (asked items start_state start_state (answers_of answered))
+    ++ decision_text (decided items (answers_of answered))

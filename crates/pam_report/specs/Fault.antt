@@ -1,0 +1,113 @@
+-- The line of a fault: its number and name, and its place where it has one.
+use Rattle.std.specs.Prelude.{ℕ, List, [], ◌∷◌, codes, decimal, Option, Some, None, slice_get}
+use Rattle.std.specs.List.{concat}
+use Rattle.std.specs.Option.{option_map}
+use Rattle.pam_codes.specs.declared.error.ControlError.{ControlError}
+use Rattle.pam_codes.specs.declared.error.ControlError.TheVariants.{BadControl, BadValue, BadAction, ZeroJump, OpenBracket}
+use Rattle.pam_conf.specs.Files.{Folder}
+use Rattle.pam_conf.specs.declared.error.FaultKind.{FaultKind}
+use Rattle.pam_conf.specs.declared.error.FaultKind.TheVariants as conf
+use Rattle.pam_report.specs.declared.fault.Fault.{Fault}
+use Rattle.pam_report.specs.declared.fault.Fault.TheVariants.{Conf, Count, Device, Memory}
+use Rattle.pam_report.specs.declared.fault.Fault.TheVariants as faults
+use Rattle.pam_tables.specs.declared.error.Table.{Table}
+use Rattle.pam_tables.specs.declared.error.Table.TheVariants.{Access, Time, Group}
+use Rattle.pam_tables.specs.declared.error.TableFault.{TableFault}
+use Rattle.pam_tables.specs.declared.error.TableFault.TheVariants as table
+use Rattle.pam_times.specs.declared.moments.MomentError.{MomentError}
+use Rattle.pam_times.specs.declared.moments.MomentError.TheVariants.{Range, Rule, Syntax}
+use Rattle.pam_times.specs.declared.moments.MomentError.TheVariants as moment
+
+abbrev pub control_fault : ControlError → List ℕ
+control_fault BadControl = codes "E4 BadControl"
+control_fault BadValue = codes "E5 BadValue"
+control_fault BadAction = codes "E6 BadAction"
+control_fault ZeroJump = codes "E7 ZeroJump"
+control_fault OpenBracket = codes "E8 OpenBracket"
+
+unfoldable pub conf_fault : FaultKind → List ℕ
+conf_fault conf.NulByte = codes "E1 NulByte"
+conf_fault conf.MissingField = codes "E2 MissingField"
+conf_fault conf.BadKind = codes "E3 BadKind"
+conf_fault (conf.Control e) = control_fault e
+conf_fault conf.MissingTarget = codes "E9 MissingTarget"
+conf_fault conf.BadTarget = codes "E10 BadTarget"
+conf_fault conf.Cycle = codes "E11 Cycle"
+conf_fault conf.TooDeep = codes "E12 TooDeep"
+conf_fault conf.TooManyModules = codes "E13 TooManyModules"
+conf_fault conf.IncludeInSingleFile = codes "E14 IncludeInSingleFile"
+conf_fault conf.NoService = codes "E15 NoService"
+conf_fault conf.FileTooLong = codes "E16 FileTooLong"
+conf_fault conf.Memory = codes "E17 Memory"
+conf_fault conf.TooManyFollowed = codes "E18 TooManyFollowed"
+
+-- the name of the file at a position, if the files have that position
+abbrev pub file_at : Folder → Option ℕ → Option (List ℕ)
+file_at files None = None
+file_at files (Some position) = option_map (λ f. f.0) (slice_get files.entries position)
+
+-- ` FILE:LINE`, where there is a file
+abbrev pub conf_text : List ℕ → Option (List ℕ) → ℕ → List ℕ
+conf_text name None line = concat (codes "pamcheck: " ∷ name ∷ codes "\n" ∷ [])
+conf_text name (Some file) line = concat (codes "pamcheck: " ∷ name ∷ codes " " ∷ file ∷ codes ":" ∷ decimal line ∷ codes "\n" ∷ [])
+
+unfoldable pub table_fault_name : TableFault → List ℕ
+table_fault_name table.MissingField = codes "TE1 MissingField"
+table_fault_name table.BadPermission = codes "TE2 BadPermission"
+table_fault_name table.Netgroup = codes "TE3 Netgroup"
+table_fault_name table.UserAtHost = codes "TE4 UserAtHost"
+table_fault_name table.BadMask = codes "TE5 BadMask"
+table_fault_name table.BadTimes = codes "TE6 BadTimes"
+table_fault_name table.TwoWildcards = codes "TE7 TwoWildcards"
+table_fault_name table.BadLogic = codes "TE8 BadLogic"
+table_fault_name table.BadGroup = codes "TE9 BadGroup"
+table_fault_name table.NulByte = codes "TE10 NulByte"
+table_fault_name table.Memory = codes "TE11 Memory"
+table_fault_name table.TableTooLong = codes "TE12 TableTooLong"
+
+abbrev pub table_name : Table → List ℕ
+table_name Access = codes "access"
+table_name Time = codes "time"
+table_name Group = codes "group"
+
+-- ` TABLE:LINE` behind the name, but for want of memory
+abbrev pub table_line : Table → TableFault → ℕ → List ℕ
+table_line t table.Memory line = codes "pamcheck: TE11 Memory\n"
+table_line t fault line =
+    concat (codes "pamcheck: " ∷ table_fault_name fault ∷ codes " " ∷ table_name t ∷ codes ":" ∷ decimal line ∷ codes "\n" ∷ [])
+
+abbrev pub moment_fault_name : MomentError → List ℕ
+moment_fault_name Range = codes "M1 Range"
+moment_fault_name Rule = codes "M2 Rule"
+moment_fault_name moment.Memory = codes "M3 Memory"
+moment_fault_name Syntax = codes "M4 Syntax"
+
+-- THE LINE of a fault
+unfoldable pub fault_line : Folder → Fault → List ℕ
+fault_line files (Conf e) = conf_text (conf_fault e.kind) (file_at files e.at) e.line
+fault_line files (Count e) = concat (codes "pamcheck: DE1 WrongCount want " ∷ decimal e.modules ∷ codes "\n" ∷ [])
+fault_line files (faults.Table e) = table_line e.table e.fault e.line
+fault_line files (faults.Moment e) = concat (codes "pamcheck: " ∷ moment_fault_name e ∷ codes "\n" ∷ [])
+fault_line files Device = codes "pamcheck: V2 Write\n"
+fault_line files Memory = codes "pamcheck: E17 Memory\n"
+
+-- the exit status of a fault of the configuration
+abbrev pub conf_status : FaultKind → ℕ
+conf_status conf.Memory = 6
+conf_status _ = 3
+
+abbrev pub table_status : TableFault → ℕ
+table_status table.Memory = 6
+table_status _ = 4
+
+abbrev pub moment_status : MomentError → ℕ
+moment_status moment.Memory = 6
+moment_status _ = 4
+
+abbrev pub status_of_fault : Fault → ℕ
+status_of_fault (Conf e) = conf_status e.kind
+status_of_fault (faults.Table e) = table_status e.fault
+status_of_fault (faults.Moment e) = moment_status e
+status_of_fault (Count e) = 2
+status_of_fault Device = 5
+status_of_fault Memory = 6

@@ -1,0 +1,51 @@
+-- What `show` prints: the stack of a service, rule by rule, as pam.conf(5) orders it.
+use Rattle.std.specs.Prelude.{ℕ, ◌+◌, Bool, true, false, List, ◌∷◌, [], ◌++◌, codes, decimal, map, replicate, ◌*◌}
+use Rattle.std.specs.List.{concat, flat_map}
+use Rattle.pam_codes.specs.ControlText.{control_text}
+use Rattle.pam_conf.specs.Files.{Folder}
+use Rattle.pam_conf.specs.Stack.{Items, End, ThenModule, ThenSub, ModuleText, SubText, module_count}
+use Rattle.pam_conf.specs.declared.rule.Kind.{Kind}
+use Rattle.pam_report.specs.Header.{header_text, name_at}
+use Rattle.pam_report.specs.WordText.{word_text}
+
+-- two spaces for each level below the top
+unfoldable pub indent : ℕ → List ℕ
+indent level = replicate (2 * level) 32
+
+-- `FILE:LINE`
+unfoldable pub place_text : Folder → ℕ → ℕ → List ℕ
+place_text files file line = concat (name_at files file ∷ codes ":" ∷ decimal line ∷ [])
+
+-- what stands before the control; a rule that is dashed has its dash there
+abbrev pub dash_text : Bool → List ℕ
+dash_text true = codes " - "
+dash_text false = codes " "
+
+-- each word behind a space
+abbrev pub words_text : List (List ℕ) → List ℕ
+words_text words = flat_map (λ word. codes " " ++ word_text word) words
+
+-- `NUMBER FILE:LINE ` at a level, with `- ` behind it for a dashed rule
+unfoldable pub module_front : Folder → ℕ → ModuleText → List ℕ
+module_front files level m =
+    indent level ++ concat (decimal m.number ∷ codes " " ∷ []) ++ place_text files m.file m.line ++ dash_text m.dashed
+
+-- `NUMBER FILE:LINE CONTROL PATH ARGUMENT...`
+unfoldable pub module_line : Folder → ℕ → ModuleText → List ℕ
+module_line files level m =
+    module_front files level m ++ control_text m.control ++ (codes " " ++ word_text m.path) ++ words_text m.arguments ++ codes "\n"
+
+-- `sub FILE:LINE TARGET`
+unfoldable pub sub_line : Folder → ℕ → SubText → List ℕ
+sub_line files level s =
+    indent level ++ codes "sub " ++ place_text files s.file s.line ++ concat (codes " " ∷ name_at files s.target ∷ codes "\n" ∷ [])
+
+-- the lines of a list at a level; the items of a substack are one level deeper
+unfoldable pub items_text : Folder → ℕ → Items → List ℕ
+items_text files level End = []
+items_text files level (ThenModule m rest) = module_line files level m ++ items_text files level rest
+items_text files level (ThenSub s inner rest) = sub_line files level s ++ items_text files (level + 1) inner ++ items_text files level rest
+
+-- THE TEXT of `show`
+unfoldable pub show_text : List ℕ → Kind → Folder → Items → List ℕ
+show_text service kind files items = header_text service kind (module_count items) ++ items_text files 0 items

@@ -1,0 +1,248 @@
+//! Why a request has no answer, and the line that says so.
+
+ghost use Rattle.std.specs.Prelude.{◌≡◌, ◌++◌, IfOk, OnOk};
+ghost use Rattle.std.specs.Option.{option_map};
+ghost use Rattle.pam_codes.specs.Line.{line_text, piece_text};
+ghost use Rattle.pam_report.specs.Fault.{conf_fault, control_fault, fault_line, file_at, moment_fault_name, table_fault_name, table_line, table_name, status_of_fault};
+
+use pam_codes::{ControlError, Piece};
+use pam_conf::{ConfError, FaultKind, Files};
+use pam_dispatch::WrongCount;
+use pam_tables::{Table, TableError, TableFault};
+use pam_times::MomentError;
+use std::alloc::{AllocError, Global};
+use thiserror::Error;
+
+/// Why a request has no answer.
+#[derive(Clone, Copy, Debug, PartialEq, Eq, Error)]
+pub enum Fault {
+    /// A fault of the configuration.
+    #[error(transparent)]
+    Conf(ConfError),
+    /// A fault of a table.
+    #[error(transparent)]
+    Table(TableError),
+    /// The words give no moment.
+    #[error(transparent)]
+    Moment(MomentError),
+    /// Not one code for each module.
+    #[error(transparent)]
+    Count(WrongCount),
+    /// A write failed.
+    #[error("standard output took no more")]
+    Device,
+    /// A growth was refused.
+    #[error("out of memory")]
+    Memory,
+}
+
+fn control_fault_name(error: ControlError) -> &'static str
+    ensures { result.now ≡ control_fault error }
+{
+    match error {
+        ControlError::BadControl => "E4 BadControl",
+        ControlError::BadValue => "E5 BadValue",
+        ControlError::BadAction => "E6 BadAction",
+        ControlError::ZeroJump => "E7 ZeroJump",
+        ControlError::OpenBracket => "E8 OpenBracket",
+    }
+}
+
+#[tactic(auto, unfolding(crate::specs::Fault::conf_fault))]
+fn conf_fault_name(kind: FaultKind) -> &'static str
+    ensures { result.now ≡ conf_fault kind }
+{
+    match kind {
+        FaultKind::NulByte => "E1 NulByte",
+        FaultKind::MissingField => "E2 MissingField",
+        FaultKind::BadKind => "E3 BadKind",
+        FaultKind::Control(error) => control_fault_name(error),
+        FaultKind::MissingTarget => "E9 MissingTarget",
+        FaultKind::BadTarget => "E10 BadTarget",
+        FaultKind::Cycle => "E11 Cycle",
+        FaultKind::TooDeep => "E12 TooDeep",
+        FaultKind::TooManyModules => "E13 TooManyModules",
+        FaultKind::IncludeInSingleFile => "E14 IncludeInSingleFile",
+        FaultKind::NoService => "E15 NoService",
+        FaultKind::FileTooLong => "E16 FileTooLong",
+        FaultKind::Memory => "E17 Memory",
+        FaultKind::TooManyFollowed => "E18 TooManyFollowed",
+    }
+}
+
+/// Puts the text of the piece behind the text.
+fn push_piece(text: &mut Vec<u8>, piece: Piece<'_>) -> Result<(), AllocError>
+    ensures { OnOk result (text.new.items ≡ text.old.items ++ piece_text piece.entry) }
+{
+    match piece {
+        Piece::Bytes(bytes) => text.extend_from_slice(bytes),
+        Piece::Number(number) => {
+            let mut digits = itoa::Buffer::new();
+            text.extend_from_slice(digits.format(number).as_bytes())
+        }
+    }
+}
+
+/// The pieces as one text.
+fn joined(alloc: Global, pieces: &[Piece<'_>]) -> Result<Vec<u8>, AllocError>
+    ensures { IfOk result (λ text. text.items ≡ line_text pieces.now) }
+{
+    let mut text = Vec::new(alloc);
+    for piece in pieces {
+        push_piece(&mut text, *piece)?;
+    }
+    Ok(text)
+}
+
+#[tactic(auto, unfolding(crate::specs::Fault::table_fault_name))]
+fn table_fault_name(fault: TableFault) -> &'static str
+    ensures { result.now ≡ table_fault_name fault }
+{
+    match fault {
+        TableFault::MissingField => "TE1 MissingField",
+        TableFault::BadPermission => "TE2 BadPermission",
+        TableFault::Netgroup => "TE3 Netgroup",
+        TableFault::UserAtHost => "TE4 UserAtHost",
+        TableFault::BadMask => "TE5 BadMask",
+        TableFault::BadTimes => "TE6 BadTimes",
+        TableFault::TwoWildcards => "TE7 TwoWildcards",
+        TableFault::BadLogic => "TE8 BadLogic",
+        TableFault::BadGroup => "TE9 BadGroup",
+        TableFault::NulByte => "TE10 NulByte",
+        TableFault::Memory => "TE11 Memory",
+        TableFault::TableTooLong => "TE12 TableTooLong",
+    }
+}
+
+fn table_name(table: Table) -> &'static str
+    ensures { result.now ≡ table_name table }
+{
+    match table {
+        Table::Access => "access",
+        Table::Time => "time",
+        Table::Group => "group",
+    }
+}
+
+fn moment_fault_name(error: MomentError) -> &'static str
+    ensures { result.now ≡ moment_fault_name error }
+{
+    match error {
+        MomentError::Range => "M1 Range",
+        MomentError::Rule => "M2 Rule",
+        MomentError::Memory => "M3 Memory",
+        MomentError::Syntax => "M4 Syntax",
+    }
+}
+
+fn table_fault_text(alloc: Global, error: &TableError) -> Result<Vec<u8>, AllocError>
+    ensures { IfOk result (λ text. text.items ≡ table_line error.now.table error.now.fault error.now.line) }
+{
+    if error.fault == TableFault::Memory {
+        return joined(alloc, &[Piece::Bytes(b"pamcheck: TE11 Memory\n")]);
+    }
+    joined(
+        alloc,
+        &[
+            Piece::Bytes(b"pamcheck: "),
+            Piece::Bytes(table_fault_name(error.fault).as_bytes()),
+            Piece::Bytes(b" "),
+            Piece::Bytes(table_name(error.table).as_bytes()),
+            Piece::Bytes(b":"),
+            Piece::Number(u64::from(error.line)),
+            Piece::Bytes(b"\n"),
+        ],
+    )
+}
+
+/// The line `pamcheck: NUMBER NAME` of a fault, with its place where it has one. A position that the files do not
+/// have gives no place.
+#[tactic(auto, unfolding(crate::specs::Fault::fault_line))]
+pub fn fault_text(alloc: Global, fault: &Fault, files: &Files) -> Result<Vec<u8>, AllocError>
+    ensures { IfOk result (λ text. text.items ≡ fault_line files.now fault.now) }
+{
+    match fault {
+        Fault::Conf(error) => conf_fault_text(alloc, error, files),
+        Fault::Count(error) => joined(
+            alloc,
+            &[
+                Piece::Bytes(b"pamcheck: DE1 WrongCount want "),
+                Piece::Number(error.modules as u64),
+                Piece::Bytes(b"\n"),
+            ],
+        ),
+        Fault::Table(error) => table_fault_text(alloc, error),
+        Fault::Moment(error) => joined(
+            alloc,
+            &[
+                Piece::Bytes(b"pamcheck: "),
+                Piece::Bytes(moment_fault_name(*error).as_bytes()),
+                Piece::Bytes(b"\n"),
+            ],
+        ),
+        Fault::Device => joined(alloc, &[Piece::Bytes(b"pamcheck: V2 Write\n")]),
+        Fault::Memory => joined(alloc, &[Piece::Bytes(b"pamcheck: E17 Memory\n")]),
+    }
+}
+
+#[tactic(auto, unfolding(crate::specs::Fault::fault_line))]
+fn conf_fault_text(alloc: Global, error: &ConfError, files: &Files) -> Result<Vec<u8>, AllocError>
+    ensures { IfOk result (λ text. text.items ≡ fault_line files.now (Fault.Conf error.now)) }
+{
+    let name = conf_fault_name(error.kind);
+    match file_at(files, error.at) {
+        None => joined(
+            alloc,
+            &[
+                Piece::Bytes(b"pamcheck: "),
+                Piece::Bytes(name.as_bytes()),
+                Piece::Bytes(b"\n"),
+            ],
+        ),
+        Some(file) => joined(
+            alloc,
+            &[
+                Piece::Bytes(b"pamcheck: "),
+                Piece::Bytes(name.as_bytes()),
+                Piece::Bytes(b" "),
+                Piece::Bytes(file),
+                Piece::Bytes(b":"),
+                Piece::Number(error.line as u64),
+                Piece::Bytes(b"\n"),
+            ],
+        ),
+    }
+}
+
+/// The name of the file at a position, if the files have it.
+fn file_at(files: &Files, at: Option<usize>) -> Option<&[u8]>
+    ensures { option_map (λ name. name.now) result ≡ file_at files.now at }
+{
+    match at {
+        Some(position) => files.name(position),
+        None => None,
+    }
+}
+
+/// The exit status of a fault.
+pub fn fault_status(fault: &Fault) -> u8
+    ensures { result ≡ status_of_fault fault.now }
+{
+    match fault {
+        Fault::Conf(error) => match error.kind {
+            FaultKind::Memory => 6,
+            _ => 3,
+        },
+        Fault::Table(error) => match error.fault {
+            TableFault::Memory => 6,
+            _ => 4,
+        },
+        Fault::Moment(error) => match error {
+            MomentError::Memory => 6,
+            _ => 4,
+        },
+        Fault::Count(_) => 2,
+        Fault::Device => 5,
+        Fault::Memory => 6,
+    }
+}

@@ -1,0 +1,211 @@
+//! The files that a request names, read into memory.
+
+ghost use Rattle.std.specs.Prelude.{◌≡◌};
+ghost use Rattle.pam_report.specs.Inputs.{bytes_given};
+
+use pam_conf::{Files, Form};
+use pam_words::{Request, Source, Task};
+use std::alloc::{AllocError, AllocFailed, Global};
+use std::io::{Error, ErrorKind, Read};
+use std::path::Path;
+use std::{fs, io};
+use thiserror::Error;
+
+/// The most bytes that a file is read for: one past the limit, so that a file that is too long is seen to be.
+const MOST: u64 = 1_048_577;
+
+/// Why an input is not there.
+#[derive(Debug, Drop, Error)]
+pub enum InputError {
+    /// The name as it stood in the words, or that of an entry of the folder.
+    #[error("{0} cannot be read")]
+    Read(String),
+    #[error("out of memory")]
+    Memory,
+}
+
+impl From<AllocError> for InputError {
+    fn from(_: AllocError) -> InputError {
+        InputError::Memory
+    }
+}
+
+impl<T: Drop> From<AllocFailed<T>> for InputError {
+    fn from(_: AllocFailed<T>) -> InputError {
+        InputError::Memory
+    }
+}
+
+/// What a failed read of this name is: want of memory too may be its cause.
+fn unread(alloc: Global, name: &str, error: &io::Error) -> InputError {
+    if error.kind() == ErrorKind::OutOfMemory {
+        return InputError::Memory;
+    }
+    match String::from_str(alloc, name) {
+        Ok(name) => InputError::Read(name),
+        Err(_) => InputError::Memory,
+    }
+}
+
+fn bytes_at<R: std::rt::Files>(rt: &R, alloc: Global, path: Path<'_>) -> io::Result<Vec<u8>> {
+    let mut bytes = Vec::new(alloc);
+    let mut reader = fs::open(rt, path)?.take(MOST);
+    reader.read_to_end(&mut bytes)?;
+    Ok(bytes)
+}
+
+/// A file that the words name.
+fn named_file<R: std::rt::Files>(rt: &R, alloc: Global, name: &str) -> Result<Vec<u8>, InputError> {
+    bytes_at(rt, alloc, Path::new(name)).map_err(|error| unread(alloc, name, &error))
+}
+
+/// Whether an entry is a regular file, links followed. One that leads nowhere, or in a ring, is none.
+fn is_regular<R: std::rt::Files>(rt: &R, path: Path<'_>) -> io::Result<bool> {
+    match fs::metadata(rt, path) {
+        Ok(metadata) => Ok(metadata.is_file()),
+        Err(error) => match error.kind() {
+            ErrorKind::NotFound | ErrorKind::FilesystemLoop | ErrorKind::NotADirectory => Ok(false),
+            _ => Err(error),
+        },
+    }
+}
+
+/// The names of the entries of a folder, in rising byte order.
+fn entry_names<R: std::rt::Files + AllocGlobal + Clone + Drop>(
+    rt: &R,
+    alloc: Global,
+    folder: &str,
+) -> io::Result<Vec<String>> {
+    let mut names = Vec::new(alloc);
+    for entry in fs::read_dir(rt, folder)? {
+        let entry = entry?;
+        names.push(String::from_str(alloc, entry.file_name())?)?;
+    }
+    names.sort()?;
+    Ok(names)
+}
+
+/// The bytes of an entry of a folder, if it is a regular file.
+fn entry_bytes<R: std::rt::Files>(
+    rt: &R,
+    alloc: Global,
+    folder: &str,
+    name: &str,
+) -> io::Result<Option<Vec<u8>>> {
+    let path = Path::new(folder).join(alloc, name)?;
+    if !is_regular(rt, path.as_path())? {
+        return Ok(None);
+    }
+    Ok(Some(bytes_at(rt, alloc, path.as_path())?))
+}
+
+fn folder_files<R: std::rt::Files + AllocGlobal + Clone + Drop>(
+    rt: &R,
+    alloc: Global,
+    folder: &str,
+) -> Result<Files, InputError> {
+    let mut files = Files::new(alloc, Form::Dir);
+    let names = match entry_names(rt, alloc, folder) {
+        Ok(names) => names,
+        Err(error) => return Err(unread(alloc, folder, &error)),
+    };
+    for name in names {
+        match entry_bytes(rt, alloc, folder, name.as_str()) {
+            Ok(None) => {}
+            Ok(Some(bytes)) => files.put(name.into_bytes(), bytes)?,
+            Err(error) => return Err(unread(alloc, name.as_str(), &error)),
+        }
+    }
+    Ok(files)
+}
+
+/// The regular files of a folder, links followed, or the one file in the place of `pam.conf`.
+fn source_files<R: std::rt::Files + AllocGlobal + Clone + Drop>(
+    rt: &R,
+    alloc: Global,
+    source: Source<'_>,
+) -> Result<Files, InputError> {
+    match source {
+        Source::Dir(folder) => folder_files(rt, alloc, folder),
+        Source::Conf(name) => {
+            let mut files = Files::new(alloc, Form::Single);
+            let bytes = named_file(rt, alloc, name)?;
+            files.put(Vec::from_slice(alloc, b"pam.conf")?, bytes)?;
+            Ok(files)
+        }
+    }
+}
+
+/// What a request is answered from: the configuration, and the bytes of tables.
+#[derive(Drop)]
+pub struct Inputs {
+    pub files: Files,
+    pub groups: Option<Vec<u8>>,
+    pub access: Option<Vec<u8>>,
+    pub time: Option<Vec<u8>>,
+}
+
+impl Inputs {
+    ghost use Rattle.std.specs.Prelude.{◌≡◌, is_some};
+    ghost use Rattle.pam_report.specs.Inputs.{fits_task};
+
+    /// Whether these are the bytes of exactly the tables that a request names.
+    pub fn fits(&self, request: &Request<'_>) -> bool
+        ensures { result ≡ fits_task request.now.task (is_some self.now.groups) (is_some self.now.access) (is_some self.now.time) }
+    {
+        let (groups, access, time) = match &request.task {
+            Task::Show { .. } | Task::Decide { .. } => (false, false, false),
+            Task::Access { groups, .. } => (groups.is_some(), true, false),
+            Task::Time { .. } => (false, false, true),
+        };
+        self.groups.is_some() == groups
+            && self.access.is_some() == access
+            && self.time.is_some() == time
+    }
+}
+
+/// The bytes of a table; none where it is not there.
+pub(crate) fn bytes_given(bytes: &Option<Vec<u8>>) -> &[u8]
+    ensures { result.now ≡ bytes_given bytes.now }
+{
+    match bytes {
+        Some(bytes) => bytes.as_slice(),
+        None => b"",
+    }
+}
+
+/// A file that may be named.
+fn optional_file<R: std::rt::Files>(
+    rt: &R,
+    alloc: Global,
+    name: Option<&str>,
+) -> Result<Option<Vec<u8>>, InputError> {
+    match name {
+        Some(name) => Ok(Some(named_file(rt, alloc, name)?)),
+        None => Ok(None),
+    }
+}
+
+/// Reads what a request names: the source first, then the group, access and time tables.
+pub(crate) fn inputs_of<R: std::rt::Files + AllocGlobal + Clone + Drop>(
+    rt: &R,
+    alloc: Global,
+    request: &Request<'_>,
+) -> Result<Inputs, InputError> {
+    let (source, groups, access, time) = match &request.task {
+        Task::Show { source, .. } => (Some(*source), None, None, None),
+        Task::Decide { source, .. } => (Some(*source), None, None, None),
+        Task::Access { table, groups, .. } => (None, *groups, Some(*table), None),
+        Task::Time { table, .. } => (None, None, None, Some(*table)),
+    };
+    let files = match source {
+        Some(source) => source_files(rt, alloc, source)?,
+        None => Files::new(alloc, Form::Dir),
+    };
+    Ok(Inputs {
+        files,
+        groups: optional_file(rt, alloc, groups)?,
+        access: optional_file(rt, alloc, access)?,
+        time: optional_file(rt, alloc, time)?,
+    })
+}

@@ -1,0 +1,82 @@
+//! Answers: computed first, which finds all faults, and written then, which takes no memory.
+
+ghost use Rattle.std.specs.Prelude.{◌≡◌, ◌-◌, ◌<◌, ◌^◌};
+ghost use Rattle.pam_report.specs.Answer.{Answers, status_number};
+
+mod access;
+mod decide;
+mod header;
+mod show;
+mod time;
+mod word;
+
+use crate::fault::Fault;
+use crate::inputs::Inputs;
+use access::{Person, answer_access};
+use decide::answer_decide;
+use pam_codes::Out;
+use pam_words::{Request, Task};
+use show::answer_show;
+use std::alloc::Global;
+use std::io::Write;
+use time::{answer_time, moment_of};
+
+/// How an answer turned out.
+#[derive(Clone, Copy, Debug, PartialEq, Eq)]
+pub enum Status {
+    /// Answered; where something is decided, it is success or granted.
+    Success,
+    /// Another decision, or denied.
+    Refusal,
+}
+
+impl Status {
+    /// The exit status.
+    pub fn number(self) -> u8
+        ensures { result ≡ status_number self }
+    {
+        match self {
+            Status::Success => 0,
+            Status::Refusal => 1,
+        }
+    }
+}
+
+/// Writes the answer to a request, and flushes once at its end. All faults but a failed write are found before the
+/// first byte. The tables are those that the request names where the inputs fit it; one that is not there is empty.
+pub fn answer<W: Write>(
+    alloc: Global,
+    request: &Request<'_>,
+    inputs: &Inputs,
+    out: &mut Out<W>,
+) -> Result<Status, Fault>
+    requires { out.old.failures < 2 ^ 64 - 1 }
+    ensures { Answers W.contents out.old out.new result request.now.service.now request.now.task inputs.now }
+{
+    let service = request.service;
+    match &request.task {
+        Task::Show { kind, .. } => answer_show(alloc, service, *kind, &inputs.files, out),
+        Task::Decide { kind, codes, .. } => {
+            answer_decide(alloc, service, *kind, codes, &inputs.files, out)
+        }
+        Task::Access {
+            user,
+            rhost,
+            tty,
+            arguments,
+            ..
+        } => {
+            let person = Person { user, tty, rhost };
+            answer_access(alloc, service, person, arguments, inputs, out)
+        }
+        Task::Time {
+            user,
+            tty,
+            moment,
+            ..
+        } => {
+            let moment = moment_of(*moment);
+            answer_time(alloc, service, user, tty, moment, inputs, out)
+        }
+    }
+}

@@ -1,0 +1,126 @@
+//! What `time` prints: the line of a time table that denies.
+
+ghost use Rattle.std.specs.Prelude.{◌≡◌, ◌-◌, ◌<◌, ◌^◌, Ok, Result, []};
+ghost use Rattle.jiff.specs.Types.{DateTime as CivilTime};
+ghost use Rattle.pam_codes.specs.Out.{Writes};
+ghost use Rattle.pam_tables.specs.Login.{login_view};
+ghost use Rattle.pam_report.specs.Answer.{FindsTime, IsMoment, Leaves, login_to, time_status, timed, with_rules};
+ghost use Rattle.pam_report.specs.Inputs.{bytes_given};
+ghost use Rattle.pam_report.specs.Tables.{time_text};
+ghost use Rattle.pam_times.specs.Reading.{rules_of};
+
+use super::Status;
+use super::access::{lowered, put_denied};
+use crate::fault::Fault;
+use crate::inputs::{Inputs, bytes_given};
+use jiff::civil::DateTime;
+use pam_codes::{Device, Out};
+use pam_tables::Login;
+use pam_times::{MomentError, TimeAnswer, TimeTable, civil, moment};
+use pam_words::Moment;
+use std::alloc::Global;
+use std::io::Write;
+
+#[tactic(auto, unfolding(crate::specs::Tables::time_text))]
+fn put_answer<W: Write>(answer: TimeAnswer, out: &mut Out<W>) -> Result<(), Device>
+    requires { out.old.failures < 2 ^ 64 - 1 }
+    ensures { Writes W.contents out.old out.new result (time_text answer) }
+{
+    match answer {
+        TimeAnswer::Granted => out.put(b"granted\n"),
+        TimeAnswer::Denied(line) => put_denied(line, out),
+    }
+}
+
+fn status_of(answer: TimeAnswer) -> Status
+    ensures { result ≡ time_status answer }
+{
+    match answer {
+        TimeAnswer::Granted => Status::Success,
+        TimeAnswer::Denied(_) => Status::Refusal,
+    }
+}
+
+/// The civil time that the words give.
+pub(super) fn moment_of(wanted: Moment<'_>) -> Result<DateTime, MomentError>
+    ensures { IsMoment wanted.entry result }
+{
+    match wanted {
+        Moment::Civil(text) => civil(text.as_bytes()),
+        Moment::Instant { seconds, zone } => moment(seconds, zone),
+    }
+}
+
+/// What the table says of a login at a moment.
+fn look_up(
+    alloc: Global,
+    login: &Login<'_>,
+    moment: &DateTime,
+    bytes: &[u8],
+) -> Result<TimeAnswer, Fault>
+    ensures { FindsTime result (with_rules (login_view login.now) moment.now (rules_of bytes.now)) }
+{
+    match TimeTable::read(alloc, bytes) {
+        Ok(table) => Ok(table.decide(login, moment)),
+        Err(error) => Err(Fault::Table(error)),
+    }
+}
+
+fn write_answer<W: Write>(answer: TimeAnswer, out: &mut Out<W>) -> Result<(), Device>
+    requires { out.old.failures < 2 ^ 64 - 1 }
+    ensures { Writes W.contents out.old out.new result (time_text answer) }
+{
+    put_answer(answer, out)?;
+    out.finish()
+}
+
+/// Answers `time` for a login.
+fn answer_login<W: Write>(
+    alloc: Global,
+    login: &Login<'_>,
+    moment: &DateTime,
+    bytes: &[u8],
+    out: &mut Out<W>,
+) -> Result<Status, Fault>
+    requires { out.old.failures < 2 ^ 64 - 1 }
+    ensures { Leaves W.contents out.old out.new result (with_rules (login_view login.now) moment.now (rules_of bytes.now)) }
+{
+    let answer = match look_up(alloc, login, moment, bytes) {
+        Ok(answer) => answer,
+        Err(fault) => return Err(fault),
+    };
+    match write_answer(answer, out) {
+        Ok(()) => Ok(status_of(answer)),
+        Err(Device) => Err(Fault::Device),
+    }
+}
+
+/// Answers `time` at a moment.
+pub(super) fn answer_time<W: Write>(
+    alloc: Global,
+    service: &str,
+    user: &str,
+    tty: &str,
+    moment: Result<DateTime, MomentError>,
+    inputs: &Inputs,
+    out: &mut Out<W>,
+) -> Result<Status, Fault>
+    requires { out.old.failures < 2 ^ 64 - 1 }
+    ensures { Leaves W.contents out.old out.new result (timed (login_to service.now user.now tty.now []) (bytes_given inputs.now.time) moment) }
+{
+    let moment = match moment {
+        Ok(moment) => moment,
+        Err(error) => return Err(Fault::Moment(error)),
+    };
+    let service = match lowered(alloc, service) {
+        Ok(service) => service,
+        Err(_) => return Err(Fault::Memory),
+    };
+    let login = Login {
+        user: user.as_bytes(),
+        service: &service,
+        tty: tty.as_bytes(),
+        rhost: b"",
+    };
+    answer_login(alloc, &login, &moment, bytes_given(&inputs.time), out)
+}

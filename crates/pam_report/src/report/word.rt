@@ -1,0 +1,54 @@
+//! Words, as they are written.
+
+ghost use Rattle.std.specs.Prelude.{◌≡◌, ◌-◌, ◌<◌, ◌^◌};
+ghost use Rattle.std.specs.List.{list_any};
+ghost use Rattle.pam_codes.specs.Out.{Writes};
+ghost use Rattle.pam_codes.specs.Tokens.{is_blank};
+ghost use Rattle.pam_report.specs.WordText.{escaped, is_plain, word_text};
+
+use pam_codes::{Device, Out, is_blank_byte};
+use std::io::Write;
+
+fn is_plain(text: &[u8]) -> bool
+    ensures { result ≡ is_plain text.now }
+{
+    match text.first() {
+        None => false,
+        Some(b'[') => false,
+        Some(_) => !has_blank(text),
+    }
+}
+
+fn has_blank(text: &[u8]) -> bool
+    ensures { result ≡ list_any is_blank text.now }
+{
+    text.iter().any(|byte| is_blank_byte(*byte))
+}
+
+/// Writes the text with a backslash before each closing bracket.
+fn put_escaped<W: Write>(text: &[u8], out: &mut Out<W>) -> Result<(), Device>
+    requires { out.old.failures < 2 ^ 64 - 1 }
+    ensures { Writes W.contents out.old out.new result (escaped text.now) }
+{
+    for byte in text {
+        if *byte == b']' {
+            out.put(b"\\]")?;
+        } else {
+            out.put(&[*byte])?;
+        }
+    }
+    Ok(())
+}
+
+/// Writes a text as a word: as it stands where a plain word can have it, else in brackets.
+pub(super) fn put_word<W: Write>(text: &[u8], out: &mut Out<W>) -> Result<(), Device>
+    requires { out.old.failures < 2 ^ 64 - 1 }
+    ensures { Writes W.contents out.old out.new result (word_text text.now) }
+{
+    if is_plain(text) {
+        return out.put(text);
+    }
+    out.put(b"[")?;
+    put_escaped(text, out)?;
+    out.put(b"]")
+}

@@ -1,7 +1,0 @@
-use Rattle.std.proofs.Common.{◌∙◌}
-use Rattle.pamcheck.proofs.TraceSteps.{decided_by-is}
-use Rattle.pamcheck.proofs.report.decide.decide_stack.Goals as goal
-
-pub returns : goal.returns
-returns g c =
-    (_, decided_by-is c.args.service.now c.args.kind c.args.stack.now c.args.codes.now (c.in-Ok-decide.ensures.count ∙ c.in-Ok.ensures.modules), c.in-Err-write_run.ensures)

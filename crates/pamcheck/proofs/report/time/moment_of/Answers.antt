@@ -1,5 +1,0 @@
-use Rattle.pamcheck.proofs.Civil.{written-is}
-use Rattle.pamcheck.proofs.report.time.moment_of.Goals as goal
-
-pub returns-in-Civil : goal.returns-in-Civil
-returns-in-Civil c = rw c.in-Civil.is (written-is _ _ _ c.as_bytes.ensures.value c.civil.ensures.accepts c.civil.ensures.value c.civil.ensures.refusal)

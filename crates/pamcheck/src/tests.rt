@@ -1,3 +1,0 @@
-mod fault;
-mod running;
-mod writers;
