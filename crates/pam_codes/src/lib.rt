@@ -10,8 +10,6 @@ mod line;
 mod out;
 mod set;
 mod subject;
-#[cfg(test)]
-mod tests;
 mod text;
 mod tokens;
 

@@ -12,8 +12,6 @@ mod program;
 mod settle;
 mod state;
 mod step;
-#[cfg(test)]
-mod tests;
 mod work;
 
 pub use decision::Decision;

@@ -11,8 +11,6 @@ mod login;
 mod network;
 mod options;
 mod pieces;
-#[cfg(test)]
-mod tests;
 mod tokens;
 
 pub use access::{AccessAnswer, AccessTable};

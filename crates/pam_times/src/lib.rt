@@ -7,8 +7,6 @@ mod logic;
 mod moments;
 mod pattern;
 mod reading;
-#[cfg(test)]
-mod tests;
 mod times;
 
 pub use moments::{MomentError, civil, moment};

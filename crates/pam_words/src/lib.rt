@@ -2,8 +2,6 @@
 #![tactic(auto)]
 
 mod reading;
-#[cfg(test)]
-mod tests;
 mod usage;
 mod wanted;
 mod words;

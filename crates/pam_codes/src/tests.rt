@@ -1,5 +1,0 @@
-mod code;
-mod control;
-mod out;
-mod set;
-mod text;

@@ -1,2 +1,0 @@
-mod actions;
-mod stacks;

@@ -1,0 +1,72 @@
+//! A writer that takes little, then errs or takes nothing, and may not flush.
+
+use std::alloc::Global;
+use std::io;
+use std::io::{Error, ErrorKind, Write};
+
+/// What a writer does once it has taken all that it may.
+#[derive(Clone, Copy, Debug)]
+pub(crate) enum End {
+    TakesNothing,
+    Answers(ErrorKind),
+}
+
+/// Takes at most `step` bytes a call and `room` bytes in all.
+#[derive(Drop)]
+pub(crate) struct Halting {
+    pub bytes: Vec<u8>,
+    pub calls: u32,
+    pub step: usize,
+    pub room: usize,
+    pub end: End,
+    pub can_flush: bool,
+}
+
+pub(crate) const NOTHING: End = End::TakesNothing;
+
+pub(crate) const FULL: End = End::Answers(ErrorKind::StorageFull);
+
+pub(crate) const INTERRUPTED: End = End::Answers(ErrorKind::Interrupted);
+
+impl Halting {
+    pub(crate) fn new(
+        alloc: Global,
+        step: usize,
+        room: usize,
+        end: End,
+        can_flush: bool,
+    ) -> Halting {
+        Halting {
+            bytes: Vec::new(alloc),
+            calls: 0,
+            step,
+            room,
+            end,
+            can_flush,
+        }
+    }
+}
+
+impl Write for Halting {
+    fn write(&mut self, buf: &[u8]) -> io::Result<usize> {
+        self.calls = self.calls.saturating_add(1);
+        let left = self.room.saturating_sub(self.bytes.len());
+        if left == 0 {
+            return match self.end {
+                End::TakesNothing => Ok(0),
+                End::Answers(kind) => Err(Error::from(kind)),
+            };
+        }
+        let count = buf.len().min(self.step).min(left);
+        self.bytes.extend_from_slice(&buf[..count])?;
+        Ok(count)
+    }
+
+    fn flush(&mut self) -> io::Result<()> {
+        if self.can_flush {
+            Ok(())
+        } else {
+            Err(Error::from(ErrorKind::StorageFull))
+        }
+    }
+}

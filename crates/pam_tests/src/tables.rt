@@ -1,0 +1,54 @@
+//! Tables that are too long, and groups.
+
+use pam_tables::{AccessOptions, AccessTable, Groups, Table, TableError, TableFault};
+use pam_times::TimeTable;
+use std::process::Abort;
+use std::test::Fail;
+
+fn too_long(table: Table) -> Option<TableError> {
+    Some(TableError {
+        table,
+        fault: TableFault::TableTooLong,
+        line: 0,
+    })
+}
+
+#[test]
+fn tables_of_one_byte_too_many(rt: HostRuntime) -> Result<(), Fail> {
+    let long = vec![in rt.alloc(); 0; 1_048_577]?;
+    let options = AccessOptions::of(&[]);
+    let access = AccessTable::read(rt.alloc(), &long, &options).err();
+    assert_eq!(rt; access, too_long(Table::Access));
+    let groups = Groups::read(rt.alloc(), &long).err();
+    assert_eq!(rt; groups, too_long(Table::Group));
+    let time = TimeTable::read(rt.alloc(), &long).err();
+    assert_eq!(rt; time, too_long(Table::Time));
+    Ok(())
+}
+
+#[test]
+fn members_of_groups(rt: HostRuntime) -> Result<(), Fail> {
+    let groups = Groups::read(
+        rt.alloc(),
+        b"a:x:1:bob,,carol\r\n\nb::x:bob\na:x:1:dora\nbob,bob:bob,bob:1:",
+    )?;
+    for (group, user, want) in [
+        ("a", "bob", true),
+        ("a", "carol", true),
+        ("a", "dora", false),
+        ("a", "", false),
+        ("A", "bob", false),
+        ("a", "Bob", false),
+        ("b", "bob", true),
+        ("bob,bob", "bob", false),
+        ("c", "bob", false),
+    ] {
+        assert_eq!(rt;
+            groups.lists(group.as_bytes(), user.as_bytes()),
+            want,
+            "{group} {user}"
+        );
+    }
+    assert!(rt; !Groups::new(rt.alloc()).lists(b"a", b"bob"));
+    Ok(())
+}

@@ -1,0 +1,44 @@
+//! Runs each line of standard input as words of pamcheck, and writes what a terminal would show: the words, the answer,
+//! behind `!` what is said on standard error, and the exit status. Words are parted by one blank, so that two in a row
+//! hold an empty word.
+#![tactic(auto)]
+
+use pam_codes::Out;
+use pam_report::run;
+use std::alloc::{AllocError, Global};
+use std::io::{self, BufRead, BufReader, BufWriter, Write};
+
+/// The program's name, and the words of a line.
+fn words_of(alloc: Global, line: &str) -> Result<Vec<String>, AllocError> {
+    let mut words = Vec::new(alloc);
+    words.push(String::from_str(alloc, "pamcheck")?)?;
+    for word in line.split(' ') {
+        words.push(String::from_str(alloc, word)?)?;
+    }
+    Ok(words)
+}
+
+/// Runs a line, and writes it with all that it answers.
+fn show<W: Write>(rt: &HostRuntime, alloc: Global, line: &str, screen: &mut W) -> io::Result<()> {
+    let words = words_of(alloc, line)?;
+    let mut written = Vec::new(alloc);
+    let mut said = Vec::new(alloc);
+    let mut out = Out::new(&mut written);
+    let status = run(rt, alloc, &words, &mut out, &mut Out::new(&mut said));
+    writeln!(screen, "$ pamcheck {line}")?;
+    screen.write_all(&written)?;
+    if !said.is_empty() {
+        screen.write_all(b"! ")?;
+        screen.write_all(&said)?;
+    }
+    writeln!(screen, "status {status}")
+}
+
+fn main(rt: HostRuntime) -> io::Result<()> {
+    let alloc = rt.alloc();
+    let mut screen = BufWriter::new(alloc, io::writer(&rt))?;
+    for line in BufReader::new(alloc, rt.reader())?.lines(alloc) {
+        show(&rt, alloc, &line?, &mut screen)?;
+    }
+    screen.flush()
+}
