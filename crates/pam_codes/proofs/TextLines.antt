@@ -1,5 +1,5 @@
 -- The first line of a text, the lines behind it, and their numbers.
-use Rattle.std.proofs.Common.{◌≡◌, ◌+◌, ◌&&◌, ◌⊎◌, ◌<◌, ◌≤◌, inl, inr, ⊎_elim, length, arith, ℕ, Bool, true, false, List, [], ◌∷◌, map, cond, eqb, ap, sym, refl}
+use Rattle.std.proofs.Common.{◌≡◌, ◌+◌, ◌&&◌, ◌⊎◌, ◌<◌, ◌≤◌, inl, inr, ⊎_elim, length, arith, ℕ, Bool, true, false, List, [], ◌∷◌, map, cond, eqb, ap, refl}
 use Rattle.std.specs.List.{onto_first}
 use Rattle.std.proofs.lemmas.Bool.{eqb-true}
 use Rattle.pam_codes.specs.Text.{Mark, marked, uncommented, joined, text_of, lines_of, first_line, first_marks, behind_line}

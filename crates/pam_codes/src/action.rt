@@ -87,8 +87,8 @@ impl Action {
         }
     }
 
-    /// The word in a control.
-    pub(crate) fn piece(self) -> Piece<'static>
+    /// The word in a control; of a jump the number.
+    pub fn piece(self) -> Piece<'static>
         ensures { piece_text result ≡ action_text self }
     {
         match self {

@@ -1,5 +1,5 @@
 -- What an answer is: a text and a status, or the first fault.
-use Rattle.std.specs.Prelude.{◌≡◌, ℕ, ℤ, List, [], map, IsSome, Option, Some, None, Result, Ok, Err, ◌==◌, if◌then◌else◌, length}
+use Rattle.std.specs.Prelude.{◌≡◌, ℕ, ℤ, List, [], map, IsSome, Option, Result, Ok, Err, ◌==◌, if◌then◌else◌, length}
 use Rattle.std.specs.Char.{to_ascii_lowercase}
 use Rattle.pam_codes.specs.Out.{TookAll, TookFront}
 use Rattle.pam_codes.specs.declared.out.Out.{Out}
@@ -15,7 +15,7 @@ use Rattle.jiff.specs.Words.{read_whole}
 use Rattle.pam_dispatch.specs.Runs.{answers_of}
 use Rattle.pam_dispatch.specs.Tree.{decided}
 use Rattle.pam_tables.specs.Access.{TableText, access_answer, table_of}
-use Rattle.pam_tables.specs.Groups.{Group, groups_of}
+use Rattle.pam_tables.specs.Groups.{Group}
 use Rattle.pam_tables.specs.Login.{LoginText}
 use Rattle.pam_tables.specs.Options.{Options, options_of}
 use Rattle.pam_tables.specs.declared.access.AccessAnswer.{AccessAnswer}
@@ -35,7 +35,6 @@ use Rattle.pam_words.specs.declared.wanted.Moment.{Moment}
 use Rattle.pam_words.specs.declared.wanted.Moment.TheVariants.{Civil, Instant}
 use Rattle.pam_words.specs.declared.wanted.Task.{Task}
 use Rattle.pam_words.specs.declared.wanted.Task.TheVariants.{Show, Decide, Access, Time}
-use Rattle.pam_words.specs.declared.wanted.Request.{Request}
 use Rattle.pam_report.specs.Decide.{decide_text}
 use Rattle.pam_report.specs.Inputs.{bytes_given, groups_given}
 use Rattle.pam_report.specs.Show.{show_text}

@@ -3,7 +3,8 @@ use Rattle.std.specs.Prelude.{ℕ, List, ◌∷◌, [], ◌++◌, codes, decimal
 use Rattle.std.specs.List.{concat}
 use Rattle.std.specs.Option.{option_map_or}
 use Rattle.pam_codes.specs.declared.action.Action.{Action}
-use Rattle.pam_codes.specs.declared.action.Action.TheVariants.{Ignore, Ok, Done, Bad, Die, Reset, Jump}
+use Rattle.pam_codes.specs.declared.action.Action.TheVariants.{Jump}
+use Rattle.pam_codes.specs.Action.{action_text as word_of_action}
 use Rattle.pam_conf.specs.Stack.{Items, module_at, module_count}
 use Rattle.pam_conf.specs.declared.rule.Kind.{Kind}
 use Rattle.pam_dispatch.specs.Runs.{Ask, Assignment, answers_of, outcome_of}
@@ -15,14 +16,10 @@ use Rattle.pam_dispatch.specs.declared.state.State.{State}
 use Rattle.pam_report.specs.Header.{code_name, header_text}
 use Rattle.pam_report.specs.WordText.{word_text}
 
+-- an action as a control has it, a jump behind `jump:`
 unfoldable pub action_text : Action → List ℕ
-action_text Ignore = codes "ignore"
-action_text Ok = codes "ok"
-action_text Done = codes "done"
-action_text Bad = codes "bad"
-action_text Die = codes "die"
-action_text Reset = codes "reset"
-action_text (Jump items) = codes "jump:" ++ decimal items
+action_text (Jump items) = codes "jump:" ++ word_of_action (Jump items)
+action_text action = word_of_action action
 
 abbrev pub impression_name : Impression → List ℕ
 impression_name Undef = codes "undef"

@@ -1,5 +1,5 @@
 -- The bytes of the tables that a request is answered from: access.conf(5), group(5), time.conf(5).
-use Rattle.std.specs.Prelude.{ℕ, List, [], Option, Some, None, Result, Ok, Vec, Bool, not, ◌&&◌, is_some}
+use Rattle.std.specs.Prelude.{ℕ, List, [], Option, Some, None, Result, Ok, Vec, Bool, not, ◌&&◌}
 use Rattle.std.specs.Global.{Global}
 use Rattle.pam_tables.specs.Groups.{Group, groups_of}
 use Rattle.pam_tables.specs.declared.error.TableFault.{TableFault}

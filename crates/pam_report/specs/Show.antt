@@ -1,5 +1,5 @@
 -- What `show` prints: the stack of a service, rule by rule, as pam.conf(5) orders it.
-use Rattle.std.specs.Prelude.{ℕ, ◌+◌, Bool, true, false, List, ◌∷◌, [], ◌++◌, codes, decimal, map, replicate, ◌*◌}
+use Rattle.std.specs.Prelude.{ℕ, ◌+◌, Bool, true, false, List, ◌∷◌, [], ◌++◌, codes, decimal, replicate, ◌*◌}
 use Rattle.std.specs.List.{concat, flat_map}
 use Rattle.pam_codes.specs.ControlText.{control_text}
 use Rattle.pam_conf.specs.Files.{Folder}

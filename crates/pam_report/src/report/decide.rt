@@ -35,18 +35,10 @@ fn put_action<W: Write>(action: Action, out: &mut Out<W>) -> Result<(), Device>
     requires { out.old.failures < 2 ^ 64 - 1 }
     ensures { Writes W.contents out.old out.new result (action_text action) }
 {
-    match action {
-        Action::Ignore => out.put(b"ignore"),
-        Action::Ok => out.put(b"ok"),
-        Action::Done => out.put(b"done"),
-        Action::Bad => out.put(b"bad"),
-        Action::Die => out.put(b"die"),
-        Action::Reset => out.put(b"reset"),
-        Action::Jump(items) => out.put_line(&[
-            Piece::Bytes(b"jump:"),
-            Piece::Number(u64::from(items)),
-        ]),
+    if let Action::Jump(_) = action {
+        return out.put_line(&[Piece::Bytes(b"jump:"), action.piece()]);
     }
+    out.put_line(&[action.piece()])
 }
 
 /// The name of a code.

@@ -1,4 +1,4 @@
-use Rattle.std.proofs.Common.{List, ◌∷◌, [], codes, ap, refl}
+use Rattle.std.proofs.Common.{◌∷◌, [], codes, ap, refl}
 use Rattle.std.specs.List.{concat}
 use Rattle.pam_codes.proofs.Writing.{all-then, err-front, front-is, front-longer, front-then, writes-is, writes-then}
 use Rattle.pam_conf.specs.ItemsOf.{sub_list}
