@@ -12,7 +12,7 @@ use crate::lines::{Lines, check_bytes, cut, distinct, is_blank_text, trim};
 use crate::lists::Parts;
 use crate::login::{Login, Origin};
 use crate::options::AccessOptions;
-use crate::tokens::{OriginToken, UserToken, has_token, origin_tokens, user_tokens};
+use crate::tokens::{OriginToken, UserToken, has_token, read_tokens};
 use std::alloc::Global;
 use std::marker::Model;
 
@@ -112,8 +112,8 @@ fn line_of<'a>(
         return Err(TableFault::MissingField);
     }
     let permission = Permission::read(trim(fields.permission))?;
-    let users = user_tokens(alloc, fields.users, separators)?;
-    let origins = origin_tokens(alloc, fields.origins, separators)?;
+    let users = read_tokens(alloc, fields.users, separators)?;
+    let origins = read_tokens(alloc, fields.origins, separators)?;
     Ok(AccessLine {
         number,
         permission,

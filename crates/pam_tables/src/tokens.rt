@@ -89,6 +89,21 @@ impl<'a, 's> Iterator for Tokens<'a, 's> {
     }
 }
 
+/// A token of a list, by what its text stands for.
+pub(crate) trait Token<'a>: Drop {
+    ghost use Rattle.std.specs.Prelude.{List, Result};
+    ghost use Rattle.pam_tables.specs.declared.error.TableFault.{TableFault};
+
+    ghost Meaning: { Type 0 };
+
+    ghost meant: { List ℕ → Result Meaning TableFault };
+
+    ghost seen: { Self → Meaning };
+
+    fn read(token: &'a [u8]) -> Result<Self, TableFault>
+        ensures { MatchResult result (λ t. meant token.now ≡ Ok (seen t)) (λ fault. meant token.now ≡ Err fault) };
+}
+
 /// A token of users.
 #[derive(Clone, Copy)]
 pub(crate) enum UserToken<'a> {
@@ -132,19 +147,6 @@ impl<'a> UserToken<'a> {
         }
     }
 
-    #[tactic(auto, unfolding(crate::specs::Tokens::user_token))]
-    pub(crate) fn read(token: &'a [u8]) -> Result<Self, TableFault>
-        ensures { MatchResult result (λ t. user_token token.now ≡ Ok (user_view t)) (λ fault. user_token token.now ≡ Err fault) }
-    {
-        if token.starts_with(b"@") {
-            return Err(TableFault::Netgroup);
-        }
-        match group_name(token) {
-            Some(name) => Ok(UserToken::Group(name)),
-            None => UserToken::plain(token),
-        }
-    }
-
     /// What the token does for a user. A plain name may name a group where `by_name` says so.
     #[tactic(auto, unfolding(crate::specs::Tokens::user_mark))]
     pub(crate) fn mark(&self, user: &[u8], groups: &Groups, by_name: bool) -> Mark
@@ -157,6 +159,27 @@ impl<'a> UserToken<'a> {
             UserToken::Name(name) => {
                 Mark::of(is_name(name, user) || (by_name && groups.lists(name, user)))
             }
+        }
+    }
+}
+
+impl<'a> Token<'a> for UserToken<'a> {
+    ghost use Rattle.pam_tables.specs.Tokens.{UserPattern, user_token, user_view};
+
+    ghost Meaning = { UserPattern };
+
+    ghost meant = { user_token };
+
+    ghost seen = { user_view };
+
+    #[tactic(auto, unfolding(crate::specs::Tokens::user_token))]
+    fn read(token: &'a [u8]) -> Result<Self, TableFault> {
+        if token.starts_with(b"@") {
+            return Err(TableFault::Netgroup);
+        }
+        match group_name(token) {
+            Some(name) => Ok(UserToken::Group(name)),
+            None => UserToken::plain(token),
         }
     }
 }
@@ -222,20 +245,6 @@ impl<'a> OriginToken<'a> {
         }
     }
 
-    #[tactic(auto, unfolding(crate::specs::Tokens::origin_token))]
-    pub(crate) fn read(token: &'a [u8]) -> Result<Self, TableFault>
-        ensures { MatchResult result (λ t. origin_token token.now ≡ Ok (origin_token_view t)) (λ fault. origin_token token.now ≡ Err fault) }
-    {
-        if token.starts_with(b"@") {
-            return Err(TableFault::Netgroup);
-        }
-        match Network::read(token) {
-            Ok(Some(network)) => Ok(OriginToken::Network(network)),
-            Ok(None) => Ok(OriginToken::plain(token)),
-            Err(fault) => Err(fault),
-        }
-    }
-
     /// What the token does for a remote host, of this address if it has one.
     fn host_mark(&self, host: &[u8], address: Option<Address>) -> Mark
         ensures { result ≡ host_mark host.now address (origin_token_view self.now) }
@@ -291,6 +300,28 @@ impl<'a> OriginToken<'a> {
     }
 }
 
+impl<'a> Token<'a> for OriginToken<'a> {
+    ghost use Rattle.pam_tables.specs.Tokens.{OriginPattern, origin_token, origin_token_view};
+
+    ghost Meaning = { OriginPattern };
+
+    ghost meant = { origin_token };
+
+    ghost seen = { origin_token_view };
+
+    #[tactic(auto, unfolding(crate::specs::Tokens::origin_token))]
+    fn read(token: &'a [u8]) -> Result<Self, TableFault> {
+        if token.starts_with(b"@") {
+            return Err(TableFault::Netgroup);
+        }
+        match Network::read(token) {
+            Ok(Some(network)) => Ok(OriginToken::Network(network)),
+            Ok(None) => Ok(OriginToken::plain(token)),
+            Err(fault) => Err(fault),
+        }
+    }
+}
+
 /// How many tokens a list has.
 fn token_count(text: &[u8], separators: &[u8]) -> usize {
     let mut count = 0usize;
@@ -300,32 +331,17 @@ fn token_count(text: &[u8], separators: &[u8]) -> usize {
     count
 }
 
-/// What the tokens of users stand for.
-pub(crate) fn user_tokens<'a>(
+/// What the tokens of a list stand for.
+pub(crate) fn read_tokens<'a, T: Token<'a>>(
     alloc: Global,
     text: &'a [u8],
     separators: &[u8],
-) -> Result<Vec<UserToken<'a>>, TableFault>
-    ensures { GivesPart (λ v. map user_view v.items) result (each_token user_token (tokens_of separators.now text.now)) }
+) -> Result<Vec<T>, TableFault>
+    ensures { GivesPart (λ v. map T.seen v.items) result (each_token T.meant (tokens_of separators.now text.now)) }
 {
     let mut tokens = Vec::with_capacity(alloc, token_count(text, separators))?;
     for token in Tokens::of(text, separators) {
-        tokens.push(UserToken::read(token)?)?;
-    }
-    Ok(tokens)
-}
-
-/// What the tokens of origins stand for.
-pub(crate) fn origin_tokens<'a>(
-    alloc: Global,
-    text: &'a [u8],
-    separators: &[u8],
-) -> Result<Vec<OriginToken<'a>>, TableFault>
-    ensures { GivesPart (λ v. map origin_token_view v.items) result (each_token origin_token (tokens_of separators.now text.now)) }
-{
-    let mut tokens = Vec::with_capacity(alloc, token_count(text, separators))?;
-    for token in Tokens::of(text, separators) {
-        tokens.push(OriginToken::read(token)?)?;
+        tokens.push(T::read(token)?)?;
     }
     Ok(tokens)
 }
