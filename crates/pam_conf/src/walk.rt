@@ -2,7 +2,7 @@
 ghost use Rattle.std.specs.Prelude.{◌≡◌, ◌<◌, ◌≤◌, ◌+◌, ◌-◌, IsOkAnd, MatchResult, IfOk, OnOk, filter, length, map};
 ghost use Rattle.std.specs.Option.{option_map};
 ghost use Rattle.pam_conf.specs.Files.{position_of};
-ghost use Rattle.pam_conf.specs.ItemsOf.{items_of};
+ghost use Rattle.pam_conf.specs.ItemsOf.{items_of, module_text};
 ghost use Rattle.pam_conf.specs.Progress.{IsTable, Passes, Refuses, in_file, of_kind};
 ghost use Rattle.pam_conf.specs.Resolution.{Resolves, UnlessMemory};
 ghost use Rattle.pam_conf.specs.Rule.{rule_view};
@@ -16,6 +16,7 @@ use crate::lines::wanted_rules;
 use crate::rule::{Body, Kind, Rule, is_of};
 use crate::stack::{Item, Module, Sub};
 use crate::trail::Trail;
+use pam_codes::Control;
 use std::alloc::{AllocError, Global};
 
 /// The most modules of one stack.
@@ -108,6 +109,37 @@ pub(crate) fn kept(mut rules: Vec<Rule>, kind: Kind) -> Vec<Rule>
 {
     rules.retain(|rule| is_of(rule, kind));
     rules
+}
+
+/// The module that a rule of a file asks.
+fn module_of(
+    alloc: Global,
+    number: usize,
+    file: usize,
+    rule: &Rule,
+    control: &Control,
+    path: &[u8],
+    arguments: &[Vec<u8>],
+) -> Result<Module, AllocError>
+    ensures { IfOk result (λ m. module_text m ≡ record {
+      number = number;
+      dashed = rule.now.dashed;
+      control = control.now;
+      path = path.now;
+      arguments = map (λ a. a.items) arguments.now;
+      file = file;
+      line = rule.now.line;
+    }) }
+{
+    Ok(Module {
+        number,
+        dashed: rule.dashed,
+        control: *control,
+        path: path.to_vec(alloc)?,
+        arguments: arguments.to_vec(alloc)?,
+        file,
+        line: rule.line,
+    })
 }
 
 /// A walk for one kind, and in pam.conf for one service.
@@ -217,26 +249,20 @@ impl Walker<'_> {
         if !self.counts(rule) {
             return Ok(());
         }
+        let line = rule.line;
         match &rule.body {
             Body::Module(control, path, arguments) => {
                 if progress.modules == MODULES {
-                    return Err(fault(file, rule.line, FaultKind::TooManyModules));
+                    return Err(fault(file, line, FaultKind::TooManyModules));
                 }
-                let module = Module {
-                    number: progress.modules + 1,
-                    dashed: rule.dashed,
-                    control: *control,
-                    path: path.clone()?,
-                    arguments: arguments.clone()?,
-                    file,
-                    line: rule.line,
-                };
+                let number = progress.modules + 1;
+                let module = module_of(self.alloc, number, file, rule, control, path, arguments)?;
                 items.push(Item::Module(module))?;
-                progress.modules += 1;
+                progress.modules = number;
                 Ok(())
             }
             Body::Include(target) => {
-                self.follow(progress, trail, file, rule.line, target.as_slice(), items)?;
+                self.follow(progress, trail, file, line, target.as_slice(), items)?;
                 Ok(())
             }
             Body::Sub(target) => {
@@ -245,13 +271,13 @@ impl Walker<'_> {
                     progress,
                     trail,
                     file,
-                    rule.line,
+                    line,
                     target.as_slice(),
                     &mut inner,
                 )?;
                 let sub = Sub {
                     file,
-                    line: rule.line,
+                    line,
                     target,
                     items: inner,
                 };

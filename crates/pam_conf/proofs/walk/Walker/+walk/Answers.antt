@@ -79,7 +79,7 @@ pub walk_rule-returns-in_err-target-in-Sub-clause-walked : goal.walk_rule-return
 walk_rule-returns-in_err-target-in-Sub-clause-walked t c = let p = err_from_is_err_and c.from_residual-in_err-target-in-Sub.result c.from_residual-in_err-target-in-Sub.ensures.1 in rw (p.1, p.2) (lemmas.rule-sub_refused c.args.self.now.files.now c.args.self.now.kind (service_of c.args.self.now.service) _ c.args.trail.now c.args.file (rule_view c.args.rule.now) (sym c.counts.ensures ∙ c.if-not-counts.false) c.args.progress.now.modules c.args.progress.now.follows c.as_slice-in-Sub.result.now c.in_err-target-in-Sub.field-0.0 (ap body_view c.in-Sub.is ∙ ap Sub (sym c.as_slice-in-Sub.ensures.value)) c.in_err-target-in-Sub.ensures.walked)
 
 pub walk_rule-returns-in_ok-push-in-Module-clause-walked : goal.walk_rule-returns-in_ok-push-in-Module-clause-walked
-walk_rule-returns-in_ok-push-in-Module-clause-walked t c = lemmas.rule-module c.args.self.now.files.now c.args.self.now.kind (service_of c.args.self.now.service) _ c.args.trail.now c.args.file (rule_view c.args.rule.now) (sym c.counts.ensures ∙ c.if-not-counts.false) c.args.progress.now.modules c.args.progress.now.follows (items_of c.args.items.now.items) (items_of c.push.new.self.items) c.in-Module.control c.in-Module.path.items (map (λ a. a.items) c.in-Module.arguments.items) (ap body_view c.in-Module.is) c.if-progress-eq-MODULES.false (ap items_of c.in_ok-push-in-Module.ensures.items ∙ items_of-push_module c.args.items.now.items _ ∙ ap (λ (m : ModuleText). joined (items_of c.args.items.now.items) (ThenModule m End)) (lemmas.same-module _ _ _ _ _ _ _ _ _ (lemmas.same-bytes c.in-Module.path.items c.in_ok-clone-in-Module.field-0.items c.in_ok-clone-in-Module.ensures.cases.0) (lemmas.same-texts c.in-Module.arguments.items c.in_ok-clone-in-Module-2.field-0.items c.in_ok-clone-in-Module-2.ensures.cases.0)))
+walk_rule-returns-in_ok-push-in-Module-clause-walked t c = lemmas.rule-module c.args.self.now.files.now c.args.self.now.kind (service_of c.args.self.now.service) _ c.args.trail.now c.args.file (rule_view c.args.rule.now) (sym c.counts.ensures ∙ c.if-not-counts.false) c.args.progress.now.modules c.args.progress.now.follows (items_of c.args.items.now.items) (items_of c.push.new.self.items) c.in-Module.control c.in-Module.path.items (map (λ a. a.items) c.in-Module.arguments.items) (ap body_view c.in-Module.is) c.if-progress-eq-MODULES.false (ap items_of c.in_ok-push-in-Module.ensures.items ∙ items_of-push_module c.args.items.now.items _ ∙ ap (λ (m : ModuleText). joined (items_of c.args.items.now.items) (ThenModule m End)) (c.in_ok-module-in-Module.ensures ∙ lemmas.same-module _ _ _ _ _ _ _ _ _ c.deref.ensures.value (ap (map (λ a. a.items)) c.deref-in-Module.ensures.value)))
 
 pub walk_rule-returns-in_ok-push-in-Sub-clause-walked : goal.walk_rule-returns-in_ok-push-in-Sub-clause-walked
 walk_rule-returns-in_ok-push-in-Sub-clause-walked t c = lemmas.rule-sub c.args.self.now.files.now c.args.self.now.kind (service_of c.args.self.now.service) _ c.args.trail.now c.args.file (rule_view c.args.rule.now) (sym c.counts.ensures ∙ c.if-not-counts.false) c.args.progress.now.modules c.args.progress.now.follows c.follow-in-Sub.new.progress.modules c.follow-in-Sub.new.progress.follows (items_of c.args.items.now.items) (items_of c.push-in-Sub.new.self.items) (items_of c.new-inner.result.items) (items_of c.follow-in-Sub.new.items.items) c.as_slice-in-Sub.result.now c.in_ok-target-in-Sub.target (ap body_view c.in-Sub.is ∙ ap Sub (sym c.as_slice-in-Sub.ensures.value)) (ap items_of c.new-inner.ensures.items) c.in_ok-target-in-Sub.ensures.walked (ap items_of c.in_ok-push-in-Sub.ensures.items ∙ items_of-push_sub c.args.items.now.items _)
