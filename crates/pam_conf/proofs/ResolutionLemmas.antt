@@ -21,19 +21,20 @@ use Rattle.pam_conf.specs.declared.rule.Kind.{Kind}
 use Rattle.pam_conf.specs.declared.rule.Rule.{Rule}
 use Rattle.pam_conf.specs.declared.stack.Item.{Item}
 use Rattle.pam_conf.specs.declared.stack.Item.TheVariants.{Module as ModuleItem, Sub as SubItem}
+use Rattle.pam_conf.specs.declared.trail.TheConstants.{MAX_OPEN_FILES}
 use Rattle.pam_conf.proofs.WalkLemmas.{unless-weaker, module_count-numbered, walk-file}
 use Rattle.pam_conf.proofs.DepthLemmas.{numbered-from, depth-numbered, depth-walk}
 
 module _ (folder : Folder) (kind : Kind) (start : StartText) where
   -- the walk from the start on, as the code begins it
   abbrev pub begun : List ℕ → Walk
-  begun trail = walk folder kind start.service (16 - length trail) trail start.file
+  begun trail = walk folder kind start.service (MAX_OPEN_FILES - length trail) trail start.file
 
   module _ (trail : List ℕ) (is : trail ≡ start.file ∷ []) where
     pub stack-done : (m f : ℕ) (i0 i : Items) → i0 ≡ End → Passes 0 0 i0 (begun trail) m f i → stack_from folder kind start ≡ Ok i
     unfolding stack_from refusal
     stack-done m f i0 i none p =
-        let w = walk folder kind start.service 15 (start.file ∷ []) start.file in
+        let w = walk folder kind start.service (MAX_OPEN_FILES - 1) (start.file ∷ []) start.file in
         let q : Passes 0 0 End w m f i = subst (λ (j : Items). Passes 0 0 j w m f i) none (subst (λ (t : List ℕ). Passes 0 0 i0 (begun t) m f i) is p) in
         let fine : refusal 0 0 w.events ≡ None = ap (refusal 0 0) (sym (append-nil w.events)) ∙ q.refused [] in
         rw fine (ap Ok (sym q.added))
@@ -41,7 +42,7 @@ module _ (folder : Folder) (kind : Kind) (start : StartText) where
     pub stack-refused : (e : ConfError) → Refuses 0 0 (begun trail) e → UnlessMemory e e.kind (stack_from folder kind start ≡ Err e)
     unfolding stack_from
     stack-refused e r =
-        let w = walk folder kind start.service 15 (start.file ∷ []) start.file in
+        let w = walk folder kind start.service (MAX_OPEN_FILES - 1) (start.file ∷ []) start.file in
         unless-weaker e e.kind (λ h. let no : refusal 0 0 w.events ≡ Some e = ap (refusal 0 0) (sym (append-nil w.events)) ∙ h [] in rw no refl)
         (subst (λ (t : List ℕ). Refuses 0 0 (begun t) e) is r)
 
@@ -51,11 +52,11 @@ module _ (folder : Folder) (kind : Kind) (start : StartText) where
         let same : i ≡ numbered 1 (begun trail).items = p.added ∙ ap (λ j. joined j (numbered 1 (begun trail).items)) none in
         omega (arith, p.counted, ap module_count same, module_count-numbered 1 (begun trail).items)
 
-    pub stack-shallow : (m f : ℕ) (i0 i : Items) → i0 ≡ End → Passes 0 0 i0 (begun trail) m f i → depth i ≤ 16
+    pub stack-shallow : (m f : ℕ) (i0 i : Items) → i0 ≡ End → Passes 0 0 i0 (begun trail) m f i → depth i ≤ MAX_OPEN_FILES
     stack-shallow m f i0 i none p =
         let same : i ≡ numbered 1 (begun trail).items = p.added ∙ ap (λ j. joined j (numbered 1 (begun trail).items)) none in
         let room : length trail ≡ 1 = ap length is in
-        omega (arith, ap depth same, depth-numbered 1 (begun trail).items, depth-walk folder kind start.service (16 - length trail) trail start.file)
+        omega (arith, ap depth same, depth-numbered 1 (begun trail).items, depth-walk folder kind start.service (MAX_OPEN_FILES - length trail) trail start.file)
 
     pub stack-numbered : (m f : ℕ) (i0 i : Items) → i0 ≡ End → Passes 0 0 i0 (begun trail) m f i → IsNumbered i
     stack-numbered m f i0 i none p =
@@ -85,7 +86,7 @@ keeps-own folder kind own first other xs items is stack same some =
     ∙ ap Ok same
 
 -- a fault of the file where the rules stand
-read_fault : (folder : Folder) (kind : Kind) (service : Option (List ℕ)) (file : ℕ) (r : Result (List RuleText) RuleFault) (e : ConfError) → in_file file r ≡ Err e → (refusal 0 0 (read_walk folder kind service (deeper folder kind service 15) (file ∷ []) file r).events) ≡ Some e
+read_fault : (folder : Folder) (kind : Kind) (service : Option (List ℕ)) (file : ℕ) (r : Result (List RuleText) RuleFault) (e : ConfError) → in_file file r ≡ Err e → (refusal 0 0 (read_walk folder kind service (deeper folder kind service (MAX_OPEN_FILES - 1)) (file ∷ []) file r).events) ≡ Some e
 unfolding refusal
 read_fault folder kind service file (Ok rules) e h = absurd (cc)
 read_fault folder kind service file (Err fault) e h = let same : fault_at file fault.line fault.kind ≡ e = cc in ap Some same
@@ -93,7 +94,7 @@ read_fault folder kind service file (Err fault) e h = let same : fault_at file f
 pub start-fault : (folder : Folder) (kind : Kind) (file : ℕ) (service : Option (List ℕ)) (e : ConfError) → in_file file (rules_at folder file) ≡ Err e → stack_from folder kind record { file = file; service = service } ≡ Err e
 unfolding stack_from
 start-fault folder kind file service e h =
-    let no : refusal 0 0 (walk folder kind service 15 (file ∷ []) file).events ≡ Some e = ap (λ (w : Walk). refusal 0 0 w.events) (walk-file folder kind service 15 (file ∷ []) file) ∙ read_fault folder kind service file (rules_at folder file) e h in
+    let no : refusal 0 0 (walk folder kind service (MAX_OPEN_FILES - 1) (file ∷ []) file).events ≡ Some e = ap (λ (w : Walk). refusal 0 0 w.events) (walk-file folder kind service (MAX_OPEN_FILES - 1) (file ∷ []) file) ∙ read_fault folder kind service file (rules_at folder file) e h in
     rw no refl
 
 -- the rules that are left, in the search for a service

@@ -20,6 +20,9 @@ use Rattle.pam_conf.specs.declared.error.FaultKind.TheVariants.{Memory, Cycle, N
 use Rattle.pam_conf.specs.declared.error.RuleFault.{RuleFault}
 use Rattle.pam_conf.specs.declared.rule.Kind.{Kind}
 use Rattle.pam_conf.specs.declared.rule.Rule.{Rule}
+use Rattle.pam_conf.specs.declared.stack.TheConstants.{MAX_MODULES}
+use Rattle.pam_conf.specs.declared.trail.TheConstants.{MAX_OPEN_FILES}
+use Rattle.pam_conf.specs.declared.walk.TheConstants.{MAX_FOLLOWS}
 use Rattle.pam_conf.proofs.StackTree.{joined-End, joined_assoc, module_count-joined}
 
 pub unless-weaker : (e : ConfError) (kind : FaultKind) {P Q : Type 0} → (P → Q) → UnlessMemory e kind P → UnlessMemory e kind Q
@@ -110,37 +113,37 @@ module _ (folder : Folder) (kind : Kind) (service : Option (List ℕ)) where
   unfolding refusal
   too_deep m f file line room trail o p e some absent full is = rw (some, absent, full, is) (λ rest. refl)
 
-  pub target-found : (trail : List ℕ) (o : Option ℕ) (p : ℕ) → o ≡ Some p → list_any (λ q. eqb q p) trail ≡ false → (16 - length trail ≡ 0 → ⊥) →
-      target_walk (deeper folder kind service (16 - length trail)) trail o ≡ Ok (p, walk folder kind service (16 - length (trail ++ p ∷ [])) (trail ++ p ∷ []) p)
+  pub target-found : (trail : List ℕ) (o : Option ℕ) (p : ℕ) → o ≡ Some p → list_any (λ q. eqb q p) trail ≡ false → (MAX_OPEN_FILES - length trail ≡ 0 → ⊥) →
+      target_walk (deeper folder kind service (MAX_OPEN_FILES - length trail)) trail o ≡ Ok (p, walk folder kind service (MAX_OPEN_FILES - length (trail ++ p ∷ [])) (trail ++ p ∷ []) p)
   target-found trail o p some absent free =
       let longer : length (trail ++ p ∷ []) ≡ length trail + 1 = length-append trail (p ∷ []) in
-      let room : 16 - length trail ≡ suc (16 - length (trail ++ p ∷ [])) = omega arith in
+      let room : MAX_OPEN_FILES - length trail ≡ suc (MAX_OPEN_FILES - length (trail ++ p ∷ [])) = omega arith in
       rw (some, absent, room) refl
 
-  passes-followed : (m f m' f' file line : ℕ) (i i' : Items) (w : Walk) → (f ≡ 256 → ⊥) → Passes m (f + 1) i w m' f' i' → Passes m f i (followed file line w) m' f' i'
+  passes-followed : (m f m' f' file line : ℕ) (i i' : Items) (w : Walk) → (f ≡ MAX_FOLLOWS → ⊥) → Passes m (f + 1) i w m' f' i' → Passes m f i (followed file line w) m' f' i'
   unfolding refusal
   passes-followed m f m' f' file line i i' w few p = record {
-    refused = λ rest. rw (ne_eqb f 256 few) (p.refused rest);
+    refused = λ rest. rw (ne_eqb f MAX_FOLLOWS few) (p.refused rest);
     counted = p.counted;
     added = p.added;
   }
 
-  refuses-followed : (m f file line : ℕ) (w : Walk) (e : ConfError) → (f ≡ 256 → ⊥) → Refuses m (f + 1) w e → Refuses m f (followed file line w) e
+  refuses-followed : (m f file line : ℕ) (w : Walk) (e : ConfError) → (f ≡ MAX_FOLLOWS → ⊥) → Refuses m (f + 1) w e → Refuses m f (followed file line w) e
   unfolding refusal
-  refuses-followed m f file line w e few = unless-weaker e e.kind (λ h rest. rw (ne_eqb f 256 few) (h rest))
+  refuses-followed m f file line w e few = unless-weaker e e.kind (λ h rest. rw (ne_eqb f MAX_FOLLOWS few) (h rest))
 
-  pub too_many_followed : (m f file line : ℕ) (trail : List ℕ) (o : Option ℕ) (p : ℕ) (e : ConfError) → o ≡ Some p → list_any (λ q. eqb q p) trail ≡ false → (16 - length trail ≡ 0 → ⊥) → f ≡ 256 → e ≡ fault_at file line TooManyFollowed → Refuses m f (include_walk file line (target_walk (deeper folder kind service (16 - length trail)) trail o)) e
+  pub too_many_followed : (m f file line : ℕ) (trail : List ℕ) (o : Option ℕ) (p : ℕ) (e : ConfError) → o ≡ Some p → list_any (λ q. eqb q p) trail ≡ false → (MAX_OPEN_FILES - length trail ≡ 0 → ⊥) → f ≡ MAX_FOLLOWS → e ≡ fault_at file line TooManyFollowed → Refuses m f (include_walk file line (target_walk (deeper folder kind service (MAX_OPEN_FILES - length trail)) trail o)) e
   unfolding refusal
   too_many_followed m f file line trail o p e some absent free many is = rw (target-found trail o p some absent free, many, is) (λ rest. refl)
 
-  pub follow-refused : (m f file line : ℕ) (trail longer : List ℕ) (o : Option ℕ) (p : ℕ) (e : ConfError) → o ≡ Some p → list_any (λ q. eqb q p) trail ≡ false → (16 - length trail ≡ 0 → ⊥) → (f ≡ 256 → ⊥) → longer ≡ trail ++ p ∷ [] →
-      Refuses m (f + 1) (walk folder kind service (16 - length longer) longer p) e → Refuses m f (include_walk file line (target_walk (deeper folder kind service (16 - length trail)) trail o)) e
-  follow-refused m f file line trail longer o p e some absent free few more r = rw (target-found trail o p some absent free) (refuses-followed m f file line (walk folder kind service (16 - length (trail ++ p ∷ [])) (trail ++ p ∷ []) p) e few (subst (λ (l : List ℕ). Refuses m (f + 1) (walk folder kind service (16 - length l) l p) e) more r))
+  pub follow-refused : (m f file line : ℕ) (trail longer : List ℕ) (o : Option ℕ) (p : ℕ) (e : ConfError) → o ≡ Some p → list_any (λ q. eqb q p) trail ≡ false → (MAX_OPEN_FILES - length trail ≡ 0 → ⊥) → (f ≡ MAX_FOLLOWS → ⊥) → longer ≡ trail ++ p ∷ [] →
+      Refuses m (f + 1) (walk folder kind service (MAX_OPEN_FILES - length longer) longer p) e → Refuses m f (include_walk file line (target_walk (deeper folder kind service (MAX_OPEN_FILES - length trail)) trail o)) e
+  follow-refused m f file line trail longer o p e some absent free few more r = rw (target-found trail o p some absent free) (refuses-followed m f file line (walk folder kind service (MAX_OPEN_FILES - length (trail ++ p ∷ [])) (trail ++ p ∷ []) p) e few (subst (λ (l : List ℕ). Refuses m (f + 1) (walk folder kind service (MAX_OPEN_FILES - length l) l p) e) more r))
 
-  pub follow-done : (m f m' f' file line : ℕ) (i i' : Items) (trail longer : List ℕ) (o : Option ℕ) (p : ℕ) → o ≡ Some p → list_any (λ q. eqb q p) trail ≡ false → (16 - length trail ≡ 0 → ⊥) → (f ≡ 256 → ⊥) → longer ≡ trail ++ p ∷ [] →
-      Passes m (f + 1) i (walk folder kind service (16 - length longer) longer p) m' f' i' →
-      IsOkAnd (target_walk (deeper folder kind service (16 - length trail)) trail o) (λ t. (t.0 ≡ p) × Passes m f i (followed file line t.1) m' f' i')
-  follow-done m f m' f' file line i i' trail longer o p some absent free few more q = rw (target-found trail o p some absent free) (refl, passes-followed m f m' f' file line i i' (walk folder kind service (16 - length (trail ++ p ∷ [])) (trail ++ p ∷ []) p) few (subst (λ (l : List ℕ). Passes m (f + 1) i (walk folder kind service (16 - length l) l p) m' f' i') more q))
+  pub follow-done : (m f m' f' file line : ℕ) (i i' : Items) (trail longer : List ℕ) (o : Option ℕ) (p : ℕ) → o ≡ Some p → list_any (λ q. eqb q p) trail ≡ false → (MAX_OPEN_FILES - length trail ≡ 0 → ⊥) → (f ≡ MAX_FOLLOWS → ⊥) → longer ≡ trail ++ p ∷ [] →
+      Passes m (f + 1) i (walk folder kind service (MAX_OPEN_FILES - length longer) longer p) m' f' i' →
+      IsOkAnd (target_walk (deeper folder kind service (MAX_OPEN_FILES - length trail)) trail o) (λ t. (t.0 ≡ p) × Passes m f i (followed file line t.1) m' f' i')
+  follow-done m f m' f' file line i i' trail longer o p some absent free few more q = rw (target-found trail o p some absent free) (refl, passes-followed m f m' f' file line i i' (walk folder kind service (MAX_OPEN_FILES - length (trail ++ p ∷ [])) (trail ++ p ∷ []) p) few (subst (λ (l : List ℕ). Passes m (f + 1) i (walk folder kind service (MAX_OPEN_FILES - length l) l p) m' f' i') more q))
 
   -- FILES
 
@@ -167,12 +170,12 @@ module _ (folder : Folder) (kind : Kind) (service : Option (List ℕ)) where
 
   -- rules as they lie in memory
   pub file-walked : (m f m' f' : ℕ) (i i' : Items) (trail : List ℕ) (file : ℕ) (rules slice : List Rule) → in_file file (of_kind kind (rules_at folder file)) ≡ Ok (map rule_view rules) → slice ≡ rules →
-      Passes m f i (rules_walk folder kind service (deeper folder kind service (16 - length trail)) trail file (map rule_view slice)) m' f' i' → Passes m f i (walk folder kind service (16 - length trail) trail file) m' f' i'
-  file-walked m f m' f' i i' trail file rules slice read same p = rw (walk-kept (16 - length trail) trail file (map rule_view rules) read) (subst (λ (rs : List Rule). Passes m f i (rules_walk folder kind service (deeper folder kind service (16 - length trail)) trail file (map rule_view rs)) m' f' i') same p)
+      Passes m f i (rules_walk folder kind service (deeper folder kind service (MAX_OPEN_FILES - length trail)) trail file (map rule_view slice)) m' f' i' → Passes m f i (walk folder kind service (MAX_OPEN_FILES - length trail) trail file) m' f' i'
+  file-walked m f m' f' i i' trail file rules slice read same p = rw (walk-kept (MAX_OPEN_FILES - length trail) trail file (map rule_view rules) read) (subst (λ (rs : List Rule). Passes m f i (rules_walk folder kind service (deeper folder kind service (MAX_OPEN_FILES - length trail)) trail file (map rule_view rs)) m' f' i') same p)
 
   pub file-rules_refused : (m f : ℕ) (trail : List ℕ) (file : ℕ) (rules slice : List Rule) (e : ConfError) → in_file file (of_kind kind (rules_at folder file)) ≡ Ok (map rule_view rules) → slice ≡ rules →
-      Refuses m f (rules_walk folder kind service (deeper folder kind service (16 - length trail)) trail file (map rule_view slice)) e → Refuses m f (walk folder kind service (16 - length trail) trail file) e
-  file-rules_refused m f trail file rules slice e read same r = rw (walk-kept (16 - length trail) trail file (map rule_view rules) read) (subst (λ (rs : List Rule). Refuses m f (rules_walk folder kind service (deeper folder kind service (16 - length trail)) trail file (map rule_view rs)) e) same r)
+      Refuses m f (rules_walk folder kind service (deeper folder kind service (MAX_OPEN_FILES - length trail)) trail file (map rule_view slice)) e → Refuses m f (walk folder kind service (MAX_OPEN_FILES - length trail) trail file) e
+  file-rules_refused m f trail file rules slice e read same r = rw (walk-kept (MAX_OPEN_FILES - length trail) trail file (map rule_view rules) read) (subst (λ (rs : List Rule). Refuses m f (rules_walk folder kind service (deeper folder kind service (MAX_OPEN_FILES - length trail)) trail file (map rule_view rs)) e) same r)
 
   read_refused : (m f : ℕ) (d : Deeper) (trail : List ℕ) (file : ℕ) (r : Result (List RuleText) RuleFault) (e : ConfError) → in_file file (of_kind kind r) ≡ Err e → (rest : List Event) → refusal m f ((read_walk folder kind service d trail file r).events ++ rest) ≡ Some e
   unfolding refusal
@@ -185,7 +188,7 @@ module _ (folder : Folder) (kind : Kind) (service : Option (List ℕ)) where
 
 -- the walk of rules as they lie in memory, in an open file
 abbrev pub walk_of : Folder → Kind → Option (List ℕ) → List ℕ → ℕ → List Rule → Walk
-walk_of folder kind service trail file rules = rules_walk folder kind service (deeper folder kind service (16 - length trail)) trail file (map rule_view rules)
+walk_of folder kind service trail file rules = rules_walk folder kind service (deeper folder kind service (MAX_OPEN_FILES - length trail)) trail file (map rule_view rules)
 
 -- RULES
 
@@ -217,15 +220,15 @@ module _ (folder : Folder) (kind : Kind) (service : Option (List ℕ)) (d : Deep
   rule-passed m f i h = rw h (passes-nothing m f i)
 
   module _ (own : counts kind service r ≡ true) where
-    pub rule-full : (m f : ℕ) (control : List Action) (path : List ℕ) (arguments : List (List ℕ)) (e : ConfError) → r.body ≡ Module control path arguments → m ≡ 64 → e ≡ fault_at file r.line TooManyModules → Refuses m f rule_walked e
+    pub rule-full : (m f : ℕ) (control : List Action) (path : List ℕ) (arguments : List (List ℕ)) (e : ConfError) → r.body ≡ Module control path arguments → m ≡ MAX_MODULES → e ≡ fault_at file r.line TooManyModules → Refuses m f rule_walked e
     unfolding refusal
     rule-full m f control path arguments e body many is = rw (own, body, many, is) (λ rest. refl)
 
-    pub rule-module : (m f : ℕ) (i i' : Items) (control : List Action) (path : List ℕ) (arguments : List (List ℕ)) → r.body ≡ Module control path arguments → (m ≡ 64 → ⊥) →
+    pub rule-module : (m f : ℕ) (i i' : Items) (control : List Action) (path : List ℕ) (arguments : List (List ℕ)) → r.body ≡ Module control path arguments → (m ≡ MAX_MODULES → ⊥) →
         i' ≡ joined i (ThenModule record { number = m + 1; dashed = r.dashed; control = control; path = path; arguments = arguments; file = file; line = r.line } End) → Passes m f i rule_walked (m + 1) f i'
     unfolding refusal
     rule-module m f i i' control path arguments body few e = rw (own, body) record {
-      refused = λ rest. rw (ne_eqb m 64 few) refl;
+      refused = λ rest. rw (ne_eqb m MAX_MODULES few) refl;
       counted = omega arith;
       added = e;
     }
@@ -245,7 +248,7 @@ module _ (folder : Folder) (kind : Kind) (service : Option (List ℕ)) (d : Deep
 
 -- the rules that are left: the next one, and those behind it
 pub walk-more : (folder : Folder) (kind : Kind) (service : Option (List ℕ)) (trail : List ℕ) (file : ℕ) (rules : List Rule) (k : ℕ) (r : Rule) → k < length rules → r ≡ get_or rules k r →
-    walk_of folder kind service trail file (drop k rules) ≡ rule_walk folder kind service (deeper folder kind service (16 - length trail)) trail file (rule_view r) then walk_of folder kind service trail file (drop (k + 1) rules)
+    walk_of folder kind service trail file (drop k rules) ≡ rule_walk folder kind service (deeper folder kind service (MAX_OPEN_FILES - length trail)) trail file (rule_view r) then walk_of folder kind service trail file (drop (k + 1) rules)
 walk-more folder kind service trail file rules k r within is =
     let next : drop k rules ≡ r ∷ drop (k + 1) rules = rw add-one (drop-cons rules k r within ∙ ap (λ (x : Rule). x ∷ drop (suc k) rules) (sym is)) in
     ap (walk_of folder kind service trail file) next

@@ -8,6 +8,7 @@ use Rattle.pam_conf.specs.Rule.{RuleText, rule_of, ◌>>=◌}
 use Rattle.pam_conf.specs.declared.error.FaultKind.{FaultKind}
 use Rattle.pam_conf.specs.declared.error.FaultKind.TheVariants as faults
 use Rattle.pam_conf.specs.declared.error.RuleFault.{RuleFault}
+use Rattle.pam_conf.specs.declared.lines.TheConstants.{MAX_FILE_BYTES}
 use Rattle.pam_conf.specs.declared.rule.Form.{Form}
 
 -- the rule of a line of this number, if it has one
@@ -56,6 +57,6 @@ nul_line bytes = option_map (λ n. 1 + count_by (λ b. b == 10) (take n bytes)) 
 -- THE RULES OF A FILE, or its first fault
 unfoldable pub rules_of : Form → List ℕ → Result (List RuleText) RuleFault
 rules_of form bytes =
-    if nat_lt 1048576 (length bytes) then Err record { kind = faults.FileTooLong; line = 0 }
+    if nat_lt MAX_FILE_BYTES (length bytes) then Err record { kind = faults.FileTooLong; line = 0 }
     else option_map_or (λ line. Err record { kind = faults.NulByte; line = line }) (nul_line bytes)
     (rules_in form (lines_of (text_of 1 bytes)))

@@ -1,5 +1,5 @@
 -- The stack of a service: pam.conf(5), on /etc/pam.d/, /etc/pam.conf and the service `other`.
-use Rattle.std.specs.Prelude.{◌≡◌, ℕ, Bool, true, List, [], ◌∷◌, map, codes, if◌then◌else◌, Option, Some, None, option_and_then, Result, Ok, Err}
+use Rattle.std.specs.Prelude.{◌≡◌, ℕ, ◌-◌, Bool, true, List, [], ◌∷◌, map, codes, if◌then◌else◌, Option, Some, None, option_and_then, Result, Ok, Err}
 use Rattle.std.specs.Char.{to_ascii_lowercase}
 use Rattle.std.specs.List.{list_any}
 use Rattle.std.specs.Option.{option_map, option_map_or}
@@ -14,6 +14,7 @@ use Rattle.pam_conf.specs.declared.error.RuleFault.{RuleFault}
 use Rattle.pam_conf.specs.declared.rule.Form.{Form}
 use Rattle.pam_conf.specs.declared.rule.Form.TheVariants.{Dir, Single}
 use Rattle.pam_conf.specs.declared.rule.Kind.{Kind}
+use Rattle.pam_conf.specs.declared.trail.TheConstants.{MAX_OPEN_FILES}
 
 -- where the rules of a service stand: a file, and in pam.conf the service that they carry
 pub record StartText : Type 0 where
@@ -41,9 +42,9 @@ start_of folder service = start_in folder.form folder service
 abbrev pub items_or_fault : Walk → Result Items ConfError
 items_or_fault w = option_map_or Err (refusal 0 0 w.events) (Ok (numbered 1 w.items))
 
--- the items of a service; 15 more files may be opened
+-- the items of a service; its file is open, and so one file fewer may be opened
 unfoldable pub stack_from : Folder → Kind → StartText → Result Items ConfError
-stack_from folder kind start = items_or_fault (walk folder kind start.service 15 (start.file ∷ []) start.file)
+stack_from folder kind start = items_or_fault (walk folder kind start.service (MAX_OPEN_FILES - 1) (start.file ∷ []) start.file)
 
 -- a service without rules has those of `other`
 abbrev pub without_own : Folder → Kind → Option StartText → Result Items ConfError

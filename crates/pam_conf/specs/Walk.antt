@@ -13,6 +13,8 @@ use Rattle.pam_conf.specs.declared.error.FaultKind.TheVariants.{Cycle, NoService
 use Rattle.pam_conf.specs.declared.error.RuleFault.{RuleFault}
 use Rattle.pam_conf.specs.declared.rule.Kind.{Kind}
 use Rattle.pam_conf.specs.declared.rule.Kind.TheVariants.{Auth, Account, Password, Session}
+use Rattle.pam_conf.specs.declared.stack.TheConstants.{MAX_MODULES}
+use Rattle.pam_conf.specs.declared.walk.TheConstants.{MAX_FOLLOWS}
 
 -- a fault at a line of a file, which has its position
 abbrev pub fault_at : ℕ → ℕ → FaultKind → ConfError
@@ -130,9 +132,9 @@ module _ (folder : Folder) (kind : Kind) (service : Option (List ℕ)) where
 unfoldable pub refusal : ℕ → ℕ → List Event → Option ConfError
 refusal modules follows [] = None
 refusal modules follows (Met file line ∷ events) =
-    if modules == 64 then Some (fault_at file line TooManyModules) else refusal (modules + 1) follows events
+    if modules == MAX_MODULES then Some (fault_at file line TooManyModules) else refusal (modules + 1) follows events
 refusal modules follows (Followed file line ∷ events) =
-    if follows == 256 then Some (fault_at file line TooManyFollowed) else refusal modules (follows + 1) events
+    if follows == MAX_FOLLOWS then Some (fault_at file line TooManyFollowed) else refusal modules (follows + 1) events
 refusal modules follows (Failed fault ∷ events) = Some fault
 
 -- items with their modules numbered from the left

@@ -32,7 +32,7 @@ pub enum FaultKind {
     #[error("more than 16 files would be open")]
     TooDeep,
     /// E13
-    #[error("more than 64 modules")]
+    #[error("more than 256 modules")]
     TooManyModules,
     /// E14
     #[error("an include in pam.conf")]

@@ -14,8 +14,8 @@ use crate::words::LineReader;
 use pam_codes::Text;
 use std::alloc::{AllocFailed, Global};
 
-/// The longest file that is read, in bytes.
-const LONGEST: usize = 1_048_576;
+/// How many bytes a file has at most: one more is `FileTooLong`.
+pub const MAX_FILE_BYTES: usize = 1_048_576;
 
 /// The rules of a file in the order of its lines, or its first fault: pam.conf(5).
 /// E16 comes before E1, and E1 before a fault of a line. Want of memory has line 0.
@@ -35,7 +35,7 @@ pub(crate) fn wanted_rules(
 ) -> Result<Vec<Rule>, RuleFault>
     ensures { Gives (λ rules. map rule_view rules.items) result (only_wanted wanted (rules_of form bytes.now)) }
 {
-    if bytes.len() > LONGEST {
+    if bytes.len() > MAX_FILE_BYTES {
         return Err(RuleFault {
             kind: FaultKind::FileTooLong,
             line: 0,

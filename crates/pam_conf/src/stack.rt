@@ -3,9 +3,13 @@ ghost use Rattle.std.specs.Prelude.{◌≡◌, ◌≤◌, ◌↔◌, IsSome};
 ghost use Rattle.std.specs.Option.{option_map};
 ghost use Rattle.pam_conf.specs.Stack.{depth, module_at, module_count, IsNumbered};
 ghost use Rattle.pam_conf.specs.ItemsOf.{items_of, module_text};
+ghost use Rattle.pam_conf.specs.declared.trail.TheConstants.{MAX_OPEN_FILES};
 
 use pam_codes::Control;
 use std::marker::Model;
+
+/// How many modules a stack has at most: one more is `TooManyModules`.
+pub const MAX_MODULES: usize = 256;
 
 /// A module of a stack, as its rule names it.
 #[derive(Debug, Drop)]
@@ -63,7 +67,7 @@ pub enum Item {
     Sub(Sub),
 }
 
-/// The stack of a service: at most 64 modules, numbered from the left, and at most 16 lists open.
+/// The stack of a service: at most `MAX_MODULES` modules, numbered from the left, and at most `MAX_OPEN_FILES` lists open.
 #[derive(Debug, Drop)]
 pub struct Stack {
     items: Vec<Item>,
@@ -74,6 +78,8 @@ impl Model for Stack {
     ghost use Rattle.std.specs.Prelude.{◌≡◌, ◌≤◌};
     ghost use Rattle.pam_conf.specs.Stack.{Items, depth, module_count, IsNumbered};
     ghost use Rattle.pam_conf.specs.StackCode.{items_code};
+    ghost use Rattle.pam_conf.specs.declared.stack.TheConstants.{MAX_MODULES};
+    ghost use Rattle.pam_conf.specs.declared.trail.TheConstants.{MAX_OPEN_FILES};
 
     ghost Value = { Items };
 
@@ -83,15 +89,15 @@ impl Model for Stack {
 
     ghost view = { λ s. items_of s.items.items };
 
-    ghost invariant = { λ s. (s.modules ≡ module_count (items_of s.items.items)) × (module_count (items_of s.items.items) ≤ 64) × (depth (items_of s.items.items) ≤ 16) × IsNumbered (items_of s.items.items) };
+    ghost invariant = { λ s. (s.modules ≡ module_count (items_of s.items.items)) × (module_count (items_of s.items.items) ≤ MAX_MODULES) × (depth (items_of s.items.items) ≤ MAX_OPEN_FILES) × IsNumbered (items_of s.items.items) };
 }
 
 impl Stack {
     /// The stack of these items, which have so many modules.
     pub(crate) fn of(items: Vec<Item>, modules: usize) -> Stack
         requires counted { modules ≡ module_count (items_of items.items) }
-        requires few { modules ≤ 64 }
-        requires shallow { depth (items_of items.items) ≤ 16 }
+        requires few { modules ≤ MAX_MODULES }
+        requires shallow { depth (items_of items.items) ≤ MAX_OPEN_FILES }
         requires numbered { IsNumbered (items_of items.items) }
         ensures { result ≡ items_of items.items }
     {
@@ -101,8 +107,8 @@ impl Stack {
     /// The items of the outermost list.
     pub fn items(&self) -> &[Item]
         ensures items { items_of result.now ≡ self.now }
-        ensures few { module_count self.now ≤ 64 }
-        ensures shallow { depth self.now ≤ 16 }
+        ensures few { module_count self.now ≤ MAX_MODULES }
+        ensures shallow { depth self.now ≤ MAX_OPEN_FILES }
         ensures numbered { IsNumbered self.now }
     {
         self.items.as_slice()
@@ -111,7 +117,7 @@ impl Stack {
     /// How many modules there are.
     pub fn modules(&self) -> usize
         ensures count { result ≡ module_count self.now }
-        ensures most { result ≤ 64 }
+        ensures most { result ≤ MAX_MODULES }
     {
         self.modules
     }

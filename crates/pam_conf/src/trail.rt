@@ -4,24 +4,25 @@ ghost use Rattle.std.specs.List.{list_any};
 
 use std::marker::Model;
 
-/// How many files may be open at once.
-const OPEN_FILES: usize = 16;
+/// How many files may be open at once, the service's file among them: one more is `TooDeep`.
+pub const MAX_OPEN_FILES: usize = 16;
 
 /// The positions of the files that are open, the service's file first.
 #[derive(Drop)]
 pub(crate) struct Trail {
-    files: [usize; OPEN_FILES],
+    files: [usize; MAX_OPEN_FILES],
     count: usize,
 }
 
 impl Model for Trail {
     ghost use Rattle.std.specs.Prelude.{ℕ, List, ◌≤◌, take};
+    ghost use Rattle.pam_conf.specs.declared.trail.TheConstants.{MAX_OPEN_FILES};
 
     ghost Value = { List ℕ };
 
     ghost view = { λ t. take t.count t.files };
 
-    ghost invariant = { λ t. t.count ≤ 16 };
+    ghost invariant = { λ t. t.count ≤ MAX_OPEN_FILES };
 }
 
 impl Trail {
@@ -30,16 +31,16 @@ impl Trail {
         ensures { result ≡ file ∷ [] }
     {
         Trail {
-            files: [file; OPEN_FILES],
+            files: [file; MAX_OPEN_FILES],
             count: 1,
         }
     }
 
     /// How many more files may be opened.
     pub(crate) fn room(&self) -> usize
-        ensures { result ≡ 16 - length self.now }
+        ensures { result ≡ MAX_OPEN_FILES - length self.now }
     {
-        OPEN_FILES - self.count
+        MAX_OPEN_FILES - self.count
     }
 
     /// Whether a file is open.
@@ -51,7 +52,7 @@ impl Trail {
 
     /// The trail with one more file.
     pub(crate) fn with(&self, file: usize) -> Trail
-        requires { length self.now < 16 }
+        requires { length self.now < MAX_OPEN_FILES }
         ensures { result ≡ self.now ++ file ∷ [] }
     {
         let mut files = self.files;

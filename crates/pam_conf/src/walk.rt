@@ -8,22 +8,22 @@ ghost use Rattle.pam_conf.specs.Resolution.{Resolves, UnlessMemory};
 ghost use Rattle.pam_conf.specs.Rule.{rule_view};
 ghost use Rattle.pam_conf.specs.Walk.{carries, counts, deeper, fault_at, followed, include_walk, is_of_kind, rule_walk, rules_at, rules_walk, target_walk, walk};
 ghost use Rattle.pam_conf.specs.Wanted.{only_wanted};
+ghost use Rattle.pam_conf.specs.declared.stack.TheConstants.{MAX_MODULES};
+ghost use Rattle.pam_conf.specs.declared.trail.TheConstants.{MAX_OPEN_FILES};
+ghost use Rattle.pam_conf.specs.declared.walk.TheConstants.{MAX_FOLLOWS};
 
 use crate::conf_error::ConfError;
 use crate::error::{FaultKind, RuleFault};
 use crate::files::Files;
 use crate::lines::wanted_rules;
 use crate::rule::{Body, Kind, Rule, is_of};
-use crate::stack::{Item, Module, Sub};
+use crate::stack::{Item, MAX_MODULES, Module, Sub};
 use crate::trail::Trail;
 use pam_codes::Control;
 use std::alloc::{AllocError, Global};
 
-/// The most modules of one stack.
-const MODULES: usize = 64;
-
-/// The most includes and substacks that are followed in one walk.
-const FOLLOWS: usize = 256;
+/// How many includes and substacks a walk follows at most: one more is `TooManyFollowed`.
+pub const MAX_FOLLOWS: usize = 256;
 
 /// What a walk has met so far, and the rules that it has read.
 #[derive(Drop)]
@@ -32,8 +32,8 @@ pub(crate) struct Progress {
     pub table: Vec<Option<Vec<Rule>>>,
     pub modules: usize,
     pub follows: usize,
-    ghost few_modules: { modules ≤ 64 },
-    ghost few_follows: { follows ≤ 256 },
+    ghost few_modules: { modules ≤ MAX_MODULES },
+    ghost few_follows: { follows ≤ MAX_FOLLOWS },
 }
 
 impl Progress {
@@ -193,7 +193,7 @@ impl Walker<'_> {
         requires table { IsTable self.now.files.now self.now.kind progress.old.table.items }
         requires within { file < length self.now.files.now.entries }
         ensures table { OnOk result (IsTable self.now.files.now self.now.kind progress.new.table.items) }
-        ensures walked { let w = walk self.now.files.now self.now.kind (option_map (λ s. s.now) self.now.service) (16 - length trail.now) trail.now file in
+        ensures walked { let w = walk self.now.files.now self.now.kind (option_map (λ s. s.now) self.now.service) (MAX_OPEN_FILES - length trail.now) trail.now file in
             MatchResult result
             (λ _. Passes progress.old.modules progress.old.follows (items_of items.old.items) w progress.new.modules progress.new.follows (items_of items.new.items))
             (λ e. Refuses progress.old.modules progress.old.follows w e) }
@@ -217,7 +217,7 @@ impl Walker<'_> {
         requires table { IsTable self.now.files.now self.now.kind progress.old.table.items }
         ensures table { OnOk result (IsTable self.now.files.now self.now.kind progress.new.table.items) }
         ensures walked { let service = option_map (λ s. s.now) self.now.service in
-            let w = rules_walk self.now.files.now self.now.kind service (deeper self.now.files.now self.now.kind service (16 - length trail.now)) trail.now file (map rule_view rules.now) in
+            let w = rules_walk self.now.files.now self.now.kind service (deeper self.now.files.now self.now.kind service (MAX_OPEN_FILES - length trail.now)) trail.now file (map rule_view rules.now) in
             MatchResult result
             (λ _. Passes progress.old.modules progress.old.follows (items_of items.old.items) w progress.new.modules progress.new.follows (items_of items.new.items))
             (λ e. Refuses progress.old.modules progress.old.follows w e) }
@@ -241,7 +241,7 @@ impl Walker<'_> {
         requires table { IsTable self.now.files.now self.now.kind progress.old.table.items }
         ensures table { OnOk result (IsTable self.now.files.now self.now.kind progress.new.table.items) }
         ensures walked { let service = option_map (λ s. s.now) self.now.service in
-            let w = rule_walk self.now.files.now self.now.kind service (deeper self.now.files.now self.now.kind service (16 - length trail.now)) trail.now file (rule_view rule.now) in
+            let w = rule_walk self.now.files.now self.now.kind service (deeper self.now.files.now self.now.kind service (MAX_OPEN_FILES - length trail.now)) trail.now file (rule_view rule.now) in
             MatchResult result
             (λ _. Passes progress.old.modules progress.old.follows (items_of items.old.items) w progress.new.modules progress.new.follows (items_of items.new.items))
             (λ e. Refuses progress.old.modules progress.old.follows w e) }
@@ -252,7 +252,7 @@ impl Walker<'_> {
         let line = rule.line;
         match &rule.body {
             Body::Module(control, path, arguments) => {
-                if progress.modules == MODULES {
+                if progress.modules == MAX_MODULES {
                     return Err(fault(file, line, FaultKind::TooManyModules));
                 }
                 let number = progress.modules + 1;
@@ -300,7 +300,7 @@ impl Walker<'_> {
     ) -> Result<usize, ConfError>
         requires table { IsTable self.now.files.now self.now.kind progress.old.table.items }
         ensures table { OnOk result (IsTable self.now.files.now self.now.kind progress.new.table.items) }
-        ensures walked { let found = target_walk (deeper self.now.files.now self.now.kind (option_map (λ s. s.now) self.now.service) (16 - length trail.now)) trail.now (position_of target.now self.now.files.now.entries) in
+        ensures walked { let found = target_walk (deeper self.now.files.now self.now.kind (option_map (λ s. s.now) self.now.service) (MAX_OPEN_FILES - length trail.now)) trail.now (position_of target.now self.now.files.now.entries) in
             MatchResult result
             (λ position. IsOkAnd found (λ t. (t.0 ≡ position) × Passes progress.old.modules progress.old.follows (items_of items.old.items) (followed file line t.1) progress.new.modules progress.new.follows (items_of items.new.items)))
             (λ e. Refuses progress.old.modules progress.old.follows (include_walk file line found) e) }
@@ -314,7 +314,7 @@ impl Walker<'_> {
         if trail.room() == 0 {
             return Err(fault(file, line, FaultKind::TooDeep));
         }
-        if progress.follows == FOLLOWS {
+        if progress.follows == MAX_FOLLOWS {
             return Err(fault(file, line, FaultKind::TooManyFollowed));
         }
         progress.follows += 1;

@@ -6,6 +6,7 @@ use Rattle.std.proofs.lemmas.List.Elements.{All-append, All-cons, All-nil}
 use Rattle.pam_codes.specs.declared.action.Action.{Action}
 use Rattle.pam_conf.specs.Stack.{Items, ModuleText, End, ThenModule, ThenSub, IsNumberedFrom, module_count, depth, first_there, module_at}
 use Rattle.pam_conf.proofs.StackTree.{depth-pos, numbered-module_parts, numbered-sub_parts, module_at-range}
+use Rattle.pam_conf.specs.declared.stack.TheConstants.{MAX_MODULES}
 use Rattle.pam_dispatch.specs.declared.entry.Entry.{Entry}
 use Rattle.pam_dispatch.specs.declared.entry.Entry.TheVariants.{Module, Substack}
 use Rattle.pam_dispatch.specs.Tree.{count, controls_of}
@@ -130,7 +131,7 @@ control_at-flat_list items number h =
 
 -- A STACK'S PROGRAM
 
-pub program-flat_list : (items : Items) (positions : List ℕ) → module_count items ≤ 64 → depth items ≤ 16 → IsNumberedFrom 1 items →
+pub program-flat_list : (items : Items) (positions : List ℕ) → module_count items ≤ MAX_MODULES → depth items ≤ 16 → IsNumberedFrom 1 items →
     positions ≡ positions_from 0 (flat_list 0 items) → IsProgram (flat_list 0 items) positions
 program-flat_list items positions few shallow numbered found =
     let levels : 0 + depth items ≤ 16 = omega (arith, shallow) in

@@ -1,5 +1,6 @@
 -- What a program keeps of a stack, whose rules stand in the order of pam.conf(5), DESCRIPTION.
 use Rattle.std.specs.Prelude.{◌≡◌, ℕ, ◌≤◌, List, All}
+use Rattle.pam_conf.specs.declared.stack.TheConstants.{MAX_MODULES}
 use Rattle.pam_dispatch.specs.declared.entry.Entry.{Entry}
 use Rattle.pam_dispatch.specs.Flat.{IsNumbered, IsShallow, modules_of, positions_from}
 
@@ -7,5 +8,5 @@ use Rattle.pam_dispatch.specs.Flat.{IsNumbered, IsShallow, modules_of, positions
 pub record IsProgram (entries : List Entry) (positions : List ℕ) : Type 0 where
   pub shallow : All IsShallow entries
   pub numbered : IsNumbered 0 entries
-  pub few : modules_of entries ≤ 64
+  pub few : modules_of entries ≤ MAX_MODULES
   pub found : positions ≡ positions_from 0 entries

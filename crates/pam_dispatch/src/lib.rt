@@ -16,6 +16,7 @@ mod work;
 
 pub use decision::Decision;
 pub use error::{Memory, WrongCount};
+pub use pam_conf::MAX_MODULES;
 pub use place::Place;
 pub use program::Program;
 pub use state::{Impression, State};

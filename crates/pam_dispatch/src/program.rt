@@ -2,6 +2,7 @@
 
 ghost use Rattle.std.specs.Prelude.{◌≡◌, ◌+◌, ◌-◌, ◌≤◌, ◌^◌, ℕ, All, IfErr, IfOk, IfSome, IsSome, None, OnOk, Some, length, min, ◌≢◌, ◌∷◌};
 ghost use Rattle.pam_conf.specs.Stack.{Items, module_at, module_count};
+ghost use Rattle.pam_conf.specs.declared.stack.TheConstants.{MAX_MODULES};
 ghost use Rattle.pam_dispatch.specs.Decision.{decision_of};
 ghost use Rattle.pam_dispatch.specs.Flat.{IsPlaceOf, IsShallow, control_at, modules_of, positions_from, rest_of, runs_of};
 ghost use Rattle.pam_dispatch.specs.Runs.{AsksRise, Assignment, after_answer, answers_of, asked_by, asked_module, final_state, next_ask, outcome_in, state_in};
@@ -110,7 +111,7 @@ impl Program {
     /// How many modules there are.
     pub fn modules(&self) -> usize
         ensures count { result ≡ modules_of self.now }
-        ensures most { result ≤ 64 }
+        ensures most { result ≤ MAX_MODULES }
         ensures rise { AsksRise 0 (modules_of self.now) (runs_of self.now) }
     {
         self.positions.len()
@@ -136,7 +137,7 @@ impl Program {
     pub fn first(&self) -> Place
         ensures place { IsPlaceOf self.now result }
         ensures whole { rest_of self.now result ≡ runs_of self.now }
-        ensures few { modules_of self.now ≤ 64 }
+        ensures few { modules_of self.now ≤ MAX_MODULES }
         ensures rise { AsksRise 0 (modules_of self.now) (runs_of self.now) }
     {
         let start = State::start();

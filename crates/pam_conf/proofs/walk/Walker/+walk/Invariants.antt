@@ -2,20 +2,21 @@ use Rattle.std.proofs.Common.{◌+◌, ◌-◌, ◌*◌, length, drop}
 use Rattle.std.specs.Option.{option_map}
 use Rattle.pam_conf.specs.ItemsOf.{items_of}
 use Rattle.pam_conf.specs.Progress.{IsTable}
+use Rattle.pam_conf.specs.declared.trail.TheConstants.{MAX_OPEN_FILES}
 use Rattle.pam_conf.proofs.WalkLemmas.{Leads, walk_of}
 use Rattle.pam_conf.proofs.walk.Walker.+walk.Given as goal
 
 abbrev pub decreases-follow : goal.decreases-follow
-decreases-follow l = 4 * (16 - length l.trail.now)
+decreases-follow l = 4 * (MAX_OPEN_FILES - length l.trail.now)
 
 abbrev pub decreases-walk_rule : goal.decreases-walk_rule
-decreases-walk_rule l = 4 * (16 - length l.trail.now) + 1
+decreases-walk_rule l = 4 * (MAX_OPEN_FILES - length l.trail.now) + 1
 
 abbrev pub decreases-walk_rules : goal.decreases-walk_rules
-decreases-walk_rules l = 4 * (16 - length l.trail.now) + 2
+decreases-walk_rules l = 4 * (MAX_OPEN_FILES - length l.trail.now) + 2
 
 abbrev pub decreases-walk_file : goal.decreases-walk_file
-decreases-walk_file l = 4 * (16 - length l.trail.now) + 3
+decreases-walk_file l = 4 * (MAX_OPEN_FILES - length l.trail.now) + 3
 
 -- what is walked from the beginning on leads to the rules that are left
 abbrev pub invariant-walk_rules-loop-rule : goal.invariant-walk_rules-loop-rule
