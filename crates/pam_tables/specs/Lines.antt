@@ -4,11 +4,12 @@ use Rattle.std.specs.List.{list_any, list_all, slice_split, prefix_len, suffix_l
 use Rattle.std.specs.Option.{option_map, option_map_or}
 use Rattle.pam_tables.specs.declared.error.TableFault.{TableFault}
 use Rattle.pam_tables.specs.declared.error.TableFault.TheVariants.{NulByte, TableTooLong}
+use Rattle.pam_tables.specs.declared.lines.TheConstants.{MAX_TABLE_BYTES}
 
--- the fault of the bytes as a whole, and its line: more than 1,048,576 of them, or a NUL byte
+-- the fault of the bytes as a whole, and its line: more of them than a table may have, or a NUL byte
 unfoldable pub fault_of_bytes : List ℕ → Option (TableFault × ℕ)
 fault_of_bytes bytes =
-    if nat_lt 1048576 (length bytes) then Some (TableTooLong, 0)
+    if nat_lt MAX_TABLE_BYTES (length bytes) then Some (TableTooLong, 0)
     else option_map (λ i. (NulByte, count_by (λ b. b == 10) (take i bytes) + 1)) (position (λ b. b == 0) bytes)
 
 -- what reading gives, if the bytes as a whole have no fault

@@ -16,6 +16,6 @@ mod tokens;
 pub use access::{AccessAnswer, AccessTable};
 pub use error::{Table, TableError, TableFault};
 pub use groups::Groups;
-pub use lines::{check_bytes, cut};
+pub use lines::{MAX_TABLE_BYTES, check_bytes, cut};
 pub use login::{Login, drop_dev};
 pub use options::AccessOptions;

@@ -8,8 +8,8 @@ ghost use Rattle.pam_tables.specs.Lines.{sound, without_return, lines_from, line
 use crate::error::{Table, TableError, TableFault};
 use std::alloc::{AllocError, Global};
 
-/// The most bytes that a table may have.
-const MOST_BYTES: usize = 1_048_576;
+/// How many bytes a table has at most: one more is `TableTooLong`.
+pub const MAX_TABLE_BYTES: usize = 1_048_576;
 
 /// The place of the first NUL byte.
 fn nul_at(bytes: &[u8]) -> Option<usize>
@@ -30,9 +30,9 @@ fn feeds(bytes: &[u8]) -> usize
 #[tactic(auto, unfolding(crate::specs::Lines::fault_of_bytes))]
 pub fn check_bytes(table: Table, bytes: &[u8]) -> Result<(), TableError>
     ensures fault { Gives table (λ done. done) result (sound bytes.now) }
-    ensures short { OnOk result (length bytes.now ≤ 1048576) }
+    ensures short { OnOk result (length bytes.now ≤ MAX_TABLE_BYTES) }
 {
-    if bytes.len() > MOST_BYTES {
+    if bytes.len() > MAX_TABLE_BYTES {
         return Err(TableError::new(table, TableFault::TableTooLong, 0));
     }
     match nul_at(bytes) {
@@ -144,7 +144,7 @@ pub(crate) struct Lines<'a> {
 impl<'a> Lines<'a> {
     #[tactic(auto, unfolding(crate::specs::Lines::lines_left))]
     pub(crate) fn of(bytes: &'a [u8]) -> Self
-        requires { length bytes.now ≤ 1048576 }
+        requires { length bytes.now ≤ MAX_TABLE_BYTES }
         ensures { lines_left result.is_done result.number result.rest.now ≡ lines_from 1 bytes.now }
     {
         Lines {

@@ -3,6 +3,7 @@ use Rattle.std.proofs.lemmas.Bool.{false≢true}
 use Rattle.std.proofs.lemmas.Result.{err_from_is_err_and}
 use Rattle.pam_codes.specs.Text.{text_of, first_line}
 use Rattle.pam_codes.proofs.TextLines.{HeadIs, head_is, shorter, all_before, behind_before, number_before}
+use Rattle.pam_tables.specs.declared.lines.TheConstants.{MAX_TABLE_BYTES}
 use Rattle.pam_tables.proofs.ReadSteps.{checked_fails, checked_passes, fails_on, fails_there, nothing_in_front}
 use Rattle.pam_times.specs.Reading.{rules_of, rule_of, with_rule}
 use Rattle.pam_times.proofs.ReadingSteps.{line_added, line_fails, nothing_left}
@@ -16,7 +17,7 @@ returns-in_err-check_bytes c =
 
 pub loop-text-init : goal.loop-text-init
 loop-text-init c = rw (c.of-text.ensures.line, c.of-text.ensures.rest) (record {
-  few = all_before 4294967296 1 c.args.bytes.now (let short : length c.args.bytes.now ≤ 1048576 = c.in_ok-check_bytes.ensures.short in omega arith);
+  few = all_before 4294967296 1 c.args.bytes.now (let short : length c.args.bytes.now ≤ MAX_TABLE_BYTES = c.in_ok-check_bytes.ensures.short in omega arith);
   same = rw c.new.ensures.items (nothing_in_front _);
 })
 
