@@ -2,6 +2,7 @@ pub mod DepthLemmas
 pub mod FileLemmas
 pub mod LineSteps
 pub mod ResolutionLemmas
+pub mod RoomLemmas
 pub mod Splits
 pub mod StackTree
 pub mod TableLemmas

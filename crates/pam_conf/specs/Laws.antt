@@ -1,7 +1,42 @@
 -- What is true of the definitions, in the words of pam.conf(5).
-use Rattle.std.specs.Prelude.{◌≡◌, ◌↔◌, ℕ, List, Some}
+use Rattle.std.specs.Prelude.{◌≡◌, ◌↔◌, ◌-◌, ◌==◌, ◌≤◌, ℕ, nat_lt, false, List, [], ◌∷◌, length, if◌then◌else◌, Option, Some, None, Err}
+use Rattle.std.specs.List.{list_any}
+use Rattle.pam_conf.specs.Files.{Folder}
+use Rattle.pam_conf.specs.Resolution.{items_or_fault, stack_from}
+use Rattle.pam_conf.specs.Walk.{Deeper, Walk, file_walk, target_walk, walk}
 use Rattle.pam_conf.specs.Words.{IsSplit, words_of}
+use Rattle.pam_conf.specs.declared.error.FaultKind.TheVariants.{TooDeep}
+use Rattle.pam_conf.specs.declared.rule.Kind.{Kind}
+use Rattle.pam_conf.specs.declared.trail.TheConstants.{MAX_OPEN_FILES}
+
+-- WORDS
 
 -- the words of a line are the one way to write it as blanks and spellings of words; where there is none there are no words
 abbrev pub WordsAreOneSplit : Type 0
 WordsAreOneSplit = (line : List ℕ) (words : List (List ℕ)) → (words_of line ≡ Some words) ↔ IsSplit line words
+
+-- THE WALK BY ITS TRAIL ALONE: the room of a walk and the files of its trail are `MAX_OPEN_FILES` together
+
+-- the walk of the last file of a trail, with the room that the trail leaves
+abbrev pub trail_walk : Folder → Kind → Option (List ℕ) → List ℕ → ℕ → Walk
+trail_walk folder kind service trail file = walk folder kind service (MAX_OPEN_FILES - length trail) trail file
+
+-- one more file may be opened as long as fewer than `MAX_OPEN_FILES` are open
+abbrev pub one_more : Folder → Kind → Option (List ℕ) → List ℕ → Deeper
+one_more folder kind service trail = if nat_lt (length trail) MAX_OPEN_FILES then Some (trail_walk folder kind service) else None
+
+-- a stack is the walk of its first file, the one file of the trail
+abbrev pub StackBeginsATrail : Type 0
+StackBeginsATrail = (folder : Folder) (kind : Kind) (service : Option (List ℕ)) (file : ℕ) →
+    stack_from folder kind record { file = file; service = service } ≡ items_or_fault (trail_walk folder kind service (file ∷ []) file)
+
+-- a file is walked by its rules, and its targets so with the longer trail
+abbrev pub WalkFollowsItsTrail : Type 0
+WalkFollowsItsTrail = (folder : Folder) (kind : Kind) (service : Option (List ℕ)) (trail : List ℕ) (file : ℕ) →
+    trail_walk folder kind service trail file ≡ file_walk folder kind service (one_more folder kind service trail) trail file
+
+-- a target that has a file, and is not open, is too deep exactly where `MAX_OPEN_FILES` files are open
+abbrev pub DeepWhereAllAreOpen : Type 0
+DeepWhereAllAreOpen = (folder : Folder) (kind : Kind) (service : Option (List ℕ)) (trail : List ℕ) (target : ℕ) →
+    list_any (λ p. p == target) trail ≡ false →
+    (target_walk (one_more folder kind service trail) trail (Some target) ≡ Err TooDeep) ↔ (MAX_OPEN_FILES ≤ length trail)
