@@ -1,4 +1,5 @@
-use Rattle.std.proofs.Common.{◌≡◌, ◌++◌, ⊎_elim, append-nil, append_assoc, ℕ, Bool, true, false, List, [], ◌∷◌, cond, eqb, filter, ap, ◌∙◌, sym, refl, Option, Some, None, Result, Ok, Err}
+use Rattle.std.proofs.Common.{◌≡◌, ◌++◌, ⊎_elim, append-nil, append_assoc, ℕ, Bool, true, false, List, [], ◌∷◌, cond, eqb, filter, ap, ◌∙◌, sym, refl, Option}
+use Rattle.std.proofs.Common.{Some, None, Result, Ok, Err}
 use Rattle.pam_codes.specs.Text.{Mark, lines_of, first_line, first_marks, behind_line}
 use Rattle.pam_codes.proofs.TextLines.{HeadIs, bytes_of_marks, split_first}
 use Rattle.pam_conf.specs.Words.{words_in, words_or_fault}
@@ -16,10 +17,11 @@ use Rattle.pam_conf.specs.declared.rule.Kind.{Kind}
 pub rule_at_line : (form : Form) (l : ℕ) (ms : List Mark) → HeadIs l ms → rule_at form (first_marks ms) ≡ at_line l (line_rule_of form l (first_line ms))
 unfolding HeadIs line_rule_of words_in rule_of
 rule_at_line form l [] h = refl
-rule_at_line form l (m ∷ ms) h = elim (eqb m.1 10) as (λ (t : Bool). rule_at form (cond t [] (m ∷ first_marks ms)) ≡ at_line l (line_rule_of form l (cond t [] (m.1 ∷ first_line ms)))) [
-  | true ↦ refl
-  | false ↦ rw (h, bytes_of_marks ms) refl
-]
+rule_at_line form l (m ∷ ms) h =
+    elim (eqb m.1 10) as (λ (t : Bool). rule_at form (cond t [] (m ∷ first_marks ms)) ≡ at_line l (line_rule_of form l (cond t [] (m.1 ∷ first_line ms)))) [
+      | true ↦ refl
+      | false ↦ rw (h, bytes_of_marks ms) refl
+    ]
 
 -- a line without words has their fault
 pub no_words : (form : Form) (l : ℕ) (bytes : List ℕ) (kind : FaultKind) → FailsKind kind (words_or_fault bytes) → FailsKind kind (line_rule_of form l bytes)
@@ -28,16 +30,19 @@ no_words form l bytes faults.Memory h = tt
 no_words form l bytes kind h = ap (λ r. r >>= rule_of form l) h
 
 -- a line of these words has their rule
-pub some_words : (form : Form) (l : ℕ) (bytes : List ℕ) (words : List (List ℕ)) → words_or_fault bytes ≡ Ok words → line_rule_of form l bytes ≡ rule_of form l words
+pub some_words : (form : Form) (l : ℕ) (bytes : List ℕ) (words : List (List ℕ)) → words_or_fault bytes ≡ Ok words →
+    line_rule_of form l bytes ≡ rule_of form l words
 unfolding line_rule_of
 some_words form l bytes words h = ap (λ r. r >>= rule_of form l) h
 
 -- a fault of a line that is the definition's stays so with its number
-numbered : {A : Type 0} (line : ℕ) (kind : FaultKind) (meant : Result A FaultKind) → FailsKind kind meant → FailsAs (fault_at line kind) (fault_at line kind).kind (at_line line meant)
+numbered : {A : Type 0} (line : ℕ) (kind : FaultKind) (meant : Result A FaultKind) → FailsKind kind meant →
+    FailsAs (fault_at line kind) (fault_at line kind).kind (at_line line meant)
 numbered line faults.Memory meant h = refl
 numbered line kind meant h = ap (at_line line) h
 
-pub numbered_fault : (form : Form) (l line : ℕ) (ms : List Mark) (kind : FaultKind) (fault : RuleFault) → HeadIs l ms → line ≡ l → fault ≡ fault_at line kind → FailsKind kind (line_rule_of form l (first_line ms)) → FailsAs fault fault.kind (rule_at form (first_marks ms))
+pub numbered_fault : (form : Form) (l line : ℕ) (ms : List Mark) (kind : FaultKind) (fault : RuleFault) → HeadIs l ms → line ≡ l → fault ≡ fault_at line kind →
+    FailsKind kind (line_rule_of form l (first_line ms)) → FailsAs fault fault.kind (rule_at form (first_marks ms))
 numbered_fault form l line ms kind fault head same is fails = rw (is, same, rule_at_line form l ms head) (numbered l kind _ fails)
 
 onto_none : (r : Result (Option RuleText) RuleFault) → onto_rules r (Ok []) ≡ onto_rules r (onto_rules (Ok None) (Ok []))
@@ -50,12 +55,14 @@ unfolding line_rule_of words_in rule_of
 empty_line form = refl
 
 -- the rules of a text are those of its first line, and those behind it
-pub rules_step : (form : Form) (ms : List Mark) → rules_in form (lines_of ms) ≡ onto_rules (rule_at form (first_marks ms)) (rules_in form (lines_of (behind_line ms)))
+pub rules_step : (form : Form) (ms : List Mark) → rules_in form (lines_of ms)
+    ≡ onto_rules (rule_at form (first_marks ms)) (rules_in form (lines_of (behind_line ms)))
 unfolding rules_in
 rules_step form ms =
     let front = rule_at form (first_marks ms) in
     ⊎_elim (λ e. ap (rules_in form) e)
-    (λ p. ap (rules_in form) p.0 ∙ onto_none front ∙ ap (λ r. onto_rules front (onto_rules r (Ok []))) (sym (empty_line form)) ∙ ap (λ ts. onto_rules front (rules_in form (lines_of ts))) (sym p.1))
+    (λ p. ap (rules_in form) p.0 ∙ onto_none front ∙ ap (λ r. onto_rules front (onto_rules r (Ok []))) (sym (empty_line form))
+    ∙ ap (λ ts. onto_rules front (rules_in form (lines_of ts))) (sym p.1))
     (split_first ms)
 
 -- rules that were read before stand in front
@@ -93,31 +100,41 @@ module _ (wanted : Option Kind) (form : Form) (front : List RuleText) where
   all_read ms e = ap (λ (ts : List Mark). read_on (rules_in form (lines_of ts))) e ∙ ap Ok (append-nil front)
 
   -- what a text gives, where its first line is read
-  first_read : (ms : List Mark) (r : Result (Option RuleText) RuleFault) → rule_at form (first_marks ms) ≡ r → read_on (rules_in form (lines_of ms)) ≡ read_on (onto_rules r (rules_in form (lines_of (behind_line ms))))
+  first_read : (ms : List Mark) (r : Result (Option RuleText) RuleFault) → rule_at form (first_marks ms) ≡ r →
+      read_on (rules_in form (lines_of ms)) ≡ read_on (onto_rules r (rules_in form (lines_of (behind_line ms))))
   first_read ms r h = ap read_on (rules_step form ms ∙ ap (λ s. onto_rules s (rules_in form (lines_of (behind_line ms)))) h)
 
   pub step_fault : (ms : List Mark) (f : RuleFault) → rule_at form (first_marks ms) ≡ Err f → read_on (rules_in form (lines_of ms)) ≡ Err f
   unfolding with_rules
   step_fault ms f h = first_read ms (Err f) h
 
-  pub step_nothing : (ms ts : List Mark) → rule_at form (first_marks ms) ≡ Ok None → ts ≡ behind_line ms → read_on (rules_in form (lines_of ts)) ≡ read_on (rules_in form (lines_of ms))
+  pub step_nothing : (ms ts : List Mark) → rule_at form (first_marks ms) ≡ Ok None → ts ≡ behind_line ms →
+      read_on (rules_in form (lines_of ts)) ≡ read_on (rules_in form (lines_of ms))
   step_nothing ms ts h e = ap (λ (us : List Mark). read_on (rules_in form (lines_of us))) e ∙ sym (first_read ms (Ok None) h)
 
-  filtered_apart : (x : RuleText) (xs : List RuleText) → (front ++ filter (wants wanted) (x ∷ [])) ++ filter (wants wanted) xs ≡ front ++ filter (wants wanted) (x ∷ xs)
-  filtered_apart x xs = elim (wants wanted x) as (λ (t : Bool). (front ++ cond t (x ∷ []) []) ++ filter (wants wanted) xs ≡ front ++ cond t (x ∷ filter (wants wanted) xs) (filter (wants wanted) xs)) [
-    | true ↦ append_assoc front (x ∷ []) (filter (wants wanted) xs)
-    | false ↦ ap (λ ys. ys ++ filter (wants wanted) xs) (append-nil front)
-  ]
+  filtered_apart : (x : RuleText) (xs : List RuleText) → (front ++ filter (wants wanted) (x ∷ [])) ++ filter (wants wanted) xs
+      ≡ front ++ filter (wants wanted) (x ∷ xs)
+  filtered_apart x xs =
+      elim (wants wanted x) as (λ (t : Bool). (front ++ cond t (x ∷ []) []) ++ filter (wants wanted) xs
+      ≡ front ++ cond t (x ∷ filter (wants wanted) xs) (filter (wants wanted) xs)) [
+        | true ↦ append_assoc front (x ∷ []) (filter (wants wanted) xs)
+        | false ↦ ap (λ ys. ys ++ filter (wants wanted) xs) (append-nil front)
+      ]
 
-  one_more : (x : RuleText) (r : Result (List RuleText) RuleFault) → with_rules (front ++ filter (wants wanted) (x ∷ [])) (sifted wanted r) ≡ read_on (onto_rules (Ok (Some x)) r)
+  one_more : (x : RuleText) (r : Result (List RuleText) RuleFault) →
+      with_rules (front ++ filter (wants wanted) (x ∷ [])) (sifted wanted r) ≡ read_on (onto_rules (Ok (Some x)) r)
   unfolding with_rules
   one_more x (Ok xs) = ap Ok (filtered_apart x xs)
   one_more x (Err f) = refl
 
-  pub step_rule : (ms ts : List Mark) (x : RuleText) → rule_at form (first_marks ms) ≡ Ok (Some x) → ts ≡ behind_line ms → with_rules (front ++ filter (wants wanted) (x ∷ [])) (sifted wanted (rules_in form (lines_of ts))) ≡ read_on (rules_in form (lines_of ms))
-  step_rule ms ts x h e = ap (λ (us : List Mark). with_rules (front ++ filter (wants wanted) (x ∷ [])) (sifted wanted (rules_in form (lines_of us)))) e ∙ one_more x _ ∙ sym (first_read ms (Ok (Some x)) h)
+  pub step_rule : (ms ts : List Mark) (x : RuleText) → rule_at form (first_marks ms) ≡ Ok (Some x) → ts ≡ behind_line ms →
+      with_rules (front ++ filter (wants wanted) (x ∷ [])) (sifted wanted (rules_in form (lines_of ts))) ≡ read_on (rules_in form (lines_of ms))
+  step_rule ms ts x h e =
+      ap (λ (us : List Mark). with_rules (front ++ filter (wants wanted) (x ∷ [])) (sifted wanted (rules_in form (lines_of us)))) e ∙ one_more x _
+      ∙ sym (first_read ms (Ok (Some x)) h)
 
 -- what fails a line fails the file
-pub fails_on : (fault : RuleFault) (kind : FaultKind) (r : Result (Option RuleText) RuleFault) (s : Result (List RuleText) RuleFault) → (r ≡ Err fault → s ≡ Err fault) → FailsAs fault kind r → FailsAs fault kind s
+pub fails_on : (fault : RuleFault) (kind : FaultKind) (r : Result (Option RuleText) RuleFault) (s : Result (List RuleText) RuleFault) →
+    (r ≡ Err fault → s ≡ Err fault) → FailsAs fault kind r → FailsAs fault kind s
 fails_on fault faults.Memory r s f h = h
 fails_on fault kind r s f h = f h

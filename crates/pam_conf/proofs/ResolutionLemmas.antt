@@ -1,4 +1,5 @@
-use Rattle.std.proofs.Common.{◌≡◌, ◌≤◌, ◌<◌, ◌+◌, ◌-◌, ℕ, suc, true, false, List, [], ◌∷◌, map, length, Option, Some, None, Result, Ok, Err, ap, subst, sym, refl, ◌∙◌, arith, append-nil, filter, eqb, codes, option_and_then, drop, get_or, add-one, ◌||◌}
+use Rattle.std.proofs.Common.{◌≡◌, ◌≤◌, ◌<◌, ◌+◌, ◌-◌, ℕ, suc, true, false, List, [], ◌∷◌, map, length, Option, Some, None, Result, Ok, Err, ap, subst, sym}
+use Rattle.std.proofs.Common.{refl, ◌∙◌, arith, append-nil, filter, eqb, codes, option_and_then, drop, get_or, add-one, ◌||◌}
 use Rattle.std.proofs.Math.Seq.{drop-cons}
 use Rattle.std.specs.Char.{to_ascii_lowercase}
 use Rattle.std.specs.List.{list_any}
@@ -56,7 +57,12 @@ module _ (folder : Folder) (kind : Kind) (start : StartText) where
     stack-shallow m f i0 i none p =
         let same : i ≡ numbered 1 (begun trail).items = p.added ∙ ap (λ j. joined j (numbered 1 (begun trail).items)) none in
         let room : length trail ≡ 1 = ap length is in
-        omega (arith, ap depth same, depth-numbered 1 (begun trail).items, depth-walk folder kind start.service (MAX_OPEN_FILES - length trail) trail start.file)
+        omega (
+          arith,
+          ap depth same,
+          depth-numbered 1 (begun trail).items,
+          depth-walk folder kind start.service (MAX_OPEN_FILES - length trail) trail start.file,
+        )
 
     pub stack-numbered : (m f : ℕ) (i0 i : Items) → i0 ≡ End → Passes 0 0 i0 (begun trail) m f i → IsNumbered i
     stack-numbered m f i0 i none p =
@@ -69,7 +75,8 @@ pub items-empty : (xs : List Item) → length xs ≡ 0 → items_of xs ≡ End
 items-empty [] h = refl
 items-empty (x ∷ xs) h = absurd (omega arith)
 
-not_empty : (folder : Folder) (kind : Kind) (other : Option StartText) (xs : List Item) → false ≡ eqb (length xs) 0 → unless_empty folder kind other (Ok (items_of xs)) ≡ Ok (items_of xs)
+not_empty : (folder : Folder) (kind : Kind) (other : Option StartText) (xs : List Item) → false ≡ eqb (length xs) 0 →
+    unless_empty folder kind other (Ok (items_of xs)) ≡ Ok (items_of xs)
 not_empty folder kind other [] h = absurd (false≢true h)
 not_empty folder kind None (ModuleItem m ∷ xs) h = refl
 not_empty folder kind None (SubItem s ∷ xs) h = refl
@@ -77,7 +84,8 @@ not_empty folder kind (Some other) (ModuleItem m ∷ xs) h = refl
 not_empty folder kind (Some other) (SubItem s ∷ xs) h = refl
 
 -- a stack that is not empty stays
-pub keeps-own : (folder : Folder) (kind : Kind) (own : Option Start) (first : Start) (other : Option StartText) (xs : List Item) (items : Items) → own ≡ Some first → stack_from folder kind (start_text first) ≡ Ok items → items_of xs ≡ items → false ≡ eqb (length xs) 0 →
+pub keeps-own : (folder : Folder) (kind : Kind) (own : Option Start) (first : Start) (other : Option StartText) (xs : List Item) (items : Items) →
+    own ≡ Some first → stack_from folder kind (start_text first) ≡ Ok items → items_of xs ≡ items → false ≡ eqb (length xs) 0 →
     from_starts folder kind (option_map start_text own) other ≡ Ok items
 keeps-own folder kind own first other xs items is stack same some =
     ap (λ (s : Option Start). from_starts folder kind (option_map start_text s) other) is
@@ -86,40 +94,50 @@ keeps-own folder kind own first other xs items is stack same some =
     ∙ ap Ok same
 
 -- a fault of the file where the rules stand
-read_fault : (folder : Folder) (kind : Kind) (service : Option (List ℕ)) (file : ℕ) (r : Result (List RuleText) RuleFault) (e : ConfError) → in_file file r ≡ Err e → (refusal 0 0 (read_walk folder kind service (deeper folder kind service (MAX_OPEN_FILES - 1)) (file ∷ []) file r).events) ≡ Some e
+read_fault : (folder : Folder) (kind : Kind) (service : Option (List ℕ)) (file : ℕ) (r : Result (List RuleText) RuleFault) (e : ConfError) →
+    in_file file r ≡ Err e → (refusal 0 0 (read_walk folder kind service (deeper folder kind service (MAX_OPEN_FILES - 1)) (file ∷ []) file r).events) ≡ Some e
 unfolding refusal
 read_fault folder kind service file (Ok rules) e h = absurd (cc)
 read_fault folder kind service file (Err fault) e h = let same : fault_at file fault.line fault.kind ≡ e = cc in ap Some same
 
-pub start-fault : (folder : Folder) (kind : Kind) (file : ℕ) (service : Option (List ℕ)) (e : ConfError) → in_file file (rules_at folder file) ≡ Err e → stack_from folder kind record { file = file; service = service } ≡ Err e
+pub start-fault : (folder : Folder) (kind : Kind) (file : ℕ) (service : Option (List ℕ)) (e : ConfError) → in_file file (rules_at folder file) ≡ Err e →
+    stack_from folder kind record { file = file; service = service } ≡ Err e
 unfolding stack_from
 start-fault folder kind file service e h =
-    let no : refusal 0 0 (walk folder kind service (MAX_OPEN_FILES - 1) (file ∷ []) file).events ≡ Some e = ap (λ (w : Walk). refusal 0 0 w.events) (walk-file folder kind service (MAX_OPEN_FILES - 1) (file ∷ []) file) ∙ read_fault folder kind service file (rules_at folder file) e h in
+    let no : refusal 0 0 (walk folder kind service (MAX_OPEN_FILES - 1) (file ∷ []) file).events ≡ Some e =
+    ap (λ (w : Walk). refusal 0 0 w.events) (walk-file folder kind service (MAX_OPEN_FILES - 1) (file ∷ []) file)
+    ∙ read_fault folder kind service file (rules_at folder file) e h in
     rw no refl
 
 -- the rules that are left, in the search for a service
 
-any-more : (service : List ℕ) (rules : List Rule) (k : ℕ) (r : Rule) → k < length rules → r ≡ get_or rules k r → list_any (carries service) (map rule_view (drop k rules)) ≡ (carries service (rule_view r) || list_any (carries service) (map rule_view (drop (k + 1) rules)))
+any-more : (service : List ℕ) (rules : List Rule) (k : ℕ) (r : Rule) → k < length rules → r ≡ get_or rules k r →
+    list_any (carries service) (map rule_view (drop k rules)) ≡ (carries service (rule_view r) || list_any (carries service)
+    (map rule_view (drop (k + 1) rules)))
 any-more service rules k r within is =
     let next : drop k rules ≡ r ∷ drop (k + 1) rules = rw add-one (drop-cons rules k r within ∙ ap (λ (x : Rule). x ∷ drop (suc k) rules) (sym is)) in
     ap (λ (rs : List Rule). list_any (carries service) (map rule_view rs)) next
 
-pub any-skip : (service : List ℕ) (rules : List Rule) (k : ℕ) (r : Rule) → k < length rules → r ≡ get_or rules k r → carries service (rule_view r) ≡ false → list_any (carries service) (map rule_view (drop k rules)) ≡ list_any (carries service) (map rule_view (drop (k + 1) rules))
+pub any-skip : (service : List ℕ) (rules : List Rule) (k : ℕ) (r : Rule) → k < length rules → r ≡ get_or rules k r → carries service (rule_view r) ≡ false →
+    list_any (carries service) (map rule_view (drop k rules)) ≡ list_any (carries service) (map rule_view (drop (k + 1) rules))
 any-skip service rules k r within is h = any-more service rules k r within is ∙ ap (λ b. b || list_any (carries service) (map rule_view (drop (k + 1) rules))) h
 
-pub any-here : (service : List ℕ) (rules : List Rule) (k : ℕ) (r : Rule) → k < length rules → r ≡ get_or rules k r → carries service (rule_view r) ≡ true → list_any (carries service) (map rule_view (drop k rules)) ≡ true
+pub any-here : (service : List ℕ) (rules : List Rule) (k : ℕ) (r : Rule) → k < length rules → r ≡ get_or rules k r → carries service (rule_view r) ≡ true →
+    list_any (carries service) (map rule_view (drop k rules)) ≡ true
 any-here service rules k r within is h = any-more service rules k r within is ∙ ap (λ b. b || list_any (carries service) (map rule_view (drop (k + 1) rules))) h
 
 -- PAM.CONF
 
-faulty : (folder : Folder) (kind : Kind) (service : List ℕ) (other : Option StartText) (file : ℕ) (e : ConfError) (r : Result (List RuleText) RuleFault) → in_file file r ≡ Err e →
+faulty : (folder : Folder) (kind : Kind) (service : List ℕ) (other : Option StartText) (file : ℕ) (e : ConfError) (r : Result (List RuleText) RuleFault) →
+    in_file file r ≡ Err e →
     stack_from folder kind record { file = file; service = Some service } ≡ Err e → from_starts folder kind (start_read file service r) other ≡ Err e
 faulty folder kind service other file e (Ok rules) h s = absurd (cc)
 faulty folder kind service None file e (Err fault) h s = s
 faulty folder kind service (Some other) file e (Err fault) h s = ap (unless_empty folder kind (Some other)) s
 
 -- a fault of any line is the answer
-pub one-file_fault : (folder : Folder) (kind : Kind) (service : List ℕ) (other : Option StartText) (file : ℕ) (e : ConfError) → position_of (codes "pam.conf") folder.entries ≡ Some file → UnlessMemory e e.kind (in_file file (rules_at folder file) ≡ Err e) →
+pub one-file_fault : (folder : Folder) (kind : Kind) (service : List ℕ) (other : Option StartText) (file : ℕ) (e : ConfError) →
+    position_of (codes "pam.conf") folder.entries ≡ Some file → UnlessMemory e e.kind (in_file file (rules_at folder file) ≡ Err e) →
     UnlessMemory e e.kind (from_starts folder kind (start_in Single folder service) other ≡ Err e)
 one-file_fault folder kind service other file e at = unless-weaker e e.kind (λ h.
     ap (λ (o : Option ℕ). from_starts folder kind (option_and_then (λ f. start_read f service (rules_at folder f)) o) other) at
@@ -130,15 +148,18 @@ read-rules folder file (Ok all) rules h = let same : all ≡ rules = cc in ap Ok
 read-rules folder file (Err fault) rules h = absurd (cc)
 
 -- the rules of the kind are kept
-pub one-file_kept : (folder : Folder) (kind : Kind) (file : ℕ) (rules kept : List RuleText) → in_file file (rules_at folder file) ≡ Ok rules → kept ≡ filter (is_of_kind kind) rules → of_kind kind (rules_at folder file) ≡ Ok kept
+pub one-file_kept : (folder : Folder) (kind : Kind) (file : ℕ) (rules kept : List RuleText) → in_file file (rules_at folder file) ≡ Ok rules →
+    kept ≡ filter (is_of_kind kind) rules → of_kind kind (rules_at folder file) ≡ Ok kept
 one-file_kept folder kind file rules kept read same = ap (of_kind kind) (read-rules folder file (rules_at folder file) rules read) ∙ ap Ok (sym same)
 
 -- where the rules of a service stand in pam.conf
-pub one-file_start : (folder : Folder) (service : List ℕ) (file : ℕ) (rules : List RuleText) → position_of (codes "pam.conf") folder.entries ≡ Some file → in_file file (rules_at folder file) ≡ Ok rules → start_in Single folder service ≡ carried (list_any (carries service) rules) file service
+pub one-file_start : (folder : Folder) (service : List ℕ) (file : ℕ) (rules : List RuleText) → position_of (codes "pam.conf") folder.entries ≡ Some file →
+    in_file file (rules_at folder file) ≡ Ok rules → start_in Single folder service ≡ carried (list_any (carries service) rules) file service
 one-file_start folder service file rules at read =
     ap (λ (o : Option ℕ). option_and_then (λ f. start_read f service (rules_at folder f)) o) at
     ∙ ap (start_read file service) (read-rules folder file (rules_at folder file) rules read)
 
-pub resolved-in : (folder : Folder) (kind : Kind) (form : Form) (service lowered : List ℕ) → folder.form ≡ form → lowered ≡ map to_ascii_lowercase service → from_starts folder kind (start_in form folder lowered) (start_in form folder (codes "other")) ≡ resolved folder service kind
+pub resolved-in : (folder : Folder) (kind : Kind) (form : Form) (service lowered : List ℕ) → folder.form ≡ form → lowered ≡ map to_ascii_lowercase service →
+    from_starts folder kind (start_in form folder lowered) (start_in form folder (codes "other")) ≡ resolved folder service kind
 unfolding resolved
 resolved-in folder kind form service lowered is low = rw (low, ← is) refl

@@ -1,11 +1,13 @@
-use Rattle.std.proofs.Common.{◌≡◌, ◌≤◌, ◌<◌, ◌+◌, ◌-◌, ◌↔◌, ℕ, suc, Bool, true, false, cond, eqb, List, [], ◌∷◌, ◌++◌, length, Option, Some, None, Result, Ok, Err, ap, refl, ◌∙◌, arith, length-append}
+use Rattle.std.proofs.Common.{◌≡◌, ◌≤◌, ◌<◌, ◌+◌, ◌-◌, ◌↔◌, ℕ, suc, Bool, true, false, cond, eqb, List, [], ◌∷◌, ◌++◌, length, Option, Some, None, Result, Ok}
+use Rattle.std.proofs.Common.{Err, ap, refl, ◌∙◌, arith, length-append}
 use Rattle.std.specs.List.{list_any}
 use Rattle.std.proofs.Math.Dec.{ltb}
 use Rattle.std.proofs.lemmas.Bool.{ltb-true, ltb-false}
 use Rattle.pam_conf.specs.Files.{Folder, position_of}
 use Rattle.pam_conf.specs.Laws.{trail_walk, one_more}
 use Rattle.pam_conf.specs.Rule.{RuleText, RuleBody, Module, Include, Sub}
-use Rattle.pam_conf.specs.Walk.{Walk, Deeper, walk, deeper, nothing, ◌then◌, target_walk, include_walk, sub_walk, body_walk, rule_walk, rules_walk, read_walk, file_walk, rules_at, counts}
+use Rattle.pam_conf.specs.Walk.{Walk, Deeper, walk, deeper, nothing, ◌then◌, target_walk, include_walk, sub_walk, body_walk, rule_walk, rules_walk, read_walk}
+use Rattle.pam_conf.specs.Walk.{file_walk, rules_at, counts}
 use Rattle.pam_conf.specs.declared.error.FaultKind.{FaultKind}
 use Rattle.pam_conf.specs.declared.error.FaultKind.TheVariants.{Cycle, TooDeep}
 use Rattle.pam_conf.specs.declared.error.RuleFault.{RuleFault}

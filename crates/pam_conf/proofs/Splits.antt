@@ -4,7 +4,8 @@ use Rattle.std.specs.Option.{option_map}
 use Rattle.std.specs.List.{onto_first}
 use Rattle.std.proofs.lemmas.Bool.{and_parts, eqb-true, eqb-false, ne_eqb}
 use Rattle.pam_codes.specs.Tokens.{is_blank}
-use Rattle.pam_conf.specs.Words.{Place, Between, Plain, Bracket, words_in, words_of, is_inside, has_no_blank, EndsWord, at_end, at_blank, IsSplit, nothing, blank, bracketed, plain}
+use Rattle.pam_conf.specs.Words.{Place, Between, Plain, Bracket, words_in, words_of, is_inside, has_no_blank, EndsWord, at_end, at_blank, IsSplit, nothing}
+use Rattle.pam_conf.specs.Words.{blank, bracketed, plain}
 
 -- FROM THE SPLIT TO THE WORDS
 
@@ -29,9 +30,12 @@ kept_in false e h = refl
 
 blank_step : (b : ℕ) (bs : List ℕ) → is_blank b ≡ true → words_in Between (b ∷ bs) ≡ words_in Between bs
 unfolding words_in
-blank_step b bs h = ap (λ (t : Bool). cond t (words_in Between bs) (cond (eqb b 91) (option_map (onto_first b) (words_in (Bracket false) bs)) (option_map (onto_first b) (words_in Plain bs)))) h
+blank_step b bs h =
+    ap (λ (t : Bool). cond t (words_in Between bs) (cond (eqb b 91) (option_map (onto_first b) (words_in (Bracket false) bs))
+    (option_map (onto_first b) (words_in Plain bs)))) h
 
-inside_words : (e : Bool) (inside rest : List ℕ) (ws : List (List ℕ)) → is_inside e inside ≡ true → words_in Between rest ≡ Some ws → words_in (Bracket e) (inside ++ 93 ∷ rest) ≡ Some ((inside ++ 93 ∷ []) ∷ ws)
+inside_words : (e : Bool) (inside rest : List ℕ) (ws : List (List ℕ)) → is_inside e inside ≡ true → words_in Between rest ≡ Some ws →
+    words_in (Bracket e) (inside ++ 93 ∷ rest) ≡ Some ((inside ++ 93 ∷ []) ∷ ws)
 unfolding words_in is_inside
 inside_words e [] rest ws h k = rw (h, k) refl
 inside_words e (b ∷ bs) rest ws h k =
@@ -43,7 +47,8 @@ unfolding words_in
 plain_ends ws at_end k = ap (option_map (λ vs. [] ∷ vs)) k
 plain_ends ws (at_blank b bs e) k = rw (e, sym (blank_step b bs e) ∙ k) refl
 
-plain_words : (bs rest : List ℕ) (ws : List (List ℕ)) → has_no_blank bs ≡ true → EndsWord rest → words_in Between rest ≡ Some ws → words_in Plain (bs ++ rest) ≡ Some (bs ∷ ws)
+plain_words : (bs rest : List ℕ) (ws : List (List ℕ)) → has_no_blank bs ≡ true → EndsWord rest → words_in Between rest ≡ Some ws →
+    words_in Plain (bs ++ rest) ≡ Some (bs ∷ ws)
 unfolding words_in
 plain_words [] rest ws h ends k = plain_ends ws ends k
 plain_words (b ∷ bs) rest ws h ends k =
@@ -67,7 +72,8 @@ Means Between line ws = IsSplit line ws
 Means Plain line [] = ⊥
 Means Plain line (w ∷ ws) = (tail : List ℕ) × (line ≡ w ++ tail) × (has_no_blank w ≡ true) × EndsWord tail × IsSplit tail ws
 Means (Bracket e) line [] = ⊥
-Means (Bracket e) line (w ∷ ws) = (inside : List ℕ) × (tail : List ℕ) × (w ≡ inside ++ 93 ∷ []) × (line ≡ inside ++ 93 ∷ tail) × (is_inside e inside ≡ true) × IsSplit tail ws
+Means (Bracket e) line (w ∷ ws) =
+    (inside : List ℕ) × (tail : List ℕ) × (w ≡ inside ++ 93 ∷ []) × (line ≡ inside ++ 93 ∷ tail) × (is_inside e inside ≡ true) × IsSplit tail ws
 
 from_map : {A B : Type 0} (f : A → B) (o : Option A) (y : B) → option_map f o ≡ Some y → (x : A) × (o ≡ Some x) × (f x ≡ y)
 from_map f None y h = absurd (cc)
@@ -94,7 +100,8 @@ plain_more b bs [] h m = absurd m
 plain_more b bs (w ∷ ws) h (tail, line, fine, ends, rest) = (tail, ap (λ xs. b ∷ xs) line, rw h fine, ends, rest)
 
 -- one more byte between brackets
-inside_more : (b : ℕ) (e : Bool) (bs : List ℕ) (ws : List (List ℕ)) → (eqb b 93 && not e) ≡ false → Means (Bracket (eqb b 92)) bs ws → Means (Bracket e) (b ∷ bs) (onto_first b ws)
+inside_more : (b : ℕ) (e : Bool) (bs : List ℕ) (ws : List (List ℕ)) → (eqb b 93 && not e) ≡ false → Means (Bracket (eqb b 92)) bs ws →
+    Means (Bracket e) (b ∷ bs) (onto_first b ws)
 unfolding is_inside
 inside_more b e bs [] h m = absurd m
 inside_more b e bs (w ∷ ws) h (inside, tail, word, line, fine, rest) =
@@ -115,14 +122,19 @@ means (Bracket e) [] ws h = absurd (cc)
 means Between (b ∷ bs) ws h = if_else (is_blank b) _ _ _ h
     (λ t k. blank b bs ws t (means Between bs ws k))
     (λ t k. if_else (eqb b 91) _ _ _ k
-    (λ u l. let m = from_map (onto_first b) (words_in (Bracket false) bs) ws l in subst (λ vs. IsSplit (b ∷ bs) vs) m.2 (opens b bs m.0 (eqb-true b 91 u) (means (Bracket false) bs m.0 m.1)))
+    (λ u l. let m = from_map (onto_first b) (words_in (Bracket false) bs) ws l in
+    subst (λ vs. IsSplit (b ∷ bs) vs) m.2 (opens b bs m.0 (eqb-true b 91 u) (means (Bracket false) bs m.0 m.1)))
     (λ u l. let m = from_map (onto_first b) (words_in Plain bs) ws l in subst (λ vs. IsSplit (b ∷ bs) vs) m.2 (begins b bs m.0 t u (means Plain bs m.0 m.1))))
 means Plain (b ∷ bs) ws h = if_else (is_blank b) _ _ _ h
-    (λ t k. let m = from_map (λ vs. [] ∷ vs) (words_in Between bs) ws k in subst (λ vs. Means Plain (b ∷ bs) vs) m.2 (b ∷ bs, refl, refl, at_blank b bs t, blank b bs m.0 t (means Between bs m.0 m.1)))
-    (λ t k. let m = from_map (onto_first b) (words_in Plain bs) ws k in subst (λ vs. Means Plain (b ∷ bs) vs) m.2 (plain_more b bs m.0 t (means Plain bs m.0 m.1)))
+    (λ t k. let m = from_map (λ vs. [] ∷ vs) (words_in Between bs) ws k in
+    subst (λ vs. Means Plain (b ∷ bs) vs) m.2 (b ∷ bs, refl, refl, at_blank b bs t, blank b bs m.0 t (means Between bs m.0 m.1)))
+    (λ t k. let m = from_map (onto_first b) (words_in Plain bs) ws k in
+    subst (λ vs. Means Plain (b ∷ bs) vs) m.2 (plain_more b bs m.0 t (means Plain bs m.0 m.1)))
 means (Bracket e) (b ∷ bs) ws h = if_else (eqb b 93 && not e) _ _ _ h
-    (λ t k. let m = from_map (λ vs. (93 ∷ []) ∷ vs) (words_in Between bs) ws k in subst (λ vs. Means (Bracket e) (b ∷ bs) vs) m.2 (closes b e bs m.0 t (means Between bs m.0 m.1)))
-    (λ t k. let m = from_map (onto_first b) (words_in (Bracket (eqb b 92)) bs) ws k in subst (λ vs. Means (Bracket e) (b ∷ bs) vs) m.2 (inside_more b e bs m.0 t (means (Bracket (eqb b 92)) bs m.0 m.1)))
+    (λ t k. let m = from_map (λ vs. (93 ∷ []) ∷ vs) (words_in Between bs) ws k in
+    subst (λ vs. Means (Bracket e) (b ∷ bs) vs) m.2 (closes b e bs m.0 t (means Between bs m.0 m.1)))
+    (λ t k. let m = from_map (onto_first b) (words_in (Bracket (eqb b 92)) bs) ws k in
+    subst (λ vs. Means (Bracket e) (b ∷ bs) vs) m.2 (inside_more b e bs m.0 t (means (Bracket (eqb b 92)) bs m.0 m.1)))
 
 pub is_split : (line : List ℕ) (ws : List (List ℕ)) → words_of line ≡ Some ws → IsSplit line ws
 is_split line ws h = means Between line ws h

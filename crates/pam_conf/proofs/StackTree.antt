@@ -1,4 +1,6 @@
-use Rattle.std.proofs.Common.{◌≡◌, ℕ, ◌+◌, ◌<◌, ◌≤◌, max, List, [], ◌∷◌, ◌++◌, Option, Some, None, IsSome, is_some, ◌↔◌, option_map, eqb, zero, suc, refl, sym, ◌∙◌, ap, inl, inr, ◌⊎◌, ⊎_elim, arith, take, drop, length, get_or, append_assoc, add-one, eq-or-lt_of_le, drop-cons, eqb-true, eq-eqb}
+use Rattle.std.proofs.Common.{◌≡◌, ℕ, ◌+◌, ◌<◌, ◌≤◌, max, List, [], ◌∷◌, ◌++◌, Option, Some, None, IsSome, is_some, ◌↔◌, option_map, eqb, zero, suc, refl, sym}
+use Rattle.std.proofs.Common.{◌∙◌, ap, inl, inr, ◌⊎◌, ⊎_elim, arith, take, drop, length, get_or, append_assoc, add-one, eq-or-lt_of_le, drop-cons, eqb-true}
+use Rattle.std.proofs.Common.{eq-eqb}
 use Rattle.std.proofs.Math.Seq.{take-append_seam, drop-append_seam}
 use Rattle.std.proofs.lemmas.List.{length-append}
 use Rattle.std.proofs.lemmas.List.FromFn.{length-range_with_len}
@@ -7,7 +9,8 @@ use Rattle.std.specs.List.{range_with_len}
 use Rattle.pam_conf.specs.declared.stack.Module.{Module}
 use Rattle.pam_conf.specs.declared.stack.Item.{Item}
 use Rattle.pam_conf.specs.declared.stack.Item.TheVariants.{Module as ModuleItem, Sub as SubItem}
-use Rattle.pam_conf.specs.Stack.{ModuleText, SubText, SubList, Items, End, ThenModule, ThenSub, joined, module_count, depth, numbers_of, IsNumberedFrom, first_there, module_at}
+use Rattle.pam_conf.specs.Stack.{ModuleText, SubText, SubList, Items, End, ThenModule, ThenSub, joined, module_count, depth, numbers_of, IsNumberedFrom}
+use Rattle.pam_conf.specs.Stack.{first_there, module_at}
 use Rattle.pam_conf.specs.ItemsOf.{items_of, module_text}
 
 -- JOINING
@@ -96,7 +99,8 @@ pub numbered-End : (first : ℕ) → IsNumberedFrom first End
 unfolding IsNumberedFrom
 numbered-End first = refl
 
-pub numbered-joined : (first : ℕ) (front back : Items) → IsNumberedFrom first front → IsNumberedFrom (first + module_count front) back → IsNumberedFrom first (joined front back)
+pub numbered-joined : (first : ℕ) (front back : Items) → IsNumberedFrom first front → IsNumberedFrom (first + module_count front) back →
+    IsNumberedFrom first (joined front back)
 unfolding IsNumberedFrom
 numbered-joined first front back f b =
     numbers_of-joined front back
@@ -105,35 +109,41 @@ numbered-joined first front back f b =
     ∙ sym (range-sum first (module_count front) (module_count back))
     ∙ ap (range_with_len first) (sym (module_count-joined front back))
 
-pub numbered-module : (first : ℕ) (m : ModuleText) (rest : Items) → m.number ≡ first → IsNumberedFrom (first + 1) rest → IsNumberedFrom first (ThenModule m rest)
+pub numbered-module : (first : ℕ) (m : ModuleText) (rest : Items) → m.number ≡ first → IsNumberedFrom (first + 1) rest →
+    IsNumberedFrom first (ThenModule m rest)
 unfolding IsNumberedFrom
 numbered-module first m rest e h =
     ap (λ (n : ℕ). n ∷ numbers_of rest) e
     ∙ ap (λ (ns : List ℕ). first ∷ ns) h
     ∙ sym (range-more first (module_count rest))
 
-pub numbered-sub : (first : ℕ) (s : SubText) (inner rest : Items) → IsNumberedFrom first inner → IsNumberedFrom (first + module_count inner) rest → IsNumberedFrom first (ThenSub s inner rest)
+pub numbered-sub : (first : ℕ) (s : SubText) (inner rest : Items) → IsNumberedFrom first inner → IsNumberedFrom (first + module_count inner) rest →
+    IsNumberedFrom first (ThenSub s inner rest)
 unfolding IsNumberedFrom
 numbered-sub first s inner rest i r =
     ap (λ (ns : List ℕ). ns ++ numbers_of rest) i
     ∙ ap (λ (ns : List ℕ). range_with_len first (module_count inner) ++ ns) r
     ∙ sym (range-sum first (module_count inner) (module_count rest))
 
-pub numbered-module_parts : (first : ℕ) (m : ModuleText) (rest : Items) → IsNumberedFrom first (ThenModule m rest) → (m.number ≡ first) × IsNumberedFrom (first + 1) rest
+pub numbered-module_parts : (first : ℕ) (m : ModuleText) (rest : Items) → IsNumberedFrom first (ThenModule m rest) →
+    (m.number ≡ first) × IsNumberedFrom (first + 1) rest
 unfolding IsNumberedFrom
 numbered-module_parts first m rest h =
     let whole : m.number ∷ numbers_of rest ≡ first ∷ range_with_len (first + 1) (module_count rest) = h ∙ range-more first (module_count rest) in
     (ap (λ (ns : List ℕ). get_or ns 0 0) whole, ap (λ (ns : List ℕ). drop 1 ns) whole)
 
-pub numbered-sub_parts : (first : ℕ) (s : SubText) (inner rest : Items) → IsNumberedFrom first (ThenSub s inner rest) → IsNumberedFrom first inner × IsNumberedFrom (first + module_count inner) rest
+pub numbered-sub_parts : (first : ℕ) (s : SubText) (inner rest : Items) → IsNumberedFrom first (ThenSub s inner rest) →
+    IsNumberedFrom first inner × IsNumberedFrom (first + module_count inner) rest
 unfolding IsNumberedFrom
 numbered-sub_parts first s inner rest h =
     let front = range_with_len first (module_count inner) in
     let back = range_with_len (first + module_count inner) (module_count rest) in
     let whole : numbers_of inner ++ numbers_of rest ≡ front ++ back = h ∙ range-sum first (module_count inner) (module_count rest) in
     let long : length (numbers_of inner) ≡ length front = length-numbers_of inner ∙ sym (length-range_with_len first (module_count inner)) in (
-      sym (take-append_seam (numbers_of inner) (numbers_of rest)) ∙ ap (λ (ns : List ℕ). take (length (numbers_of inner)) ns) whole ∙ ap (λ (n : ℕ). take n (front ++ back)) long ∙ take-append_seam front back,
-      sym (drop-append_seam (numbers_of inner) (numbers_of rest)) ∙ ap (λ (ns : List ℕ). drop (length (numbers_of inner)) ns) whole ∙ ap (λ (n : ℕ). drop n (front ++ back)) long ∙ drop-append_seam front back,
+      sym (take-append_seam (numbers_of inner) (numbers_of rest)) ∙ ap (λ (ns : List ℕ). take (length (numbers_of inner)) ns) whole
+          ∙ ap (λ (n : ℕ). take n (front ++ back)) long ∙ take-append_seam front back,
+      sym (drop-append_seam (numbers_of inner) (numbers_of rest)) ∙ ap (λ (ns : List ℕ). drop (length (numbers_of inner)) ns) whole
+          ∙ ap (λ (n : ℕ). drop n (front ++ back)) long ∙ drop-append_seam front back,
     )
 
 -- A MODULE BY ITS NUMBER
@@ -150,7 +160,8 @@ some_either : (a b : Option ModuleText) → IsSome (first_there a b) → IsSome 
 some_either None b h = inr h
 some_either (Some m) b h = inl refl
 
-pub module_at-there : (first number : ℕ) (items : Items) → IsNumberedFrom first items → first ≤ number → number < first + module_count items → IsSome (module_at number items)
+pub module_at-there : (first number : ℕ) (items : Items) → IsNumberedFrom first items → first ≤ number → number < first + module_count items →
+    IsSome (module_at number items)
 module_at-there first number End h low high = absurd (omega (arith, low, high))
 module_at-there first number (ThenModule m rest) h low high =
     let parts = numbered-module_parts first m rest h in
@@ -160,14 +171,17 @@ module_at-there first number (ThenModule m rest) h low high =
 module_at-there first number (ThenSub s inner rest) h low high =
     let parts = numbered-sub_parts first s inner rest h in
     ⊎_elim (λ within. some_first (module_at number inner) (module_at number rest) (module_at-there first number inner parts.0 low within))
-    (λ behind. some_second (module_at number inner) (module_at number rest) (module_at-there (first + module_count inner) number rest parts.1 behind (omega (arith, high))))
+    (λ behind. some_second (module_at number inner) (module_at number rest)
+    (module_at-there (first + module_count inner) number rest parts.1 behind (omega (arith, high))))
     (cases_lt number (first + module_count inner))
 
-pub module_at-range : (first number : ℕ) (items : Items) → IsNumberedFrom first items → IsSome (module_at number items) → (first ≤ number) × (number < first + module_count items)
+pub module_at-range : (first number : ℕ) (items : Items) → IsNumberedFrom first items → IsSome (module_at number items) →
+    (first ≤ number) × (number < first + module_count items)
 module_at-range first number End h some = absurd (false≢true some)
 module_at-range first number (ThenModule m rest) h some =
     let parts = numbered-module_parts first m rest h in
-    cond_both (eqb m.number number) (Some m) (module_at number rest) (λ (o : Option ModuleText). IsSome o → (first ≤ number) × (number < first + (module_count rest + 1)))
+    cond_both (eqb m.number number) (Some m) (module_at number rest)
+    (λ (o : Option ModuleText). IsSome o → (first ≤ number) × (number < first + (module_count rest + 1)))
     (λ same there. (omega (arith, eqb-true m.number number same, parts.0), omega (arith, eqb-true m.number number same, parts.0)))
     (λ other there. let r = module_at-range (first + 1) number rest parts.1 there in (omega (arith, r.0), omega (arith, r.1))) some
 module_at-range first number (ThenSub s inner rest) h some =
@@ -189,7 +203,8 @@ mapped_some : {A B : Type 0} (f : A → B) (o : Option A) → is_some (option_ma
 mapped_some f None = refl
 mapped_some f (Some x) = refl
 
-pub found_iff : {A : Type 0} (view : A → ModuleText) (found : Option A) (number : ℕ) (items : Items) → IsNumberedFrom 1 items → option_map view found ≡ module_at number items →
+pub found_iff : {A : Type 0} (view : A → ModuleText) (found : Option A) (number : ℕ) (items : Items) → IsNumberedFrom 1 items →
+    option_map view found ≡ module_at number items →
     IsSome found ↔ ((1 ≤ number) × (number ≤ module_count items))
 found_iff view found number items h e =
     let same : is_some found ≡ is_some (module_at number items) = sym (mapped_some view found) ∙ ap is_some e in

@@ -1,4 +1,5 @@
-use Rattle.std.proofs.Common.{◌≡◌, ◌<◌, ◌+◌, ◌-◌, ℕ, zero, suc, Bool, true, false, cond, eqb, List, [], ◌∷◌, ◌++◌, map, filter, length, drop, get_or, add-one, vec_len, Option, Some, None, Vec, Result, Ok, Err, IsOkAnd, ap, subst, sym, refl, ◌∙◌, arith, append_assoc, length-append}
+use Rattle.std.proofs.Common.{◌≡◌, ◌<◌, ◌+◌, ◌-◌, ℕ, zero, suc, Bool, true, false, cond, eqb, List, [], ◌∷◌, ◌++◌, map, filter, length, drop, get_or, add-one}
+use Rattle.std.proofs.Common.{vec_len, Option, Some, None, Vec, Result, Ok, Err, IsOkAnd, ap, subst, sym, refl, ◌∙◌, arith, append_assoc, length-append}
 use Rattle.std.specs.Global.{Global}
 use Rattle.std.specs.List.{list_any, position_or_len, AllZip}
 use Rattle.std.proofs.lemmas.List.Elements.{same_from_all_zip}
@@ -13,7 +14,8 @@ use Rattle.pam_conf.specs.Progress.{Passes, Refuses, of_kind, in_file}
 use Rattle.pam_conf.specs.Resolution.{UnlessMemory}
 use Rattle.pam_conf.specs.Rule.{RuleText, rule_view, Module, Include, Sub}
 use Rattle.pam_conf.specs.Stack.{Items, End, ThenModule, ThenSub, ModuleText, joined, module_count}
-use Rattle.pam_conf.specs.Walk.{Walk, Event, Deeper, walk, deeper, refusal, numbered, nothing, ◌then◌, followed, fault_at, target_walk, include_walk, sub_walk, rules_walk, rule_walk, read_walk, file_walk, rules_at, counts, is_of_kind}
+use Rattle.pam_conf.specs.Walk.{Walk, Event, Deeper, walk, deeper, refusal, numbered, nothing, ◌then◌, followed, fault_at, target_walk, include_walk, sub_walk}
+use Rattle.pam_conf.specs.Walk.{rules_walk, rule_walk, read_walk, file_walk, rules_at, counts, is_of_kind}
 use Rattle.pam_conf.specs.declared.conf_error.ConfError.{ConfError}
 use Rattle.pam_conf.specs.declared.error.FaultKind.{FaultKind}
 use Rattle.pam_conf.specs.declared.error.FaultKind.TheVariants.{Memory, Cycle, NoService, TooDeep, TooManyFollowed, TooManyModules}
@@ -43,7 +45,8 @@ numbered-joined n (ThenModule m rest) back =
     ap (ThenModule (record m { number = n })) (numbered-joined (n + 1) rest back ∙ ap (λ k. joined (numbered (n + 1) rest) (numbered k back)) e)
 numbered-joined n (ThenSub s inner rest) back =
     let e : n + module_count inner + module_count rest ≡ n + (module_count inner + module_count rest) = omega arith in
-    ap (ThenSub s (numbered n inner)) (numbered-joined (n + module_count inner) rest back ∙ ap (λ k. joined (numbered (n + module_count inner) rest) (numbered k back)) e)
+    ap (ThenSub s (numbered n inner)) (numbered-joined (n + module_count inner) rest back
+    ∙ ap (λ k. joined (numbered (n + module_count inner) rest) (numbered k back)) e)
 
 -- ONE WALK AND THEN ANOTHER
 
@@ -72,7 +75,8 @@ pub refuses-first : (m f : ℕ) (v w : Walk) (e : ConfError) → Refuses m f v e
 refuses-first m f v w e = unless-weaker e e.kind (λ h rest. ap (refusal m f) (append_assoc v.events w.events rest) ∙ h (w.events ++ rest))
 
 pub refuses-then : (m f m1 f1 : ℕ) (i i1 : Items) (v w : Walk) (e : ConfError) → Passes m f i v m1 f1 i1 → Refuses m1 f1 w e → Refuses m f (v then w) e
-refuses-then m f m1 f1 i i1 v w e p = unless-weaker e e.kind (λ h rest. ap (refusal m f) (append_assoc v.events w.events rest) ∙ p.refused (w.events ++ rest) ∙ h rest)
+refuses-then m f m1 f1 i i1 v w e p =
+    unless-weaker e e.kind (λ h rest. ap (refusal m f) (append_assoc v.events w.events rest) ∙ p.refused (w.events ++ rest) ∙ h rest)
 
 -- ALONG THE RULES: what was walked from the beginning on, and the walk that is left
 
@@ -86,7 +90,8 @@ leads-start m f i w v same = record {
   refuses = λ e r. subst (λ u. Refuses m f u e) (sym same) r;
 }
 
-pub leads-step : (m0 f0 m f m1 f1 : ℕ) (i0 i i1 : Items) (w0 w v rest : Walk) → Leads m0 f0 i0 w0 m f i w → w ≡ v then rest → Passes m f i v m1 f1 i1 → Leads m0 f0 i0 w0 m1 f1 i1 rest
+pub leads-step : (m0 f0 m f m1 f1 : ℕ) (i0 i i1 : Items) (w0 w v rest : Walk) → Leads m0 f0 i0 w0 m f i w → w ≡ v then rest → Passes m f i v m1 f1 i1 →
+    Leads m0 f0 i0 w0 m1 f1 i1 rest
 leads-step m0 f0 m f m1 f1 i0 i i1 w0 w v rest l same p = record {
   passes = λ m' f' i' q. l.passes m' f' i' (subst (λ u. Passes m f i u m' f' i') (sym same) (passes-then m f m1 f1 m' f' i i1 i' v rest p q));
   refuses = λ e q. l.refuses e (subst (λ u. Refuses m f u e) (sym same) (refuses-then m f m1 f1 i i1 v rest e p q));
@@ -95,32 +100,38 @@ leads-step m0 f0 m f m1 f1 i0 i i1 w0 w v rest l same p = record {
 pub leads-end : (m0 f0 m f : ℕ) (i0 i : Items) (w0 w : Walk) → Leads m0 f0 i0 w0 m f i w → w ≡ nothing → Passes m0 f0 i0 w0 m f i
 leads-end m0 f0 m f i0 i w0 w l same = l.passes m f i (subst (λ u. Passes m f i u m f i) (sym same) (passes-nothing m f i))
 
-pub leads-refused : (m0 f0 m f : ℕ) (i0 i : Items) (w0 w v rest : Walk) (e : ConfError) → Leads m0 f0 i0 w0 m f i w → w ≡ v then rest → Refuses m f v e → Refuses m0 f0 w0 e
+pub leads-refused : (m0 f0 m f : ℕ) (i0 i : Items) (w0 w v rest : Walk) (e : ConfError) → Leads m0 f0 i0 w0 m f i w → w ≡ v then rest → Refuses m f v e →
+    Refuses m0 f0 w0 e
 leads-refused m0 f0 m f i0 i w0 w v rest e l same r = l.refuses e (subst (λ u. Refuses m f u e) (sym same) (refuses-first m f v rest e r))
 
 -- TARGETS
 
 module _ (folder : Folder) (kind : Kind) (service : Option (List ℕ)) where
-  pub no_service : (m f file line : ℕ) (d : Deeper) (trail : List ℕ) (o : Option ℕ) (e : ConfError) → o ≡ None → e ≡ fault_at file line NoService → Refuses m f (include_walk file line (target_walk d trail o)) e
+  pub no_service : (m f file line : ℕ) (d : Deeper) (trail : List ℕ) (o : Option ℕ) (e : ConfError) → o ≡ None → e ≡ fault_at file line NoService →
+      Refuses m f (include_walk file line (target_walk d trail o)) e
   unfolding refusal
   no_service m f file line d trail o e none is = rw (none, is) (λ rest. refl)
 
-  pub open_already : (m f file line : ℕ) (d : Deeper) (trail : List ℕ) (o : Option ℕ) (p : ℕ) (e : ConfError) → o ≡ Some p → list_any (λ q. eqb q p) trail ≡ true → e ≡ fault_at file line Cycle → Refuses m f (include_walk file line (target_walk d trail o)) e
+  pub open_already : (m f file line : ℕ) (d : Deeper) (trail : List ℕ) (o : Option ℕ) (p : ℕ) (e : ConfError) → o ≡ Some p →
+      list_any (λ q. eqb q p) trail ≡ true → e ≡ fault_at file line Cycle → Refuses m f (include_walk file line (target_walk d trail o)) e
   unfolding refusal
   open_already m f file line d trail o p e some there is = rw (some, there, is) (λ rest. refl)
 
-  pub too_deep : (m f file line room : ℕ) (trail : List ℕ) (o : Option ℕ) (p : ℕ) (e : ConfError) → o ≡ Some p → list_any (λ q. eqb q p) trail ≡ false → room ≡ 0 → e ≡ fault_at file line TooDeep → Refuses m f (include_walk file line (target_walk (deeper folder kind service room) trail o)) e
+  pub too_deep : (m f file line room : ℕ) (trail : List ℕ) (o : Option ℕ) (p : ℕ) (e : ConfError) → o ≡ Some p → list_any (λ q. eqb q p) trail ≡ false →
+      room ≡ 0 → e ≡ fault_at file line TooDeep → Refuses m f (include_walk file line (target_walk (deeper folder kind service room) trail o)) e
   unfolding refusal
   too_deep m f file line room trail o p e some absent full is = rw (some, absent, full, is) (λ rest. refl)
 
   pub target-found : (trail : List ℕ) (o : Option ℕ) (p : ℕ) → o ≡ Some p → list_any (λ q. eqb q p) trail ≡ false → (MAX_OPEN_FILES - length trail ≡ 0 → ⊥) →
-      target_walk (deeper folder kind service (MAX_OPEN_FILES - length trail)) trail o ≡ Ok (p, walk folder kind service (MAX_OPEN_FILES - length (trail ++ p ∷ [])) (trail ++ p ∷ []) p)
+      target_walk (deeper folder kind service (MAX_OPEN_FILES - length trail)) trail o
+      ≡ Ok (p, walk folder kind service (MAX_OPEN_FILES - length (trail ++ p ∷ [])) (trail ++ p ∷ []) p)
   target-found trail o p some absent free =
       let longer : length (trail ++ p ∷ []) ≡ length trail + 1 = length-append trail (p ∷ []) in
       let room : MAX_OPEN_FILES - length trail ≡ suc (MAX_OPEN_FILES - length (trail ++ p ∷ [])) = omega arith in
       rw (some, absent, room) refl
 
-  passes-followed : (m f m' f' file line : ℕ) (i i' : Items) (w : Walk) → (f ≡ MAX_FOLLOWS → ⊥) → Passes m (f + 1) i w m' f' i' → Passes m f i (followed file line w) m' f' i'
+  passes-followed : (m f m' f' file line : ℕ) (i i' : Items) (w : Walk) → (f ≡ MAX_FOLLOWS → ⊥) → Passes m (f + 1) i w m' f' i' →
+      Passes m f i (followed file line w) m' f' i'
   unfolding refusal
   passes-followed m f m' f' file line i i' w few p = record {
     refused = λ rest. rw (ne_eqb f MAX_FOLLOWS few) (p.refused rest);
@@ -132,83 +143,125 @@ module _ (folder : Folder) (kind : Kind) (service : Option (List ℕ)) where
   unfolding refusal
   refuses-followed m f file line w e few = unless-weaker e e.kind (λ h rest. rw (ne_eqb f MAX_FOLLOWS few) (h rest))
 
-  pub too_many_followed : (m f file line : ℕ) (trail : List ℕ) (o : Option ℕ) (p : ℕ) (e : ConfError) → o ≡ Some p → list_any (λ q. eqb q p) trail ≡ false → (MAX_OPEN_FILES - length trail ≡ 0 → ⊥) → f ≡ MAX_FOLLOWS → e ≡ fault_at file line TooManyFollowed → Refuses m f (include_walk file line (target_walk (deeper folder kind service (MAX_OPEN_FILES - length trail)) trail o)) e
+  pub too_many_followed : (m f file line : ℕ) (trail : List ℕ) (o : Option ℕ) (p : ℕ) (e : ConfError) → o ≡ Some p → list_any (λ q. eqb q p) trail ≡ false →
+      (MAX_OPEN_FILES - length trail ≡ 0 → ⊥) → f ≡ MAX_FOLLOWS → e ≡ fault_at file line TooManyFollowed →
+      Refuses m f (include_walk file line (target_walk (deeper folder kind service (MAX_OPEN_FILES - length trail)) trail o)) e
   unfolding refusal
   too_many_followed m f file line trail o p e some absent free many is = rw (target-found trail o p some absent free, many, is) (λ rest. refl)
 
-  pub follow-refused : (m f file line : ℕ) (trail longer : List ℕ) (o : Option ℕ) (p : ℕ) (e : ConfError) → o ≡ Some p → list_any (λ q. eqb q p) trail ≡ false → (MAX_OPEN_FILES - length trail ≡ 0 → ⊥) → (f ≡ MAX_FOLLOWS → ⊥) → longer ≡ trail ++ p ∷ [] →
-      Refuses m (f + 1) (walk folder kind service (MAX_OPEN_FILES - length longer) longer p) e → Refuses m f (include_walk file line (target_walk (deeper folder kind service (MAX_OPEN_FILES - length trail)) trail o)) e
-  follow-refused m f file line trail longer o p e some absent free few more r = rw (target-found trail o p some absent free) (refuses-followed m f file line (walk folder kind service (MAX_OPEN_FILES - length (trail ++ p ∷ [])) (trail ++ p ∷ []) p) e few (subst (λ (l : List ℕ). Refuses m (f + 1) (walk folder kind service (MAX_OPEN_FILES - length l) l p) e) more r))
+  pub follow-refused : (m f file line : ℕ) (trail longer : List ℕ) (o : Option ℕ) (p : ℕ) (e : ConfError) → o ≡ Some p → list_any (λ q. eqb q p) trail ≡ false →
+      (MAX_OPEN_FILES - length trail ≡ 0 → ⊥) → (f ≡ MAX_FOLLOWS → ⊥) → longer ≡ trail ++ p ∷ [] →
+      Refuses m (f + 1) (walk folder kind service (MAX_OPEN_FILES - length longer) longer p) e →
+      Refuses m f (include_walk file line (target_walk (deeper folder kind service (MAX_OPEN_FILES - length trail)) trail o)) e
+  follow-refused m f file line trail longer o p e some absent free few more r =
+      rw (target-found trail o p some absent free) (refuses-followed m f file line
+      (walk folder kind service (MAX_OPEN_FILES - length (trail ++ p ∷ [])) (trail ++ p ∷ []) p) e few
+      (subst (λ (l : List ℕ). Refuses m (f + 1) (walk folder kind service (MAX_OPEN_FILES - length l) l p) e) more r))
 
-  pub follow-done : (m f m' f' file line : ℕ) (i i' : Items) (trail longer : List ℕ) (o : Option ℕ) (p : ℕ) → o ≡ Some p → list_any (λ q. eqb q p) trail ≡ false → (MAX_OPEN_FILES - length trail ≡ 0 → ⊥) → (f ≡ MAX_FOLLOWS → ⊥) → longer ≡ trail ++ p ∷ [] →
+  pub follow-done : (m f m' f' file line : ℕ) (i i' : Items) (trail longer : List ℕ) (o : Option ℕ) (p : ℕ) → o ≡ Some p →
+      list_any (λ q. eqb q p) trail ≡ false → (MAX_OPEN_FILES - length trail ≡ 0 → ⊥) → (f ≡ MAX_FOLLOWS → ⊥) → longer ≡ trail ++ p ∷ [] →
       Passes m (f + 1) i (walk folder kind service (MAX_OPEN_FILES - length longer) longer p) m' f' i' →
-      IsOkAnd (target_walk (deeper folder kind service (MAX_OPEN_FILES - length trail)) trail o) (λ t. (t.0 ≡ p) × Passes m f i (followed file line t.1) m' f' i')
-  follow-done m f m' f' file line i i' trail longer o p some absent free few more q = rw (target-found trail o p some absent free) (refl, passes-followed m f m' f' file line i i' (walk folder kind service (MAX_OPEN_FILES - length (trail ++ p ∷ [])) (trail ++ p ∷ []) p) few (subst (λ (l : List ℕ). Passes m (f + 1) i (walk folder kind service (MAX_OPEN_FILES - length l) l p) m' f' i') more q))
+      IsOkAnd (target_walk (deeper folder kind service (MAX_OPEN_FILES - length trail)) trail o)
+      (λ t. (t.0 ≡ p) × Passes m f i (followed file line t.1) m' f' i')
+  follow-done m f m' f' file line i i' trail longer o p some absent free few more q =
+      rw (target-found trail o p some absent free) (
+        refl,
+        passes-followed m f m' f' file line i i'
+            (walk folder kind service (MAX_OPEN_FILES - length (trail ++ p ∷ [])) (trail ++ p ∷ []) p) few
+            (subst (λ (l : List ℕ). Passes m (f + 1) i (walk folder kind service (MAX_OPEN_FILES - length l) l p) m' f' i') more q),
+      )
 
   -- FILES
 
-  pub walk-file : (room : ℕ) (trail : List ℕ) (file : ℕ) → walk folder kind service room trail file ≡ file_walk folder kind service (deeper folder kind service room) trail file
+  pub walk-file : (room : ℕ) (trail : List ℕ) (file : ℕ) → walk folder kind service room trail file
+      ≡ file_walk folder kind service (deeper folder kind service room) trail file
   unfolding walk
   walk-file zero trail file = refl
   walk-file (suc room) trail file = refl
 
   -- rules of other kinds give nothing
-  rules_walk-of_kind : (d : Deeper) (trail : List ℕ) (file : ℕ) (rules : List RuleText) → rules_walk folder kind service d trail file (filter (is_of_kind kind) rules) ≡ rules_walk folder kind service d trail file rules
+  rules_walk-of_kind : (d : Deeper) (trail : List ℕ) (file : ℕ) (rules : List RuleText) →
+      rules_walk folder kind service d trail file (filter (is_of_kind kind) rules) ≡ rules_walk folder kind service d trail file rules
   rules_walk-of_kind d trail file [] = refl
-  rules_walk-of_kind d trail file (r ∷ rules) = elim (is_of_kind kind r) as (λ (t : Bool). is_of_kind kind r ≡ t → rules_walk folder kind service d trail file (cond t (r ∷ filter (is_of_kind kind) rules) (filter (is_of_kind kind) rules)) ≡ rule_walk folder kind service d trail file r then rules_walk folder kind service d trail file rules) [
-    | true ↦ λ e. ap (λ w. rule_walk folder kind service d trail file r then w) (rules_walk-of_kind d trail file rules)
-    | false ↦ λ e. rules_walk-of_kind d trail file rules ∙ sym (rw e refl)
-  ] refl
+  rules_walk-of_kind d trail file (r ∷ rules) =
+      elim (is_of_kind kind r) as (λ (t : Bool). is_of_kind kind r ≡ t →
+      rules_walk folder kind service d trail file (cond t (r ∷ filter (is_of_kind kind) rules) (filter (is_of_kind kind) rules))
+      ≡ rule_walk folder kind service d trail file r then rules_walk folder kind service d trail file rules) [
+        | true ↦ λ e. ap (λ w. rule_walk folder kind service d trail file r then w) (rules_walk-of_kind d trail file rules)
+        | false ↦ λ e. rules_walk-of_kind d trail file rules ∙ sym (rw e refl)
+      ] refl
 
-  read_walk-kept : (d : Deeper) (trail : List ℕ) (file : ℕ) (r : Result (List RuleText) RuleFault) (rules : List RuleText) → in_file file (of_kind kind r) ≡ Ok rules → read_walk folder kind service d trail file r ≡ rules_walk folder kind service d trail file rules
+  read_walk-kept : (d : Deeper) (trail : List ℕ) (file : ℕ) (r : Result (List RuleText) RuleFault) (rules : List RuleText) →
+      in_file file (of_kind kind r) ≡ Ok rules → read_walk folder kind service d trail file r ≡ rules_walk folder kind service d trail file rules
   read_walk-kept d trail file (Ok all) rules e = sym (rules_walk-of_kind d trail file all) ∙ ap (rules_walk folder kind service d trail file) (cc)
   read_walk-kept d trail file (Err fault) rules e = absurd (cc)
 
   -- an open file is walked by the rules of the kind
-  pub walk-kept : (room : ℕ) (trail : List ℕ) (file : ℕ) (rules : List RuleText) → in_file file (of_kind kind (rules_at folder file)) ≡ Ok rules → walk folder kind service room trail file ≡ rules_walk folder kind service (deeper folder kind service room) trail file rules
+  pub walk-kept : (room : ℕ) (trail : List ℕ) (file : ℕ) (rules : List RuleText) → in_file file (of_kind kind (rules_at folder file)) ≡ Ok rules →
+      walk folder kind service room trail file ≡ rules_walk folder kind service (deeper folder kind service room) trail file rules
   walk-kept room trail file rules e = walk-file room trail file ∙ read_walk-kept (deeper folder kind service room) trail file (rules_at folder file) rules e
 
   -- rules as they lie in memory
-  pub file-walked : (m f m' f' : ℕ) (i i' : Items) (trail : List ℕ) (file : ℕ) (rules slice : List Rule) → in_file file (of_kind kind (rules_at folder file)) ≡ Ok (map rule_view rules) → slice ≡ rules →
-      Passes m f i (rules_walk folder kind service (deeper folder kind service (MAX_OPEN_FILES - length trail)) trail file (map rule_view slice)) m' f' i' → Passes m f i (walk folder kind service (MAX_OPEN_FILES - length trail) trail file) m' f' i'
-  file-walked m f m' f' i i' trail file rules slice read same p = rw (walk-kept (MAX_OPEN_FILES - length trail) trail file (map rule_view rules) read) (subst (λ (rs : List Rule). Passes m f i (rules_walk folder kind service (deeper folder kind service (MAX_OPEN_FILES - length trail)) trail file (map rule_view rs)) m' f' i') same p)
+  pub file-walked : (m f m' f' : ℕ) (i i' : Items) (trail : List ℕ) (file : ℕ) (rules slice : List Rule) →
+      in_file file (of_kind kind (rules_at folder file)) ≡ Ok (map rule_view rules) → slice ≡ rules →
+      Passes m f i (rules_walk folder kind service (deeper folder kind service (MAX_OPEN_FILES - length trail)) trail file (map rule_view slice)) m' f' i' →
+      Passes m f i (walk folder kind service (MAX_OPEN_FILES - length trail) trail file) m' f' i'
+  file-walked m f m' f' i i' trail file rules slice read same p =
+      rw (walk-kept (MAX_OPEN_FILES - length trail) trail file (map rule_view rules) read)
+      (subst (λ (rs : List Rule). Passes m f i (rules_walk folder kind service (deeper folder kind service (MAX_OPEN_FILES - length trail)) trail file
+      (map rule_view rs)) m' f' i') same p)
 
-  pub file-rules_refused : (m f : ℕ) (trail : List ℕ) (file : ℕ) (rules slice : List Rule) (e : ConfError) → in_file file (of_kind kind (rules_at folder file)) ≡ Ok (map rule_view rules) → slice ≡ rules →
-      Refuses m f (rules_walk folder kind service (deeper folder kind service (MAX_OPEN_FILES - length trail)) trail file (map rule_view slice)) e → Refuses m f (walk folder kind service (MAX_OPEN_FILES - length trail) trail file) e
-  file-rules_refused m f trail file rules slice e read same r = rw (walk-kept (MAX_OPEN_FILES - length trail) trail file (map rule_view rules) read) (subst (λ (rs : List Rule). Refuses m f (rules_walk folder kind service (deeper folder kind service (MAX_OPEN_FILES - length trail)) trail file (map rule_view rs)) e) same r)
+  pub file-rules_refused : (m f : ℕ) (trail : List ℕ) (file : ℕ) (rules slice : List Rule) (e : ConfError) →
+      in_file file (of_kind kind (rules_at folder file)) ≡ Ok (map rule_view rules) → slice ≡ rules →
+      Refuses m f (rules_walk folder kind service (deeper folder kind service (MAX_OPEN_FILES - length trail)) trail file (map rule_view slice)) e →
+      Refuses m f (walk folder kind service (MAX_OPEN_FILES - length trail) trail file) e
+  file-rules_refused m f trail file rules slice e read same r =
+      rw (walk-kept (MAX_OPEN_FILES - length trail) trail file (map rule_view rules) read)
+      (subst (λ (rs : List Rule). Refuses m f (rules_walk folder kind service (deeper folder kind service (MAX_OPEN_FILES - length trail)) trail file
+      (map rule_view rs)) e) same r)
 
-  read_refused : (m f : ℕ) (d : Deeper) (trail : List ℕ) (file : ℕ) (r : Result (List RuleText) RuleFault) (e : ConfError) → in_file file (of_kind kind r) ≡ Err e → (rest : List Event) → refusal m f ((read_walk folder kind service d trail file r).events ++ rest) ≡ Some e
+  read_refused : (m f : ℕ) (d : Deeper) (trail : List ℕ) (file : ℕ) (r : Result (List RuleText) RuleFault) (e : ConfError) →
+      in_file file (of_kind kind r) ≡ Err e → (rest : List Event) → refusal m f ((read_walk folder kind service d trail file r).events ++ rest) ≡ Some e
   unfolding refusal
   read_refused m f d trail file (Ok all) e h rest = absurd (cc)
   read_refused m f d trail file (Err fault) e h rest = let same : fault_at file fault.line fault.kind ≡ e = cc in ap Some same
 
   -- a file that has a fault is refused
-  pub file-refused : (m f room : ℕ) (trail : List ℕ) (file : ℕ) (e : ConfError) → UnlessMemory e e.kind (in_file file (of_kind kind (rules_at folder file)) ≡ Err e) → Refuses m f (walk folder kind service room trail file) e
-  file-refused m f room trail file e = unless-weaker e e.kind (λ h rest. ap (λ (w : Walk). refusal m f (w.events ++ rest)) (walk-file room trail file) ∙ read_refused m f (deeper folder kind service room) trail file (rules_at folder file) e h rest)
+  pub file-refused : (m f room : ℕ) (trail : List ℕ) (file : ℕ) (e : ConfError) →
+      UnlessMemory e e.kind (in_file file (of_kind kind (rules_at folder file)) ≡ Err e) → Refuses m f (walk folder kind service room trail file) e
+  file-refused m f room trail file e =
+      unless-weaker e e.kind (λ h rest. ap (λ (w : Walk). refusal m f (w.events ++ rest)) (walk-file room trail file)
+      ∙ read_refused m f (deeper folder kind service room) trail file (rules_at folder file) e h rest)
 
 -- the walk of rules as they lie in memory, in an open file
 abbrev pub walk_of : Folder → Kind → Option (List ℕ) → List ℕ → ℕ → List Rule → Walk
-walk_of folder kind service trail file rules = rules_walk folder kind service (deeper folder kind service (MAX_OPEN_FILES - length trail)) trail file (map rule_view rules)
+walk_of folder kind service trail file rules =
+    rules_walk folder kind service (deeper folder kind service (MAX_OPEN_FILES - length trail)) trail file (map rule_view rules)
 
 -- RULES
 
 abbrev pub MayFollow : ℕ → ℕ → ℕ → ℕ → ℕ → ℕ → Items → Items → Result (ℕ × Walk) FaultKind → ℕ → Type 0
 MayFollow m f m' f' file line i i' found position = IsOkAnd found (λ t. (t.0 ≡ position) × Passes m f i (followed file line t.1) m' f' i')
 
-follow-passes : (m f m' f' file line : ℕ) (i i' : Items) (found : Result (ℕ × Walk) FaultKind) (position : ℕ) → MayFollow m f m' f' file line i i' found position → Passes m f i (include_walk file line found) m' f' i'
+follow-passes : (m f m' f' file line : ℕ) (i i' : Items) (found : Result (ℕ × Walk) FaultKind) (position : ℕ) →
+    MayFollow m f m' f' file line i i' found position → Passes m f i (include_walk file line found) m' f' i'
 follow-passes m f m' f' file line i i' (Err kind) position h = absurd h
 follow-passes m f m' f' file line i i' (Ok t) position h = h.1
 
-sub-passes : (m f m' f' file line : ℕ) (i i' j : Items) (found : Result (ℕ × Walk) FaultKind) (position : ℕ) → MayFollow m f m' f' file line End j found position →
+sub-passes : (m f m' f' file line : ℕ) (i i' j : Items) (found : Result (ℕ × Walk) FaultKind) (position : ℕ) →
+    MayFollow m f m' f' file line End j found position →
     i' ≡ joined i (ThenSub record { file = file; line = line; target = position } j End) → Passes m f i (sub_walk file line found) m' f' i'
 sub-passes m f m' f' file line i i' j (Err kind) position h e = absurd h
 sub-passes m f m' f' file line i i' j (Ok t) position h e = record {
   refused = h.1.refused;
   counted = omega (arith, h.1.counted);
-  added = e ∙ ap (λ k. joined i (ThenSub record { file = file; line = line; target = position } k End)) h.1.added ∙ ap (λ p. joined i (ThenSub record { file = file; line = line; target = p } (numbered (m + 1) t.1.items) End)) (sym h.0);
+  added =
+      e ∙ ap (λ k. joined i (ThenSub record { file = file; line = line; target = position } k End)) h.1.added
+      ∙ ap (λ p. joined i (ThenSub record { file = file; line = line; target = p } (numbered (m + 1) t.1.items) End)) (sym h.0);
 }
 
-sub-refused : (m f file line : ℕ) (found : Result (ℕ × Walk) FaultKind) (e : ConfError) → Refuses m f (include_walk file line found) e → Refuses m f (sub_walk file line found) e
+sub-refused : (m f file line : ℕ) (found : Result (ℕ × Walk) FaultKind) (e : ConfError) → Refuses m f (include_walk file line found) e →
+    Refuses m f (sub_walk file line found) e
 sub-refused m f file line (Err kind) e h = h
 sub-refused m f file line (Ok t) e h = h
 
@@ -220,12 +273,23 @@ module _ (folder : Folder) (kind : Kind) (service : Option (List ℕ)) (d : Deep
   rule-passed m f i h = rw h (passes-nothing m f i)
 
   module _ (own : counts kind service r ≡ true) where
-    pub rule-full : (m f : ℕ) (control : List Action) (path : List ℕ) (arguments : List (List ℕ)) (e : ConfError) → r.body ≡ Module control path arguments → m ≡ MAX_MODULES → e ≡ fault_at file r.line TooManyModules → Refuses m f rule_walked e
+    pub rule-full : (m f : ℕ) (control : List Action) (path : List ℕ) (arguments : List (List ℕ)) (e : ConfError) → r.body ≡ Module control path arguments →
+        m ≡ MAX_MODULES → e ≡ fault_at file r.line TooManyModules → Refuses m f rule_walked e
     unfolding refusal
     rule-full m f control path arguments e body many is = rw (own, body, many, is) (λ rest. refl)
 
-    pub rule-module : (m f : ℕ) (i i' : Items) (control : List Action) (path : List ℕ) (arguments : List (List ℕ)) → r.body ≡ Module control path arguments → (m ≡ MAX_MODULES → ⊥) →
-        i' ≡ joined i (ThenModule record { number = m + 1; dashed = r.dashed; control = control; path = path; arguments = arguments; file = file; line = r.line } End) → Passes m f i rule_walked (m + 1) f i'
+    pub rule-module : (m f : ℕ) (i i' : Items) (control : List Action) (path : List ℕ) (arguments : List (List ℕ)) → r.body ≡ Module control path arguments →
+        (m ≡ MAX_MODULES → ⊥) →
+        i' ≡ joined i (ThenModule record {
+          number = m + 1;
+          dashed = r.dashed;
+          control = control;
+          path = path;
+          arguments = arguments;
+          file = file;
+          line =
+              r.line;
+        } End) → Passes m f i rule_walked (m + 1) f i'
     unfolding refusal
     rule-module m f i i' control path arguments body few e = rw (own, body) record {
       refused = λ rest. rw (ne_eqb m MAX_MODULES few) refl;
@@ -233,22 +297,31 @@ module _ (folder : Folder) (kind : Kind) (service : Option (List ℕ)) (d : Deep
       added = e;
     }
 
-    pub rule-include : (m f m' f' : ℕ) (i i' : Items) (target : List ℕ) (position : ℕ) → r.body ≡ Include target → MayFollow m f m' f' file r.line i i' (target_walk d trail (position_of target folder.entries)) position → Passes m f i rule_walked m' f' i'
-    rule-include m f m' f' i i' target position body h = rw (own, body) (follow-passes m f m' f' file r.line i i' (target_walk d trail (position_of target folder.entries)) position h)
+    pub rule-include : (m f m' f' : ℕ) (i i' : Items) (target : List ℕ) (position : ℕ) → r.body ≡ Include target →
+        MayFollow m f m' f' file r.line i i' (target_walk d trail (position_of target folder.entries)) position → Passes m f i rule_walked m' f' i'
+    rule-include m f m' f' i i' target position body h =
+        rw (own, body) (follow-passes m f m' f' file r.line i i' (target_walk d trail (position_of target folder.entries)) position h)
 
-    pub rule-include_refused : (m f : ℕ) (target : List ℕ) (e : ConfError) → r.body ≡ Include target → Refuses m f (include_walk file r.line (target_walk d trail (position_of target folder.entries))) e → Refuses m f rule_walked e
+    pub rule-include_refused : (m f : ℕ) (target : List ℕ) (e : ConfError) → r.body ≡ Include target →
+        Refuses m f (include_walk file r.line (target_walk d trail (position_of target folder.entries))) e → Refuses m f rule_walked e
     rule-include_refused m f target e body h = rw (own, body) h
 
-    pub rule-sub : (m f m' f' : ℕ) (i i' j0 j : Items) (target : List ℕ) (position : ℕ) → r.body ≡ Sub target → j0 ≡ End → MayFollow m f m' f' file r.line j0 j (target_walk d trail (position_of target folder.entries)) position →
+    pub rule-sub : (m f m' f' : ℕ) (i i' j0 j : Items) (target : List ℕ) (position : ℕ) → r.body ≡ Sub target → j0 ≡ End →
+        MayFollow m f m' f' file r.line j0 j (target_walk d trail (position_of target folder.entries)) position →
         i' ≡ joined i (ThenSub record { file = file; line = r.line; target = position } j End) → Passes m f i rule_walked m' f' i'
-    rule-sub m f m' f' i i' j0 j target position body none h e = rw (own, body) (sub-passes m f m' f' file r.line i i' j (target_walk d trail (position_of target folder.entries)) position (subst (λ k. MayFollow m f m' f' file r.line k j (target_walk d trail (position_of target folder.entries)) position) none h) e)
+    rule-sub m f m' f' i i' j0 j target position body none h e =
+        rw (own, body) (sub-passes m f m' f' file r.line i i' j (target_walk d trail (position_of target folder.entries)) position
+        (subst (λ k. MayFollow m f m' f' file r.line k j (target_walk d trail (position_of target folder.entries)) position) none h) e)
 
-    pub rule-sub_refused : (m f : ℕ) (target : List ℕ) (e : ConfError) → r.body ≡ Sub target → Refuses m f (include_walk file r.line (target_walk d trail (position_of target folder.entries))) e → Refuses m f rule_walked e
+    pub rule-sub_refused : (m f : ℕ) (target : List ℕ) (e : ConfError) → r.body ≡ Sub target →
+        Refuses m f (include_walk file r.line (target_walk d trail (position_of target folder.entries))) e → Refuses m f rule_walked e
     rule-sub_refused m f target e body h = rw (own, body) (sub-refused m f file r.line (target_walk d trail (position_of target folder.entries)) e h)
 
 -- the rules that are left: the next one, and those behind it
-pub walk-more : (folder : Folder) (kind : Kind) (service : Option (List ℕ)) (trail : List ℕ) (file : ℕ) (rules : List Rule) (k : ℕ) (r : Rule) → k < length rules → r ≡ get_or rules k r →
-    walk_of folder kind service trail file (drop k rules) ≡ rule_walk folder kind service (deeper folder kind service (MAX_OPEN_FILES - length trail)) trail file (rule_view r) then walk_of folder kind service trail file (drop (k + 1) rules)
+pub walk-more : (folder : Folder) (kind : Kind) (service : Option (List ℕ)) (trail : List ℕ) (file : ℕ) (rules : List Rule) (k : ℕ) (r : Rule) →
+    k < length rules → r ≡ get_or rules k r →
+    walk_of folder kind service trail file (drop k rules) ≡ rule_walk folder kind service (deeper folder kind service (MAX_OPEN_FILES - length trail)) trail
+    file (rule_view r) then walk_of folder kind service trail file (drop (k + 1) rules)
 walk-more folder kind service trail file rules k r within is =
     let next : drop k rules ≡ r ∷ drop (k + 1) rules = rw add-one (drop-cons rules k r within ∙ ap (λ (x : Rule). x ∷ drop (suc k) rules) (sym is)) in
     ap (walk_of folder kind service trail file) next
@@ -261,19 +334,24 @@ pub position-within : (name : List ℕ) (folder : Folder) (p : ℕ) → position
 position-within name folder p h = position_found (position_or_len (λ f. bytes_eq name f.0) folder.entries) (length folder.entries) p h
 
 -- what was read without a fault are the rules of the kind
-pub kept-read : (kind : Kind) (file : ℕ) (r : Result (List RuleText) RuleFault) (rules : List RuleText) → in_file file (of_kind kind r) ≡ Ok rules → of_kind kind r ≡ Ok rules
+pub kept-read : (kind : Kind) (file : ℕ) (r : Result (List RuleText) RuleFault) (rules : List RuleText) → in_file file (of_kind kind r) ≡ Ok rules →
+    of_kind kind r ≡ Ok rules
 kept-read kind file (Ok all) rules e = let same : filter (is_of_kind kind) all ≡ rules = cc in ap Ok same
 kept-read kind file (Err fault) rules e = absurd (cc)
 
 pub same-bytes : (xs ys : List ℕ) → AllZip (λ a b. b ≡ a) xs ys → ys ≡ xs
 same-bytes xs ys zip = same_from_all_zip (λ a b. b ≡ a) xs ys zip (λ x y r. r)
 
-pub same-texts : (xs ys : List (Vec ℕ Global)) → AllZip (λ v w. AllZip (λ a b. b ≡ a) v.items w.items × (vec_len w ≡ vec_len v)) xs ys → map (λ v. v.items) ys ≡ map (λ v. v.items) xs
+pub same-texts : (xs ys : List (Vec ℕ Global)) → AllZip (λ v w. AllZip (λ a b. b ≡ a) v.items w.items × (vec_len w ≡ vec_len v)) xs ys →
+    map (λ v. v.items) ys ≡ map (λ v. v.items) xs
 same-texts [] [] zip = refl
 same-texts [] (y ∷ ys) zip = absurd zip
 same-texts (x ∷ xs) [] zip = absurd zip
 same-texts (x ∷ xs) (y ∷ ys) zip = ap (λ b. b ∷ map (λ v. v.items) ys) (same-bytes x.items y.items zip.0.0) ∙ ap (λ bs. x.items ∷ bs) (same-texts xs ys zip.1)
 
-pub same-module : (number : ℕ) (dashed : Bool) (control : List Action) (path path' : List ℕ) (arguments arguments' : List (List ℕ)) (file line : ℕ) → path' ≡ path → arguments' ≡ arguments →
-    ◌≡◌ {A = ModuleText} (record { number = number; dashed = dashed; control = control; path = path'; arguments = arguments'; file = file; line = line }) (record { number = number; dashed = dashed; control = control; path = path; arguments = arguments; file = file; line = line })
+pub same-module : (number : ℕ) (dashed : Bool) (control : List Action) (path path' : List ℕ) (arguments arguments' : List (List ℕ)) (file line : ℕ) →
+    path' ≡ path → arguments' ≡ arguments →
+    ◌≡◌ {A =
+    ModuleText} (record { number = number; dashed = dashed; control = control; path = path'; arguments = arguments'; file = file; line = line })
+    (record { number = number; dashed = dashed; control = control; path = path; arguments = arguments; file = file; line = line })
 same-module number dashed control path path' arguments arguments' file line p a = rw (p, a) refl

@@ -1,4 +1,5 @@
-use Rattle.std.proofs.Common.{◌≡◌, ◌≤◌, ◌<◌, get_or, take, drop, length, ◌&&◌, ◌++◌, ℕ, Bool, true, false, not, List, [], ◌∷◌, Option, Some, None, Result, Ok, Err, OnOk, cond, eqb, ap, ◌∙◌, sym, refl, arith, append_assoc, append-nil}
+use Rattle.std.proofs.Common.{◌≡◌, ◌≤◌, ◌<◌, get_or, take, drop, length, ◌&&◌, ◌++◌, ℕ, Bool, true, false, not, List, [], ◌∷◌, Option, Some, None, Result, Ok}
+use Rattle.std.proofs.Common.{Err, OnOk, cond, eqb, ap, ◌∙◌, sym, refl, arith, append_assoc, append-nil}
 use Rattle.std.specs.Option.{option_map}
 use Rattle.std.specs.List.{onto_first}
 use Rattle.std.proofs.lemmas.Bool.{eqb-true, false≢true}
@@ -28,41 +29,69 @@ glued-one : (b : ℕ) (ws : List (List ℕ)) → glued (b ∷ []) ws ≡ onto_fi
 glued-one b [] = refl
 glued-one b (w ∷ ws) = refl
 
-pub blank_between : (d : List (List ℕ)) (b : ℕ) (rest : List ℕ) → is_blank b ≡ true → option_map (λ ws. d ++ ws) (words_in Between rest) ≡ option_map (λ ws. d ++ ws) (words_in Between (b ∷ rest))
+pub blank_between : (d : List (List ℕ)) (b : ℕ) (rest : List ℕ) → is_blank b ≡ true →
+    option_map (λ ws. d ++ ws) (words_in Between rest) ≡ option_map (λ ws. d ++ ws) (words_in Between (b ∷ rest))
 unfolding words_in
-blank_between d b rest h = sym (ap (λ (t : Bool). option_map (λ ws. d ++ ws) (cond t (words_in Between rest) (cond (eqb b 91) (option_map (onto_first b) (words_in (Bracket false) rest)) (option_map (onto_first b) (words_in Plain rest))))) h)
+blank_between d b rest h =
+    sym (ap (λ (t : Bool). option_map (λ ws. d ++ ws) (cond t (words_in Between rest)
+    (cond (eqb b 91) (option_map (onto_first b) (words_in (Bracket false) rest)) (option_map (onto_first b) (words_in Plain rest))))) h)
 
-between : (b : ℕ) (rest : List ℕ) → is_blank b ≡ false → words_in Between (b ∷ rest) ≡ cond (eqb b 91) (option_map (onto_first b) (words_in (Bracket false) rest)) (option_map (onto_first b) (words_in Plain rest))
+between : (b : ℕ) (rest : List ℕ) → is_blank b ≡ false → words_in Between (b ∷ rest)
+    ≡ cond (eqb b 91) (option_map (onto_first b) (words_in (Bracket false) rest)) (option_map (onto_first b) (words_in Plain rest))
 unfolding words_in
-between b rest h = ap (λ (t : Bool). cond t (words_in Between rest) (cond (eqb b 91) (option_map (onto_first b) (words_in (Bracket false) rest)) (option_map (onto_first b) (words_in Plain rest)))) h
+between b rest h =
+    ap (λ (t : Bool). cond t (words_in Between rest) (cond (eqb b 91) (option_map (onto_first b) (words_in (Bracket false) rest))
+    (option_map (onto_first b) (words_in Plain rest)))) h
 
-pub opened : (d : List (List ℕ)) (b : ℕ) (v rest : List ℕ) → is_blank b ≡ false → b ≡ 91 → v ≡ b ∷ [] → option_map (λ ws. d ++ glued v ws) (words_in (Bracket false) rest) ≡ option_map (λ ws. d ++ ws) (words_in Between (b ∷ rest))
-opened d b v rest h k e = rw (between b rest h, k, e, k) (chained (λ ws. d ++ glued (91 ∷ []) ws) (λ ws. d ++ ws) (onto_first 91) (λ ws. ap (λ xs. d ++ xs) (glued-one 91 ws)) (words_in (Bracket false) rest))
+pub opened : (d : List (List ℕ)) (b : ℕ) (v rest : List ℕ) → is_blank b ≡ false → b ≡ 91 → v ≡ b ∷ [] →
+    option_map (λ ws. d ++ glued v ws) (words_in (Bracket false) rest) ≡ option_map (λ ws. d ++ ws) (words_in Between (b ∷ rest))
+opened d b v rest h k e =
+    rw (between b rest h, k, e, k) (chained (λ ws. d ++ glued (91 ∷ []) ws) (λ ws. d ++ ws) (onto_first 91) (λ ws. ap (λ xs. d ++ xs) (glued-one 91 ws))
+    (words_in (Bracket false) rest))
 
-pub begun : (d : List (List ℕ)) (b : ℕ) (v rest : List ℕ) → is_blank b ≡ false → (b ≡ 91 → ⊥) → v ≡ b ∷ [] → option_map (λ ws. d ++ glued v ws) (words_in Plain rest) ≡ option_map (λ ws. d ++ ws) (words_in Between (b ∷ rest))
-begun d b v rest h k e = rw (between b rest h, unequal b 91 k, e) (chained (λ ws. d ++ glued (b ∷ []) ws) (λ ws. d ++ ws) (onto_first b) (λ ws. ap (λ xs. d ++ xs) (glued-one b ws)) (words_in Plain rest))
+pub begun : (d : List (List ℕ)) (b : ℕ) (v rest : List ℕ) → is_blank b ≡ false → (b ≡ 91 → ⊥) → v ≡ b ∷ [] →
+    option_map (λ ws. d ++ glued v ws) (words_in Plain rest) ≡ option_map (λ ws. d ++ ws) (words_in Between (b ∷ rest))
+begun d b v rest h k e =
+    rw (between b rest h, unequal b 91 k, e) (chained (λ ws. d ++ glued (b ∷ []) ws) (λ ws. d ++ ws) (onto_first b) (λ ws. ap (λ xs. d ++ xs) (glued-one b ws))
+    (words_in Plain rest))
 
-pub plain_end : (d : List (List ℕ)) (w : List ℕ) (b : ℕ) (rest : List ℕ) → is_blank b ≡ true → option_map (λ ws. (d ++ w ∷ []) ++ ws) (words_in Between rest) ≡ option_map (λ ws. d ++ glued w ws) (words_in Plain (b ∷ rest))
+pub plain_end : (d : List (List ℕ)) (w : List ℕ) (b : ℕ) (rest : List ℕ) → is_blank b ≡ true →
+    option_map (λ ws. (d ++ w ∷ []) ++ ws) (words_in Between rest) ≡ option_map (λ ws. d ++ glued w ws) (words_in Plain (b ∷ rest))
 unfolding words_in
-plain_end d w b rest h = rw h (chained (λ ws. (d ++ w ∷ []) ++ ws) (λ ws. d ++ glued w ws) (λ ws. [] ∷ ws) (λ ws. append_assoc d (w ∷ []) ws ∙ ap (λ v. d ++ v ∷ ws) (sym (append-nil w))) (words_in Between rest))
+plain_end d w b rest h =
+    rw h (chained (λ ws. (d ++ w ∷ []) ++ ws) (λ ws. d ++ glued w ws) (λ ws. [] ∷ ws)
+    (λ ws. append_assoc d (w ∷ []) ws ∙ ap (λ v. d ++ v ∷ ws) (sym (append-nil w))) (words_in Between rest))
 
-pub plain_more : (d : List (List ℕ)) (w v : List ℕ) (b : ℕ) (rest : List ℕ) → is_blank b ≡ false → v ≡ w ++ b ∷ [] → option_map (λ ws. d ++ glued v ws) (words_in Plain rest) ≡ option_map (λ ws. d ++ glued w ws) (words_in Plain (b ∷ rest))
+pub plain_more : (d : List (List ℕ)) (w v : List ℕ) (b : ℕ) (rest : List ℕ) → is_blank b ≡ false → v ≡ w ++ b ∷ [] →
+    option_map (λ ws. d ++ glued v ws) (words_in Plain rest) ≡ option_map (λ ws. d ++ glued w ws) (words_in Plain (b ∷ rest))
 unfolding words_in
-plain_more d w v b rest h e = rw (h, e) (chained (λ ws. d ++ glued (w ++ b ∷ []) ws) (λ ws. d ++ glued w ws) (onto_first b) (λ ws. ap (λ xs. d ++ xs) (glued-onto w b ws)) (words_in Plain rest))
+plain_more d w v b rest h e =
+    rw (h, e) (chained (λ ws. d ++ glued (w ++ b ∷ []) ws) (λ ws. d ++ glued w ws) (onto_first b) (λ ws. ap (λ xs. d ++ xs) (glued-onto w b ws))
+    (words_in Plain rest))
 
-bracket : (b : ℕ) (e t : Bool) (rest : List ℕ) → (eqb b 93 && not e) ≡ t → words_in (Bracket e) (b ∷ rest) ≡ cond t (option_map (λ ws. (93 ∷ []) ∷ ws) (words_in Between rest)) (option_map (onto_first b) (words_in (Bracket (eqb b 92)) rest))
+bracket : (b : ℕ) (e t : Bool) (rest : List ℕ) → (eqb b 93 && not e) ≡ t →
+    words_in (Bracket e) (b ∷ rest) ≡ cond t (option_map (λ ws. (93 ∷ []) ∷ ws) (words_in Between rest))
+    (option_map (onto_first b) (words_in (Bracket (eqb b 92)) rest))
 unfolding words_in
-bracket b e t rest h = ap (λ (u : Bool). cond u (option_map (λ ws. (93 ∷ []) ∷ ws) (words_in Between rest)) (option_map (onto_first b) (words_in (Bracket (eqb b 92)) rest))) h
+bracket b e t rest h =
+    ap (λ (u : Bool). cond u (option_map (λ ws. (93 ∷ []) ∷ ws) (words_in Between rest)) (option_map (onto_first b) (words_in (Bracket (eqb b 92)) rest))) h
 
-pub closed : (d : List (List ℕ)) (w v : List ℕ) (b : ℕ) (e : Bool) (rest : List ℕ) → b ≡ 93 → e ≡ false → v ≡ w ++ b ∷ [] → option_map (λ ws. (d ++ v ∷ []) ++ ws) (words_in Between rest) ≡ option_map (λ ws. d ++ glued w ws) (words_in (Bracket e) (b ∷ rest))
-closed d w v b e rest h f k = rw (bracket b e true rest (rw (h, f) refl), k, h) (chained (λ ws. (d ++ (w ++ 93 ∷ []) ∷ []) ++ ws) (λ ws. d ++ glued w ws) (λ ws. (93 ∷ []) ∷ ws) (λ ws. append_assoc d ((w ++ 93 ∷ []) ∷ []) ws) (words_in Between rest))
+pub closed : (d : List (List ℕ)) (w v : List ℕ) (b : ℕ) (e : Bool) (rest : List ℕ) → b ≡ 93 → e ≡ false → v ≡ w ++ b ∷ [] →
+    option_map (λ ws. (d ++ v ∷ []) ++ ws) (words_in Between rest) ≡ option_map (λ ws. d ++ glued w ws) (words_in (Bracket e) (b ∷ rest))
+closed d w v b e rest h f k =
+    rw (bracket b e true rest (rw (h, f) refl), k, h) (chained (λ ws. (d ++ (w ++ 93 ∷ []) ∷ []) ++ ws) (λ ws. d ++ glued w ws) (λ ws. (93 ∷ []) ∷ ws)
+    (λ ws. append_assoc d ((w ++ 93 ∷ []) ∷ []) ws) (words_in Between rest))
 
 stays : (b : ℕ) (e : Bool) → (b ≡ 93 → e ≡ true) → (eqb b 93 && not e) ≡ false
 stays b true h = elim (eqb b 93) as (λ (t : Bool). (t && false) ≡ false) [ true ↦ refl | false ↦ refl ]
-stays b false h = elim (eqb b 93) as (λ (t : Bool). eqb b 93 ≡ t → (t && true) ≡ false) [ true ↦ λ q. absurd (false≢true (h (eqb-true b 93 q))) | false ↦ λ q. refl ] refl
+stays b false h =
+    elim (eqb b 93) as (λ (t : Bool). eqb b 93 ≡ t → (t && true) ≡ false) [ true ↦ λ q. absurd (false≢true (h (eqb-true b 93 q))) | false ↦ λ q. refl ] refl
 
-pub bracket_more : (d : List (List ℕ)) (w v : List ℕ) (b : ℕ) (e : Bool) (rest : List ℕ) → (b ≡ 93 → e ≡ true) → v ≡ w ++ b ∷ [] → option_map (λ ws. d ++ glued v ws) (words_in (Bracket (eqb b 92)) rest) ≡ option_map (λ ws. d ++ glued w ws) (words_in (Bracket e) (b ∷ rest))
-bracket_more d w v b e rest h k = rw (bracket b e false rest (stays b e h), k) (chained (λ ws. d ++ glued (w ++ b ∷ []) ws) (λ ws. d ++ glued w ws) (onto_first b) (λ ws. ap (λ xs. d ++ xs) (glued-onto w b ws)) (words_in (Bracket (eqb b 92)) rest))
+pub bracket_more : (d : List (List ℕ)) (w v : List ℕ) (b : ℕ) (e : Bool) (rest : List ℕ) → (b ≡ 93 → e ≡ true) → v ≡ w ++ b ∷ [] →
+    option_map (λ ws. d ++ glued v ws) (words_in (Bracket (eqb b 92)) rest) ≡ option_map (λ ws. d ++ glued w ws) (words_in (Bracket e) (b ∷ rest))
+bracket_more d w v b e rest h k =
+    rw (bracket b e false rest (stays b e h), k) (chained (λ ws. d ++ glued (w ++ b ∷ []) ws) (λ ws. d ++ glued w ws) (onto_first b)
+    (λ ws. ap (λ xs. d ++ xs) (glued-onto w b ws)) (words_in (Bracket (eqb b 92)) rest))
 
 -- what follows from two facts that a success shows
 pub on_ok_both : {X E : Type 0} (r : Result X E) (A B C : Type 0) → OnOk r A → OnOk r B → (A → B → C) → OnOk r C
@@ -96,7 +125,8 @@ unescaped_pair (a ∷ []) h f g = absurd (omega arith)
 unescaped_pair (a ∷ b ∷ xs) h f g = rw (f, g) refl
 
 -- where another byte stands
-pub unescaped_one : (xs : List ℕ) → 0 < length xs → (2 ≤ length xs → get_or xs 0 0 ≡ 92 → get_or xs 1 0 ≡ 93 → ⊥) → unescaped xs ≡ get_or xs 0 0 ∷ unescaped (drop 1 xs)
+pub unescaped_one : (xs : List ℕ) → 0 < length xs → (2 ≤ length xs → get_or xs 0 0 ≡ 92 → get_or xs 1 0 ≡ 93 → ⊥) →
+    unescaped xs ≡ get_or xs 0 0 ∷ unescaped (drop 1 xs)
 unfolding unescaped
 unescaped_one [] h n = absurd (omega arith)
 unescaped_one (a ∷ []) h n = refl

@@ -8,7 +8,16 @@ use Rattle.pam_conf.specs.Stack.{ModuleText, Items, End, ThenModule, ThenSub, Su
 
 -- a module without where it lies in memory
 abbrev pub module_text : Module → ModuleText
-module_text m = record { number = m.number; dashed = m.dashed; control = m.control; path = m.path.items; arguments = map (λ a. a.items) m.arguments.items; file = m.file; line = m.line }
+module_text m =
+    record {
+      number = m.number;
+      dashed = m.dashed;
+      control = m.control;
+      path = m.path.items;
+      arguments = map (λ a. a.items) m.arguments.items;
+      file = m.file;
+      line = m.line;
+    }
 
 -- the tree of a list of items
 abbrev pub items_of : List Item → Items

@@ -44,7 +44,8 @@ action_code =
 abbrev pub module_code : Coded ModuleText
 module_code =
     code_by ((ℕ × Bool) × ((List Action × List ℕ) × (List (List ℕ) × (ℕ × ℕ))))
-    (coded× (coded× coded_ℕ coded_bool) (coded× (coded× (coded_list action_code) (coded_list coded_ℕ)) (coded× (coded_list (coded_list coded_ℕ)) (coded× coded_ℕ coded_ℕ))))
+    (coded× (coded× coded_ℕ coded_bool) (coded× (coded× (coded_list action_code) (coded_list coded_ℕ))
+    (coded× (coded_list (coded_list coded_ℕ)) (coded× coded_ℕ coded_ℕ))))
     (λ m. ((m.number, m.dashed), ((m.control, m.path), (m.arguments, (m.file, m.line)))))
     (λ p. record { number = p.0.0; dashed = p.0.1; control = p.1.0.0; path = p.1.0.1; arguments = p.1.1.0; file = p.1.1.1.0; line = p.1.1.1.1 })
     (λ _. refl)

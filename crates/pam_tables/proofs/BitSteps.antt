@@ -1,5 +1,6 @@
 -- Bits of a mask, and of two numbers under it.
-use Rattle.std.proofs.Common.{◌≡◌, ◌∙◌, ◌+◌, ◌-◌, ◌*◌, ◌<◌, ◌≤◌, ◌^◌, ◌&&◌, ◌||◌, ℕ, zero, suc, min, not, Bool, true, false, List, [], ◌∷◌, ◌++◌, replicate, eqb, nat_eq, nat_lt, refl, ap, ap₂, arith, eq-eqb, pow-add}
+use Rattle.std.proofs.Common.{◌≡◌, ◌∙◌, ◌+◌, ◌-◌, ◌*◌, ◌<◌, ◌≤◌, ◌^◌, ◌&&◌, ◌||◌, ℕ, zero, suc, min, not, Bool, true, false, List, [], ◌∷◌, ◌++◌, replicate}
+use Rattle.std.proofs.Common.{eqb, nat_eq, nat_lt, refl, ap, ap₂, arith, eq-eqb, pow-add}
 use Rattle.std.specs.Int.{bit_at}
 use Rattle.std.specs.Int.Bits.{bit_and}
 use Rattle.std.proofs.Math.Nat.{pow-suc}
@@ -43,7 +44,8 @@ unmasked_same : (a b x y k : ℕ) → a ≡ min x k → b ≡ min y k → x < 2 
 unmasked_same a b x y k e f l m h g = omega arith
 
 same_bits : (v u k : ℕ) → bit_and v k ≡ bit_and u k → (i : ℕ) → bit k i ≡ 1 → bit v i ≡ bit u i
-same_bits v u k e i h = unmasked_same _ _ (bit_at v i) (bit_at u i) (bit_at k i) (bit_at_and v k i) (bit_at_and u k i) (bit_at-lt v i) (bit_at-lt u i) (ap (λ n. bit_at n i) e) h
+same_bits v u k e i h =
+    unmasked_same _ _ (bit_at v i) (bit_at u i) (bit_at k i) (bit_at_and v k i) (bit_at_and u k i) (bit_at-lt v i) (bit_at-lt u i) (ap (λ n. bit_at n i) e) h
 
 from_bits : (v u k : ℕ) → ((i : ℕ) → bit k i ≡ 1 → bit v i ≡ bit u i) → bit_and v k ≡ bit_and u k
 from_bits v u k h = same_from_bits (bit_and v k) (bit_and u k)

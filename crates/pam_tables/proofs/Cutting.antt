@@ -1,5 +1,6 @@
 -- A text cut at its first separator, and at each of them.
-use Rattle.std.proofs.Common.{◌≡◌, ◌∙◌, ◌+◌, ◌<◌, ◌≤◌, ◌&&◌, ℕ, Bool, true, false, not, List, [], ◌∷◌, length, take, drop, cond, nat_lt, position, Option, Some, None, refl, sym, ap, arith, ap₂}
+use Rattle.std.proofs.Common.{◌≡◌, ◌∙◌, ◌+◌, ◌<◌, ◌≤◌, ◌&&◌, ℕ, Bool, true, false, not, List, [], ◌∷◌, length, take, drop, cond, nat_lt, position, Option, Some}
+use Rattle.std.proofs.Common.{None, refl, sym, ap, arith, ap₂}
 use Rattle.std.specs.List.{slice_split, onto_first, position_or_len, list_all}
 use Rattle.std.specs.Option.{option_map, option_map_or}
 use Rattle.std.proofs.lemmas.Bool.{ltb-true, ltb-false}
@@ -7,38 +8,46 @@ use Rattle.std.proofs.lemmas.List.{drop-drop}
 use Rattle.std.proofs.lemmas.List.Splits.{slice_split_first}
 use Rattle.pam_tables.specs.Lines.{cut_at}
 
-pub cut_found : (p : ℕ → Bool) (text a rest r : List ℕ) (i : ℕ) → Some i ≡ position p text → a ≡ take i text → rest ≡ drop i text → r ≡ drop 1 rest → Some (a, r) ≡ cut_at p text
+pub cut_found : (p : ℕ → Bool) (text a rest r : List ℕ) (i : ℕ) → Some i ≡ position p text → a ≡ take i text → rest ≡ drop i text → r ≡ drop 1 rest →
+    Some (a, r) ≡ cut_at p text
 cut_found p text a rest r i e f g h =
     let back : r ≡ drop (i + 1) text = h ∙ ap (drop 1) g ∙ drop-drop 1 i text in
     ap₂ (λ x y. Some (x, y)) f back ∙ ap (λ (o : Option ℕ). option_map (λ j. (take j text, drop (j + 1) text)) o) e
 
 -- the parts of a text that has a separator
 pub split_found : (p : ℕ → Bool) (text a r : List ℕ) → Some (a, r) ≡ cut_at p text → slice_split p text ≡ a ∷ slice_split p r
-split_found p text a r h = elim (nat_lt (position_or_len p text) (length text)) as (λ (t : Bool). nat_lt (position_or_len p text) (length text) ≡ t → Some (a, r) ≡ cut_at p text → slice_split p text ≡ a ∷ slice_split p r) [
-  | true ↦ λ e g.
-      let found : Some (a, r) ≡ Some (take (position_or_len p text) text, drop (position_or_len p text + 1) text) = rw e at g in
-      slice_split_first p text 0 (ltb-true _ _ e) ∙ ap (λ (o : Option (List ℕ × List ℕ)). option_map_or (λ q. q.0 ∷ slice_split p q.1) o []) (sym found)
-  | false ↦ λ e g. let nothing : Some (a, r) ≡ None = rw e at g in absurd (cc)
-] refl h
+split_found p text a r h =
+    elim (nat_lt (position_or_len p text) (length text)) as (λ (t : Bool). nat_lt (position_or_len p text) (length text) ≡ t → Some (a, r) ≡ cut_at p text →
+    slice_split p text ≡ a ∷ slice_split p r) [
+      | true ↦ λ e g.
+          let found : Some (a, r) ≡ Some (take (position_or_len p text) text, drop (position_or_len p text + 1) text) = rw e at g in
+          slice_split_first p text 0 (ltb-true _ _ e) ∙ ap (λ (o : Option (List ℕ × List ℕ)). option_map_or (λ q. q.0 ∷ slice_split p q.1) o []) (sym found)
+      | false ↦ λ e g. let nothing : Some (a, r) ≡ None = rw e at g in absurd (cc)
+    ] refl h
 
 split_whole : (p : ℕ → Bool) (text : List ℕ) → length text ≤ position_or_len p text → slice_split p text ≡ text ∷ []
 split_whole p [] h = refl
-split_whole p (b ∷ bs) h = elim (p b) as (λ (t : Bool). length (b ∷ bs) ≤ cond (not t) (1 + position_or_len p bs) 0 → cond t ([] ∷ slice_split p bs) (onto_first b (slice_split p bs)) ≡ (b ∷ bs) ∷ []) [
-  | true ↦ λ l. absurd (omega arith)
-  | false ↦ λ l. ap (onto_first b) (split_whole p bs (omega arith))
-] h
+split_whole p (b ∷ bs) h =
+    elim (p b) as (λ (t : Bool). length (b ∷ bs) ≤ cond (not t) (1 + position_or_len p bs) 0 →
+    cond t ([] ∷ slice_split p bs) (onto_first b (slice_split p bs)) ≡ (b ∷ bs) ∷ []) [
+      | true ↦ λ l. absurd (omega arith)
+      | false ↦ λ l. ap (onto_first b) (split_whole p bs (omega arith))
+    ] h
 
 -- a text with no separator is its only part
 pub split_none : (p : ℕ → Bool) (text : List ℕ) → None ≡ cut_at p text → slice_split p text ≡ text ∷ []
-split_none p text h = elim (nat_lt (position_or_len p text) (length text)) as (λ (t : Bool). nat_lt (position_or_len p text) (length text) ≡ t → None ≡ cut_at p text → slice_split p text ≡ text ∷ []) [
-  | true ↦ λ e g. let found : None ≡ Some (take (position_or_len p text) text, drop (position_or_len p text + 1) text) = rw e at g in absurd (cc)
-  | false ↦ λ e g. split_whole p text (ltb-false _ _ e)
-] refl h
+split_none p text h =
+    elim (nat_lt (position_or_len p text) (length text)) as (λ (t : Bool). nat_lt (position_or_len p text) (length text) ≡ t → None ≡ cut_at p text →
+    slice_split p text ≡ text ∷ []) [
+      | true ↦ λ e g. let found : None ≡ Some (take (position_or_len p text) text, drop (position_or_len p text + 1) text) = rw e at g in absurd (cc)
+      | false ↦ λ e g. split_whole p text (ltb-false _ _ e)
+    ] refl h
 
 pub split_two : (p : ℕ → Bool) (text a r b s : List ℕ) → Some (a, r) ≡ cut_at p text → Some (b, s) ≡ cut_at p r → slice_split p text ≡ a ∷ b ∷ slice_split p s
 split_two p text a r b s e f = split_found p text a r e ∙ ap (λ (ps : List (List ℕ)). a ∷ ps) (split_found p r b s f)
 
-pub split_three : (p : ℕ → Bool) (text a r b s c d : List ℕ) → Some (a, r) ≡ cut_at p text → Some (b, s) ≡ cut_at p r → Some (c, d) ≡ cut_at p s → slice_split p text ≡ a ∷ b ∷ c ∷ slice_split p d
+pub split_three : (p : ℕ → Bool) (text a r b s c d : List ℕ) → Some (a, r) ≡ cut_at p text → Some (b, s) ≡ cut_at p r → Some (c, d) ≡ cut_at p s →
+    slice_split p text ≡ a ∷ b ∷ c ∷ slice_split p d
 split_three p text a r b s c d e f g = split_two p text a r b s e f ∙ ap (λ (ps : List (List ℕ)). a ∷ b ∷ ps) (split_found p s c d g)
 
 and_false : (b : Bool) → (b && false) ≡ false
@@ -48,17 +57,20 @@ and_false false = refl
 -- a test that no separator passes does not pass on each byte of a text with one
 pub none_passes : (p q : ℕ → Bool) (text : List ℕ) → ((b : ℕ) → p b ≡ true → q b ≡ false) → position_or_len p text < length text → list_all q text ≡ false
 none_passes p q [] f h = absurd (omega arith)
-none_passes p q (b ∷ bs) f h = elim (p b) as (λ (t : Bool). p b ≡ t → cond (not t) (1 + position_or_len p bs) 0 < length (b ∷ bs) → (q b && list_all q bs) ≡ false) [
-  | true ↦ λ e l. ap (λ (t : Bool). t && list_all q bs) (f b e)
-  | false ↦ λ e l. ap (λ (t : Bool). q b && t) (none_passes p q bs f (omega arith)) ∙ and_false (q b)
-] refl h
+none_passes p q (b ∷ bs) f h =
+    elim (p b) as (λ (t : Bool). p b ≡ t → cond (not t) (1 + position_or_len p bs) 0 < length (b ∷ bs) → (q b && list_all q bs) ≡ false) [
+      | true ↦ λ e l. ap (λ (t : Bool). t && list_all q bs) (f b e)
+      | false ↦ λ e l. ap (λ (t : Bool). q b && t) (none_passes p q bs f (omega arith)) ∙ and_false (q b)
+    ] refl h
 
 -- the place of the separator that was found
 pub found_within : (p : ℕ → Bool) (text : List ℕ) (x : List ℕ × List ℕ) → Some x ≡ cut_at p text → position_or_len p text < length text
-found_within p text x h = elim (nat_lt (position_or_len p text) (length text)) as (λ (t : Bool). nat_lt (position_or_len p text) (length text) ≡ t → Some x ≡ cut_at p text → position_or_len p text < length text) [
-  | true ↦ λ e g. ltb-true _ _ e
-  | false ↦ λ e g. let nothing : Some x ≡ None = rw e at g in absurd (cc)
-] refl h
+found_within p text x h =
+    elim (nat_lt (position_or_len p text) (length text)) as (λ (t : Bool). nat_lt (position_or_len p text) (length text) ≡ t → Some x ≡ cut_at p text →
+    position_or_len p text < length text) [
+      | true ↦ λ e g. ltb-true _ _ e
+      | false ↦ λ e g. let nothing : Some x ≡ None = rw e at g in absurd (cc)
+    ] refl h
 
 -- a text has a first part
 pub record FirstPart {X : Type 0} (ps : List (List X)) : Type 0 where

@@ -25,10 +25,11 @@ odd_of n = elim (nat_eq (n % 2) 1) as (λ (t : Bool). cond t true false ≡ t) [
 -- parts behind an even or an odd number of parts that hold
 parts_behind : (b : Bool) (ps : List (List Mark)) → odd_with b false ps ≡ odd_after b (prefix_len part_holds ps)
 parts_behind b [] = refl
-parts_behind b (p ∷ ps) = elim (part_holds p) as (λ (t : Bool). cond t (odd_after (not b) (prefix_len part_holds ps)) b ≡ odd_after b (cond t (1 + prefix_len part_holds ps) 0)) [
-  | true ↦ sym (odd_after_next b (prefix_len part_holds ps))
-  | false ↦ refl
-]
+parts_behind b (p ∷ ps) =
+    elim (part_holds p) as (λ (t : Bool). cond t (odd_after (not b) (prefix_len part_holds ps)) b ≡ odd_after b (cond t (1 + prefix_len part_holds ps) 0)) [
+      | true ↦ sym (odd_after_next b (prefix_len part_holds ps))
+      | false ↦ refl
+    ]
 
 pub list_begins : (rest : List Mark) → matches_behind record { is_odd = false; holds = false; is_decided = false } rest ≡ list_matches rest
 unfolding matches_behind list_matches
@@ -39,11 +40,13 @@ unfolding matches_behind
 decided s mark e rest = rw e refl
 
 -- a token that matches
-pub list_match : (s : Parts) (mark : Mark) → s.is_decided ≡ false → mark ≡ Match → (rest : List Mark) → matches_behind record { is_odd = s.is_odd; holds = true; is_decided = s.is_decided } rest ≡ matches_behind s (mark ∷ rest)
+pub list_match : (s : Parts) (mark : Mark) → s.is_decided ≡ false → mark ≡ Match → (rest : List Mark) →
+    matches_behind record { is_odd = s.is_odd; holds = true; is_decided = s.is_decided } rest ≡ matches_behind s (mark ∷ rest)
 unfolding matches_behind
 list_match s mark e m rest =
     let ps = split_parts is_except rest in
-    rw (m, e) (ap (λ (qs : List (List Mark)). odd_with s.is_odd true qs) ps.are ∙ already s.is_odd s.holds ps.first ps.others ∙ ap (λ (qs : List (List Mark)). odd_with s.is_odd s.holds (onto_first Match qs)) (sym ps.are))
+    rw (m, e) (ap (λ (qs : List (List Mark)). odd_with s.is_odd true qs) ps.are ∙ already s.is_odd s.holds ps.first ps.others
+    ∙ ap (λ (qs : List (List Mark)). odd_with s.is_odd s.holds (onto_first Match qs)) (sym ps.are))
   where
     already : (o h : Bool) (p : List Mark) (ps : List (List Mark)) → odd_with o true (p ∷ ps) ≡ odd_with o h ((Match ∷ p) ∷ ps)
     already o true p ps = refl
@@ -54,7 +57,8 @@ pub list_miss : (s : Parts) (mark : Mark) → s.is_decided ≡ false → mark �
 unfolding matches_behind
 list_miss s mark e m rest =
     let ps = split_parts is_except rest in
-    rw (m, e) (ap (λ (qs : List (List Mark)). odd_with s.is_odd s.holds qs) ps.are ∙ ap (λ (qs : List (List Mark)). odd_with s.is_odd s.holds (onto_first Miss qs)) (sym ps.are))
+    rw (m, e) (ap (λ (qs : List (List Mark)). odd_with s.is_odd s.holds qs) ps.are
+    ∙ ap (λ (qs : List (List Mark)). odd_with s.is_odd s.holds (onto_first Miss qs)) (sym ps.are))
 
 closed : (o h : Bool) (ps : List (List Mark)) → cond (not h) (not (beq o h)) (odd_with (not (beq o h)) false ps) ≡ odd_with o h ([] ∷ ps)
 closed true true ps = parts_behind false ps
@@ -63,7 +67,8 @@ closed true false ps = refl
 closed false false ps = refl
 
 -- the word EXCEPT
-pub list_except : (s : Parts) (mark : Mark) → s.is_decided ≡ false → mark ≡ Except → (rest : List Mark) → matches_behind record { is_odd = not (beq s.is_odd s.holds); holds = false; is_decided = not s.holds } rest ≡ matches_behind s (mark ∷ rest)
+pub list_except : (s : Parts) (mark : Mark) → s.is_decided ≡ false → mark ≡ Except → (rest : List Mark) →
+    matches_behind record { is_odd = not (beq s.is_odd s.holds); holds = false; is_decided = not s.holds } rest ≡ matches_behind s (mark ∷ rest)
 unfolding matches_behind
 list_except s mark e m rest = rw (m, e) (closed s.is_odd s.holds (slice_split is_except rest))
 

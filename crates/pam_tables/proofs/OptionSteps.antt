@@ -5,11 +5,18 @@ use Rattle.std.specs.Str.{bytes_eq}
 use Rattle.pam_tables.specs.Options.{given_or, last_value, options_of}
 
 -- options by their parts
-pub options_are : (arguments : List (List ℕ)) (f l : List ℕ) (o p : Option (List ℕ)) (h : Bool) → f ≡ given_or (codes ":") o → o ≡ last_value (codes "fieldsep=") arguments → l ≡ given_or (32 ∷ 9 ∷ 44 ∷ []) p → p ≡ last_value (codes "listsep=") arguments
-    → h ≡ list_any (λ a. bytes_eq a (codes "nodefgroup")) arguments → record { field_separators = f; list_separators = l; group_names = not h } ≡ options_of arguments
+pub options_are : (arguments : List (List ℕ)) (f l : List ℕ) (o p : Option (List ℕ)) (h : Bool) → f ≡ given_or (codes ":") o →
+    o ≡ last_value (codes "fieldsep=") arguments → l ≡ given_or (32 ∷ 9 ∷ 44 ∷ []) p → p ≡ last_value (codes "listsep=") arguments
+    → h ≡ list_any (λ a. bytes_eq a (codes "nodefgroup")) arguments → record {
+      field_separators =
+          f;
+      list_separators = l;
+      group_names = not h;
+    } ≡ options_of arguments
 unfolding options_of
 options_are arguments f l o p h e g i j k = rw (e, g, i, j, k) refl
 
-pub any_items : {X : Type 0} (f : X → List ℕ) (text : List ℕ) (xs : List X) → list_any (λ a. bytes_eq a text) (map f xs) ≡ list_any (λ x. bytes_eq (f x) text) xs
+pub any_items : {X : Type 0} (f : X → List ℕ) (text : List ℕ) (xs : List X) →
+    list_any (λ a. bytes_eq a text) (map f xs) ≡ list_any (λ x. bytes_eq (f x) text) xs
 any_items f text [] = refl
 any_items f text (x ∷ xs) = ap (λ b. bytes_eq (f x) text || b) (any_items f text xs)

@@ -23,12 +23,16 @@ or_known false true h = h refl
 or_known false false h = refl
 
 -- a byte that is kept already adds nothing
-pub byte_seen : (kept bytes : List ℕ) (i : ℕ) → i < length bytes → ((b : ℕ) → is_among kept b ≡ is_among (take i bytes) b) → is_among kept (get_or bytes i 0) ≡ true → (b : ℕ) → is_among kept b ≡ is_among (take (i + 1) bytes) b
+pub byte_seen : (kept bytes : List ℕ) (i : ℕ) → i < length bytes → ((b : ℕ) → is_among kept b ≡ is_among (take i bytes) b) →
+    is_among kept (get_or bytes i 0) ≡ true → (b : ℕ) → is_among kept b ≡ is_among (take (i + 1) bytes) b
 byte_seen kept bytes i l inv seen b =
     or_known (is_among kept b) (eqb (get_or bytes i 0) b) (λ e. let same : get_or bytes i 0 ≡ b = eqb-true _ _ e in ap (is_among kept) (sym same) ∙ seen)
-    ∙ ap (λ t. t || eqb (get_or bytes i 0) b) (inv b) ∙ sym (ap (λ (xs : List ℕ). is_among xs b) (take_more bytes i 0 l) ∙ among_push (take i bytes) (get_or bytes i 0) b)
+    ∙ ap (λ t. t || eqb (get_or bytes i 0) b) (inv b) ∙ sym (ap (λ (xs : List ℕ). is_among xs b) (take_more bytes i 0 l)
+    ∙ among_push (take i bytes) (get_or bytes i 0) b)
 
-pub byte_kept : (kept more bytes : List ℕ) (i : ℕ) → i < length bytes → ((b : ℕ) → is_among kept b ≡ is_among (take i bytes) b) → more ≡ kept ++ get_or bytes i 0 ∷ [] → (b : ℕ) → is_among more b ≡ is_among (take (i + 1) bytes) b
+pub byte_kept : (kept more bytes : List ℕ) (i : ℕ) → i < length bytes → ((b : ℕ) → is_among kept b ≡ is_among (take i bytes) b) →
+    more ≡ kept ++ get_or bytes i 0 ∷ [] → (b : ℕ) → is_among more b ≡ is_among (take (i + 1) bytes) b
 byte_kept kept more bytes i l inv e b =
     ap (λ (xs : List ℕ). is_among xs b) e ∙ among_push kept (get_or bytes i 0) b
-    ∙ ap (λ t. t || eqb (get_or bytes i 0) b) (inv b) ∙ sym (ap (λ (xs : List ℕ). is_among xs b) (take_more bytes i 0 l) ∙ among_push (take i bytes) (get_or bytes i 0) b)
+    ∙ ap (λ t. t || eqb (get_or bytes i 0) b) (inv b) ∙ sym (ap (λ (xs : List ℕ). is_among xs b) (take_more bytes i 0 l)
+    ∙ among_push (take i bytes) (get_or bytes i 0) b)

@@ -1,5 +1,6 @@
 -- The first token of a list, and tokens one after another.
-use Rattle.std.proofs.Common.{◌≡◌, ◌∙◌, ◌+◌, ◌-◌, ◌≤◌, ◌||◌, ◌++◌, ℕ, suc, Bool, true, false, not, List, [], ◌∷◌, length, take, drop, map, filter, cond, eqb, reverse, Result, Ok, Err, refl, sym, ap, ap₂, arith, one-add, append_assoc, append-nil}
+use Rattle.std.proofs.Common.{◌≡◌, ◌∙◌, ◌+◌, ◌-◌, ◌≤◌, ◌||◌, ◌++◌, ℕ, suc, Bool, true, false, not, List, [], ◌∷◌, length, take, drop, map, filter, cond, eqb}
+use Rattle.std.proofs.Common.{reverse, Result, Ok, Err, refl, sym, ap, ap₂, arith, one-add, append_assoc, append-nil}
 use Rattle.std.specs.List.{slice_split, onto_first, prefix_len, suffix_len}
 use Rattle.std.proofs.lemmas.List.{length-reverse, reverse-append}
 use Rattle.std.proofs.lemmas.List.Folds.{prefix_len-append}
@@ -26,22 +27,25 @@ or_true false b h e = h
 -- a separator or a blank in front says nothing
 gap_byte : (s : List ℕ) (b : ℕ) (bs : List ℕ) → is_gap s b ≡ true → tokens_of s (b ∷ bs) ≡ tokens_of s bs
 unfolding tokens_of
-gap_byte s b bs h = elim (is_among s b) as (λ (t : Bool). is_among s b ≡ t → tokens_in (cond t ([] ∷ slice_split (is_among s) bs) (onto_first b (slice_split (is_among s) bs))) ≡ tokens_in (slice_split (is_among s) bs)) [
-  | true ↦ λ e. refl
-  | false ↦ λ e.
-      let ps = split_parts (is_among s) bs in
-      ap (λ (qs : List (List ℕ)). tokens_in (onto_first b qs)) ps.are
-      ∙ ap (λ (p : List ℕ). filter has_bytes (p ∷ map trimmed ps.others)) (blank_trimmed b ps.first (or_true (is_among s b) (is_blank b) h e))
-      ∙ sym (ap tokens_in ps.are)
-] refl
+gap_byte s b bs h =
+    elim (is_among s b) as (λ (t : Bool). is_among s b ≡ t → tokens_in (cond t ([] ∷ slice_split (is_among s) bs) (onto_first b (slice_split (is_among s) bs)))
+    ≡ tokens_in (slice_split (is_among s) bs)) [
+      | true ↦ λ e. refl
+      | false ↦ λ e.
+          let ps = split_parts (is_among s) bs in
+          ap (λ (qs : List (List ℕ)). tokens_in (onto_first b qs)) ps.are
+          ∙ ap (λ (p : List ℕ). filter has_bytes (p ∷ map trimmed ps.others)) (blank_trimmed b ps.first (or_true (is_among s b) (is_blank b) h e))
+          ∙ sym (ap tokens_in ps.are)
+    ] refl
 
 -- separators and blanks in front are passed over
 pub gap_skipped : (s text : List ℕ) → tokens_of s text ≡ tokens_of s (drop (prefix_len (is_gap s) text) text)
 gap_skipped s [] = refl
-gap_skipped s (b ∷ bs) = elim (is_gap s b) as (λ (t : Bool). is_gap s b ≡ t → tokens_of s (b ∷ bs) ≡ tokens_of s (drop (cond t (1 + prefix_len (is_gap s) bs) 0) (b ∷ bs))) [
-  | true ↦ λ e. gap_byte s b bs e ∙ gap_skipped s bs ∙ rw one-add refl
-  | false ↦ λ e. refl
-] refl
+gap_skipped s (b ∷ bs) =
+    elim (is_gap s b) as (λ (t : Bool). is_gap s b ≡ t → tokens_of s (b ∷ bs) ≡ tokens_of s (drop (cond t (1 + prefix_len (is_gap s) bs) 0) (b ∷ bs))) [
+      | true ↦ λ e. gap_byte s b bs e ∙ gap_skipped s bs ∙ rw one-add refl
+      | false ↦ λ e. refl
+    ] refl
 
 -- what passes at the front of what is behind the front that passes
 pub none_behind : (p : ℕ → Bool) (bs : List ℕ) → prefix_len p (drop (prefix_len p bs) bs) ≡ 0
@@ -79,10 +83,13 @@ first_split s (b ∷ bs) = go (is_among s b) refl (first_split s bs)
           tokens = sym (gap_byte s b bs (ap (λ (t : Bool). t || is_blank b) e)) ∙ rw stop refl;
         }
     go false e f =
-        let more : prefix_len (in_part s) (b ∷ bs) ≡ suc (prefix_len (in_part s) bs) = ap (λ (t : Bool). cond (not t) (1 + prefix_len (in_part s) bs) 0) e ∙ rw one-add refl in
+        let more : prefix_len (in_part s) (b ∷ bs) ≡ suc (prefix_len (in_part s) bs) = ap (λ (t : Bool). cond (not t) (1 + prefix_len (in_part s) bs) 0) e
+        ∙ rw one-add refl in
         record {
           others = f.others;
-          are = ap (λ (t : Bool). cond t ([] ∷ slice_split (is_among s) bs) (onto_first b (slice_split (is_among s) bs))) e ∙ ap (onto_first b) f.are ∙ rw more refl;
+          are =
+              ap (λ (t : Bool). cond t ([] ∷ slice_split (is_among s) bs) (onto_first b (slice_split (is_among s) bs))) e ∙ ap (onto_first b) f.are
+              ∙ rw more refl;
           tokens = f.tokens ∙ rw more refl;
         }
 
@@ -94,11 +101,13 @@ few_blanks : (b : ℕ) (bs : List ℕ) → is_blank b ≡ false → suffix_len i
 few_blanks b bs h =
     let one : prefix_len is_blank (b ∷ []) ≡ 0 = ap (λ (t : Bool). cond t (1 + 0) 0) h in
     let front : prefix_len is_blank (reverse bs) ≤ length (reverse bs) = prefix_len-le-length is_blank (reverse bs) in
-    let all : suffix_len is_blank (b ∷ bs) ≡ cond (eqb (prefix_len is_blank (reverse bs)) (length (reverse bs))) (length (reverse bs) + prefix_len is_blank (b ∷ [])) (prefix_len is_blank (reverse bs)) =
+    let all : suffix_len is_blank (b ∷ bs) ≡ cond (eqb (prefix_len is_blank (reverse bs)) (length (reverse bs)))
+    (length (reverse bs) + prefix_len is_blank (b ∷ [])) (prefix_len is_blank (reverse bs)) =
     ap (prefix_len is_blank) (reverse-append (b ∷ []) bs) ∙ prefix_len-append is_blank (reverse bs) (b ∷ []) in
     let whole : length (reverse bs) + prefix_len is_blank (b ∷ []) ≤ length bs = omega (arith, length-reverse bs) in
     let some : prefix_len is_blank (reverse bs) ≤ length bs = omega (arith, length-reverse bs) in
-    let most = at_most (eqb (prefix_len is_blank (reverse bs)) (length (reverse bs))) (length (reverse bs) + prefix_len is_blank (b ∷ [])) (prefix_len is_blank (reverse bs)) (length bs) whole some in
+    let most = at_most (eqb (prefix_len is_blank (reverse bs)) (length (reverse bs))) (length (reverse bs) + prefix_len is_blank (b ∷ []))
+    (prefix_len is_blank (reverse bs)) (length bs) whole some in
     omega (arith, all, most)
 
 -- a text that begins with no blank keeps a byte when the blanks at its end go
@@ -117,17 +126,20 @@ no_gap true n h = absurd (omega arith)
 no_gap false n h = refl
 
 -- a token ends at the first separator
-pub token_first : (s rest part behind : List ℕ) → (length rest ≡ 0 → ⊥) → prefix_len (is_gap s) rest ≡ 0 → part ≡ take (prefix_len (in_part s) rest) rest → behind ≡ drop (prefix_len (in_part s) rest) rest → tokens_of s rest ≡ trimmed_end part ∷ tokens_of s behind
+pub token_first : (s rest part behind : List ℕ) → (length rest ≡ 0 → ⊥) → prefix_len (is_gap s) rest ≡ 0 → part ≡ take (prefix_len (in_part s) rest) rest →
+    behind ≡ drop (prefix_len (in_part s) rest) rest → tokens_of s rest ≡ trimmed_end part ∷ tokens_of s behind
 unfolding tokens_of
 token_first s [] part behind h z e f = absurd (h refl)
 token_first s (b ∷ bs) part behind h z e f =
     let tests = neither (is_among s b) (is_blank b) (no_gap (is_gap s b) (prefix_len (is_gap s) bs) z) in
     let q : List ℕ = take (prefix_len (in_part s) bs) bs in
-    let more : prefix_len (in_part s) (b ∷ bs) ≡ suc (prefix_len (in_part s) bs) = ap (λ (t : Bool). cond (not t) (1 + prefix_len (in_part s) bs) 0) tests.0 ∙ rw one-add refl in
+    let more : prefix_len (in_part s) (b ∷ bs) ≡ suc (prefix_len (in_part s) bs) = ap (λ (t : Bool). cond (not t) (1 + prefix_len (in_part s) bs) 0) tests.0
+    ∙ rw one-add refl in
     let front : take (prefix_len (in_part s) (b ∷ bs)) (b ∷ bs) ≡ b ∷ q = rw more refl in
     let whole : trimmed (b ∷ q) ≡ trimmed_end (b ∷ q) = ap (λ (t : Bool). trimmed_end (drop (cond t (1 + prefix_len is_blank q) 0) (b ∷ q))) tests.1 in
     let split = first_split s (b ∷ bs) in
-    ap tokens_in split.are ∙ ap (λ (p : List ℕ). tokens_in (p ∷ split.others)) front ∙ ap (λ (p : List ℕ). filter has_bytes (p ∷ map trimmed split.others)) whole
+    ap tokens_in split.are ∙ ap (λ (p : List ℕ). tokens_in (p ∷ split.others)) front
+    ∙ ap (λ (p : List ℕ). filter has_bytes (p ∷ map trimmed split.others)) whole
     ∙ ap (λ (t : Bool). cond t (trimmed_end (b ∷ q) ∷ tokens_in split.others) (tokens_in split.others)) (kept b q tests.1)
     ∙ ap₂ (λ (x : List ℕ) (y : List (List ℕ)). x ∷ y) (ap trimmed_end (sym (e ∙ front))) (split.tokens ∙ ap (tokens_of s) (sym f))
 
@@ -137,15 +149,20 @@ one_in_front : {A : Type 0} (front : List A) (x : A) (r : Result (List A) TableF
 one_in_front front x (Ok xs) = ap Ok (append_assoc front (x ∷ []) xs)
 one_in_front front x (Err fault) = refl
 
-pub token_read : {A : Type 0} (read : List ℕ → Result A TableFault) (front : List A) (x : A) (token : List ℕ) (all tokens : List (List ℕ)) → all ≡ token ∷ tokens → read token ≡ Ok x → in_front (front ++ x ∷ []) (each_token read tokens) ≡ in_front front (each_token read all)
+pub token_read : {A : Type 0} (read : List ℕ → Result A TableFault) (front : List A) (x : A) (token : List ℕ) (all tokens : List (List ℕ)) →
+    all ≡ token ∷ tokens → read token ≡ Ok x → in_front (front ++ x ∷ []) (each_token read tokens) ≡ in_front front (each_token read all)
 unfolding each_token
 token_read read front x token all tokens e h =
-    one_in_front front x (each_token read tokens) ∙ sym (ap (λ (ts : List (List ℕ)). in_front front (each_token read ts)) e ∙ ap (λ r. in_front front (with_token r (each_token read tokens))) h)
+    one_in_front front x (each_token read tokens) ∙ sym (ap (λ (ts : List (List ℕ)). in_front front (each_token read ts)) e
+    ∙ ap (λ r. in_front front (with_token r (each_token read tokens))) h)
 
-pub token_fails : {A : Type 0} (read : List ℕ → Result A TableFault) (front : List A) (fault : TableFault) (token : List ℕ) (all tokens : List (List ℕ)) → all ≡ token ∷ tokens → read token ≡ Err fault → in_front front (each_token read all) ≡ Err fault
+pub token_fails : {A : Type 0} (read : List ℕ → Result A TableFault) (front : List A) (fault : TableFault) (token : List ℕ) (all tokens : List (List ℕ)) →
+    all ≡ token ∷ tokens → read token ≡ Err fault → in_front front (each_token read all) ≡ Err fault
 unfolding each_token
-token_fails read front fault token all tokens e h = ap (λ (ts : List (List ℕ)). in_front front (each_token read ts)) e ∙ ap (λ r. in_front front (with_token r (each_token read tokens))) h
+token_fails read front fault token all tokens e h =
+    ap (λ (ts : List (List ℕ)). in_front front (each_token read ts)) e ∙ ap (λ r. in_front front (with_token r (each_token read tokens))) h
 
-pub tokens_end : {A : Type 0} (read : List ℕ → Result A TableFault) (front : List A) (all : List (List ℕ)) → all ≡ [] → in_front front (each_token read all) ≡ Ok front
+pub tokens_end : {A : Type 0} (read : List ℕ → Result A TableFault) (front : List A) (all : List (List ℕ)) → all ≡ [] →
+    in_front front (each_token read all) ≡ Ok front
 unfolding each_token
 tokens_end read front all e = ap (λ (ts : List (List ℕ)). in_front front (each_token read ts)) e ∙ ap Ok (append-nil front)

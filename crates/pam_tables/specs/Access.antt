@@ -9,7 +9,8 @@ use Rattle.pam_tables.specs.Lines.{checked, cut_at, is_among, is_blank_line, lin
 use Rattle.pam_tables.specs.Lists.{list_matches}
 use Rattle.pam_tables.specs.Login.{LoginText, OriginText, origin_of}
 use Rattle.pam_tables.specs.Options.{Options}
-use Rattle.pam_tables.specs.Tokens.{UserPattern, OriginPattern, tokens_of, each_token, user_token, user_mark, user_view, origin_token, origin_mark, origin_token_view}
+use Rattle.pam_tables.specs.Tokens.{UserPattern, OriginPattern, tokens_of, each_token, user_token, user_mark, user_view, origin_token, origin_mark}
+use Rattle.pam_tables.specs.Tokens.{origin_token_view}
 use Rattle.pam_tables.specs.declared.access.AccessAnswer.{AccessAnswer}
 use Rattle.pam_tables.specs.declared.access.AccessAnswer.TheVariants.{Granted, Denied}
 use Rattle.pam_tables.specs.declared.access.AccessLine.{AccessLine}

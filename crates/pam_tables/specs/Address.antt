@@ -1,5 +1,6 @@
 -- Addresses and networks: RFC 4291 section 2.2, access.conf(5).
-use Rattle.std.specs.Prelude.{ℕ, codes, nat_eq, ◌+◌, ◌-◌, ◌*◌, ◌/◌, ◌%◌, ◌==◌, ◌&&◌, Bool, true, false, List, [], ◌∷◌, ◌++◌, length, drop, map, fold, replicate, nat_lt, nat_le, slice_index, if◌then◌else◌, Option, Some, None, option_and_then}
+use Rattle.std.specs.Prelude.{ℕ, codes, nat_eq, ◌+◌, ◌-◌, ◌*◌, ◌/◌, ◌%◌, ◌==◌, ◌&&◌, Bool, true, false, List, [], ◌∷◌, ◌++◌, length, drop, map, fold, replicate}
+use Rattle.std.specs.Prelude.{nat_lt, nat_le, slice_index, if◌then◌else◌, Option, Some, None, option_and_then}
 use Rattle.std.specs.List.{list_all, slice_split, starts_with}
 use Rattle.std.specs.Char.{digit_value, is_digit}
 use Rattle.std.specs.Option.{option_map, option_map_or}

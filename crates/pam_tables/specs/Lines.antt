@@ -1,5 +1,6 @@
 -- The lines of a table, and the parts of a line: access.conf(5), group(5).
-use Rattle.std.specs.Prelude.{ℕ, ◌+◌, ◌-◌, ◌==◌, ◌||◌, Bool, true, false, List, [], ◌∷◌, length, take, drop, position, count_by, nat_lt, nat_eq, if◌then◌else◌, Option, Some, Result, Ok, Err}
+use Rattle.std.specs.Prelude.{ℕ, ◌+◌, ◌-◌, ◌==◌, ◌||◌, Bool, true, false, List, [], ◌∷◌, length, take, drop, position, count_by, nat_lt, nat_eq, if◌then◌else◌}
+use Rattle.std.specs.Prelude.{Option, Some, Result, Ok, Err}
 use Rattle.std.specs.List.{list_any, list_all, slice_split, prefix_len, suffix_len, ends_with}
 use Rattle.std.specs.Option.{option_map, option_map_or}
 use Rattle.pam_tables.specs.declared.error.TableFault.{TableFault}

@@ -1,5 +1,6 @@
 -- Networks of addresses: access.conf(5).
-use Rattle.std.specs.Prelude.{ℕ, zero, suc, ◌-◌, ◌/◌, ◌%◌, ◌^◌, ◌==◌, ◌&&◌, ◌||◌, not, Bool, true, false, List, ◌++◌, codes, replicate, nat_le, if◌then◌else◌, Option, Some, None, Result, Ok, Err}
+use Rattle.std.specs.Prelude.{ℕ, zero, suc, ◌-◌, ◌/◌, ◌%◌, ◌^◌, ◌==◌, ◌&&◌, ◌||◌, not, Bool, true, false, List, ◌++◌, codes, replicate, nat_le, if◌then◌else◌}
+use Rattle.std.specs.Prelude.{Option, Some, None, Result, Ok, Err}
 use Rattle.std.specs.Option.{option_map_or}
 use Rattle.pam_tables.specs.Lines.{is_among, cut_at}
 use Rattle.pam_tables.specs.Address.{number_in, numeral, v4_of, v6_of, address_of}

@@ -1,5 +1,6 @@
 -- Days that are covered twice, and pairs of letters.
-use Rattle.std.proofs.Common.{◌≡◌, ◌∙◌, ◌+◌, ◌<◌, ◌≤◌, ℕ, Bool, true, false, not, List, [], ◌∷◌, length, take, drop, map, cond, Option, Some, None, refl, sym, ap, arith, count_by}
+use Rattle.std.proofs.Common.{◌≡◌, ◌∙◌, ◌+◌, ◌<◌, ◌≤◌, ℕ, Bool, true, false, not, List, [], ◌∷◌, length, take, drop, map, cond, Option, Some, None, refl, sym}
+use Rattle.std.proofs.Common.{ap, arith, count_by}
 use Rattle.std.proofs.lemmas.List.Sums.{sum_by-cons}
 use Rattle.std.specs.Option.{option_map}
 use Rattle.pam_times.specs.Entry.{weekdays, covers, named_days, onto, mentions, is_odd, day_set, differ, toggled}
@@ -44,7 +45,10 @@ one_more x false n = ap (λ b. differ b (is_odd n)) (sym (differ_false x)) ∙ a
 
 flips_counted : (f : ℕ → Bool) (rs : List DayRun) → flips (map f weekdays) rs ≡ map (λ day. differ (f day) (is_odd (count_of rs day))) weekdays
 flips_counted f [] = map_same f _ weekdays (λ day. differ_false (f day))
-flips_counted f (r ∷ rs) = flips_counted (λ day. differ (f day) (covers r day)) rs ∙ map_same _ (λ day. differ (f day) (is_odd (count_of (r ∷ rs) day))) weekdays (λ day. one_more (f day) (covers r day) (count_of rs day) ∙ ap (λ (n : ℕ). differ (f day) (is_odd n)) (sym (sum_by-cons (λ s. cond (covers s day) 1 0) r rs)))
+flips_counted f (r ∷ rs) =
+    flips_counted (λ day. differ (f day) (covers r day)) rs ∙ map_same _ (λ day. differ (f day) (is_odd (count_of (r ∷ rs) day))) weekdays
+    (λ day. one_more (f day) (covers r day) (count_of rs day) ∙ ap (λ (n : ℕ). differ (f day) (is_odd n))
+    (sym (sum_by-cons (λ s. cond (covers s day) 1 0) r rs)))
 
 flips_all : (rs : List DayRun) → flips no_days rs ≡ day_set rs
 flips_all rs = flips_counted (λ day. false) rs ∙ map_same _ _ weekdays (λ day. false_differ (is_odd (count_of rs day)))
@@ -64,7 +68,8 @@ one_letter days [] n h = absurd (n refl)
 one_letter days (a ∷ []) n h = refl
 one_letter days (a ∷ b ∷ rest) n h = absurd (omega arith)
 
-two_letters : (rest name behind : List ℕ) → 2 ≤ length rest → name ≡ take 2 rest → behind ≡ drop 2 rest → mentions rest ≡ onto (named_days name) (mentions behind)
+two_letters : (rest name behind : List ℕ) → 2 ≤ length rest → name ≡ take 2 rest → behind ≡ drop 2 rest →
+    mentions rest ≡ onto (named_days name) (mentions behind)
 two_letters [] name behind h e f = absurd (omega arith)
 two_letters (a ∷ []) name behind h e f = absurd (omega arith)
 two_letters (a ∷ b ∷ rest) name behind h e f = rw (e, f) refl
@@ -73,13 +78,15 @@ next_run : (days : List Bool) (r : DayRun) (o : Option (List DayRun)) → option
 next_run days r None = refl
 next_run days r (Some rs) = refl
 
-pub named : (days more : List Bool) (rest name behind : List ℕ) (r : DayRun) → 2 ≤ length rest → name ≡ take 2 rest → behind ≡ drop 2 rest → Some r ≡ named_days name → more ≡ toggled days r → option_map (flips more) (mentions behind) ≡ option_map (flips days) (mentions rest)
+pub named : (days more : List Bool) (rest name behind : List ℕ) (r : DayRun) → 2 ≤ length rest → name ≡ take 2 rest → behind ≡ drop 2 rest →
+    Some r ≡ named_days name → more ≡ toggled days r → option_map (flips more) (mentions behind) ≡ option_map (flips days) (mentions rest)
 named days more rest name behind r h e f g i =
     sym (ap (λ (o : Option (List DayRun)). option_map (flips days) o) (two_letters rest name behind h e f)
     ∙ ap (λ (o : Option DayRun). option_map (flips days) (onto o (mentions behind))) (sym g) ∙ next_run days r (mentions behind)
     ∙ ap (λ (ds : List Bool). option_map (flips ds) (mentions behind)) (sym i))
 
-pub unnamed : (days : List Bool) (rest name behind : List ℕ) → 2 ≤ length rest → name ≡ take 2 rest → behind ≡ drop 2 rest → None ≡ named_days name → option_map (flips days) (mentions rest) ≡ None
+pub unnamed : (days : List Bool) (rest name behind : List ℕ) → 2 ≤ length rest → name ≡ take 2 rest → behind ≡ drop 2 rest → None ≡ named_days name →
+    option_map (flips days) (mentions rest) ≡ None
 unnamed days rest name behind h e f g =
     ap (λ (o : Option (List DayRun)). option_map (flips days) o) (two_letters rest name behind h e f)
     ∙ ap (λ (o : Option DayRun). option_map (flips days) (onto o (mentions behind))) (sym g)

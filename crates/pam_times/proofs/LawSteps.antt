@@ -22,17 +22,20 @@ abbrev OrNone : Place → List Sign → Option Items → Type 0
 OrNone place signs None = Unit {0}
 OrNone place signs (Some items) = From place signs items
 
-plain : (joint : Joint) (t : List ℕ) (signs : List Sign) (o : Option Items) → OrNone places.Joint signs o → OrNone (places.Item joint) (Token t ∷ signs) (onto_items joint false t o)
+plain : (joint : Joint) (t : List ℕ) (signs : List Sign) (o : Option Items) → OrNone places.Joint signs o →
+    OrNone (places.Item joint) (Token t ∷ signs) (onto_items joint false t o)
 plain joint t signs None h = tt
 plain joint t signs (Some items) h = (refl, ap (λ (ss : List Sign). Token t ∷ ss) h)
 
-turned : (joint : Joint) (t : List ℕ) (signs : List Sign) (o : Option Items) → OrNone places.Joint signs o → OrNone (places.Token joint) (Token t ∷ signs) (onto_items joint true t o)
+turned : (joint : Joint) (t : List ℕ) (signs : List Sign) (o : Option Items) → OrNone places.Joint signs o →
+    OrNone (places.Token joint) (Token t ∷ signs) (onto_items joint true t o)
 turned joint t signs None h = tt
 turned joint t signs (Some items) h = (refl, refl, ap (λ (ss : List Sign). Token t ∷ ss) h)
 
 behind_not_items : (joint : Joint) (signs : List Sign) (items : Items) → From (places.Token joint) signs items → From (places.Item joint) (Not ∷ signs) items
 behind_not_items joint signs [] h = h
-behind_not_items joint signs (item ∷ items) h = (h.0, ap (λ (ss : List Sign). Not ∷ ss) h.2 ∙ ap (λ (b : Bool). written_item b item.2 (written_behind items)) (sym h.1))
+behind_not_items joint signs (item ∷ items) h =
+    (h.0, ap (λ (ss : List Sign). Not ∷ ss) h.2 ∙ ap (λ (b : Bool). written_item b item.2 (written_behind items)) (sym h.1))
 
 behind_not : (joint : Joint) (signs : List Sign) (o : Option Items) → OrNone (places.Token joint) signs o → OrNone (places.Item joint) (Not ∷ signs) o
 behind_not joint signs None h = tt
@@ -40,7 +43,8 @@ behind_not joint signs (Some items) h = behind_not_items joint signs items h
 
 behind_joint_items : (joint : Joint) (signs : List Sign) (items : Items) → From (places.Item joint) signs items → From places.Joint (Join joint ∷ signs) items
 behind_joint_items joint signs [] h = absurd h
-behind_joint_items joint signs (item ∷ items) h = ap (λ (ss : List Sign). Join joint ∷ ss) h.1 ∙ ap (λ (j : Joint). Join j ∷ written_item item.1 item.2 (written_behind items)) (sym h.0)
+behind_joint_items joint signs (item ∷ items) h =
+    ap (λ (ss : List Sign). Join joint ∷ ss) h.1 ∙ ap (λ (j : Joint). Join j ∷ written_item item.1 item.2 (written_behind items)) (sym h.0)
 
 behind_joint : (joint : Joint) (signs : List Sign) (o : Option Items) → OrNone (places.Item joint) signs o → OrNone places.Joint (Join joint ∷ signs) o
 behind_joint joint signs None h = tt
@@ -63,7 +67,8 @@ read_from (places.Token joint) (Join other ∷ signs) = tt
 read_from (places.Token joint) (Token t ∷ signs) = turned joint t signs _ (read_from places.Joint signs)
 
 -- what is written so is read
-read_item : (joint : Joint) (b : Bool) (t : List ℕ) (items : Items) → items_from places.Joint (written_behind items) ≡ Some items → items_from (places.Item joint) (written_item b t (written_behind items)) ≡ Some ((joint, b, t) ∷ items)
+read_item : (joint : Joint) (b : Bool) (t : List ℕ) (items : Items) → items_from places.Joint (written_behind items) ≡ Some items →
+    items_from (places.Item joint) (written_item b t (written_behind items)) ≡ Some ((joint, b, t) ∷ items)
 unfolding items_from
 read_item joint true t items h = ap (onto_items joint true t) h
 read_item joint false t items h = ap (onto_items joint false t) h
@@ -91,7 +96,8 @@ is_written text items e = written_of (signs_of text) _ items (read_from (places.
 read_first : (signs : List Sign) (items : Items) → IsWritten signs items → items_from (places.Item First) signs ≡ Some items
 read_first signs [] h = absurd h
 read_first signs (item ∷ items) h =
-    ap (λ (ss : List Sign). items_from (places.Item First) ss) h.1 ∙ read_item First item.1 item.2 items (read_behind items) ∙ ap (λ (j : Joint). Some ((j, item.1, item.2) ∷ items)) (sym h.0)
+    ap (λ (ss : List Sign). items_from (places.Item First) ss) h.1 ∙ read_item First item.1 item.2 items (read_behind items)
+    ∙ ap (λ (j : Joint). Some ((j, item.1, item.2) ∷ items)) (sym h.0)
 
 pub is_read : (text : List ℕ) (items : Items) → IsWritten (signs_of text) items → items_of text ≡ Ok items
 unfolding items_of

@@ -1,10 +1,12 @@
 -- The value of a list from the left, and the signs of a text one after another.
-use Rattle.std.proofs.Common.{◌≡◌, ◌∙◌, ◌+◌, ◌&&◌, ◌||◌, ◌++◌, ℕ, Bool, true, false, not, List, [], ◌∷◌, length, get_or, take, drop, map, cond, eqb, Option, Some, None, Err, refl, sym, ap, ap₂, arith, one-add, append_assoc, append-nil}
+use Rattle.std.proofs.Common.{◌≡◌, ◌∙◌, ◌+◌, ◌&&◌, ◌||◌, ◌++◌, ℕ, Bool, true, false, not, List, [], ◌∷◌, length, get_or, take, drop, map, cond, eqb, Option}
+use Rattle.std.proofs.Common.{Some, None, Err, refl, sym, ap, ap₂, arith, one-add, append_assoc, append-nil}
 use Rattle.std.proofs.lemmas.Bool.{eqb-true}
 use Rattle.std.specs.List.{list_all, prefix_len}
 use Rattle.pam_codes.specs.Tokens.{is_blank}
 use Rattle.pam_tables.specs.declared.error.TableFault.TheVariants.{BadLogic}
-use Rattle.pam_times.specs.Logic.{ItemOf, may_begin, keeps, is_true_of, item_value, is_true, join, Sign, Not, Join, Token, is_token_byte, begins_token, onto_token, signs_of, onto_item, items_from, items_or_fault}
+use Rattle.pam_times.specs.Logic.{ItemOf, may_begin, keeps, is_true_of, item_value, is_true, join, Sign, Not, Join, Token, is_token_byte, begins_token}
+use Rattle.pam_times.specs.Logic.{onto_token, signs_of, onto_item, items_from, items_or_fault}
 use Rattle.pam_times.specs.declared.logic.Joint.{Joint}
 use Rattle.pam_times.specs.declared.logic.Joint.TheVariants.{First, And, Or}
 use Rattle.pam_times.specs.declared.logic.Place.{Place}
@@ -57,7 +59,8 @@ folded_is_true f items = folded_all (map (item_value f) items)
 
 abbrev sign_step : (b : ℕ) (bs : List ℕ) → List Sign
 sign_step b bs =
-    cond (eqb b 33) (Not ∷ signs_of bs) (cond (eqb b 38) (Join And ∷ signs_of bs) (cond (eqb b 124) (Join Or ∷ signs_of bs) (cond (begins_token bs) (onto_token b (signs_of bs)) (Token (b ∷ []) ∷ signs_of bs))))
+    cond (eqb b 33) (Not ∷ signs_of bs) (cond (eqb b 38) (Join And ∷ signs_of bs)
+    (cond (eqb b 124) (Join Or ∷ signs_of bs) (cond (begins_token bs) (onto_token b (signs_of bs)) (Token (b ∷ []) ∷ signs_of bs))))
 
 signs_blank : (b : ℕ) (bs : List ℕ) → is_blank b ≡ true → signs_of (b ∷ bs) ≡ signs_of bs
 unfolding signs_of
@@ -85,24 +88,33 @@ token_test b h = parts (is_blank b) (eqb b 33) (eqb b 38) (eqb b 124) h
     parts false false true z e = absurd (cc)
     parts false false false true e = absurd (cc)
 
-signs_token_byte : (b : ℕ) (bs : List ℕ) → is_token_byte b ≡ true → signs_of (b ∷ bs) ≡ cond (begins_token bs) (onto_token b (signs_of bs)) (Token (b ∷ []) ∷ signs_of bs)
+signs_token_byte : (b : ℕ) (bs : List ℕ) → is_token_byte b ≡ true →
+    signs_of (b ∷ bs) ≡ cond (begins_token bs) (onto_token b (signs_of bs)) (Token (b ∷ []) ∷ signs_of bs)
 unfolding signs_of
 signs_token_byte b bs h = let t = token_test b h in rw t.0 (rw t.1 (rw t.2 (rw t.3 refl)))
 
-token_step : (b : ℕ) (bs : List ℕ) (n : ℕ) → signs_of bs ≡ Token (take n bs) ∷ signs_of (drop n bs) → onto_token b (signs_of bs) ≡ Token (take (1 + n) (b ∷ bs)) ∷ signs_of (drop (1 + n) (b ∷ bs))
+token_step : (b : ℕ) (bs : List ℕ) (n : ℕ) → signs_of bs ≡ Token (take n bs) ∷ signs_of (drop n bs) →
+    onto_token b (signs_of bs) ≡ Token (take (1 + n) (b ∷ bs)) ∷ signs_of (drop (1 + n) (b ∷ bs))
 token_step b bs n h = ap (onto_token b) h ∙ rw one-add refl
 
-rest_of : (b : ℕ) (bs : List ℕ) → (begins_token bs ≡ true → signs_of bs ≡ Token (take (prefix_len is_token_byte bs) bs) ∷ signs_of (drop (prefix_len is_token_byte bs) bs)) → cond (begins_token bs) (onto_token b (signs_of bs)) (Token (b ∷ []) ∷ signs_of bs) ≡ Token (take (1 + prefix_len is_token_byte bs) (b ∷ bs)) ∷ signs_of (drop (1 + prefix_len is_token_byte bs) (b ∷ bs))
+rest_of : (b : ℕ) (bs : List ℕ) → (begins_token bs ≡ true → signs_of bs
+    ≡ Token (take (prefix_len is_token_byte bs) bs) ∷ signs_of (drop (prefix_len is_token_byte bs) bs)) →
+    cond (begins_token bs) (onto_token b (signs_of bs)) (Token (b ∷ []) ∷ signs_of bs)
+    ≡ Token (take (1 + prefix_len is_token_byte bs) (b ∷ bs)) ∷ signs_of (drop (1 + prefix_len is_token_byte bs) (b ∷ bs))
 rest_of b [] rec = refl
-rest_of b (c ∷ cs) rec = elim (is_token_byte c) as (λ (t : Bool). is_token_byte c ≡ t → cond t (onto_token b (signs_of (c ∷ cs))) (Token (b ∷ []) ∷ signs_of (c ∷ cs)) ≡ Token (take (1 + prefix_len is_token_byte (c ∷ cs)) (b ∷ c ∷ cs)) ∷ signs_of (drop (1 + prefix_len is_token_byte (c ∷ cs)) (b ∷ c ∷ cs))) [
-  | true ↦ λ e. token_step b (c ∷ cs) _ (rec e)
-  | false ↦ λ e.
-      let stop : prefix_len is_token_byte (c ∷ cs) ≡ 0 = ap (λ (t : Bool). cond t (1 + prefix_len is_token_byte cs) 0) e in
-      rw stop refl
-] refl
+rest_of b (c ∷ cs) rec =
+    elim (is_token_byte c) as (λ (t : Bool). is_token_byte c ≡ t →
+    cond t (onto_token b (signs_of (c ∷ cs))) (Token (b ∷ []) ∷ signs_of (c ∷ cs))
+    ≡ Token (take (1 + prefix_len is_token_byte (c ∷ cs)) (b ∷ c ∷ cs)) ∷ signs_of (drop (1 + prefix_len is_token_byte (c ∷ cs)) (b ∷ c ∷ cs))) [
+      | true ↦ λ e. token_step b (c ∷ cs) _ (rec e)
+      | false ↦ λ e.
+          let stop : prefix_len is_token_byte (c ∷ cs) ≡ 0 = ap (λ (t : Bool). cond t (1 + prefix_len is_token_byte cs) 0) e in
+          rw stop refl
+    ] refl
 
 -- a token in front ends at the first byte that no token has
-signs_token : (bs : List ℕ) → begins_token bs ≡ true → signs_of bs ≡ Token (take (prefix_len is_token_byte bs) bs) ∷ signs_of (drop (prefix_len is_token_byte bs) bs)
+signs_token : (bs : List ℕ) → begins_token bs ≡ true → signs_of bs
+    ≡ Token (take (prefix_len is_token_byte bs) bs) ∷ signs_of (drop (prefix_len is_token_byte bs) bs)
 signs_token [] h = absurd (cc)
 signs_token (b ∷ bs) h =
     let here : prefix_len is_token_byte (b ∷ bs) ≡ 1 + prefix_len is_token_byte bs = ap (λ (t : Bool). cond t (1 + prefix_len is_token_byte bs) 0) h in
@@ -133,10 +145,12 @@ differs b k h = elim (eqb b k) as (λ (t : Bool). eqb b k ≡ t → t ≡ false)
 
 no_mark : (b : ℕ) (bs : List ℕ) → prefix_len is_blank (b ∷ bs) ≡ 0 → (b ≡ 33 → ⊥) → (b ≡ 38 → ⊥) → (b ≡ 124 → ⊥) → is_token_byte b ≡ true
 no_mark b bs z h k l =
-    let e : is_blank b ≡ false = elim (is_blank b) as (λ (t : Bool). cond t (1 + prefix_len is_blank bs) 0 ≡ 0 → t ≡ false) [ true ↦ λ f. absurd (omega arith) | false ↦ λ f. refl ] z in
+    let e : is_blank b ≡ false = elim (is_blank b) as (λ (t : Bool). cond t (1 + prefix_len is_blank bs) 0 ≡ 0 → t ≡ false)
+    [ true ↦ λ f. absurd (omega arith) | false ↦ λ f. refl ] z in
     rw e (rw (differs b 33 h) (rw (differs b 38 k) (rw (differs b 124 l) refl)))
 
-pub token_first : (bs a r : List ℕ) → (length bs ≡ 0 → ⊥) → prefix_len is_blank bs ≡ 0 → (get_or bs 0 0 ≡ 33 → ⊥) → (get_or bs 0 0 ≡ 38 → ⊥) → (get_or bs 0 0 ≡ 124 → ⊥) → a ≡ take (prefix_len is_token_byte bs) bs → r ≡ drop (prefix_len is_token_byte bs) bs → signs_of bs ≡ Token a ∷ signs_of r
+pub token_first : (bs a r : List ℕ) → (length bs ≡ 0 → ⊥) → prefix_len is_blank bs ≡ 0 → (get_or bs 0 0 ≡ 33 → ⊥) → (get_or bs 0 0 ≡ 38 → ⊥) →
+    (get_or bs 0 0 ≡ 124 → ⊥) → a ≡ take (prefix_len is_token_byte bs) bs → r ≡ drop (prefix_len is_token_byte bs) bs → signs_of bs ≡ Token a ∷ signs_of r
 token_first [] a r n z h k l p q = absurd (n refl)
 token_first (b ∷ bs) a r n z h k l p q = rw (p, q) (signs_token (b ∷ bs) (no_mark b bs z h k l))
 
@@ -158,21 +172,27 @@ module _ (front : List (ItemOf (List ℕ))) (place next : Place) (sign : Sign) (
   pub stuck : items_from place (sign ∷ rest) ≡ None → items_or_fault (in_front front (items_from place all)) ≡ Err BadLogic
   stuck h = ap (λ ss. items_or_fault (in_front front (items_from place ss))) first ∙ ap (λ o. items_or_fault (in_front front o)) h
 
-one_more : (front : List (ItemOf (List ℕ))) (item : ItemOf (List ℕ)) (o : Option (List (ItemOf (List ℕ)))) → in_front (front ++ item ∷ []) o ≡ in_front front (onto_item item o)
+one_more : (front : List (ItemOf (List ℕ))) (item : ItemOf (List ℕ)) (o : Option (List (ItemOf (List ℕ)))) →
+    in_front (front ++ item ∷ []) o ≡ in_front front (onto_item item o)
 one_more front item None = refl
 one_more front item (Some items) = ap Some (append_assoc front (item ∷ []) items)
 
-pub completed : (front : List (ItemOf (List ℕ))) (place : Place) (item : ItemOf (List ℕ)) (token : List ℕ) (all rest : List Sign) → all ≡ Token token ∷ rest → items_from place (Token token ∷ rest) ≡ onto_item item (items_from places.Joint rest) → in_front (front ++ item ∷ []) (items_from places.Joint rest) ≡ in_front front (items_from place all)
+pub completed : (front : List (ItemOf (List ℕ))) (place : Place) (item : ItemOf (List ℕ)) (token : List ℕ) (all rest : List Sign) → all ≡ Token token ∷ rest →
+    items_from place (Token token ∷ rest) ≡ onto_item item (items_from places.Joint rest) →
+    in_front (front ++ item ∷ []) (items_from places.Joint rest) ≡ in_front front (items_from place all)
 completed front place item token all rest first h = one_more front item _ ∙ sym (ap (λ ss. in_front front (items_from place ss)) first ∙ ap (in_front front) h)
 
-pub ends_whole : (front : List (ItemOf (List ℕ))) (place : Place) (all : List Sign) → all ≡ [] → place ≡ places.Joint → in_front front (items_from place all) ≡ Some front
+pub ends_whole : (front : List (ItemOf (List ℕ))) (place : Place) (all : List Sign) → all ≡ [] → place ≡ places.Joint →
+    in_front front (items_from place all) ≡ Some front
 unfolding items_from
 ends_whole front place all e f = ap₂ (λ p ss. in_front front (items_from p ss)) f e ∙ ap Some (append-nil front)
 
-pub wants_item : (front : List (ItemOf (List ℕ))) (place : Place) (joint : Joint) (all : List Sign) → all ≡ [] → place ≡ places.Item joint → in_front front (items_from place all) ≡ None
+pub wants_item : (front : List (ItemOf (List ℕ))) (place : Place) (joint : Joint) (all : List Sign) → all ≡ [] → place ≡ places.Item joint →
+    in_front front (items_from place all) ≡ None
 unfolding items_from
 wants_item front place joint all e f = ap₂ (λ p ss. in_front front (items_from p ss)) f e
 
-pub wants_token : (front : List (ItemOf (List ℕ))) (place : Place) (joint : Joint) (all : List Sign) → all ≡ [] → place ≡ places.Token joint → in_front front (items_from place all) ≡ None
+pub wants_token : (front : List (ItemOf (List ℕ))) (place : Place) (joint : Joint) (all : List Sign) → all ≡ [] → place ≡ places.Token joint →
+    in_front front (items_from place all) ≡ None
 unfolding items_from
 wants_token front place joint all e f = ap₂ (λ p ss. in_front front (items_from p ss)) f e

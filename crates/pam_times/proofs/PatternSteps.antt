@@ -1,5 +1,6 @@
 -- A name with a wildcard, and the texts that it matches.
-use Rattle.std.proofs.Common.{◌≡◌, ◌∙◌, ◌+◌, ◌-◌, ◌&&◌, ◌++◌, ◌↔◌, ℕ, Bool, true, false, List, length, take, drop, position, nat_eq, Option, Some, None, refl, sym, ap, ap₂}
+use Rattle.std.proofs.Common.{◌≡◌, ◌∙◌, ◌+◌, ◌-◌, ◌&&◌, ◌++◌, ◌↔◌, ℕ, Bool, true, false, List, length, take, drop, position, nat_eq, Option, Some, None, refl}
+use Rattle.std.proofs.Common.{sym, ap, ap₂}
 use Rattle.std.specs.List.{ends_with}
 use Rattle.std.specs.Option.{option_map_or}
 use Rattle.std.specs.Str.{bytes_eq}
@@ -9,10 +10,12 @@ use Rattle.std.proofs.lemmas.Slice.Eq.{bytes_eq-Decides, ends_is}
 use Rattle.std.proofs.Math.Seq.{take-append_seam, drop-append_seam}
 use Rattle.pam_times.specs.Pattern.{is_star, matches, is_framed, Means, MeansAt}
 
-pub framed : (name text front rest back : List ℕ) (i : ℕ) (b : Bool) → Some i ≡ position is_star name → front ≡ take i name → rest ≡ drop i name → back ≡ drop 1 rest → b ≡ is_framed front back text → b ≡ matches name text
+pub framed : (name text front rest back : List ℕ) (i : ℕ) (b : Bool) → Some i ≡ position is_star name → front ≡ take i name → rest ≡ drop i name →
+    back ≡ drop 1 rest → b ≡ is_framed front back text → b ≡ matches name text
 framed name text front rest back i b e f g h k =
     let behind : back ≡ drop (i + 1) name = h ∙ ap (drop 1) g ∙ drop-drop 1 i name in
-    k ∙ ap₂ (λ x y. is_framed x y text) f behind ∙ ap (λ (o : Option ℕ). option_map_or (λ j. is_framed (take j name) (drop (j + 1) name) text) o (bytes_eq name text)) e
+    k ∙ ap₂ (λ x y. is_framed x y text) f behind ∙ ap (λ (o : Option ℕ).
+    option_map_or (λ j. is_framed (take j name) (drop (j + 1) name) text) o (bytes_eq name text)) e
 
 both : (a b : Bool) → (a && b) ≡ true → (a ≡ true) × (b ≡ true)
 both true b h = (refl, h)
@@ -36,10 +39,12 @@ framed_if front back text filling h =
 
 -- the definition means what it says
 pub matches_means : (name text : List ℕ) → (matches name text ≡ true) ↔ Means name text
-matches_means name text = elim (position is_star name) as (λ (o : Option ℕ). (option_map_or (λ i. is_framed (take i name) (drop (i + 1) name) text) o (bytes_eq name text) ≡ true) ↔ MeansAt o name text) [
-  | None ↦ ((bytes_eq-Decides name text).0, (bytes_eq-Decides name text).1)
-  | Some i ↦ (filled (take i name) (drop (i + 1) name) text, λ m. framed_if (take i name) (drop (i + 1) name) text m.0 m.1)
-]
+matches_means name text =
+    elim (position is_star name) as (λ (o : Option ℕ). (option_map_or (λ i. is_framed (take i name) (drop (i + 1) name) text) o (bytes_eq name text) ≡ true)
+    ↔ MeansAt o name text) [
+      | None ↦ ((bytes_eq-Decides name text).0, (bytes_eq-Decides name text).1)
+      | Some i ↦ (filled (take i name) (drop (i + 1) name) text, λ m. framed_if (take i name) (drop (i + 1) name) text m.0 m.1)
+    ]
 
 pub tested : (name text : List ℕ) (b : Bool) → b ≡ matches name text → (b ≡ true) ↔ Means name text
 tested name text b e = let m = matches_means name text in (λ t. m.0 (sym e ∙ t), λ w. e ∙ m.1 w)

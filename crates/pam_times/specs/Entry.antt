@@ -1,5 +1,6 @@
 -- time.conf(5): an entry of times is one or more days of the week and a range of the hours of a day.
-use Rattle.std.specs.Prelude.{ℕ, ◌+◌, ◌-◌, ◌*◌, ◌%◌, ◌==◌, ◌&&◌, ◌||◌, Bool, true, false, not, List, [], ◌∷◌, length, take, map, codes, count_by, nat_lt, nat_le, slice_index, slice_index_or, if◌then◌else◌, Option, Some, None, ℤ, pos, ◌+ℤ◌, unsigned_abs}
+use Rattle.std.specs.Prelude.{ℕ, ◌+◌, ◌-◌, ◌*◌, ◌%◌, ◌==◌, ◌&&◌, ◌||◌, Bool, true, false, not, List, [], ◌∷◌, length, take, map, codes, count_by, nat_lt}
+use Rattle.std.specs.Prelude.{nat_le, slice_index, slice_index_or, if◌then◌else◌, Option, Some, None, ℤ, pos, ◌+ℤ◌, unsigned_abs}
 use Rattle.std.proofs.Math.Bool.{beq}
 use Rattle.std.specs.Int.{int_rem_euclid}
 use Rattle.std.specs.Option.{option_map}

@@ -118,5 +118,6 @@ onto_item item items = onto_items item.0 item.1 item.2 items
 
 -- the item that a token completes stands before those to come, behind which a joint must follow
 abbrev pub Completes : {A : Type 0} → (A → List ℕ) → Place → List ℕ → Result (Item A) TableFault → Type 0
-Completes view place token (Ok item) = (rest : List Sign) → items_from place (Token token ∷ rest) ≡ onto_item (item_view view item) (items_from places.Joint rest)
+Completes view place token (Ok item) =
+    (rest : List Sign) → items_from place (Token token ∷ rest) ≡ onto_item (item_view view item) (items_from places.Joint rest)
 Completes view place token (Err fault) = (fault ≡ BadLogic) × ((rest : List Sign) → items_from place (Token token ∷ rest) ≡ None)

@@ -96,12 +96,14 @@ full_fields (Some f) = if has_empty f then None else Some f
 unfoldable pub fields_of : List ℕ → Option FieldTexts
 fields_of line = full_fields (cut_fields line)
 
-abbrev pub rule_from : ℕ → Result NameList TableFault → Result NameList TableFault → Result NameList TableFault → Result TimeList TableFault → Result (Option Rule) TableFault
+abbrev pub rule_from : ℕ → Result NameList TableFault → Result NameList TableFault → Result NameList TableFault → Result TimeList TableFault →
+    Result (Option Rule) TableFault
 rule_from line (Err fault) terminals users times = Err fault
 rule_from line (Ok services) (Err fault) users times = Err fault
 rule_from line (Ok services) (Ok terminals) (Err fault) times = Err fault
 rule_from line (Ok services) (Ok terminals) (Ok users) (Err fault) = Err fault
-rule_from line (Ok services) (Ok terminals) (Ok users) (Ok times) = Ok (Some (record { line = line; services = services; terminals = terminals; users = users; times = times }))
+rule_from line (Ok services) (Ok terminals) (Ok users) (Ok times) =
+    Ok (Some (record { line = line; services = services; terminals = terminals; users = users; times = times }))
 
 abbrev pub rule_of_fields : ℕ → Option FieldTexts → Result (Option Rule) TableFault
 rule_of_fields line None = Err MissingField

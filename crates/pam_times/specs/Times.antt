@@ -1,4 +1,5 @@
--- time.conf(5): a rule has services, terminals, users and times; pam_time(8) denies a login by the first rule whose first three fields hold and whose times do not.
+-- time.conf(5): a rule has services, terminals, users and times; pam_time(8) denies a login by the first rule
+-- whose first three fields hold and whose times do not.
 use Rattle.std.specs.Prelude.{ℕ, ◌+◌, ◌*◌, ◌&&◌, Bool, not, List, [], ◌∷◌, map, if◌then◌else◌}
 use Rattle.jiff.specs.Types.{DateTime}
 use Rattle.jiff.specs.Words.{epoch_day}

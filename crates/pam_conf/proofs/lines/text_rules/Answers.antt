@@ -12,19 +12,30 @@ loop-text-init c = rw (c.new-rules.ensures.items, c.of-text.ensures.line, c.of-t
 pub returns-in_err-rule : goal.returns-in_err-rule
 returns-in_err-rule c =
     let p = err_from_is_err_and c.from_residual.result c.from_residual.ensures.1 in
-    rw (p.1, p.2) (fails_on _ _ _ _ (λ h. sym (sifted_wanted _ _) ∙ sym c.loop-text.invariant ∙ step_fault _ _ _ (text_of c.loop-text.text.line c.loop-text.text.rest.now) _ h) c.in_err-rule.ensures.rule)
+    rw (p.1, p.2) (fails_on _ _ _ _ (λ h. sym (sifted_wanted _ _) ∙ sym c.loop-text.invariant
+    ∙ step_fault _ _ _ (text_of c.loop-text.text.line c.loop-text.text.rest.now) _ h) c.in_err-rule.ensures.rule)
 
 pub loop-text-smaller-in-Continue-branch-3 : goal.loop-text-smaller-in-Continue-branch-3
-loop-text-smaller-in-Continue-branch-3 c = rw c.in_ok-rule.ensures.rest (shorter (text_of c.loop-text.text.line c.loop-text.text.rest.now) (λ e. false≢true (sym c.loop-text-test.true ∙ c.is_done.ensures.1 e)))
+loop-text-smaller-in-Continue-branch-3 c =
+    rw c.in_ok-rule.ensures.rest (shorter (text_of c.loop-text.text.line c.loop-text.text.rest.now)
+    (λ e. false≢true (sym c.loop-text-test.true ∙ c.is_done.ensures.1 e)))
 
 pub loop-text-preserved-in-Continue-branch-3 : goal.loop-text-preserved-in-Continue-branch-3
-loop-text-preserved-in-Continue-branch-3 c = rw c.in_ok-keep.ensures (step_rule _ _ _ (text_of c.loop-text.text.line c.loop-text.text.rest.now) _ _ (rw c.in-Some.is at c.in_ok-rule.ensures.rule) c.in_ok-rule.ensures.rest ∙ c.loop-text.invariant)
+loop-text-preserved-in-Continue-branch-3 c =
+    rw c.in_ok-keep.ensures (step_rule _ _ _ (text_of c.loop-text.text.line c.loop-text.text.rest.now) _ _ (rw c.in-Some.is at c.in_ok-rule.ensures.rule)
+    c.in_ok-rule.ensures.rest ∙ c.loop-text.invariant)
 
 pub loop-text-smaller : goal.loop-text-smaller
-loop-text-smaller c = rw c.in_ok-rule.ensures.rest (shorter (text_of c.loop-text.text.line c.loop-text.text.rest.now) (λ e. false≢true (sym c.loop-text-test.true ∙ c.is_done.ensures.1 e)))
+loop-text-smaller c =
+    rw c.in_ok-rule.ensures.rest (shorter (text_of c.loop-text.text.line c.loop-text.text.rest.now)
+    (λ e. false≢true (sym c.loop-text-test.true ∙ c.is_done.ensures.1 e)))
 
 pub loop-text-preserved : goal.loop-text-preserved
-loop-text-preserved c = step_nothing _ _ _ (text_of c.loop-text.text.line c.loop-text.text.rest.now) _ (rw c.in_default.is at c.in_ok-rule.ensures.rule) c.in_ok-rule.ensures.rest ∙ c.loop-text.invariant
+loop-text-preserved c =
+    step_nothing _ _ _ (text_of c.loop-text.text.line c.loop-text.text.rest.now) _ (rw c.in_default.is at c.in_ok-rule.ensures.rule) c.in_ok-rule.ensures.rest
+    ∙ c.loop-text.invariant
 
 pub returns : goal.returns
-returns c = sym (sifted_wanted _ _) ∙ sym c.loop-text.invariant ∙ all_read _ _ _ (text_of c.loop-text.text.line c.loop-text.text.rest.now) (c.is_done.ensures.0 c.loop-text-test.false)
+returns c =
+    sym (sifted_wanted _ _) ∙ sym c.loop-text.invariant ∙ all_read _ _ _ (text_of c.loop-text.text.line c.loop-text.text.rest.now)
+    (c.is_done.ensures.0 c.loop-text-test.false)

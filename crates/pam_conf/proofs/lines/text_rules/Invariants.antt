@@ -6,7 +6,9 @@ use Rattle.pam_conf.proofs.LineSteps.{with_rules, sifted}
 use Rattle.pam_conf.proofs.lines.text_rules.Given as goal
 
 abbrev pub invariant-loop-text : goal.invariant-loop-text
-invariant-loop-text l = with_rules (map rule_view l.rules.items) (sifted l.wanted (rules_in l.form (lines_of (text_of l.text.line l.text.rest.now)))) ≡ sifted l.wanted (rules_in l.form (lines_of (text_of 1 l.bytes)))
+invariant-loop-text l =
+    with_rules (map rule_view l.rules.items) (sifted l.wanted (rules_in l.form (lines_of (text_of l.text.line l.text.rest.now))))
+    ≡ sifted l.wanted (rules_in l.form (lines_of (text_of 1 l.bytes)))
 
 abbrev pub decreases-loop-text : goal.decreases-loop-text
 decreases-loop-text l = length (text_of l.text.line l.text.rest.now)

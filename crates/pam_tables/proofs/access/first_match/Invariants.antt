@@ -5,4 +5,5 @@ use Rattle.pam_tables.proofs.access.first_match.Given as goal
 
 abbrev pub invariant-loop-line : goal.invariant-loop-line
 invariant-loop-line l =
-    first_answer l.groups l.by_name l.user (origin_view l.origin) (map line_view (drop l.line-index l.lines)) ≡ first_answer l.groups l.by_name l.user (origin_view l.origin) (map line_view l.lines)
+    first_answer l.groups l.by_name l.user (origin_view l.origin) (map line_view (drop l.line-index l.lines))
+    ≡ first_answer l.groups l.by_name l.user (origin_view l.origin) (map line_view l.lines)

@@ -10,7 +10,8 @@ pub returns-in-Ok : goal.returns-in-Ok
 returns-in-Ok c = line_read _ _ _ _ (sym c.is_passed_over.ensures ∙ c.if-is_passed_over.false) _ _ _ _ c.in-Some.ensures c.in-Ok.ensures
 
 pub returns-in-Err : goal.returns-in-Err
-returns-in-Err c = fails_part _ _ _ (λ h. line_bad _ _ _ _ (sym c.is_passed_over.ensures ∙ c.if-is_passed_over.false) _ _ _ _ c.in-Some.ensures h) c.in-Err.ensures
+returns-in-Err c =
+    fails_part _ _ _ (λ h. line_bad _ _ _ _ (sym c.is_passed_over.ensures ∙ c.if-is_passed_over.false) _ _ _ _ c.in-Some.ensures h) c.in-Err.ensures
 
 pub returns-in-None : goal.returns-in-None
 returns-in-None c = few_fields _ _ _ _ (sym c.is_passed_over.ensures ∙ c.if-is_passed_over.false) c.in-None.ensures

@@ -8,7 +8,9 @@ pub loop-number-preserved-in-Ok-None : goal.loop-number-preserved-in-Ok-None
 loop-number-preserved-in-Ok-None c = record {
   can = tt;
   finite = tt;
-  same = line_skipped (access_line c.args.field_separators.now c.args.list_separators.now) _ _ _ _ _ c.in-Some.ensures.steps (rw c.in-Ok-None.field-0-is at c.in-Ok-None.ensures) ∙ c.loop-number.invariant.same;
+  same =
+      line_skipped (access_line c.args.field_separators.now c.args.list_separators.now) _ _ _ _ _ c.in-Some.ensures.steps
+      (rw c.in-Ok-None.field-0-is at c.in-Ok-None.ensures) ∙ c.loop-number.invariant.same;
 }
 
 pub loop-number-preserved : goal.loop-number-preserved
@@ -18,7 +20,9 @@ loop-number-preserved c =
     record {
       can = tt;
       finite = tt;
-      same = rw (items, map-append) (line_kept (access_line c.args.field_separators.now c.args.list_separators.now) _ _ _ _ _ c.in-Some.ensures.steps _ (rw c.in-Ok-Some.field-0-is at c.in-Ok-Some.ensures) ∙ c.loop-number.invariant.same);
+      same =
+          rw (items, map-append) (line_kept (access_line c.args.field_separators.now c.args.list_separators.now) _ _ _ _ _ c.in-Some.ensures.steps _
+          (rw c.in-Ok-Some.field-0-is at c.in-Ok-Some.ensures) ∙ c.loop-number.invariant.same);
     }
 
 pub returns-in-Err : goal.returns-in-Err
@@ -31,4 +35,6 @@ returns-in-Err c =
     )
 
 pub returns : goal.returns
-returns c = checked_passes c.args.bytes.now _ _ c.in_ok-check_bytes.ensures.fault ∙ sym c.loop-number.invariant.same ∙ lines_done (access_line c.args.field_separators.now c.args.list_separators.now) _ _ c.in-None.ensures.steps.0
+returns c =
+    checked_passes c.args.bytes.now _ _ c.in_ok-check_bytes.ensures.fault ∙ sym c.loop-number.invariant.same
+    ∙ lines_done (access_line c.args.field_separators.now c.args.list_separators.now) _ _ c.in-None.ensures.steps.0

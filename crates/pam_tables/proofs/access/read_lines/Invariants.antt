@@ -9,6 +9,7 @@ abbrev pub invariant-loop-number : goal.invariant-loop-number
 invariant-loop-number l = record {
   can : (goal.iterator-loop-number).can_next l.number-iterator;
   finite : (goal.iterator-loop-number).is_finite l.number-iterator;
-  same : in_front (map line_view l.lines.items) (read_lines (access_line l.field_separators l.list_separators) (lines_left l.number-iterator.is_done l.number-iterator.number l.number-iterator.rest.now))
+  same : in_front (map line_view l.lines.items) (read_lines (access_line l.field_separators l.list_separators)
+      (lines_left l.number-iterator.is_done l.number-iterator.number l.number-iterator.rest.now))
       ≡ read_lines (access_line l.field_separators l.list_separators) (lines_from 1 l.bytes);
 }

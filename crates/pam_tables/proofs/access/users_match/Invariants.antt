@@ -6,4 +6,5 @@ use Rattle.pam_tables.proofs.access.users_match.Given as goal
 
 abbrev pub invariant-loop-token : goal.invariant-loop-token
 invariant-loop-token l =
-    matches_behind l.parts (map (user_mark l.groups l.by_name l.user) (map user_view (drop l.token-index l.users))) ≡ users_match l.groups l.by_name l.user (map user_view l.users)
+    matches_behind l.parts (map (user_mark l.groups l.by_name l.user) (map user_view (drop l.token-index l.users)))
+    ≡ users_match l.groups l.by_name l.user (map user_view l.users)

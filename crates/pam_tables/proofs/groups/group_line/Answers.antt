@@ -10,13 +10,20 @@ pub returns-in_err-rest : goal.returns-in_err-rest
 returns-in_err-rest c = rw c.from_residual-in_err-rest.ensures (one_colon c.args.line.now _ _ c.in_ok-name.ensures.value c.in_err-rest.ensures.value)
 
 pub returns-in_err-members : goal.returns-in_err-members
-returns-in_err-members c = rw c.from_residual-in_err-members.ensures (two_colons c.args.line.now _ _ _ _ c.in_ok-name.ensures.value c.in_ok-rest.ensures.value c.in_err-members.ensures.value)
+returns-in_err-members c =
+    rw c.from_residual-in_err-members.ensures (two_colons c.args.line.now _ _ _ _ c.in_ok-name.ensures.value c.in_ok-rest.ensures.value
+    c.in_err-members.ensures.value)
 
 pub returns-then-is_empty : goal.returns-then-is_empty
-returns-then-is_empty c = empty_name c.args.line.now _ _ _ _ _ _ c.in_ok-name.ensures.value c.in_ok-rest.ensures.value c.in_ok-members.ensures.value (eqb-true _ _ (sym c.is_empty.ensures ∙ c.if-is_empty.true))
+returns-then-is_empty c =
+    empty_name c.args.line.now _ _ _ _ _ _ c.in_ok-name.ensures.value c.in_ok-rest.ensures.value c.in_ok-members.ensures.value
+    (eqb-true _ _ (sym c.is_empty.ensures ∙ c.if-is_empty.true))
 
 pub returns-in-Some : goal.returns-in-Some
-returns-in-Some c = four_colons c.args.line.now _ _ _ _ _ _ _ _ c.in_ok-name.ensures.value c.in_ok-rest.ensures.value c.in_ok-members.ensures.value c.in-Some.ensures.value
+returns-in-Some c =
+    four_colons c.args.line.now _ _ _ _ _ _ _ _ c.in_ok-name.ensures.value c.in_ok-rest.ensures.value c.in_ok-members.ensures.value c.in-Some.ensures.value
 
 pub returns-in-None : goal.returns-in-None
-returns-in-None c = four_fields c.args.line.now _ _ _ _ _ _ c.in_ok-name.ensures.value c.in_ok-rest.ensures.value c.in_ok-members.ensures.value c.in-None.ensures.value (eqb-false _ _ (sym c.is_empty.ensures ∙ c.if-is_empty.false))
+returns-in-None c =
+    four_fields c.args.line.now _ _ _ _ _ _ c.in_ok-name.ensures.value c.in_ok-rest.ensures.value c.in_ok-members.ensures.value c.in-None.ensures.value
+    (eqb-false _ _ (sym c.is_empty.ensures ∙ c.if-is_empty.false))

@@ -12,7 +12,8 @@ returns-then-eq c =
     ∙ sym (members_has c.args.user.now c.args.members.now (eqb-false _ _ (sym c.is_empty.ensures ∙ c.if-is_empty.false)))
 
 pub loop-member-preserved : goal.loop-member-preserved
-loop-member-preserved c = part_missed c.args.user.now c.loop-member.rest.now _ _ c.in-Some.ensures.value (sym c.eq.ensures ∙ c.if-eq.false) ∙ c.loop-member.invariant
+loop-member-preserved c =
+    part_missed c.args.user.now c.loop-member.rest.now _ _ c.in-Some.ensures.value (sym c.eq.ensures ∙ c.if-eq.false) ∙ c.loop-member.invariant
 
 pub returns : goal.returns
 returns c =

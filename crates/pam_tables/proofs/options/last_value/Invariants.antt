@@ -5,4 +5,5 @@ use Rattle.pam_tables.proofs.options.last_value.Given as goal
 
 abbrev pub invariant-loop-argument : goal.invariant-loop-argument
 invariant-loop-argument l =
-    or_else (last_value l.key (map (λ a. a.items) (drop l.argument-index l.arguments))) (option_map (λ v. v.now) l.last) ≡ last_value l.key (map (λ a. a.items) l.arguments)
+    or_else (last_value l.key (map (λ a. a.items) (drop l.argument-index l.arguments))) (option_map (λ v. v.now) l.last)
+    ≡ last_value l.key (map (λ a. a.items) l.arguments)

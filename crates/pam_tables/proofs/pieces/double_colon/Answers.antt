@@ -8,11 +8,13 @@ loop-place-init c = behind_start c.args.text.now (double_colon c.args.text.now)
 
 pub returns-then-starts_with : goal.returns-then-starts_with
 returns-then-starts_with c =
-    colon_found c.loop-place.place c.args.text.now _ _ _ c.loop-place-test.true c.split_at.ensures.front c.split_at.ensures.back (sym c.starts_with.ensures.value ∙ c.if-starts_with.true) c.split_at-then-starts_with.ensures.back ∙ c.loop-place.invariant
+    colon_found c.loop-place.place c.args.text.now _ _ _ c.loop-place-test.true c.split_at.ensures.front c.split_at.ensures.back
+    (sym c.starts_with.ensures.value ∙ c.if-starts_with.true) c.split_at-then-starts_with.ensures.back ∙ c.loop-place.invariant
 
 pub loop-place-preserved : goal.loop-place-preserved
 loop-place-preserved c =
-    colon_miss c.loop-place.place c.args.text.now c.loop-place-test.true (rw c.split_at.ensures.back at (sym c.starts_with.ensures.value ∙ c.if-starts_with.false)) ∙ c.loop-place.invariant
+    colon_miss c.loop-place.place c.args.text.now c.loop-place-test.true
+    (rw c.split_at.ensures.back at (sym c.starts_with.ensures.value ∙ c.if-starts_with.false)) ∙ c.loop-place.invariant
 
 pub returns : goal.returns
 returns c = colon_end c.loop-place.place c.args.text.now c.loop-place-test.false ∙ c.loop-place.invariant

@@ -6,7 +6,13 @@ use Rattle.pam_tables.proofs.TokenSteps.{token_read, token_fails, tokens_end}
 use Rattle.pam_tables.proofs.tokens.read_tokens.Goals as goal
 
 pub loop-token-init : goal.loop-token-init
-loop-token-init g c = record { can = tt; finite = tt; same = rw (c.into_iter-token-iterator.ensures.into_iter_gives, c.of-token-items.ensures, c.in_ok-tokens.ensures.items) (nothing_in_front _) }
+loop-token-init g c =
+    record {
+      can = tt;
+      finite = tt;
+      same = rw (c.into_iter-token-iterator.ensures.into_iter_gives, c.of-token-items.ensures, c.in_ok-tokens.ensures.items)
+          (nothing_in_front _);
+    }
 
 pub returns-in_err-read : goal.returns-in_err-read
 returns-in_err-read g c =
@@ -17,7 +23,9 @@ pub loop-token-preserved : goal.loop-token-preserved
 loop-token-preserved g c = record {
   can = tt;
   finite = tt;
-  same = rw (c.in_ok-push.ensures.items, map-append) (token_read g.T.Token.meant _ _ _ _ _ c.in-Some.ensures.steps c.in_ok-read.ensures ∙ c.loop-token.invariant.same);
+  same =
+      rw (c.in_ok-push.ensures.items, map-append) (token_read g.T.Token.meant _ _ _ _ _ c.in-Some.ensures.steps c.in_ok-read.ensures
+      ∙ c.loop-token.invariant.same);
 }
 
 pub returns : goal.returns

@@ -10,13 +10,15 @@ loop-rest-init c = from_none _
 pub returns-in_err-name : goal.returns-in_err-name
 unfolding days_of
 returns-in_err-name c =
-    c.from_residual.ensures ∙ sym (one_letter c.loop-rest.days c.loop-rest.rest.now (eqb-false _ _ (sym c.is_empty.ensures ∙ c.loop-rest-test.true)) c.in_err-name.ensures.cases) ∙ c.loop-rest.invariant
+    c.from_residual.ensures ∙ sym (one_letter c.loop-rest.days c.loop-rest.rest.now (eqb-false _ _ (sym c.is_empty.ensures ∙ c.loop-rest-test.true))
+    c.in_err-name.ensures.cases) ∙ c.loop-rest.invariant
 
 pub returns-in_err-named_days : goal.returns-in_err-named_days
 unfolding days_of
 returns-in_err-named_days c =
     let cut = c.in_ok-name.ensures.cases in
-    c.from_residual-in_err-named_days.ensures ∙ sym (unnamed c.loop-rest.days c.loop-rest.rest.now _ _ cut.0 cut.1 cut.2 c.in_err-named_days.ensures) ∙ c.loop-rest.invariant
+    c.from_residual-in_err-named_days.ensures ∙ sym (unnamed c.loop-rest.days c.loop-rest.rest.now _ _ cut.0 cut.1 cut.2 c.in_err-named_days.ensures)
+    ∙ c.loop-rest.invariant
 
 pub loop-rest-preserved : goal.loop-rest-preserved
 loop-rest-preserved c =

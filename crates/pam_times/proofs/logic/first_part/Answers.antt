@@ -7,17 +7,25 @@ pub returns-then-is_empty : goal.returns-then-is_empty
 returns-then-is_empty c = c.skip_blanks-rest.ensures.signs ∙ no_sign _ (eqb-true _ _ (sym c.is_empty.ensures ∙ c.if-is_empty.true))
 
 pub returns-then-rest-eq33 : goal.returns-then-rest-eq33
-returns-then-rest-eq33 c = c.skip_blanks-rest.ensures.signs ∙ not_first c.skip_blanks-rest.result.now _ (eqb-false _ _ (sym c.is_empty.ensures ∙ c.if-is_empty.false)) c.if-rest-eq33.true c.split_at.ensures.back
+returns-then-rest-eq33 c =
+    c.skip_blanks-rest.ensures.signs ∙ not_first c.skip_blanks-rest.result.now _ (eqb-false _ _ (sym c.is_empty.ensures ∙ c.if-is_empty.false))
+    c.if-rest-eq33.true c.split_at.ensures.back
 
 pub returns-then-rest-eq38 : goal.returns-then-rest-eq38
-returns-then-rest-eq38 c = c.skip_blanks-rest.ensures.signs ∙ both_first c.skip_blanks-rest.result.now _ (eqb-false _ _ (sym c.is_empty.ensures ∙ c.if-is_empty.false)) c.if-rest-eq38.true c.split_at-then-rest-eq38.ensures.back
+returns-then-rest-eq38 c =
+    c.skip_blanks-rest.ensures.signs ∙ both_first c.skip_blanks-rest.result.now _ (eqb-false _ _ (sym c.is_empty.ensures ∙ c.if-is_empty.false))
+    c.if-rest-eq38.true c.split_at-then-rest-eq38.ensures.back
 
 pub returns-then-rest-eq124 : goal.returns-then-rest-eq124
-returns-then-rest-eq124 c = c.skip_blanks-rest.ensures.signs ∙ either_first c.skip_blanks-rest.result.now _ (eqb-false _ _ (sym c.is_empty.ensures ∙ c.if-is_empty.false)) c.if-rest-eq124.true c.split_at-then-rest-eq124.ensures.back
+returns-then-rest-eq124 c =
+    c.skip_blanks-rest.ensures.signs ∙ either_first c.skip_blanks-rest.result.now _ (eqb-false _ _ (sym c.is_empty.ensures ∙ c.if-is_empty.false))
+    c.if-rest-eq124.true c.split_at-then-rest-eq124.ensures.back
 
 pub returns : goal.returns
 returns c =
     let rest = c.skip_blanks-rest.result.now in
     c.skip_blanks-rest.ensures.signs
-    ∙ token_first rest _ _ (eqb-false _ _ (sym c.is_empty.ensures ∙ c.if-is_empty.false)) c.skip_blanks-rest.ensures.first c.if-rest-eq33.false c.if-rest-eq38.false c.if-rest-eq124.false
-    (c.split_at-2.ensures.front ∙ ap (λ (n : ℕ). take n rest) c.token_len.ensures.value) (c.split_at-2.ensures.back ∙ ap (λ (n : ℕ). drop n rest) c.token_len.ensures.value)
+    ∙ token_first rest _ _ (eqb-false _ _ (sym c.is_empty.ensures ∙ c.if-is_empty.false)) c.skip_blanks-rest.ensures.first c.if-rest-eq33.false
+    c.if-rest-eq38.false c.if-rest-eq124.false
+    (c.split_at-2.ensures.front ∙ ap (λ (n : ℕ). take n rest) c.token_len.ensures.value)
+    (c.split_at-2.ensures.back ∙ ap (λ (n : ℕ). drop n rest) c.token_len.ensures.value)

@@ -9,5 +9,6 @@ abbrev pub invariant-loop-part : goal.invariant-loop-part
 invariant-loop-part l = record {
   can : (goal.iterator-loop-part).can_next l.part-iterator;
   finite : (goal.iterator-loop-part).is_finite l.part-iterator;
-  same : in_front (map (item_view (λ t. t.now)) l.items.items) (items_from l.place (signs_of l.part-iterator.rest.now)) ≡ items_from (places.Item First) (signs_of l.text);
+  same : in_front (map (item_view (λ t. t.now)) l.items.items) (items_from l.place (signs_of l.part-iterator.rest.now))
+      ≡ items_from (places.Item First) (signs_of l.text);
 }

@@ -5,4 +5,5 @@ use Rattle.pam_times.proofs.times.weekday.Goals as goal
 
 pub returns-clause-value : goal.returns-clause-value
 returns-clause-value c =
-    unsigned_weekday c.to_monday_zero_offset.result (monday_zero c.weekday.result) _ c.to_monday_zero_offset.ensures.bound c.to_monday_zero_offset.ensures.value (c.weekday.ensures ∙ same_weekday (epoch_day c.args.moment.now.date))
+    unsigned_weekday c.to_monday_zero_offset.result (monday_zero c.weekday.result) _ c.to_monday_zero_offset.ensures.bound c.to_monday_zero_offset.ensures.value
+    (c.weekday.ensures ∙ same_weekday (epoch_day c.args.moment.now.date))

@@ -22,6 +22,8 @@ decreases-walk_file l = 4 * (MAX_OPEN_FILES - length l.trail.now) + 3
 abbrev pub invariant-walk_rules-loop-rule : goal.invariant-walk_rules-loop-rule
 invariant-walk_rules-loop-rule l = record {
   table : IsTable l.self.files.now l.self.kind l.progress.table.items;
-  leads : Leads l.fn.progress.modules l.fn.progress.follows (items_of l.fn.items.items) (walk_of l.self.files.now l.self.kind (option_map (λ s. s.now) l.self.service) l.trail l.file l.rules)
-      l.progress.modules l.progress.follows (items_of l.items.items) (walk_of l.self.files.now l.self.kind (option_map (λ s. s.now) l.self.service) l.trail l.file (drop l.rule-index l.rules));
+  leads : Leads l.fn.progress.modules l.fn.progress.follows (items_of l.fn.items.items)
+      (walk_of l.self.files.now l.self.kind (option_map (λ s. s.now) l.self.service) l.trail l.file l.rules)
+      l.progress.modules l.progress.follows (items_of l.items.items)
+      (walk_of l.self.files.now l.self.kind (option_map (λ s. s.now) l.self.service) l.trail l.file (drop l.rule-index l.rules));
 }

@@ -10,8 +10,12 @@ returns-then-is_blank_byte c = λ rest. rw c.requires (ap or_open (blank_between
 
 pub returns-then-byte-eq91 : goal.returns-then-byte-eq91
 unfolding words_from
-returns-then-byte-eq91 c = λ rest. rw c.requires (ap or_open (opened _ _ _ rest (sym c.is_blank_byte.ensures ∙ c.if-is_blank_byte.false) c.if-byte-eq91.true (rw c.clear.ensures.items at c.in_ok-push.ensures.items)))
+returns-then-byte-eq91 c =
+    λ rest. rw c.requires (ap or_open (opened _ _ _ rest (sym c.is_blank_byte.ensures ∙ c.if-is_blank_byte.false) c.if-byte-eq91.true
+    (rw c.clear.ensures.items at c.in_ok-push.ensures.items)))
 
 pub returns : goal.returns
 unfolding words_from
-returns c = λ rest. rw c.requires (ap or_open (begun _ _ _ rest (sym c.is_blank_byte.ensures ∙ c.if-is_blank_byte.false) c.if-byte-eq91.false (rw c.clear.ensures.items at c.in_ok-push.ensures.items)))
+returns c =
+    λ rest. rw c.requires (ap or_open (begun _ _ _ rest (sym c.is_blank_byte.ensures ∙ c.if-is_blank_byte.false) c.if-byte-eq91.false
+    (rw c.clear.ensures.items at c.in_ok-push.ensures.items)))

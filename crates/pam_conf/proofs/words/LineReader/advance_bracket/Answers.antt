@@ -7,7 +7,9 @@ use Rattle.pam_conf.proofs.words.LineReader.advance_bracket.Goals.{else-byte-eq9
 
 pub returns-then-not-escaped : goal.returns-then-not-escaped
 unfolding words_from
-returns-then-not-escaped c = on_ok_both c.end_word.result _ _ _ c.end_word.ensures.done c.end_word.ensures.spot (λ done spot rest. rw (spot, done, c.requires) (ap or_open (closed _ _ _ _ _ rest c.if-byte-eq93.true c.if-not-escaped.true c.in_ok-push.ensures.items)))
+returns-then-not-escaped c =
+    on_ok_both c.end_word.result _ _ _ c.end_word.ensures.done c.end_word.ensures.spot
+    (λ done spot rest. rw (spot, done, c.requires) (ap or_open (closed _ _ _ _ _ rest c.if-byte-eq93.true c.if-not-escaped.true c.in_ok-push.ensures.items)))
 
 pub returns : goal.returns
 unfolding words_from

@@ -12,7 +12,13 @@ returns-in_err-check_bytes c =
     rw (p.1, p.2) (c.in_err-check_bytes.ensures.fault.0, fails_on _ _ _ _ (λ h. checked_fails c.args.bytes.now _ _ h) c.in_err-check_bytes.ensures.fault.1)
 
 pub loop-number-init : goal.loop-number-init
-loop-number-init c = record { can = tt; finite = tt; same = rw (c.into_iter-number-iterator.ensures.into_iter_gives, c.of-number-items.ensures, c.new-groups.ensures) (behind_none _) }
+loop-number-init c =
+    record {
+      can = tt;
+      finite = tt;
+      same = rw (c.into_iter-number-iterator.ensures.into_iter_gives, c.of-number-items.ensures, c.new-groups.ensures)
+          (behind_none _);
+    }
 
 pub returns-in-Err : goal.returns-in-Err
 unfolding groups_of
@@ -20,12 +26,16 @@ returns-in-Err c =
     rw c.new.ensures (
       refl,
       fails_there c.in-Err.fault c.in-Some.number (with_line c.loop-number.groups (group_at c.in-Some.line.now)) _
-          (λ h. checked_passes c.args.bytes.now _ _ c.in_ok-check_bytes.ensures.fault ∙ sym c.loop-number.invariant.same ∙ line_fails _ _ _ _ _ _ c.in-Some.ensures.steps h) c.in-Err.ensures,
+          (λ h. checked_passes c.args.bytes.now _ _ c.in_ok-check_bytes.ensures.fault ∙ sym c.loop-number.invariant.same
+          ∙ line_fails _ _ _ _ _ _ c.in-Some.ensures.steps h) c.in-Err.ensures,
     )
 
 pub loop-number-preserved : goal.loop-number-preserved
-loop-number-preserved c = record { can = tt; finite = tt; same = line_added _ _ _ _ _ _ c.in-Some.ensures.steps c.in_default.ensures ∙ c.loop-number.invariant.same }
+loop-number-preserved c =
+    record { can = tt; finite = tt; same = line_added _ _ _ _ _ _ c.in-Some.ensures.steps c.in_default.ensures ∙ c.loop-number.invariant.same }
 
 pub returns : goal.returns
 unfolding groups_of
-returns c = checked_passes c.args.bytes.now _ _ c.in_ok-check_bytes.ensures.fault ∙ sym c.loop-number.invariant.same ∙ lines_end c.loop-number.groups _ c.in-None.ensures.steps.0
+returns c =
+    checked_passes c.args.bytes.now _ _ c.in_ok-check_bytes.ensures.fault ∙ sym c.loop-number.invariant.same
+    ∙ lines_end c.loop-number.groups _ c.in-None.ensures.steps.0

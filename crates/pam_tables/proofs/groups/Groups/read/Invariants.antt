@@ -8,5 +8,6 @@ abbrev pub invariant-loop-number : goal.invariant-loop-number
 invariant-loop-number l = record {
   can : (goal.iterator-loop-number).can_next l.number-iterator;
   finite : (goal.iterator-loop-number).is_finite l.number-iterator;
-  same : behind l.groups (lines_of_groups (lines_left l.number-iterator.is_done l.number-iterator.number l.number-iterator.rest.now)) ≡ first_of_each_read (lines_of_groups (lines_from 1 l.bytes));
+  same : behind l.groups (lines_of_groups (lines_left l.number-iterator.is_done l.number-iterator.number l.number-iterator.rest.now))
+      ≡ first_of_each_read (lines_of_groups (lines_from 1 l.bytes));
 }

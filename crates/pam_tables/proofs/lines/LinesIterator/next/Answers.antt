@@ -13,8 +13,20 @@ unfolding lines_left
 returns-in-None-clause-steps c = last_line _ _ _ _ c.if-self.false c.in-None.ensures.value c.drop_return-in-None.ensures
 
 pub returns-in-Some-clause-goes : goal.returns-in-Some-clause-goes
-returns-in-Some-clause-goes c = record { on = λ _. (tt, tt, shorter _ _ _ (first_line _ _ _ _ _ _ c.if-self.false c.in-Some.ensures.value c.drop_return.ensures)); keeps = tt; rests = λ _. tt }
+returns-in-Some-clause-goes c =
+    record {
+      on = λ _. (tt, tt, shorter _ _ _ (first_line _ _ _ _ _ _ c.if-self.false c.in-Some.ensures.value c.drop_return.ensures));
+      keeps = tt;
+      rests = λ _.
+          tt;
+    }
 
 pub returns-in-None-clause-goes : goal.returns-in-None-clause-goes
 unfolding lines_left
-returns-in-None-clause-goes c = record { on = λ _. (tt, tt, shorter _ _ _ (last_line _ _ _ _ c.if-self.false c.in-None.ensures.value c.drop_return-in-None.ensures)); keeps = tt; rests = λ _. tt }
+returns-in-None-clause-goes c =
+    record {
+      on = λ _. (tt, tt, shorter _ _ _ (last_line _ _ _ _ c.if-self.false c.in-None.ensures.value c.drop_return-in-None.ensures));
+      keeps = tt;
+      rests =
+          λ _. tt;
+    }

@@ -23,7 +23,8 @@ loop-text-init c = rw (c.of-text.ensures.line, c.of-text.ensures.rest) (record {
 
 pub overflow_cast-number : goal.overflow_cast-number
 overflow_cast-number c =
-    let below : c.line-number.result < 4294967296 = number_before 4294967296 c.line-number.result (text_of c.loop-text.text.line c.loop-text.text.rest.now) (rw c.line-number.ensures (head_is _ _)) c.loop-text.invariant.few (λ e. false≢true (sym c.loop-text-test.true ∙ c.is_done.ensures.1 e)) in
+    let below : c.line-number.result < 4294967296 = number_before 4294967296 c.line-number.result (text_of c.loop-text.text.line c.loop-text.text.rest.now)
+    (rw c.line-number.ensures (head_is _ _)) c.loop-text.invariant.few (λ e. false≢true (sym c.loop-text-test.true ∙ c.is_done.ensures.1 e)) in
     omega (arith, below)
 
 pub returns-in-Err : goal.returns-in-Err
@@ -34,11 +35,14 @@ returns-in-Err c =
     rw c.new-in-Err.ensures (
       refl,
       fails_there c.in-Err.fault c.line-number.result (with_rule c.loop-text.table (rule_of c.line-number.result (first_line text))) _
-          (λ h. checked_passes c.args.bytes.now _ _ c.in_ok-check_bytes.ensures.fault ∙ sym c.loop-text.invariant.same ∙ line_fails _ _ text _ head h) c.in-Err.ensures.rules,
+          (λ h. checked_passes c.args.bytes.now _ _ c.in_ok-check_bytes.ensures.fault ∙ sym c.loop-text.invariant.same ∙ line_fails _ _ text _ head h)
+          c.in-Err.ensures.rules,
     )
 
 pub loop-text-smaller : goal.loop-text-smaller
-loop-text-smaller c = rw c.in_default.ensures.rest (shorter (text_of c.loop-text.text.line c.loop-text.text.rest.now) (λ e. false≢true (sym c.loop-text-test.true ∙ c.is_done.ensures.1 e)))
+loop-text-smaller c =
+    rw c.in_default.ensures.rest (shorter (text_of c.loop-text.text.line c.loop-text.text.rest.now)
+    (λ e. false≢true (sym c.loop-text-test.true ∙ c.is_done.ensures.1 e)))
 
 pub loop-text-preserved : goal.loop-text-preserved
 loop-text-preserved c =
