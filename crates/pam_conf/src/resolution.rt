@@ -171,7 +171,8 @@ fn one_file_stack(
     stack_of_starts(alloc, files, kind, &mut progress, own, other)
 }
 
-/// The stack of a service, in either case, for a kind; or the first fault of the walk over its files.
+/// The stack of a service, in either case, for a kind; or the first fault of the walk over its files. Where an allocation
+/// failed, the error has no file and line 0.
 /// `other` serves where the service has no rules, or an empty stack: pam.conf(5).
 pub fn resolve(alloc: Global, files: &Files, service: &[u8], kind: Kind) -> Result<Stack, ConfError>
     ensures { Resolves (λ s. s) result (resolved files.now service.now kind) }
