@@ -6,6 +6,7 @@ pub mod Lines
 pub mod Mentions
 pub mod Overlay
 pub mod PairSteps
+pub mod SetAlgebra
 pub mod Tables
 pub mod TextLines
 pub mod TextSteps
