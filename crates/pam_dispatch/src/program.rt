@@ -1,9 +1,9 @@
 //! The program of a stack.
 
-ghost use Rattle.std.specs.Prelude.{◌≡◌, ◌+◌, ◌-◌, ◌≤◌, ◌^◌, ℕ, All, IfErr, IfOk, IfSome, IsSome, None, OnOk, Some, length, min, ◌≢◌, ◌∷◌};
+ghost use Rattle.std.specs.Prelude.{◌≡◌, ◌+◌, ◌-◌, ◌≤◌, ◌^◌, ◌<◌, ℕ, All, IfErr, IfOk, IfSome, IsSome, None, OnOk, Some, drop, length, min, take, ◌≢◌, ◌∷◌};
 ghost use Rattle.pam_conf.specs.Stack.{Items, module_at, module_count};
 ghost use Rattle.pam_dispatch.specs.Decision.{decision_of};
-ghost use Rattle.pam_dispatch.specs.Flat.{IsPlaceOf, IsShallow, control_at, modules_of, positions_from, rest_of, runs_of};
+ghost use Rattle.pam_dispatch.specs.Flat.{IsPlaceOf, IsShallow, control_at, modules_of, positions_from, resume, rest_of, runs_of};
 ghost use Rattle.pam_dispatch.specs.Runs.{AsksRise, Assignment, after_answer, answers_of, asked_by, asked_module, final_state, next_ask, outcome_in, state_in};
 ghost use Rattle.pam_dispatch.specs.Tree.{decided, runs_of_stack};
 
@@ -57,15 +57,26 @@ fn module_positions(alloc: Global, entries: &[Entry]) -> Result<Vec<usize>, Memo
     Ok(positions)
 }
 
-/// The step from a place.
-fn step_in(entries: &[Entry], place: &Place, code: Code) -> Step
+/// What an answer makes of a run, and where the run goes on.
+#[derive(Clone, Copy)]
+struct Answered {
+    outcome: Outcome,
+    /// The level of the list that goes on.
+    level: usize,
+    /// How many of its items are passed over.
+    skip: usize,
+}
+
+/// What an answer makes of the run at a place.
+fn answer_at(entries: &[Entry], place: &Place, code: Code) -> Answered
     requires entries { All IsShallow entries.now }
     requires place { IsPlaceOf entries.now place.now }
     requires asking { IsSome (asked_module (rest_of entries.now place.now)) }
-    ensures place { IsPlaceOf entries.now result.place }
-    ensures rest { rest_of entries.now result.place ≡ after_answer (rest_of entries.now place.now) code }
     ensures outcome { outcome_in (rest_of entries.now place.now) code ≡ result.outcome }
-    ensures state { result.place.state ≡ result.outcome.state }
+    ensures rest { after_answer (rest_of entries.now place.now) code
+        ≡ resume (drop (place.now.position + 1) entries.now) result.level result.skip (take place.now.depth place.now.entered.states) result.outcome.state }
+    ensures below { result.level < place.now.depth }
+    ensures within { place.now.position < length entries.now }
 {
     match &entries[place.position] {
         Entry::Module {
@@ -76,21 +87,39 @@ fn step_in(entries: &[Entry], place: &Place, code: Code) -> Step
         } => {
             let entry = place.entered.at(*level);
             let outcome = Outcome::of(control.action(code), code, place.state, entry, *behind);
-            let next = settle(
-                entries,
-                place.position + 1,
-                *level,
-                *behind - outcome.left,
-                place.depth,
-                place.entered,
-                &outcome.state,
-            );
-            Step {
-                place: next,
+            Answered {
                 outcome,
+                level: *level,
+                skip: *behind - outcome.left,
             }
         }
         Entry::Substack { .. } => unreachable!(),
+    }
+}
+
+/// The step from a place.
+fn step_in(entries: &[Entry], place: &Place, code: Code) -> Step
+    requires entries { All IsShallow entries.now }
+    requires place { IsPlaceOf entries.now place.now }
+    requires asking { IsSome (asked_module (rest_of entries.now place.now)) }
+    ensures place { IsPlaceOf entries.now result.place }
+    ensures rest { rest_of entries.now result.place ≡ after_answer (rest_of entries.now place.now) code }
+    ensures outcome { outcome_in (rest_of entries.now place.now) code ≡ result.outcome }
+    ensures state { result.place.state ≡ result.outcome.state }
+{
+    let answered = answer_at(entries, place, code);
+    let next = settle(
+        entries,
+        place.position + 1,
+        answered.level,
+        answered.skip,
+        place.depth,
+        place.entered,
+        &answered.outcome.state,
+    );
+    Step {
+        place: next,
+        outcome: answered.outcome,
     }
 }
 
@@ -144,6 +173,15 @@ impl Program {
             states: [start; LISTS],
         };
         settle(&self.entries, 0, 0, 0, 1, entered, &start)
+    }
+
+    /// What an answer makes of the run at a place, without going there.
+    pub fn outcome(&self, place: &Place, code: Code) -> Outcome
+        requires place { IsPlaceOf self.now place.now }
+        requires asking { IsSome (asked_module (rest_of self.now place.now)) }
+        ensures { outcome_in (rest_of self.now place.now) code ≡ result }
+    {
+        answer_at(&self.entries, place, code).outcome
     }
 
     /// The step that an answer makes. It is counted in `work`.

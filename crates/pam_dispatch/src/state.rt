@@ -1,7 +1,7 @@
 //! The state of a run.
 
-ghost use Rattle.std.specs.Prelude.{◌≡◌, ◌==◌};
-ghost use Rattle.pam_dispatch.specs.State.{success, perm_denied, start_state, accepted, refused};
+ghost use Rattle.std.specs.Prelude.{◌≡◌};
+ghost use Rattle.pam_dispatch.specs.State.{start_state, accepted, refused};
 
 use pam_codes::Code;
 
@@ -27,7 +27,7 @@ impl State {
     {
         State {
             impression: Impression::Undef,
-            status: perm_denied(),
+            status: Code::PERM_DENIED,
         }
     }
 
@@ -41,7 +41,7 @@ impl State {
         };
         match self.impression {
             Impression::Undef => positive,
-            Impression::Positive if is_success(self.status) => positive,
+            Impression::Positive if self.status == Code::SUCCESS => positive,
             Impression::Positive => self,
             Impression::Negative => self,
         }
@@ -56,8 +56,8 @@ impl State {
         }
         State {
             impression: Impression::Negative,
-            status: if code.number() == 25 {
-                perm_denied()
+            status: if code == Code::IGNORE {
+                Code::PERM_DENIED
             } else {
                 code
             },
@@ -71,18 +71,4 @@ impl Default for State {
     fn default() -> State {
         State::start()
     }
-}
-
-/// The code perm_denied.
-pub(crate) fn perm_denied() -> Code
-    ensures { result ≡ perm_denied }
-{
-    Code::new(6).unwrap()
-}
-
-/// Whether a code is success.
-pub(crate) fn is_success(code: Code) -> bool
-    ensures { result ≡ (code == success) }
-{
-    code.number() == 0
 }
