@@ -1,11 +1,14 @@
 pub mod Closing
+pub mod CodeByCode
 pub mod CodeSets
 pub mod ControlParts
+pub mod Dividing
 pub mod Jumps
 pub mod Lines
 pub mod Mentions
 pub mod Overlay
 pub mod PairSteps
+pub mod SameActions
 pub mod SetAlgebra
 pub mod Tables
 pub mod TextLines

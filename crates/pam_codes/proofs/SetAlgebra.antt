@@ -118,9 +118,18 @@ not_in_run test a (suc n) code past =
     cond_both (test a) (a ∷ filter test (range_with_len (a + 1) n)) (filter test (range_with_len (a + 1) n)) (λ codes. is_in code codes ≡ false)
     (λ yes. rw (eqb-other a code (omega arith)) rest) (λ no. rest)
 
+pub past_codes : (test : ℕ → Bool) (code : ℕ) → 31 ≤ code → is_in code (codes_where test) ≡ false
+unfolding all_codes
+past_codes test code past = not_in_run test 0 31 code (omega arith)
+
 not_in_bits : (bits code : ℕ) → 31 ≤ code → is_in code (codes_of_bits bits) ≡ false
-unfolding codes_of_bits all_codes
-not_in_bits bits code past = not_in_run (has bits) 0 31 code (omega arith)
+unfolding codes_of_bits
+not_in_bits bits code past = past_codes (has bits) code past
+
+-- the first of the codes that pass
+pub first_of : (test : ℕ → Bool) → FirstIn test 0 31 (slice_get (codes_where test) 0)
+unfolding all_codes
+first_of test = first_in test 0 31
 
 -- the bits below a number
 has-below : (number code : ℕ) → code < 31 → has (2 ^ (min number 31) - 1) code ≡ ltb code number

@@ -5,6 +5,7 @@ pub mod ControlText
 pub mod Laws
 pub mod Line
 pub mod Out
+pub mod Parts
 pub mod Set
 pub mod SetBits
 pub mod Subject
