@@ -1,9 +1,11 @@
 //! The program of a stack.
 
 ghost use Rattle.std.specs.Prelude.{◌≡◌, ◌+◌, ◌-◌, ◌≤◌, ◌^◌, ◌<◌, ℕ, All, IfErr, IfOk, IfSome, IsSome, None, OnOk, Some, drop, length, min, take, ◌≢◌, ◌∷◌};
+ghost use Rattle.std.specs.List.{AllZip};
+ghost use Rattle.pam_codes.specs.Parts.{IsParts};
 ghost use Rattle.pam_conf.specs.Stack.{Items, module_at, module_count};
 ghost use Rattle.pam_dispatch.specs.Decision.{decision_of};
-ghost use Rattle.pam_dispatch.specs.Flat.{IsPlaceOf, IsShallow, control_at, modules_of, positions_from, resume, rest_of, runs_of};
+ghost use Rattle.pam_dispatch.specs.Flat.{IsPlaceOf, IsShallow, control_at, controls_in, modules_of, positions_from, resume, rest_of, runs_of};
 ghost use Rattle.pam_dispatch.specs.Runs.{AsksRise, Assignment, after_answer, answers_of, asked_by, asked_module, final_state, next_ask, outcome_in, state_in};
 ghost use Rattle.pam_dispatch.specs.Tree.{decided, runs_of_stack};
 
@@ -17,7 +19,7 @@ use crate::settle::settle;
 use crate::state::State;
 use crate::step::{Outcome, Step};
 use crate::work::Work;
-use pam_codes::{Code, Control};
+use pam_codes::{Code, Control, Parts};
 use pam_conf::Stack;
 use std::alloc::Global;
 use std::marker::Model;
@@ -28,6 +30,8 @@ pub struct Program {
     entries: Vec<Entry>,
     /// Where the modules stand in the list, in the order of their numbers.
     positions: Vec<usize>,
+    /// The parts of the modules' controls, in that order.
+    parts: Vec<Parts>,
 }
 
 impl Model for Program {
@@ -40,7 +44,7 @@ impl Model for Program {
 
     ghost view = { λ p. p.entries.items };
 
-    ghost invariant = { λ p. IsProgram p.entries.items p.positions.items };
+    ghost invariant = { λ p. IsProgram p.entries.items p.positions.items p.parts.items };
 }
 
 /// Where the modules stand in a flat list.
@@ -55,6 +59,20 @@ fn module_positions(alloc: Global, entries: &[Entry]) -> Result<Vec<usize>, Memo
         }
     }
     Ok(positions)
+}
+
+/// The parts of the controls in a flat list.
+fn module_parts(alloc: Global, entries: &[Entry]) -> Result<Vec<Parts>, Memory>
+    ensures { IfOk result (λ parts. AllZip IsParts (controls_in entries.now) parts.items) }
+{
+    let mut parts = Vec::new(alloc);
+    for entry in entries {
+        match entry {
+            Entry::Module { control, .. } => parts.push(control.parts())?,
+            Entry::Substack { .. } => {}
+        }
+    }
+    Ok(parts)
 }
 
 /// What an answer makes of a run, and where the run goes on.
@@ -133,7 +151,12 @@ impl Program {
         let mut entries = Vec::new(alloc);
         flatten(stack.items(), 0, &mut entries)?;
         let positions = module_positions(alloc, &entries)?;
-        Ok(Program { entries, positions })
+        let parts = module_parts(alloc, &entries)?;
+        Ok(Program {
+            entries,
+            positions,
+            parts,
+        })
     }
 
     /// How many modules there are.
@@ -159,6 +182,19 @@ impl Program {
             Entry::Module { control, .. } => control,
             Entry::Substack { .. } => unreachable!(),
         }
+    }
+
+    /// The parts of the control of a module.
+    pub fn parts(&self, number: usize) -> &Parts
+        requires first { 1 ≤ number }
+        requires last { number ≤ modules_of self.now }
+        ensures value { IsParts (control_at self.now number) result.now }
+
+        // Those of the control by which the module is asked, wherever that is.
+        ensures asked { (place : Place) → IsPlaceOf self.now place → asked_module (rest_of self.now place) ≡ Some number
+            → IsParts (next_ask (rest_of self.now place)).control result.now }
+    {
+        &self.parts[number - 1]
     }
 
     /// Where a run begins.
