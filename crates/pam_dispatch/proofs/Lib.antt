@@ -8,4 +8,5 @@ pub mod OpenRuns
 pub mod Places
 pub mod Positions
 pub mod Resume
+pub mod Retelling
 pub mod StackLists
