@@ -1,5 +1,5 @@
 -- The parts of a control, put together one by one.
-use Rattle.std.proofs.Common.{◌≡◌, ◌≢◌, ℕ, ◌<◌, ◌≤◌, ◌&&◌, Bool, true, false, not, List, [], ◌∷◌, ◌++◌, Option, Some, None, IsTrue, All, length, get_or, slice_get, slice_index, refl, sym, ◌∙◌, ap, subst, inl, inr, arith}
+use Rattle.std.proofs.Common.{◌≡◌, ◌≢◌, ℕ, ◌<◌, ◌≤◌, ◌&&◌, Bool, true, false, not, List, [], ◌∷◌, ◌++◌, Option, Some, None, IsTrue, All, length, get_or, slice_get, sym, ◌∙◌, ap, subst, inl, inr, arith}
 use Rattle.std.specs.List.{AllPairs, Any}
 use Rattle.std.proofs.lemmas.Bool.{and_from, and_parts, cases_Bool, cases_lt, cases_order, false≢true, not-true, not_from_false}
 use Rattle.std.proofs.lemmas.List.{get_or_append_left, length-append}
@@ -15,7 +15,7 @@ use Rattle.pam_codes.specs.Parts.{IsPart, IsParts, least_of}
 use Rattle.pam_codes.specs.Set.{codes_where, is_in, IsCodeSet}
 use Rattle.pam_codes.specs.SetBits.{is_in-codes_where}
 use Rattle.pam_codes.proofs.CodeSets.{codes_where-is_set}
-use Rattle.pam_codes.proofs.SetAlgebra.{FirstIn, first_of, past_codes}
+use Rattle.pam_codes.proofs.Firsts.{FirstIn, first_at, first_of, none_first, past_codes}
 use Rattle.pam_codes.proofs.SameActions.{same_action-self, same_action-true}
 
 abbrev pub part_of : List ℕ → Action → Part
@@ -58,14 +58,6 @@ ArePartsBefore-none control remaining parts all none = rw (all, none) record {
   few = λ code h. omega arith;
   set = codes_where-is_set (λ c. true);
 }
-
-none_first : (codes : List ℕ) → slice_get codes 0 ≡ None → codes ≡ []
-none_first [] h = refl
-none_first (c ∷ cs) h = absurd (cc)
-
-first_at : (codes : List ℕ) (code : ℕ) → slice_get codes 0 ≡ Some code → (0 < length codes) × (slice_index codes 0 ≡ code)
-first_at [] code h = absurd (cc)
-first_at (c ∷ cs) code h = (omega arith, cc)
 
 -- once no code remains
 pub IsParts-all : (control : List Action) (remaining : List ℕ) (parts : List Part) → ArePartsBefore control remaining parts →

@@ -3,6 +3,7 @@ pub mod CodeByCode
 pub mod CodeSets
 pub mod ControlParts
 pub mod Dividing
+pub mod Firsts
 pub mod Jumps
 pub mod Lines
 pub mod Mentions
@@ -10,6 +11,7 @@ pub mod Overlay
 pub mod PairSteps
 pub mod SameActions
 pub mod SetAlgebra
+pub mod SetNames
 pub mod Tables
 pub mod TextLines
 pub mod TextSteps

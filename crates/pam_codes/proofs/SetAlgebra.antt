@@ -1,15 +1,14 @@
--- The bits of sets that are made of others.
-use Rattle.std.proofs.Common.{◌≡◌, ◌<◌, ◌≤◌, ◌+◌, ◌-◌, ◌*◌, ◌/◌, ◌%◌, ◌^◌, ◌||◌, ◌&&◌, ℕ, zero, suc, Bool, true, false, List, ◌∷◌, min, max, not, eqb, ltb, cond, filter, slice_get, Option, Some, None, IsTrue, IfSome, IfNone, add-one, refl, sym, ◌∙◌, ap, inl, inr, arith, bit_and, bit_or}
-use Rattle.std.specs.List.{range_with_len}
+-- The bits of sets that are made of others, and the first and the last code of a part of a set.
+use Rattle.std.proofs.Common.{◌≡◌, ◌<◌, ◌≤◌, ◌+◌, ◌-◌, ◌*◌, ◌/◌, ◌%◌, ◌^◌, ◌||◌, ◌&&◌, ℕ, zero, suc, Bool, true, false, List, min, max, not, eqb, ltb, cond, slice_get, Option, Some, None, IsTrue, IfSome, IfNone, add-one, refl, sym, ◌∙◌, ap, inl, inr, arith, bit_and, bit_or}
 use Rattle.std.specs.Int.{bit_at, bit_not, trailing_zeros, w32}
 use Rattle.std.proofs.Math.Nat.{div-eq_of_lt-le, pow-suc, pow-le-pow_right}
-use Rattle.std.proofs.lemmas.Bool.{and_from, and_parts, cases_eq, cases_lt, cond_both, false≢true, le-ltb, lt-ltb, ltb-false, ltb-true, not-true}
+use Rattle.std.proofs.lemmas.Bool.{and_from, and_parts, cases_lt, false≢true, le-ltb, lt-ltb, ltb-false, ltb-true, not-true}
 use Rattle.std.proofs.lemmas.Nat.{and_le_l, pow_below}
 use Rattle.std.proofs.lemmas.Nat.Bits.{bit_at-lt, bit_at-trailing_zeros, bit_at-zero, bit_at_above, bit_at_and, bit_at_or, bit_at_not, bit_at_ones, bit_at_ones_above}
-use Rattle.pam_codes.specs.Code.{all_codes}
 use Rattle.pam_codes.specs.Set.{codes_where, is_in}
-use Rattle.pam_codes.specs.SetBits.{codes_of_bits, codes_where-same, eqb-other, is_in-codes_where}
+use Rattle.pam_codes.specs.SetBits.{codes_of_bits, codes_where-same, is_in-codes_where}
 use Rattle.pam_codes.proofs.CodeSets.{lowest_below}
+use Rattle.pam_codes.proofs.Firsts.{FirstIn, first_of, past_codes}
 
 bit_of_min : (m n : ℕ) → m < 2 → n < 2 → eqb (min m n) 1 ≡ (eqb m 1 && eqb n 1)
 bit_of_min zero zero h k = refl
@@ -82,54 +81,9 @@ some_in_both a b some small =
     let both = and_parts (has a code) (has b code) (sym (has-and a b code) ∙ ap (λ (n : ℕ). eqb n 1) bit.1) in
     (code, low, sym (has-is_in a code low) ∙ both.0, sym (has-is_in b code low) ∙ both.1)
 
--- what an option says of the first code of a run that passes
-abbrev pub FirstIn : (ℕ → Bool) → ℕ → ℕ → Option ℕ → Type 0
-FirstIn test a n (Some m) = (a ≤ m) × (m < a + n) × (test m ≡ true) × ((c : ℕ) → a ≤ c → c < m → test c ≡ false)
-FirstIn test a n None = (c : ℕ) → a ≤ c → c < a + n → test c ≡ false
-
-later : (test : ℕ → Bool) (a n : ℕ) (found : Option ℕ) → test a ≡ false → FirstIn test (a + 1) n found → FirstIn test a (suc n) found
-later test a n (Some m) e h = (
-  omega (arith, h.0),
-  omega (arith, h.1),
-  h.2,
-  λ c low high. elim (cases_eq c a) [
-    | inl same ↦ ap test same ∙ e
-    | inr other ↦ h.3 c (omega arith) high
-  ],
-)
-later test a n None e h = λ c low high. elim (cases_eq c a) [
-  | inl same ↦ ap test same ∙ e
-  | inr other ↦ h c (omega arith) (omega arith)
-]
-
-first_in : (test : ℕ → Bool) (a n : ℕ) → FirstIn test a n (slice_get (filter test (range_with_len a n)) 0)
-first_in test a zero = λ c low high. absurd (omega arith)
-first_in test a (suc n) =
-    elim (test a) as (λ (t : Bool). test a ≡ t → FirstIn test a (suc n) (slice_get (cond t (a ∷ filter test (range_with_len (a + 1) n)) (filter test (range_with_len (a + 1) n))) 0)) [
-      | true ↦ λ e. (omega arith, omega arith, e, λ c low high. absurd (omega arith))
-      | false ↦ λ e. later test a n (slice_get (filter test (range_with_len (a + 1) n)) 0) e (first_in test (a + 1) n)
-    ] refl
-
--- no greater number is in what a filter leaves of a run
-not_in_run : (test : ℕ → Bool) (a n code : ℕ) → a + n ≤ code → is_in code (filter test (range_with_len a n)) ≡ false
-not_in_run test a zero code past = refl
-not_in_run test a (suc n) code past =
-    let rest : is_in code (filter test (range_with_len (a + 1) n)) ≡ false = not_in_run test (a + 1) n code (omega arith) in
-    cond_both (test a) (a ∷ filter test (range_with_len (a + 1) n)) (filter test (range_with_len (a + 1) n)) (λ codes. is_in code codes ≡ false)
-    (λ yes. rw (eqb-other a code (omega arith)) rest) (λ no. rest)
-
-pub past_codes : (test : ℕ → Bool) (code : ℕ) → 31 ≤ code → is_in code (codes_where test) ≡ false
-unfolding all_codes
-past_codes test code past = not_in_run test 0 31 code (omega arith)
-
 not_in_bits : (bits code : ℕ) → 31 ≤ code → is_in code (codes_of_bits bits) ≡ false
 unfolding codes_of_bits
 not_in_bits bits code past = past_codes (has bits) code past
-
--- the first of the codes that pass
-pub first_of : (test : ℕ → Bool) → FirstIn test 0 31 (slice_get (codes_where test) 0)
-unfolding all_codes
-first_of test = first_in test 0 31
 
 -- the bits below a number
 has-below : (number code : ℕ) → code < 31 → has (2 ^ (min number 31) - 1) code ≡ ltb code number
@@ -178,8 +132,8 @@ module _ (bits first : ℕ) where
   ]
 
   pub first_from : FirstFrom first (codes_of_bits bits) (slice_get (codes_of_bits from_bits) 0)
-  unfolding codes_of_bits all_codes
-  first_from = from_first _ (first_in (has from_bits) 0 31)
+  unfolding codes_of_bits
+  first_from = from_first _ (first_of (has from_bits))
 
 -- the greatest bit of a number
 top_bit : (n j : ℕ) → 2 ^ j ≤ n → n < 2 * 2 ^ j → has n j ≡ true

@@ -8,6 +8,7 @@ pub mod Out
 pub mod Parts
 pub mod Set
 pub mod SetBits
+pub mod SetText
 pub mod Subject
 pub mod Text
 pub mod Tokens

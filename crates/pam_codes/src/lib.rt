@@ -10,6 +10,7 @@ mod line;
 mod out;
 mod parts;
 mod set;
+mod set_text;
 mod subject;
 mod text;
 mod tokens;
