@@ -84,7 +84,9 @@ module _ (control : List Action) (remaining : List ℕ) (parts : List Part) (now
     (code : ℕ) (action : Action) (long : length control ≡ 31)
     (first : slice_get remaining 0 ≡ Some code) (at : slice_get control code ≡ Some action) where
   least_code : FirstIn (λ c. is_in c remaining) 0 31 (Some code)
-  least_code = subst (FirstIn (λ c. is_in c remaining) 0 31) (ap (λ (codes : List ℕ). slice_get codes 0) (sym now.set) ∙ first) (first_of (λ c. is_in c remaining))
+  least_code =
+      subst (FirstIn (λ c. is_in c remaining) 0 31) (ap (λ (codes : List ℕ). slice_get codes 0) (sym now.set) ∙ first)
+      (first_of (λ c. is_in c remaining))
 
   pub few_parts : length parts < 31
   few_parts = omega (arith, now.few code least_code.2, least_code.1)
@@ -109,10 +111,14 @@ module _ (control : List Action) (remaining : List ℕ) (parts : List Part) (now
     ]
 
     acting_codes : (c : ℕ) → c < 31 → slice_get control c ≡ Some action → is_in c codes ≡ true
-    acting_codes c low h = in_codes c low ∙ ap (λ (a : Action). same_action a action) (get_or_from_slice_get control c action Ignore h) ∙ same_action-self action
+    acting_codes c low h =
+        in_codes c low ∙ ap (λ (a : Action). same_action a action) (get_or_from_slice_get control c action Ignore h) ∙ same_action-self action
 
     here : is_in code codes ≡ true
     here = acting_codes code (omega (arith, least_code.1)) at
+
+    acting_here : acting code ≡ true
+    acting_here = sym (in_codes code (omega (arith, least_code.1))) ∙ here
 
     -- a lesser code is in an earlier part, which has another action
     not_earlier : (c : ℕ) → c < code → c < 31 → acting c ≡ true → ⊥
@@ -124,11 +130,11 @@ module _ (control : List Action) (remaining : List ℕ) (parts : List Part) (now
         (now.passed in_part.0 in_part.1 in_part.2).other code least_code.2 (at ∙ sym same)
 
     first_is : (found : Option ℕ) → FirstIn acting 0 31 found → found ≡ Some code
-    first_is None h = absurd (false≢true (sym (h code (omega arith) (omega (arith, least_code.1))) ∙ (sym (in_codes code (omega (arith, least_code.1))) ∙ here)))
+    first_is None h = absurd (false≢true (sym (h code (omega arith) (omega (arith, least_code.1))) ∙ acting_here))
     first_is (Some m) h = elim (cases_order m code) [
       | inl same ↦ ap (λ (n : ℕ). Some n) same
       | inr (inl less) ↦ absurd (not_earlier m less (omega (arith, h.1)) h.2)
-      | inr (inr more) ↦ absurd (false≢true (sym (h.3 code (omega arith) more) ∙ (sym (in_codes code (omega (arith, least_code.1))) ∙ here)))
+      | inr (inr more) ↦ absurd (false≢true (sym (h.3 code (omega arith) more) ∙ acting_here))
     ]
 
     first_code : slice_get codes 0 ≡ Some code
@@ -181,7 +187,8 @@ module _ (control : List Action) (remaining : List ℕ) (parts : List Part) (now
         | inl in_it ↦ Any-push (λ part. IsTrue (is_in c part.codes)) parts _ (taken c low in_it out)
         | inr not_in ↦ any_before (λ part. IsTrue (is_in c part.codes)) parts _ (now.each_code c low not_in)
       ];
-      one_each = all_pairs_push Differ parts _ now.one_each (λ k d within same. (now.passed k d within).other code least_code.2 (at ∙ ap (λ (a : Action). Some a) (sym same)));
+      one_each = all_pairs_push Differ parts _ now.one_each (λ k d within same.
+          (now.passed k d within).other code least_code.2 (at ∙ ap (λ (a : Action). Some a) (sym same)));
       in_order = all_pairs_push InOrder parts _ now.in_order (λ k d within.
           let first = (first_at codes code first_code).1 in omega (arith, first, (now.passed k d within).before code least_code.2));
       passed = All-push (IsPassed control next) parts _ (All-weaker _ _ still_passed parts now.passed) now_passed;

@@ -29,9 +29,10 @@ later test a n None e h = λ c low high. elim (cases_eq c a) [
 first_in : (test : ℕ → Bool) (a n : ℕ) → FirstIn test a n (slice_get (filter test (range_with_len a n)) 0)
 first_in test a zero = λ c low high. absurd (omega arith)
 first_in test a (suc n) =
-    elim (test a) as (λ (t : Bool). test a ≡ t → FirstIn test a (suc n) (slice_get (cond t (a ∷ filter test (range_with_len (a + 1) n)) (filter test (range_with_len (a + 1) n))) 0)) [
+    let more = filter test (range_with_len (a + 1) n) in
+    elim (test a) as (λ (t : Bool). test a ≡ t → FirstIn test a (suc n) (slice_get (cond t (a ∷ more) more) 0)) [
       | true ↦ λ e. (omega arith, omega arith, e, λ c low high. absurd (omega arith))
-      | false ↦ λ e. later test a n (slice_get (filter test (range_with_len (a + 1) n)) 0) e (first_in test (a + 1) n)
+      | false ↦ λ e. later test a n (slice_get more 0) e (first_in test (a + 1) n)
     ] refl
 
 -- no greater number is in what a filter leaves of a run

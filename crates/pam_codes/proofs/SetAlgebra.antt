@@ -56,7 +56,8 @@ codes_of_bits-or a b = codes_where-same _ _ (λ code low.
     ∙ ap (λ (t : Bool). t || has b code) (has-is_in a code low)
     ∙ ap (λ (t : Bool). is_in code (codes_of_bits a) || t) (has-is_in b code low))
 
-pub codes_of_bits-without : (a b : ℕ) → b < 2 ^ 32 → codes_of_bits (bit_and a (bit_not w32 b)) ≡ codes_where (λ c. is_in c (codes_of_bits a) && not (is_in c (codes_of_bits b)))
+pub codes_of_bits-without : (a b : ℕ) → b < 2 ^ 32 →
+    codes_of_bits (bit_and a (bit_not w32 b)) ≡ codes_where (λ c. is_in c (codes_of_bits a) && not (is_in c (codes_of_bits b)))
 unfolding codes_of_bits
 codes_of_bits-without a b small = codes_where-same _ _ (λ code low.
     has-and a (bit_not w32 b) code
@@ -164,7 +165,8 @@ module _ (bits last : ℕ) where
     | inr past ↦ not_in_bits bits c past
   ]
 
-  pub last_below : (top : ℕ) → bits < 2 ^ 31 → 2 ^ top ≤ below_bits → below_bits < 2 * 2 ^ top → LastBelow last (codes_of_bits bits) (cond (ltb top 31) (Some top) None)
+  pub last_below : (top : ℕ) → bits < 2 ^ 31 → 2 ^ top ≤ below_bits → below_bits < 2 * 2 ^ top →
+      LastBelow last (codes_of_bits bits) (cond (ltb top 31) (Some top) None)
   last_below top small low high =
       let few : below_bits < 2 ^ 31 = omega (arith, and_le_l bits (2 ^ (min last 31) - 1)) in
       let under : top < 31 = pow_under top 31 (omega arith) in

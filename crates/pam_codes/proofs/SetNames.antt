@@ -44,13 +44,16 @@ module _ {W : Type 0} (contents : W → Option (List ℕ)) (old : Out W) (set : 
   pub AreWritten-all : (new : Out W) (separator remaining : List ℕ) → AreWritten contents old new separator remaining set →
       slice_get remaining 0 ≡ None → TookAll contents old new (names_text set)
   AreWritten-all new separator remaining now none =
-      all-is now.took (sym (append-nil now.written) ∙ sym (ap (λ (codes : List ℕ). now.written ++ names_after separator codes) (none_first remaining none)) ∙ now.parts)
+      all-is now.took (sym (append-nil now.written)
+      ∙ sym (ap (λ (codes : List ℕ). now.written ++ names_after separator codes) (none_first remaining none))
+      ∙ now.parts)
 
   module _ (mid : Out W) (separator remaining : List ℕ) (now : AreWritten contents old mid separator remaining set)
       (code : ℕ) (name : List ℕ) (first : slice_get remaining 0 ≡ Some code) (named : slice_get code_names code ≡ Some name) where
     whole : (now.written ++ (separator ++ (name ++ []))) ++ names_after (codes ",") (drop 1 remaining) ≡ names_text set
     whole =
-        ap (λ (text : List ℕ). (now.written ++ (separator ++ text)) ++ names_after (codes ",") (drop 1 remaining)) (append-nil name ∙ sym (get_or_from_slice_get code_names code name [] named))
+        ap (λ (text : List ℕ). (now.written ++ (separator ++ text)) ++ names_after (codes ",") (drop 1 remaining))
+        (append-nil name ∙ sym (get_or_from_slice_get code_names code name [] named))
         ∙ append_assoc now.written (separator ++ name_of code) (names_after (codes ",") (drop 1 remaining))
         ∙ sym (ap (λ (cs : List ℕ). now.written ++ names_after separator cs) (first_and_rest remaining code first))
         ∙ now.parts

@@ -20,7 +20,8 @@ module _ (ts : List Entry) (at : ℕ) (parts : List (List Part)) (now : AreCompl
   unfolding controls_in
   parts-module past level number control behind new within is divided more rest =
       rw append_assoc (now (new ∷ more)
-      (subst (λ (x : List Entry). AllZip IsParts (controls_in x) (new ∷ more)) (sym (at_place ts at past (Module level number control behind) within is)) (divided, rest)))
+      (subst (λ (x : List Entry). AllZip IsParts (controls_in x) (new ∷ more))
+      (sym (at_place ts at past (Module level number control behind) within is)) (divided, rest)))
 
   pub parts-substack : (past : Entry) (level : ℕ) → at < length ts → get_or ts at past ≡ Substack level → AreCompleted ts parts (at + 1)
   unfolding controls_in

@@ -14,16 +14,19 @@ use Rattle.pam_dispatch.specs.State.{act, action_of, ignored, left_of, left_unle
 abbrev outcome : State → ℕ → Outcome
 outcome s l = record { state = s; left = l }
 
+-- the state after a code is let count, where b tells whether it becomes the status
+abbrev counted : Bool → ℕ → ℕ → State
+counted b st c = cond b (state_with Positive c) (state_with Positive st)
+
 accept_positive : (b : Bool) (st c d n : ℕ) →
-    outcome (cond b (state_with Positive d) (state_with Positive st)) n
-    ≡ cond b (outcome (state_with (cond b (state_with Positive c) (state_with Positive st)).impression d) n) (outcome (cond b (state_with Positive c) (state_with Positive st)) n)
+    outcome (counted b st d) n ≡ cond b (outcome (state_with (counted b st c).impression d) n) (outcome (counted b st c) n)
 accept_positive true st c d n = refl
 accept_positive false st c d n = refl
 
 done_positive : (b : Bool) (st c d n : ℕ) →
-    outcome (cond b (state_with Positive d) (state_with Positive st)) (left_unless_positive (cond b (state_with Positive d) (state_with Positive st)).impression n)
-    ≡ cond b (outcome (state_with (cond b (state_with Positive c) (state_with Positive st)).impression d) (left_unless_positive (cond b (state_with Positive c) (state_with Positive st)).impression n))
-    (outcome (cond b (state_with Positive c) (state_with Positive st)) (left_unless_positive (cond b (state_with Positive c) (state_with Positive st)).impression n))
+    outcome (counted b st d) (left_unless_positive (counted b st d).impression n)
+    ≡ cond b (outcome (state_with (counted b st c).impression d) (left_unless_positive (counted b st c).impression n))
+    (outcome (counted b st c) (left_unless_positive (counted b st c).impression n))
 done_positive true st c d n = refl
 done_positive false st c d n = refl
 
@@ -50,14 +53,17 @@ pub outcome-retold : (ask : Ask) (known code : ℕ) → action_of ask.control kn
     outcome_of ask code ≡ retold (action_of ask.control code) ask.state (outcome_of ask known) code
 unfolding outcome_of
 outcome-retold ask known code same =
+    let made : Action → Outcome = λ a. outcome (act a known ask.state ask.entry ask.behind) (left_of a known ask.state ask.behind) in
     by_action (action_of ask.control code) ask.state.impression ask.state.status ask.entry ask.behind known code
-    ∙ ap (λ (a : Action). retold (action_of ask.control code) ask.state (outcome (act a known ask.state ask.entry ask.behind) (left_of a known ask.state ask.behind)) code) (sym same)
+    ∙ ap (λ (a : Action). retold (action_of ask.control code) ask.state (made a) code) (sym same)
 
 pub outcome-shared : (ask : Ask) (one other : ℕ) → action_of ask.control one ≡ action_of ask.control other →
     looks_at_code (action_of ask.control one) ask.state ≡ false → outcome_of ask one ≡ outcome_of ask other
 outcome-shared ask one other same blind =
+    let known = outcome_of ask one in
+    let told = outcome (state_with known.state.impression (told_status (action_of ask.control other) other)) known.left in
     sym (outcome-retold ask one other same
-    ∙ ap (λ (b : Bool). cond b (outcome (state_with (outcome_of ask one).state.impression (told_status (action_of ask.control other) other)) (outcome_of ask one).left) (outcome_of ask one))
+    ∙ ap (λ (b : Bool). cond b told known)
     (sym (ap (λ (a : Action). looks_at_code a ask.state) same) ∙ blind))
 
 -- WHAT AN ACTION MAKES OF A CODE AT WHICH IT LOOKS
