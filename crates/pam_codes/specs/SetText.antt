@@ -2,7 +2,6 @@
 use Rattle.std.specs.Prelude.{ℕ, List, [], ◌++◌, length, map, codes, ◌==◌, not, nat_lt, if◌then◌else◌, slice_index_or}
 use Rattle.std.specs.List.{join_with_byte}
 use Rattle.pam_codes.specs.declared.code.TheConstants.{CODES}
-use Rattle.pam_codes.specs.declared.set_text.TheConstants.{MOST_NAMED}
 use Rattle.pam_codes.specs.Code.{code_names}
 use Rattle.pam_codes.specs.Set.{codes_where, is_in}
 
@@ -13,9 +12,9 @@ name_of code = slice_index_or code_names code []
 unfoldable pub names_text : List ℕ → List ℕ
 names_text set = join_with_byte 44 (map name_of set)
 
--- `any` for all codes, what is missing of a set of more than half of them, else the names of the set
+-- `any` for all codes, `but:` and the missing ones where 16 to 30 are in, else those of the set
 unfoldable pub set_text : List ℕ → List ℕ
 set_text set =
     if length set == CODES then codes "any"
-    else if nat_lt MOST_NAMED (length set) then codes "but:" ++ names_text (codes_where (λ c. not (is_in c set)))
+    else if nat_lt 15 (length set) then codes "but:" ++ names_text (codes_where (λ c. not (is_in c set)))
     else names_text set
