@@ -1,11 +1,17 @@
 pub mod Closing
+pub mod CodeByCode
 pub mod CodeSets
 pub mod ControlParts
+pub mod Dividing
+pub mod Firsts
 pub mod Jumps
 pub mod Lines
 pub mod Mentions
 pub mod Overlay
 pub mod PairSteps
+pub mod SameActions
+pub mod SetAlgebra
+pub mod SetNames
 pub mod Tables
 pub mod TextLines
 pub mod TextSteps

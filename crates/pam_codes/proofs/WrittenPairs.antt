@@ -2,12 +2,12 @@
 use Rattle.std.proofs.Common.{◌≡◌, ◌<◌, ◌+◌, ◌∙◌, ◌||◌, ℕ, zero, suc, Bool, true, false, not, List, [], ◌∷◌, ◌++◌, length, get_or, take, cond, eqb, codes, nat_lt, Option, Some, None, unwrap_or, Result, Ok, Err, All, ap, sym, refl, arith, append_assoc, append-nil, length-append}
 use Rattle.std.specs.List.{list_all, concat, find}
 use Rattle.std.specs.Option.{option_map, option_map_or}
-use Rattle.std.proofs.lemmas.Bool.{eqb-true, and_parts, le-ltb, false≢true}
+use Rattle.std.proofs.lemmas.Bool.{and_parts, le-ltb, false≢true}
 use Rattle.std.proofs.lemmas.List.Elements.{All-head, All-tail, All-get_or}
 use Rattle.std.proofs.lemmas.List.Folds.{list_all-append}
 use Rattle.std.proofs.Math.Seq.{take-append_seam}
 use Rattle.pam_codes.specs.declared.action.Action.{Action}
-use Rattle.pam_codes.specs.declared.action.Action.TheVariants.{Ignore, Ok as Accept, Done, Bad, Die, Reset, Jump}
+use Rattle.pam_codes.specs.declared.action.Action.TheVariants.{Bad}
 use Rattle.pam_codes.specs.declared.subject.Subject.TheVariants.{Named, Default}
 use Rattle.pam_codes.specs.declared.error.ControlError.{ControlError}
 use Rattle.pam_codes.specs.declared.error.ControlError.TheVariants.{BadControl, OpenBracket}
@@ -22,19 +22,10 @@ use Rattle.pam_codes.proofs.ControlParts.{text_of_keyword, text_of_list}
 use Rattle.pam_codes.proofs.Overlay.{filled}
 use Rattle.pam_codes.proofs.Tables.{length-code_names}
 use Rattle.pam_codes.proofs.TokensOf.{tokens_of-blank}
+use Rattle.pam_codes.proofs.SameActions.{same_action-true}
 use Rattle.pam_codes.proofs.WrittenWords.{is_plain, is_written, IsWord, pair_read, action_read, action_word}
 
 -- SAME ACTIONS
-
-pub same_action-true : (a b : Action) → same_action a b ≡ true → a ≡ b
-same_action-true Ignore Ignore h = refl
-same_action-true Accept Accept h = refl
-same_action-true Done Done h = refl
-same_action-true Bad Bad h = refl
-same_action-true Die Die h = refl
-same_action-true Reset Reset h = refl
-same_action-true (Jump m) (Jump n) h = ap Jump (eqb-true m n h)
-same_action-true _ _ h = absurd (false≢true h)
 
 same_actions-true : (xs ys : List Action) → same_actions xs ys ≡ true → xs ≡ ys
 same_actions-true [] [] h = refl

@@ -5,8 +5,10 @@ pub mod ControlText
 pub mod Laws
 pub mod Line
 pub mod Out
+pub mod Parts
 pub mod Set
 pub mod SetBits
+pub mod SetText
 pub mod Subject
 pub mod Text
 pub mod Tokens

@@ -56,7 +56,7 @@ pub is_in-codes_where : (test : ℕ → Bool) (code : ℕ) → code < 31 → is_
 unfolding all_codes
 is_in-codes_where test code h = in_run test 0 31 code (omega arith) (omega arith)
 
-filter_run : (p q : ℕ → Bool) (a n : ℕ) → ((code : ℕ) → a ≤ code → code < a + n → p code ≡ q code) → filter p (range_with_len a n) ≡ filter q (range_with_len a n)
+pub filter_run : (p q : ℕ → Bool) (a n : ℕ) → ((code : ℕ) → a ≤ code → code < a + n → p code ≡ q code) → filter p (range_with_len a n) ≡ filter q (range_with_len a n)
 filter_run p q a zero h = refl
 filter_run p q a (suc n) h =
     ap (λ (t : Bool). cond t (a ∷ filter p (range_with_len (a + 1) n)) (filter p (range_with_len (a + 1) n))) (h a (omega arith) (omega arith))

@@ -34,6 +34,21 @@ impl Model for Code {
 }
 
 impl Code {
+    /// The module succeeded.
+    pub const SUCCESS: Code = Code { number: 0 };
+
+    /// Permission is denied.
+    pub const PERM_DENIED: Code = Code { number: 6 };
+
+    /// The user must choose a new password.
+    pub const NEW_AUTHTOK_REQD: Code = Code { number: 12 };
+
+    /// The answer of the module is to be ignored.
+    pub const IGNORE: Code = Code { number: 25 };
+
+    /// The conversation has no data yet.
+    pub const CONV_AGAIN: Code = Code { number: 30 };
+
     /// The code of a number, if it has one.
     pub fn new(number: u8) -> Option<Code>
         ensures { result ≡ (if nat_lt number 31 then Some number else None) }
@@ -59,6 +74,14 @@ impl Code {
         ensures range { result < 31 }
     {
         self.number
+    }
+
+    /// The place of the code in a table of all codes.
+    pub(crate) fn index(self) -> usize
+        ensures value { result ≡ self }
+        ensures range { result < CODES }
+    {
+        usize::from(self.number)
     }
 
     /// The name in configuration text.

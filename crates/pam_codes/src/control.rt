@@ -46,7 +46,7 @@ impl Control {
         ensures action { IsAction result }
         ensures control { IsControl self.now }
     {
-        self.actions[code.number() as usize]
+        self.actions[code.index()]
     }
 
     /// A control that lets success and a new token pass, and passes over ignore.
@@ -57,9 +57,9 @@ impl Control {
         ensures { result ≡ actions_of (granting_pairs granted other) }
     {
         let mut actions = [other; CODES];
-        actions[0] = granted;
-        actions[12] = granted;
-        actions[25] = Action::Ignore;
+        actions[Code::SUCCESS.index()] = granted;
+        actions[Code::NEW_AUTHTOK_REQD.index()] = granted;
+        actions[Code::IGNORE.index()] = Action::Ignore;
         Control { actions }
     }
 
@@ -104,7 +104,7 @@ impl Control {
         while let Some(word) = tokens.next() {
             let (subject, action) = pair(word, &mut tokens)?;
             match subject {
-                Subject::Named(code) => named[code.number() as usize] = Some(action),
+                Subject::Named(code) => named[code.index()] = Some(action),
                 Subject::Incomplete => {}
                 Subject::Default => default = default.or(Some(action)),
             }
@@ -163,12 +163,12 @@ impl Control {
         }
     }
 
-    /// The action that is written as `default`: that of the last code.
+    /// The action that is written as `default`: that of the last code, `conv_again`.
     fn default_action(&self) -> Action
         ensures value { result ≡ default_of self.now }
         ensures control { IsControl self.now }
     {
-        self.actions[CODES - 1]
+        self.actions[Code::CONV_AGAIN.index()]
     }
 
     /// Writes the pairs of the codes whose action is not the default.

@@ -1,10 +1,10 @@
 //! Sets of return codes.
 
-ghost use Rattle.std.specs.Prelude.{◌≡◌, ◌↔◌, ◌∷◌, [], ◌==◌, ◌||◌, IsTrue, length, slice_get};
+ghost use Rattle.std.specs.Prelude.{◌≡◌, ◌↔◌, ◌∷◌, [], ◌==◌, ◌||◌, ◌&&◌, ◌<◌, ◌≤◌, ◌-◌, ◌^◌, ℕ, IfNone, IfSome, IsTrue, false, length, min, not, slice_get};
 ghost use Rattle.pam_codes.specs.Code.{all_codes};
 ghost use Rattle.pam_codes.specs.Set.{codes_where, is_in, IsCodeSet};
 
-use crate::code::Code;
+use crate::code::{CODES, Code};
 use std::marker::Model;
 
 /// A set of codes, one bit for each.
@@ -30,6 +30,13 @@ impl Model for CodeSet {
 }
 
 impl CodeSet {
+    /// The set of no code.
+    pub fn empty() -> CodeSet
+        ensures { result ≡ [] }
+    {
+        CodeSet { bits: 0 }
+    }
+
     /// The set of every code.
     pub fn all() -> CodeSet
         ensures { result ≡ all_codes }
@@ -62,6 +69,31 @@ impl CodeSet {
         (self.bits >> code.number()) & 1 == 1
     }
 
+    /// The codes that are in this set, in the other or in both.
+    pub fn union(self, other: CodeSet) -> CodeSet
+        ensures { result ≡ codes_where (λ c. is_in c self || is_in c other) }
+    {
+        CodeSet {
+            bits: self.bits | other.bits,
+        }
+    }
+
+    /// The codes of this set that are not in the other.
+    pub fn without(self, other: CodeSet) -> CodeSet
+        ensures { result ≡ codes_where (λ c. is_in c self && not (is_in c other)) }
+    {
+        CodeSet {
+            bits: self.bits & !other.bits,
+        }
+    }
+
+    /// Whether some code is in both sets.
+    pub fn meets(self, other: CodeSet) -> bool
+        ensures { IsTrue result ↔ (c : ℕ) × (c < CODES) × IsTrue (is_in c self) × IsTrue (is_in c other) }
+    {
+        self.bits & other.bits != 0
+    }
+
     /// The code with the least number.
     pub fn least(self) -> Option<Code>
         ensures first { result ≡ slice_get self 0 }
@@ -71,6 +103,31 @@ impl CodeSet {
             return None;
         }
         Code::new(self.bits.trailing_zeros() as u8)
+    }
+
+    /// The code with the least number, of those from a number on.
+    pub fn least_from(self, first: u8) -> Option<Code>
+        ensures found { IfSome result (λ found. (first ≤ found) × (found < CODES) × IsTrue (is_in found self)) }
+        ensures before { IfSome result (λ found. (c : ℕ) → first ≤ c → c < found → is_in c self ≡ false) }
+        ensures none { IfNone result ((c : ℕ) → first ≤ c → is_in c self ≡ false) }
+    {
+        let codes = CodeSet {
+            bits: self.bits & !bits_below(first),
+        };
+        codes.least()
+    }
+
+    /// The code with the greatest number, of those below a number.
+    pub fn greatest_below(self, last: u8) -> Option<Code>
+        ensures found { IfSome result (λ found. (found < last) × (found < CODES) × IsTrue (is_in found self)) }
+        ensures after { IfSome result (λ found. (c : ℕ) → found < c → c < last → is_in c self ≡ false) }
+        ensures none { IfNone result ((c : ℕ) → c < last → is_in c self ≡ false) }
+    {
+        let bits = self.bits & bits_below(last);
+        if bits == 0 {
+            return None;
+        }
+        Code::new(bits.ilog2() as u8)
     }
 
     /// Whether no code is in the set.
@@ -87,4 +144,11 @@ impl CodeSet {
     {
         self.bits.count_ones() as usize
     }
+}
+
+/// The bits of the codes with lesser numbers.
+fn bits_below(number: u8) -> u32
+    ensures { result ≡ 2 ^ (min number CODES) - 1 }
+{
+    (1 << usize::from(number).min(CODES)) - 1
 }

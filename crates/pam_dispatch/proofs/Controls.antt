@@ -1,8 +1,12 @@
 -- Where a program finds the control of a module.
-use Rattle.std.proofs.Common.{◌≡◌, ℕ, ◌+◌, ◌-◌, ◌<◌, ◌≤◌, List, [], refl, sym, ◌∙◌, ap, subst, arith, length, get_or, Some}
+use Rattle.std.proofs.Common.{◌≡◌, ℕ, ◌+◌, ◌-◌, ◌<◌, ◌≤◌, List, [], ◌∷◌, zero, suc, refl, sym, ◌∙◌, ap, subst, arith, length, get_or, Some}
 use Rattle.std.specs.Prelude.{is_some}
+use Rattle.std.specs.List.{AllZip}
+use Rattle.std.proofs.lemmas.Slice.Zip.{AllZip-long}
 use Rattle.std.proofs.lemmas.List.{get_or_default}
 use Rattle.pam_codes.specs.declared.action.Action.{Action}
+use Rattle.pam_codes.specs.declared.parts.Part.{Part}
+use Rattle.pam_codes.specs.Parts.{IsParts}
 use Rattle.pam_dispatch.specs.declared.entry.Entry.{Entry}
 use Rattle.pam_dispatch.specs.declared.entry.Entry.TheVariants.{Module, Substack}
 use Rattle.pam_dispatch.specs.declared.place.Place.{Place}
@@ -14,8 +18,15 @@ use Rattle.pam_dispatch.proofs.Numbering.{ModuleAt, control_of, at_positions_fro
 use Rattle.pam_dispatch.proofs.Places.{place_asks, place_no_substack, place_within}
 use Rattle.pam_dispatch.proofs.Resume.{ask_at}
 
+all_zipped_at : (controls : List (List Action)) (parts : List (List Part)) (index : ℕ) (c : List Action) (p : List Part) →
+    AllZip IsParts controls parts → index < length controls → IsParts (get_or controls index c) (get_or parts index p)
+all_zipped_at [] parts index c p h within = absurd (omega (arith, within))
+all_zipped_at (x ∷ xs) [] index c p h within = absurd h
+all_zipped_at (x ∷ xs) (y ∷ ys) zero c p h within = h.0
+all_zipped_at (x ∷ xs) (y ∷ ys) (suc index) c p h within = all_zipped_at xs ys index c p h.1 (omega (arith, within))
+
 -- each module of a program has a position
-pub length-positions : (entries program : List Entry) (positions : List ℕ) → IsProgram entries positions → entries ≡ program →
+pub length-positions : (entries program : List Entry) (positions : List ℕ) {parts : List (List Part)} → IsProgram entries positions parts → entries ≡ program →
     length positions ≡ modules_of program
 length-positions entries program positions p is =
     ap (λ (x : List ℕ). length x) p.found ∙ length-positions_from 0 entries ∙ ap (λ (ts : List Entry). modules_of ts) is
@@ -50,13 +61,28 @@ place-control program place number numbered valid asked =
     at_entry program place number numbered valid asked (place_within program place valid (ap is_some asked))
     (get_or program place.position (Substack 0)) refl
 
-module _ (entries program : List Entry) (positions : List ℕ) (p : IsProgram entries positions) (is : entries ≡ program) (number : ℕ)
-    (first : 1 ≤ number) (last : number ≤ modules_of program) where
+module _ (entries program : List Entry) (positions : List ℕ) {parts : List (List Part)} (p : IsProgram entries positions parts)
+    (is : entries ≡ program) (number : ℕ) (first : 1 ≤ number) (last : number ≤ modules_of program) where
   index_within : number - 1 < modules_of entries
   index_within = omega (arith, first, last, ap (λ (ts : List Entry). modules_of ts) is)
 
   pub number_within : number - 1 < length positions
   number_within = omega (arith, first, last, length-positions entries program positions p is)
+
+  pub parts_within : number - 1 < length parts
+  parts_within = omega (arith, index_within, AllZip-long IsParts (controls_in entries) parts p.divided)
+
+  -- the parts of a number are those of its control
+  pub parts_at : (past : List Part) → IsParts (control_at program number) (get_or parts (number - 1) past)
+  parts_at past =
+      subst (λ (ts : List Entry). IsParts (control_at ts number) (get_or parts (number - 1) past)) is
+      (all_zipped_at (controls_in entries) parts (number - 1) [] past p.divided index_within)
+
+  pub parts_asked : (past : List Part) (place : Place) → IsPlaceOf program place → asked_module (rest_of program place) ≡ Some number →
+      IsParts (next_ask (rest_of program place)).control (get_or parts (number - 1) past)
+  parts_asked past place valid asked =
+      subst (λ (control : List Action). IsParts control (get_or parts (number - 1) past))
+      (sym (place-control program place number (subst (λ ts. IsNumbered 0 ts) is p.numbered) valid asked)) (parts_at past)
 
   module _ (position : ℕ) (at : position ≡ get_or positions (number - 1) position) where
     module_there : ModuleAt entries position number (get_or (controls_in entries) (number - 1) [])

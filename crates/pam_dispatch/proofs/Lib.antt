@@ -2,9 +2,11 @@ pub mod Asking
 pub mod Controls
 pub mod FlatLists
 pub mod Flattening
+pub mod ModuleParts
 pub mod Numbering
 pub mod OpenRuns
 pub mod Places
 pub mod Positions
 pub mod Resume
+pub mod Retelling
 pub mod StackLists

@@ -80,12 +80,11 @@ module _ (program : List Entry) (place : Place) (valid : IsPlaceOf program place
         at_module-asks program place.position d l m control behind within is place.entered.states place.state place.depth place.depth 0
         (omega (arith, place_depth)) (λ e z. omega arith) (omega (arith, place_depth))
 
-    module _ (code left : ℕ) (state entry : State) (action : Action) (r : Runs)
+    module _ (code left : ℕ) (state entry : State) (action : Action)
         (action_is : action_of control code ≡ action)
         (entry_is : entry ≡ get_or place.entered.states l start_state)
         (left_is : left ≡ left_of action code place.state behind)
-        (state_is : state ≡ act action code place.state entry behind)
-        (r_is : r ≡ resume (drop (place.position + 1) program) l (behind - left) (take place.depth place.entered.states) state) where
+        (state_is : state ≡ act action code place.state entry behind) where
       outcome_is : record { state = state; left = left } ≡ outcome_of (record { module_number = m; control = control; state = place.state; entry = get_or place.entered.states l start_state; behind = behind }) code
       unfolding outcome_of
       outcome_is =
@@ -94,15 +93,15 @@ module _ (program : List Entry) (place : Place) (valid : IsPlaceOf program place
           ∙ ap (λ (x : State). outcome (act action code place.state x behind) (left_of action code place.state behind)) entry_is
           ∙ sym (ap (λ (a : Action). outcome (act a code place.state (get_or place.entered.states l start_state) behind) (left_of a code place.state behind)) action_is)
 
-      pub step_rest : r ≡ after_answer (rest_of program place) code
+      pub answer_rest : resume (drop (place.position + 1) program) l (behind - left) (take place.depth place.entered.states) state
+          ≡ after_answer (rest_of program place) code
       unfolding ask_at
-      step_rest =
+      answer_rest =
           let rest = drop (place.position + 1) program in
-          r_is
-          ∙ ap (λ (x : ℕ). resume rest l (behind - left) (take x place.entered.states) state) place_depth
+          ap (λ (x : ℕ). resume rest l (behind - left) (take x place.entered.states) state) place_depth
           ∙ ap (λ (o : Outcome). resume rest l (behind - o.left) (take (l + 1) place.entered.states) o.state) outcome_is
           ∙ sym (ap (λ (q : Runs). after_answer q code) place_asks)
 
-      pub step_outcome : outcome_in (rest_of program place) code ≡ record { state = state; left = left }
+      pub answer_outcome : outcome_in (rest_of program place) code ≡ record { state = state; left = left }
       unfolding ask_at
-      step_outcome = ap (λ (q : Runs). outcome_in q code) place_asks ∙ sym outcome_is
+      answer_outcome = ap (λ (q : Runs). outcome_in q code) place_asks ∙ sym outcome_is

@@ -3,7 +3,10 @@ use Rattle.std.proofs.Common.{◌≡◌, ℕ, ◌+◌, ◌-◌, ◌≤◌, List,
 use Rattle.std.proofs.lemmas.Bool.{cond_both, eqb-true}
 use Rattle.std.proofs.lemmas.List.{length-append, get_or-append_right, get_or_append_left}
 use Rattle.std.proofs.lemmas.List.Elements.{All-append, All-cons, All-nil}
+use Rattle.std.specs.List.{AllZip}
 use Rattle.pam_codes.specs.declared.action.Action.{Action}
+use Rattle.pam_codes.specs.declared.parts.Part.{Part}
+use Rattle.pam_codes.specs.Parts.{IsParts}
 use Rattle.pam_conf.specs.Stack.{Items, ModuleText, End, ThenModule, ThenSub, IsNumberedFrom, module_count, depth, first_there, module_at}
 use Rattle.pam_conf.proofs.StackTree.{depth-pos, numbered-module_parts, numbered-sub_parts, module_at-range}
 use Rattle.pam_conf.specs.declared.stack.TheConstants.{MAX_MODULES}
@@ -131,9 +134,10 @@ control_at-flat_list items number h =
 
 -- A STACK'S PROGRAM
 
-pub program-flat_list : (items : Items) (positions : List ℕ) → module_count items ≤ MAX_MODULES → depth items ≤ 16 → IsNumberedFrom 1 items →
-    positions ≡ positions_from 0 (flat_list 0 items) → IsProgram (flat_list 0 items) positions
-program-flat_list items positions few shallow numbered found =
+pub program-flat_list : (items : Items) (positions : List ℕ) (parts : List (List Part)) → module_count items ≤ MAX_MODULES → depth items ≤ 16 → IsNumberedFrom 1 items →
+    positions ≡ positions_from 0 (flat_list 0 items) → AllZip IsParts (controls_in (flat_list 0 items)) parts →
+    IsProgram (flat_list 0 items) positions parts
+program-flat_list items positions parts few shallow numbered found divided =
     let levels : 0 + depth items ≤ 16 = omega (arith, shallow) in
     let first : 1 ≡ 0 + 1 = omega arith in
     record {
@@ -141,6 +145,7 @@ program-flat_list items positions few shallow numbered found =
       numbered = numbered-flat_list 0 0 items (subst (λ (n : ℕ). IsNumberedFrom n items) first numbered);
       few = omega (arith, few, modules_of-flat_list 0 items);
       found = found;
+      divided = divided;
     }
 
 -- what was flattened behind an empty list

@@ -1,10 +1,11 @@
 -- The rules of a run, in the words of pam.conf(5), DESCRIPTION, and of its open form.
-use Rattle.std.specs.Prelude.{◌≡◌, ◌≤◌, ℕ, [], ◌∷◌, ◌++◌}
+use Rattle.std.specs.Prelude.{◌≡◌, ◌≤◌, ◌⊎◌, ℕ, false, IsTrue, [], ◌∷◌, ◌++◌}
 use Rattle.pam_conf.specs.Stack.{Items, End, ThenModule, ThenSub, ModuleText, SubText}
 use Rattle.pam_dispatch.specs.declared.state.State.{State}
 use Rattle.pam_dispatch.specs.Runs.{Ask, Assignment, outcome_of, final_state, asked_by}
 use Rattle.pam_dispatch.specs.Decision.{decision_of}
-use Rattle.pam_dispatch.specs.State.{start_state}
+use Rattle.pam_dispatch.specs.State.{action_of, start_state}
+use Rattle.pam_dispatch.specs.Alike.{IsDenial, looks_at_code, retold}
 use Rattle.pam_dispatch.specs.Tree.{count, ask_of, last_items, run, asked, decided, runs_of_stack}
 
 -- an empty list leaves the state as it is, and asks nothing
@@ -62,3 +63,24 @@ abbrev pub OpenRunDecides : Type 0
 OpenRunDecides =
     (items : Items) (answers : Assignment) →
     decision_of (final_state (runs_of_stack items) answers) ≡ decided items answers
+
+-- where two codes have one action, the outcome of the first tells that of the second
+abbrev pub OutcomeIsRetold : Type 0
+OutcomeIsRetold =
+    (ask : Ask) (known code : ℕ) → action_of ask.control known ≡ action_of ask.control code →
+    outcome_of ask code ≡ retold (action_of ask.control code) ask.state (outcome_of ask known) code
+
+-- it is the same where their action does not look at the code
+abbrev pub OutcomeIsShared : Type 0
+OutcomeIsShared =
+    (ask : Ask) (one other : ℕ) → action_of ask.control one ≡ action_of ask.control other →
+    looks_at_code (action_of ask.control one) ask.state ≡ false → outcome_of ask one ≡ outcome_of ask other
+
+-- two codes whose actions look at them, be it one action or two, have different outcomes, unless both fail the
+-- stack as perm_denied
+abbrev pub OutcomesDiffer : Type 0
+OutcomesDiffer =
+    (ask : Ask) (one other : ℕ) →
+    IsTrue (looks_at_code (action_of ask.control one) ask.state) → IsTrue (looks_at_code (action_of ask.control other) ask.state) →
+    outcome_of ask one ≡ outcome_of ask other →
+    (one ≡ other) ⊎ (IsDenial (action_of ask.control one) one × IsDenial (action_of ask.control other) other)

@@ -1,3 +1,4 @@
+pub mod Alike
 pub mod Decision
 pub mod Flat
 pub mod Laws

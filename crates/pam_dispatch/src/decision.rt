@@ -3,7 +3,7 @@
 ghost use Rattle.std.specs.Prelude.{◌≡◌};
 ghost use Rattle.pam_dispatch.specs.Decision.{decision_of};
 
-use crate::state::{Impression, State, is_success, perm_denied};
+use crate::state::{Impression, State};
 use pam_codes::Code;
 use std::marker::Model;
 
@@ -30,8 +30,8 @@ impl Decision {
     {
         match state.impression {
             Impression::Positive => Decision { code: state.status },
-            Impression::Undef | Impression::Negative if is_success(state.status) => Decision {
-                code: perm_denied(),
+            Impression::Undef | Impression::Negative if state.status == Code::SUCCESS => Decision {
+                code: Code::PERM_DENIED,
             },
             Impression::Undef | Impression::Negative => Decision { code: state.status },
         }

@@ -1,6 +1,6 @@
 //! Laws of the definitions that the contracts of this crate cite.
 
-ghost use Rattle.pam_dispatch.specs.Laws.{AskedOfModule, AskedOfNothing, AskedOfSubstack, LastItemsCount, LeftFits, OpenRunAsks, OpenRunDecides, OpenRunEnds, RunOfModule, RunOfNothing, RunOfSubstack};
+ghost use Rattle.pam_dispatch.specs.Laws.{AskedOfModule, AskedOfNothing, AskedOfSubstack, LastItemsCount, LeftFits, OpenRunAsks, OpenRunDecides, OpenRunEnds, OutcomeIsRetold, OutcomeIsShared, OutcomesDiffer, RunOfModule, RunOfNothing, RunOfSubstack};
 
 /// How a run goes through a list of items.
 pub fn run_of_items()
@@ -27,4 +27,15 @@ pub fn open_run()
     ensures ends { OpenRunEnds }
     ensures asks { OpenRunAsks }
     ensures decides { OpenRunDecides }
+{}
+
+/// The outcome of a code tells those of the other codes with its action.
+pub fn outcomes_of_one_action()
+    ensures retold { OutcomeIsRetold }
+    ensures shared { OutcomeIsShared }
+{}
+
+/// Codes at which their actions look have different outcomes.
+pub fn outcomes_that_differ()
+    ensures { OutcomesDiffer }
 {}

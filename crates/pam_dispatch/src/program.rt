@@ -1,10 +1,12 @@
 //! The program of a stack.
 
-ghost use Rattle.std.specs.Prelude.{◌≡◌, ◌+◌, ◌-◌, ◌≤◌, ◌^◌, ℕ, All, IfErr, IfOk, IfSome, IsSome, None, OnOk, Some, length, min, ◌≢◌, ◌∷◌};
+ghost use Rattle.std.specs.Prelude.{◌≡◌, ◌+◌, ◌-◌, ◌≤◌, ◌^◌, ◌<◌, ℕ, All, IfErr, IfOk, IfSome, IsSome, None, OnOk, Some, drop, length, min, take, ◌≢◌, ◌∷◌};
+ghost use Rattle.std.specs.List.{AllZip};
+ghost use Rattle.pam_codes.specs.Parts.{IsParts};
 ghost use Rattle.pam_conf.specs.Stack.{Items, module_at, module_count};
 ghost use Rattle.pam_conf.specs.declared.stack.TheConstants.{MAX_MODULES};
 ghost use Rattle.pam_dispatch.specs.Decision.{decision_of};
-ghost use Rattle.pam_dispatch.specs.Flat.{IsPlaceOf, IsShallow, control_at, modules_of, positions_from, rest_of, runs_of};
+ghost use Rattle.pam_dispatch.specs.Flat.{IsPlaceOf, IsShallow, control_at, controls_in, modules_of, positions_from, resume, rest_of, runs_of};
 ghost use Rattle.pam_dispatch.specs.Runs.{AsksRise, Assignment, after_answer, answers_of, asked_by, asked_module, final_state, next_ask, outcome_in, state_in};
 ghost use Rattle.pam_dispatch.specs.Tree.{decided, runs_of_stack};
 
@@ -18,7 +20,7 @@ use crate::settle::settle;
 use crate::state::State;
 use crate::step::{Outcome, Step};
 use crate::work::Work;
-use pam_codes::{Code, Control};
+use pam_codes::{Code, Control, Parts};
 use pam_conf::Stack;
 use std::alloc::Global;
 use std::marker::Model;
@@ -29,6 +31,8 @@ pub struct Program {
     entries: Vec<Entry>,
     /// Where the modules stand in the list, in the order of their numbers.
     positions: Vec<usize>,
+    /// The parts of the modules' controls, in that order.
+    parts: Vec<Parts>,
 }
 
 impl Model for Program {
@@ -41,7 +45,7 @@ impl Model for Program {
 
     ghost view = { λ p. p.entries.items };
 
-    ghost invariant = { λ p. IsProgram p.entries.items p.positions.items };
+    ghost invariant = { λ p. IsProgram p.entries.items p.positions.items p.parts.items };
 }
 
 /// Where the modules stand in a flat list.
@@ -58,15 +62,40 @@ fn module_positions(alloc: Global, entries: &[Entry]) -> Result<Vec<usize>, Memo
     Ok(positions)
 }
 
-/// The step from a place.
-fn step_in(entries: &[Entry], place: &Place, code: Code) -> Step
+/// The parts of the controls in a flat list.
+fn module_parts(alloc: Global, entries: &[Entry]) -> Result<Vec<Parts>, Memory>
+    ensures { IfOk result (λ parts. AllZip IsParts (controls_in entries.now) parts.items) }
+{
+    let mut parts = Vec::new(alloc);
+    for entry in entries {
+        match entry {
+            Entry::Module { control, .. } => parts.push(control.parts())?,
+            Entry::Substack { .. } => {}
+        }
+    }
+    Ok(parts)
+}
+
+/// What an answer makes of a run, and where the run goes on.
+#[derive(Clone, Copy)]
+struct Answered {
+    outcome: Outcome,
+    /// The level of the list that goes on.
+    level: usize,
+    /// How many of its items are passed over.
+    skip: usize,
+}
+
+/// What an answer makes of the run at a place.
+fn answer_at(entries: &[Entry], place: &Place, code: Code) -> Answered
     requires entries { All IsShallow entries.now }
     requires place { IsPlaceOf entries.now place.now }
     requires asking { IsSome (asked_module (rest_of entries.now place.now)) }
-    ensures place { IsPlaceOf entries.now result.place }
-    ensures rest { rest_of entries.now result.place ≡ after_answer (rest_of entries.now place.now) code }
     ensures outcome { outcome_in (rest_of entries.now place.now) code ≡ result.outcome }
-    ensures state { result.place.state ≡ result.outcome.state }
+    ensures rest { after_answer (rest_of entries.now place.now) code
+        ≡ resume (drop (place.now.position + 1) entries.now) result.level result.skip (take place.now.depth place.now.entered.states) result.outcome.state }
+    ensures below { result.level < place.now.depth }
+    ensures within { place.now.position < length entries.now }
 {
     match &entries[place.position] {
         Entry::Module {
@@ -77,21 +106,39 @@ fn step_in(entries: &[Entry], place: &Place, code: Code) -> Step
         } => {
             let entry = place.entered.at(*level);
             let outcome = Outcome::of(control.action(code), code, place.state, entry, *behind);
-            let next = settle(
-                entries,
-                place.position + 1,
-                *level,
-                *behind - outcome.left,
-                place.depth,
-                place.entered,
-                &outcome.state,
-            );
-            Step {
-                place: next,
+            Answered {
                 outcome,
+                level: *level,
+                skip: *behind - outcome.left,
             }
         }
         Entry::Substack { .. } => unreachable!(),
+    }
+}
+
+/// The step from a place.
+fn step_in(entries: &[Entry], place: &Place, code: Code) -> Step
+    requires entries { All IsShallow entries.now }
+    requires place { IsPlaceOf entries.now place.now }
+    requires asking { IsSome (asked_module (rest_of entries.now place.now)) }
+    ensures place { IsPlaceOf entries.now result.place }
+    ensures rest { rest_of entries.now result.place ≡ after_answer (rest_of entries.now place.now) code }
+    ensures outcome { outcome_in (rest_of entries.now place.now) code ≡ result.outcome }
+    ensures state { result.place.state ≡ result.outcome.state }
+{
+    let answered = answer_at(entries, place, code);
+    let next = settle(
+        entries,
+        place.position + 1,
+        answered.level,
+        answered.skip,
+        place.depth,
+        place.entered,
+        &answered.outcome.state,
+    );
+    Step {
+        place: next,
+        outcome: answered.outcome,
     }
 }
 
@@ -105,7 +152,12 @@ impl Program {
         let mut entries = Vec::new(alloc);
         flatten(stack.items(), 0, &mut entries)?;
         let positions = module_positions(alloc, &entries)?;
-        Ok(Program { entries, positions })
+        let parts = module_parts(alloc, &entries)?;
+        Ok(Program {
+            entries,
+            positions,
+            parts,
+        })
     }
 
     /// How many modules there are.
@@ -133,6 +185,19 @@ impl Program {
         }
     }
 
+    /// The parts of the control of a module.
+    pub fn parts(&self, number: usize) -> &Parts
+        requires first { 1 ≤ number }
+        requires last { number ≤ modules_of self.now }
+        ensures value { IsParts (control_at self.now number) result.now }
+
+        // Those of the control by which the module is asked, wherever that is.
+        ensures asked { (place : Place) → IsPlaceOf self.now place → asked_module (rest_of self.now place) ≡ Some number
+            → IsParts (next_ask (rest_of self.now place)).control result.now }
+    {
+        &self.parts[number - 1]
+    }
+
     /// Where a run begins.
     pub fn first(&self) -> Place
         ensures place { IsPlaceOf self.now result }
@@ -145,6 +210,15 @@ impl Program {
             states: [start; LISTS],
         };
         settle(&self.entries, 0, 0, 0, 1, entered, &start)
+    }
+
+    /// What an answer makes of the run at a place, without going there.
+    pub fn outcome(&self, place: &Place, code: Code) -> Outcome
+        requires place { IsPlaceOf self.now place.now }
+        requires asking { IsSome (asked_module (rest_of self.now place.now)) }
+        ensures { outcome_in (rest_of self.now place.now) code ≡ result }
+    {
+        answer_at(&self.entries, place, code).outcome
     }
 
     /// The step that an answer makes. It is counted in `work`.

@@ -1,9 +1,10 @@
 //! The state of a run.
 
-ghost use Rattle.std.specs.Prelude.{◌≡◌, ◌==◌};
-ghost use Rattle.pam_dispatch.specs.State.{success, perm_denied, start_state, accepted, refused};
+ghost use Rattle.std.specs.Prelude.{◌≡◌};
+ghost use Rattle.pam_dispatch.specs.Alike.{looks_at_code, takes_refused, takes_accepted};
+ghost use Rattle.pam_dispatch.specs.State.{start_state, accepted, refused};
 
-use pam_codes::Code;
+use pam_codes::{Action, Code};
 
 /// What the modules so far made of the request.
 #[derive(Clone, Copy, Debug, PartialEq, Eq)]
@@ -27,23 +28,49 @@ impl State {
     {
         State {
             impression: Impression::Undef,
-            status: perm_denied(),
+            status: Code::PERM_DENIED,
         }
+    }
+
+    /// Whether the status after an action comes from the code of the answer, and not from this state alone.
+    pub fn looks_at_code(self, action: Action) -> bool
+        ensures { result ≡ looks_at_code action self }
+    {
+        match action {
+            Action::Ignore | Action::Reset | Action::Jump(_) => false,
+            Action::Ok | Action::Done => self.takes_accepted(),
+            Action::Bad | Action::Die => self.takes_refused(),
+        }
+    }
+
+    /// Whether a code that is let count becomes the status.
+    fn takes_accepted(&self) -> bool
+        ensures { result ≡ takes_accepted self.now.impression self.now.status }
+    {
+        match self.impression {
+            Impression::Undef => true,
+            Impression::Positive => self.status == Code::SUCCESS,
+            Impression::Negative => false,
+        }
+    }
+
+    /// Whether a code that fails the stack becomes the status.
+    fn takes_refused(&self) -> bool
+        ensures { result ≡ takes_refused self.now.impression }
+    {
+        self.impression != Impression::Negative
     }
 
     /// The state after a code that is let count.
     pub(crate) fn accept(self, code: Code) -> State
         ensures { result ≡ accepted self.impression self.status code }
     {
-        let positive = State {
+        if !self.takes_accepted() {
+            return self;
+        }
+        State {
             impression: Impression::Positive,
             status: code,
-        };
-        match self.impression {
-            Impression::Undef => positive,
-            Impression::Positive if is_success(self.status) => positive,
-            Impression::Positive => self,
-            Impression::Negative => self,
         }
     }
 
@@ -51,13 +78,13 @@ impl State {
     pub(crate) fn refuse(self, code: Code) -> State
         ensures { result ≡ refused self.impression self.status code }
     {
-        if self.impression == Impression::Negative {
+        if !self.takes_refused() {
             return self;
         }
         State {
             impression: Impression::Negative,
-            status: if code.number() == 25 {
-                perm_denied()
+            status: if code == Code::IGNORE {
+                Code::PERM_DENIED
             } else {
                 code
             },
@@ -71,18 +98,4 @@ impl Default for State {
     fn default() -> State {
         State::start()
     }
-}
-
-/// The code perm_denied.
-pub(crate) fn perm_denied() -> Code
-    ensures { result ≡ perm_denied }
-{
-    Code::new(6).unwrap()
-}
-
-/// Whether a code is success.
-pub(crate) fn is_success(code: Code) -> bool
-    ensures { result ≡ (code == success) }
-{
-    code.number() == 0
 }

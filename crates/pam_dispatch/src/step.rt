@@ -4,7 +4,7 @@ ghost use Rattle.std.specs.Prelude.{◌≡◌, ◌-◌, nat_le, if◌then◌else
 ghost use Rattle.pam_dispatch.specs.State.{act, left_of, left_unless_positive, state_with, perm_denied};
 
 use crate::place::Place;
-use crate::state::{Impression, State, perm_denied};
+use crate::state::{Impression, State};
 use pam_codes::{Action, Code};
 
 /// What an answer makes of a run: the new state, and how many items of the module's own list are still to come.
@@ -79,7 +79,7 @@ fn jump(items: usize, state: State, behind: usize) -> Outcome
     Outcome {
         state: State {
             impression: Impression::Negative,
-            status: perm_denied(),
+            status: Code::PERM_DENIED,
         },
         left: 0,
     }

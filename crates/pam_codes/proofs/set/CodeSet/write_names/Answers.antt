@@ -1,0 +1,36 @@
+use Rattle.std.proofs.Common.{◌&&◌, ◌∙◌, List, ℕ, Some, not, ap, sym, subst, arith}
+use Rattle.pam_codes.specs.Set.{codes_where, is_in}
+use Rattle.pam_codes.proofs.SetNames.{AreWritten, AreWritten-none, AreWritten-all, AreWritten-failed, AreWritten-more, less_codes}
+use Rattle.pam_codes.proofs.Writing.{err-front}
+use Rattle.pam_codes.proofs.set.CodeSet.write_names.Goals as goal
+
+pub loop-code-init : goal.loop-code-init
+loop-code-init g c = AreWritten-none _ _ _ _ c.as_slice-separator.ensures
+
+pub put_line-requires : goal.put_line-requires
+put_line-requires g c = omega (arith, c.requires, c.loop-code.invariant.took.as_before)
+
+pub returns-in_err-put_line : goal.returns-in_err-put_line
+returns-in_err-put_line g c =
+    let l = c.loop-code in
+    let named = c.name.ensures ∙ ap (λ (name : List ℕ). Some name) (sym c.as_bytes-name.ensures.value) in
+    err-front _ c.from_residual.ensures.0
+    (AreWritten-failed _ _ _ _ _ _ l.invariant c.in-Some.code _ (sym c.in-Some.ensures.first) named _ c.in_err-put_line.ensures)
+
+pub loop-code-smaller : goal.loop-code-smaller
+loop-code-smaller g c =
+    let remaining = c.loop-code.remaining in
+    less_codes remaining _ c.in-Some.code (sym c.in-Some.ensures.first) c.in-Some.ensures.order
+    (c.without-remaining.ensures ∙ ap (λ (one : List ℕ). codes_where (λ x. is_in x remaining && not (is_in x one))) c.single.ensures)
+
+pub loop-code-preserved : goal.loop-code-preserved
+loop-code-preserved g c =
+    let l = c.loop-code in
+    let named = c.name.ensures ∙ ap (λ (name : List ℕ). Some name) (sym c.as_bytes-name.ensures.value) in
+    subst (λ (separator : List ℕ). AreWritten g.W.Write.contents c.args.out.now c.put_line.new.self separator c.without-remaining.result c.args.self)
+    (sym c.as_slice-separator-in-Some.ensures)
+    (AreWritten-more _ _ _ _ _ _ l.invariant c.in-Some.code _ (sym c.in-Some.ensures.first) named _ _ c.in_ok-put_line.ensures c.in-Some.ensures.order
+    (c.without-remaining.ensures ∙ ap (λ (one : List ℕ). codes_where (λ x. is_in x l.remaining && not (is_in x one))) c.single.ensures))
+
+pub returns : goal.returns
+returns g c = AreWritten-all _ _ _ _ _ _ c.loop-code.invariant (sym c.in_default.ensures.first)

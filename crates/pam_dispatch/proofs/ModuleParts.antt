@@ -1,0 +1,35 @@
+-- The parts of the modules' controls, entry by entry.
+use Rattle.std.proofs.Common.{◌≡◌, ℕ, ◌+◌, ◌<◌, ◌≤◌, List, [], ◌∷◌, ◌++◌, sym, subst, length, get_or, drop, append_assoc, append-nil}
+use Rattle.std.specs.List.{AllZip}
+use Rattle.std.proofs.lemmas.List.{drop_all}
+use Rattle.pam_codes.specs.declared.action.Action.{Action}
+use Rattle.pam_codes.specs.declared.parts.Part.{Part}
+use Rattle.pam_codes.specs.Parts.{IsParts}
+use Rattle.pam_dispatch.specs.declared.entry.Entry.{Entry}
+use Rattle.pam_dispatch.specs.declared.entry.Entry.TheVariants.{Module, Substack}
+use Rattle.pam_dispatch.specs.Flat.{controls_in}
+use Rattle.pam_dispatch.proofs.Resume.{at_place}
+
+-- the parts of the entries from a place on complete those that are there
+abbrev pub AreCompleted : List Entry → List (List Part) → ℕ → Type 0
+AreCompleted ts parts at = (more : List (List Part)) → AllZip IsParts (controls_in (drop at ts)) more → AllZip IsParts (controls_in ts) (parts ++ more)
+
+module _ (ts : List Entry) (at : ℕ) (parts : List (List Part)) (now : AreCompleted ts parts at) where
+  pub parts-module : (past : Entry) (level number : ℕ) (control : List Action) (behind : ℕ) (new : List Part) → at < length ts →
+      get_or ts at past ≡ Module level number control behind → IsParts control new → AreCompleted ts (parts ++ new ∷ []) (at + 1)
+  unfolding controls_in
+  parts-module past level number control behind new within is divided more rest =
+      rw append_assoc (now (new ∷ more)
+      (subst (λ (x : List Entry). AllZip IsParts (controls_in x) (new ∷ more))
+      (sym (at_place ts at past (Module level number control behind) within is)) (divided, rest)))
+
+  pub parts-substack : (past : Entry) (level : ℕ) → at < length ts → get_or ts at past ≡ Substack level → AreCompleted ts parts (at + 1)
+  unfolding controls_in
+  parts-substack past level within is more rest =
+      now more (subst (λ (x : List Entry). AllZip IsParts (controls_in x) more) (sym (at_place ts at past (Substack level) within is)) rest)
+
+  pub parts-end : length ts ≤ at → AllZip IsParts (controls_in ts) parts
+  unfolding controls_in
+  parts-end past =
+      subst (AllZip IsParts (controls_in ts)) (append-nil parts)
+      (now [] (subst (λ (x : List Entry). AllZip IsParts (controls_in x) []) (sym (drop_all at ts past)) tt))
