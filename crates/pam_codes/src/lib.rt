@@ -16,7 +16,7 @@ mod text;
 mod tokens;
 
 pub use action::Action;
-pub use code::{Code, is_name};
+pub use code::{CODES, Code, is_name};
 pub use control::Control;
 pub use error::ControlError;
 pub use line::Piece;

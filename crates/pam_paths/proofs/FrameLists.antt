@@ -1,0 +1,231 @@
+-- Frames, and the paths that are ahead of them.
+use Rattle.std.proofs.Common.{◌≡◌, ℕ, ◌+◌, ◌<◌, ◌≤◌, List, [], ◌∷◌, ◌++◌, map, refl, sym, ◌∙◌, ap, subst, arith, append_assoc, append-nil, length, reverse}
+use Rattle.std.proofs.Common.{Option, Some, None}
+use Rattle.std.proofs.lemmas.List.{map-append, reverse-reverse}
+use Rattle.pam_codes.specs.Code.{all_codes}
+use Rattle.pam_dispatch.specs.declared.entry.Entry.{Entry}
+use Rattle.pam_dispatch.specs.declared.place.Place.{Place}
+use Rattle.pam_dispatch.specs.Decision.{decision_of}
+use Rattle.pam_dispatch.specs.Flat.{IsPlaceOf, modules_of, rest_of}
+use Rattle.pam_dispatch.specs.Runs.{AsksRise, Runs, after_answer, asked_module, asks, ends, outcome_of, state_in}
+use Rattle.pam_paths.specs.declared.direction.Direction.{Direction}
+use Rattle.pam_paths.specs.declared.direction.Direction.TheVariants.{Forward, Backward}
+use Rattle.pam_paths.specs.declared.frames.Frame.{Frame}
+use Rattle.pam_paths.specs.declared.path.PathStep.{PathStep}
+use Rattle.pam_paths.specs.Classes.{Member}
+use Rattle.pam_paths.specs.Computed.{after_step, listing}
+use Rattle.pam_paths.specs.Directions.{ordered, outset, past}
+use Rattle.pam_paths.specs.Frames.{AreFrames, IsExploring, IsFrame, ahead, ahead_of, coming, offered_at, step_in, under}
+use Rattle.pam_paths.specs.Listing.{Allowance, IsLawful}
+use Rattle.pam_paths.specs.Paths.{PathValue, StepValue, path_of}
+use Rattle.pam_paths.specs.Steps.{step_seen}
+use Rattle.pam_paths.proofs.Listings.{some_assignment, listing-has}
+
+abbrev path : List StepValue → ℕ → PathValue
+path s d = record { steps = s; decision = d }
+
+-- PATHS UNDER FRAMES
+
+pub under-append : (fs : List Frame) (xs ys : List PathValue) → under fs (xs ++ ys) ≡ under fs xs ++ under fs ys
+unfolding under
+under-append [] xs ys = refl
+under-append (f ∷ fs) xs ys =
+    ap (map (after_step (step_in f))) (under-append fs xs ys) ∙ map-append (after_step (step_in f)) (under fs xs) (under fs ys)
+
+pub under-push : (fs : List Frame) (f : Frame) (ps : List PathValue) → under (fs ++ f ∷ []) ps ≡ under fs (map (after_step (step_in f)) ps)
+unfolding under
+under-push [] f ps = refl
+under-push (g ∷ fs) f ps = ap (map (after_step (step_in g))) (under-push fs f ps)
+
+pub under-nil : (fs : List Frame) → under fs [] ≡ []
+unfolding under
+under-nil [] = refl
+under-nil (f ∷ fs) = ap (map (after_step (step_in f))) (under-nil fs)
+
+-- at an end the one path is that of the frames
+ordered-end : (d : Direction) (allows : Allowance) (r : Runs) → asked_module r ≡ None →
+    ordered d (listing allows r) ≡ path [] (decision_of (state_in r)) ∷ []
+unfolding listing
+ordered-end Forward allows (ends s) e = refl
+ordered-end Backward allows (ends s) e = refl
+ordered-end d allows (asks ask next) e = absurd (let k : ⊥ = cc in k)
+
+under-path : (fs : List Frame) (decision : ℕ) → under fs (path [] decision ∷ []) ≡ path (map step_in fs) decision ∷ []
+unfolding under
+under-path [] decision = refl
+under-path (f ∷ fs) decision = ap (map (after_step (step_in f))) (under-path fs decision)
+
+-- THE FRAMES OF A PROGRAM
+
+AreFrames-push : (allows : Allowance) (program : List Entry) (low : ℕ) (fs : List Frame) (f : Frame) → AreFrames allows program low fs →
+    IsFrame allows program (low + length fs) f → AreFrames allows program low (fs ++ f ∷ [])
+unfolding AreFrames
+AreFrames-push allows program low [] f h k = (subst (λ x. IsFrame allows program x f) (omega arith) k, tt)
+AreFrames-push allows program low (g ∷ fs) f h k =
+    (h.0, AreFrames-push allows program (low + 1) fs f h.1 (subst (λ x. IsFrame allows program x f) (omega arith) k))
+
+AreFrames-pop : (allows : Allowance) (program : List Entry) (low : ℕ) (fs : List Frame) (f : Frame) → AreFrames allows program low (fs ++ f ∷ []) →
+    AreFrames allows program low fs × IsFrame allows program (low + length fs) f
+unfolding AreFrames
+AreFrames-pop allows program low [] f h = (tt, subst (λ x. IsFrame allows program x f) (omega arith) h.0)
+AreFrames-pop allows program low (g ∷ fs) f h =
+    let k = AreFrames-pop allows program (low + 1) fs f h.1 in
+    ((h.0, k.0), subst (λ x. IsFrame allows program x f) (omega arith) k.1)
+
+pub popped : (allows : Allowance) (program : List Entry) (items fs : List Frame) (f : Frame) → items ≡ fs ++ f ∷ [] → AreFrames allows program 0 items →
+    AreFrames allows program 0 fs × IsFrame allows program (length fs) f
+popped allows program items fs f e h =
+    let k = AreFrames-pop allows program 0 fs f (subst (λ x. AreFrames allows program 0 x) e h) in
+    (k.0, subst (λ x. IsFrame allows program x f) (omega arith) k.1)
+
+pub pushed : (allows : Allowance) (program : List Entry) (fs : List Frame) (f : Frame) → AreFrames allows program 0 fs →
+    IsFrame allows program (length fs) f → AreFrames allows program 0 (fs ++ f ∷ [])
+pushed allows program fs f h k = AreFrames-push allows program 0 fs f h (subst (λ x. IsFrame allows program x f) (omega arith) k)
+
+-- what is asked after a module has a greater number
+pub rise_after : (low n m c : ℕ) (r : Runs) → AsksRise low n r → asked_module r ≡ Some m →
+    (low < m) × (m ≤ n) × AsksRise m n (after_answer r c)
+unfolding AsksRise
+rise_after low n m c (ends s) h e = absurd (let k : ⊥ = cc in k)
+rise_after low n m c (asks ask next) h e =
+    let is : ask.module_number ≡ m = cc in
+    subst (λ x. (low < x) × (x ≤ n) × AsksRise x n (next (outcome_of ask c))) is (h.0, h.1, h.2 (outcome_of ask c))
+
+pub AsksRise-lower : (low high n : ℕ) (r : Runs) → low ≤ high → AsksRise high n r → AsksRise low n r
+unfolding AsksRise
+AsksRise-lower low high n (ends s) l h = tt
+AsksRise-lower low high n (asks ask next) l h = (omega (arith, h.0), h.1, h.2)
+
+pub frame_number : (allows : Allowance) (program : List Entry) (low : ℕ) (f : Frame) → IsFrame allows program low f →
+    (low < f.module_number) × (f.module_number ≤ modules_of program)
+frame_number allows program low f h = let k = rise_after low (modules_of program) f.module_number 0 _ h.rise h.asking in (k.0, k.1)
+
+pub frame_room : (allows : Allowance) (program : List Entry) (low : ℕ) (f : Frame) → IsFrame allows program low f → low < modules_of program
+frame_room allows program low f h = let k = frame_number allows program low f h in omega arith
+
+pub frame_after : (allows : Allowance) (program : List Entry) (low : ℕ) (f : Frame) (c : ℕ) (p : Place) → IsFrame allows program low f →
+    rest_of program p ≡ after_answer (rest_of program f.place) c → AsksRise (low + 1) (modules_of program) (rest_of program p)
+frame_after allows program low f c p h e =
+    let k = rise_after low (modules_of program) f.module_number c _ h.rise h.asking in
+    subst (λ x. AsksRise (low + 1) (modules_of program) x) (sym e) (AsksRise-lower (low + 1) f.module_number (modules_of program) _ (omega arith) k.2)
+
+pub AreFrames-length : (allows : Allowance) (program : List Entry) (low : ℕ) (fs : List Frame) → low ≤ modules_of program →
+    AreFrames allows program low fs → low + length fs ≤ modules_of program
+unfolding AreFrames
+AreFrames-length allows program low [] l h = omega arith
+AreFrames-length allows program low (f ∷ fs) l h =
+    let room = frame_room allows program low f h.0 in
+    let k = AreFrames-length allows program (low + 1) fs (omega arith) h.1 in omega arith
+
+-- a frame follows another branch
+pub frame_same : (allows : Allowance) (program : List Entry) (low : ℕ) (f g : Frame) → IsFrame allows program low f →
+    g.place ≡ f.place → g.module_number ≡ f.module_number → g.offered ≡ f.offered → g.code < 31 → IsFrame allows program low g
+frame_same allows program low f g is place number offered code = record {
+  place = subst (λ (x : Place). IsPlaceOf program x) (sym place) is.place;
+  asking = subst (λ (x : Place). asked_module (rest_of program x) ≡ Some g.module_number) (sym place) (is.asking ∙ ap Some (sym number));
+  rise = subst (λ (x : Place). AsksRise low (modules_of program) (rest_of program x)) (sym place) is.rise;
+  offered = offered ∙ is.offered ∙ ap (λ (x : Place). offered_at allows (rest_of program x)) (sym place);
+  code = code;
+}
+
+-- WHAT IS AHEAD OF THEM
+
+-- at a module the listing is all its branches
+pub listing-ahead : (d : Direction) (allows : Allowance) (r : Runs) (m : ℕ) → asked_module r ≡ Some m →
+    ordered d (listing allows r) ≡ ahead_of d allows r (outset d)
+unfolding listing ahead_of all_codes
+listing-ahead d allows (ends s) m e = absurd (let k : ⊥ = cc in k)
+listing-ahead Forward allows (asks ask next) m e = refl
+listing-ahead Backward allows (asks ask next) m e = refl
+
+-- a listing has a path, where the knowledge leaves each module a code
+listing-some : (allows : Allowance) (low n : ℕ) (r : Runs) → AsksRise low n r → IsLawful allows n → listing allows r ≡ [] → ⊥
+unfolding Member
+listing-some allows low n r rise lawful e =
+    let a = some_assignment allows n lawful in
+    subst (λ x. Member (path_of r a.0) x) e (listing-has allows low n r a.0 rise a.1)
+
+reverse-empty : (ps : List PathValue) → reverse ps ≡ [] → ps ≡ []
+reverse-empty ps e = sym (reverse-reverse ps) ∙ ap reverse e
+
+pub ordered-some : (d : Direction) (allows : Allowance) (low n : ℕ) (r : Runs) → AsksRise low n r → IsLawful allows n → ordered d (listing allows r) ≡ [] → ⊥
+ordered-some Forward allows low n r rise lawful e = listing-some allows low n r rise lawful e
+ordered-some Backward allows low n r rise lawful e = listing-some allows low n r rise lawful (reverse-empty (listing allows r) e)
+
+module _ (d : Direction) (allows : Allowance) (program : List Entry) where
+  abbrev from : Frame → List PathValue
+  from f = ahead_of d allows (rest_of program f.place) (past d f.code)
+
+  pub ahead-push : (fs : List Frame) (f : Frame) → ahead d allows program (fs ++ f ∷ []) ≡ under fs (from f) ++ ahead d allows program fs
+  unfolding ahead under
+  ahead-push [] f = sym (append-nil _)
+  ahead-push (g ∷ fs) f =
+      let step = map (after_step (step_in g)) in
+      ap (λ (x : List PathValue). map (after_step (step_in g)) x ++ from g) (ahead-push fs f)
+      ∙ ap (λ (x : List PathValue). x ++ from g) (map-append (after_step (step_in g)) (under fs (from f)) (ahead d allows program fs))
+      ∙ append_assoc (map (after_step (step_in g)) (under fs (from f))) (map (after_step (step_in g)) (ahead d allows program fs)) (from g)
+
+  -- with no branch ahead of a frame, the paths are those ahead of the frames before it
+  pub ahead-none : (fs : List Frame) (f : Frame) → from f ≡ [] → ahead d allows program (fs ++ f ∷ []) ≡ ahead d allows program fs
+  ahead-none fs f e =
+      ahead-push fs f
+      ∙ ap (λ (x : List PathValue). under fs x ++ ahead d allows program fs) e
+      ∙ ap (λ (x : List PathValue). x ++ ahead d allows program fs) (under-nil fs)
+
+  -- the paths below a frame's branch, and those ahead of it
+  pub ahead-enter : (fs : List Frame) (g : Frame) (below paths : List PathValue) → paths ≡ map (after_step (step_in g)) below ++ from g →
+      under fs paths ++ ahead d allows program fs ≡ under (fs ++ g ∷ []) below ++ ahead d allows program (fs ++ g ∷ [])
+  ahead-enter fs g below paths is =
+      let here = map (after_step (step_in g)) below in
+      ap (λ (x : List PathValue). under fs x ++ ahead d allows program fs) is
+      ∙ ap (λ (x : List PathValue). x ++ ahead d allows program fs) (under-append fs here (from g))
+      ∙ append_assoc (under fs here) (under fs (from g)) (ahead d allows program fs)
+      ∙ ap (λ (x : List PathValue). x ++ (under fs (from g) ++ ahead d allows program fs)) (sym (under-push fs g below))
+      ∙ ap (λ (x : List PathValue). under (fs ++ g ∷ []) below ++ x) (sym (ahead-push fs g))
+
+  pub ahead-next : (fs : List Frame) (f g : Frame) (below : List PathValue) → from f ≡ map (after_step (step_in g)) below ++ from g →
+      ahead d allows program (fs ++ f ∷ []) ≡ under (fs ++ g ∷ []) below ++ ahead d allows program (fs ++ g ∷ [])
+  ahead-next fs f g below branch = ahead-push fs f ∙ ahead-enter fs g below (from f) branch
+
+  -- a frame that follows a branch, in the words of the branch
+  pub branch_followed : (r : Runs) (f g : Frame) (bound c : ℕ) (class : List ℕ) (below : List PathValue) →
+      r ≡ rest_of program g.place → g.module_number ≡ f.module_number → g.code ≡ c → g.class ≡ class →
+      ahead_of d allows r bound ≡ map (after_step (record { module_number = f.module_number; class = class })) below ++ ahead_of d allows r (past d c) →
+      ahead_of d allows r bound ≡ map (after_step (step_in g)) below ++ from g
+  branch_followed r f g bound c class below here number code same h =
+      h
+      ∙ ap (λ (x : ℕ). map (after_step (record { module_number = x; class = class })) below ++ ahead_of d allows r (past d c)) (sym number)
+      ∙ ap (λ (x : List ℕ). map (after_step (record { module_number = g.module_number; class = x })) below ++ ahead_of d allows r (past d c)) (sym same)
+      ∙ ap (λ (x : ℕ). map (after_step (step_in g)) below ++ ahead_of d allows r (past d x)) (sym code)
+      ∙ ap (λ (x : Runs). map (after_step (step_in g)) below ++ ahead_of d allows x (past d g.code)) here
+
+  -- the path at an end under some frames comes first
+  pub first_path : (before : List PathValue) (gs : List Frame) (q : Runs) (steps : List PathStep) (decision : ℕ) →
+      before ≡ under gs (ordered d (listing allows q)) ++ ahead d allows program gs →
+      asked_module q ≡ None → map step_seen steps ≡ map step_in gs → decision ≡ decision_of (state_in q) →
+      before ≡ record { steps = map step_seen steps; decision = decision } ∷ coming d allows program None gs
+  unfolding coming path
+  first_path before gs q steps decision b e s t =
+      b
+      ∙ ap (λ (x : List PathValue). under gs x ++ ahead d allows program gs) (ordered-end d allows q e)
+      ∙ ap (λ (x : List PathValue). x ++ ahead d allows program gs) (under-path gs (decision_of (state_in q)))
+      ∙ ap (λ (x : List StepValue). path x (decision_of (state_in q)) ∷ ahead d allows program gs) (sym s)
+      ∙ ap (λ (x : ℕ). path (map step_seen steps) x ∷ ahead d allows program gs) (sym t)
+
+  -- at a first place the paths are all from there on
+  pub coming-first : (first : Option Place) (fs : List Frame) (place : Place) → first ≡ Some place → IsExploring allows program first fs →
+      coming d allows program first fs ≡ under fs (ordered d (listing allows (rest_of program place))) ++ ahead d allows program fs
+  unfolding coming under ahead
+  coming-first None fs place e is = absurd (let k : ⊥ = cc in k)
+  coming-first (Some p) fs place e is =
+      let same : p ≡ place = cc in
+      let none : fs ≡ [] = is.start.2 in
+      let all = ordered d (listing allows (rest_of program place)) in
+      ap (λ (x : Place). ordered d (listing allows (rest_of program x))) same
+      ∙ sym (append-nil all)
+      ∙ ap (λ (x : List Frame). under x all ++ ahead d allows program x) (sym none)
+
+  pub coming-none : (first : Option Place) (fs : List Frame) → first ≡ None → coming d allows program first fs ≡ ahead d allows program fs
+  unfolding coming
+  coming-none None fs e = refl
+  coming-none (Some p) fs e = absurd (let k : ⊥ = cc in k)

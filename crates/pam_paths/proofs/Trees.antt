@@ -1,0 +1,53 @@
+-- From the open run of a stack to its tree.
+use Rattle.std.proofs.Common.{◌≡◌, ℕ, List, map, sym, ◌∙◌, ap, subst}
+use Rattle.pam_conf.specs.Stack.{Items}
+use Rattle.pam_dispatch.specs.Decision.{decision_of}
+use Rattle.pam_dispatch.specs.Runs.{Ask, Assignment, Runs, asked_by, final_state}
+use Rattle.pam_dispatch.specs.State.{start_state}
+use Rattle.pam_dispatch.specs.Tree.{asked, decided, runs_of_stack}
+use Rattle.pam_dispatch.proofs.OpenRuns.{asked_by-runs_of_stack, decision_of-runs_of_stack}
+use Rattle.pam_paths.specs.Laws.{PathOfStack}
+use Rattle.pam_paths.specs.Listing.{Allowance, IsListing, IsListingAfter, IsListingBefore}
+use Rattle.pam_paths.specs.Paths.{PathValue, StepValue, path_of, path_through, step_by}
+
+value : List StepValue → ℕ → PathValue
+value s d = record { steps = s; decision = d }
+
+pub path_of-stack : PathOfStack
+unfolding path_of path_through value
+path_of-stack items answers =
+    ap (λ (x : List Ask). value (map (step_by answers) x) (decision_of (final_state (runs_of_stack items) answers))) (asked_by-runs_of_stack items answers)
+    ∙ ap (value (map (step_by answers) (asked items start_state start_state answers))) (decision_of-runs_of_stack items answers)
+
+path_of-tree : (runs : Runs) (items : Items) → runs ≡ runs_of_stack items → (answers : Assignment) → path_of runs answers ≡ path_through items answers
+path_of-tree runs items is answers = ap (λ (r : Runs). path_of r answers) is ∙ path_of-stack items answers
+
+module _ (allows : Allowance) (n : ℕ) (runs : Runs) (items : Items) (is : runs ≡ runs_of_stack items) where
+  pub listing-tree : (paths : List PathValue) → IsListing allows n (path_of runs) paths → IsListing allows n (path_through items) paths
+  listing-tree paths h = record {
+    rising = h.rising;
+    members = λ p. (
+      λ m. let w = (h.members p).0 m in (w.0, w.1, w.2 ∙ path_of-tree runs items is w.0),
+      λ w. (h.members p).1 (w.0, w.1, w.2 ∙ sym (path_of-tree runs items is w.0)),
+    );
+  }
+
+  pub after-tree : (k : List ℕ) (paths : List PathValue) →
+      IsListingAfter allows n (path_of runs) k paths → IsListingAfter allows n (path_through items) k paths
+  after-tree k paths h = record {
+    rising = h.rising;
+    members = λ p. (
+      λ m. let w = (h.members p).0 m in ((w.0.0, w.0.1, w.0.2 ∙ path_of-tree runs items is w.0.0), w.1),
+      λ w. (h.members p).1 ((w.0.0, w.0.1, w.0.2 ∙ sym (path_of-tree runs items is w.0.0)), w.1),
+    );
+  }
+
+  pub before-tree : (k : List ℕ) (paths : List PathValue) →
+      IsListingBefore allows n (path_of runs) k paths → IsListingBefore allows n (path_through items) k paths
+  before-tree k paths h = record {
+    falling = h.falling;
+    members = λ p. (
+      λ m. let w = (h.members p).0 m in ((w.0.0, w.0.1, w.0.2 ∙ path_of-tree runs items is w.0.0), w.1),
+      λ w. (h.members p).1 ((w.0.0, w.0.1, w.0.2 ∙ sym (path_of-tree runs items is w.0.0)), w.1),
+    );
+  }

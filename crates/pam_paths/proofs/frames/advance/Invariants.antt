@@ -1,0 +1,15 @@
+use Rattle.std.proofs.Common.{◌≡◌, ◌+◌, ◌≤◌, length}
+use Rattle.pam_paths.specs.Frames.{ahead, AreFrames}
+use Rattle.pam_paths.proofs.frames.advance.Given as goal
+
+abbrev pub invariant-loop-frame : goal.invariant-loop-frame
+invariant-loop-frame g l =
+    let allows = g.K.Knowledge.allows l.knowledge in
+    record {
+      frames : AreFrames allows l.program 0 l.frames.items;
+      same : ahead l.direction allows l.program l.initial.frames.items ≡ ahead l.direction allows l.program l.frames.items;
+      work : l.work + length l.frames.items ≤ l.initial.work + length l.initial.frames.items;
+    }
+
+abbrev pub decreases-loop-frame : goal.decreases-loop-frame
+decreases-loop-frame g l = length l.frames.items

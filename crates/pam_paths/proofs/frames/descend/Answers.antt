@@ -1,0 +1,98 @@
+use Rattle.std.proofs.Common.{◌<◌, ◌++◌, length, List, arith, ap, sym, ◌∙◌, subst, lit<}
+use Rattle.pam_dispatch.specs.Flat.{rest_of, modules_of}
+use Rattle.pam_dispatch.specs.Runs.{AsksRise, Runs}
+use Rattle.pam_dispatch.specs.declared.place.Place.{Place}
+use Rattle.pam_paths.specs.declared.frames.Frame.{Frame}
+use Rattle.pam_paths.specs.Computed.{listing}
+use Rattle.pam_paths.specs.Directions.{ordered}
+use Rattle.pam_paths.specs.Frames.{ahead, ahead_of, under, AreFrames, IsFrame}
+use Rattle.pam_paths.proofs.FrameLists.{ahead-enter, branch_followed, frame_after, frame_number, frame_same, listing-ahead, ordered-some, pushed, rise_after}
+use Rattle.pam_paths.proofs.frames.descend.Goals as goal
+
+pub push-requires : goal.push-requires
+push-requires g c =
+    let i = c.loop-module_number.invariant in
+    let program = c.args.program.now in
+    let asked = sym (c.in-Some.ensures program i.place) in
+    let k = rise_after _ (modules_of program) _ 0 _ i.rise asked in
+    let room : length c.loop-module_number.frames.items < 256 = omega (arith, k.0, k.1, c.requires.few) in
+    (lit< tt, room)
+
+pub loop-module_number-smaller : goal.loop-module_number-smaller
+loop-module_number-smaller g c =
+    let i = c.loop-module_number.invariant in
+    let program = c.args.program.now in
+    let asked = sym (c.in-Some.ensures program i.place) in
+    let k = rise_after _ (modules_of program) _ 0 _ i.rise asked in
+    omega (arith, c.push.ensures.len, k.0, k.1)
+
+pub unreachable-requires : goal.unreachable-requires
+unreachable-requires g c =
+    let i = c.loop-module_number.invariant in
+    let allows = g.K.Knowledge.allows c.args.knowledge.now in
+    let program = c.args.program.now in
+    let d = c.args.direction in
+    let r = rest_of program c.loop-module_number.place in
+    let asked = sym (c.in-Some.ensures program i.place) in
+    let is = c.at-frame.ensures.frame (length c.loop-module_number.frames.items) i.rise in
+    ordered-some d allows _ (modules_of program) r i.rise
+    (λ m first last. g.met.K.Knowledge.lawful c.args.knowledge.now m first (omega (arith, last, c.requires.few)))
+    (listing-ahead d allows r c.in-Some.module_number asked
+    ∙ ap (ahead_of d allows r) (sym c.outset.ensures.value)
+    ∙ ap (λ (x : Place). ahead_of d allows (rest_of program x) c.outset.result) (sym c.at-frame.ensures.place)
+    ∙ c.in-None.ensures.none allows is.offered)
+
+pub loop-module_number-preserved : goal.loop-module_number-preserved
+loop-module_number-preserved g c =
+    let i = c.loop-module_number.invariant in
+    let allows = g.K.Knowledge.allows c.args.knowledge.now in
+    let program = c.args.program.now in
+    let d = c.args.direction in
+    let fs = c.loop-module_number.frames.items in
+    let b = c.in-Some-branch_ahead.branch in
+    let e = c.in-Some-branch_ahead.ensures in
+    let f : Frame = c.at-frame.result in
+    let h : Frame = c.following.result in
+    let k = c.following.ensures in
+    let is : IsFrame allows program (length fs) f = c.at-frame.ensures.frame (length fs) i.rise in
+    let low : h.code < 31 = omega (arith, k.code, e.code) in
+    let r = rest_of program f.place in
+    let below = ordered d (listing allows (rest_of program b.place)) in
+    record {
+      frames = subst (λ x. AreFrames allows program 0 x) (sym c.push.ensures.items)
+          (pushed allows program fs h i.frames (frame_same allows program (length fs) f h is k.place k.number k.offered low));
+      place = e.place;
+      rise = subst (λ x. AsksRise x (modules_of program) (rest_of program b.place)) (sym c.push.ensures.len)
+          (frame_after allows program (length fs) f b.code b.place is e.rest);
+      same = i.same
+          ∙ ahead-enter d allows program fs h below (ordered d (listing allows (rest_of program c.loop-module_number.place)))
+          (ap (λ (x : Place). ordered d (listing allows (rest_of program x))) (sym c.at-frame.ensures.place)
+          ∙ listing-ahead d allows r f.module_number is.asking
+          ∙ ap (ahead_of d allows r) (sym c.outset.ensures.value)
+          ∙ branch_followed d allows program r f h c.outset.result b.code b.class below
+          (ap (λ (x : Place). rest_of program x) (sym k.place)) k.number k.code k.class
+          (e.paths allows is.offered))
+          ∙ ap (λ (x : List Frame). under x below ++ ahead d allows program x) (sym c.push.ensures.items);
+      work = omega (arith, c.push.ensures.len, c.branch_ahead.ensures.work, i.work);
+    }
+
+pub branch_ahead-requires-clause-first : goal.branch_ahead-requires-clause-first
+branch_ahead-requires-clause-first g c =
+    let i = c.loop-module_number.invariant in
+    omega (arith, (frame_number _ _ _ _ (c.at-frame.ensures.frame (length c.loop-module_number.frames.items) i.rise)).0)
+
+pub branch_ahead-requires-clause-last : goal.branch_ahead-requires-clause-last
+branch_ahead-requires-clause-last g c =
+    let i = c.loop-module_number.invariant in
+    (frame_number _ _ _ _ (c.at-frame.ensures.frame (length c.loop-module_number.frames.items) i.rise)).1
+
+pub at-frame-requires-clause-first : goal.at-frame-requires-clause-first
+at-frame-requires-clause-first g c =
+    let i = c.loop-module_number.invariant in
+    let k = rise_after _ (modules_of c.args.program.now) _ 0 _ i.rise (sym (c.in-Some.ensures c.args.program.now i.place)) in
+    omega (arith, k.0)
+
+pub at-frame-requires-clause-last : goal.at-frame-requires-clause-last
+at-frame-requires-clause-last g c =
+    let i = c.loop-module_number.invariant in
+    (rise_after _ (modules_of c.args.program.now) _ 0 _ i.rise (sym (c.in-Some.ensures c.args.program.now i.place))).1

@@ -1,0 +1,23 @@
+use Rattle.std.proofs.Common.{◌≡◌, ◌+◌, ◌-◌, ◌≤◌, ◌++◌, length}
+use Rattle.pam_dispatch.specs.Flat.{rest_of, IsPlaceOf, modules_of}
+use Rattle.pam_dispatch.specs.Runs.{AsksRise}
+use Rattle.pam_paths.specs.Computed.{listing}
+use Rattle.pam_paths.specs.Directions.{ordered}
+use Rattle.pam_paths.specs.Frames.{ahead, under, AreFrames}
+use Rattle.pam_paths.proofs.frames.descend.Given as goal
+
+abbrev pub invariant-loop-module_number : goal.invariant-loop-module_number
+invariant-loop-module_number g l =
+    let allows = g.K.Knowledge.allows l.knowledge in
+    let d = l.direction in
+    record {
+      frames : AreFrames allows l.program 0 l.frames.items;
+      place : IsPlaceOf l.program l.place;
+      rise : AsksRise (length l.frames.items) (modules_of l.program) (rest_of l.program l.place);
+      same : under l.initial.frames.items (ordered d (listing allows (rest_of l.program l.initial.place))) ++ ahead d allows l.program l.initial.frames.items
+          ≡ under l.frames.items (ordered d (listing allows (rest_of l.program l.place))) ++ ahead d allows l.program l.frames.items;
+      work : l.work + length l.initial.frames.items ≤ l.initial.work + length l.frames.items;
+    }
+
+abbrev pub decreases-loop-module_number : goal.decreases-loop-module_number
+decreases-loop-module_number g l = modules_of l.program - length l.frames.items

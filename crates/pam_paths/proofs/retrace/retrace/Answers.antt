@@ -1,0 +1,149 @@
+use Rattle.std.proofs.Common.{◌≡◌, ◌+◌, ◌≤◌, ◌++◌, ◌&&◌, ◌∷◌, [], ℕ, Bool, List, cond, drop, length, get_or, sym, ap, subst, ◌∙◌, arith, Some}
+use Rattle.std.proofs.lemmas.List.{drop_all, get_or_default}
+use Rattle.pam_dispatch.specs.declared.place.Place.{Place}
+use Rattle.pam_dispatch.specs.Flat.{modules_of, rest_of, runs_of}
+use Rattle.pam_dispatch.specs.Runs.{AsksRise, Runs}
+use Rattle.pam_paths.specs.declared.frames.Frame.{Frame}
+use Rattle.pam_paths.specs.Retrace.{further, standing_of}
+use Rattle.pam_paths.specs.declared.direction.Direction.{Direction}
+use Rattle.pam_paths.specs.Frames.{AreFrames, ahead, part, under}
+use Rattle.pam_paths.proofs.FrameLists.{rise_after, AsksRise-lower}
+use Rattle.pam_paths.proofs.Standings.{further-more, further-none}
+use Rattle.pam_paths.proofs.Retracing.{first_frames, first_part, kept-each, kept-frames, kept-many, left-cons, nothing_left, part-kept, standing-asked}
+use Rattle.pam_paths.proofs.Retracing.{standing-end, standing-long, standing-refused, standing-short}
+use Rattle.pam_paths.proofs.retrace.retrace.Goals as goal
+
+pub loop-index-init : goal.loop-index-init
+loop-index-init g c =
+    let allows = g.K.Knowledge.allows c.args.knowledge.now in
+    let program = c.args.program.now in
+    let codes = c.args.codes.now in
+    let none = c.requires.none in
+    let whole : runs_of program ≡ rest_of program c.first-place.result = sym c.first-place.ensures.whole in
+    let empty : length c.args.frames.now.items ≡ 0 = ap (λ (x : List Frame). length x) none in
+    record {
+      standing = ap (λ (r : Runs). standing_of r codes) whole ∙ further-none _;
+      frames = first_frames allows program c.args.frames.now.items none;
+      place = c.first-place.ensures.place;
+      rise = subst (λ (r : Runs). AsksRise 0 (modules_of program) r) whole c.first-place.ensures.rise;
+      many = omega (arith, empty);
+      each = λ t. empty;
+      within = omega arith;
+      paths = λ d. ap (λ (r : Runs). part d allows r codes) whole
+          ∙ first_part d allows program c.args.frames.now.items (part d allows (rest_of program c.first-place.result) codes) none;
+      work = omega arith;
+    }
+
+pub loop-index-preserved : goal.loop-index-preserved
+loop-index-preserved g c =
+    let allows = g.K.Knowledge.allows c.args.knowledge.now in
+    let program = c.args.program.now in
+    let codes = c.args.codes.now in
+    let i = c.loop-index.invariant in
+    let n = c.loop-index.index in
+    let fs = c.loop-index.frames.items in
+    let t = c.in-Some-take_turn.turn in
+    let e = c.in-Some-take_turn.ensures in
+    let m = c.in-Some.module_number in
+    let code = c.code_numbered.result in
+    let r = rest_of program c.loop-index.place in
+    let q = rest_of program t.place in
+    let asked = sym (c.in-Some.ensures program i.place) in
+    let k = rise_after n (modules_of program) m code r i.rise asked in
+    let rise : AsksRise (n + 1) (modules_of program) q =
+    subst (λ (x : Runs). AsksRise (n + 1) (modules_of program) x) (sym e.rest) (AsksRise-lower (n + 1) m (modules_of program) _ (omega (arith, k.0)) k.2) in
+    let here : r ≡ rest_of program t.frame.place = ap (λ (x : Place). rest_of program x) (sym e.at) in
+    let left : drop n codes ≡ code ∷ drop (n + 1) codes =
+    left-cons codes n code c.loop-index-test.true (c.code_numbered.ensures ∙ get_or_default codes n 0 code c.loop-index-test.true) in
+    let kept = e.kept in
+    let again : Direction → List Frame → Bool → Type 0 = λ d x b.
+    part d allows (runs_of program) codes ≡ cond b (under x (part d allows q (drop (n + 1) codes))) [] ++ ahead d allows program x in
+    let both : (c.loop-index.offered && t.offered) ≡ c.both-offered.result = sym c.both-offered.ensures in
+    record {
+      standing = i.standing ∙ ap (λ (x : List ℕ). further n (standing_of r x)) left
+          ∙ ap (further n) (standing-asked r q m code (drop (n + 1) codes) asked e.least e.rest) ∙ further-more n (standing_of q (drop (n + 1) codes));
+      frames = subst (AreFrames allows program 0) (sym kept)
+          (kept-frames allows program fs t.frame c.loop-index.offered n i.each i.frames (e.frame n i.rise));
+      place = e.place;
+      rise = rise;
+      many = subst (λ (x : List Frame). length x ≤ n + 1) (sym kept) (kept-many fs t.frame c.loop-index.offered n i.many);
+      each = λ h. ap (λ (x : List Frame). length x) kept ∙ kept-each fs t.frame c.loop-index.offered t.offered n i.each (both ∙ h);
+      within = omega (arith, k.0, k.1);
+      paths = λ d. subst (again d c.take_turn.new.frames.items) both (subst (λ (x : List Frame). again d x (c.loop-index.offered && t.offered)) (sym kept)
+          (part-kept d allows program fs t.frame r q m code (drop (n + 1) codes) asked here e.code e.step e.rest c.loop-index.offered t.offered _ e.offered
+          (i.paths d ∙ ap (λ (x : List ℕ). cond c.loop-index.offered (under fs (part d allows r x)) [] ++ ahead d allows program fs) left)));
+      work = omega (arith, i.work, c.take_turn.ensures.work);
+    }
+
+pub take_turn-requires-clause-room : goal.take_turn-requires-clause-room
+take_turn-requires-clause-room g c h =
+    let i = c.loop-index.invariant in
+    let program = c.args.program.now in
+    let k = rise_after c.loop-index.index (modules_of program) _ 0 _ i.rise (sym (c.in-Some.ensures program i.place)) in
+    omega (arith, i.each h, k.0, k.1, c.first-place.ensures.few)
+
+pub returns-in_default-clause-standing : goal.returns-in_default-clause-standing
+returns-in_default-clause-standing g c =
+    let i = c.loop-index.invariant in
+    let program = c.args.program.now in
+    let codes : List ℕ = c.args.codes.now in
+    let n = c.loop-index.index in
+    let code : ℕ = get_or codes n 0 in
+    let r = rest_of program c.loop-index.place in
+    let ended = sym (c.in_default.ensures program i.place) in
+    let left : drop n codes ≡ code ∷ drop (n + 1) codes =
+    left-cons codes n code c.loop-index-test.true (get_or_default codes n 0 code c.loop-index-test.true) in
+    ap Some (sym (i.standing ∙ ap (λ (x : List ℕ). further n (standing_of r x)) left ∙ ap (further n) (standing-long r code (drop (n + 1) codes) ended)))
+
+pub returns-in_default-take_turn-clause-standing : goal.returns-in_default-take_turn-clause-standing
+returns-in_default-take_turn-clause-standing g c =
+    let i = c.loop-index.invariant in
+    let program = c.args.program.now in
+    let codes : List ℕ = c.args.codes.now in
+    let n = c.loop-index.index in
+    let code : ℕ = c.code_numbered.result in
+    let r = rest_of program c.loop-index.place in
+    let asked = sym (c.in-Some.ensures program i.place) in
+    let left : drop n codes ≡ code ∷ drop (n + 1) codes =
+    left-cons codes n code c.loop-index-test.true (c.code_numbered.ensures ∙ get_or_default codes n 0 code c.loop-index-test.true) in
+    ap Some (sym (i.standing ∙ ap (λ (x : List ℕ). further n (standing_of r x)) left
+    ∙ ap (further n) (standing-refused r c.in-Some.module_number code (drop (n + 1) codes) asked c.in_default-take_turn.ensures.not_least)))
+
+pub returns-in-Some-module-clause-standing : goal.returns-in-Some-module-clause-standing
+returns-in-Some-module-clause-standing g c =
+    let i = c.loop-index.invariant in
+    let program = c.args.program.now in
+    let r = rest_of program c.loop-index.place in
+    let asked = sym (c.in-Some-module.ensures program i.place) in
+    ap Some (sym (i.standing ∙ ap (λ (x : List ℕ). further c.loop-index.index (standing_of r x))
+    (drop_all c.loop-index.index c.args.codes.now c.loop-index-test.false)
+    ∙ ap (further c.loop-index.index) (standing-short r c.in-Some-module.field-0 asked)))
+
+pub returns-in-None-clause-standing : goal.returns-in-None-clause-standing
+returns-in-None-clause-standing g c =
+    let i = c.loop-index.invariant in
+    let program = c.args.program.now in
+    let r = rest_of program c.loop-index.place in
+    let ended = sym (c.in-None.ensures program i.place) in
+    i.standing ∙ ap (λ (x : List ℕ). further c.loop-index.index (standing_of r x)) (drop_all c.loop-index.index c.args.codes.now c.loop-index-test.false)
+    ∙ ap (further c.loop-index.index) (standing-end r ended)
+
+pub returns-in-None-clause-paths : goal.returns-in-None-clause-paths
+returns-in-None-clause-paths g c d =
+    let i = c.loop-index.invariant in
+    let program = c.args.program.now in
+    let ended = sym (c.in-None.ensures program i.place) in
+    sym (i.paths d
+    ∙ nothing_left d (g.K.Knowledge.allows c.args.knowledge.now) program c.loop-index.frames.items
+    (rest_of program c.loop-index.place) c.loop-index.offered _ ended)
+
+pub take_turn-requires-clause-first : goal.take_turn-requires-clause-first
+take_turn-requires-clause-first g c =
+    let i = c.loop-index.invariant in
+    let k = rise_after c.loop-index.index (modules_of c.args.program.now) _ 0 _ i.rise (sym (c.in-Some.ensures c.args.program.now i.place)) in
+    omega (arith, k.0)
+
+pub take_turn-requires-clause-last : goal.take_turn-requires-clause-last
+take_turn-requires-clause-last g c =
+    let i = c.loop-index.invariant in
+    (rise_after c.loop-index.index (modules_of c.args.program.now) _ 0 _ i.rise (sym (c.in-Some.ensures c.args.program.now i.place))).1

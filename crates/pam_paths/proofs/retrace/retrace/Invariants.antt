@@ -1,0 +1,25 @@
+use Rattle.std.proofs.Common.{◌≡◌, ◌+◌, ◌*◌, ◌≤◌, ◌++◌, [], true, cond, drop, length}
+use Rattle.pam_dispatch.specs.Flat.{rest_of, runs_of, IsPlaceOf, modules_of}
+use Rattle.pam_dispatch.specs.Runs.{AsksRise}
+use Rattle.pam_paths.specs.Retrace.{further, standing_of}
+use Rattle.pam_paths.specs.declared.direction.Direction.{Direction}
+use Rattle.pam_paths.specs.Frames.{AreFrames, ahead, part, under}
+use Rattle.pam_paths.proofs.retrace.retrace.Given as goal
+
+abbrev pub invariant-loop-index : goal.invariant-loop-index
+invariant-loop-index g l =
+    let allows = g.K.Knowledge.allows l.knowledge in
+    let runs = runs_of l.program in
+    let left = drop l.index l.codes in
+    record {
+      standing : standing_of runs l.codes ≡ further l.index (standing_of (rest_of l.program l.place) left);
+      frames : AreFrames allows l.program 0 l.frames.items;
+      place : IsPlaceOf l.program l.place;
+      rise : AsksRise l.index (modules_of l.program) (rest_of l.program l.place);
+      many : length l.frames.items ≤ l.index;
+      each : l.offered ≡ true → length l.frames.items ≡ l.index;
+      within : l.index ≤ modules_of l.program;
+      paths : (d : Direction) → part d allows runs l.codes
+          ≡ cond l.offered (under l.frames.items (part d allows (rest_of l.program l.place) left)) [] ++ ahead d allows l.program l.frames.items;
+      work : l.work ≤ l.initial.work + l.index;
+    }

@@ -1,0 +1,27 @@
+use Rattle.std.proofs.Common.{◌∙◌, ℕ, List, sym, ap, arith}
+use Rattle.pam_dispatch.specs.declared.place.Place.{Place}
+use Rattle.pam_dispatch.specs.Flat.{rest_of}
+use Rattle.pam_dispatch.specs.Runs.{next_ask}
+use Rattle.pam_paths.specs.Classes.{class_of, least}
+use Rattle.pam_paths.specs.Paths.{StepValue}
+use Rattle.pam_paths.proofs.Branches.{offered_is, ask_number}
+use Rattle.pam_paths.proofs.retrace.take_turn.Goals as goal
+
+abbrev step_at : ℕ → List ℕ → StepValue
+step_at m class = record { module_number = m; class = class }
+
+pub returns-clause-step : goal.returns-clause-step
+returns-clause-step g c =
+    let program = c.args.program.now in
+    let ask = next_ask (rest_of program c.args.place) in
+    let f = c.following.ensures in
+    ap (λ (x : ℕ). step_at x c.following.result.class)
+    (f.number ∙ c.at-frame.ensures.number ∙ ask_number (rest_of program c.args.place) c.args.module_number c.requires.asking)
+    ∙ ap (step_at ask.module_number)
+    (f.class ∙ c.branch-branch.ensures.class ∙ ap (λ (x : Place). class_of (next_ask (rest_of program x)) c.args.code) c.at-frame.ensures.place)
+
+pub returns-clause-offered : goal.returns-clause-offered
+returns-clause-offered g c =
+    c.contains.ensures
+    ∙ offered_is (g.K.Knowledge.allows c.args.knowledge.now) (rest_of c.args.program.now c.args.place) c.at-frame.result.offered c.args.code
+    c.at-frame.ensures.offered (omega (arith, c.number.ensures))

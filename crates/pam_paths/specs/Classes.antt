@@ -1,0 +1,36 @@
+-- The answers that a run does not tell apart: pam.conf(5), the actions of a control.
+use Rattle.std.specs.Prelude.{◌≡◌, ◌⊎◌, ℕ, ◌==◌, Bool, ◌&&◌, List, [], ◌∷◌}
+use Rattle.pam_codes.specs.Set.{codes_where}
+use Rattle.pam_dispatch.specs.declared.state.Impression.{Impression}
+use Rattle.pam_dispatch.specs.declared.state.Impression.TheVariants.{Undef, Positive, Negative}
+use Rattle.pam_dispatch.specs.declared.step.Outcome.{Outcome}
+use Rattle.pam_dispatch.specs.Runs.{Ask, outcome_of}
+
+-- x is an element of the list
+unfoldable pub Member : {X : Type 0} → X → List X → Type 0
+Member x [] = ⊥
+Member x (y ∷ ys) = (x ≡ y) ⊎ Member x ys
+
+abbrev pub impression_number : Impression → ℕ
+impression_number Undef = 0
+impression_number Positive = 1
+impression_number Negative = 2
+
+-- two outcomes are the same: the same new state, and as many items of the module's own list still to come
+unfoldable pub same_outcome : Outcome → Outcome → Bool
+same_outcome o p =
+    ((impression_number o.state.impression == impression_number p.state.impression) && (o.state.status == p.state.status))
+    && (o.left == p.left)
+
+-- the codes that lead to an outcome
+unfoldable pub class_at : Ask → Outcome → List ℕ
+class_at ask o = codes_where (λ d. same_outcome o (outcome_of ask d))
+
+-- THE CLASS of a code where a module is asked: all codes alike to it, which are those with the same outcome
+abbrev pub class_of : Ask → ℕ → List ℕ
+class_of ask code = class_at ask (outcome_of ask code)
+
+-- the least code of a class
+abbrev pub least : List ℕ → ℕ
+least [] = 0
+least (code ∷ codes) = code

@@ -1,0 +1,62 @@
+-- How a list of codes stands to the paths of a stack, whatever is known of the answers: pam.conf(5), DESCRIPTION.
+use Rattle.std.specs.Prelude.{◌≡◌, ◌≢◌, ℕ, ◌+◌, List, ◌∷◌, ◌++◌, length, Option, None, Some, IfSome}
+use Rattle.pam_dispatch.specs.Runs.{Assignment}
+use Rattle.pam_paths.specs.declared.cursor.CursorError.{CursorError}
+use Rattle.pam_paths.specs.declared.cursor.CursorError.TheVariants.{Syntax, NotLeast, TooShort, TooLong}
+use Rattle.pam_paths.specs.Classes.{Member, least}
+use Rattle.pam_paths.specs.Paths.{PathValue, StepValue, key, key_of}
+use Rattle.pam_paths.specs.Listing.{AreCodes}
+
+-- the codes are the key of some path
+abbrev pub IsAccepted : ℕ → (Assignment → PathValue) → List ℕ → Type 0
+IsAccepted n path_by codes = (answers : Assignment) × AreCodes n answers × (codes ≡ key (path_by answers))
+
+-- some path has a step at this place, counted from 1: the codes before it are the path's key so far, and the code at
+-- it is in the step's class and is not its least
+pub record IsNotLeast (n : ℕ) (path_by : Assignment → PathValue) (codes : List ℕ) (place : ℕ) : Type 0 where
+  pub answers : Assignment
+  pub are_codes : AreCodes n answers
+  pub earlier : List StepValue
+  pub step : StepValue
+  pub later : List StepValue
+  pub steps : (path_by answers).steps ≡ earlier ++ step ∷ later
+  pub code : ℕ
+  pub rest : List ℕ
+  pub parts : codes ≡ key_of earlier ++ code ∷ rest
+  pub at : place ≡ length earlier + 1
+  pub inside : Member code step.class
+  pub other : code ≢ least step.class
+
+-- the codes are a proper prefix of some key
+abbrev pub IsTooShort : ℕ → (Assignment → PathValue) → List ℕ → Type 0
+IsTooShort n path_by codes =
+    (answers : Assignment) × AreCodes n answers × (code : ℕ) × (more : List ℕ) × (key (path_by answers) ≡ codes ++ code ∷ more)
+
+-- some key is a proper prefix of the codes
+abbrev pub IsTooLong : ℕ → (Assignment → PathValue) → List ℕ → Type 0
+IsTooLong n path_by codes =
+    (answers : Assignment) × AreCodes n answers × (code : ℕ) × (more : List ℕ) × (codes ≡ key (path_by answers) ++ code ∷ more)
+
+-- the four ways in which codes can stand to the paths
+pub data Standing : Type 0 where
+  accepted : Standing
+  not_least : ℕ → Standing
+  too_short : Standing
+  too_long : Standing
+
+abbrev pub Stands : ℕ → (Assignment → PathValue) → List ℕ → Standing → Type 0
+Stands n path_by codes accepted = IsAccepted n path_by codes
+Stands n path_by codes (not_least place) = IsNotLeast n path_by codes place
+Stands n path_by codes too_short = IsTooShort n path_by codes
+Stands n path_by codes too_long = IsTooLong n path_by codes
+
+-- the standing that an error tells; a fault of the text tells none
+abbrev pub standing_told : CursorError → Option Standing
+standing_told Syntax = None
+standing_told (NotLeast place) = Some (not_least place)
+standing_told TooShort = Some too_short
+standing_told TooLong = Some too_long
+
+-- an error answers a cursor where it tells how the cursor stands
+abbrev pub IsRefusal : ℕ → (Assignment → PathValue) → List ℕ → CursorError → Type 0
+IsRefusal n path_by codes error = IfSome (standing_told error) (Stands n path_by codes) × (standing_told error ≢ None)

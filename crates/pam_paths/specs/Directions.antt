@@ -1,0 +1,29 @@
+-- For proofs alone: listings and codes in either direction.
+use Rattle.std.specs.Prelude.{ℕ, ◌+◌, ◌<◌, ◌≤◌, List, reverse}
+use Rattle.pam_paths.specs.declared.direction.Direction.{Direction}
+use Rattle.pam_paths.specs.declared.direction.Direction.TheVariants.{Forward, Backward}
+use Rattle.pam_paths.specs.Paths.{PathValue}
+
+-- paths in the order of a direction
+abbrev pub ordered : Direction → List PathValue → List PathValue
+ordered Forward paths = paths
+ordered Backward paths = reverse paths
+
+-- the bound that has every code ahead, and the one that has those ahead that come after a code
+abbrev pub outset : Direction → ℕ
+outset Forward = 0
+outset Backward = 31
+
+abbrev pub past : Direction → ℕ → ℕ
+past Forward code = code + 1
+past Backward code = code
+
+-- a code is ahead of a bound
+abbrev pub IsAhead : Direction → ℕ → ℕ → Type 0
+IsAhead Forward bound code = bound ≤ code
+IsAhead Backward bound code = code < bound
+
+-- a code is met before another
+abbrev pub IsNearer : Direction → ℕ → ℕ → Type 0
+IsNearer Forward code other = code < other
+IsNearer Backward code other = other < code

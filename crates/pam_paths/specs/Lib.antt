@@ -1,0 +1,15 @@
+pub mod Classes
+pub mod Computed
+pub mod Cursor
+pub mod CursorText
+pub mod Directions
+pub mod Exploration
+pub mod Frames
+pub mod Known
+pub mod Laws
+pub mod Listing
+pub mod Pages
+pub mod Paths
+pub mod Retrace
+pub mod Sharing
+pub mod Steps

@@ -1,0 +1,120 @@
+//! The paths before a cursor, the last one first.
+
+ghost use Rattle.std.specs.Prelude.{◌≡◌, ◌+◌, ◌*◌, ◌≤◌, IfOk, MatchResult};
+ghost use Rattle.std.specs.Iterator.{MakesProgress, YieldsFirst, item_count};
+ghost use Rattle.pam_conf.specs.Stack.{Items};
+ghost use Rattle.pam_dispatch.specs.Flat.{modules_of, runs_of};
+ghost use Rattle.pam_dispatch.specs.Tree.{runs_of_stack};
+ghost use Rattle.pam_paths.specs.Cursor.{IsAccepted, IsRefusal};
+ghost use Rattle.pam_paths.specs.Listing.{IsListingBefore};
+ghost use Rattle.pam_paths.specs.Paths.{path_of, path_through};
+
+use crate::cursor::{Cursor, CursorError};
+use crate::direction::Direction;
+use crate::explorer::{Explorer, next_path};
+use crate::frames::Frames;
+use crate::knowledge::Knowledge;
+use crate::path::Path;
+use crate::retrace::retrace;
+use arrayvec::ArrayVec;
+use pam_dispatch::{Program, Work};
+use std::marker::Model;
+
+/// The paths before a cursor that are still to come, the last one first.
+#[derive(Drop)]
+pub struct Before<'a, K: Knowledge> {
+    program: &'a Program,
+    knowledge: &'a K,
+    /// The modules asked on the path that was given last, at first on the cursor's.
+    frames: Frames,
+    work: Work,
+}
+
+impl<'a, K: Knowledge> Model for Before<'a, K> {
+    ghost use Rattle.std.specs.Prelude.{None};
+    ghost use Rattle.pam_dispatch.specs.Flat.{modules_of};
+    ghost use Rattle.pam_paths.specs.declared.direction.Direction.{Direction};
+    ghost use Rattle.pam_paths.specs.Exploration.{Exploration};
+    ghost use Rattle.pam_paths.specs.Frames.{IsExploring, coming};
+
+    ghost Value = { Exploration };
+
+    ghost view = { λ b. record {
+      coming = coming Direction.Backward (K.allows b.knowledge.now) b.program.now None b.frames.items;
+      work = b.work;
+      modules = modules_of b.program.now;
+    } };
+
+    ghost invariant = { λ b. IsExploring (K.allows b.knowledge.now) b.program.now None b.frames.items };
+}
+
+impl<'a, K: Knowledge> Explorer<'a, K> {
+    /// The paths before a cursor, the last one first. The cursor is accepted or refused as in `after`.
+    pub fn before(
+        program: &'a Program,
+        knowledge: &'a K,
+        cursor: &Cursor,
+    ) -> Result<Before<'a, K>, CursorError>
+        ensures standing { MatchResult result
+            (λ _. IsAccepted (modules_of program.now) (path_of (runs_of program.now)) cursor.now)
+            (IsRefusal (modules_of program.now) (path_of (runs_of program.now)) cursor.now) }
+        ensures listing { IfOk result (λ b. IsListingBefore (K.allows knowledge.now) (modules_of program.now) (path_of (runs_of program.now))
+            cursor.now b.coming) }
+
+        // The same over the tree of the stack that the program is of.
+        ensures stack { (items : Items) → runs_of program.now ≡ runs_of_stack items
+            → IfOk result (λ b. IsListingBefore (K.allows knowledge.now) (modules_of program.now) (path_through items) cursor.now b.coming) }
+        ensures modules { IfOk result (λ b. b.modules ≡ modules_of program.now) }
+        ensures work { IfOk result (λ b. b.work ≤ 64 * (modules_of program.now + 1)) }
+    {
+        let mut frames = ArrayVec::new();
+        let mut work = Work::new();
+        match retrace(program, knowledge, cursor.codes(), &mut frames, &mut work) {
+            Err(refusal) => Err(refusal),
+            Ok(()) => Ok(Before {
+                program,
+                knowledge,
+                frames,
+                work,
+            }),
+        }
+    }
+}
+
+impl<'a, K: Knowledge> Before<'a, K> {
+    /// How many steps of the program were made.
+    pub fn work(&self) -> u64
+        ensures { result ≡ self.now.work }
+    {
+        self.work.steps()
+    }
+}
+
+impl<'a, K: Knowledge> Iterator for Before<'a, K> {
+    ghost use Rattle.std.specs.Iterator.{MakesProgress, YieldsFirst, item_count};
+    ghost use Rattle.std.specs.Prelude.{◌≡◌, ◌+◌, ◌*◌, ◌≤◌};
+
+    type Item = Path;
+
+    ghost can_next = { λ b. Unit {0} };
+
+    ghost next_gives = { YieldsFirst (λ b. b.coming) };
+
+    ghost remaining = { item_count (λ b. b.coming) };
+
+    fn next(&mut self) -> Option<Path>
+        ensures first { YieldsFirst (λ b. b.coming) self.old result self.new }
+        ensures goes { MakesProgress (λ b. Unit {0}) (item_count (λ b. b.coming)) self.old result self.new }
+        ensures modules { self.new.modules ≡ self.old.modules }
+        ensures work { self.new.work ≤ self.old.work + 64 * (self.old.modules + 1) }
+    {
+        next_path(
+            self.program,
+            self.knowledge,
+            Direction::Backward,
+            None,
+            &mut self.frames,
+            &mut self.work,
+        )
+    }
+}

@@ -1,0 +1,53 @@
+//! Which way a listing is gone through.
+
+ghost use Rattle.std.specs.Prelude.{◌≡◌, ◌<◌, ◌≤◌, ℕ, IfNone, IfSome, IsTrue, false};
+ghost use Rattle.pam_codes.specs.Set.{is_in};
+ghost use Rattle.pam_paths.specs.Directions.{IsAhead, IsNearer, outset, past};
+
+use pam_codes::{CODES, Code, CodeSet};
+
+/// Which way a listing is gone through.
+#[derive(Clone, Copy, Debug, PartialEq, Eq)]
+pub(crate) enum Direction {
+    /// In the order of the least codes.
+    Forward,
+    /// From the back.
+    Backward,
+}
+
+impl Direction {
+    /// The bound that has every code ahead.
+    pub(crate) fn outset(self) -> u8
+        ensures value { result ≡ outset self }
+        ensures range { result ≤ 31 }
+    {
+        match self {
+            Direction::Forward => 0,
+            Direction::Backward => CODES as u8,
+        }
+    }
+
+    /// The bound that has the codes ahead that come after a code.
+    pub(crate) fn past(self, code: Code) -> u8
+        ensures value { result ≡ past self code }
+        ensures range { result ≤ 31 }
+    {
+        match self {
+            Direction::Forward => code.number() + 1,
+            Direction::Backward => code.number(),
+        }
+    }
+
+    /// The first code of a set that is ahead of a bound.
+    pub(crate) fn first(self, codes: CodeSet, bound: u8) -> Option<Code>
+        requires { bound ≤ 31 }
+        ensures found { IfSome result (λ found. IsAhead self bound found × (found < 31) × IsTrue (is_in found codes)) }
+        ensures nearest { IfSome result (λ found. (c : ℕ) → IsAhead self bound c → IsNearer self c found → is_in c codes ≡ false) }
+        ensures none { IfNone result ((c : ℕ) → c < 31 → IsAhead self bound c → is_in c codes ≡ false) }
+    {
+        match self {
+            Direction::Forward => codes.least_from(bound),
+            Direction::Backward => codes.greatest_below(bound),
+        }
+    }
+}

@@ -1,0 +1,230 @@
+//! The frames of an explorer: the modules asked on the way to the path that it gave last.
+
+ghost use Rattle.std.specs.Prelude.{◌≡◌, ◌+◌, ◌<◌, ◌≤◌, ◌++◌, [], ℕ, length, map, None, Some, IfSome, IfNone};
+ghost use Rattle.pam_conf.specs.declared.stack.TheConstants.{MAX_MODULES};
+ghost use Rattle.pam_dispatch.specs.Flat.{IsPlaceOf, modules_of, rest_of};
+ghost use Rattle.pam_dispatch.specs.Runs.{AsksRise, after_answer, asked_module, next_ask};
+ghost use Rattle.pam_paths.specs.Classes.{class_of};
+ghost use Rattle.pam_paths.specs.Computed.{after_step, listing};
+ghost use Rattle.pam_paths.specs.Directions.{ordered, past};
+ghost use Rattle.pam_paths.specs.Frames.{AreFrames, IsFrame, ahead, ahead_of, offered_at, step_in, under};
+ghost use Rattle.pam_paths.specs.Listing.{Allowance};
+ghost use Rattle.pam_paths.specs.Steps.{step_seen};
+
+use crate::classes::{class_of, offered_codes};
+use crate::direction::Direction;
+use crate::knowledge::Knowledge;
+use crate::path::PathStep;
+use arrayvec::ArrayVec;
+use pam_codes::{Code, CodeSet};
+use pam_dispatch::{MAX_MODULES, Place, Program, Work};
+
+/// The frames of a path, the outermost first.
+pub(crate) type Frames = ArrayVec<Frame, MAX_MODULES>;
+
+/// A module that is asked, with the class that is followed.
+#[derive(Clone, Copy, Debug)]
+pub(crate) struct Frame {
+    pub(crate) place: Place,
+    pub(crate) module_number: u16,
+    /// The least codes of the classes that have an allowed code.
+    pub(crate) offered: CodeSet,
+    /// The least code of the class that is followed.
+    pub(crate) code: Code,
+    pub(crate) class: CodeSet,
+}
+
+impl Default for Frame {
+    fn default() -> Frame {
+        Frame {
+            place: Place::default(),
+            module_number: 0,
+            offered: CodeSet::empty(),
+            code: Code::SUCCESS,
+            class: CodeSet::empty(),
+        }
+    }
+}
+
+/// A class that can be followed: its least code, its codes, and where they lead.
+#[derive(Clone, Copy, Debug)]
+pub(crate) struct Branch {
+    pub(crate) code: Code,
+    pub(crate) class: CodeSet,
+    pub(crate) place: Place,
+}
+
+impl Frame {
+    /// The frame of the module asked at a place, before a class is followed.
+    pub(crate) fn at<K: Knowledge>(
+        program: &Program,
+        knowledge: &K,
+        place: Place,
+        module_number: usize,
+    ) -> Frame
+        requires place { IsPlaceOf program.now place }
+        requires asking { asked_module (rest_of program.now place) ≡ Some module_number }
+        requires first { 1 ≤ module_number }
+        requires last { module_number ≤ modules_of program.now }
+        requires few { modules_of program.now ≤ MAX_MODULES }
+        ensures frame { (low : ℕ) → AsksRise low (modules_of program.now) (rest_of program.now place)
+            → IsFrame (K.allows knowledge.now) program.now low result }
+        ensures place { result.place ≡ place }
+        ensures number { result.module_number ≡ module_number }
+        ensures offered { result.offered ≡ offered_at (K.allows knowledge.now) (rest_of program.now place) }
+    {
+        let allowed = knowledge.allowed(module_number);
+        Frame {
+            place,
+            module_number: module_number as u16,
+            offered: offered_codes(program, &place, module_number, allowed),
+            code: Code::SUCCESS,
+            class: CodeSet::empty(),
+        }
+    }
+
+    /// The branch of the class of a code.
+    pub(crate) fn branch(&self, program: &Program, code: Code, work: &mut Work) -> Branch
+        requires place { IsPlaceOf program.now self.now.place }
+        requires asking { asked_module (rest_of program.now self.now.place) ≡ Some self.now.module_number }
+        requires first { 1 ≤ self.now.module_number }
+        requires last { self.now.module_number ≤ modules_of program.now }
+        ensures place { IsPlaceOf program.now result.place }
+        ensures code { result.code ≡ code }
+        ensures class { result.class ≡ class_of (next_ask (rest_of program.now self.now.place)) code }
+        ensures rest { rest_of program.now result.place ≡ after_answer (rest_of program.now self.now.place) code }
+        ensures work { work.new ≤ work.old + 1 }
+    {
+        Branch {
+            code,
+            class: class_of(program, &self.place, usize::from(self.module_number), code),
+            place: program.step(&self.place, code, work).place(),
+        }
+    }
+
+    /// The first branch that is ahead of a bound.
+    pub(crate) fn branch_ahead(
+        &self,
+        program: &Program,
+        direction: Direction,
+        bound: u8,
+        work: &mut Work,
+    ) -> Option<Branch>
+        requires place { IsPlaceOf program.now self.now.place }
+        requires asking { asked_module (rest_of program.now self.now.place) ≡ Some self.now.module_number }
+        requires first { 1 ≤ self.now.module_number }
+        requires last { self.now.module_number ≤ modules_of program.now }
+        requires bound { bound ≤ 31 }
+        ensures none { (allows : Allowance) → self.now.offered ≡ offered_at allows (rest_of program.now self.now.place)
+            → IfNone result (ahead_of direction allows (rest_of program.now self.now.place) bound ≡ []) }
+        ensures place { IfSome result (λ b. IsPlaceOf program.now b.place) }
+        ensures code { IfSome result (λ b. b.code < 31) }
+        ensures rest { IfSome result (λ b. rest_of program.now b.place ≡ after_answer (rest_of program.now self.now.place) b.code) }
+        ensures paths { (allows : Allowance) → self.now.offered ≡ offered_at allows (rest_of program.now self.now.place)
+            → IfSome result (λ b. ahead_of direction allows (rest_of program.now self.now.place) bound
+            ≡ map (after_step (record { module_number = self.now.module_number; class = b.class }))
+            (ordered direction (listing allows (rest_of program.now b.place)))
+            ++ ahead_of direction allows (rest_of program.now self.now.place) (past direction b.code)) }
+        ensures work { work.new ≤ work.old + 1 }
+    {
+        match direction.first(self.offered, bound) {
+            Some(code) => Some(self.branch(program, code, work)),
+            None => None,
+        }
+    }
+
+    /// The frame where a branch is followed.
+    pub(crate) fn following(self, branch: &Branch) -> Frame
+        ensures place { result.place ≡ self.place }
+        ensures number { result.module_number ≡ self.module_number }
+        ensures offered { result.offered ≡ self.offered }
+        ensures code { result.code ≡ branch.now.code }
+        ensures class { result.class ≡ branch.now.class }
+    {
+        Frame {
+            code: branch.code,
+            class: branch.class,
+            ..self
+        }
+    }
+}
+
+/// Goes on to the next branch of the innermost frame that has one.
+pub(crate) fn advance<K: Knowledge>(
+    program: &Program,
+    knowledge: &K,
+    direction: Direction,
+    frames: &mut Frames,
+    work: &mut Work,
+) -> Option<Place>
+    requires few { modules_of program.now ≤ MAX_MODULES }
+    requires frames { AreFrames (K.allows knowledge.now) program.now 0 frames.old.items }
+    ensures none { IfNone result (ahead direction (K.allows knowledge.now) program.now frames.old.items ≡ []) }
+    ensures emptied { IfNone result (frames.new.items ≡ []) }
+    ensures place { IfSome result (λ p. IsPlaceOf program.now p) }
+    ensures frames { AreFrames (K.allows knowledge.now) program.now 0 frames.new.items }
+    ensures rise { IfSome result (λ p. AsksRise (length frames.new.items) (modules_of program.now) (rest_of program.now p)) }
+    ensures paths { IfSome result (λ p. ahead direction (K.allows knowledge.now) program.now frames.old.items
+        ≡ under frames.new.items (ordered direction (listing (K.allows knowledge.now) (rest_of program.now p)))
+        ++ ahead direction (K.allows knowledge.now) program.now frames.new.items) }
+    ensures work { work.new ≤ work.old + length frames.old.items }
+{
+    while let Some(frame) = frames.pop() {
+        let bound = direction.past(frame.code);
+        if let Some(branch) = frame.branch_ahead(program, direction, bound, work) {
+            frames.push(frame.following(&branch));
+            return Some(branch.place);
+        }
+    }
+    None
+}
+
+/// Follows the first branches from a place to an end.
+pub(crate) fn descend<K: Knowledge>(
+    program: &Program,
+    knowledge: &K,
+    direction: Direction,
+    frames: &mut Frames,
+    from: Place,
+    work: &mut Work,
+) -> Place
+    requires few { modules_of program.now ≤ MAX_MODULES }
+    requires frames { AreFrames (K.allows knowledge.now) program.now 0 frames.old.items }
+    requires place { IsPlaceOf program.now from }
+    requires rise { AsksRise (length frames.old.items) (modules_of program.now) (rest_of program.now from) }
+    ensures place { IsPlaceOf program.now result }
+    ensures ended { asked_module (rest_of program.now result) ≡ None }
+    ensures frames { AreFrames (K.allows knowledge.now) program.now 0 frames.new.items }
+    ensures paths { under frames.old.items (ordered direction (listing (K.allows knowledge.now) (rest_of program.now from)))
+        ++ ahead direction (K.allows knowledge.now) program.now frames.old.items
+        ≡ under frames.new.items (ordered direction (listing (K.allows knowledge.now) (rest_of program.now result)))
+        ++ ahead direction (K.allows knowledge.now) program.now frames.new.items }
+    ensures work { work.new + length frames.old.items ≤ work.old + length frames.new.items }
+{
+    let mut place = from;
+    while let Some(module_number) = place.module() {
+        let frame = Frame::at(program, knowledge, place, module_number);
+        match frame.branch_ahead(program, direction, direction.outset(), work) {
+            Some(branch) => {
+                frames.push(frame.following(&branch));
+                place = branch.place;
+            }
+            None => unreachable!(),
+        }
+    }
+    place
+}
+
+/// The steps of the frames.
+pub(crate) fn steps_of(frames: &Frames) -> ArrayVec<PathStep, MAX_MODULES>
+    ensures { map step_seen result.items ≡ map step_in frames.now.items }
+{
+    let mut steps: ArrayVec<PathStep, MAX_MODULES> = ArrayVec::new();
+    for frame in frames.as_slice() {
+        steps.push(PathStep {
+            number: frame.module_number,
+            class: frame.class,
+        });
+    }
+    steps
+}

@@ -1,0 +1,49 @@
+//! Laws of the definitions that the contracts of this crate cite. These functions make no calls.
+
+ghost use Rattle.pam_paths.specs.Laws.{CursorTextIsOne, Narrowed, OneListing, OnePath, OneStanding, PathOfStack};
+ghost use Rattle.pam_paths.specs.Laws.{EndsMeet, PagesJoin, PagesJoinBackwards, PartAfter, PartBefore};
+
+/// The paths through the open run of a stack are those through its tree.
+pub fn stack_paths()
+    ensures { PathOfStack }
+{}
+
+/// Two listings of one stack and knowledge are equal.
+pub fn one_listing()
+    ensures { OneListing }
+{}
+
+/// Exactly one path of a listing agrees with an allowed assignment: its own, with its decision.
+pub fn one_path()
+    ensures { OnePath }
+{}
+
+/// The listing of a knowledge is the full listing without the paths that it excludes.
+pub fn filter()
+    ensures { Narrowed }
+{}
+
+/// Two cursors with the same text are equal.
+pub fn cursor_text_is_one()
+    ensures { CursorTextIsOne }
+{}
+
+/// A list of codes is a cursor of a stack, or is refused as a cursor, in exactly one of four ways.
+pub fn standing()
+    ensures { OneStanding }
+{}
+
+/// The pages of a listing, each begun at the cursor of the one before, are a prefix of it, and the whole where the
+/// last says `end`.
+pub fn pages()
+    ensures after { PartAfter }
+    ensures joined { PagesJoin }
+{}
+
+/// The paths before a path, turned round, the path, and the paths after it are the listing; pages from the back are a
+/// prefix of the paths before a path, turned round.
+pub fn both_ends()
+    ensures before { PartBefore }
+    ensures meet { EndsMeet }
+    ensures joined { PagesJoinBackwards }
+{}

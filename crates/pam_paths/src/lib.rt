@@ -1,0 +1,21 @@
+//! Every path through a stack that the answers of its modules can follow, in order and from any of them in both
+//! directions, one at a time and with no list of them.
+#![tactic(auto)]
+
+mod before;
+mod classes;
+mod cursor;
+mod digits;
+mod direction;
+mod explorer;
+mod frames;
+mod knowledge;
+pub mod laws;
+mod path;
+mod retrace;
+
+pub use before::Before;
+pub use cursor::{Cursor, CursorError};
+pub use explorer::Explorer;
+pub use knowledge::{Free, Knowledge, Known};
+pub use path::{Path, PathStep};

@@ -1,0 +1,87 @@
+//! A path through a stack.
+
+ghost use Rattle.std.specs.Prelude.{◌≡◌, ◌<◌, ◌≤◌, length, map};
+ghost use Rattle.pam_paths.specs.CursorText.{IsCursor};
+ghost use Rattle.pam_paths.specs.Paths.{key};
+
+use crate::cursor::Cursor;
+use arrayvec::ArrayVec;
+use pam_codes::{Code, CodeSet};
+use pam_dispatch::{Decision, MAX_MODULES};
+use std::marker::Model;
+
+/// A module that is asked, with the class of its answer.
+#[derive(Clone, Copy, Debug)]
+pub struct PathStep {
+    pub(crate) number: u16,
+    pub(crate) class: CodeSet,
+}
+
+impl Default for PathStep {
+    fn default() -> PathStep {
+        PathStep {
+            number: 0,
+            class: CodeSet::empty(),
+        }
+    }
+}
+
+impl PathStep {
+    /// The number of the module, from 1.
+    pub fn number(&self) -> usize
+        ensures { result ≡ self.now.number }
+    {
+        usize::from(self.number)
+    }
+
+    /// The codes of the class: the run goes on in the same way after each of them.
+    pub fn class(&self) -> CodeSet
+        ensures { result ≡ self.now.class }
+    {
+        self.class
+    }
+}
+
+/// A path through a stack: the modules that are asked, each with the class of its answer, and what the stack decides.
+#[derive(Drop)]
+pub struct Path {
+    pub(crate) steps: ArrayVec<PathStep, MAX_MODULES>,
+    pub(crate) decision: Decision,
+}
+
+impl Model for Path {
+    ghost use Rattle.std.specs.Prelude.{◌≤◌, length, map};
+    ghost use Rattle.pam_paths.specs.Paths.{PathValue};
+
+    ghost Value = { PathValue };
+
+    ghost use Rattle.pam_paths.specs.Steps.{step_seen};
+
+    ghost view = { λ p. record { steps = map step_seen p.steps.items; decision = p.decision } };
+}
+
+impl Path {
+    ghost use Rattle.pam_paths.specs.Steps.{step_seen};
+
+    /// The modules that are asked, in turn.
+    pub fn steps(&self) -> &[PathStep]
+        ensures { map step_seen result.now ≡ self.now.steps }
+    {
+        self.steps.as_slice()
+    }
+
+    /// What the stack decides.
+    pub fn decision(&self) -> Code
+        ensures { result ≡ self.now.decision }
+    {
+        self.decision.code()
+    }
+
+    /// The least codes of the classes, from which a listing goes on.
+    pub fn cursor(&self) -> Cursor
+        ensures key { result ≡ key self.now }
+        ensures cursor { IsCursor result }
+    {
+        Cursor::of_steps(self.steps.as_slice())
+    }
+}

@@ -1,0 +1,128 @@
+//! The frames of the path that a cursor names.
+
+ghost use Rattle.std.specs.Prelude.{◌≡◌, ◌≢◌, ◌+◌, ◌*◌, ◌≤◌, ◌<◌, ◌++◌, ◌∷◌, ◌&&◌, if◌then◌else◌, true, [], ℕ, length};
+ghost use Rattle.std.specs.Prelude.{All, IfNone, IfSome, MatchResult, None, OnOk, Some};
+ghost use Rattle.pam_conf.specs.declared.stack.TheConstants.{MAX_MODULES};
+ghost use Rattle.pam_dispatch.specs.Flat.{IsPlaceOf, modules_of, rest_of, runs_of};
+ghost use Rattle.pam_dispatch.specs.Runs.{AsksRise, after_answer, asked_module, next_ask};
+ghost use Rattle.pam_paths.specs.Classes.{class_of, least};
+ghost use Rattle.pam_paths.specs.Computed.{is_offered};
+ghost use Rattle.pam_paths.specs.Cursor.{accepted, standing_told};
+ghost use Rattle.pam_paths.specs.Frames.{AreFrames, IsFrame, ahead, part, step_in};
+ghost use Rattle.pam_paths.specs.Paths.{step_of};
+ghost use Rattle.pam_paths.specs.Retrace.{standing_of};
+
+use crate::cursor::{CursorError, code_numbered, least_number};
+use crate::direction::Direction;
+use crate::frames::{Frame, Frames};
+use crate::knowledge::Knowledge;
+use pam_codes::Code;
+use pam_dispatch::{Place, Program, Work};
+
+/// A step of a cursor: the frame that follows its class, whether the class has an allowed code, and where it leads.
+#[derive(Clone, Copy, Debug)]
+pub(crate) struct Turn {
+    frame: Frame,
+    offered: bool,
+    place: Place,
+}
+
+/// The step of a cursor at a place; none where the code is not the least of its class. Its frame is kept where all
+/// classes before it have an allowed code.
+fn take_turn<K: Knowledge>(
+    program: &Program,
+    knowledge: &K,
+    frames: &mut Frames,
+    offered: bool,
+    place: Place,
+    module_number: usize,
+    code: Code,
+    work: &mut Work,
+) -> Option<Turn>
+    requires room { offered ≡ true → length frames.old.items < MAX_MODULES }
+    requires place { IsPlaceOf program.now place }
+    requires asking { asked_module (rest_of program.now place) ≡ Some module_number }
+    requires first { 1 ≤ module_number }
+    requires last { module_number ≤ modules_of program.now }
+    requires few { modules_of program.now ≤ MAX_MODULES }
+    ensures kept { IfSome result (λ t. frames.new.items ≡ (if offered then frames.old.items ++ t.frame ∷ [] else frames.old.items)) }
+    ensures not_least { IfNone result (least (class_of (next_ask (rest_of program.now place)) code) ≢ code) }
+    ensures least { IfSome result (λ t. least (class_of (next_ask (rest_of program.now place)) code) ≡ code) }
+    ensures frame { IfSome result (λ t. (low : ℕ) → AsksRise low (modules_of program.now) (rest_of program.now place)
+        → IsFrame (K.allows knowledge.now) program.now low t.frame) }
+    ensures at { IfSome result (λ t. t.frame.place ≡ place) }
+    ensures code { IfSome result (λ t. t.frame.code ≡ code) }
+    ensures step { IfSome result (λ t. step_in t.frame ≡ step_of (next_ask (rest_of program.now place)) code) }
+    ensures offered { IfSome result (λ t. t.offered ≡ is_offered (K.allows knowledge.now) (next_ask (rest_of program.now place)) code) }
+    ensures place { IfSome result (λ t. IsPlaceOf program.now t.place) }
+    ensures rest { IfSome result (λ t. rest_of program.now t.place ≡ after_answer (rest_of program.now place) code) }
+    ensures work { work.new ≤ work.old + 1 }
+{
+    let frame = Frame::at(program, knowledge, place, module_number);
+    let branch = frame.branch(program, code, work);
+    if least_number(branch.class) != code.number() {
+        return None;
+    }
+    let turn = Turn {
+        frame: frame.following(&branch),
+        offered: frame.offered.contains(code),
+        place: branch.place,
+    };
+    if offered {
+        frames.push(turn.frame);
+    }
+    Some(turn)
+}
+
+/// Whether a class and those before it have an allowed code.
+fn both(before: bool, here: bool) -> bool
+    ensures { result ≡ (before && here) }
+{
+    before && here
+}
+
+/// Makes the frames of the path that codes name, up to the first class that has no allowed code.
+pub(crate) fn retrace<K: Knowledge>(
+    program: &Program,
+    knowledge: &K,
+    codes: &[u8],
+    frames: &mut Frames,
+    work: &mut Work,
+) -> Result<(), CursorError>
+    requires none { frames.old.items ≡ [] }
+    requires codes { All (λ code. code < 31) codes.now }
+    ensures standing { MatchResult result (λ _. standing_of (runs_of program.now) codes.now ≡ accepted)
+        (λ e. standing_told e ≡ Some (standing_of (runs_of program.now) codes.now)) }
+    ensures few { modules_of program.now ≤ MAX_MODULES }
+    ensures rise { AsksRise 0 (modules_of program.now) (runs_of program.now) }
+    ensures frames { OnOk result (AreFrames (K.allows knowledge.now) program.now 0 frames.new.items) }
+    ensures paths { OnOk result ((direction : Direction) → ahead direction (K.allows knowledge.now) program.now frames.new.items
+        ≡ part direction (K.allows knowledge.now) (runs_of program.now) codes.now) }
+    ensures work { work.new ≤ work.old + 64 * (modules_of program.now + 1) }
+{
+    let mut place = program.first();
+    let mut offered = true;
+    for (index, number) in codes.iter().enumerate() {
+        let Some(module_number) = place.module() else {
+            return Err(CursorError::TooLong);
+        };
+        let Some(turn) = take_turn(
+            program,
+            knowledge,
+            frames,
+            offered,
+            place,
+            module_number,
+            code_numbered(*number),
+            work,
+        ) else {
+            return Err(CursorError::NotLeast(index + 1));
+        };
+        offered = both(offered, turn.offered);
+        place = turn.place;
+    }
+    match place.module() {
+        Some(_) => Err(CursorError::TooShort),
+        None => Ok(()),
+    }
+}

@@ -1,0 +1,96 @@
+//! Tests of the paths of stacks through the public calls of the libraries. Each line of standard input is a test:
+//!
+//! - `list SERVICE FIRST LAST [NUMBER=NAME,...]...`: how many paths there are, and the lines from FIRST to LAST.
+//! - `first SERVICE COUNT`: the lines of the first paths.
+//! - `ways SERVICE`: whether going on after each path, and back from it, gives exactly the others.
+//! - `cursor SERVICE TEXT`: what is said of a cursor, in both directions.
+//! - `assign SERVICE`: whether each assignment of three codes agrees with one path, which has its decision.
+#![tactic(auto)]
+
+mod assignments;
+mod cursors;
+mod lines;
+mod stacks;
+mod ways;
+
+use anyhow::Error;
+use pam_paths::{Explorer, Free, Path};
+use stacks::{known_of, program_of};
+use std::io::{BufRead, BufReader};
+
+fn print_line(rt: &HostRuntime, path: &Path) -> Result<(), Error> {
+    let line = String::from_utf8(lines::line_of(rt.alloc(), path)?)?;
+    println!(rt; "{line}")?;
+    Ok(())
+}
+
+/// Prints the lines of the first paths.
+fn first(rt: &HostRuntime, service: &str, count: u64) -> Result<(), Error> {
+    let program = program_of(rt, service)?;
+    let mut explorer = Explorer::start(&program, &Free);
+    for _ in 0..count {
+        if let Some(path) = explorer.next() {
+            print_line(rt, &path)?;
+        }
+    }
+    Ok(())
+}
+
+/// Prints how many paths there are, and some of their lines.
+fn list(
+    rt: &HostRuntime,
+    service: &str,
+    first: u64,
+    last: u64,
+    known: &[&str],
+) -> Result<(), Error> {
+    let program = program_of(rt, service)?;
+    let known = known_of(known)?;
+    let mut explorer = Explorer::start(&program, &known);
+    for count in 0..u64::MAX {
+        let Some(path) = explorer.next() else {
+            println!(rt; "{count} paths")?;
+            break;
+        };
+        if first <= count + 1 && count < last {
+            print_line(rt, &path)?;
+        }
+    }
+    Ok(())
+}
+
+/// Runs the test of a line.
+fn test(rt: &HostRuntime, words: &[&str]) -> Result<(), Error> {
+    if words.len() < 2 {
+        return Ok(());
+    }
+    match words[0] {
+        "list" if words.len() >= 4 => {
+            list(
+                rt,
+                words[1],
+                words[2].parse()?,
+                words[3].parse()?,
+                &words[4..],
+            )
+        }
+        "first" if words.len() == 3 => first(rt, words[1], words[2].parse()?),
+        "ways" => ways::ways(rt, words[1]),
+        "cursor" if words.len() == 3 => cursors::cursor(rt, words[1], words[2]),
+        "assign" => assignments::assign(rt, words[1]),
+        _ => {
+            println!(rt; "no such test")?;
+            Ok(())
+        }
+    }
+}
+
+fn main(rt: HostRuntime) -> Result<(), Error> {
+    for line in BufReader::new(rt.alloc(), rt.reader())?.lines(rt.alloc()) {
+        let line = line?;
+        println!(rt; "> {line}")?;
+        let words: Vec<&str> = line.as_str().split(' ').collect(rt.alloc())?;
+        test(&rt, &words)?;
+    }
+    Ok(())
+}

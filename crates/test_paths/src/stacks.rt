@@ -1,0 +1,60 @@
+//! Stacks of the files at hand, and what is known of their modules.
+
+use anyhow::Error;
+use pam_codes::{Code, CodeSet};
+use pam_conf::{Files, Form, Kind, resolve};
+use pam_dispatch::{MAX_MODULES, Program};
+use pam_paths::Known;
+use std::alloc::Global;
+use std::fs;
+
+/// Puts a file in by its name.
+fn put(rt: &HostRuntime, alloc: Global, files: &mut Files, name: &str) -> Result<(), Error> {
+    let bytes = fs::read(rt, name)?;
+    files.put(name.as_bytes().to_vec(alloc)?, bytes)?;
+    Ok(())
+}
+
+/// The program of the kind `auth` of a service; its stack may read the files `inner` and `empty`.
+pub(crate) fn program_of(rt: &HostRuntime, service: &str) -> Result<Program, Error> {
+    let alloc = rt.alloc();
+    let mut files = Files::new(alloc, Form::Dir);
+    for name in [service, "inner", "empty"] {
+        put(rt, alloc, &mut files, name)?;
+    }
+    let stack = resolve(alloc, &files, service.as_bytes(), Kind::Auth)?;
+    Ok(Program::of(alloc, &stack)?)
+}
+
+/// The codes of names with commas between them.
+fn codes_of(names: &str) -> CodeSet {
+    let mut codes = CodeSet::empty();
+    for name in names.split(',') {
+        if let Some(code) = Code::from_name(name.as_bytes()) {
+            codes.insert(code);
+        }
+    }
+    codes
+}
+
+/// Takes a word `NUMBER=NAME,...` into account: the module of that number answers one of these codes.
+fn learn(known: &mut Known, word: &str) -> Result<(), Error> {
+    let Some((number, names)) = word.split_once('=') else {
+        return Ok(());
+    };
+    let number: usize = number.parse()?;
+    let codes = codes_of(names);
+    if 1 <= number && number <= MAX_MODULES && !codes.is_empty() {
+        known.set(number, codes);
+    }
+    Ok(())
+}
+
+/// What is known by words `NUMBER=NAME,...`.
+pub(crate) fn known_of(words: &[&str]) -> Result<Known, Error> {
+    let mut known = Known::new();
+    for word in words {
+        learn(&mut known, word)?;
+    }
+    Ok(known)
+}
