@@ -14,7 +14,7 @@ use arrayvec::ArrayVec;
 use std::marker::Model;
 
 /// The codes that have one action.
-#[derive(Clone, Copy, Debug)]
+#[derive(Clone, Copy, Debug, PartialEq, Eq)]
 pub struct Part {
     pub codes: CodeSet,
     pub action: Action,

@@ -1,6 +1,35 @@
-//! Sets of return codes.
+//! Sets of return codes, and the parts of controls.
 
-use pam_codes::{Code, CodeSet};
+use pam_codes::{Action, Code, CodeSet, Control, Out, Part};
+use std::alloc::Global;
+use std::process::Abort;
+use std::test::Fail;
+
+/// The set of these codes.
+fn set_of(codes: &[Code]) -> CodeSet {
+    let mut set = CodeSet::empty();
+    for code in codes {
+        set.insert(*code);
+    }
+    set
+}
+
+/// The first codes, up to a number.
+fn first_codes(count: u8) -> CodeSet {
+    let mut set = CodeSet::empty();
+    for number in 0..count {
+        if let Some(code) = Code::new(number) {
+            set.insert(code);
+        }
+    }
+    set
+}
+
+fn text_of(alloc: Global, set: CodeSet) -> Result<Vec<u8>, Fail> {
+    let mut text = Vec::new(alloc);
+    set.write_text(&mut Out::new(&mut text))?;
+    Ok(text)
+}
 
 #[test]
 fn sets_of_few_and_of_all_codes(rt: HostRuntime) {
@@ -28,4 +57,97 @@ fn sets_of_few_and_of_all_codes(rt: HostRuntime) {
         (CodeSet::all().len(), CodeSet::all().least()),
         (31, Code::new(0))
     );
+}
+
+#[test]
+fn sets_made_of_others(rt: HostRuntime) {
+    let granting = set_of(&[Code::SUCCESS, Code::NEW_AUTHTOK_REQD]);
+    let denying = set_of(&[Code::PERM_DENIED, Code::NEW_AUTHTOK_REQD]);
+    assert_eq!(rt;
+        granting.union(denying),
+        set_of(&[Code::NEW_AUTHTOK_REQD, Code::PERM_DENIED, Code::SUCCESS])
+    );
+    let success = CodeSet::single(Code::SUCCESS);
+    assert_eq!(rt; granting.without(denying), success);
+    assert_eq!(rt;
+        (granting.meets(denying), success.meets(denying)),
+        (true, false)
+    );
+    assert_eq!(rt;
+        (
+            granting.least_from(0),
+            granting.least_from(1),
+            granting.least_from(13)
+        ),
+        (Some(Code::SUCCESS), Some(Code::NEW_AUTHTOK_REQD), None)
+    );
+    assert_eq!(rt;
+        (
+            granting.greatest_below(0),
+            granting.greatest_below(12),
+            granting.greatest_below(255)
+        ),
+        (None, Some(Code::SUCCESS), Some(Code::NEW_AUTHTOK_REQD))
+    );
+}
+
+#[test]
+fn texts_of_sets(rt: HostRuntime) -> Result<(), Fail> {
+    let granting = set_of(&[Code::SUCCESS, Code::NEW_AUTHTOK_REQD]);
+    let rows = [
+        (CodeSet::empty(), ""),
+        (CodeSet::all(), "any"),
+        (granting, "success,new_authtok_reqd"),
+        (
+            CodeSet::all().without(granting),
+            "but:success,new_authtok_reqd",
+        ),
+        (
+            first_codes(15),
+            "success,open_err,symbol_err,service_err,system_err,buf_err,perm_denied,auth_err,cred_insufficient,authinfo_unavail,user_unknown,maxtries,new_authtok_reqd,acct_expired,session_err",
+        ),
+        (
+            first_codes(16),
+            "but:cred_expired,cred_err,no_module_data,conv_err,authtok_err,authtok_recover_err,authtok_lock_busy,authtok_disable_aging,try_again,ignore,abort,authtok_expired,module_unknown,bad_item,conv_again",
+        ),
+    ];
+    for (set, text) in rows {
+        assert_eq!(rt; text_of(rt.alloc(), set)?.as_slice(), text.as_bytes());
+    }
+    Ok(())
+}
+
+fn part(codes: CodeSet, action: Action) -> Part {
+    Part { codes, action }
+}
+
+fn expect_parts(rt: &impl Abort, keyword: &[u8], expected: &[Part]) -> Result<(), Fail> {
+    let parts = Control::read(keyword)?.parts();
+    assert_eq!(rt; parts.as_slice(), expected, "{keyword:?}");
+    Ok(())
+}
+
+/// The codes of each keyword, as pam.conf(5) has the values that it stands for.
+#[test]
+fn parts_of_the_keywords(rt: HostRuntime) -> Result<(), Fail> {
+    let granting = set_of(&[Code::SUCCESS, Code::NEW_AUTHTOK_REQD]);
+    let ignored = CodeSet::single(Code::IGNORE);
+    let others = CodeSet::all().without(granting);
+    let failing = others.without(ignored);
+    let required = [
+        part(granting, Action::Ok),
+        part(failing, Action::Bad),
+        part(ignored, Action::Ignore),
+    ];
+    let requisite = [
+        part(granting, Action::Ok),
+        part(failing, Action::Die),
+        part(ignored, Action::Ignore),
+    ];
+    let sufficient = [part(granting, Action::Done), part(others, Action::Ignore)];
+    let optional = [part(granting, Action::Ok), part(others, Action::Ignore)];
+    expect_parts(&rt, b"required", &required)?;
+    expect_parts(&rt, b"requisite", &requisite)?;
+    expect_parts(&rt, b"sufficient", &sufficient)?;
+    expect_parts(&rt, b"optional", &optional)
 }
