@@ -1,10 +1,11 @@
 #!/usr/bin/env python3
-"""Measures the built program: python3 benches/run.py PROGRAM [--decisions PROGRAM] [--only WORD] [--runs N]
+"""Measures the built program: python3 benches/run.py PROGRAM [--decisions PROGRAM] [--paths PROGRAM] [--only WORD] [--runs N]
 
 For each case the inputs are made anew in a temporary folder, the program is run once to warm up and then N times, and
 the least and the median wall time and the peak memory are printed, with the same for an input twice as large where
 growth is of interest. It needs Python's standard library and, for peak memory, /usr/bin/time. With --decisions it also
-runs that program, which decides one stack many times by the library alone.
+runs that program, which decides one stack many times by the library alone; with --paths that one, which explores stacks
+by the library alone.
 """
 import argparse
 import os
@@ -46,8 +47,7 @@ def folder_of(count):
 
 
 STACK = b"auth required a.so\n"
-CODES = ["success"]
-DECIDE = ["decide", "login", "auth"] + CODES + ["--dir", "d"]
+DECIDE = ["decide", "login", "auth", "success", "--dir", "d"]
 
 
 def sized(line):
@@ -122,10 +122,57 @@ def measure_decisions(program):
         print("decisions of %d modules: %.1f million a second" % (modules, 1 / min(times)))
 
 
+def lines(count, line):
+    return "".join((line(n) if callable(line) else line) + "\n" for n in range(count))
+
+
+CODES = """success open_err symbol_err service_err system_err buf_err perm_denied auth_err cred_insufficient authinfo_unavail
+user_unknown maxtries new_authtok_reqd acct_expired session_err cred_unavail cred_expired cred_err no_module_data conv_err
+authtok_err authtok_recover_err authtok_lock_busy authtok_disable_aging try_again ignore abort authtok_expired
+module_unknown bad_item""".split()
+
+STACKS = [
+    # name, paths to give, text
+    ("Debian's `common-auth`, 3 modules", 1000000,
+     "auth [success=1 default=ignore] pam_unix.so nullok\nauth requisite pam_deny.so\nauth required pam_permit.so\n"),
+    ("`sufficient`, `required`", 1000000, "auth sufficient a.so\nauth required b.so\n"),
+    ("8 `required`", 1000000, lines(8, "auth required a.so")),
+    ("56 `required`", 1000000, lines(56, "auth required a.so")),
+    ("256 `required`", 100000, lines(256, "auth required a.so")),
+    ("64 `[success=1 default=ignore]`", 1000000, lines(64, "auth [success=1 default=ignore] a.so")),
+    ("256 `[success=1 default=ignore]`", 100000, lines(256, "auth [success=1 default=ignore] a.so")),
+    ("40 of failing, done and jumps", 1000000, lines(40, lambda n: "auth [success=2 ignore=ignore new_authtok_reqd=1 default=bad] a.so"
+                                                       if n % 3 else "auth [success=done auth_err=1 default=ignore] a.so")),
+    ("40 that die", 1000000, lines(40, "auth [success=1 ignore=ignore new_authtok_reqd=ok default=die] a.so")),
+    ("30 of jumps and resets", 1000000,
+     lines(30, "auth [success=2 auth_err=1 perm_denied=3 user_unknown=die ignore=reset default=ignore] a.so")),
+    ("120 of 31 jumps each", 1000000,
+     lines(120, "auth [%s default=31] a.so" % " ".join("%s=%d" % (code, n + 1) for n, code in enumerate(CODES)))),
+]
+
+
+def measure_paths(program):
+    print("| Stack | million paths a second | steps a path | modules a path | peak memory |")
+    print("|---|---|---|---|---|")
+    for name, limit, text in STACKS:
+        with tempfile.TemporaryDirectory() as folder:
+            put(folder, "login", text.encode())
+            words = [program, str(limit), "login"]
+            times = []
+            for _ in range(5):
+                begin = time.perf_counter()
+                done = subprocess.run(words, cwd=folder, stdout=subprocess.PIPE, check=True)
+                times.append(time.perf_counter() - begin)
+            peak = int(run(["/usr/bin/time", "-q", "-f", "%M"] + words, folder).split()[-1])
+        paths, modules, steps = (int(word) for word in done.stdout.decode().split() if word.isdigit())
+        print("| %s | %.2f | %.2f | %.1f | %.1f MB |" % (name, paths / min(times) / 1e6, steps / paths, modules / paths, peak / 1000))
+
+
 def main():
     parser = argparse.ArgumentParser()
     parser.add_argument("program")
     parser.add_argument("--decisions")
+    parser.add_argument("--paths")
     parser.add_argument("--only", default="")
     parser.add_argument("--runs", type=int, default=20)
     args = parser.parse_args()
@@ -145,6 +192,8 @@ def main():
         print("| %s | %.1f ms | %.1f ms | %.1f MB | %s |" % (name, least * 1000, median * 1000, peak / 1000, half))
     if args.decisions:
         measure_decisions(os.path.abspath(args.decisions))
+    if args.paths:
+        measure_paths(os.path.abspath(args.paths))
 
 
 if __name__ == "__main__":

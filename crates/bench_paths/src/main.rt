@@ -1,6 +1,6 @@
 //! Explores the paths of one stack, for `benches/README.md`: `bench_paths LIMIT FILE...`. The first file is that of the
-//! service, the others are those that it includes. It prints how many paths were given, up to the limit, with their
-//! modules and the steps that the dispatcher made.
+//! service, the others are those that it includes. The stack is explored again and again, until as many paths as the
+//! limit were given; then their number, that of the modules that they ask, and that of the steps are printed.
 #![tactic(auto)]
 
 use anyhow::Error;
@@ -22,19 +22,38 @@ fn program_of(alloc: Global, files: &Files, service: &[u8]) -> Result<Program, E
     Ok(Program::of(alloc, &stack)?)
 }
 
-/// How many paths there are up to a limit, how many modules they ask, and how many steps were made.
-fn explored(program: &Program, limit: u64) -> (u64, u64, u64) {
+/// What was given: paths, the modules that they ask, and the steps that were made.
+#[derive(Clone, Copy, Debug, Default)]
+struct Explored {
+    paths: u64,
+    modules: u64,
+    steps: u64,
+}
+
+/// Explores a stack once, up to a number of paths.
+fn explore(program: &Program, limit: u64, explored: &mut Explored) {
     let mut explorer = Explorer::start(program, &Free);
-    let mut paths: u64 = 0;
-    let mut modules: u64 = 0;
     for _ in 0..limit {
         let Some(path) = explorer.next() else {
             break;
         };
-        paths = paths.saturating_add(1);
-        modules = modules.saturating_add(path.steps().len() as u64);
+        explored.paths = explored.paths.saturating_add(1);
+        explored.modules = explored.modules.saturating_add(path.steps().len() as u64);
     }
-    (paths, modules, explorer.work())
+    explored.steps = explored.steps.saturating_add(explorer.work());
+}
+
+/// Explores a stack again and again, until as many paths as the limit were given.
+fn explore_to(program: &Program, limit: u64) -> Explored {
+    let mut explored = Explored::default();
+    for _ in 0..limit {
+        let left = limit.saturating_sub(explored.paths);
+        if left == 0 {
+            break;
+        }
+        explore(program, left, &mut explored);
+    }
+    explored
 }
 
 fn main(rt: HostRuntime) -> Result<(), Error> {
@@ -48,7 +67,10 @@ fn main(rt: HostRuntime) -> Result<(), Error> {
         return Ok(());
     }
     let program = program_of(alloc, &files, words[2].as_bytes())?;
-    let (paths, modules, steps) = explored(&program, words[1].as_str().parse()?);
-    println!(rt; "{paths} paths, {modules} modules asked, {steps} steps")?;
+    let explored = explore_to(&program, words[1].as_str().parse()?);
+    println!(rt;
+        "{} paths, {} modules asked, {} steps",
+        explored.paths, explored.modules, explored.steps
+    )?;
     Ok(())
 }
