@@ -28,12 +28,24 @@ pub fn run<R: Files + AllocGlobal + Clone + Drop, W: Write, V: Write>(
 ) -> u8
     requires { out.old.failures < 2 ^ 64 - 1 }
 {
-    let request = match request(alloc, words) {
-        Ok(request) => request,
-        Err(usage) => return refuse(alloc, &usage, out, err),
-    };
-    match inputs_of(rt, alloc, &request) {
-        Ok(inputs) => report(alloc, &request, &inputs, out, err),
+    match request(alloc, words) {
+        Ok(request) => answer_request(rt, alloc, &request, out, err),
+        Err(usage) => refuse(alloc, &usage, out, err),
+    }
+}
+
+/// Reads what a request names, and answers it.
+fn answer_request<R: Files + AllocGlobal + Clone + Drop, W: Write, V: Write>(
+    rt: &R,
+    alloc: Global,
+    request: &Request<'_>,
+    out: &mut Out<W>,
+    err: &mut Out<V>,
+) -> u8
+    requires { out.old.failures < 2 ^ 64 - 1 }
+{
+    match inputs_of(rt, alloc, request) {
+        Ok(inputs) => report(alloc, request, &inputs, out, err),
         Err(InputError::Read(name)) => {
             say(&["pamcheck: V1 Read ", name.as_str(), "\n"], err);
             DEVICE

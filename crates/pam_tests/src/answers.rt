@@ -2,17 +2,18 @@
 
 ghost use Rattle.std.specs.Prelude.{◌<◌, ◌-◌, ◌^◌};
 
+use crate::files::put;
 use crate::halting::{FULL, Halting, INTERRUPTED, NOTHING};
 use pam_codes::Out;
 use pam_conf::{Files, Form};
 use pam_report::{Fault, Inputs, answer, fault_status};
-use pam_words::request;
+use pam_words::{Request, request};
 use std::alloc::Global;
 use std::test::Fail;
 
 const LOGIN: &[u8] = b"auth required a.so\nauth sufficient b.so\n";
 
-const WORDS: [&str; 8] = [
+static WORDS: [&str; 8] = [
     "pamcheck", "decide", "login", "auth", "success", "auth_err", "--dir", "d",
 ];
 
@@ -22,21 +23,28 @@ const TEXT: &[u8] = b"login auth 2 modules
 decision success
 ";
 
-/// What the answer left: whether it is an answer, the status, and how many bytes were taken.
-fn outcome(alloc: Global, halting: &mut Halting) -> Result<(bool, u8, usize), Fail> {
+fn inputs(alloc: Global) -> Result<Inputs, Fail> {
     let mut files = Files::new(alloc, Form::Dir);
-    files.put(b"login".to_vec(alloc)?, LOGIN.to_vec(alloc)?)?;
-    let inputs = Inputs {
+    put(alloc, &mut files, b"login", LOGIN)?;
+    Ok(Inputs {
         files,
         groups: None,
         access: None,
         time: None,
-    };
-    let words = WORDS;
-    let request = match request(alloc, &words) {
-        Ok(request) => request,
-        Err(_) => return Err(Fail::from("the words were refused")),
-    };
+    })
+}
+
+fn asked<'a>(alloc: Global, words: &'a [&'a str]) -> Result<Request<'a>, Fail> {
+    match request(alloc, words) {
+        Ok(request) => Ok(request),
+        Err(_) => Err(Fail::from("the words were refused")),
+    }
+}
+
+/// What the answer left: whether it is an answer, the status, and how many bytes were taken.
+fn outcome(alloc: Global, halting: &mut Halting) -> Result<(bool, u8, usize), Fail> {
+    let inputs = inputs(alloc)?;
+    let request = asked(alloc, &WORDS)?;
     let mut out = Out::new(&mut *halting);
     let (is_answer, status) = match answer(alloc, &request, &inputs, &mut out) {
         Ok(status) => (true, status.number()),
