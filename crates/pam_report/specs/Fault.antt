@@ -5,6 +5,7 @@ use Rattle.std.specs.Option.{option_map}
 use Rattle.pam_codes.specs.declared.error.ControlError.{ControlError}
 use Rattle.pam_codes.specs.declared.error.ControlError.TheVariants.{BadControl, BadValue, BadAction, ZeroJump, OpenBracket}
 use Rattle.pam_conf.specs.Files.{Folder}
+use Rattle.pam_conf.specs.declared.conf_error.ConfError.{ConfError}
 use Rattle.pam_conf.specs.declared.error.FaultKind.{FaultKind}
 use Rattle.pam_conf.specs.declared.error.FaultKind.TheVariants as conf
 use Rattle.pam_report.specs.declared.fault.Fault.{Fault}
@@ -70,7 +71,12 @@ table_name Access = codes "access"
 table_name Time = codes "time"
 table_name Group = codes "group"
 
--- ` TABLE:LINE` behind the name, but for want of memory
+-- ` FILE:LINE` after the name where there is a file; want of memory has no place
+abbrev pub conf_line : Folder → ConfError → FaultKind → List ℕ
+conf_line files e conf.Memory = codes "pamcheck: E17 Memory\n"
+conf_line files e kind = conf_text (conf_fault kind) (file_at files e.at) e.line
+
+-- ` TABLE:LINE` after the name; want of memory has no place
 abbrev pub table_line : Table → TableFault → ℕ → List ℕ
 table_line t table.Memory line = codes "pamcheck: TE11 Memory\n"
 table_line t fault line =
@@ -84,7 +90,7 @@ moment_fault_name Syntax = codes "M4 Syntax"
 
 -- THE LINE of a fault
 unfoldable pub fault_line : Folder → Fault → List ℕ
-fault_line files (Conf e) = conf_text (conf_fault e.kind) (file_at files e.at) e.line
+fault_line files (Conf e) = conf_line files e e.kind
 fault_line files (Count e) = concat (codes "pamcheck: DE1 WrongCount want " ∷ decimal e.modules ∷ codes "\n" ∷ [])
 fault_line files (faults.Table e) = table_line e.table e.fault e.line
 fault_line files (faults.Moment e) = concat (codes "pamcheck: " ∷ moment_fault_name e ∷ codes "\n" ∷ [])

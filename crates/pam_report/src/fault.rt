@@ -156,7 +156,7 @@ fn table_fault_text(alloc: Global, error: &TableError) -> Result<Vec<u8>, AllocE
 }
 
 /// The line `pamcheck: NUMBER NAME` of a fault, with its place where it has one. A position that the files do not
-/// have gives no place.
+/// have gives no place, and want of memory never has one.
 #[tactic(auto, unfolding(crate::specs::Fault::fault_line))]
 pub fn fault_text(alloc: Global, fault: &Fault, files: &Files) -> Result<Vec<u8>, AllocError>
     ensures { IfOk result (λ text. text.items ≡ fault_line files.now fault.now) }
@@ -189,6 +189,9 @@ pub fn fault_text(alloc: Global, fault: &Fault, files: &Files) -> Result<Vec<u8>
 fn conf_fault_text(alloc: Global, error: &ConfError, files: &Files) -> Result<Vec<u8>, AllocError>
     ensures { IfOk result (λ text. text.items ≡ fault_line files.now (Fault.Conf error.now)) }
 {
+    if error.kind == FaultKind::Memory {
+        return joined(alloc, &[Piece::Bytes(b"pamcheck: E17 Memory\n")]);
+    }
     let name = conf_fault_name(error.kind);
     match file_at(files, error.at) {
         None => joined(
