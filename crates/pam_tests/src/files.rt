@@ -1,6 +1,6 @@
 //! Files by name.
 
-use pam_conf::{Files, Form, Kind, resolve};
+use pam_conf::{Files, Form, Kind, Stack, resolve};
 use std::alloc::Global;
 use std::process::Abort;
 use std::test::Fail;
@@ -43,12 +43,21 @@ fn a_name_that_is_there_keeps_its_position(rt: HostRuntime) -> Result<(), Fail> 
     Ok(())
 }
 
+/// That the first module of a stack has this path, in the file of this position.
+fn asks_first(rt: &impl Abort, stack: &Stack, path: &[u8], file: usize) {
+    match stack.module(1) {
+        Some(module) => {
+            assert_eq!(rt; module.path.as_slice(), path);
+            assert_eq!(rt; module.file, file);
+        }
+        None => assert!(rt; false),
+    }
+}
+
 #[test]
 fn a_name_that_is_there_gets_the_new_bytes(rt: HostRuntime) -> Result<(), Fail> {
     let files = two_files(rt.alloc())?;
     let stack = resolve(rt.alloc(), &files, b"login", Kind::Auth)?;
-    let module = stack.module(1).ok_or("no module")?;
-    assert_eq!(rt; module.path.as_slice(), b"new.so".as_slice());
-    assert_eq!(rt; module.file, 0);
+    asks_first(&rt, &stack, b"new.so", 0);
     Ok(())
 }
