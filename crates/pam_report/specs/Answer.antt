@@ -1,5 +1,5 @@
 -- What an answer is: a text and a status, or the first fault.
-use Rattle.std.specs.Prelude.{◌≡◌, ℕ, ℤ, List, [], map, IsSome, Option, Result, Ok, Err, ◌==◌, if◌then◌else◌, length}
+use Rattle.std.specs.Prelude.{◌≡◌, ℕ, ℤ, List, [], map, IsSome, Option, None, Result, Ok, Err, ◌==◌, if◌then◌else◌, length}
 use Rattle.std.specs.Char.{to_ascii_lowercase}
 use Rattle.pam_codes.specs.Out.{TookAll, TookFront}
 use Rattle.pam_codes.specs.declared.out.Out.{Out}
@@ -22,6 +22,7 @@ use Rattle.pam_tables.specs.declared.access.AccessAnswer.{AccessAnswer}
 use Rattle.pam_tables.specs.declared.access.AccessAnswer.TheVariants as access
 use Rattle.pam_tables.specs.declared.error.Table.{Table}
 use Rattle.pam_tables.specs.declared.error.Table.TheVariants as tables
+use Rattle.pam_tables.specs.declared.error.TableError.{TableError}
 use Rattle.pam_tables.specs.declared.error.TableFault.{TableFault}
 use Rattle.pam_tables.specs.declared.error.TableFault.TheVariants as reasons
 use Rattle.pam_times.specs.Moments.{Exist, HasParts, IsInstant, Shows, parts_of}
@@ -142,24 +143,24 @@ IsMoment (Instant seconds zone) at = IsShownAt seconds zone.now at
 abbrev pub login_to : List ℕ → List ℕ → List ℕ → List ℕ → LoginText
 login_to service user tty rhost = record { user = user; service = map to_ascii_lowercase service; tty = tty; rhost = rhost }
 
--- the fact, unless memory ran out
-abbrev pub OrMemory : FaultKind → Type 0 → Type 0
-OrMemory conf.Memory fact = Unit {0}
-OrMemory _ fact = fact
+-- a fault is the answer's, unless memory ran out, which has no place
+abbrev pub IsConfFault : ConfError → FaultKind → Answer → Type 0
+IsConfFault error conf.Memory answer = error ≡ record { kind = conf.Memory; at = None; line = 0 }
+IsConfFault error _ answer = answer ≡ Err (faults.Conf error)
 
-abbrev pub OrNoMemory : TableFault → Type 0 → Type 0
-OrNoMemory reasons.Memory fact = Unit {0}
-OrNoMemory _ fact = fact
+abbrev pub IsTableFault : TableError → TableFault → Answer → Type 0
+IsTableFault error reasons.Memory answer = error.line ≡ 0
+IsTableFault error _ answer = answer ≡ Err (faults.Table error)
 
 -- what is left of the writer: all of the text where there is an answer, a prefix of it where a write failed, and
 -- nothing where there is a fault or no memory
 abbrev pub LeavesFault : {W : Type 0} → (W → Option (List ℕ)) → Out W → Out W → Fault → Answer → Type 0
 LeavesFault contents old new faults.Device answer = (report : Report) × (answer ≡ Ok report) × TookFront contents old new report.text
 LeavesFault contents old new faults.Memory answer = new ≡ old
-LeavesFault contents old new (faults.Conf e) answer = (new ≡ old) × OrMemory e.kind (answer ≡ Err (faults.Conf e))
+LeavesFault contents old new (faults.Conf e) answer = (new ≡ old) × IsConfFault e e.kind answer
 LeavesFault contents old new (faults.Count e) answer = (new ≡ old) × (answer ≡ Err (faults.Count e))
 LeavesFault contents old new (faults.Moment e) answer = (new ≡ old) × (answer ≡ Err (faults.Moment e))
-LeavesFault contents old new (faults.Table e) answer = (new ≡ old) × OrNoMemory e.fault (answer ≡ Err (faults.Table e))
+LeavesFault contents old new (faults.Table e) answer = (new ≡ old) × IsTableFault e e.fault answer
 
 abbrev pub Leaves : {W : Type 0} → (W → Option (List ℕ)) → Out W → Out W → Result Status Fault → Answer → Type 0
 Leaves contents old new (Ok status) answer = (text : List ℕ) × (answer ≡ Ok (record { text = text; status = status })) × TookAll contents old new text
@@ -179,7 +180,7 @@ Answers contents old new result service (Time table user tty moment) inputs =
 
 -- what a look-up finds is the answer, or its fault, unless memory ran out
 abbrev pub FindsFault : Fault → Answer → Type 0
-FindsFault (faults.Table e) answer = OrNoMemory e.fault (answer ≡ Err (faults.Table e))
+FindsFault (faults.Table e) answer = IsTableFault e e.fault answer
 FindsFault _ answer = ⊥
 
 abbrev pub FindsAccess : Result AccessAnswer Fault → Answer → Type 0

@@ -1,15 +1,19 @@
 -- The line of a fault: its number and name, and its place where it has one.
-use Rattle.std.specs.Prelude.{ℕ, List, [], ◌∷◌, codes, decimal, Option, Some, None, slice_get}
+use Rattle.std.specs.Prelude.{ℕ, List, [], ◌∷◌, codes, decimal, Option, Some, None, slice_get, string_bytes}
 use Rattle.std.specs.List.{concat}
 use Rattle.std.specs.Option.{option_map}
 use Rattle.pam_codes.specs.declared.error.ControlError.{ControlError}
 use Rattle.pam_codes.specs.declared.error.ControlError.TheVariants.{BadControl, BadValue, BadAction, ZeroJump, OpenBracket}
 use Rattle.pam_conf.specs.Files.{Folder}
+use Rattle.pam_conf.specs.declared.conf_error.ConfError.{ConfError}
 use Rattle.pam_conf.specs.declared.error.FaultKind.{FaultKind}
 use Rattle.pam_conf.specs.declared.error.FaultKind.TheVariants as conf
 use Rattle.pam_report.specs.declared.fault.Fault.{Fault}
 use Rattle.pam_report.specs.declared.fault.Fault.TheVariants.{Conf, Count, Device, Memory}
 use Rattle.pam_report.specs.declared.fault.Fault.TheVariants as faults
+use Rattle.pam_report.specs.declared.inputs.InputError.{InputError}
+use Rattle.pam_report.specs.declared.inputs.InputError.TheVariants.{Read}
+use Rattle.pam_report.specs.declared.inputs.InputError.TheVariants as inputs
 use Rattle.pam_tables.specs.declared.error.Table.{Table}
 use Rattle.pam_tables.specs.declared.error.Table.TheVariants.{Access, Time, Group}
 use Rattle.pam_tables.specs.declared.error.TableFault.{TableFault}
@@ -70,7 +74,15 @@ table_name Access = codes "access"
 table_name Time = codes "time"
 table_name Group = codes "group"
 
--- ` TABLE:LINE` behind the name, but for want of memory
+abbrev pub memory_line : List ℕ
+memory_line = codes "pamcheck: E17 Memory\n"
+
+-- ` FILE:LINE` after the name where there is a file; want of memory has no place
+abbrev pub conf_line : Folder → ConfError → FaultKind → List ℕ
+conf_line files e conf.Memory = memory_line
+conf_line files e kind = conf_text (conf_fault kind) (file_at files e.at) e.line
+
+-- ` TABLE:LINE` after the name; want of memory has no place
 abbrev pub table_line : Table → TableFault → ℕ → List ℕ
 table_line t table.Memory line = codes "pamcheck: TE11 Memory\n"
 table_line t fault line =
@@ -84,12 +96,17 @@ moment_fault_name Syntax = codes "M4 Syntax"
 
 -- THE LINE of a fault
 unfoldable pub fault_line : Folder → Fault → List ℕ
-fault_line files (Conf e) = conf_text (conf_fault e.kind) (file_at files e.at) e.line
+fault_line files (Conf e) = conf_line files e e.kind
 fault_line files (Count e) = concat (codes "pamcheck: DE1 WrongCount want " ∷ decimal e.modules ∷ codes "\n" ∷ [])
 fault_line files (faults.Table e) = table_line e.table e.fault e.line
 fault_line files (faults.Moment e) = concat (codes "pamcheck: " ∷ moment_fault_name e ∷ codes "\n" ∷ [])
 fault_line files Device = codes "pamcheck: V2 Write\n"
-fault_line files Memory = codes "pamcheck: E17 Memory\n"
+fault_line files Memory = memory_line
+
+-- THE LINE of an input that is not there; the name of what cannot be read is as the words or the folder have it
+abbrev pub input_line : InputError → List ℕ
+input_line (Read name) = concat (codes "pamcheck: V1 Read " ∷ string_bytes name ∷ codes "\n" ∷ [])
+input_line inputs.Memory = memory_line
 
 -- the exit status of a fault of the configuration
 abbrev pub conf_status : FaultKind → ℕ
@@ -111,3 +128,7 @@ status_of_fault (faults.Moment e) = moment_status e
 status_of_fault (Count e) = 2
 status_of_fault Device = 5
 status_of_fault Memory = 6
+
+abbrev pub status_of_input : InputError → ℕ
+status_of_input (Read name) = 5
+status_of_input inputs.Memory = 6

@@ -3,8 +3,9 @@
 ghost use Rattle.std.specs.Prelude.{◌≡◌, ◌++◌, IfOk, OnOk};
 ghost use Rattle.std.specs.Option.{option_map};
 ghost use Rattle.pam_codes.specs.Line.{line_text, piece_text};
-ghost use Rattle.pam_report.specs.Fault.{conf_fault, control_fault, fault_line, file_at, moment_fault_name, table_fault_name, table_line, table_name, status_of_fault};
+ghost use Rattle.pam_report.specs.Fault.{conf_fault, control_fault, fault_line, file_at, input_line, memory_line, moment_fault_name, table_fault_name, table_line, table_name, status_of_fault, status_of_input};
 
+use crate::inputs::InputError;
 use pam_codes::{ControlError, Piece};
 use pam_conf::{ConfError, FaultKind, Files};
 use pam_dispatch::WrongCount;
@@ -12,6 +13,24 @@ use pam_tables::{Table, TableError, TableFault};
 use pam_times::MomentError;
 use std::alloc::{AllocError, Global};
 use thiserror::Error;
+
+/// The status of codes that are not one for each module.
+const WRONG_COUNT: u8 = 2;
+
+/// The status of a fault of the configuration.
+const BAD_CONFIGURATION: u8 = 3;
+
+/// The status of a fault of a table.
+const BAD_TABLE: u8 = 4;
+
+/// The status of words that give no moment.
+const BAD_MOMENT: u8 = 4;
+
+/// The status of a failed read or write.
+const FAILED: u8 = 5;
+
+/// The status of want of memory.
+const NO_MEMORY: u8 = 6;
 
 /// Why a request has no answer.
 #[derive(Clone, Copy, Debug, PartialEq, Eq, Error)]
@@ -31,7 +50,7 @@ pub enum Fault {
     /// A write failed.
     #[error("standard output took no more")]
     Device,
-    /// A growth was refused.
+    /// Allocation failed.
     #[error("out of memory")]
     Memory,
 }
@@ -70,7 +89,7 @@ fn conf_fault_name(kind: FaultKind) -> &'static str
     }
 }
 
-/// Puts the text of the piece behind the text.
+/// Appends the text of the piece.
 fn push_piece(text: &mut Vec<u8>, piece: Piece<'_>) -> Result<(), AllocError>
     ensures { OnOk result (text.new.items ≡ text.old.items ++ piece_text piece.entry) }
 {
@@ -92,6 +111,12 @@ fn joined(alloc: Global, pieces: &[Piece<'_>]) -> Result<Vec<u8>, AllocError>
         push_piece(&mut text, *piece)?;
     }
     Ok(text)
+}
+
+fn memory_text(alloc: Global) -> Result<Vec<u8>, AllocError>
+    ensures { IfOk result (λ text. text.items ≡ memory_line) }
+{
+    joined(alloc, &[Piece::Bytes(b"pamcheck: E17 Memory\n")])
 }
 
 #[tactic(auto, unfolding(crate::specs::Fault::table_fault_name))]
@@ -156,7 +181,7 @@ fn table_fault_text(alloc: Global, error: &TableError) -> Result<Vec<u8>, AllocE
 }
 
 /// The line `pamcheck: NUMBER NAME` of a fault, with its place where it has one. A position that the files do not
-/// have gives no place.
+/// have gives no place, and want of memory never has one.
 #[tactic(auto, unfolding(crate::specs::Fault::fault_line))]
 pub fn fault_text(alloc: Global, fault: &Fault, files: &Files) -> Result<Vec<u8>, AllocError>
     ensures { IfOk result (λ text. text.items ≡ fault_line files.now fault.now) }
@@ -181,7 +206,7 @@ pub fn fault_text(alloc: Global, fault: &Fault, files: &Files) -> Result<Vec<u8>
             ],
         ),
         Fault::Device => joined(alloc, &[Piece::Bytes(b"pamcheck: V2 Write\n")]),
-        Fault::Memory => joined(alloc, &[Piece::Bytes(b"pamcheck: E17 Memory\n")]),
+        Fault::Memory => memory_text(alloc),
     }
 }
 
@@ -189,6 +214,9 @@ pub fn fault_text(alloc: Global, fault: &Fault, files: &Files) -> Result<Vec<u8>
 fn conf_fault_text(alloc: Global, error: &ConfError, files: &Files) -> Result<Vec<u8>, AllocError>
     ensures { IfOk result (λ text. text.items ≡ fault_line files.now (Fault.Conf error.now)) }
 {
+    if error.kind == FaultKind::Memory {
+        return memory_text(alloc);
+    }
     let name = conf_fault_name(error.kind);
     match file_at(files, error.at) {
         None => joined(
@@ -230,19 +258,46 @@ pub fn fault_status(fault: &Fault) -> u8
 {
     match fault {
         Fault::Conf(error) => match error.kind {
-            FaultKind::Memory => 6,
-            _ => 3,
+            FaultKind::Memory => NO_MEMORY,
+            _ => BAD_CONFIGURATION,
         },
         Fault::Table(error) => match error.fault {
-            TableFault::Memory => 6,
-            _ => 4,
+            TableFault::Memory => NO_MEMORY,
+            _ => BAD_TABLE,
         },
         Fault::Moment(error) => match error {
-            MomentError::Memory => 6,
-            _ => 4,
+            MomentError::Memory => NO_MEMORY,
+            _ => BAD_MOMENT,
         },
-        Fault::Count(_) => 2,
-        Fault::Device => 5,
-        Fault::Memory => 6,
+        Fault::Count(_) => WRONG_COUNT,
+        Fault::Device => FAILED,
+        Fault::Memory => NO_MEMORY,
+    }
+}
+
+/// The line of an input that is not there.
+pub(crate) fn input_text(alloc: Global, error: &InputError) -> Result<Vec<u8>, AllocError>
+    ensures { IfOk result (λ text. text.items ≡ input_line error.now) }
+{
+    match error {
+        InputError::Read(name) => joined(
+            alloc,
+            &[
+                Piece::Bytes(b"pamcheck: V1 Read "),
+                Piece::Bytes(name.as_bytes()),
+                Piece::Bytes(b"\n"),
+            ],
+        ),
+        InputError::Memory => memory_text(alloc),
+    }
+}
+
+/// The exit status of an input that is not there.
+pub(crate) fn input_status(error: &InputError) -> u8
+    ensures { result ≡ status_of_input error.now }
+{
+    match error {
+        InputError::Read(_) => FAILED,
+        InputError::Memory => NO_MEMORY,
     }
 }

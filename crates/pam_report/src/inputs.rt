@@ -70,6 +70,12 @@ fn is_regular<R: std::rt::Files>(rt: &R, path: Path<'_>) -> io::Result<bool> {
     }
 }
 
+fn push_name(alloc: Global, names: &mut Vec<String>, name: &str) -> Result<(), AllocError> {
+    let name = String::from_str(alloc, name)?;
+    names.push(name)?;
+    Ok(())
+}
+
 /// The names of the entries of a folder, in rising byte order.
 fn entry_names<R: std::rt::Files + AllocGlobal + Clone + Drop>(
     rt: &R,
@@ -78,8 +84,7 @@ fn entry_names<R: std::rt::Files + AllocGlobal + Clone + Drop>(
 ) -> io::Result<Vec<String>> {
     let mut names = Vec::new(alloc);
     for entry in fs::read_dir(rt, folder)? {
-        let entry = entry?;
-        names.push(String::from_str(alloc, entry.file_name())?)?;
+        push_name(alloc, &mut names, entry?.file_name())?;
     }
     names.sort()?;
     Ok(names)
@@ -174,16 +179,39 @@ pub(crate) fn bytes_given(bytes: &Option<Vec<u8>>) -> &[u8]
     }
 }
 
-/// A file that may be named.
-fn optional_file<R: std::rt::Files>(
+/// Inputs without tables.
+fn without_tables(files: Files) -> Inputs {
+    Inputs {
+        files,
+        groups: None,
+        access: None,
+        time: None,
+    }
+}
+
+/// The group file, if one is named, and then the access table.
+fn access_inputs<R: std::rt::Files>(
     rt: &R,
     alloc: Global,
-    name: Option<&str>,
-) -> Result<Option<Vec<u8>>, InputError> {
-    match name {
-        Some(name) => Ok(Some(named_file(rt, alloc, name)?)),
-        None => Ok(None),
+    table: &str,
+    groups: Option<&str>,
+) -> Result<Inputs, InputError> {
+    let mut inputs = without_tables(Files::new(alloc, Form::Dir));
+    if let Some(name) = groups {
+        inputs.groups = Some(named_file(rt, alloc, name)?);
     }
+    inputs.access = Some(named_file(rt, alloc, table)?);
+    Ok(inputs)
+}
+
+fn time_inputs<R: std::rt::Files>(
+    rt: &R,
+    alloc: Global,
+    table: &str,
+) -> Result<Inputs, InputError> {
+    let mut inputs = without_tables(Files::new(alloc, Form::Dir));
+    inputs.time = Some(named_file(rt, alloc, table)?);
+    Ok(inputs)
 }
 
 /// Reads what a request names: the source first, then the group, access and time tables.
@@ -192,20 +220,11 @@ pub(crate) fn inputs_of<R: std::rt::Files + AllocGlobal + Clone + Drop>(
     alloc: Global,
     request: &Request<'_>,
 ) -> Result<Inputs, InputError> {
-    let (source, groups, access, time) = match &request.task {
-        Task::Show { source, .. } => (Some(*source), None, None, None),
-        Task::Decide { source, .. } => (Some(*source), None, None, None),
-        Task::Access { table, groups, .. } => (None, *groups, Some(*table), None),
-        Task::Time { table, .. } => (None, None, None, Some(*table)),
-    };
-    let files = match source {
-        Some(source) => source_files(rt, alloc, source)?,
-        None => Files::new(alloc, Form::Dir),
-    };
-    Ok(Inputs {
-        files,
-        groups: optional_file(rt, alloc, groups)?,
-        access: optional_file(rt, alloc, access)?,
-        time: optional_file(rt, alloc, time)?,
-    })
+    match &request.task {
+        Task::Show { source, .. } | Task::Decide { source, .. } => {
+            Ok(without_tables(source_files(rt, alloc, *source)?))
+        }
+        Task::Access { table, groups, .. } => access_inputs(rt, alloc, table, *groups),
+        Task::Time { table, .. } => time_inputs(rt, alloc, table),
+    }
 }

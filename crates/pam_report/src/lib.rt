@@ -8,5 +8,5 @@ mod report;
 
 pub use fault::{Fault, fault_status, fault_text};
 pub use inputs::Inputs;
-pub use program::run;
+pub use program::{refuse, refuse_without_memory, run};
 pub use report::{Status, answer};

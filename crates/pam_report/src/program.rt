@@ -2,20 +2,15 @@
 
 ghost use Rattle.std.specs.Prelude.{◌-◌, ◌<◌, ◌^◌};
 
-use crate::fault::{Fault, fault_status, fault_text};
-use crate::inputs::{InputError, Inputs, inputs_of};
+use crate::fault::{Fault, fault_status, fault_text, input_status, input_text};
+use crate::inputs::{Inputs, inputs_of};
 use crate::report::answer;
 use pam_codes::Out;
+use pam_conf::{Files as ConfFiles, Form};
 use pam_words::{Request, Usage, request, usage_status, usage_text};
-use std::alloc::Global;
+use std::alloc::{AllocError, Global};
 use std::io::Write;
 use std::rt::Files;
-
-/// The status of a failed read or write.
-const DEVICE: u8 = 5;
-
-/// The status of want of memory.
-const MEMORY: u8 = 6;
 
 /// Reads the words, reads what they name, answers, and gives the exit status. What goes wrong with `err` changes
 /// nothing.
@@ -28,19 +23,54 @@ pub fn run<R: Files + AllocGlobal + Clone + Drop, W: Write, V: Write>(
 ) -> u8
     requires { out.old.failures < 2 ^ 64 - 1 }
 {
-    let request = match request(alloc, words) {
-        Ok(request) => request,
-        Err(usage) => return refuse(alloc, &usage, out, err),
-    };
-    match inputs_of(rt, alloc, &request) {
-        Ok(inputs) => report(alloc, &request, &inputs, out, err),
-        Err(InputError::Read(name)) => {
-            say(&["pamcheck: V1 Read ", name.as_str(), "\n"], err);
-            DEVICE
+    match request(alloc, words) {
+        Ok(request) => answer_request(rt, alloc, &request, out, err),
+        Err(Usage::Help(text)) => help(alloc, &text, out, err),
+        Err(usage) => refuse(alloc, &usage, err),
+    }
+}
+
+/// Says on standard error what is wrong with the words, and gives the exit status.
+pub fn refuse<V: Write>(alloc: Global, usage: &Usage, err: &mut Out<V>) -> u8 {
+    match usage {
+        Usage::Help(text) | Usage::Words(text) => {
+            let _ = write!(err, "{text}");
         }
-        Err(InputError::Memory) => {
-            say(&["pamcheck: E17 Memory\n"], err);
-            MEMORY
+        _ => {
+            if let Ok(line) = usage_text(alloc, usage) {
+                let _ = err.write_all(line.as_bytes());
+            }
+        }
+    }
+    let _ = err.flush();
+    usage_status(usage)
+}
+
+/// Says on standard error that memory ran out before any words were read, and gives the exit status.
+pub fn refuse_without_memory<V: Write>(alloc: Global, err: &mut Out<V>) -> u8 {
+    refuse_by(
+        alloc,
+        &Fault::Memory,
+        &ConfFiles::new(alloc, Form::Dir),
+        err,
+    )
+}
+
+/// Reads what a request names, and answers it.
+fn answer_request<R: Files + AllocGlobal + Clone + Drop, W: Write, V: Write>(
+    rt: &R,
+    alloc: Global,
+    request: &Request<'_>,
+    out: &mut Out<W>,
+    err: &mut Out<V>,
+) -> u8
+    requires { out.old.failures < 2 ^ 64 - 1 }
+{
+    match inputs_of(rt, alloc, request) {
+        Ok(inputs) => report(alloc, request, &inputs, out, err),
+        Err(error) => {
+            say(input_text(alloc, &error), err);
+            input_status(&error)
         }
     }
 }
@@ -56,56 +86,41 @@ fn report<W: Write, V: Write>(
 {
     match answer(alloc, request, inputs, out) {
         Ok(status) => status.number(),
-        Err(fault) => {
-            if let Ok(line) = fault_text(alloc, &fault, &inputs.files) {
-                let _ = err.write_all(&line);
-            }
-            let _ = err.flush();
-            fault_status(&fault)
-        }
+        Err(fault) => refuse_by(alloc, &fault, &inputs.files, err),
     }
 }
 
-/// Says what is wrong with the words, or helps.
-fn refuse<W: Write, V: Write>(
+fn help<W: Write, V: Write>(
     alloc: Global,
-    usage: &Usage,
+    text: &clap::Error,
     out: &mut Out<W>,
     err: &mut Out<V>,
 ) -> u8 {
-    match usage {
-        Usage::Help(error) => return help(error, out, err),
-        Usage::Words(error) => {
-            let _ = write!(err, "{error}");
-        }
-        _ => {
-            if let Ok(line) = usage_text(alloc, usage) {
-                let _ = err.write_all(line.as_bytes());
-            }
-        }
-    }
-    let _ = err.flush();
-    usage_status(usage)
-}
-
-fn help<W: Write, V: Write>(error: &clap::Error, out: &mut Out<W>, err: &mut Out<V>) -> u8 {
-    let written = match write!(out, "{error}") {
+    let written = match write!(out, "{text}") {
         Ok(()) => out.flush(),
         Err(error) => Err(error),
     };
     match written {
         Ok(()) => 0,
-        Err(_) => {
-            say(&["pamcheck: V2 Write\n"], err);
-            DEVICE
-        }
+        Err(_) => refuse_by(
+            alloc,
+            &Fault::Device,
+            &ConfFiles::new(alloc, Form::Dir),
+            err,
+        ),
     }
 }
 
-/// Writes texts to standard error.
-fn say<V: Write>(texts: &[&str], err: &mut Out<V>) {
-    for text in texts {
-        let _ = err.write_all(text.as_bytes());
+/// Says a fault on standard error, and gives its exit status.
+fn refuse_by<V: Write>(alloc: Global, fault: &Fault, files: &ConfFiles, err: &mut Out<V>) -> u8 {
+    say(fault_text(alloc, fault, files), err);
+    fault_status(fault)
+}
+
+/// Writes a line to standard error, unless there was no memory for it.
+fn say<V: Write>(line: Result<Vec<u8>, AllocError>, err: &mut Out<V>) {
+    if let Ok(line) = line {
+        let _ = err.write_all(&line);
     }
     let _ = err.flush();
 }

@@ -1,66 +1,170 @@
-//! Answers over writers that take little, answer errors, or cannot flush.
+//! Answers of each command over writers that take little, answer errors, or cannot flush.
 
 ghost use Rattle.std.specs.Prelude.{◌<◌, ◌-◌, ◌^◌};
 
+use crate::files::put;
 use crate::halting::{FULL, Halting, INTERRUPTED, NOTHING};
 use pam_codes::Out;
 use pam_conf::{Files, Form};
 use pam_report::{Fault, Inputs, answer, fault_status};
-use pam_words::request;
+use pam_words::{Request, request};
 use std::alloc::Global;
+use std::process::Abort;
 use std::test::Fail;
 
-const LOGIN: &[u8] = b"auth required a.so\nauth sufficient b.so\n";
+/// A command, what it is answered from, and what it prints.
+struct Command {
+    words: &'static [&'static str],
+    login: &'static [u8],
+    access: Option<&'static [u8]>,
+    time: Option<&'static [u8]>,
+    text: &'static [u8],
+    status: u8,
+}
 
-const WORDS: [&str; 8] = [
-    "pamcheck", "decide", "login", "auth", "success", "auth_err", "--dir", "d",
-];
+static SHOW: Command = Command {
+    words: &["pamcheck", "show", "login", "auth", "--dir", "d"],
+    login: b"auth required a.so [query=a \\] b] \\\n  debug # note \\\n-auth optional c.so",
+    access: None,
+    time: None,
+    text: b"login auth 2 modules
+1 login:1 required a.so [query=a \\] b] debug
+2 login:3 - optional c.so
+",
+    status: 0,
+};
 
-const TEXT: &[u8] = b"login auth 2 modules
+static DECIDE: Command = Command {
+    words: &[
+        "pamcheck", "decide", "login", "auth", "success", "auth_err", "--dir", "d",
+    ],
+    login: b"auth required a.so\nauth sufficient b.so\n",
+    access: None,
+    time: None,
+    text: b"login auth 2 modules
 1 a.so success ok positive success
 2 b.so auth_err ignore positive success
 decision success
-";
+",
+    status: 0,
+};
 
-/// What the answer left: whether it is an answer, the status, and how many bytes were taken.
-fn outcome(alloc: Global, halting: &mut Halting) -> Result<(bool, u8, usize), Fail> {
-    let mut files = Files::new(alloc, Form::Dir);
-    files.put(b"login".to_vec(alloc)?, LOGIN.to_vec(alloc)?)?;
-    let inputs = Inputs {
-        files,
+static ACCESS: Command = Command {
+    words: &[
+        "pamcheck", "access", "login", "--access", "t", "--user", "bob",
+    ],
+    login: b"",
+    access: Some(b"-:ALL EXCEPT (wheel) EXCEPT bob:ALL"),
+    time: None,
+    text: b"denied line 1\n",
+    status: 1,
+};
+
+static TIME: Command = Command {
+    words: &[
+        "pamcheck",
+        "time",
+        "games",
+        "--time",
+        "t",
+        "--user",
+        "alice",
+        "--at",
+        "2024-05-06T07:59",
+    ],
+    login: b"",
+    access: None,
+    time: Some(b"games;*;!waster;Wd0000-2400|Wk1800-0800"),
+    text: b"denied line 1\n",
+    status: 1,
+};
+
+fn bytes(alloc: Global, text: Option<&[u8]>) -> Result<Option<Vec<u8>>, Fail> {
+    match text {
+        Some(text) => Ok(Some(text.to_vec(alloc)?)),
+        None => Ok(None),
+    }
+}
+
+fn inputs(alloc: Global, command: &Command) -> Result<Inputs, Fail> {
+    let mut inputs = Inputs {
+        files: Files::new(alloc, Form::Dir),
         groups: None,
         access: None,
         time: None,
     };
-    let words = WORDS;
-    let request = match request(alloc, &words) {
-        Ok(request) => request,
-        Err(_) => return Err(Fail::from("the words were refused")),
-    };
-    let mut out = Out::new(&mut *halting);
-    let (is_answer, status) = match answer(alloc, &request, &inputs, &mut out) {
-        Ok(status) => (true, status.number()),
-        Err(fault) => (fault != Fault::Device, fault_status(&fault)),
-    };
-    Ok((is_answer, status, halting.bytes.len()))
+    put(alloc, &mut inputs.files, b"login", command.login)?;
+    inputs.access = bytes(alloc, command.access)?;
+    inputs.time = bytes(alloc, command.time)?;
+    Ok(inputs)
+}
+
+fn asked(alloc: Global, words: &'static [&'static str]) -> Result<Request<'static>, Fail> {
+    match request(alloc, words) {
+        Ok(request) => Ok(request),
+        Err(_) => Err(Fail::from("the words were refused")),
+    }
+}
+
+/// The answer of a command: its status, or its fault.
+fn answered(
+    alloc: Global,
+    command: &Command,
+    halting: &mut Halting,
+) -> Result<Result<u8, Fault>, Fail> {
+    let inputs = inputs(alloc, command)?;
+    let request = asked(alloc, command.words)?;
+    let mut out = Out::new(halting);
+    match answer(alloc, &request, &inputs, &mut out) {
+        Ok(status) => Ok(Ok(status.number())),
+        Err(fault) => Ok(Err(fault)),
+    }
+}
+
+/// That all bytes are taken and then flushed, once, whether or not the flush succeeds.
+fn flushes_once(rt: &impl Abort, alloc: Global, command: &Command) -> Result<(), Fail> {
+    for (step, can_flush) in [(usize::MAX, true), (1, true), (usize::MAX, false)] {
+        let mut halting = Halting::new(alloc, step, usize::MAX, NOTHING, can_flush);
+        let got = answered(alloc, command, &mut halting)?;
+        assert_eq!(rt;
+            got,
+            if can_flush {
+                Ok(command.status)
+            } else {
+                Err(Fault::Device)
+            }
+        );
+        assert_eq!(rt; halting.bytes.as_slice(), command.text);
+        assert_eq!(rt; (halting.flushes, halting.flushed), (1, command.text.len()));
+    }
+    Ok(())
+}
+
+/// That a write that fails after some bytes is no answer, and that those are a prefix of the text.
+fn halts(rt: &impl Abort, alloc: Global, command: &Command) -> Result<(), Fail> {
+    for (room, end) in [(7, FULL), (0, NOTHING), (0, INTERRUPTED)] {
+        let mut halting = Halting::new(alloc, usize::MAX, room, end, true);
+        let got = answered(alloc, command, &mut halting)?;
+        assert_eq!(rt; got, Err(Fault::Device));
+        assert_eq!(rt; halting.bytes.len(), room);
+        assert!(rt; command.text.starts_with(&halting.bytes));
+    }
+    Ok(())
 }
 
 #[test]
-fn answers_over_writers_that_halt(rt: HostRuntime) -> Result<(), Fail> {
-    let all = TEXT.len();
-    let rows = [
-        // step, room, end, can flush; is an answer, status, bytes taken
-        (1, usize::MAX, NOTHING, true, true, 0, all),
-        (usize::MAX, 25, FULL, true, false, 5, 25),
-        (usize::MAX, 0, NOTHING, true, false, 5, 0),
-        (usize::MAX, 0, INTERRUPTED, true, false, 5, 0),
-        (usize::MAX, usize::MAX, NOTHING, false, false, 5, all),
-    ];
-    for (step, room, end, can_flush, is_answer, status, taken) in rows {
-        let mut halting = Halting::new(rt.alloc(), step, room, end, can_flush);
-        let outcome = outcome(rt.alloc(), &mut halting)?;
-        assert_eq!(rt; outcome, (is_answer, status, taken));
-        assert!(rt; TEXT.starts_with(&halting.bytes));
+fn each_answer_is_flushed_once_at_its_end(rt: HostRuntime) -> Result<(), Fail> {
+    for command in [&SHOW, &DECIDE, &ACCESS, &TIME] {
+        flushes_once(&rt, rt.alloc(), command)?;
+    }
+    assert_eq!(rt; fault_status(&Fault::Device), 5);
+    Ok(())
+}
+
+#[test]
+fn each_answer_halts_where_a_write_fails(rt: HostRuntime) -> Result<(), Fail> {
+    for command in [&SHOW, &DECIDE, &ACCESS, &TIME] {
+        halts(&rt, rt.alloc(), command)?;
     }
     Ok(())
 }

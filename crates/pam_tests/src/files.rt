@@ -1,31 +1,63 @@
 //! Files by name.
 
-use pam_conf::{Files, Form, Kind, resolve};
+use pam_conf::{Files, Form, Kind, Stack, resolve};
+use std::alloc::Global;
+use std::process::Abort;
 use std::test::Fail;
 
-#[test]
-fn a_name_that_is_there_keeps_its_position_and_gets_the_new_bytes(
-    rt: HostRuntime,
-) -> Result<(), Fail> {
-    let alloc = rt.alloc();
+/// Puts a file of that name and text.
+pub(crate) fn put(alloc: Global, files: &mut Files, name: &[u8], text: &[u8]) -> Result<(), Fail> {
+    let name = name.to_vec(alloc)?;
+    let text = text.to_vec(alloc)?;
+    files.put(name, text)?;
+    Ok(())
+}
+
+/// Two files, of which the first was put once more.
+fn two_files(alloc: Global) -> Result<Files, Fail> {
     let mut files = Files::new(alloc, Form::Dir);
-    assert_eq!(rt; files.form(), Form::Dir);
-    assert!(rt; files.name(0).is_none());
-    files.put(
-        b"login".to_vec(alloc)?,
-        b"auth required old.so".to_vec(alloc)?,
-    )?;
-    files.put(b"other".to_vec(alloc)?, b"".to_vec(alloc)?)?;
-    files.put(
-        b"login".to_vec(alloc)?,
-        b"auth required new.so".to_vec(alloc)?,
-    )?;
-    assert_eq!(rt; files.name(0).ok_or("no first name")?, b"login".as_slice());
-    assert_eq!(rt; files.name(1).ok_or("no second name")?, b"other".as_slice());
-    assert!(rt; files.name(2).is_none());
-    let stack = resolve(alloc, &files, b"login", Kind::Auth)?;
-    let module = stack.module(1).ok_or("no module")?;
-    assert_eq!(rt; module.path.as_slice(), b"new.so".as_slice());
-    assert_eq!(rt; module.file, 0);
+    for (name, text) in [
+        ("login", "auth required old.so"),
+        ("other", ""),
+        ("login", "auth required new.so"),
+    ] {
+        put(alloc, &mut files, name.as_bytes(), text.as_bytes())?;
+    }
+    Ok(files)
+}
+
+/// That the file at a position has this name.
+fn is_named(rt: &impl Abort, files: &Files, position: usize, name: Option<&[u8]>) {
+    assert_eq!(rt; files.name(position), name);
+}
+
+#[test]
+fn a_name_that_is_there_keeps_its_position(rt: HostRuntime) -> Result<(), Fail> {
+    let none = Files::new(rt.alloc(), Form::Dir);
+    assert_eq!(rt; none.form(), Form::Dir);
+    is_named(&rt, &none, 0, None);
+    let files = two_files(rt.alloc())?;
+    is_named(&rt, &files, 0, Some(b"login"));
+    is_named(&rt, &files, 1, Some(b"other"));
+    is_named(&rt, &files, 2, None);
+    Ok(())
+}
+
+/// That the first module of a stack has this path, in the file of this position.
+fn asks_first(rt: &impl Abort, stack: &Stack, path: &[u8], file: usize) {
+    match stack.module(1) {
+        Some(module) => {
+            assert_eq!(rt; module.path.as_slice(), path);
+            assert_eq!(rt; module.file, file);
+        }
+        None => assert!(rt; false),
+    }
+}
+
+#[test]
+fn a_name_that_is_there_gets_the_new_bytes(rt: HostRuntime) -> Result<(), Fail> {
+    let files = two_files(rt.alloc())?;
+    let stack = resolve(rt.alloc(), &files, b"login", Kind::Auth)?;
+    asks_first(&rt, &stack, b"new.so", 0);
     Ok(())
 }

@@ -1,4 +1,4 @@
-//! A writer that takes little, then errs or takes nothing, and may not flush.
+//! A writer that takes little, then errs or takes nothing, and may not flush. It counts the calls.
 
 use std::alloc::Global;
 use std::io;
@@ -16,6 +16,9 @@ pub(crate) enum End {
 pub(crate) struct Halting {
     pub bytes: Vec<u8>,
     pub calls: u32,
+    pub flushes: u32,
+    /// How many bytes had been taken at the last flush.
+    pub flushed: usize,
     pub step: usize,
     pub room: usize,
     pub end: End,
@@ -39,6 +42,8 @@ impl Halting {
         Halting {
             bytes: Vec::new(alloc),
             calls: 0,
+            flushes: 0,
+            flushed: 0,
             step,
             room,
             end,
@@ -63,6 +68,8 @@ impl Write for Halting {
     }
 
     fn flush(&mut self) -> io::Result<()> {
+        self.flushes = self.flushes.saturating_add(1);
+        self.flushed = self.bytes.len();
         if self.can_flush {
             Ok(())
         } else {

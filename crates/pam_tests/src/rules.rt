@@ -8,18 +8,21 @@ use std::test::Fail;
 const THREE_LINES: &[u8] =
     b"auth required a.so [query=a \\] b] \\\n  debug # note \\\n-auth optional c.so";
 
+fn are(rt: &impl Abort, words: &[Vec<u8>], wanted: &[&[u8]]) {
+    assert_eq!(rt; words.len(), wanted.len());
+    for (word, text) in words.iter().zip(wanted) {
+        assert_eq!(rt; word.as_slice(), *text);
+    }
+}
+
 /// That a rule asks a module of this path with these arguments.
 fn asks(rt: &impl Abort, rule: &Rule, path: &[u8], arguments: &[&[u8]]) {
     match &rule.body {
         Body::Module(_, found, words) => {
             assert_eq!(rt; found.as_slice(), path);
-            assert_eq!(rt; words.len(), arguments.len());
-            for (word, argument) in words.iter().zip(arguments) {
-                assert_eq!(rt; word.as_slice(), *argument);
-            }
+            are(rt, words, arguments);
         }
-        Body::Include(_) => assert!(rt; false, "an include"),
-        Body::Sub(_) => assert!(rt; false, "a substack"),
+        _ => assert!(rt; false),
     }
 }
 

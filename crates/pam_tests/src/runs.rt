@@ -1,20 +1,23 @@
 //! Steps that are counted.
 
+use crate::files::put;
 use pam_codes::Code;
-use pam_conf::{Files, Form, Kind, resolve};
+use pam_conf::{Files, Form, Kind, Stack, resolve};
 use pam_dispatch::{Program, Work};
+use std::alloc::Global;
 use std::test::Fail;
+
+fn stack_of_one(alloc: Global) -> Result<Stack, Fail> {
+    let mut files = Files::new(alloc, Form::Dir);
+    put(alloc, &mut files, b"login", b"auth required a.so")?;
+    let stack = resolve(alloc, &files, b"login", Kind::Auth)?;
+    Ok(stack)
+}
 
 #[test]
 fn work_counts_steps(rt: HostRuntime) -> Result<(), Fail> {
-    let alloc = rt.alloc();
-    let mut files = Files::new(alloc, Form::Dir);
-    files.put(
-        b"login".to_vec(alloc)?,
-        b"auth required a.so".to_vec(alloc)?,
-    )?;
-    let stack = resolve(alloc, &files, b"login", Kind::Auth)?;
-    let program = Program::of(alloc, &stack)?;
+    let stack = stack_of_one(rt.alloc())?;
+    let program = Program::of(rt.alloc(), &stack)?;
     let place = program.first();
     let mut work = Work::new();
     if let (Some(_), Some(code)) = (place.module(), Code::new(0)) {

@@ -2,7 +2,7 @@
 
 ghost use Rattle.std.specs.Prelude.{◌<◌, ◌-◌, ◌^◌};
 
-use crate::halting::{FULL, Halting, INTERRUPTED, NOTHING};
+use crate::halting::{End, FULL, Halting, INTERRUPTED, NOTHING};
 use pam_codes::{Device, Out, Piece};
 use std::io::Write;
 use std::process::Abort;
@@ -38,56 +38,78 @@ fn in_pieces<W: Write>(out: &mut Out<W>) -> Result<(), Device>
     out.finish()
 }
 
-#[test]
-fn writers_that_halt(rt: HostRuntime) -> Result<(), Fail> {
-    let rows = [
-        ("one byte a call", 1, 53, NOTHING, true, Ok(()), 0),
-        ("ten bytes a call", 10, 53, NOTHING, true, Ok(()), 0),
-        ("an error after 25", 53, 25, FULL, true, Err(Device), 1),
-        ("nothing after 25", 53, 25, NOTHING, true, Err(Device), 1),
-        ("an error at once", 53, 0, FULL, true, Err(Device), 1),
-        ("nothing at once", 53, 0, NOTHING, true, Err(Device), 1),
-        (
-            "interrupted at once",
-            53,
-            0,
-            INTERRUPTED,
-            true,
-            Err(Device),
-            1,
-        ),
-        ("no flush", 53, 53, NOTHING, false, Err(Device), 1),
-    ];
-    for (name, step, room, end, can_flush, answer, failures) in rows {
-        for is_whole in [true, false] {
-            let mut writer = Halting::new(rt.alloc(), step, room, end, can_flush);
-            let mut out = Out::new(&mut writer);
-            let got = if is_whole {
-                in_one_piece(&mut out)
-            } else {
-                in_pieces(&mut out)
-            };
-            assert_eq!(rt; got, answer, "{name}");
-            assert_eq!(rt; out.taken(), room as u64, "{name}");
-            assert_eq!(rt; out.failures(), failures, "{name}");
-            assert_eq!(rt; writer.bytes.as_slice(), &LINES[..room], "{name}");
-        }
-    }
-    Ok(())
+/// Writers: what one takes at a call and in all, what it does then, whether it can flush; and whether all of the text
+/// is written.
+static ROWS: [(usize, usize, End, bool, bool); 8] = [
+    (1, 53, NOTHING, true, true),
+    (10, 53, NOTHING, true, true),
+    (53, 25, FULL, true, false),
+    (53, 25, NOTHING, true, false),
+    (53, 0, FULL, true, false),
+    (53, 0, NOTHING, true, false),
+    (53, 0, INTERRUPTED, true, false),
+    (53, 53, NOTHING, false, false),
+];
+
+/// That a call that wrote the text ended well or with one failure, and counted the bytes that the writer took.
+fn ended(
+    rt: &impl Abort,
+    out: &Out<&mut Halting>,
+    answer: Result<(), Device>,
+    room: usize,
+    is_ok: bool,
+) {
+    assert_eq!(rt; answer.is_ok(), is_ok);
+    assert_eq!(rt; out.taken(), room as u64);
+    assert_eq!(rt; out.failures(), if is_ok { 0 } else { 1 });
+}
+
+fn has_taken(rt: &impl Abort, writer: &Halting, bytes: &[u8]) {
+    assert_eq!(rt; writer.bytes.as_slice(), bytes);
 }
 
 #[test]
-fn one_inner_call_for_each(rt: HostRuntime) -> Result<(), Fail> {
+fn writers_that_halt_in_one_piece(rt: HostRuntime) {
+    for (step, room, end, can_flush, is_ok) in ROWS {
+        let mut writer = Halting::new(rt.alloc(), step, room, end, can_flush);
+        let mut out = Out::new(&mut writer);
+        let answer = in_one_piece(&mut out);
+        ended(&rt, &out, answer, room, is_ok);
+        has_taken(&rt, &writer, &LINES[..room]);
+    }
+}
+
+#[test]
+fn writers_that_halt_in_pieces(rt: HostRuntime) {
+    for (step, room, end, can_flush, is_ok) in ROWS {
+        let mut writer = Halting::new(rt.alloc(), step, room, end, can_flush);
+        let mut out = Out::new(&mut writer);
+        let answer = in_pieces(&mut out);
+        ended(&rt, &out, answer, room, is_ok);
+        has_taken(&rt, &writer, &LINES[..room]);
+    }
+}
+
+#[test]
+fn one_inner_call_for_each_write(rt: HostRuntime) -> Result<(), Fail> {
     let mut writer = Halting::new(rt.alloc(), 10, 53, NOTHING, true);
     let mut out = Out::new(&mut writer);
     assert_eq!(rt; out.write(LINES)?, 10);
     assert_eq!(rt; out.write(b"")?, 0);
     assert_eq!(rt; out.taken(), 10);
     assert_eq!(rt; out.failures(), 0);
-    out.write_all(&LINES[10..40])?;
+    assert_eq!(rt; writer.calls, 2);
+    Ok(())
+}
+
+#[test]
+fn text_in_many_calls(rt: HostRuntime) -> Result<(), Fail> {
+    let mut writer = Halting::new(rt.alloc(), 10, 53, NOTHING, true);
+    let mut out = Out::new(&mut writer);
+    out.write_all(&LINES[..40])?;
     write!(out, "{}{}", "end 1", " paths\n")?;
     assert_eq!(rt; out.taken(), 52);
-    assert_eq!(rt; writer.calls, 7);
+    assert_eq!(rt; writer.calls, 6);
     Ok(())
 }
 

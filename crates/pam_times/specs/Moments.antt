@@ -54,12 +54,13 @@ IsShort p = (p.year < 10000) × (p.month < 100) × (p.day < 100) × (p.hour < 10
 
 -- ---- an instant on the clock of a POSIX zone rule
 
--- `jiff` has this instant
+-- the calendar has this instant: from -9999-01-02T01:59:59Z to 9999-12-30T22:00:00Z, so that a clock at any offset shows a date
 abbrev pub IsInstant : ℤ → Type 0
 IsInstant seconds = IsTimestampNanos (seconds *ℤ pos 1000000000)
 
--- d is what the clock of the rule shows at that instant
+-- the calendar has that instant, and d is what the clock of the rule shows then
 pub record Shows (seconds : ℤ) (rule : List ℕ) (d : DateTime) : Type 0 where
+  pub exists : IsInstant seconds
   pub zone : TimeZone
   pub is_of_rule : IsPosixZone rule zone
   pub shown : civil_nanos d ≡ ((seconds *ℤ pos 1000000000) +ℤ nanos_of_seconds (offset_at zone (seconds *ℤ pos 1000000000)))

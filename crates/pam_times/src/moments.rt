@@ -132,8 +132,8 @@ pub fn civil(text: &[u8]) -> Result<DateTime, MomentError>
 }
 
 /// What a clock under a POSIX zone rule shows at an instant, in seconds since 1970-01-01T00:00
-/// UTC. `Range` where there is no such instant, and else `Rule` for a rule that is none. This
-/// wants no memory.
+/// UTC. `Range` where the calendar has no such instant: it has those from -9999-01-02T01:59:59Z
+/// to 9999-12-30T22:00:00Z. Else `Rule` for a text that is no POSIX rule. This takes no memory.
 pub fn moment(unix_seconds: i64, zone_rule: &str) -> Result<DateTime, MomentError>
     ensures range { result ≡ Err MomentError.Range ↔ ¬ (IsInstant unix_seconds) }
     ensures rule { result ≡ Err MomentError.Rule ↔ IsInstant unix_seconds × ¬ (IsSome (read_whole zone_rule.now)) }

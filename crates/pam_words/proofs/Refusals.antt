@@ -1,10 +1,12 @@
 -- What `clap` answers, and what then is answered.
-use Rattle.std.proofs.Common.{◌≡◌, [], Result, Ok, Err, subst, sym, inl, inr, ◌∙◌}
-use Rattle.clap.specs.Words.{HasKind, IsAmong, Kinds, kind_of}
+use Rattle.std.proofs.Common.{◌≡◌, [], List, Option, Some, None, Result, Ok, Err, subst, sym, inl, inr, ◌∙◌}
+use Rattle.std.specs.Prelude.{MatchOption}
+use Rattle.clap.specs.Words.{Row, Text, HasKind, IsAmong, Kinds, kind_of}
 use Rattle.clap.specs.declared.Error.{Error}
 use Rattle.clap.specs.declared.error.ErrorKind.{ErrorKind}
-use Rattle.pam_words.specs.Asked.{Asked, Refusal}
-use Rattle.pam_words.specs.Wanted.{Answers, IsRefusalOf, Reads, RefusesBy}
+use Rattle.clap.specs.declared.error.ErrorKind.TheVariants.{OutOfMemory}
+use Rattle.pam_words.specs.Asked.{Asked, Refusal, asked_of}
+use Rattle.pam_words.specs.Wanted.{Answers, IsRead, IsRefusal, IsRefusalOf, Reads, RefusesBy}
 use Rattle.pam_words.specs.declared.wanted.Request.{Request}
 use Rattle.pam_words.specs.declared.wanted.Usage.{Usage}
 use Rattle.pam_words.specs.declared.wanted.Usage.TheVariants as usage
@@ -18,6 +20,7 @@ answers-clean kinds asked (Err usage.Moment) h e = e
 answers-clean kinds asked (Err usage.Memory) h e = tt
 answers-clean kinds asked (Err (usage.Help error)) h e = absurd h
 answers-clean kinds asked (Err (usage.Words error)) h e = absurd h
+answers-clean kinds asked (Err usage.NotUtf8) h e = absurd h
 
 pub answers-reads : (asked : Result Asked Refusal) (r : Result Request Usage) → Answers asked r → Reads asked r
 answers-reads asked (Ok request) h = h
@@ -28,6 +31,7 @@ answers-reads asked (Err usage.Moment) h = h
 answers-reads asked (Err usage.Memory) h = tt
 answers-reads asked (Err (usage.Help error)) h = absurd h
 answers-reads asked (Err (usage.Words error)) h = absurd h
+answers-reads asked (Err usage.NotUtf8) h = absurd h
 
 among : (kinds : Kinds) (k : ErrorKind) (error : Error) → k ≡ kind_of error → IsAmong (kind_of error) kinds → IsAmong k kinds
 among kinds k error e h = subst (λ (x : ErrorKind). IsAmong x kinds) (sym e) h
@@ -39,6 +43,43 @@ refused-by kinds error (usage.Help e) h (inr k) = (among kinds _ error (sym h.1 
 refused-by kinds error (usage.Words e) h (inl m) = absurd (h.2 (h.0 ∙ m))
 refused-by kinds error (usage.Words e) h (inr k) = (among kinds _ error h.0 k, h.1)
 refused-by kinds error usage.Source h k = absurd h
+refused-by kinds error usage.NotUtf8 h k = absurd h
 refused-by kinds error usage.KindName h k = absurd h
 refused-by kinds error usage.CodeName h k = absurd h
 refused-by kinds error usage.Moment h k = absurd h
+
+pub answers-read : (asked : Result Asked Refusal) (r : Result Request Usage) → Answers asked r → IsRead r
+answers-read asked (Ok request) h = tt
+answers-read asked (Err usage.Source) h = tt
+answers-read asked (Err usage.KindName) h = tt
+answers-read asked (Err usage.CodeName) h = tt
+answers-read asked (Err usage.Moment) h = tt
+answers-read asked (Err usage.Memory) h = tt
+answers-read asked (Err (usage.Help error)) h = absurd h
+answers-read asked (Err (usage.Words error)) h = absurd h
+answers-read asked (Err usage.NotUtf8) h = absurd h
+
+-- where `clap` takes the words, it fails for want of memory alone
+pub refused-read : (error : Error) (u : Usage) → IsRefusalOf error u → kind_of error ≡ OutOfMemory → IsRead (Err u)
+refused-read error usage.Memory h m = tt
+refused-read error (usage.Help e) h m = let a = h.0 in let b = h.1 in cc
+refused-read error (usage.Words e) h m = absurd (h.2 (h.0 ∙ m))
+refused-read error usage.Source h m = absurd h
+refused-read error usage.NotUtf8 h m = absurd h
+refused-read error usage.KindName h m = absurd h
+refused-read error usage.CodeName h m = absurd h
+refused-read error usage.Moment h m = absurd h
+
+pub refused-reads : (o : Option (Text × List Row)) (error : Error) (u : Usage) → IsRefusalOf error u
+    → MatchOption o (IsRefusal (Err u)) (λ p. Reads (asked_of p.0 p.1) (Err u))
+refused-reads None error usage.Memory h = tt
+refused-reads None error (usage.Help e) h = tt
+refused-reads None error (usage.Words e) h = tt
+refused-reads (Some p) error usage.Memory h = tt
+refused-reads (Some p) error (usage.Help e) h = tt
+refused-reads (Some p) error (usage.Words e) h = tt
+refused-reads o error usage.Source h = absurd h
+refused-reads o error usage.NotUtf8 h = absurd h
+refused-reads o error usage.KindName h = absurd h
+refused-reads o error usage.CodeName h = absurd h
+refused-reads o error usage.Moment h = absurd h

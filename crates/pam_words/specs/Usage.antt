@@ -2,7 +2,7 @@
 use Rattle.std.specs.Prelude.{ℕ, [], ◌++◌, ⊤, codes}
 use Rattle.clap.specs.Words.{Text}
 use Rattle.pam_words.specs.declared.wanted.Usage.{Usage}
-use Rattle.pam_words.specs.declared.wanted.Usage.TheVariants.{Help, Words, Source, KindName, CodeName, Moment, Memory}
+use Rattle.pam_words.specs.declared.wanted.Usage.TheVariants.{Help, Words, NotUtf8, Source, KindName, CodeName, Moment, Memory}
 
 -- a refusal with a line of its own: the other two have the text of `clap`
 abbrev pub IsNumbered : Usage → Type 0
@@ -13,6 +13,7 @@ IsNumbered _ = ⊤
 abbrev pub name_of : Usage → Text
 name_of (Help error) = []
 name_of (Words error) = []
+name_of NotUtf8 = codes "U1 NotUtf8"
 name_of Source = codes "U2 Source"
 name_of KindName = codes "U3 KindName"
 name_of CodeName = codes "U4 CodeName"
@@ -25,6 +26,7 @@ line_of usage = codes "pamcheck: " ++ name_of usage ++ codes "\n"
 abbrev pub status_of : Usage → ℕ
 status_of (Help error) = 0
 status_of (Words error) = 2
+status_of NotUtf8 = 2
 status_of Source = 2
 status_of KindName = 2
 status_of CodeName = 2

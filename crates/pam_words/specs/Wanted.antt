@@ -59,6 +59,7 @@ Gives view value (Err usage.Moment) = value ≡ Err asked.moment
 Gives view value (Err usage.Memory) = ⊤
 Gives view value (Err (usage.Help error)) = ⊥
 Gives view value (Err (usage.Words error)) = ⊥
+Gives view value (Err usage.NotUtf8) = ⊥
 
 abbrev pub AsksFor : Result Wish Refusal → Result Task Usage → Type 0
 AsksFor = Gives shown_wish
@@ -75,10 +76,11 @@ IsRefusal (Err (usage.Help error)) = ⊤
 IsRefusal (Err (usage.Words error)) = ⊤
 IsRefusal _ = ⊥
 
--- `clap` did not refuse the words
+-- the words were read: they are no wrong words, nor a request for help
 abbrev pub IsRead : Result Request Usage → Type 0
 IsRead (Err (usage.Help error)) = ⊥
 IsRead (Err (usage.Words error)) = ⊥
+IsRead (Err usage.NotUtf8) = ⊥
 IsRead _ = ⊤
 
 -- the answer is what is asked for, unless `clap` refused the words

@@ -6,12 +6,19 @@ ghost use Rattle.pam_words.specs.Usage.{IsNumbered, line_of, name_of, status_of}
 use crate::wanted::Usage;
 use std::alloc::{AllocError, Global};
 
+/// The status of wrong words.
+const WRONG_WORDS: u8 = 2;
+
+/// The status of want of memory.
+const NO_MEMORY: u8 = 6;
+
 /// The number and the name.
 fn name(usage: &Usage) -> &'static str
     requires { IsNumbered usage.now }
     ensures { result.now ≡ name_of usage.now }
 {
     match usage {
+        Usage::NotUtf8 => "U1 NotUtf8",
         Usage::Source => "U2 Source",
         Usage::KindName => "U3 KindName",
         Usage::CodeName => "U4 CodeName",
@@ -40,11 +47,12 @@ pub fn usage_status(usage: &Usage) -> u8
 {
     match usage {
         Usage::Help(_) => 0,
-        Usage::Words(_) => 2,
-        Usage::Source => 2,
-        Usage::KindName => 2,
-        Usage::CodeName => 2,
-        Usage::Moment => 2,
-        Usage::Memory => 6,
+        Usage::Words(_) => WRONG_WORDS,
+        Usage::NotUtf8 => WRONG_WORDS,
+        Usage::Source => WRONG_WORDS,
+        Usage::KindName => WRONG_WORDS,
+        Usage::CodeName => WRONG_WORDS,
+        Usage::Moment => WRONG_WORDS,
+        Usage::Memory => NO_MEMORY,
     }
 }

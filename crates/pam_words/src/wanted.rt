@@ -70,6 +70,9 @@ pub enum Usage {
     /// U1: `clap` takes no such words.
     #[error(transparent)]
     Words(clap::Error),
+    /// U1 too: a word is not UTF-8. Whoever gathers the words finds it; `request` never answers it.
+    #[error("a word is not UTF-8")]
+    NotUtf8,
     /// U2: not exactly one source is given.
     #[error("not exactly one of --dir and --conf")]
     Source,
@@ -79,11 +82,11 @@ pub enum Usage {
     /// U4: a CODE is not the name of a code.
     #[error("unknown code")]
     CodeName,
-    /// U6: not exactly one form of the moment is given, `--zone` stands without `--at-unix`, or the
-    /// seconds are not 1 to 12 digits.
+    /// U6: not exactly one form of the moment is given, `--zone` is given without `--at-unix`, or
+    /// the seconds are not 1 to 12 digits.
     #[error("not exactly one moment")]
     Moment,
-    /// U7: a growth was refused.
+    /// U7: allocation failed.
     #[error("out of memory")]
     Memory,
 }

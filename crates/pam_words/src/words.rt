@@ -111,7 +111,6 @@ fn login_command<'a>(
         .arg(option(alloc, "tty", "TTY", "The terminal"))
 }
 
-#[tactic(auto, unfolding(crate::specs::Words::access_app))]
 fn access_command<'a>(alloc: Global) -> Result<Command<'a>, AllocError>
     ensures app { IfOk result (λ c. app_of c ≡ access_app) }
     ensures local { IfOk result (λ c. (fields_of c).has_globals ≡ false) }
@@ -127,7 +126,6 @@ fn access_command<'a>(alloc: Global) -> Result<Command<'a>, AllocError>
         ))
 }
 
-#[tactic(auto, unfolding(crate::specs::Words::time_app))]
 fn time_command<'a>(alloc: Global) -> Result<Command<'a>, AllocError>
     ensures app { IfOk result (λ c. app_of c ≡ time_app) }
     ensures local { IfOk result (λ c. (fields_of c).has_globals ≡ false) }
@@ -163,13 +161,8 @@ pub fn pamcheck_command<'a>(alloc: Global) -> Result<Command<'a>, AllocError>
     ensures app { IfOk result (λ c. app_of c ≡ pamcheck_app) }
     ensures local { IfOk result (λ c. (fields_of c).has_globals ≡ false) }
 {
-    let show = show_command(alloc)?;
-    let decide = decide_command(alloc)?;
-    let access = access_command(alloc)?;
-    let time = time_command(alloc)?;
-    bare_command(alloc)
-        .subcommand(show)?
-        .subcommand(decide)?
-        .subcommand(access)?
-        .subcommand(time)
+    let command = bare_command(alloc).subcommand(show_command(alloc)?)?;
+    let command = command.subcommand(decide_command(alloc)?)?;
+    let command = command.subcommand(access_command(alloc)?)?;
+    command.subcommand(time_command(alloc)?)
 }

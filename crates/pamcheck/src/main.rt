@@ -2,7 +2,8 @@
 #![tactic(auto)]
 
 use pam_codes::Out;
-use pam_report::run;
+use pam_report::{refuse, refuse_without_memory, run};
+use pam_words::Usage;
 use std::alloc::Global;
 use std::io::{BufWriter, ErrorKind, Write};
 use std::process::ExitCode;
@@ -14,28 +15,29 @@ fn words(rt: &HostRuntime) -> io::Result<Vec<String>> {
     Ok(words)
 }
 
-/// The status where there are no words or no buffer: want of memory, or words that are no text.
-fn refusal(rt: &HostRuntime, error: &io::Error) -> u8 {
-    let mut err = rt.stderr();
+/// Why there are no words.
+fn usage_of(error: &io::Error) -> Usage {
     if error.kind() == ErrorKind::OutOfMemory {
-        let _ = err.write_all(b"pamcheck: U7 Memory\n");
-        return 6;
+        Usage::Memory
+    } else {
+        Usage::NotUtf8
     }
-    let _ = err.write_all(b"pamcheck: a word is not UTF-8\n");
-    2
 }
 
-fn status(rt: &HostRuntime) -> io::Result<u8> {
-    let alloc: Global = rt.alloc();
-    let words = words(rt)?;
-    let mut out = Out::new(BufWriter::new(alloc, io::writer(rt))?);
-    let mut err = Out::new(rt.stderr());
-    Ok(run(rt, alloc, words.as_slice(), &mut out, &mut err))
+/// Runs the words with a buffer for standard output.
+fn status<V: Write>(rt: &HostRuntime, alloc: Global, words: &[String], err: &mut Out<V>) -> u8 {
+    match BufWriter::new(alloc, io::writer(rt)) {
+        Ok(writer) => run(rt, alloc, words, &mut Out::new(writer), err),
+        Err(_) => refuse_without_memory(alloc, err),
+    }
 }
 
 fn main(rt: HostRuntime) -> ExitCode {
-    match status(&rt) {
-        Ok(status) => ExitCode::from(status),
-        Err(error) => ExitCode::from(refusal(&rt, &error)),
-    }
+    let alloc = rt.alloc();
+    let mut err = Out::new(rt.stderr());
+    let number = match words(&rt) {
+        Ok(words) => status(&rt, alloc, &words, &mut err),
+        Err(error) => refuse(alloc, &usage_of(&error), &mut err),
+    };
+    ExitCode::from(number)
 }

@@ -1,6 +1,6 @@
 //! Runs each line of standard input as words of pamcheck, and writes what a terminal would show: the words, the answer,
-//! behind `!` what is said on standard error, and the exit status. Words are parted by one blank, so that two in a row
-//! hold an empty word.
+//! after `!` what is said on standard error, and the exit status. Words are separated by one blank, so that two in a row
+//! hold an empty word; an empty line has no words.
 #![tactic(auto)]
 
 use pam_codes::Out;
@@ -12,6 +12,9 @@ use std::io::{self, BufRead, BufReader, BufWriter, Write};
 fn words_of(alloc: Global, line: &str) -> Result<Vec<String>, AllocError> {
     let mut words = Vec::new(alloc);
     words.push(String::from_str(alloc, "pamcheck")?)?;
+    if line.is_empty() {
+        return Ok(words);
+    }
     for word in line.split(' ') {
         words.push(String::from_str(alloc, word)?)?;
     }

@@ -1,10 +1,11 @@
-use Rattle.std.proofs.Common.{◌≡◌, subst, ap, ◌∙◌, sym, map}
-use Rattle.clap.specs.Words.{App, HasKind, app_of, is_simple, is_simple_and_free, subcommand_of, fault_of}
+use Rattle.std.proofs.Common.{true, ◌≡◌, subst, ap, ◌∙◌, sym, map}
+use Rattle.clap.specs.Words.{App, HasKind, app_of, is_simple, is_simple_and_free, kind_of, subcommand_of, fault_of, takes}
+use Rattle.clap.specs.declared.error.ErrorKind.TheVariants.{OutOfMemory}
 use Rattle.std.specs.Prelude.{MatchOption}
 use Rattle.pam_words.specs.Asked.{asked_of}
 use Rattle.pam_words.specs.Wanted.{IsRefusal, Reads}
 use Rattle.pam_words.specs.Words.{pamcheck_app}
-use Rattle.pam_words.proofs.Refusals.{answers-clean, answers-reads, refused-by}
+use Rattle.pam_words.proofs.Refusals.{answers-clean, answers-read, answers-reads, refused-by, refused-read, refused-reads}
 use Rattle.pam_words.proofs.Subcommand.{is_simple-pamcheck, is_simple_and_free-pamcheck, name-is, name_in, rows_in, both-are, none-is, no_command}
 use Rattle.pam_words.proofs.reading.request.Goals as goal
 
@@ -45,3 +46,15 @@ returns-clause-refused g c =
     let same : app_of c.in-Ok.command ≡ pamcheck_app = c.in-Ok.ensures.app in
     let kinds = c.in-Ok-try_get_matches_from.ensures.kinds (ap is_simple_and_free same ∙ is_simple_and_free-pamcheck) in
     answers-clean (fault_of pamcheck_app words) _ c.read.result c.read.ensures (sym (ap (λ (a : App). fault_of a words) same) ∙ kinds)
+
+pub returns-in-Err-clause-reads : goal.returns-in-Err-clause-reads
+returns-in-Err-clause-reads g c = refused-reads (subcommand_of pamcheck_app (map g.S.AsStr.text c.args.words.now)) c.in-Err.error c.refused.result c.refused.ensures
+
+pub returns-in-Err-clause-taken : goal.returns-in-Err-clause-taken
+returns-in-Err-clause-taken g c = λ t.
+    let same : app_of c.in-Ok.command ≡ pamcheck_app = c.in-Ok.ensures.app in
+    refused-read c.in-Err.error c.refused.result c.refused.ensures
+    (c.in-Err.ensures.passes (ap (λ (a : App). takes a (map g.S.AsStr.text c.args.words.now)) same ∙ t))
+
+pub returns-clause-taken : goal.returns-clause-taken
+returns-clause-taken g c = λ t. answers-read _ c.read.result c.read.ensures
