@@ -1,5 +1,5 @@
 -- How a cursor is answered, and what comes after it and before it.
-use Rattle.std.proofs.Common.{◌≡◌, ◌≢◌, ℕ, ◌<◌, List, All, sym, ◌∙◌, ap, subst, reverse, Option, Some, None}
+use Rattle.std.proofs.Common.{◌≡◌, ◌≢◌, ℕ, ◌<◌, List, All, sym, ◌∙◌, subst, Option, Some, None}
 use Rattle.std.specs.Prelude.{IfSome}
 use Rattle.pam_dispatch.specs.Runs.{AsksRise, Runs}
 use Rattle.pam_paths.specs.declared.cursor.CursorError.{CursorError}

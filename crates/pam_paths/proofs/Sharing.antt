@@ -1,5 +1,5 @@
 -- Classes of codes, found part by part of a control.
-use Rattle.std.proofs.Common.{◌≡◌, ◌≢◌, ◌⊎◌, ℕ, ◌+◌, ◌<◌, ◌≤◌, ◌==◌, ◌&&◌, ◌||◌, Bool, true, false, not, List, [], ◌∷◌, cond, refl, sym, ◌∙◌, ap, subst, inl}
+use Rattle.std.proofs.Common.{◌≡◌, ◌≢◌, ℕ, ◌+◌, ◌<◌, ◌≤◌, ◌==◌, ◌&&◌, ◌||◌, Bool, true, false, not, List, [], ◌∷◌, cond, refl, sym, ◌∙◌, ap, subst, inl}
 use Rattle.std.proofs.Common.{inr, arith, length, take, get_or, zero, suc, Option, Some, None}
 use Rattle.std.specs.Prelude.{IsSome, filter, slice_get}
 use Rattle.std.specs.Option.{option_map_or}

@@ -1,10 +1,10 @@
 -- From the open run of a stack to its tree.
-use Rattle.std.proofs.Common.{◌≡◌, ℕ, List, map, sym, ◌∙◌, ap, subst}
+use Rattle.std.proofs.Common.{◌≡◌, ℕ, List, map, sym, ◌∙◌, ap}
 use Rattle.pam_conf.specs.Stack.{Items}
 use Rattle.pam_dispatch.specs.Decision.{decision_of}
-use Rattle.pam_dispatch.specs.Runs.{Ask, Assignment, Runs, asked_by, final_state}
+use Rattle.pam_dispatch.specs.Runs.{Ask, Assignment, Runs, final_state}
 use Rattle.pam_dispatch.specs.State.{start_state}
-use Rattle.pam_dispatch.specs.Tree.{asked, decided, runs_of_stack}
+use Rattle.pam_dispatch.specs.Tree.{asked, runs_of_stack}
 use Rattle.pam_dispatch.proofs.OpenRuns.{asked_by-runs_of_stack, decision_of-runs_of_stack}
 use Rattle.pam_paths.specs.Laws.{PathOfStack}
 use Rattle.pam_paths.specs.Listing.{Allowance, IsListing, IsListingAfter, IsListingBefore}

@@ -1,4 +1,3 @@
-use Rattle.std.proofs.Common.{arith}
 use Rattle.pam_dispatch.specs.Flat.{rest_of}
 use Rattle.pam_dispatch.specs.Runs.{next_ask}
 use Rattle.pam_paths.proofs.Sharing.{class-all, class-more, class-none}

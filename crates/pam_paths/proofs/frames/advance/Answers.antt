@@ -1,8 +1,8 @@
-use Rattle.std.proofs.Common.{◌≡◌, ◌+◌, ◌<◌, ◌++◌, [], ℕ, length, List, arith, ap, sym, ◌∙◌, subst, lit<, inl, inr}
+use Rattle.std.proofs.Common.{◌≡◌, ◌<◌, ◌++◌, [], length, List, arith, ap, sym, ◌∙◌, subst, lit<, inl, inr}
 use Rattle.std.proofs.lemmas.List.{nil_from_length}
 use Rattle.std.proofs.lemmas.Bool.{cases_eq, false≢true}
 use Rattle.pam_dispatch.specs.Flat.{modules_of, rest_of}
-use Rattle.pam_dispatch.specs.Runs.{AsksRise, Runs}
+use Rattle.pam_dispatch.specs.Runs.{AsksRise}
 use Rattle.pam_dispatch.specs.declared.place.Place.{Place}
 use Rattle.pam_paths.specs.declared.frames.Frame.{Frame}
 use Rattle.pam_paths.specs.Computed.{listing}

@@ -1,6 +1,6 @@
 use Rattle.std.proofs.Common.{◌<◌, ◌++◌, length, List, arith, ap, sym, ◌∙◌, subst, lit<}
 use Rattle.pam_dispatch.specs.Flat.{rest_of, modules_of}
-use Rattle.pam_dispatch.specs.Runs.{AsksRise, Runs}
+use Rattle.pam_dispatch.specs.Runs.{AsksRise}
 use Rattle.pam_dispatch.specs.declared.place.Place.{Place}
 use Rattle.pam_paths.specs.declared.frames.Frame.{Frame}
 use Rattle.pam_paths.specs.Computed.{listing}

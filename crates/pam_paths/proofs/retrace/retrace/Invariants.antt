@@ -1,4 +1,4 @@
-use Rattle.std.proofs.Common.{◌≡◌, ◌+◌, ◌*◌, ◌≤◌, ◌++◌, [], true, cond, drop, length}
+use Rattle.std.proofs.Common.{◌≡◌, ◌+◌, ◌≤◌, ◌++◌, [], true, cond, drop, length}
 use Rattle.pam_dispatch.specs.Flat.{rest_of, runs_of, IsPlaceOf, modules_of}
 use Rattle.pam_dispatch.specs.Runs.{AsksRise}
 use Rattle.pam_paths.specs.Retrace.{further, standing_of}

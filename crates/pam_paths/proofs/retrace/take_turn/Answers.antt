@@ -1,8 +1,8 @@
-use Rattle.std.proofs.Common.{◌∙◌, ℕ, List, sym, ap, arith}
+use Rattle.std.proofs.Common.{◌∙◌, ℕ, List, ap, arith}
 use Rattle.pam_dispatch.specs.declared.place.Place.{Place}
 use Rattle.pam_dispatch.specs.Flat.{rest_of}
 use Rattle.pam_dispatch.specs.Runs.{next_ask}
-use Rattle.pam_paths.specs.Classes.{class_of, least}
+use Rattle.pam_paths.specs.Classes.{class_of}
 use Rattle.pam_paths.specs.Paths.{StepValue}
 use Rattle.pam_paths.proofs.Branches.{offered_is, ask_number}
 use Rattle.pam_paths.proofs.retrace.take_turn.Goals as goal
