@@ -52,7 +52,7 @@ pub same_outcome-from : (o p : Outcome) → o ≡ p → same_outcome o p ≡ tru
 same_outcome-from o p e = rw e (same_outcome-self p)
 
 -- members of a filter
-pub Member-filter : (test : ℕ → Bool) (xs : List ℕ) (x : ℕ) → Member x xs → test x ≡ true → Member x (filter test xs)
+pub Member-filter : {X : Type 0} (test : X → Bool) (xs : List X) (x : X) → Member x xs → test x ≡ true → Member x (filter test xs)
 unfolding Member
 Member-filter test [] x h t = h
 Member-filter test (y ∷ ys) x (inl e) t =
@@ -64,7 +64,7 @@ Member-filter test (y ∷ ys) x (inr h) t =
     (λ k. inr (Member-filter test ys x h t))
     (λ k. Member-filter test ys x h t)
 
-pub Member-filter_back : (test : ℕ → Bool) (xs : List ℕ) (x : ℕ) → Member x (filter test xs) → Member x xs × (test x ≡ true)
+pub Member-filter_back : {X : Type 0} (test : X → Bool) (xs : List X) (x : X) → Member x (filter test xs) → Member x xs × (test x ≡ true)
 unfolding Member
 Member-filter_back test [] x h = absurd h
 Member-filter_back test (y ∷ ys) x h =

@@ -4,7 +4,7 @@ use Rattle.std.specs.Prelude.{IfSome}
 use Rattle.pam_dispatch.specs.Runs.{AsksRise, Runs}
 use Rattle.pam_paths.specs.declared.cursor.CursorError.{CursorError}
 use Rattle.pam_paths.specs.declared.direction.Direction.TheVariants.{Forward, Backward}
-use Rattle.pam_paths.specs.Cursor.{IsRefusal, Standing, Stands, accepted, standing_told}
+use Rattle.pam_paths.specs.Cursor.{IsRefusal, Standing, HasStanding, accepted, standing_told}
 use Rattle.pam_paths.specs.Computed.{listing}
 use Rattle.pam_paths.specs.Frames.{part}
 use Rattle.pam_paths.specs.Listing.{Allowance, IsLawful, IsListingAfter, IsListingBefore}
@@ -15,29 +15,45 @@ use Rattle.pam_paths.proofs.PageProofs.{before-is}
 use Rattle.pam_paths.proofs.Parts.{after-is, part-after, part-before}
 use Rattle.pam_paths.proofs.Standings.{standing-stands}
 
-pub told_accepted : (n : ℕ) (runs : Runs) (k : List ℕ) → AsksRise 0 n runs → All (λ code. code < 31) k → standing_of runs k ≡ accepted →
-    Stands n (path_of runs) k accepted
-told_accepted n runs k rise ok e = subst (Stands n (path_of runs) k) e (standing-stands 0 n runs k rise ok)
+told_accepted : (n : ℕ) (runs : Runs) (k : List ℕ) → AsksRise 0 n runs → All (λ code. code < 31) k → standing_of runs k ≡ accepted →
+    HasStanding n (path_of runs) k accepted
+told_accepted n runs k rise ok e = subst (HasStanding n (path_of runs) k) e (standing-stands 0 n runs k rise ok)
 
-told_by : (told : Option Standing) (n : ℕ) (runs : Runs) (k : List ℕ) (s : Standing) → told ≡ Some s → Stands n (path_of runs) k s →
-    IfSome told (Stands n (path_of runs) k) × (told ≢ None)
+told_by : (told : Option Standing) (n : ℕ) (runs : Runs) (k : List ℕ) (s : Standing) → told ≡ Some s → HasStanding n (path_of runs) k s →
+    IfSome told (HasStanding n (path_of runs) k) × (told ≢ None)
 told_by None n runs k s e h = absurd (let x : ⊥ = cc in x)
-told_by (Some t) n runs k s e h = let same : s ≡ t = cc in (subst (Stands n (path_of runs) k) same h, λ f. let x : ⊥ = cc in x)
+told_by (Some t) n runs k s e h = let same : s ≡ t = cc in (subst (HasStanding n (path_of runs) k) same h, λ f. let x : ⊥ = cc in x)
 
-pub told_refused : (n : ℕ) (runs : Runs) (k : List ℕ) (e : CursorError) → AsksRise 0 n runs → All (λ code. code < 31) k →
+told_refused : (n : ℕ) (runs : Runs) (k : List ℕ) (e : CursorError) → AsksRise 0 n runs → All (λ code. code < 31) k →
     standing_told e ≡ Some (standing_of runs k) → IsRefusal n (path_of runs) k e
 told_refused n runs k e rise ok is = told_by (standing_told e) n runs k (standing_of runs k) is (standing-stands 0 n runs k rise ok)
 
 module _ (allows : Allowance) (n : ℕ) (runs : Runs) (k : List ℕ) (paths : List PathValue)
     (rise : AsksRise 0 n runs) (lawful : IsLawful allows n) (e : standing_of runs k ≡ accepted) where
-  pub listing_after : paths ≡ part Forward allows runs k → IsListingAfter allows n (path_of runs) k paths
+  listing_after : paths ≡ part Forward allows runs k → IsListingAfter allows n (path_of runs) k paths
   listing_after is =
       let a = some_assignment allows n lawful in
       subst (IsListingAfter allows n (path_of runs) k) (sym (is ∙ part-after allows runs k e))
       (after-is allows n (path_of runs) k (listing allows runs) (listing-is allows n runs rise a.0 a.1))
 
-  pub listing_before : paths ≡ part Backward allows runs k → IsListingBefore allows n (path_of runs) k paths
+  listing_before : paths ≡ part Backward allows runs k → IsListingBefore allows n (path_of runs) k paths
   listing_before is =
       let a = some_assignment allows n lawful in
       subst (IsListingBefore allows n (path_of runs) k) (sym (is ∙ part-before allows runs k e))
       (before-is allows n (path_of runs) k (listing allows runs) (listing-is allows n runs rise a.0 a.1))
+
+-- THE SAME, OF THE CODES THAT A CURSOR GIVES
+
+module _ (n : ℕ) (runs : Runs) (codes k : List ℕ) (same : codes ≡ k) (rise : AsksRise 0 n runs) where
+  pub refused_at : (e : CursorError) → All (λ code. code < 31) codes → standing_told e ≡ Some (standing_of runs codes) → IsRefusal n (path_of runs) k e
+  refused_at e ok is = subst (λ (x : List ℕ). IsRefusal n (path_of runs) x e) same (told_refused n runs codes e rise ok is)
+
+  pub accepted_at : All (λ code. code < 31) codes → standing_of runs codes ≡ accepted → HasStanding n (path_of runs) k accepted
+  accepted_at ok is = subst (λ (x : List ℕ). HasStanding n (path_of runs) x accepted) same (told_accepted n runs codes rise ok is)
+
+  module _ (allows : Allowance) (paths : List PathValue) (lawful : IsLawful allows n) (is : standing_of runs codes ≡ accepted) where
+    pub after_at : paths ≡ part Forward allows runs codes → IsListingAfter allows n (path_of runs) k paths
+    after_at e = subst (λ (x : List ℕ). IsListingAfter allows n (path_of runs) x paths) same (listing_after allows n runs codes paths rise lawful is e)
+
+    pub before_at : paths ≡ part Backward allows runs codes → IsListingBefore allows n (path_of runs) k paths
+    before_at e = subst (λ (x : List ℕ). IsListingBefore allows n (path_of runs) x paths) same (listing_before allows n runs codes paths rise lawful is e)

@@ -196,7 +196,7 @@ unfolding path_of asked_by final_state
 path_of-step ask next a c e =
     ap (λ (o : Outcome). after_step (record { module_number = ask.module_number; class = class_at ask o }) (path_of (next o) a)) e
 
--- the path of an allowed assignment stands in the listing
+-- the path of an allowed assignment is in the listing
 pub listing-has : (allows : Allowance) (low n : ℕ) (runs : Runs) (a : Assignment) → AsksRise low n runs → IsAllowed allows n a →
     Member (path_of runs a) (listing allows runs)
 unfolding path_of AsksRise listing Member all_codes asked_by final_state

@@ -13,7 +13,8 @@ use Rattle.pam_paths.specs.Pages.{ArePrefix, Page, SayEnd, before, after, joined
 use Rattle.pam_paths.specs.Laws.{EndsMeet, PagesJoin, PagesJoinBackwards, PartBefore, PartAfter}
 use Rattle.pam_paths.proofs.Keys.{Precedes-from, Precedes-to}
 use Rattle.pam_paths.proofs.Listings.{Precedes-irreflexive, Precedes-trans, PrecedesAll-at, IsRising-append, Member-cases, Member-right, rising-same}
-use Rattle.pam_paths.proofs.Parts.{after-is, kept-back, kept-member, kept-rising, one_part_after}
+use Rattle.pam_paths.proofs.Alike.{Member-filter, Member-filter_back}
+use Rattle.pam_paths.proofs.Parts.{after-is, kept-rising, one_part_after}
 
 -- a test that each member passes, or none
 filter_all : (test : PathValue → Bool) (ps : List PathValue) → ((p : PathValue) → Member p ps → test p ≡ true) → filter test ps ≡ ps
@@ -202,10 +203,10 @@ pub before-is : (allows : Allowance) (n : ℕ) (path_by : Assignment → PathVal
 before-is allows n path_by k all is = record {
   falling = falling_reverse (filter (λ q. precedes (key q) k) all) (kept-rising (λ q. precedes (key q) k) all is.rising);
   members = λ p. (
-    (λ m. let w = kept-back (λ q. precedes (key q) k) all p (Member-reverse p (filter (λ q. precedes (key q) k) all) m) in
+    (λ m. let w = Member-filter_back (λ q. precedes (key q) k) all p (Member-reverse p (filter (λ q. precedes (key q) k) all) m) in
         ((is.members p).0 w.0, Precedes-from (key p) k w.1)),
     (λ w. to_reverse p (filter (λ q. precedes (key q) k) all)
-        (kept-member (λ q. precedes (key q) k) all p ((is.members p).1 w.0) (Precedes-to (key p) k w.1))),
+        (Member-filter (λ q. precedes (key q) k) all p ((is.members p).1 w.0) (Precedes-to (key p) k w.1))),
   );
 }
 

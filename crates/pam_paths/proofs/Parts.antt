@@ -20,7 +20,7 @@ use Rattle.pam_paths.specs.Retrace.{further, standing_of}
 use Rattle.pam_paths.specs.Pages.{after}
 use Rattle.pam_paths.proofs.Keys.{before-less, before-more, before-same, Precedes-from, Precedes-to}
 use Rattle.pam_paths.proofs.Listings.{PrecedesAll-at, PrecedesAll-from, offered_least, rising-same}
-use Rattle.pam_paths.proofs.Alike.{of_class}
+use Rattle.pam_paths.proofs.Alike.{Member-filter, Member-filter_back, of_class}
 use Rattle.pam_paths.proofs.Branches.{branches_split, map-reverse}
 
 -- a test that each path passes, or none
@@ -90,7 +90,7 @@ module _ (allows : Allowance) (ask : Ask) (below : Outcome → List PathValue) (
       (λ t. filter_inner test inner (after_step (step_of ask c)) (below (outcome_of ask c)) h ∙ sym (cond-true (is_offered allows ask c) _ [] t))
       (λ t. sym (cond-false (is_offered allows ask c) (map (after_step (step_of ask c)) (filter inner (below (outcome_of ask c)))) [] t))
 
-  -- all codes, where one of them stands between those that pass and those that do not
+  -- all codes, with one of them between those that pass and those that do not
   branches_cut : (c : ℕ) → c < 31 →
       filter test (branches allows ask below (range_with_len 0 31))
       ≡ filter test (branches allows ask below (range_with_len 0 c)) ++
@@ -211,30 +211,12 @@ part-before allows (asks ask next) (c ∷ k) e =
 
 -- MEMBERS OF A PART
 
-pub kept-member : (test : PathValue → Bool) (ps : List PathValue) (p : PathValue) → Member p ps → test p ≡ true → Member p (filter test ps)
-unfolding Member
-kept-member test [] p h t = h
-kept-member test (q ∷ qs) p (inl e) t =
-    cond_both (test q) (q ∷ filter test qs) (filter test qs) (λ l. Member p l) (λ k. inl e) (λ k. absurd (false≢true (sym k ∙ sym (ap test e) ∙ t)))
-kept-member test (q ∷ qs) p (inr h) t =
-    cond_both (test q) (q ∷ filter test qs) (filter test qs) (λ l. Member p l) (λ k. inr (kept-member test qs p h t)) (λ k. kept-member test qs p h t)
-
-pub kept-back : (test : PathValue → Bool) (ps : List PathValue) (p : PathValue) → Member p (filter test ps) → Member p ps × (test p ≡ true)
-unfolding Member
-kept-back test [] p h = absurd h
-kept-back test (q ∷ qs) p h =
-    cond_both (test q) (q ∷ filter test qs) (filter test qs)
-    (λ l. (Member p l → (Member p (filter test qs) → Member p qs × (test p ≡ true)) → (Member p (q ∷ qs) × (test p ≡ true))))
-    (λ k i again. elim i [ inl e ↦ (inl e, ap test e ∙ k) | inr j ↦ (inr (again j).0, (again j).1) ])
-    (λ k i again. (inr (again i).0, (again i).1))
-    h (kept-back test qs p)
-
 pub kept-rising : (test : PathValue → Bool) (ps : List PathValue) → IsRising ps → IsRising (filter test ps)
 unfolding IsRising
 kept-rising test [] h = tt
 kept-rising test (p ∷ ps) h =
     cond_both (test p) (p ∷ filter test ps) (filter test ps) (λ l. IsRising l)
-    (λ k. (PrecedesAll-from (key p) (filter test ps) (λ q m. PrecedesAll-at (key p) ps q h.0 (kept-back test ps q m).0), kept-rising test ps h.1))
+    (λ k. (PrecedesAll-from (key p) (filter test ps) (λ q m. PrecedesAll-at (key p) ps q h.0 (Member-filter_back test ps q m).0), kept-rising test ps h.1))
     (λ k. kept-rising test ps h.1)
 
 pub after-is : (allows : Allowance) (n : ℕ) (path_by : Assignment → PathValue) (k : List ℕ) (all : List PathValue) → IsListing allows n path_by all →
@@ -242,8 +224,8 @@ pub after-is : (allows : Allowance) (n : ℕ) (path_by : Assignment → PathValu
 after-is allows n path_by k all is = record {
   rising = kept-rising (λ p. precedes k (key p)) all is.rising;
   members = λ p. (
-    (λ m. let w = kept-back (λ q. precedes k (key q)) all p m in ((is.members p).0 w.0, Precedes-from k (key p) w.1)),
-    (λ w. kept-member (λ q. precedes k (key q)) all p ((is.members p).1 w.0) (Precedes-to k (key p) w.1)),
+    (λ m. let w = Member-filter_back (λ q. precedes k (key q)) all p m in ((is.members p).0 w.0, Precedes-from k (key p) w.1)),
+    (λ w. Member-filter (λ q. precedes k (key q)) all p ((is.members p).1 w.0) (Precedes-to k (key p) w.1)),
   );
 }
 

@@ -1,4 +1,4 @@
--- How codes stand to the paths of a run.
+-- The standing of codes at the paths of a run.
 use Rattle.std.proofs.Common.{◌≡◌, ◌≢◌, ℕ, ◌+◌, ◌<◌, ◌==◌, List, [], ◌∷◌, ◌++◌, length, All, suc, refl, sym, ◌∙◌, ap, subst, arith, inl, inr}
 use Rattle.std.proofs.lemmas.Bool.{eq-eqb, ne_eqb, cases_eq, cond-true, cond-false}
 use Rattle.pam_dispatch.specs.declared.step.Outcome.{Outcome}
@@ -7,13 +7,13 @@ use Rattle.pam_paths.specs.Classes.{Member, class_of, least}
 use Rattle.pam_paths.specs.Computed.{after_step}
 use Rattle.pam_paths.specs.Paths.{PathValue, StepValue, key, key_of, path_of, step_of}
 use Rattle.pam_paths.specs.Listing.{AreCodes}
-use Rattle.pam_paths.specs.Cursor.{Standing, Stands, accepted, not_least, too_short, too_long}
+use Rattle.pam_paths.specs.Cursor.{Standing, HasStanding, accepted, not_least, too_short, too_long}
 use Rattle.pam_paths.specs.Retrace.{further, standing_of}
 use Rattle.pam_paths.specs.Laws.{OneStanding}
 use Rattle.pam_paths.proofs.Alike.{in_class, of_class, class-same, least_of_class}
 use Rattle.pam_paths.proofs.Listings.{path_of-same, path_of-step, with_answer, with_answer-at, with_answer-other}
 
--- codes that begin with the least of a class stand as the others do one step on
+-- codes that begin with the least of a class have the standing of the others one step on
 pub standing-head : (ask : Ask) (next : Outcome → Runs) (c : ℕ) (cs : List ℕ) → least (class_of ask c) ≡ c →
     standing_of (asks ask next) (c ∷ cs) ≡ further 1 (standing_of (next (outcome_of ask c)) cs)
 unfolding standing_of
@@ -123,7 +123,7 @@ not_least-is low n (asks ask next) a k place (s ∷ front) step rest code after 
     (length front + 1) front step rest code after (rise.2 (outcome_of ask x)) ok t refl refl inside other)
     ∙ ap not_least (let z : 1 + (length front + 1) ≡ place = omega (arith, at) in z)
 
-pub stands-is : (n : ℕ) (runs : Runs) (k : List ℕ) (s : Standing) → AsksRise 0 n runs → Stands n (path_of runs) k s → s ≡ standing_of runs k
+pub stands-is : (n : ℕ) (runs : Runs) (k : List ℕ) (s : Standing) → AsksRise 0 n runs → HasStanding n (path_of runs) k s → s ≡ standing_of runs k
 stands-is n runs k accepted rise h = sym (accepted-is 0 n runs h.0 k rise h.1 h.2)
 stands-is n runs k (not_least j) rise h =
     sym (not_least-is 0 n runs h.answers k j h.earlier h.step h.later h.code h.rest rise h.are_codes h.steps h.parts h.at h.inside h.other)
@@ -149,7 +149,7 @@ codes-with n m c a ok low k first last = elim (cases_eq k m) [
 ]
 
 stands-on : (ask : Ask) (next : Outcome → Runs) (n c : ℕ) (k : List ℕ) (s : Standing) → ((o : Outcome) → AsksRise ask.module_number n (next o)) → c < 31 →
-    least (class_of ask c) ≡ c → Stands n (path_of (next (outcome_of ask c))) k s → Stands n (path_of (asks ask next)) (c ∷ k) (further 1 s)
+    least (class_of ask c) ≡ c → HasStanding n (path_of (next (outcome_of ask c))) k s → HasStanding n (path_of (asks ask next)) (c ∷ k) (further 1 s)
 unfolding key_of
 stands-on ask next n c k accepted rise low head h =
     let p = path-with ask next n h.0 c rise in (
@@ -198,7 +198,7 @@ unfolding zeros
 zeros-codes n m first last = omega arith
 
 pub standing-stands : (low n : ℕ) (runs : Runs) (k : List ℕ) → AsksRise low n runs → All (λ code. code < 31) k →
-    Stands n (path_of runs) k (standing_of runs k)
+    HasStanding n (path_of runs) k (standing_of runs k)
 unfolding AsksRise standing_of path_of key_of asked_by final_state
 standing-stands low n (ends s) [] rise all = (zeros, zeros-codes n, refl)
 standing-stands low n (ends s) (c ∷ k) rise all = (zeros, zeros-codes n, c, k, refl)
@@ -208,11 +208,11 @@ standing-stands low n (asks ask next) (c ∷ k) rise all =
     let code : c < 31 = all 0 c (omega arith) in
     elim (cases_eq (least (class_of ask c)) c) [
       | inl e ↦
-          subst (Stands n (path_of (asks ask next)) (c ∷ k)) (sym (standing-head ask next c k e))
+          subst (HasStanding n (path_of (asks ask next)) (c ∷ k)) (sym (standing-head ask next c k e))
           (stands-on ask next n c k (standing_of (next (outcome_of ask c)) k) rise.2 code e
           (standing-stands ask.module_number n (next (outcome_of ask c)) k (rise.2 (outcome_of ask c)) (λ i d l. all (suc i) d (omega (arith, l)))))
       | inr ne ↦
-          subst (Stands n (path_of (asks ask next)) (c ∷ k)) (sym (standing-other ask next c k ne))
+          subst (HasStanding n (path_of (asks ask next)) (c ∷ k)) (sym (standing-other ask next c k ne))
           (record {
             answers = with_answer zeros ask.module_number c;
             are_codes = codes-with n ask.module_number c zeros (zeros-codes n) code;

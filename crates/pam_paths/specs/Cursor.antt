@@ -1,4 +1,4 @@
--- How a list of codes stands to the paths of a stack, whatever is known of the answers: pam.conf(5), DESCRIPTION.
+-- What a list of codes is to the paths of a stack, whatever is known of the answers: pam.conf(5), DESCRIPTION.
 use Rattle.std.specs.Prelude.{◌≡◌, ◌≢◌, ℕ, ◌+◌, List, ◌∷◌, ◌++◌, length, Option, None, Some, IfSome}
 use Rattle.pam_dispatch.specs.Runs.{Assignment}
 use Rattle.pam_paths.specs.declared.cursor.CursorError.{CursorError}
@@ -37,18 +37,18 @@ abbrev pub IsTooLong : ℕ → (Assignment → PathValue) → List ℕ → Type 
 IsTooLong n path_by codes =
     (answers : Assignment) × AreCodes n answers × (code : ℕ) × (more : List ℕ) × (codes ≡ key (path_by answers) ++ code ∷ more)
 
--- the four ways in which codes can stand to the paths
+-- the four things that codes can be to the paths
 pub data Standing : Type 0 where
   accepted : Standing
   not_least : ℕ → Standing
   too_short : Standing
   too_long : Standing
 
-abbrev pub Stands : ℕ → (Assignment → PathValue) → List ℕ → Standing → Type 0
-Stands n path_by codes accepted = IsAccepted n path_by codes
-Stands n path_by codes (not_least place) = IsNotLeast n path_by codes place
-Stands n path_by codes too_short = IsTooShort n path_by codes
-Stands n path_by codes too_long = IsTooLong n path_by codes
+abbrev pub HasStanding : ℕ → (Assignment → PathValue) → List ℕ → Standing → Type 0
+HasStanding n path_by codes accepted = IsAccepted n path_by codes
+HasStanding n path_by codes (not_least place) = IsNotLeast n path_by codes place
+HasStanding n path_by codes too_short = IsTooShort n path_by codes
+HasStanding n path_by codes too_long = IsTooLong n path_by codes
 
 -- the standing that an error tells; a fault of the text tells none
 abbrev pub standing_told : CursorError → Option Standing
@@ -57,6 +57,6 @@ standing_told (NotLeast place) = Some (not_least place)
 standing_told TooShort = Some too_short
 standing_told TooLong = Some too_long
 
--- an error answers a cursor where it tells how the cursor stands
+-- an error answers a cursor where it tells its standing
 abbrev pub IsRefusal : ℕ → (Assignment → PathValue) → List ℕ → CursorError → Type 0
-IsRefusal n path_by codes error = IfSome (standing_told error) (Stands n path_by codes) × (standing_told error ≢ None)
+IsRefusal n path_by codes error = IfSome (standing_told error) (HasStanding n path_by codes) × (standing_told error ≢ None)

@@ -25,7 +25,7 @@ is_shared ask code part = option_map_or (λ c. same_outcome (outcome_of ask c) (
 unfoldable pub is_offered_by : List ℕ → Ask → ℕ → Bool
 is_offered_by codes ask code = (least (class_of ask code) == code) && list_any (λ k. is_in k codes) (class_of ask code)
 
--- codes, where the least code of a class stands for those of its codes that are among them, once a part is passed
+-- codes, with the least code of a class in place of those of its codes that are among them, once a part is passed
 unfoldable pub past_part : List ℕ → Ask → Part → ℕ → Bool
 past_part codes ask part code = if is_shared ask code part then is_offered_by codes ask code else is_in code codes
 

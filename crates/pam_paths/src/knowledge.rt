@@ -44,7 +44,7 @@ impl Knowledge for Free {
 /// What is known of each module: the codes that it can answer, every code where nothing was set.
 #[derive(Clone, Copy, Debug)]
 pub struct Known {
-    /// By the number of the module, from 1; a set of no code stands for every code.
+    /// By the number of the module, from 1; an empty set means every code.
     sets: [CodeSet; MAX_MODULES],
 }
 
