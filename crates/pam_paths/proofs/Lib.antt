@@ -9,6 +9,7 @@ pub mod KnownCodes
 pub mod LawProofs
 pub mod Listings
 pub mod Narrowing
+pub mod OfferedCodes
 pub mod OneAction
 pub mod PageProofs
 pub mod Parts

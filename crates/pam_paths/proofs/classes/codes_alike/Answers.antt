@@ -1,7 +1,8 @@
 use Rattle.std.proofs.Common.{◌∙◌, false, true, refl, sym}
 use Rattle.pam_dispatch.specs.Flat.{rest_of}
 use Rattle.pam_dispatch.specs.Runs.{next_ask}
-use Rattle.pam_paths.proofs.Sharing.{alike-all, alike-looking, alike-none, filled-first, looks-asked}
+use Rattle.pam_paths.proofs.OfferedCodes.{looks-asked}
+use Rattle.pam_paths.proofs.Sharing.{alike-all, alike-looking, alike-none, filled-first}
 use Rattle.pam_paths.proofs.classes.codes_alike.Goals as goal
 
 pub returns-then-looks_at_code : goal.returns-then-looks_at_code

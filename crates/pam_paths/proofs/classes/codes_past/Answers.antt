@@ -2,7 +2,7 @@ use Rattle.std.proofs.Common.{◌∙◌, sym, ap}
 use Rattle.pam_dispatch.specs.Flat.{rest_of}
 use Rattle.pam_dispatch.specs.Runs.{next_ask}
 use Rattle.pam_paths.specs.Classes.{class_at}
-use Rattle.pam_paths.proofs.Sharing.{outcome-asked, past-none, past-some, shared-asked}
+use Rattle.pam_paths.proofs.OfferedCodes.{outcome-asked, past-none, past-some, shared-asked}
 use Rattle.pam_paths.proofs.classes.codes_past.Goals as goal
 
 pub returns-in-Some : goal.returns-in-Some

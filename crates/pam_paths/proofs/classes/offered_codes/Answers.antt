@@ -4,7 +4,7 @@ use Rattle.pam_codes.specs.Set.{IsCodeSet}
 use Rattle.pam_dispatch.specs.Flat.{rest_of}
 use Rattle.pam_dispatch.specs.Runs.{next_ask}
 use Rattle.pam_paths.specs.Sharing.{past_parts}
-use Rattle.pam_paths.proofs.Sharing.{offered-by, past-all, past-first, past-more}
+use Rattle.pam_paths.proofs.OfferedCodes.{offered-by, past-all, past-first, past-more}
 use Rattle.pam_paths.proofs.Sets.{where-is_set}
 use Rattle.pam_paths.proofs.classes.offered_codes.Goals as goal
 
