@@ -1,14 +1,17 @@
 -- From the open run of a stack to its tree.
-use Rattle.std.proofs.Common.{◌≡◌, ℕ, List, map, sym, ◌∙◌, ap}
+use Rattle.std.proofs.Common.{◌≡◌, ℕ, List, ◌∷◌, ◌++◌, map, sym, ◌∙◌, ap}
 use Rattle.pam_conf.specs.Stack.{Items}
 use Rattle.pam_dispatch.specs.Decision.{decision_of}
 use Rattle.pam_dispatch.specs.Runs.{Ask, Assignment, Runs, final_state}
 use Rattle.pam_dispatch.specs.State.{start_state}
 use Rattle.pam_dispatch.specs.Tree.{asked, runs_of_stack}
 use Rattle.pam_dispatch.proofs.OpenRuns.{asked_by-runs_of_stack, decision_of-runs_of_stack}
+use Rattle.pam_paths.specs.Cursor.{IsAccepted, IsNotLeast, IsRefusal, IsTooLong, IsTooShort}
+use Rattle.pam_paths.specs.declared.cursor.CursorError.{CursorError}
+use Rattle.pam_paths.specs.declared.cursor.CursorError.TheVariants.{Syntax, NotLeast, TooShort, TooLong}
 use Rattle.pam_paths.specs.Laws.{PathOfStack}
 use Rattle.pam_paths.specs.Listing.{Allowance, IsListing, IsListingAfter, IsListingBefore}
-use Rattle.pam_paths.specs.Paths.{PathValue, StepValue, path_of, path_through, step_by}
+use Rattle.pam_paths.specs.Paths.{PathValue, StepValue, key, path_of, path_through, step_by}
 
 value : List StepValue → ℕ → PathValue
 value s d = record { steps = s; decision = d }
@@ -51,3 +54,42 @@ module _ (allows : Allowance) (n : ℕ) (runs : Runs) (items : Items) (is : runs
       λ w. (h.members p).1 ((w.0.0, w.0.1, w.0.2 ∙ sym (path_of-tree runs items is w.0.0)), w.1),
     );
   }
+
+-- what codes are to the paths through an open run, they are to those through its tree
+module _ (n : ℕ) (runs : Runs) (items : Items) (is : runs ≡ runs_of_stack items) where
+  key-tree : (answers : Assignment) → key (path_of runs answers) ≡ key (path_through items answers)
+  key-tree answers = ap (λ (p : PathValue). key p) (path_of-tree runs items is answers)
+
+  steps-tree : (answers : Assignment) → (path_of runs answers).steps ≡ (path_through items answers).steps
+  steps-tree answers = ap (λ (p : PathValue). p.steps) (path_of-tree runs items is answers)
+
+  pub accepted-tree : (codes : List ℕ) → IsAccepted n (path_of runs) codes → IsAccepted n (path_through items) codes
+  accepted-tree codes h = (h.0, h.1, h.2 ∙ key-tree h.0)
+
+  not_least-tree : (codes : List ℕ) (place : ℕ) → IsNotLeast n (path_of runs) codes place → IsNotLeast n (path_through items) codes place
+  not_least-tree codes place h = record {
+    answers = h.answers;
+    are_codes = h.are_codes;
+    earlier = h.earlier;
+    step = h.step;
+    later = h.later;
+    steps = sym (steps-tree h.answers) ∙ h.steps;
+    code = h.code;
+    rest = h.rest;
+    parts = h.parts;
+    at = h.at;
+    inside = h.inside;
+    other = h.other;
+  }
+
+  too_short-tree : (codes : List ℕ) → IsTooShort n (path_of runs) codes → IsTooShort n (path_through items) codes
+  too_short-tree codes h = (h.0, h.1, h.2, h.3, sym (key-tree h.0) ∙ h.4)
+
+  too_long-tree : (codes : List ℕ) → IsTooLong n (path_of runs) codes → IsTooLong n (path_through items) codes
+  too_long-tree codes h = (h.0, h.1, h.2, h.3, h.4 ∙ ap (λ (k : List ℕ). k ++ h.2 ∷ h.3) (key-tree h.0))
+
+  pub refusal-tree : (codes : List ℕ) (error : CursorError) → IsRefusal n (path_of runs) codes error → IsRefusal n (path_through items) codes error
+  refusal-tree codes Syntax h = h
+  refusal-tree codes (NotLeast place) h = (not_least-tree codes place h.0, h.1)
+  refusal-tree codes TooShort h = (too_short-tree codes h.0, h.1)
+  refusal-tree codes TooLong h = (too_long-tree codes h.0, h.1)

@@ -140,6 +140,9 @@ impl<'a, K: Knowledge> Explorer<'a, K> {
             cursor.now e.coming) }
 
         // The same over the tree of the stack that the program is of.
+        ensures tree { (items : Items) → runs_of program.now ≡ runs_of_stack items → MatchResult result
+            (λ _. IsAccepted (modules_of program.now) (path_through items) cursor.now)
+            (IsRefusal (modules_of program.now) (path_through items) cursor.now) }
         ensures stack { (items : Items) → runs_of program.now ≡ runs_of_stack items
             → IfOk result (λ e. IsListingAfter (K.allows knowledge.now) (modules_of program.now) (path_through items) cursor.now e.coming) }
         ensures modules { IfOk result (λ e. e.modules ≡ modules_of program.now) }

@@ -3,7 +3,7 @@ use Rattle.pam_dispatch.specs.Flat.{modules_of, runs_of}
 use Rattle.pam_paths.specs.declared.direction.Direction.{Direction}
 use Rattle.pam_paths.specs.Frames.{coming}
 use Rattle.pam_paths.proofs.Ends.{accepted_at, after_at, refused_at}
-use Rattle.pam_paths.proofs.Trees.{after-tree}
+use Rattle.pam_paths.proofs.Trees.{accepted-tree, after-tree, refusal-tree}
 use Rattle.pam_paths.proofs.explorer.Explorer.after.Goals as goal
 
 pub returns-in-Err-clause-standing : goal.returns-in-Err-clause-standing
@@ -26,3 +26,9 @@ returns-in-Ok-clause-listing g c =
 
 pub returns-in-Ok-clause-stack : goal.returns-in-Ok-clause-stack
 returns-in-Ok-clause-stack g c items is = after-tree _ _ _ items is _ _ (returns-in-Ok-clause-listing g c)
+
+pub returns-in-Err-clause-tree : goal.returns-in-Err-clause-tree
+returns-in-Err-clause-tree g c items is = refusal-tree _ _ items is _ _ (returns-in-Err-clause-standing g c)
+
+pub returns-in-Ok-clause-tree : goal.returns-in-Ok-clause-tree
+returns-in-Ok-clause-tree g c items is = accepted-tree _ _ items is _ (returns-in-Ok-clause-standing g c)
