@@ -1,9 +1,10 @@
 -- Groups of users: group(5).
-use Rattle.std.specs.Prelude.{ℕ, Bool, false, List, [], ◌∷◌, ◌++◌, filter, codes, if◌then◌else◌, Option, Some, None, Result, Ok, Err}
+use Rattle.std.specs.Prelude.{ℕ, Bool, false, List, [], ◌∷◌, filter, codes, if◌then◌else◌, Option, Some, None, Result, Ok, Err}
 use Rattle.std.specs.List.{list_any, slice_split}
 use Rattle.std.specs.Str.{bytes_eq}
 use Rattle.pam_tables.specs.Error.{read_lines}
 use Rattle.pam_tables.specs.Lines.{checked, has_bytes, is_among, is_blank_line, lines_from}
+use Rattle.pam_tables.specs.Named.{first_of_each_read}
 use Rattle.pam_tables.specs.declared.error.TableFault.{TableFault}
 use Rattle.pam_tables.specs.declared.error.TableFault.TheVariants.{BadGroup}
 
@@ -33,27 +34,6 @@ some_group (Err fault) = Err fault
 unfoldable pub group_at : List ℕ → Result (Option Group) TableFault
 group_at line = if is_blank_line line then Ok None else some_group (group_of_fields (slice_split (is_among (codes ":")) line))
 
--- of groups behind those with these names, the first of each name
-abbrev pub first_of_each : List (List ℕ) → List Group → List Group
-first_of_each names [] = []
-first_of_each names (group ∷ groups) =
-    if list_any (λ name. bytes_eq group.0 name) names then first_of_each names groups
-    else group ∷ first_of_each (names ++ group.0 ∷ []) groups
-
-abbrev pub first_of_each_read : Result (List Group) (TableFault × ℕ) → Result (List Group) (TableFault × ℕ)
-first_of_each_read (Ok groups) = Ok (first_of_each [] groups)
-first_of_each_read (Err e) = Err e
-
 -- the groups of a file, or its first fault
 unfoldable pub groups_of : List ℕ → Result (List Group) (TableFault × ℕ)
 groups_of bytes = checked bytes (first_of_each_read (read_lines (λ _ line. group_at line) (lines_from 1 bytes)))
-
--- groups with one more, where its name is new
-abbrev pub with_group : List Group → Option Group → List Group
-with_group groups None = groups
-with_group groups (Some group) = if list_any (λ g. bytes_eq group.0 g.0) groups then groups else groups ++ group ∷ []
-
--- groups with that of one more line
-abbrev pub with_line : List Group → Result (Option Group) TableFault → Result (List Group) TableFault
-with_line groups (Ok group) = Ok (with_group groups group)
-with_line groups (Err fault) = Err fault

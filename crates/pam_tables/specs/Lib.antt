@@ -5,6 +5,8 @@ pub mod Groups
 pub mod Lines
 pub mod Lists
 pub mod Login
+pub mod Named
 pub mod Network
 pub mod Options
+pub mod Returns
 pub mod Tokens

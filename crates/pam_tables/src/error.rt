@@ -10,6 +10,7 @@ pub enum Table {
     Access,
     Time,
     Group,
+    Returns,
 }
 
 /// Why bytes are no table.
@@ -39,6 +40,10 @@ pub enum TableFault {
     Memory,
     #[error("the table is too long")]
     TableTooLong,
+    #[error("a word is no return code")]
+    BadCode,
+    #[error("a slash in the name of a module")]
+    BadModule,
 }
 
 impl<T: Drop> From<AllocFailed<T>> for TableFault {

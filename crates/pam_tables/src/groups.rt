@@ -2,8 +2,9 @@ ghost use Rattle.std.specs.Prelude.{◌≡◌, ◌==◌, [], codes, MatchOption,
 ghost use Rattle.std.specs.List.{list_any};
 ghost use Rattle.std.specs.Str.{bytes_eq};
 ghost use Rattle.pam_tables.specs.Error.{Gives, GivesPart};
-ghost use Rattle.pam_tables.specs.Groups.{lists_user, members_of, group_of_fields, group_at, groups_of, with_line};
+ghost use Rattle.pam_tables.specs.Groups.{lists_user, members_of, group_of_fields, group_at, groups_of};
 ghost use Rattle.pam_tables.specs.Lines.{is_among};
+ghost use Rattle.pam_tables.specs.Named.{with_line};
 ghost use Rattle.std.specs.List.{slice_split};
 
 use crate::error::{Table, TableError, TableFault};

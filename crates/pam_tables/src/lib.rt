@@ -1,4 +1,4 @@
-//! The tables of pam_access and pam_time, and the groups that they name.
+//! The tables of pam_access and pam_time, the groups that they name, and the codes that modules may return.
 #![tactic(auto)]
 
 mod access;
@@ -11,6 +11,7 @@ mod login;
 mod network;
 mod options;
 mod pieces;
+mod returns;
 mod tokens;
 
 pub use access::{AccessAnswer, AccessTable};
@@ -19,3 +20,4 @@ pub use groups::Groups;
 pub use lines::{MAX_TABLE_BYTES, check_bytes, cut};
 pub use login::{Login, drop_dev};
 pub use options::AccessOptions;
+pub use returns::ReturnTable;

@@ -38,7 +38,7 @@ fn part_len(text: &[u8], separators: &[u8]) -> usize
 }
 
 /// The first token, and what stands behind it.
-fn first_token<'a>(text: &'a [u8], separators: &[u8]) -> Option<(&'a [u8], &'a [u8])>
+pub(crate) fn first_token<'a>(text: &'a [u8], separators: &[u8]) -> Option<(&'a [u8], &'a [u8])>
     ensures { MatchOption result (tokens_of separators.now text.now ≡ [])
         (λ p. tokens_of separators.now text.now ≡ p.0.now ∷ tokens_of separators.now p.1.now) }
 {

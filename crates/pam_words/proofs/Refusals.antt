@@ -16,7 +16,9 @@ answers-clean kinds asked (Ok request) h e = e
 answers-clean kinds asked (Err usage.Source) h e = e
 answers-clean kinds asked (Err usage.KindName) h e = e
 answers-clean kinds asked (Err usage.CodeName) h e = e
+answers-clean kinds asked (Err usage.Login) h e = e
 answers-clean kinds asked (Err usage.Moment) h e = e
+answers-clean kinds asked (Err usage.BothEnds) h e = e
 answers-clean kinds asked (Err usage.Memory) h e = tt
 answers-clean kinds asked (Err (usage.Help error)) h e = absurd h
 answers-clean kinds asked (Err (usage.Words error)) h e = absurd h
@@ -27,7 +29,9 @@ answers-reads asked (Ok request) h = h
 answers-reads asked (Err usage.Source) h = h
 answers-reads asked (Err usage.KindName) h = h
 answers-reads asked (Err usage.CodeName) h = h
+answers-reads asked (Err usage.Login) h = h
 answers-reads asked (Err usage.Moment) h = h
+answers-reads asked (Err usage.BothEnds) h = h
 answers-reads asked (Err usage.Memory) h = tt
 answers-reads asked (Err (usage.Help error)) h = absurd h
 answers-reads asked (Err (usage.Words error)) h = absurd h
@@ -46,14 +50,18 @@ refused-by kinds error usage.Source h k = absurd h
 refused-by kinds error usage.NotUtf8 h k = absurd h
 refused-by kinds error usage.KindName h k = absurd h
 refused-by kinds error usage.CodeName h k = absurd h
+refused-by kinds error usage.Login h k = absurd h
 refused-by kinds error usage.Moment h k = absurd h
+refused-by kinds error usage.BothEnds h k = absurd h
 
 pub answers-read : (asked : Result Asked Refusal) (r : Result Request Usage) → Answers asked r → IsRead r
 answers-read asked (Ok request) h = tt
 answers-read asked (Err usage.Source) h = tt
 answers-read asked (Err usage.KindName) h = tt
 answers-read asked (Err usage.CodeName) h = tt
+answers-read asked (Err usage.Login) h = tt
 answers-read asked (Err usage.Moment) h = tt
+answers-read asked (Err usage.BothEnds) h = tt
 answers-read asked (Err usage.Memory) h = tt
 answers-read asked (Err (usage.Help error)) h = absurd h
 answers-read asked (Err (usage.Words error)) h = absurd h
@@ -68,7 +76,9 @@ refused-read error usage.Source h m = absurd h
 refused-read error usage.NotUtf8 h m = absurd h
 refused-read error usage.KindName h m = absurd h
 refused-read error usage.CodeName h m = absurd h
+refused-read error usage.Login h m = absurd h
 refused-read error usage.Moment h m = absurd h
+refused-read error usage.BothEnds h m = absurd h
 
 pub refused-reads : (o : Option (Text × List Row)) (error : Error) (u : Usage) → IsRefusalOf error u
     → MatchOption o (IsRefusal (Err u)) (λ p. Reads (asked_of p.0 p.1) (Err u))
@@ -82,4 +92,6 @@ refused-reads o error usage.Source h = absurd h
 refused-reads o error usage.NotUtf8 h = absurd h
 refused-reads o error usage.KindName h = absurd h
 refused-reads o error usage.CodeName h = absurd h
+refused-reads o error usage.Login h = absurd h
 refused-reads o error usage.Moment h = absurd h
+refused-reads o error usage.BothEnds h = absurd h

@@ -17,6 +17,12 @@ pub data When : Type 0 where
   civil : Text → When
   instant : ℤ → Text → When
 
+-- the part of a listing that a page is taken from
+pub data Span : Type 0 where
+  whole : Span
+  after : Text → Span
+  before : Text → Span
+
 pub record AccessWish : Type 0 where
   pub table : Text
   pub groups : Option Text
@@ -31,22 +37,39 @@ pub record TimeWish : Type 0 where
   pub tty : Text
   pub moment : When
 
+pub record PathsWish : Type 0 where
+  pub place : Place
+  pub kind : Kind
+  pub limit : ℕ
+  pub part : Span
+  pub user : Text
+  pub rhost : Text
+  pub tty : Text
+  pub access : Option Text
+  pub time : Option Text
+  pub groups : Option Text
+  pub returns : Option Text
+  pub moment : Option When
+
 pub data Wish : Type 0 where
   show : Place → Kind → Wish
   decide : Place → Kind → List ℕ → Wish
   access : AccessWish → Wish
   time : TimeWish → Wish
+  paths : PathsWish → Wish
 
 pub record Asked : Type 0 where
   pub service : Text
   pub wish : Wish
 
--- U2, U3, U4 and U6
+-- U2 to U6, and U8
 pub data Refusal : Type 0 where
   source : Refusal
   kind_name : Refusal
   code_name : Refusal
+  login : Refusal
   moment : Refusal
+  both_ends : Refusal
 
 -- ---- words
 

@@ -1,17 +1,19 @@
 -- The command line: what a request shows, and what an answer may be.
-use Rattle.std.specs.Prelude.{◌≡◌, ◌≢◌, ⊤, Result, Ok, Err, [], map}
+use Rattle.std.specs.Prelude.{◌≡◌, ◌≢◌, ⊤, Result, Ok, Err, [], map, option_map}
 use Rattle.std.specs.Option.{option_copied}
 use Rattle.clap.specs.Words.{IsAmong, Kinds, kind_of}
 use Rattle.clap.specs.declared.Error.{Error}
 use Rattle.clap.specs.declared.error.ErrorKind.TheVariants.{DisplayHelp, OutOfMemory}
-use Rattle.pam_words.specs.Asked.{Asked, Place, Refusal, When, Wish}
+use Rattle.pam_words.specs.Asked.{Asked, Place, Refusal, Span, When, Wish}
 use Rattle.pam_words.specs.Asked as asked
 use Rattle.pam_words.specs.declared.wanted.Source.{Source}
 use Rattle.pam_words.specs.declared.wanted.Source.TheVariants.{Dir, Conf}
 use Rattle.pam_words.specs.declared.wanted.Moment.{Moment}
 use Rattle.pam_words.specs.declared.wanted.Moment.TheVariants.{Civil, Instant}
+use Rattle.pam_words.specs.declared.wanted.Part.{Part}
+use Rattle.pam_words.specs.declared.wanted.Part.TheVariants.{Whole, After, Before}
 use Rattle.pam_words.specs.declared.wanted.Task.{Task}
-use Rattle.pam_words.specs.declared.wanted.Task.TheVariants.{Show, Decide, Access, Time}
+use Rattle.pam_words.specs.declared.wanted.Task.TheVariants.{Show, Decide, Access, Time, Paths}
 use Rattle.pam_words.specs.declared.wanted.Request.{Request}
 use Rattle.pam_words.specs.declared.wanted.Usage.{Usage}
 use Rattle.pam_words.specs.declared.wanted.Usage.TheVariants as usage
@@ -25,6 +27,11 @@ shown_place (Conf name) = asked.conf name.now
 abbrev pub shown_when : Moment → When
 shown_when (Civil text) = asked.civil text.now
 shown_when (Instant seconds zone) = asked.instant seconds zone.now
+
+abbrev pub shown_part : Part → Span
+shown_part Whole = asked.whole
+shown_part (After cursor) = asked.after cursor.now
+shown_part (Before cursor) = asked.before cursor.now
 
 abbrev pub shown_wish : Task → Wish
 shown_wish (Show source kind) = asked.show (shown_place source) kind
@@ -43,6 +50,20 @@ shown_wish (Time table user tty moment) = asked.time (record {
   tty = tty.now;
   moment = shown_when moment;
 })
+shown_wish (Paths source kind limit part user rhost tty access time groups returns moment) = asked.paths (record {
+  place = shown_place source;
+  kind = kind;
+  limit = limit;
+  part = shown_part part;
+  user = user.now;
+  rhost = rhost.now;
+  tty = tty.now;
+  access = option_copied access;
+  time = option_copied time;
+  groups = option_copied groups;
+  returns = option_copied returns;
+  moment = option_map shown_when moment;
+})
 
 abbrev pub shown : Request → Asked
 shown request = record { service = request.service.now; wish = shown_wish request.task }
@@ -55,7 +76,9 @@ Gives view value (Ok x) = value ≡ Ok (view x)
 Gives view value (Err usage.Source) = value ≡ Err asked.source
 Gives view value (Err usage.KindName) = value ≡ Err asked.kind_name
 Gives view value (Err usage.CodeName) = value ≡ Err asked.code_name
+Gives view value (Err usage.Login) = value ≡ Err asked.login
 Gives view value (Err usage.Moment) = value ≡ Err asked.moment
+Gives view value (Err usage.BothEnds) = value ≡ Err asked.both_ends
 Gives view value (Err usage.Memory) = ⊤
 Gives view value (Err (usage.Help error)) = ⊥
 Gives view value (Err (usage.Words error)) = ⊥

@@ -8,4 +8,4 @@ mod words;
 
 pub use reading::request;
 pub use usage::{usage_status, usage_text};
-pub use wanted::{Moment, Request, Source, Task, Usage};
+pub use wanted::{Moment, Part, Request, Source, Task, Usage};

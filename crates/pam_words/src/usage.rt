@@ -22,7 +22,9 @@ fn name(usage: &Usage) -> &'static str
         Usage::Source => "U2 Source",
         Usage::KindName => "U3 KindName",
         Usage::CodeName => "U4 CodeName",
+        Usage::Login => "U5 Login",
         Usage::Moment => "U6 Moment",
+        Usage::BothEnds => "U8 BothEnds",
         Usage::Memory => "U7 Memory",
         Usage::Help(_) => unreachable!(),
         Usage::Words(_) => unreachable!(),
@@ -52,7 +54,9 @@ pub fn usage_status(usage: &Usage) -> u8
         Usage::Source => WRONG_WORDS,
         Usage::KindName => WRONG_WORDS,
         Usage::CodeName => WRONG_WORDS,
+        Usage::Login => WRONG_WORDS,
         Usage::Moment => WRONG_WORDS,
+        Usage::BothEnds => WRONG_WORDS,
         Usage::Memory => NO_MEMORY,
     }
 }

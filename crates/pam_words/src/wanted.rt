@@ -22,6 +22,17 @@ pub enum Moment<'a> {
     Instant { seconds: i64, zone: &'a str },
 }
 
+/// The part of a listing that a page is taken from.
+#[derive(Clone, Copy, Debug)]
+pub enum Part<'a> {
+    /// All paths, the least cursor first.
+    Whole,
+    /// The paths after a cursor, in the same order.
+    After(&'a str),
+    /// The paths before a cursor, the last one first.
+    Before(&'a str),
+}
+
 /// What is to be done for a service. A remote host or a terminal that is not given is empty.
 #[derive(Debug, Drop)]
 pub enum Task<'a> {
@@ -51,6 +62,21 @@ pub enum Task<'a> {
         user: &'a str,
         tty: &'a str,
         moment: Moment<'a>,
+    },
+    /// Lists the paths through the stack, one page of them.
+    Paths {
+        source: Source<'a>,
+        kind: Kind,
+        limit: u32,
+        part: Part<'a>,
+        user: &'a str,
+        rhost: &'a str,
+        tty: &'a str,
+        access: Option<&'a str>,
+        time: Option<&'a str>,
+        groups: Option<&'a str>,
+        returns: Option<&'a str>,
+        moment: Option<Moment<'a>>,
     },
 }
 
@@ -82,10 +108,16 @@ pub enum Usage {
     /// U4: a CODE is not the name of a code.
     #[error("unknown code")]
     CodeName,
+    /// U5: an access or time table is given without a user.
+    #[error("a table without a user")]
+    Login,
     /// U6: not exactly one form of the moment is given, `--zone` is given without `--at-unix`, or
-    /// the seconds are not 1 to 12 digits.
+    /// the seconds are not 1 to 12 digits. Paths need a moment only for a time table.
     #[error("not exactly one moment")]
     Moment,
+    /// U8: `--after` and `--before` are both given.
+    #[error("more than one of --after and --before")]
+    BothEnds,
     /// U7: allocation failed.
     #[error("out of memory")]
     Memory,

@@ -1,0 +1,129 @@
+ghost use Rattle.std.specs.Prelude.{◌≡◌, ◌≢◌, [], IfOk, IfSome, MatchResult, Ok, Err};
+ghost use Rattle.std.specs.Option.{option_map};
+ghost use Rattle.pam_tables.specs.Error.{Gives, GivesPart};
+ghost use Rattle.pam_tables.specs.Named.{with_line};
+ghost use Rattle.pam_tables.specs.Returns.{codes_for, codes_of_words, return_at, returns_of, words_of};
+
+use crate::error::{Table, TableError, TableFault};
+use crate::lines::{Lines, check_bytes};
+use crate::tokens::{Tokens, first_token};
+use indexmap::IndexMap;
+use pam_codes::{Code, CodeSet};
+use std::alloc::Global;
+use std::marker::Model;
+
+/// What separates the words of a line.
+const BLANKS: &[u8] = b" \t";
+
+/// The codes that modules may return, by the names of the modules.
+///
+/// A line of a returns file is the name of a module and one or more names of codes, separated by
+/// spaces and tabs, as `pam_unix.so success auth_err`. Names of codes are read in either case. A
+/// line whose first byte is `#`, and a line of blanks alone, is passed over. The first line of a
+/// name counts.
+#[derive(Drop)]
+pub struct ReturnTable {
+    codes: IndexMap<Vec<u8>, CodeSet>,
+}
+
+impl Model for ReturnTable {
+    ghost use Rattle.std.specs.Prelude.{List, map};
+    ghost use Rattle.pam_tables.specs.Returns.{ReturnLine, HaveCodes};
+
+    ghost Value = { List ReturnLine };
+
+    ghost view = { λ t. map (λ e. (e.0.items, e.1)) t.codes.entries };
+
+    ghost invariant = { λ t. HaveCodes (map (λ e. (e.0.items, e.1)) t.codes.entries) };
+}
+
+/// The name of a module, and the codes that it may return.
+#[derive(Clone, Copy)]
+struct ReturnLine<'a> {
+    name: &'a [u8],
+    codes: CodeSet,
+}
+
+/// The codes that the words of a text name.
+fn read_codes(text: &[u8]) -> Result<CodeSet, TableFault>
+    ensures value { result ≡ codes_of_words (words_of text.now) }
+    ensures some { IfOk result (λ codes. codes ≢ []) }
+{
+    let mut set = CodeSet::empty();
+    for word in Tokens::of(text, BLANKS) {
+        match Code::from_name(word) {
+            Some(code) => set.insert(code),
+            None => return Err(TableFault::BadCode),
+        }
+    }
+    if set.is_empty() {
+        return Err(TableFault::MissingField);
+    }
+    Ok(set)
+}
+
+/// What a line says, if it is not passed over.
+fn read_line(line: &[u8]) -> Result<Option<ReturnLine<'_>>, TableFault>
+    ensures value { MatchResult result (λ said. return_at line.now ≡ Ok (option_map (λ l. (l.name.now, l.codes)) said)) (λ fault. return_at line.now ≡ Err fault) }
+    ensures some { IfOk result (λ said. IfSome said (λ l. l.codes ≢ [])) }
+{
+    if line.starts_with(b"#") {
+        return Ok(None);
+    }
+    let Some((name, words)) = first_token(line, BLANKS) else {
+        return Ok(None);
+    };
+    if name.contains(&b'/') {
+        return Err(TableFault::BadModule);
+    }
+    let codes = read_codes(words)?;
+    Ok(Some(ReturnLine { name, codes }))
+}
+
+impl ReturnTable {
+    /// The table of the bytes of a file, or its first fault.
+    ///
+    /// A file that is too long comes first (`TableTooLong`, line 0), then a NUL byte (`NulByte`),
+    /// then the faults of the lines from the top. In a line a slash in the module's name comes
+    /// first (`BadModule`), then that no code is given (`MissingField`), then a word that names no
+    /// code (`BadCode`). A failed allocation is `Memory`, with line 0.
+    pub fn read(alloc: Global, bytes: &[u8]) -> Result<ReturnTable, TableError>
+        ensures { Gives Table.Returns (λ table. table) result (returns_of bytes.now) }
+    {
+        check_bytes(Table::Returns, bytes)?;
+        let mut table = ReturnTable {
+            codes: IndexMap::new(alloc),
+        };
+        for (number, line) in Lines::of(bytes) {
+            if let Err(fault) = table.add_line(alloc, line) {
+                return Err(TableError::new(Table::Returns, fault, number));
+            }
+        }
+        Ok(table)
+    }
+
+    /// Adds what a line says, if its name is new.
+    fn add_line(&mut self, alloc: Global, line: &[u8]) -> Result<(), TableFault>
+        ensures { GivesPart (λ _. self.new) result (with_line self.old (return_at line.now)) }
+    {
+        let line = match read_line(line) {
+            Ok(Some(line)) => line,
+            Ok(None) => return Ok(()),
+            Err(fault) => return Err(fault),
+        };
+        if self.codes.contains_key(line.name) {
+            return Ok(());
+        }
+        let name = Vec::from_slice(alloc, line.name)?;
+        self.codes.insert(name, line.codes)?;
+        Ok(())
+    }
+
+    /// The codes that the module of exactly that name may return, one at least, if a line has it.
+    pub fn codes(&self, name: &[u8]) -> Option<CodeSet>
+        ensures value { result ≡ codes_for self.now name.now }
+        ensures some { IfSome result (λ codes. codes ≢ []) }
+    {
+        self.codes.get(name).copied()
+    }
+}
