@@ -5,7 +5,7 @@ use Rattle.jiff.specs.Types.{DateTime}
 use Rattle.pam_times.specs.Moments.{Exist, HasParts, parts_of}
 use Rattle.pam_times.specs.declared.moments.MomentError.{MomentError}
 use Rattle.pam_times.specs.declared.moments.MomentError.TheVariants as moments
-use Rattle.pam_report.specs.Answer.{IsWritten}
+use Rattle.pam_report.specs.Moments.{IsWritten}
 
 -- no test is both
 pub not_ok : false ≡ true → ⊥

@@ -1,17 +1,13 @@
--- What an answer is: a text and a status, or the first fault.
+-- The answer to a request: what follows from its inputs, and what it leaves of the writer.
 use Rattle.std.specs.Prelude.{◌≡◌, ℕ, ℤ, List, [], map, IsSome, Option, None, Result, Ok, Err, ◌==◌, if◌then◌else◌, length}
 use Rattle.std.specs.Char.{to_ascii_lowercase}
-use Rattle.pam_codes.specs.Out.{TookAll, TookFront}
 use Rattle.pam_codes.specs.declared.out.Out.{Out}
 use Rattle.pam_conf.specs.Files.{Folder}
 use Rattle.pam_conf.specs.Resolution.{resolved}
 use Rattle.pam_conf.specs.Stack.{Items, module_count}
-use Rattle.pam_conf.specs.declared.error.FaultKind.{FaultKind}
-use Rattle.pam_conf.specs.declared.error.FaultKind.TheVariants as conf
 use Rattle.pam_conf.specs.declared.conf_error.ConfError.{ConfError}
 use Rattle.pam_conf.specs.declared.rule.Kind.{Kind}
 use Rattle.jiff.specs.Types.{DateTime}
-use Rattle.jiff.specs.Words.{read_whole}
 use Rattle.pam_dispatch.specs.Runs.{answers_of}
 use Rattle.pam_dispatch.specs.Tree.{decided}
 use Rattle.pam_tables.specs.Access.{TableText, access_answer, table_of}
@@ -22,22 +18,20 @@ use Rattle.pam_tables.specs.declared.access.AccessAnswer.{AccessAnswer}
 use Rattle.pam_tables.specs.declared.access.AccessAnswer.TheVariants as access
 use Rattle.pam_tables.specs.declared.error.Table.{Table}
 use Rattle.pam_tables.specs.declared.error.Table.TheVariants as tables
-use Rattle.pam_tables.specs.declared.error.TableError.{TableError}
 use Rattle.pam_tables.specs.declared.error.TableFault.{TableFault}
-use Rattle.pam_tables.specs.declared.error.TableFault.TheVariants as reasons
-use Rattle.pam_times.specs.Moments.{Exist, HasParts, IsInstant, Shows, parts_of}
 use Rattle.pam_times.specs.Reading.{rules_of}
 use Rattle.pam_times.specs.Times.{Rule, answer_of as time_answer_of}
 use Rattle.pam_times.specs.declared.moments.MomentError.{MomentError}
-use Rattle.pam_times.specs.declared.moments.MomentError.TheVariants as moments
 use Rattle.pam_times.specs.declared.times.TimeAnswer.{TimeAnswer}
 use Rattle.pam_times.specs.declared.times.TimeAnswer.TheVariants as times
-use Rattle.pam_words.specs.declared.wanted.Moment.{Moment}
-use Rattle.pam_words.specs.declared.wanted.Moment.TheVariants.{Civil, Instant}
 use Rattle.pam_words.specs.declared.wanted.Task.{Task}
-use Rattle.pam_words.specs.declared.wanted.Task.TheVariants.{Show, Decide, Access, Time}
+use Rattle.pam_words.specs.declared.wanted.Task.TheVariants.{Show, Decide, Access, Time, Paths}
 use Rattle.pam_report.specs.Decide.{decide_text}
 use Rattle.pam_report.specs.Inputs.{bytes_given, groups_given}
+use Rattle.pam_report.specs.Leaves.{IsTableFault, Leaves, LeavesSome}
+use Rattle.pam_report.specs.Moments.{IsGivenMoment, IsMoment}
+use Rattle.pam_report.specs.Paths.{IsPage}
+use Rattle.pam_report.specs.Report.{Answer, Report}
 use Rattle.pam_report.specs.Show.{show_text}
 use Rattle.pam_report.specs.Tables.{access_text, time_text}
 use Rattle.pam_report.specs.declared.inputs.Inputs.{Inputs}
@@ -45,18 +39,6 @@ use Rattle.pam_report.specs.declared.fault.Fault.{Fault}
 use Rattle.pam_report.specs.declared.fault.Fault.TheVariants as faults
 use Rattle.pam_report.specs.declared.report.Status.{Status}
 use Rattle.pam_report.specs.declared.report.Status.TheVariants.{Success, Refusal}
-
--- the text that is written, and the status
-pub record Report : Type 0 where
-  pub text : List ℕ
-  pub status : Status
-
-abbrev pub Answer : Type 0
-Answer = Result Report Fault
-
-abbrev pub status_number : Status → ℕ
-status_number Success = 0
-status_number Refusal = 1
 
 -- a success is code 0
 abbrev pub status_of_decision : ℕ → Status
@@ -119,52 +101,11 @@ abbrev pub timed : LoginText → List ℕ → Result DateTime MomentError → An
 timed login bytes (Err e) = Err (faults.Moment e)
 timed login bytes (Ok moment) = with_rules login moment (rules_of bytes)
 
--- the civil time that is written, or why there is none
-abbrev pub IsWritten : List ℕ → Result DateTime MomentError → Type 0
-IsWritten text (Ok moment) = HasParts (parts_of text) moment
-IsWritten text (Err e) = (e ≡ moments.Syntax) × (Exist (parts_of text) → ⊥)
-
--- the civil time that a zone's clock shows at an instant, or why there is none
-abbrev pub IsShownAt : ℤ → List ℕ → Result DateTime MomentError → Type 0
-IsShownAt seconds zone (Ok moment) = Shows seconds zone moment
-IsShownAt seconds zone (Err moments.Range) = IsInstant seconds → ⊥
-IsShownAt seconds zone (Err moments.Rule) = IsInstant seconds × (IsSome (read_whole zone) → ⊥)
-IsShownAt seconds zone (Err moments.Memory) = ⊥
-IsShownAt seconds zone (Err moments.Syntax) = ⊥
-
--- the civil time that the words give
-abbrev pub IsMoment : Moment → Result DateTime MomentError → Type 0
-IsMoment (Civil text) at = IsWritten text.now at
-IsMoment (Instant seconds zone) at = IsShownAt seconds zone.now at
-
 -- ---- the answer to a request
 
 -- a login to a service, which is in lower case
 abbrev pub login_to : List ℕ → List ℕ → List ℕ → List ℕ → LoginText
 login_to service user tty rhost = record { user = user; service = map to_ascii_lowercase service; tty = tty; rhost = rhost }
-
--- a fault is the answer's, unless memory ran out, which has no place
-abbrev pub IsConfFault : ConfError → FaultKind → Answer → Type 0
-IsConfFault error conf.Memory answer = error ≡ record { kind = conf.Memory; at = None; line = 0 }
-IsConfFault error _ answer = answer ≡ Err (faults.Conf error)
-
-abbrev pub IsTableFault : TableError → TableFault → Answer → Type 0
-IsTableFault error reasons.Memory answer = error.line ≡ 0
-IsTableFault error _ answer = answer ≡ Err (faults.Table error)
-
--- what is left of the writer: all of the text where there is an answer, a prefix of it where a write failed, and
--- nothing where there is a fault or no memory
-abbrev pub LeavesFault : {W : Type 0} → (W → Option (List ℕ)) → Out W → Out W → Fault → Answer → Type 0
-LeavesFault contents old new faults.Device answer = (report : Report) × (answer ≡ Ok report) × TookFront contents old new report.text
-LeavesFault contents old new faults.Memory answer = new ≡ old
-LeavesFault contents old new (faults.Conf e) answer = (new ≡ old) × IsConfFault e e.kind answer
-LeavesFault contents old new (faults.Count e) answer = (new ≡ old) × (answer ≡ Err (faults.Count e))
-LeavesFault contents old new (faults.Moment e) answer = (new ≡ old) × (answer ≡ Err (faults.Moment e))
-LeavesFault contents old new (faults.Table e) answer = (new ≡ old) × IsTableFault e e.fault answer
-
-abbrev pub Leaves : {W : Type 0} → (W → Option (List ℕ)) → Out W → Out W → Result Status Fault → Answer → Type 0
-Leaves contents old new (Ok status) answer = (text : List ℕ) × (answer ≡ Ok (record { text = text; status = status })) × TookAll contents old new text
-Leaves contents old new (Err fault) answer = LeavesFault contents old new fault answer
 
 -- THE ANSWER to a task for a service, of these inputs, and what it leaves of the writer
 abbrev pub Answers : {W : Type 0} → (W → Option (List ℕ)) → Out W → Out W → Result Status Fault → List ℕ → Task → Inputs → Type 0
@@ -177,10 +118,15 @@ Answers contents old new result service (Access table groups user rhost tty argu
 Answers contents old new result service (Time table user tty moment) inputs =
     (at : Result DateTime MomentError) × IsMoment moment at
     × Leaves contents old new result (timed (login_to service user.now tty.now []) (bytes_given inputs.time) at)
+Answers contents old new result service (Paths source kind limit part user rhost tty access time groups returns moment) inputs =
+    (at : Option (Result DateTime MomentError)) × IsGivenMoment moment at
+    × LeavesSome contents old new result
+        (IsPage (record { service = service; kind = kind; limit = limit; part = part }) (login_to service user.now tty.now rhost.now) inputs at
+        (resolved inputs.files service kind))
 
 -- what a look-up finds is the answer, or its fault, unless memory ran out
 abbrev pub FindsFault : Fault → Answer → Type 0
-FindsFault (faults.Table e) answer = IsTableFault e e.fault answer
+FindsFault (faults.Table e) answer = IsTableFault (λ given. answer ≡ given) e e.fault
 FindsFault _ answer = ⊥
 
 abbrev pub FindsAccess : Result AccessAnswer Fault → Answer → Type 0

@@ -8,14 +8,16 @@ use Rattle.pam_conf.specs.Files.{Folder}
 use Rattle.pam_conf.specs.declared.conf_error.ConfError.{ConfError}
 use Rattle.pam_conf.specs.declared.error.FaultKind.{FaultKind}
 use Rattle.pam_conf.specs.declared.error.FaultKind.TheVariants as conf
+use Rattle.pam_paths.specs.declared.cursor.CursorError.{CursorError}
+use Rattle.pam_paths.specs.declared.cursor.CursorError.TheVariants as cursor
 use Rattle.pam_report.specs.declared.fault.Fault.{Fault}
-use Rattle.pam_report.specs.declared.fault.Fault.TheVariants.{Conf, Count, Device, Memory}
+use Rattle.pam_report.specs.declared.fault.Fault.TheVariants.{Conf, Count, Cursor, Device, Memory}
 use Rattle.pam_report.specs.declared.fault.Fault.TheVariants as faults
 use Rattle.pam_report.specs.declared.inputs.InputError.{InputError}
 use Rattle.pam_report.specs.declared.inputs.InputError.TheVariants.{Read}
 use Rattle.pam_report.specs.declared.inputs.InputError.TheVariants as inputs
 use Rattle.pam_tables.specs.declared.error.Table.{Table}
-use Rattle.pam_tables.specs.declared.error.Table.TheVariants.{Access, Time, Group}
+use Rattle.pam_tables.specs.declared.error.Table.TheVariants.{Access, Time, Group, Returns}
 use Rattle.pam_tables.specs.declared.error.TableFault.{TableFault}
 use Rattle.pam_tables.specs.declared.error.TableFault.TheVariants as table
 use Rattle.pam_times.specs.declared.moments.MomentError.{MomentError}
@@ -68,11 +70,14 @@ table_fault_name table.BadGroup = codes "TE9 BadGroup"
 table_fault_name table.NulByte = codes "TE10 NulByte"
 table_fault_name table.Memory = codes "TE11 Memory"
 table_fault_name table.TableTooLong = codes "TE12 TableTooLong"
+table_fault_name table.BadCode = codes "TE13 BadCode"
+table_fault_name table.BadModule = codes "TE14 BadModule"
 
 abbrev pub table_name : Table → List ℕ
 table_name Access = codes "access"
 table_name Time = codes "time"
 table_name Group = codes "group"
+table_name Returns = codes "returns"
 
 abbrev pub memory_line : List ℕ
 memory_line = codes "pamcheck: E17 Memory\n"
@@ -94,12 +99,20 @@ moment_fault_name Rule = codes "M2 Rule"
 moment_fault_name moment.Memory = codes "M3 Memory"
 moment_fault_name Syntax = codes "M4 Syntax"
 
+-- ` step N` after the name of C2: the place of a code, counted from 1
+abbrev pub cursor_line : CursorError → List ℕ
+cursor_line cursor.Syntax = codes "pamcheck: C1 Syntax\n"
+cursor_line (cursor.NotLeast step) = concat (codes "pamcheck: C2 NotLeast step " ∷ decimal step ∷ codes "\n" ∷ [])
+cursor_line cursor.TooShort = codes "pamcheck: C3 TooShort\n"
+cursor_line cursor.TooLong = codes "pamcheck: C4 TooLong\n"
+
 -- THE LINE of a fault
 unfoldable pub fault_line : Folder → Fault → List ℕ
 fault_line files (Conf e) = conf_line files e e.kind
 fault_line files (Count e) = concat (codes "pamcheck: DE1 WrongCount want " ∷ decimal e.modules ∷ codes "\n" ∷ [])
 fault_line files (faults.Table e) = table_line e.table e.fault e.line
 fault_line files (faults.Moment e) = concat (codes "pamcheck: " ∷ moment_fault_name e ∷ codes "\n" ∷ [])
+fault_line files (Cursor e) = cursor_line e
 fault_line files Device = codes "pamcheck: V2 Write\n"
 fault_line files Memory = memory_line
 
@@ -126,6 +139,7 @@ status_of_fault (Conf e) = conf_status e.kind
 status_of_fault (faults.Table e) = table_status e.fault
 status_of_fault (faults.Moment e) = moment_status e
 status_of_fault (Count e) = 2
+status_of_fault (Cursor e) = 2
 status_of_fault Device = 5
 status_of_fault Memory = 6
 

@@ -3,6 +3,11 @@ pub mod Decide
 pub mod Fault
 pub mod Header
 pub mod Inputs
+pub mod Leaves
+pub mod Moments
+pub mod PageView
+pub mod Paths
+pub mod Report
 pub mod Show
 pub mod Tables
 pub mod WordText

@@ -3,12 +3,13 @@
 ghost use Rattle.std.specs.Prelude.{◌≡◌, ◌++◌, IfOk, OnOk};
 ghost use Rattle.std.specs.Option.{option_map};
 ghost use Rattle.pam_codes.specs.Line.{line_text, piece_text};
-ghost use Rattle.pam_report.specs.Fault.{conf_fault, control_fault, fault_line, file_at, input_line, memory_line, moment_fault_name, table_fault_name, table_line, table_name, status_of_fault, status_of_input};
+ghost use Rattle.pam_report.specs.Fault.{conf_fault, control_fault, cursor_line, fault_line, file_at, input_line, memory_line, moment_fault_name, table_fault_name, table_line, table_name, status_of_fault, status_of_input};
 
 use crate::inputs::InputError;
 use pam_codes::{ControlError, Piece};
 use pam_conf::{ConfError, FaultKind, Files};
 use pam_dispatch::WrongCount;
+use pam_paths::CursorError;
 use pam_tables::{Table, TableError, TableFault};
 use pam_times::MomentError;
 use std::alloc::{AllocError, Global};
@@ -16,6 +17,9 @@ use thiserror::Error;
 
 /// The status of codes that are not one for each module.
 const WRONG_COUNT: u8 = 2;
+
+/// The status of a cursor that no path of the stack has.
+const BAD_CURSOR: u8 = 2;
 
 /// The status of a fault of the configuration.
 const BAD_CONFIGURATION: u8 = 3;
@@ -47,6 +51,9 @@ pub enum Fault {
     /// Not one code for each module.
     #[error(transparent)]
     Count(WrongCount),
+    /// No path of the stack has the cursor.
+    #[error(transparent)]
+    Cursor(CursorError),
     /// A write failed.
     #[error("standard output took no more")]
     Device,
@@ -136,6 +143,8 @@ fn table_fault_name(fault: TableFault) -> &'static str
         TableFault::NulByte => "TE10 NulByte",
         TableFault::Memory => "TE11 Memory",
         TableFault::TableTooLong => "TE12 TableTooLong",
+        TableFault::BadCode => "TE13 BadCode",
+        TableFault::BadModule => "TE14 BadModule",
     }
 }
 
@@ -146,6 +155,7 @@ fn table_name(table: Table) -> &'static str
         Table::Access => "access",
         Table::Time => "time",
         Table::Group => "group",
+        Table::Returns => "returns",
     }
 }
 
@@ -180,6 +190,24 @@ fn table_fault_text(alloc: Global, error: &TableError) -> Result<Vec<u8>, AllocE
     )
 }
 
+fn cursor_fault_text(alloc: Global, error: CursorError) -> Result<Vec<u8>, AllocError>
+    ensures { IfOk result (λ text. text.items ≡ cursor_line error) }
+{
+    match error {
+        CursorError::Syntax => joined(alloc, &[Piece::Bytes(b"pamcheck: C1 Syntax\n")]),
+        CursorError::NotLeast(step) => joined(
+            alloc,
+            &[
+                Piece::Bytes(b"pamcheck: C2 NotLeast step "),
+                Piece::Number(step as u64),
+                Piece::Bytes(b"\n"),
+            ],
+        ),
+        CursorError::TooShort => joined(alloc, &[Piece::Bytes(b"pamcheck: C3 TooShort\n")]),
+        CursorError::TooLong => joined(alloc, &[Piece::Bytes(b"pamcheck: C4 TooLong\n")]),
+    }
+}
+
 /// The line `pamcheck: NUMBER NAME` of a fault, with its place where it has one. A position that the files do not
 /// have gives no place, and want of memory never has one.
 #[tactic(auto, unfolding(crate::specs::Fault::fault_line))]
@@ -205,6 +233,7 @@ pub fn fault_text(alloc: Global, fault: &Fault, files: &Files) -> Result<Vec<u8>
                 Piece::Bytes(b"\n"),
             ],
         ),
+        Fault::Cursor(error) => cursor_fault_text(alloc, *error),
         Fault::Device => joined(alloc, &[Piece::Bytes(b"pamcheck: V2 Write\n")]),
         Fault::Memory => memory_text(alloc),
     }
@@ -270,6 +299,7 @@ pub fn fault_status(fault: &Fault) -> u8
             _ => BAD_MOMENT,
         },
         Fault::Count(_) => WRONG_COUNT,
+        Fault::Cursor(_) => BAD_CURSOR,
         Fault::Device => FAILED,
         Fault::Memory => NO_MEMORY,
     }

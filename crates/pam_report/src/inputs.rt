@@ -1,9 +1,12 @@
 //! The files that a request names, read into memory.
 
-ghost use Rattle.std.specs.Prelude.{◌≡◌};
-ghost use Rattle.pam_report.specs.Inputs.{bytes_given};
+ghost use Rattle.std.specs.Prelude.{◌≡◌, option_map};
+ghost use Rattle.pam_report.specs.Inputs.{bytes_given, tables_given, tables_named};
+ghost use Rattle.pam_known.specs.Tables.{tables_view};
 
+use jiff::civil::DateTime;
 use pam_conf::{Files, Form};
+use pam_known::{Tables, TimedTable};
 use pam_words::{Request, Source, Task};
 use std::alloc::{AllocError, AllocFailed, Global};
 use std::io::{Error, ErrorKind, Read};
@@ -148,24 +151,68 @@ pub struct Inputs {
     pub groups: Option<Vec<u8>>,
     pub access: Option<Vec<u8>>,
     pub time: Option<Vec<u8>>,
+    pub returns: Option<Vec<u8>>,
+}
+
+const NO_TABLES: TableSet = TableSet {
+    groups: false,
+    access: false,
+    time: false,
+    returns: false,
+};
+
+/// Which tables a request names.
+#[derive(Clone, Copy)]
+struct TableSet {
+    groups: bool,
+    access: bool,
+    time: bool,
+    returns: bool,
 }
 
 impl Inputs {
-    ghost use Rattle.std.specs.Prelude.{◌≡◌, is_some};
+    ghost use Rattle.std.specs.Prelude.{◌≡◌};
     ghost use Rattle.pam_report.specs.Inputs.{fits_task};
 
     /// Whether these are the bytes of exactly the tables that a request names.
     pub fn fits(&self, request: &Request<'_>) -> bool
-        ensures { result ≡ fits_task request.now.task (is_some self.now.groups) (is_some self.now.access) (is_some self.now.time) }
+        ensures { result ≡ fits_task request.now.task self.now }
     {
-        let (groups, access, time) = match &request.task {
-            Task::Show { .. } | Task::Decide { .. } => (false, false, false),
-            Task::Access { groups, .. } => (groups.is_some(), true, false),
-            Task::Time { .. } => (false, false, true),
-        };
-        self.groups.is_some() == groups
-            && self.access.is_some() == access
-            && self.time.is_some() == time
+        let named = tables_named(&request.task);
+        self.groups.is_some() == named.groups
+            && self.access.is_some() == named.access
+            && self.time.is_some() == named.time
+            && self.returns.is_some() == named.returns
+    }
+}
+
+fn tables_named(task: &Task<'_>) -> TableSet
+    ensures { result ≡ tables_named task.now }
+{
+    match task {
+        Task::Show { .. } => NO_TABLES,
+        Task::Decide { .. } => NO_TABLES,
+        Task::Access { groups, .. } => TableSet {
+            groups: groups.is_some(),
+            access: true,
+            ..NO_TABLES
+        },
+        Task::Time { .. } => TableSet {
+            time: true,
+            ..NO_TABLES
+        },
+        Task::Paths {
+            access,
+            time,
+            groups,
+            returns,
+            ..
+        } => TableSet {
+            groups: groups.is_some(),
+            access: access.is_some(),
+            time: time.is_some(),
+            returns: returns.is_some(),
+        },
     }
 }
 
@@ -179,6 +226,35 @@ pub(crate) fn bytes_given(bytes: &Option<Vec<u8>>) -> &[u8]
     }
 }
 
+fn slice_given(bytes: &Option<Vec<u8>>) -> Option<&[u8]>
+    ensures { option_map (λ b. b.now) result ≡ option_map (λ b. b.items) bytes.now }
+{
+    match bytes {
+        Some(bytes) => Some(bytes.as_slice()),
+        None => None,
+    }
+}
+
+/// The tables that tell what modules answer at a moment.
+pub(crate) fn tables_given(inputs: &Inputs, moment: Option<DateTime>) -> Tables<'_>
+    ensures { tables_view result ≡ tables_given inputs.now moment }
+{
+    let time = match (&inputs.time, moment) {
+        (Some(bytes), Some(moment)) => Some(TimedTable {
+            bytes: bytes.as_slice(),
+            moment,
+        }),
+        (Some(_bytes), None) => None,
+        (None, _moment) => None,
+    };
+    Tables {
+        groups: slice_given(&inputs.groups),
+        access: slice_given(&inputs.access),
+        time,
+        returns: slice_given(&inputs.returns),
+    }
+}
+
 /// Inputs without tables.
 fn without_tables(files: Files) -> Inputs {
     Inputs {
@@ -186,6 +262,7 @@ fn without_tables(files: Files) -> Inputs {
         groups: None,
         access: None,
         time: None,
+        returns: None,
     }
 }
 
@@ -214,7 +291,42 @@ fn time_inputs<R: std::rt::Files>(
     Ok(inputs)
 }
 
-/// Reads what a request names: the source first, then the group, access and time tables.
+/// A file that the words may name.
+fn optional_file<R: std::rt::Files>(
+    rt: &R,
+    alloc: Global,
+    name: Option<&str>,
+) -> Result<Option<Vec<u8>>, InputError> {
+    match name {
+        Some(name) => Ok(Some(named_file(rt, alloc, name)?)),
+        None => Ok(None),
+    }
+}
+
+/// The names of the tables of `paths`.
+#[derive(Clone, Copy)]
+struct TableNames<'a> {
+    groups: Option<&'a str>,
+    access: Option<&'a str>,
+    time: Option<&'a str>,
+    returns: Option<&'a str>,
+}
+
+fn paths_inputs<R: std::rt::Files + AllocGlobal + Clone + Drop>(
+    rt: &R,
+    alloc: Global,
+    source: Source<'_>,
+    names: TableNames<'_>,
+) -> Result<Inputs, InputError> {
+    let mut inputs = without_tables(source_files(rt, alloc, source)?);
+    inputs.groups = optional_file(rt, alloc, names.groups)?;
+    inputs.access = optional_file(rt, alloc, names.access)?;
+    inputs.time = optional_file(rt, alloc, names.time)?;
+    inputs.returns = optional_file(rt, alloc, names.returns)?;
+    Ok(inputs)
+}
+
+/// Reads what a request names: the source first, then the group, access, time and returns files.
 pub(crate) fn inputs_of<R: std::rt::Files + AllocGlobal + Clone + Drop>(
     rt: &R,
     alloc: Global,
@@ -226,5 +338,21 @@ pub(crate) fn inputs_of<R: std::rt::Files + AllocGlobal + Clone + Drop>(
         }
         Task::Access { table, groups, .. } => access_inputs(rt, alloc, table, *groups),
         Task::Time { table, .. } => time_inputs(rt, alloc, table),
+        Task::Paths {
+            source,
+            access,
+            time,
+            groups,
+            returns,
+            ..
+        } => {
+            let names = TableNames {
+                groups: *groups,
+                access: *access,
+                time: *time,
+                returns: *returns,
+            };
+            paths_inputs(rt, alloc, *source, names)
+        }
     }
 }

@@ -1,11 +1,13 @@
 //! Answers: computed first, which finds all faults, and written then, which takes no memory.
 
 ghost use Rattle.std.specs.Prelude.{◌≡◌, ◌-◌, ◌<◌, ◌^◌};
-ghost use Rattle.pam_report.specs.Answer.{Answers, status_number};
+ghost use Rattle.pam_report.specs.Answer.{Answers};
+ghost use Rattle.pam_report.specs.Report.{status_number};
 
 mod access;
 mod decide;
 mod header;
+mod paths;
 mod show;
 mod time;
 mod word;
@@ -16,10 +18,11 @@ use access::{Person, answer_access};
 use decide::answer_decide;
 use pam_codes::Out;
 use pam_words::{Request, Task};
+use paths::{PageRequest, answer_paths};
 use show::answer_show;
 use std::alloc::Global;
 use std::io::Write;
-use time::{answer_time, moment_of};
+use time::{answer_time, given_moment, moment_of};
 
 /// How an answer turned out.
 #[derive(Clone, Copy, Debug, PartialEq, Eq)]
@@ -77,6 +80,26 @@ pub fn answer<W: Write>(
         } => {
             let moment = moment_of(*moment);
             answer_time(alloc, service, user, tty, moment, inputs, out)
+        }
+        Task::Paths {
+            kind,
+            limit,
+            part,
+            user,
+            rhost,
+            tty,
+            moment,
+            ..
+        } => {
+            let request = PageRequest {
+                service,
+                kind: *kind,
+                limit: *limit,
+                part: *part,
+            };
+            let person = Person { user, tty, rhost };
+            let moment = given_moment(*moment);
+            answer_paths(alloc, request, person, moment, inputs, out)
         }
     }
 }

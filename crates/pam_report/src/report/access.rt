@@ -5,7 +5,8 @@ ghost use Rattle.std.specs.Char.{to_ascii_lowercase};
 ghost use Rattle.pam_codes.specs.Out.{Writes};
 ghost use Rattle.pam_tables.specs.Error.{Gives};
 ghost use Rattle.pam_tables.specs.Login.{login_view};
-ghost use Rattle.pam_report.specs.Answer.{FindsAccess, Leaves, access_status, login_to, looked_up};
+ghost use Rattle.pam_report.specs.Answer.{FindsAccess, access_status, login_to, looked_up};
+ghost use Rattle.pam_report.specs.Leaves.{Leaves};
 ghost use Rattle.pam_report.specs.Inputs.{groups_given};
 ghost use Rattle.pam_report.specs.Tables.{access_text, denied_text};
 

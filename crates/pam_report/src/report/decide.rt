@@ -6,7 +6,8 @@ ghost use Rattle.pam_conf.specs.Resolution.{resolved};
 ghost use Rattle.pam_dispatch.specs.Flat.{modules_of, runs_of};
 ghost use Rattle.pam_dispatch.specs.Runs.{answers_of, asked_by};
 ghost use Rattle.pam_dispatch.specs.Tree.{decided, runs_of_stack};
-ghost use Rattle.pam_report.specs.Answer.{Leaves, decided_by, status_of_decision, with_stack};
+ghost use Rattle.pam_report.specs.Answer.{decided_by, status_of_decision, with_stack};
+ghost use Rattle.pam_report.specs.Leaves.{Leaves};
 ghost use Rattle.pam_report.specs.Decide.{action_text, code_text, decide_text, decision_text, impression_name, outcome_text, path_at, path_text, state_text, trace_text};
 ghost use Rattle.pam_report.specs.Header.{code_name};
 

@@ -4,7 +4,9 @@ ghost use Rattle.std.specs.Prelude.{◌≡◌, ◌-◌, ◌<◌, ◌^◌, Ok, Re
 ghost use Rattle.jiff.specs.Types.{DateTime as CivilTime};
 ghost use Rattle.pam_codes.specs.Out.{Writes};
 ghost use Rattle.pam_tables.specs.Login.{login_view};
-ghost use Rattle.pam_report.specs.Answer.{FindsTime, IsMoment, Leaves, login_to, time_status, timed, with_rules};
+ghost use Rattle.pam_report.specs.Answer.{FindsTime, login_to, time_status, timed, with_rules};
+ghost use Rattle.pam_report.specs.Leaves.{Leaves};
+ghost use Rattle.pam_report.specs.Moments.{IsGivenMoment, IsMoment};
 ghost use Rattle.pam_report.specs.Inputs.{bytes_given};
 ghost use Rattle.pam_report.specs.Tables.{time_text};
 ghost use Rattle.pam_times.specs.Reading.{rules_of};
@@ -48,6 +50,16 @@ pub(super) fn moment_of(wanted: Moment<'_>) -> Result<DateTime, MomentError>
     match wanted {
         Moment::Civil(text) => civil(text.as_bytes()),
         Moment::Instant { seconds, zone } => moment(seconds, zone),
+    }
+}
+
+/// That of a moment which may be given.
+pub(super) fn given_moment(moment: Option<Moment<'_>>) -> Option<Result<DateTime, MomentError>>
+    ensures { IsGivenMoment moment.entry result }
+{
+    match moment {
+        Some(moment) => Some(moment_of(moment)),
+        None => None,
     }
 }
 

@@ -1,0 +1,44 @@
+-- What a call that answers leaves of the writer.
+use Rattle.std.specs.Prelude.{◌≡◌, ℕ, List, Option, None, Result, Ok, Err}
+use Rattle.pam_codes.specs.Out.{TookAll, TookFront}
+use Rattle.pam_codes.specs.declared.out.Out.{Out}
+use Rattle.pam_conf.specs.declared.error.FaultKind.{FaultKind}
+use Rattle.pam_conf.specs.declared.error.FaultKind.TheVariants as conf
+use Rattle.pam_conf.specs.declared.conf_error.ConfError.{ConfError}
+use Rattle.pam_tables.specs.declared.error.TableError.{TableError}
+use Rattle.pam_tables.specs.declared.error.TableFault.{TableFault}
+use Rattle.pam_tables.specs.declared.error.TableFault.TheVariants as reasons
+use Rattle.pam_report.specs.Report.{Answer, Report}
+use Rattle.pam_report.specs.declared.fault.Fault.{Fault}
+use Rattle.pam_report.specs.declared.fault.Fault.TheVariants as faults
+use Rattle.pam_report.specs.declared.report.Status.{Status}
+
+-- a fault is the answer's, unless memory ran out, which has no place
+abbrev pub IsConfFault : (Answer → Type 0) → ConfError → FaultKind → Type 0
+IsConfFault IsAnswer error conf.Memory = error ≡ record { kind = conf.Memory; at = None; line = 0 }
+IsConfFault IsAnswer error _ = IsAnswer (Err (faults.Conf error))
+
+abbrev pub IsTableFault : (Answer → Type 0) → TableError → TableFault → Type 0
+IsTableFault IsAnswer error reasons.Memory = error.line ≡ 0
+IsTableFault IsAnswer error _ = IsAnswer (Err (faults.Table error))
+
+-- what is left of the writer: all of the text where there is an answer, a prefix of it where a write failed, and
+-- nothing where there is a fault or no memory
+module _ {W : Type 0} (contents : W → Option (List ℕ)) (old new : Out W) where
+  abbrev pub LeavesFault : (Answer → Type 0) → Fault → Type 0
+  LeavesFault IsAnswer faults.Device = (report : Report) × IsAnswer (Ok report) × TookFront contents old new report.text
+  LeavesFault IsAnswer faults.Memory = new ≡ old
+  LeavesFault IsAnswer (faults.Conf e) = (new ≡ old) × IsConfFault IsAnswer e e.kind
+  LeavesFault IsAnswer (faults.Count e) = (new ≡ old) × IsAnswer (Err (faults.Count e))
+  LeavesFault IsAnswer (faults.Moment e) = (new ≡ old) × IsAnswer (Err (faults.Moment e))
+  LeavesFault IsAnswer (faults.Cursor e) = (new ≡ old) × IsAnswer (Err (faults.Cursor e))
+  LeavesFault IsAnswer (faults.Table e) = (new ≡ old) × IsTableFault IsAnswer e e.fault
+
+  -- after a call that answers what the relation says
+  abbrev pub LeavesSome : Result Status Fault → (Answer → Type 0) → Type 0
+  LeavesSome (Ok status) IsAnswer = (text : List ℕ) × IsAnswer (Ok (record { text = text; status = status })) × TookAll contents old new text
+  LeavesSome (Err fault) IsAnswer = LeavesFault IsAnswer fault
+
+  -- after a call that answers this
+  abbrev pub Leaves : Result Status Fault → Answer → Type 0
+  Leaves result answer = LeavesSome result (λ given. answer ≡ given)

@@ -1,0 +1,87 @@
+-- What `paths` answers: a page of the paths through a stack (pam.conf(5), DESCRIPTION) that allowed answers can follow.
+use Rattle.std.specs.Prelude.{◌≡◌, ◌≢◌, ℕ, List, ◌++◌, codes, Option, None, Some, Result, Ok, Err}
+use Rattle.jiff.specs.Types.{DateTime}
+use Rattle.pam_conf.specs.Stack.{Items, module_count}
+use Rattle.pam_conf.specs.declared.conf_error.ConfError.{ConfError}
+use Rattle.pam_conf.specs.declared.rule.Kind.{Kind}
+use Rattle.pam_dispatch.specs.Runs.{Assignment}
+use Rattle.pam_known.specs.Knowledge.{allows_codes, knowledge}
+use Rattle.pam_page.specs.Page.{first_page, page_text}
+use Rattle.pam_paths.specs.Cursor.{IsAccepted, IsRefusal}
+use Rattle.pam_paths.specs.CursorText.{IsCursor, cursor_text}
+use Rattle.pam_paths.specs.Listing.{Allowance, IsListing, IsListingAfter, IsListingBefore}
+use Rattle.pam_paths.specs.Paths.{PathValue, path_through}
+use Rattle.pam_paths.specs.declared.cursor.CursorError.{CursorError}
+use Rattle.pam_paths.specs.declared.cursor.CursorError.TheVariants.{Syntax, NotLeast, TooShort, TooLong}
+use Rattle.pam_tables.specs.Login.{LoginText}
+use Rattle.pam_tables.specs.declared.error.TableError.{TableError}
+use Rattle.pam_times.specs.declared.moments.MomentError.{MomentError}
+use Rattle.pam_words.specs.declared.wanted.Part.{Part}
+use Rattle.pam_words.specs.declared.wanted.Part.TheVariants.{Whole, After, Before}
+use Rattle.pam_report.specs.Header.{header_text}
+use Rattle.pam_report.specs.Inputs.{tables_given}
+use Rattle.pam_report.specs.Report.{Answer, Report}
+use Rattle.pam_report.specs.declared.fault.Fault.TheVariants as faults
+use Rattle.pam_report.specs.declared.inputs.Inputs.{Inputs}
+use Rattle.pam_report.specs.declared.report.Status.TheVariants.{Success}
+
+-- the paths after a text, or before it: it is the cursor of some path, or there is a reason why it is none
+abbrev pub IsTaken : (List ℕ → List PathValue → Type 0) → Items → List ℕ → Result (List PathValue) CursorError → Type 0
+IsTaken IsRest items text (Err Syntax) = (cursor : List ℕ) → IsCursor cursor → cursor_text cursor ≢ text
+IsTaken IsRest items text (Err e) =
+    (cursor : List ℕ) × IsCursor cursor × (cursor_text cursor ≡ text) × IsRefusal (module_count items) (path_through items) cursor e
+IsTaken IsRest items text (Ok paths) =
+    (cursor : List ℕ) × IsCursor cursor × (cursor_text cursor ≡ text) × IsAccepted (module_count items) (path_through items) cursor × IsRest cursor paths
+
+-- the part of the listing of a stack, where this is known of the answers, or why its cursor is refused
+abbrev pub IsPart : Allowance → Items → Part → Result (List PathValue) CursorError → Type 0
+IsPart allows items Whole (Ok paths) = IsListing allows (module_count items) (path_through items) paths
+IsPart allows items Whole (Err e) = ⊥
+IsPart allows items (After text) given = IsTaken (IsListingAfter allows (module_count items) (path_through items)) items text.now given
+IsPart allows items (Before text) given = IsTaken (IsListingBefore allows (module_count items) (path_through items)) items text.now given
+
+-- where the next page lies, seen from the last cursor of this one
+abbrev pub side_of : Part → List ℕ
+side_of Whole = codes "after"
+side_of (After text) = codes "after"
+side_of (Before text) = codes "before"
+
+-- a page that is asked for
+pub record PageRequest : Type 0 where
+  pub service : List ℕ
+  pub kind : Kind
+  pub limit : ℕ
+  pub part : Part
+
+-- the page, with its header, or why its cursor is refused
+abbrev pub paged : PageRequest → ℕ → Result (List PathValue) CursorError → Answer
+paged request modules (Err e) = Err (faults.Cursor e)
+paged request modules (Ok paths) = Ok (record {
+  text = header_text request.service request.kind modules ++ page_text (side_of request.part) (first_page request.limit paths);
+  status = Success;
+})
+
+-- ---- the order of faults: the configuration, the moment, the tables, the cursor
+
+-- the answer where this is known of the answers of modules
+abbrev pub IsPageOf : PageRequest → Items → Allowance → Answer → Type 0
+IsPageOf request items allows answer =
+    (given : Result (List PathValue) CursorError) × IsPart allows items request.part given × (answer ≡ paged request (module_count items) given)
+
+abbrev pub IsKnownPage : PageRequest → Items → Result (ℕ → List ℕ) TableError → Answer → Type 0
+IsKnownPage request items (Err e) answer = answer ≡ Err (faults.Table e)
+IsKnownPage request items (Ok allowed) answer = IsPageOf request items (allows_codes allowed) answer
+
+abbrev pub IsPageAt : PageRequest → LoginText → Inputs → Items → Option DateTime → Answer → Type 0
+IsPageAt request login inputs items moment answer = IsKnownPage request items (knowledge request.kind login (tables_given inputs moment) items) answer
+
+-- a moment that is given is judged also where no table needs it
+abbrev pub IsStackPage : PageRequest → LoginText → Inputs → Items → Option (Result DateTime MomentError) → Answer → Type 0
+IsStackPage request login inputs items None answer = IsPageAt request login inputs items None answer
+IsStackPage request login inputs items (Some (Ok moment)) answer = IsPageAt request login inputs items (Some moment) answer
+IsStackPage request login inputs items (Some (Err e)) answer = answer ≡ Err (faults.Moment e)
+
+-- THE ANSWER to `paths`
+abbrev pub IsPage : PageRequest → LoginText → Inputs → Option (Result DateTime MomentError) → Result Items ConfError → Answer → Type 0
+IsPage request login inputs moment (Err e) answer = answer ≡ Err (faults.Conf e)
+IsPage request login inputs moment (Ok items) answer = IsStackPage request login inputs items moment answer

@@ -1,0 +1,217 @@
+//! What `paths` prints: a page of the paths through a stack.
+
+ghost use Rattle.std.specs.Prelude.{◌≡◌, ◌-◌, ◌<◌, ◌^◌, ◌++◌, IfOk, MatchResult, Err, Ok, codes};
+ghost use Rattle.jiff.specs.Types.{DateTime as CivilTime};
+ghost use Rattle.pam_codes.specs.Out.{Writes};
+ghost use Rattle.pam_conf.specs.Resolution.{resolved};
+ghost use Rattle.pam_conf.specs.Stack.{Items, module_count};
+ghost use Rattle.pam_dispatch.specs.Flat.{modules_of, runs_of};
+ghost use Rattle.pam_dispatch.specs.Tree.{runs_of_stack};
+ghost use Rattle.pam_page.specs.Coming.{coming, side};
+ghost use Rattle.pam_page.specs.Page.{first_page, page_text};
+ghost use Rattle.pam_paths.specs.Known.{may_answer};
+ghost use Rattle.pam_paths.specs.Listing.{IsListingAfter, IsListingBefore};
+ghost use Rattle.pam_paths.specs.Paths.{path_through};
+ghost use Rattle.pam_report.specs.Answer.{login_to};
+ghost use Rattle.pam_report.specs.Header.{header_text};
+ghost use Rattle.pam_report.specs.Leaves.{LeavesSome};
+ghost use Rattle.pam_report.specs.PageView.{page_view};
+ghost use Rattle.pam_report.specs.Paths.{IsPage, IsPageAt, IsPageOf, IsPart, IsStackPage, IsTaken, side_of};
+ghost use Rattle.pam_tables.specs.Login.{login_view};
+
+use super::Status;
+use super::access::{Person, lowered};
+use super::header::put_header;
+use crate::fault::Fault;
+use crate::inputs::{Inputs, tables_given};
+use jiff::civil::DateTime;
+use pam_codes::{Device, Out};
+use pam_conf::{Kind, Stack, resolve};
+use pam_dispatch::Program;
+use pam_known::known_answers;
+use pam_page::{Listing, put_page};
+use pam_paths::{Cursor, CursorError, Explorer, Known};
+use pam_tables::Login;
+use pam_times::MomentError;
+use pam_words::Part;
+use std::alloc::Global;
+use std::io::Write;
+
+/// The page that is asked for.
+#[derive(Clone, Copy)]
+pub(super) struct PageRequest<'a> {
+    pub service: &'a str,
+    pub kind: Kind,
+    pub limit: u32,
+    pub part: Part<'a>,
+}
+
+/// The paths after a cursor.
+fn paths_after<'a>(
+    program: &'a Program,
+    known: &'a Known,
+    text: &str,
+) -> Result<Listing<'a, Known>, CursorError>
+    ensures part { (items : Items) → runs_of program.now ≡ runs_of_stack items → modules_of program.now ≡ module_count items
+        → MatchResult result (λ l. IsTaken (IsListingAfter (may_answer known.now) (module_count items) (path_through items)) items text.now (Ok (coming l)))
+            (λ e. IsTaken (IsListingAfter (may_answer known.now) (module_count items) (path_through items)) items text.now (Err e)) }
+    ensures side { IfOk result (λ l. side l ≡ codes "after") }
+{
+    let cursor = match Cursor::read(text.as_bytes()) {
+        Ok(cursor) => cursor,
+        Err(error) => return Err(error),
+    };
+    match Explorer::after(program, known, &cursor) {
+        Ok(explorer) => Ok(Listing::Forward(explorer)),
+        Err(error) => Err(error),
+    }
+}
+
+/// The paths before a cursor, the last one first.
+fn paths_before<'a>(
+    program: &'a Program,
+    known: &'a Known,
+    text: &str,
+) -> Result<Listing<'a, Known>, CursorError>
+    ensures part { (items : Items) → runs_of program.now ≡ runs_of_stack items → modules_of program.now ≡ module_count items
+        → MatchResult result (λ l. IsTaken (IsListingBefore (may_answer known.now) (module_count items) (path_through items)) items text.now (Ok (coming l)))
+            (λ e. IsTaken (IsListingBefore (may_answer known.now) (module_count items) (path_through items)) items text.now (Err e)) }
+    ensures side { IfOk result (λ l. side l ≡ codes "before") }
+{
+    let cursor = match Cursor::read(text.as_bytes()) {
+        Ok(cursor) => cursor,
+        Err(error) => return Err(error),
+    };
+    match Explorer::before(program, known, &cursor) {
+        Ok(before) => Ok(Listing::Backward(before)),
+        Err(error) => Err(error),
+    }
+}
+
+/// The part of the listing that a page is taken from.
+fn listing_of<'a>(
+    program: &'a Program,
+    known: &'a Known,
+    part: Part<'_>,
+) -> Result<Listing<'a, Known>, CursorError>
+    ensures part { (items : Items) → runs_of program.now ≡ runs_of_stack items → modules_of program.now ≡ module_count items
+        → MatchResult result (λ l. IsPart (may_answer known.now) items part.entry (Ok (coming l))) (λ e. IsPart (may_answer known.now) items part.entry (Err e)) }
+    ensures side { IfOk result (λ l. side l ≡ side_of part.entry) }
+{
+    match part {
+        Part::Whole => Ok(Listing::Forward(Explorer::start(program, known))),
+        Part::After(text) => paths_after(program, known, text),
+        Part::Before(text) => paths_before(program, known, text),
+    }
+}
+
+fn write_page<W: Write>(
+    request: &PageRequest<'_>,
+    modules: usize,
+    listing: &mut Listing<'_, Known>,
+    out: &mut Out<W>,
+) -> Result<(), Device>
+    requires { out.old.failures < 2 ^ 64 - 1 }
+    ensures { Writes W.contents out.old out.new result
+        (header_text request.now.service.now request.now.kind modules ++ page_text (side listing.old) (first_page request.now.limit (coming listing.old))) }
+{
+    put_header(request.service, request.kind, modules, out)?;
+    put_page(listing, request.limit, out)?;
+    out.finish()
+}
+
+/// Answers `paths` where this is known of the answers of the modules of a stack.
+fn answer_known<W: Write>(
+    alloc: Global,
+    request: &PageRequest<'_>,
+    stack: &Stack,
+    known: &Known,
+    out: &mut Out<W>,
+) -> Result<Status, Fault>
+    requires { out.old.failures < 2 ^ 64 - 1 }
+    ensures { LeavesSome W.contents out.old out.new result (IsPageOf (page_view request.now) stack.now (may_answer known.now)) }
+{
+    let program = match Program::of(alloc, stack) {
+        Ok(program) => program,
+        Err(_) => return Err(Fault::Memory),
+    };
+    let mut listing = match listing_of(&program, known, request.part) {
+        Ok(listing) => listing,
+        Err(error) => return Err(Fault::Cursor(error)),
+    };
+    match write_page(request, stack.modules(), &mut listing, out) {
+        Ok(()) => Ok(Status::Success),
+        Err(Device) => Err(Fault::Device),
+    }
+}
+
+/// Answers `paths` of a stack, at a moment.
+fn answer_at<W: Write>(
+    alloc: Global,
+    request: &PageRequest<'_>,
+    login: &Login<'_>,
+    inputs: &Inputs,
+    stack: &Stack,
+    moment: Option<DateTime>,
+    out: &mut Out<W>,
+) -> Result<Status, Fault>
+    requires { out.old.failures < 2 ^ 64 - 1 }
+    ensures { LeavesSome W.contents out.old out.new result (IsPageAt (page_view request.now) (login_view login.now) inputs.now stack.now moment) }
+{
+    let tables = tables_given(inputs, moment);
+    match known_answers(alloc, stack, request.kind, login, &tables) {
+        Ok(known) => answer_known(alloc, request, stack, &known, out),
+        Err(error) => Err(Fault::Table(error)),
+    }
+}
+
+/// Answers `paths` of a stack.
+fn answer_stack<W: Write>(
+    alloc: Global,
+    request: &PageRequest<'_>,
+    login: &Login<'_>,
+    inputs: &Inputs,
+    stack: &Stack,
+    moment: Option<Result<DateTime, MomentError>>,
+    out: &mut Out<W>,
+) -> Result<Status, Fault>
+    requires { out.old.failures < 2 ^ 64 - 1 }
+    ensures { LeavesSome W.contents out.old out.new result (IsStackPage (page_view request.now) (login_view login.now) inputs.now stack.now moment) }
+{
+    match moment {
+        None => answer_at(alloc, request, login, inputs, stack, None, out),
+        Some(Ok(moment)) => answer_at(alloc, request, login, inputs, stack, Some(moment), out),
+        Some(Err(error)) => Err(Fault::Moment(error)),
+    }
+}
+
+/// Answers `paths`.
+pub(super) fn answer_paths<W: Write>(
+    alloc: Global,
+    request: PageRequest<'_>,
+    person: Person<'_>,
+    moment: Option<Result<DateTime, MomentError>>,
+    inputs: &Inputs,
+    out: &mut Out<W>,
+) -> Result<Status, Fault>
+    requires { out.old.failures < 2 ^ 64 - 1 }
+    ensures { LeavesSome W.contents out.old out.new result (IsPage (page_view request.entry)
+        (login_to request.entry.service.now person.entry.user.now person.entry.tty.now person.entry.rhost.now) inputs.now moment
+        (resolved inputs.now.files request.entry.service.now request.entry.kind)) }
+{
+    let stack = match resolve(alloc, &inputs.files, request.service.as_bytes(), request.kind) {
+        Ok(stack) => stack,
+        Err(error) => return Err(Fault::Conf(error)),
+    };
+    let service = match lowered(alloc, request.service) {
+        Ok(service) => service,
+        Err(_) => return Err(Fault::Memory),
+    };
+    let login = Login {
+        user: person.user.as_bytes(),
+        service: &service,
+        tty: person.tty.as_bytes(),
+        rhost: person.rhost.as_bytes(),
+    };
+    answer_stack(alloc, &request, &login, inputs, &stack, moment, out)
+}
