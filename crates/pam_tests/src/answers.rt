@@ -49,6 +49,18 @@ decision success
     status: 0,
 };
 
+static PATHS: Command = Command {
+    words: &["pamcheck", "paths", "login", "auth", "--dir", "d"],
+    login: b"auth [default=5] a.so\n",
+    access: None,
+    time: None,
+    text: b"login auth 1 modules
+0 perm_denied 1=any
+end 1 paths
+",
+    status: 0,
+};
+
 static ACCESS: Command = Command {
     words: &[
         "pamcheck", "access", "login", "--access", "t", "--user", "bob",
@@ -92,6 +104,7 @@ fn inputs(alloc: Global, command: &Command) -> Result<Inputs, Fail> {
         groups: None,
         access: None,
         time: None,
+        returns: None,
     };
     put(alloc, &mut inputs.files, b"login", command.login)?;
     inputs.access = bytes(alloc, command.access)?;
@@ -154,7 +167,7 @@ fn halts(rt: &impl Abort, alloc: Global, command: &Command) -> Result<(), Fail> 
 
 #[test]
 fn each_answer_is_flushed_once_at_its_end(rt: HostRuntime) -> Result<(), Fail> {
-    for command in [&SHOW, &DECIDE, &ACCESS, &TIME] {
+    for command in [&SHOW, &DECIDE, &PATHS, &ACCESS, &TIME] {
         flushes_once(&rt, rt.alloc(), command)?;
     }
     assert_eq!(rt; fault_status(&Fault::Device), 5);
@@ -163,7 +176,7 @@ fn each_answer_is_flushed_once_at_its_end(rt: HostRuntime) -> Result<(), Fail> {
 
 #[test]
 fn each_answer_halts_where_a_write_fails(rt: HostRuntime) -> Result<(), Fail> {
-    for command in [&SHOW, &DECIDE, &ACCESS, &TIME] {
+    for command in [&SHOW, &DECIDE, &PATHS, &ACCESS, &TIME] {
         halts(&rt, rt.alloc(), command)?;
     }
     Ok(())
