@@ -1,13 +1,16 @@
 -- The command line: what the values that `clap` found for the words ask for.
-use Rattle.std.specs.Prelude.{ℕ, ℤ, pos, ◌&&◌, nat_le, nat_lt, length, List, [], ◌∷◌, Option, Some, None, Result, Ok, Err, codes, option_map, position, unwrap_or, if◌then◌else◌}
+use Rattle.std.specs.Prelude.{Bool, false, ℕ, ℤ, pos, ◌&&◌, ◌||◌, is_some, nat_le, nat_lt, not, length, List, [], ◌∷◌, Option, Some, None, Result, Ok, Err, codes, option_map, position, unwrap_or, if◌then◌else◌}
 use Rattle.std.specs.Char.{is_ascii_digit}
 use Rattle.std.specs.List.{list_all}
 use Rattle.std.specs.Str.{bytes_eq}
-use Rattle.std.specs.Str.Parse.{digits_value}
+use Rattle.std.specs.Option.{option_and_then}
+use Rattle.std.specs.Str.Parse.{digits_value, without_leading_plus}
 use Rattle.pam_codes.specs.Code.{code_names, same_name}
 use Rattle.pam_conf.specs.Rule.{kind_named}
 use Rattle.pam_conf.specs.declared.Kind.{Kind}
+use Rattle.clap.specs.ValueTests.{accepts}
 use Rattle.clap.specs.Words.{Row, Text, all_of, first_of}
+use Rattle.pam_words.specs.Words.{limit_parser}
 
 pub data Place : Type 0 where
   dir : Text → Place
@@ -81,6 +84,10 @@ text_of id rows = unwrap_or (first_of id rows) []
 abbrev pub texts_of : Text → List Row → List Text
 texts_of id rows = unwrap_or (all_of id rows) []
 
+-- the words give the id a value
+abbrev pub has : Text → List Row → Bool
+has id rows = is_some (first_of id rows)
+
 -- exactly one source
 abbrev pub one_place : Option Text → Option Text → Option Place
 one_place (Some name) None = Some (dir name)
@@ -131,6 +138,35 @@ abbrev pub when_of : List Row → Option When
 when_of rows =
     one_when (first_of (codes "at") rows) (first_of (codes "at-unix") rows) (first_of (codes "zone") rows)
 
+-- the number of paths of a page that `--limit` did not name
+abbrev pub default_limit : ℕ
+default_limit = 1000
+
+-- the number that a text of `--limit` writes; `clap` refuses the words where there is none
+abbrev pub limit_in : Text → Option ℕ
+limit_in text = if accepts false limit_parser text then Some (digits_value 10 (without_leading_plus text)) else None
+
+abbrev pub limit_of : List Row → ℕ
+limit_of rows = unwrap_or (option_and_then limit_in (first_of (codes "limit") rows)) default_limit
+
+-- `--after` or `--before`, not both
+abbrev pub one_part : Option Text → Option Text → Option Span
+one_part None None = Some whole
+one_part (Some cursor) None = Some (after cursor)
+one_part None (Some cursor) = Some (before cursor)
+one_part (Some cursor) (Some other) = None
+
+abbrev pub part_of : List Row → Option Span
+part_of rows = one_part (first_of (codes "after") rows) (first_of (codes "before") rows)
+
+-- a table that looks a login up, and no user who logs in
+abbrev pub lacks_user : List Row → Bool
+lacks_user rows = (has (codes "access") rows || has (codes "time") rows) && not (has (codes "user") rows)
+
+-- a time table, or a word of a moment
+abbrev pub needs_moment : List Row → Bool
+needs_moment rows = has (codes "time") rows || has (codes "at") rows || has (codes "at-unix") rows || has (codes "zone") rows
+
 -- ---- commands
 
 -- the refusal where there is no value, else what the value gives
@@ -161,6 +197,33 @@ decide_wish rows =
     or_refuse (codes_of_rows rows) code_name (λ codes.
     Ok (decide stack.0 stack.1 codes))
 
+-- a moment where it is needed, and none elsewhere
+abbrev pub moment_if_needed : List Row → Result (Option When) Refusal
+moment_if_needed rows =
+    if needs_moment rows then or_refuse (when_of rows) moment (λ when. Ok (Some when)) else Ok None
+
+-- `paths SERVICE KIND`
+abbrev pub paths_wish : List Row → Result Wish Refusal
+paths_wish rows =
+    stack_of rows >>= λ stack.
+    if lacks_user rows then Err login else
+    moment_if_needed rows >>= λ moment.
+    or_refuse (part_of rows) both_ends (λ part.
+    Ok (paths (record {
+      place = stack.0;
+      kind = stack.1;
+      limit = limit_of rows;
+      part = part;
+      user = text_of (codes "user") rows;
+      rhost = text_of (codes "rhost") rows;
+      tty = text_of (codes "tty") rows;
+      access = first_of (codes "access") rows;
+      time = first_of (codes "time") rows;
+      groups = first_of (codes "group") rows;
+      returns = first_of (codes "returns") rows;
+      moment = moment;
+    })))
+
 -- `access SERVICE [ARGUMENT]...`
 abbrev pub access_wish : List Row → Result Wish Refusal
 access_wish rows = Ok (access (record {
@@ -187,6 +250,7 @@ abbrev pub wish_of : Text → List Row → Result Wish Refusal
 wish_of command rows =
     if bytes_eq command (codes "show") then show_wish rows
     else if bytes_eq command (codes "decide") then decide_wish rows
+    else if bytes_eq command (codes "paths") then paths_wish rows
     else if bytes_eq command (codes "access") then access_wish rows
     else time_wish rows
 

@@ -1,7 +1,9 @@
 -- The command line: which words each command takes.
-use Rattle.std.specs.Prelude.{Some, codes, true}
+use Rattle.std.specs.Prelude.{ℕ, Some, codes, true}
 use Rattle.clap.specs.Words.{App, Rule, Text, new_app, new_rule, with_rule, with_subcommand}
 use Rattle.clap.specs.declared.builder.ArgAction.TheVariants.{Append}
+use Rattle.clap.specs.declared.builder.value_parser.ValueParser.{ValueParser}
+use Rattle.clap.specs.declared.builder.value_parser.ValueParser.TheVariants.{Unsigned}
 
 -- a word that must be there
 abbrev pub required_rule : Text → Rule
@@ -19,6 +21,20 @@ required_option_rule id = record (option_rule id) { required = true }
 abbrev pub repeated_rule : Text → Rule
 repeated_rule id = record (new_rule id) { value_names = 1; action = Some Append }
 
+-- how many paths a page may have
+abbrev pub least_limit : ℕ
+least_limit = 1
+
+abbrev pub most_limit : ℕ
+most_limit = 1000000
+
+abbrev pub limit_parser : ValueParser
+limit_parser = Unsigned least_limit most_limit
+
+-- `--limit N`
+abbrev pub limit_rule : Rule
+limit_rule = record (option_rule (codes "limit")) { parser = Some limit_parser }
+
 -- NAME SERVICE KIND, with `--dir` and `--conf`
 abbrev pub stack_app : Text → App
 stack_app name =
@@ -33,6 +49,33 @@ show_app = stack_app (codes "show")
 -- `decide SERVICE KIND [CODE]...`
 unfoldable pub decide_app : App
 decide_app = with_rule (stack_app (codes "decide")) (repeated_rule (codes "code"))
+
+-- which page of a listing
+abbrev pub with_page : App → App
+with_page app =
+    with_rule (with_rule (with_rule app
+    limit_rule) (option_rule (codes "after"))) (option_rule (codes "before"))
+
+-- who logs in, and from where
+abbrev pub with_login : App → App
+with_login app =
+    with_rule (with_rule (with_rule app
+    (option_rule (codes "user"))) (option_rule (codes "rhost"))) (option_rule (codes "tty"))
+
+abbrev pub with_tables : App → App
+with_tables app =
+    with_rule (with_rule (with_rule (with_rule app
+    (option_rule (codes "access"))) (option_rule (codes "time")))
+    (option_rule (codes "group"))) (option_rule (codes "returns"))
+
+abbrev pub with_moment : App → App
+with_moment app =
+    with_rule (with_rule (with_rule app
+    (option_rule (codes "at"))) (option_rule (codes "at-unix"))) (option_rule (codes "zone"))
+
+-- `paths SERVICE KIND`
+unfoldable pub paths_app : App
+paths_app = with_moment (with_tables (with_login (with_page (stack_app (codes "paths")))))
 
 -- NAME SERVICE for a login, by the table of `--NAME`
 abbrev pub login_app : Text → App
@@ -50,10 +93,7 @@ access_app =
 
 -- `time SERVICE`
 unfoldable pub time_app : App
-time_app =
-    with_rule (with_rule (with_rule (login_app (codes "time"))
-    (option_rule (codes "at"))) (option_rule (codes "at-unix")))
-    (option_rule (codes "zone"))
+time_app = with_moment (login_app (codes "time"))
 
 -- no words but those of a command
 unfoldable pub bare_app : App
@@ -61,5 +101,5 @@ bare_app = let app = new_app (codes "pamcheck") in record app { top = record app
 
 unfoldable pub pamcheck_app : App
 pamcheck_app =
-    with_subcommand (with_subcommand (with_subcommand (with_subcommand bare_app
-    show_app.top) decide_app.top) access_app.top) time_app.top
+    with_subcommand (with_subcommand (with_subcommand (with_subcommand (with_subcommand bare_app
+    show_app.top) decide_app.top) paths_app.top) access_app.top) time_app.top

@@ -1,6 +1,7 @@
 //! The words of the command line: what they ask for, and why they are refused.
 #![tactic(auto)]
 
+mod limit;
 mod reading;
 mod usage;
 mod wanted;

@@ -9,6 +9,8 @@ ghost use Rattle.pam_words.specs.Asked.{access_wish, asked_of, code_named as cod
 ghost use Rattle.pam_words.specs.Wanted.{Answers, AsksFor, Gives, IsRead, IsRefusal, IsRefusalOf, Reads, RefusesBy, shown_place, shown_when};
 ghost use Rattle.pam_words.specs.Words.{pamcheck_app};
 
+mod paths;
+
 use crate::wanted::{Moment, Request, Source, Task, Usage};
 use crate::words::pamcheck_command;
 use clap::error::ErrorKind;
@@ -224,6 +226,8 @@ fn read<'a>(alloc: Global, command: &str, matches: &ArgMatches<'a>) -> Result<Re
         show(matches)?
     } else if command == "decide" {
         decide(alloc, matches)?
+    } else if command == "paths" {
+        paths::paths(matches)?
     } else if command == "access" {
         access(alloc, matches)?
     } else {

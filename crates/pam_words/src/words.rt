@@ -3,8 +3,9 @@
 ghost use Rattle.std.specs.Prelude.{◌≡◌, IfOk, false};
 ghost use Rattle.clap.specs.Words.{app_of, new_app, rule_of};
 ghost use Rattle.clap.specs.declared.builder.Command.TheViews.{out-Command as fields_of};
-ghost use Rattle.pam_words.specs.Words.{access_app, bare_app, decide_app, login_app, option_rule, pamcheck_app, repeated_rule, required_option_rule, required_rule, show_app, stack_app, time_app};
+ghost use Rattle.pam_words.specs.Words.{access_app, bare_app, decide_app, limit_rule, login_app, option_rule, pamcheck_app, paths_app, repeated_rule, required_option_rule, required_rule, show_app, stack_app, time_app, with_login as with_login_rules, with_moment as with_moment_rules, with_page as with_page_rules, with_tables as with_table_rules};
 
+use crate::limit::limit_parser;
 use clap::{Arg, ArgAction, Command};
 use std::alloc::{AllocError, Global};
 
@@ -53,6 +54,20 @@ fn repeated<'a>(alloc: Global, id: &'a str, name: &'a str, help: &'a str) -> Arg
         .action(ArgAction::Append)
 }
 
+/// `--limit N`.
+fn limit<'a>(alloc: Global) -> Arg<'a>
+    ensures rule { rule_of result ≡ limit_rule }
+    ensures local { result.global ≡ false }
+{
+    option(
+        alloc,
+        "limit",
+        "N",
+        "How many paths to list, 1 to 1000000; 1000 if left out",
+    )
+    .value_parser(limit_parser())
+}
+
 /// SERVICE, KIND and the source.
 fn stack_command<'a>(
     alloc: Global,
@@ -95,6 +110,93 @@ fn decide_command<'a>(alloc: Global) -> Result<Command<'a>, AllocError>
     ))
 }
 
+/// The page of a listing.
+fn with_page<'a>(alloc: Global, command: Command<'a>) -> Result<Command<'a>, AllocError>
+    ensures app { IfOk result (λ c. app_of c ≡ with_page_rules (app_of command.entry)) }
+    ensures local { IfOk result (λ c. (fields_of c).has_globals ≡ (fields_of command.entry).has_globals) }
+{
+    command
+        .arg(limit(alloc))?
+        .arg(option(alloc, "after", "CURSOR", "Lists the paths after this one"))?
+        .arg(option(
+            alloc,
+            "before",
+            "CURSOR",
+            "Lists the paths before this one, the last first",
+        ))
+}
+
+/// Who logs in, and from where.
+fn with_login<'a>(alloc: Global, command: Command<'a>) -> Result<Command<'a>, AllocError>
+    ensures app { IfOk result (λ c. app_of c ≡ with_login_rules (app_of command.entry)) }
+    ensures local { IfOk result (λ c. (fields_of c).has_globals ≡ (fields_of command.entry).has_globals) }
+{
+    command
+        .arg(option(alloc, "user", "NAME", "The user"))?
+        .arg(option(alloc, "rhost", "HOST", "The remote host"))?
+        .arg(option(alloc, "tty", "TTY", "The terminal"))
+}
+
+/// The tables that say what modules return.
+fn with_tables<'a>(alloc: Global, command: Command<'a>) -> Result<Command<'a>, AllocError>
+    ensures app { IfOk result (λ c. app_of c ≡ with_table_rules (app_of command.entry)) }
+    ensures local { IfOk result (λ c. (fields_of c).has_globals ≡ (fields_of command.entry).has_globals) }
+{
+    command
+        .arg(option(
+            alloc,
+            "access",
+            "FILE",
+            "The access table of pam_access.so; needs --user",
+        ))?
+        .arg(option(
+            alloc,
+            "time",
+            "FILE",
+            "The time table of pam_time.so; needs --user and a moment",
+        ))?
+        .arg(option(alloc, "group", "FILE", "The group file"))?
+        .arg(option(
+            alloc,
+            "returns",
+            "FILE",
+            "The codes that other modules can return",
+        ))
+}
+
+/// The moment of a login.
+fn with_moment<'a>(alloc: Global, command: Command<'a>) -> Result<Command<'a>, AllocError>
+    ensures app { IfOk result (λ c. app_of c ≡ with_moment_rules (app_of command.entry)) }
+    ensures local { IfOk result (λ c. (fields_of c).has_globals ≡ (fields_of command.entry).has_globals) }
+{
+    command
+        .arg(option(alloc, "at", "CIVIL", "The moment, as 2024-05-06T10:00"))?
+        .arg(option(
+            alloc,
+            "at-unix",
+            "SECONDS",
+            "The moment, in seconds since 1970",
+        ))?
+        .arg(option(
+            alloc,
+            "zone",
+            "RULE",
+            "The POSIX zone rule of --at-unix; UTC0 if left out",
+        ))
+}
+
+#[tactic(auto, unfolding(crate::specs::Words::paths_app))]
+fn paths_command<'a>(alloc: Global) -> Result<Command<'a>, AllocError>
+    ensures app { IfOk result (λ c. app_of c ≡ paths_app) }
+    ensures local { IfOk result (λ c. (fields_of c).has_globals ≡ false) }
+{
+    let command = stack_command(alloc, "paths", "Lists the paths through a stack")?;
+    let command = with_page(alloc, command)?;
+    let command = with_login(alloc, command)?;
+    let command = with_tables(alloc, command)?;
+    with_moment(alloc, command)
+}
+
 /// SERVICE, a user at a terminal, and the table of `--NAME`.
 fn login_command<'a>(
     alloc: Global,
@@ -126,24 +228,13 @@ fn access_command<'a>(alloc: Global) -> Result<Command<'a>, AllocError>
         ))
 }
 
+#[tactic(auto, unfolding(crate::specs::Words::time_app))]
 fn time_command<'a>(alloc: Global) -> Result<Command<'a>, AllocError>
     ensures app { IfOk result (λ c. app_of c ≡ time_app) }
     ensures local { IfOk result (λ c. (fields_of c).has_globals ≡ false) }
 {
-    login_command(alloc, "time", "Looks a login up in a time table")?
-        .arg(option(alloc, "at", "CIVIL", "The moment, as 2024-05-06T10:00"))?
-        .arg(option(
-            alloc,
-            "at-unix",
-            "SECONDS",
-            "The moment, in seconds since 1970",
-        ))?
-        .arg(option(
-            alloc,
-            "zone",
-            "RULE",
-            "The POSIX zone rule of --at-unix; UTC0 if left out",
-        ))
+    let command = login_command(alloc, "time", "Looks a login up in a time table")?;
+    with_moment(alloc, command)
 }
 
 /// The program, which wants a command.
@@ -163,6 +254,7 @@ pub fn pamcheck_command<'a>(alloc: Global) -> Result<Command<'a>, AllocError>
 {
     let command = bare_command(alloc).subcommand(show_command(alloc)?)?;
     let command = command.subcommand(decide_command(alloc)?)?;
+    let command = command.subcommand(paths_command(alloc)?)?;
     let command = command.subcommand(access_command(alloc)?)?;
     command.subcommand(time_command(alloc)?)
 }

@@ -1,0 +1,91 @@
+//! What the words of `paths` ask for.
+
+ghost use Rattle.std.specs.Prelude.{◌≡◌, codes, option_map};
+ghost use Rattle.clap.specs.Words.{found_of, rows_of};
+ghost use Rattle.pam_words.specs.Asked.{has as has_value, lacks_user as lacks_user_in, limit_of, moment_if_needed as moment_if_needed_in, needs_moment as needs_moment_in, part_of, paths_wish};
+ghost use Rattle.pam_words.specs.Wanted.{AsksFor, Gives, shown_part, shown_when};
+
+use crate::limit::{DEFAULT_LIMIT, limit_in};
+use crate::reading::{moment, stack, text, value};
+use crate::wanted::{Moment, Part, Task, Usage};
+use clap::ArgMatches;
+
+fn has(matches: &ArgMatches<'_>, id: &str) -> bool
+    ensures { result ≡ has_value id.now (rows_of (found_of matches.now)) }
+{
+    value(matches, id).is_some()
+}
+
+fn limit(matches: &ArgMatches<'_>) -> u32
+    ensures { result ≡ limit_of (rows_of (found_of matches.now)) }
+{
+    let Some(text) = value(matches, "limit") else {
+        return DEFAULT_LIMIT;
+    };
+    limit_in(text).unwrap_or(DEFAULT_LIMIT)
+}
+
+/// The part that is given; none where both ends are.
+fn part<'a>(matches: &ArgMatches<'a>) -> Option<Part<'a>>
+    ensures { option_map shown_part result ≡ part_of (rows_of (found_of matches.now)) }
+{
+    match (value(matches, "after"), value(matches, "before")) {
+        (None, None) => Some(Part::Whole),
+        (Some(cursor), None) => Some(Part::After(cursor)),
+        (None, Some(cursor)) => Some(Part::Before(cursor)),
+        (Some(_), Some(_)) => None,
+    }
+}
+
+/// Whether a table that looks a login up is given without a user.
+fn lacks_user(matches: &ArgMatches<'_>) -> bool
+    ensures { result ≡ lacks_user_in (rows_of (found_of matches.now)) }
+{
+    (has(matches, "access") || has(matches, "time")) && !has(matches, "user")
+}
+
+/// Whether a time table or a word of a moment is given.
+fn needs_moment(matches: &ArgMatches<'_>) -> bool
+    ensures { result ≡ needs_moment_in (rows_of (found_of matches.now)) }
+{
+    has(matches, "time") || has(matches, "at") || has(matches, "at-unix") || has(matches, "zone")
+}
+
+fn moment_if_needed<'a>(matches: &ArgMatches<'a>) -> Result<Option<Moment<'a>>, Usage>
+    ensures { Gives (λ m. option_map shown_when m) (moment_if_needed_in (rows_of (found_of matches.now))) result }
+{
+    if !needs_moment(matches) {
+        return Ok(None);
+    }
+    let Some(moment) = moment(matches) else {
+        return Err(Usage::Moment);
+    };
+    Ok(Some(moment))
+}
+
+pub(crate) fn paths<'a>(matches: &ArgMatches<'a>) -> Result<Task<'a>, Usage>
+    ensures { AsksFor (paths_wish (rows_of (found_of matches.now))) result }
+{
+    let (source, kind) = stack(matches)?;
+    if lacks_user(matches) {
+        return Err(Usage::Login);
+    }
+    let moment = moment_if_needed(matches)?;
+    let Some(part) = part(matches) else {
+        return Err(Usage::BothEnds);
+    };
+    Ok(Task::Paths {
+        source,
+        kind,
+        limit: limit(matches),
+        part,
+        user: text(matches, "user"),
+        rhost: text(matches, "rhost"),
+        tty: text(matches, "tty"),
+        access: value(matches, "access"),
+        time: value(matches, "time"),
+        groups: value(matches, "group"),
+        returns: value(matches, "returns"),
+        moment,
+    })
+}
