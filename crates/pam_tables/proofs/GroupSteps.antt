@@ -1,19 +1,17 @@
--- The fields of a group's line, its members, and groups line by line.
-use Rattle.std.proofs.Common.{◌≡◌, ◌∙◌, ◌++◌, ◌||◌, ℕ, Bool, true, false, List, [], ◌∷◌, length, map, filter, cond, codes, is_some, Option, Some, None, Result}
-use Rattle.std.proofs.Common.{Ok, Err, refl, sym, ap, arith, append_assoc, append-nil, if◌then◌else◌}
+-- The fields of a group's line, its members, and what a line adds.
+use Rattle.std.proofs.Common.{◌≡◌, ◌∙◌, ◌++◌, ◌||◌, ℕ, Bool, true, false, List, [], ◌∷◌, length, map, filter, cond, codes, Option, Some, None, Result}
+use Rattle.std.proofs.Common.{Ok, Err, refl, sym, ap, arith, if◌then◌else◌}
 use Rattle.std.specs.List.{list_any, slice_split}
 use Rattle.std.specs.Map.{lookup}
 use Rattle.std.specs.Option.{option_map_or}
 use Rattle.std.specs.Str.{bytes_eq}
-use Rattle.std.proofs.lemmas.List.{map-append}
-use Rattle.indexmap.specs.IndexMap.{insert_entry}
-use Rattle.pam_tables.specs.Error.{read_lines, onto_lines}
-use Rattle.pam_tables.specs.Groups.{Group, members_of, lists_user, group_of_fields, some_group, group_at, first_of_each, first_of_each_read, with_group}
-use Rattle.pam_tables.specs.Groups.{with_line}
+use Rattle.pam_tables.specs.Groups.{Group, members_of, lists_user, group_of_fields, some_group, group_at}
 use Rattle.pam_tables.specs.Lines.{has_bytes, is_among, cut_at, is_blank_line}
+use Rattle.pam_tables.specs.Named.{with_line}
 use Rattle.pam_tables.specs.declared.error.TableFault.{TableFault}
 use Rattle.pam_tables.specs.declared.error.TableFault.TheVariants.{BadGroup}
 use Rattle.pam_tables.proofs.Cutting.{split_found, split_none, split_two, split_three, split_parts}
+use Rattle.pam_tables.proofs.NamedSteps.{entry_view}
 
 -- ---- fields
 
@@ -101,109 +99,18 @@ last_part user rest e = sym (ap (list_any (λ m. bytes_eq m user)) (split_none c
 
 -- ---- a map's entries as groups
 
-abbrev pub has_group : List ℕ → List Group → Bool
-has_group name groups = list_any (λ g. bytes_eq name g.0) groups
-
 module _ {K V : Type 0} (name : K → List ℕ) (members : V → List (List ℕ)) where
-  abbrev pub entry_group : K × V → Group
-  entry_group e = (name e.0, members e.1)
-
-  pub known_group : (key : List ℕ) (es : List (K × V)) → has_group key (map entry_group es) ≡ is_some (lookup {K = K} {X = V} (λ k. bytes_eq key (name k)) es)
-  known_group key [] = refl
-  known_group key (e ∷ es) =
-      elim (bytes_eq key (name e.0)) as (λ (t : Bool). (t || has_group key (map entry_group es))
-      ≡ is_some (cond t (Some e.1) (lookup {K = K} {X = V} (λ k. bytes_eq key (name k)) es))) [ true ↦ refl | false ↦ known_group key es ]
-
-  pub new_group_last : (k : K) (v : V) (es : List (K × V)) → has_group (name k) (map entry_group es) ≡ false →
-      map entry_group (insert_entry (λ a b. bytes_eq (name a) (name b)) es k v) ≡ map entry_group es ++ (name k, members v) ∷ []
-  new_group_last k v [] h = refl
-  new_group_last k v (e ∷ es) h =
-      elim (bytes_eq (name k) (name e.0)) as (λ (t : Bool). (t || has_group (name k) (map entry_group es)) ≡ false →
-      map entry_group (cond t ((e.0, v) ∷ es) (e ∷ insert_entry (λ a b. bytes_eq (name a) (name b)) es k v))
-      ≡ entry_group e ∷ (map entry_group es ++ (name k, members v) ∷ [])) [
-        | true ↦ λ f. absurd (cc)
-        | false ↦ λ f. ap (λ (gs : List Group). entry_group e ∷ gs) (new_group_last k v es f)
-      ] h
-
-  pub added_last : (known : List Group) (es more : List (K × V)) (k : K) (v : V) (key : List ℕ) (list : List (List ℕ)) → map entry_group es ≡ known →
-      name k ≡ key → members v ≡ list → has_group key known ≡ false → more ≡ insert_entry (λ a b. bytes_eq (name a) (name b)) es k v →
-      map entry_group more ≡ known ++ (key, list) ∷ []
-  added_last known es more k v key list e f g h i =
-      let absent : has_group (name k) (map entry_group es) ≡ false = rw (e, f) h in
-      ap (map entry_group) i ∙ new_group_last k v es absent ∙ rw (e, f, g) refl
-
   found : (f : V → Bool) (b : Bool) (v : V) (o : Option V) (x : Bool) → x ≡ option_map_or f o false →
       (if b then f v else x) ≡ option_map_or f (cond b (Some v) o) false
   found f true v o x e = refl
   found f false v o x e = e
 
   pub lists_user-map : (group user : List ℕ) (es : List (K × V)) →
-      lists_user (map entry_group es) group user ≡ option_map_or (λ v. list_any (λ m. bytes_eq m user) (members v))
+      lists_user (map (entry_view name members) es) group user ≡ option_map_or (λ v. list_any (λ m. bytes_eq m user) (members v))
       (lookup {K = K} {X = V} (λ k. bytes_eq group (name k)) es) false
   lists_user-map group user [] = refl
   lists_user-map group user (e ∷ es) =
       found (λ v. list_any (λ m. bytes_eq m user) (members v)) (bytes_eq group (name e.0)) e.1 _ _ (lists_user-map group user es)
-
--- ---- groups line by line
-
--- groups that are read already, with those of the lines behind
-unfoldable pub behind : List Group → Result (List Group) (TableFault × ℕ) → Result (List Group) (TableFault × ℕ)
-behind known (Ok groups) = Ok (known ++ first_of_each (map (λ g. g.0) known) groups)
-behind known (Err e) = Err e
-
-pub behind_none : (r : Result (List Group) (TableFault × ℕ)) → behind [] r ≡ first_of_each_read r
-unfolding behind
-behind_none (Ok groups) = refl
-behind_none (Err e) = refl
-
-any-names : (name : List ℕ) (groups : List Group) → list_any (λ n. bytes_eq name n) (map (λ g. g.0) groups) ≡ has_group name groups
-any-names name [] = refl
-any-names name (g ∷ gs) = ap (λ (t : Bool). bytes_eq name g.0 || t) (any-names name gs)
-
-one_more : (known : List Group) (g : Group) (r : Result (List Group) (TableFault × ℕ)) (n : ℕ) →
-    behind (with_group known (Some g)) r ≡ behind known (onto_lines n (Ok (Some g)) r)
-unfolding behind
-one_more known g (Err e) n = refl
-one_more known g (Ok gs) n =
-    ap Ok (choose (has_group g.0 known) ∙ ap (λ (t : Bool). known ++ cond t (first_of_each (map (λ h. h.0) known) gs)
-    (g ∷ first_of_each (map (λ h. h.0) known ++ g.0 ∷ []) gs)) (sym (any-names g.0 known)))
-  where
-    choose : (t : Bool) → cond t known (known ++ g ∷ []) ++ first_of_each (map (λ h. h.0) (cond t known (known ++ g ∷ []))) gs
-        ≡ known ++ cond t (first_of_each (map (λ h. h.0) known) gs) (g ∷ first_of_each (map (λ h. h.0) known ++ g.0 ∷ []) gs)
-    choose true = refl
-    choose false = append_assoc known (g ∷ []) _ ∙ ap (λ (ns : List (List ℕ)). known ++ g ∷ first_of_each ns gs) (map-append (λ h. h.0) known (g ∷ []))
-
-abbrev pub lines_of_groups : List (ℕ × List ℕ) → Result (List Group) (TableFault × ℕ)
-lines_of_groups lines = read_lines (λ _ line. group_at line) lines
-
-step : (known new : List Group) (n : ℕ) (r : Result (Option Group) TableFault) (others : Result (List Group) (TableFault × ℕ)) → with_line known r ≡ Ok new →
-    behind new others ≡ behind known (onto_lines n r others)
-step known new n (Err f) others h = absurd (cc)
-step known new n (Ok None) others h = let same : known ≡ new = cc in ap (λ (gs : List Group). behind gs others) (sym same)
-step known new n (Ok (Some g)) others h =
-    let same : with_group known (Some g) ≡ new = cc in ap (λ (gs : List Group). behind gs others) (sym same) ∙ one_more known g others n
-
-pub line_added : (known new : List Group) (n : ℕ) (line : List ℕ) (all lines : List (ℕ × List ℕ)) → all ≡ (n, line) ∷ lines →
-    with_line known (group_at line) ≡ Ok new → behind new (lines_of_groups lines) ≡ behind known (lines_of_groups all)
-unfolding read_lines
-line_added known new n line all lines e h =
-    step known new n (group_at line) (lines_of_groups lines) h ∙ ap (λ (ls : List (ℕ × List ℕ)). behind known (lines_of_groups ls)) (sym e)
-
-stops : (known : List Group) (n : ℕ) (fault : TableFault) (r : Result (Option Group) TableFault) (others : Result (List Group) (TableFault × ℕ)) →
-    with_line known r ≡ Err fault → behind known (onto_lines n r others) ≡ Err (fault, n)
-unfolding behind
-stops known n fault (Err f) others h = let same : f ≡ fault = cc in ap (λ (x : TableFault). Err (x, n)) same
-stops known n fault (Ok o) others h = absurd (cc)
-
-pub line_fails : (known : List Group) (n : ℕ) (line : List ℕ) (all lines : List (ℕ × List ℕ)) (fault : TableFault) → all ≡ (n, line) ∷ lines →
-    with_line known (group_at line) ≡ Err fault → behind known (lines_of_groups all) ≡ Err (fault, n)
-unfolding read_lines
-line_fails known n line all lines fault e h =
-    ap (λ (ls : List (ℕ × List ℕ)). behind known (lines_of_groups ls)) e ∙ stops known n fault (group_at line) (lines_of_groups lines) h
-
-pub lines_end : (known : List Group) (all : List (ℕ × List ℕ)) → all ≡ [] → behind known (lines_of_groups all) ≡ Ok known
-unfolding behind read_lines
-lines_end known all e = ap (λ (ls : List (ℕ × List ℕ)). behind known (lines_of_groups ls)) e ∙ ap Ok (append-nil known)
 
 -- ---- one line
 
@@ -216,16 +123,7 @@ pub bad_line : (known : List Group) (line : List ℕ) → is_blank_line line ≡
 unfolding group_at
 bad_line known line h f = rw h (ap (λ (r : Result Group TableFault). with_line known (some_group r)) f)
 
-pub known_line : (known : List Group) (line name : List ℕ) (members : List (List ℕ)) → is_blank_line line ≡ false →
-    group_of_fields (slice_split colon line) ≡ Ok (name, members) → has_group name known ≡ true → with_line known (group_at line) ≡ Ok known
+pub group_line : (line name : List ℕ) (members : List (List ℕ)) → is_blank_line line ≡ false →
+    group_of_fields (slice_split colon line) ≡ Ok (name, members) → group_at line ≡ Ok (Some (name, members))
 unfolding group_at
-known_line known line name members h f g =
-    rw h (ap (λ (r : Result Group TableFault). with_line known (some_group r)) f ∙ ap (λ (t : Bool). Ok (cond t known (known ++ (name, members) ∷ []))) g)
-
-pub new_line : (known new : List Group) (line name : List ℕ) (members : List (List ℕ)) → is_blank_line line ≡ false →
-    group_of_fields (slice_split colon line) ≡ Ok (name, members) → has_group name known ≡ false → new ≡ known ++ (name, members) ∷ [] →
-    with_line known (group_at line) ≡ Ok new
-unfolding group_at
-new_line known new line name members h f g e =
-    rw h (ap (λ (r : Result Group TableFault). with_line known (some_group r)) f ∙ ap (λ (t : Bool). Ok (cond t known (known ++ (name, members) ∷ []))) g
-    ∙ ap Ok (sym e))
+group_line line name members h f = rw h (ap some_group f)

@@ -6,8 +6,10 @@ pub mod Digits
 pub mod GroupSteps
 pub mod LineSteps
 pub mod ListSteps
+pub mod NamedSteps
 pub mod OptionSteps
 pub mod PieceSteps
 pub mod ReadSteps
+pub mod ReturnSteps
 pub mod SeparatorSteps
 pub mod TokenSteps

@@ -1,12 +1,13 @@
 -- The codes that modules may return, by the names of the modules: a returns file.
 use Rattle.std.specs.Prelude.{ℕ, ◌==◌, ◌≢◌, Bool, false, List, [], ◌∷◌, codes, nat_eq, is_some, position, if◌then◌else◌, Option, Some, None, Result, Ok, Err}
 use Rattle.std.specs.List.{list_any, list_all, starts_with}
+use Rattle.std.specs.Map.{lookup}
 use Rattle.std.specs.Option.{option_map_or}
 use Rattle.std.specs.Str.{bytes_eq}
 use Rattle.pam_codes.specs.Code.{code_names, same_name}
 use Rattle.pam_codes.specs.Set.{codes_where}
 use Rattle.pam_tables.specs.Error.{read_lines}
-use Rattle.pam_tables.specs.Lines.{checked, is_among, lines_from}
+use Rattle.pam_tables.specs.Lines.{checked, lines_from}
 use Rattle.pam_tables.specs.Named.{first_of_each_read}
 use Rattle.pam_tables.specs.Tokens.{tokens_of}
 use Rattle.pam_tables.specs.declared.error.TableFault.{TableFault}
@@ -18,8 +19,7 @@ ReturnLine = List ℕ × List ℕ
 
 -- the codes of the first line with this name
 abbrev pub codes_for : List ReturnLine → List ℕ → Option (List ℕ)
-codes_for [] name = None
-codes_for (line ∷ lines) name = if bytes_eq name line.0 then Some line.1 else codes_for lines name
+codes_for lines name = lookup (λ n. bytes_eq name n) lines
 
 -- each line has a code
 abbrev pub HaveCodes : List ReturnLine → Type 0
@@ -29,7 +29,7 @@ HaveCodes (line ∷ lines) = (line.1 ≢ []) × HaveCodes lines
 -- ---- what a file's bytes spell
 
 -- words are separated by blanks
-unfoldable pub words_of : List ℕ → List (List ℕ)
+abbrev pub words_of : List ℕ → List (List ℕ)
 words_of text = tokens_of (codes " \t") text
 
 -- the code that a word names, whatever the case of its letters
@@ -53,7 +53,7 @@ some_codes name (Err fault) = Err fault
 -- what words say: the name of a module, and then its codes. A slash is in no name
 abbrev pub line_of_words : List (List ℕ) → Result (Option ReturnLine) TableFault
 line_of_words [] = Ok None
-line_of_words (name ∷ words) = if is_among name 47 then Err BadModule else some_codes name (codes_of_words words)
+line_of_words (name ∷ words) = if list_any (λ b. b == 47) name then Err BadModule else some_codes name (codes_of_words words)
 
 -- what a line says. A comment says nothing, and so does a line of blanks
 unfoldable pub return_at : List ℕ → Result (Option ReturnLine) TableFault

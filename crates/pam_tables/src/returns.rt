@@ -81,7 +81,15 @@ fn read_line(line: &[u8]) -> Result<Option<ReturnLine<'_>>, TableFault>
 }
 
 impl ReturnTable {
-    /// The table of the bytes of a file, or its first fault.
+    fn empty(alloc: Global) -> Self
+        ensures { result ≡ [] }
+    {
+        ReturnTable {
+            codes: IndexMap::new(alloc),
+        }
+    }
+
+    /// The table of a returns file, or its first fault.
     ///
     /// A file that is too long comes first (`TableTooLong`, line 0), then a NUL byte (`NulByte`),
     /// then the faults of the lines from the top. In a line a slash in the module's name comes
@@ -91,9 +99,7 @@ impl ReturnTable {
         ensures { Gives Table.Returns (λ table. table) result (returns_of bytes.now) }
     {
         check_bytes(Table::Returns, bytes)?;
-        let mut table = ReturnTable {
-            codes: IndexMap::new(alloc),
-        };
+        let mut table = ReturnTable::empty(alloc);
         for (number, line) in Lines::of(bytes) {
             if let Err(fault) = table.add_line(alloc, line) {
                 return Err(TableError::new(Table::Returns, fault, number));

@@ -1,6 +1,7 @@
 use Rattle.std.proofs.Common.{◌≡◌, ◌∙◌, sym, ap, true, false}
 use Rattle.pam_tables.specs.Groups.{members_of}
-use Rattle.pam_tables.proofs.GroupSteps.{blank_line, bad_line, known_line, new_line, known_group, added_last, has_group}
+use Rattle.pam_tables.proofs.GroupSteps.{blank_line, bad_line, group_line}
+use Rattle.pam_tables.proofs.NamedSteps.{known_name, name_known, name_new, added_last, has_name}
 use Rattle.pam_tables.proofs.groups.Groups.add_line.Goals as goal
 
 pub returns-then-is_blank_text : goal.returns-then-is_blank_text
@@ -11,17 +12,18 @@ returns-in-None c = bad_line c.args.self.now c.args.line.now (sym c.is_blank_tex
 
 pub returns-then-contains_key : goal.returns-then-contains_key
 returns-then-contains_key c =
-    let known : has_group c.in-Some.group.name.now c.args.self.now ≡ true =
-    rw (← c.self.view_is) (known_group (λ k. k.items) (λ v. members_of v.items) c.in-Some.group.name.now c.self.inside.members.entries
+    let known : has_name c.in-Some.group.name.now c.args.self.now ≡ true =
+    rw (← c.self.view_is) (known_name (λ k. k.items) (λ v. members_of v.items) c.in-Some.group.name.now c.self.inside.members.entries
     ∙ sym c.contains_key.ensures ∙ c.if-contains_key.true) in
-    known_line c.args.self.now c.args.line.now c.in-Some.group.name.now _ (sym c.is_blank_text.ensures ∙ c.if-is_blank_text.false) c.in-Some.ensures known
+    name_known c.args.self.now _ c.in-Some.group.name.now _
+    (group_line c.args.line.now _ _ (sym c.is_blank_text.ensures ∙ c.if-is_blank_text.false) c.in-Some.ensures) known
 
 pub returns : goal.returns
 returns c =
-    let new : has_group c.in-Some.group.name.now c.args.self.now ≡ false =
-    rw (← c.self.view_is) (known_group (λ k. k.items) (λ v. members_of v.items) c.in-Some.group.name.now c.self.inside.members.entries
+    let new : has_name c.in-Some.group.name.now c.args.self.now ≡ false =
+    rw (← c.self.view_is) (known_name (λ k. k.items) (λ v. members_of v.items) c.in-Some.group.name.now c.self.inside.members.entries
     ∙ sym c.contains_key.ensures ∙ c.if-contains_key.false) in
-    new_line c.args.self.now _ c.args.line.now c.in-Some.group.name.now (members_of c.in-Some.group.members.now)
-    (sym c.is_blank_text.ensures ∙ c.if-is_blank_text.false) c.in-Some.ensures new
+    name_new c.args.self.now _ c.in-Some.group.name.now (members_of c.in-Some.group.members.now)
+    (group_line c.args.line.now _ _ (sym c.is_blank_text.ensures ∙ c.if-is_blank_text.false) c.in-Some.ensures) _ new
     (added_last (λ k. k.items) (λ v. members_of v.items) c.args.self.now c.self.inside.members.entries _ c.in_ok-name.name c.in_ok-members.members _ _
     c.self.view_is c.in_ok-name.ensures.items (ap members_of c.in_ok-members.ensures.items) new c.in_ok-insert.ensures.entries)

@@ -1,8 +1,9 @@
 use Rattle.std.proofs.Common.{◌∙◌, sym, refl}
 use Rattle.std.proofs.lemmas.Result.{err_from_is_err_and}
-use Rattle.pam_tables.specs.Groups.{groups_of, with_line, group_at}
+use Rattle.pam_tables.specs.Groups.{groups_of, group_at}
+use Rattle.pam_tables.specs.Named.{with_line}
 use Rattle.pam_tables.proofs.ReadSteps.{fails_on, fails_there, checked_fails, checked_passes}
-use Rattle.pam_tables.proofs.GroupSteps.{behind_none, line_added, line_fails, lines_end}
+use Rattle.pam_tables.proofs.NamedSteps.{none_before, line_added, line_fails, lines_end}
 use Rattle.pam_tables.proofs.groups.Groups.read.Goals as goal
 
 pub returns-in_err-check_bytes : goal.returns-in_err-check_bytes
@@ -17,7 +18,7 @@ loop-number-init c =
       can = tt;
       finite = tt;
       same = rw (c.into_iter-number-iterator.ensures.into_iter_gives, c.of-number-items.ensures, c.new-groups.ensures)
-          (behind_none _);
+          (none_before _);
     }
 
 pub returns-in-Err : goal.returns-in-Err
@@ -27,15 +28,15 @@ returns-in-Err c =
       refl,
       fails_there c.in-Err.fault c.in-Some.number (with_line c.loop-number.groups (group_at c.in-Some.line.now)) _
           (λ h. checked_passes c.args.bytes.now _ _ c.in_ok-check_bytes.ensures.fault ∙ sym c.loop-number.invariant.same
-          ∙ line_fails _ _ _ _ _ _ c.in-Some.ensures.steps h) c.in-Err.ensures,
+          ∙ line_fails group_at _ _ _ _ _ _ c.in-Some.ensures.steps h) c.in-Err.ensures,
     )
 
 pub loop-number-preserved : goal.loop-number-preserved
 loop-number-preserved c =
-    record { can = tt; finite = tt; same = line_added _ _ _ _ _ _ c.in-Some.ensures.steps c.in_default.ensures ∙ c.loop-number.invariant.same }
+    record { can = tt; finite = tt; same = line_added group_at _ _ _ _ _ _ c.in-Some.ensures.steps c.in_default.ensures ∙ c.loop-number.invariant.same }
 
 pub returns : goal.returns
 unfolding groups_of
 returns c =
     checked_passes c.args.bytes.now _ _ c.in_ok-check_bytes.ensures.fault ∙ sym c.loop-number.invariant.same
-    ∙ lines_end c.loop-number.groups _ c.in-None.ensures.steps.0
+    ∙ lines_end group_at c.loop-number.groups _ c.in-None.ensures.steps.0

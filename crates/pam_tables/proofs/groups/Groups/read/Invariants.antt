@@ -1,13 +1,14 @@
 use Rattle.std.proofs.Common.{◌≡◌}
-use Rattle.pam_tables.specs.Groups.{first_of_each_read}
+use Rattle.pam_tables.specs.Groups.{group_at}
 use Rattle.pam_tables.specs.Lines.{lines_from, lines_left}
-use Rattle.pam_tables.proofs.GroupSteps.{behind, lines_of_groups}
+use Rattle.pam_tables.specs.Named.{first_of_each_read}
+use Rattle.pam_tables.proofs.NamedSteps.{entries_in, followed_by}
 use Rattle.pam_tables.proofs.groups.Groups.read.Given as goal
 
 abbrev pub invariant-loop-number : goal.invariant-loop-number
 invariant-loop-number l = record {
   can : (goal.iterator-loop-number).can_next l.number-iterator;
   finite : (goal.iterator-loop-number).is_finite l.number-iterator;
-  same : behind l.groups (lines_of_groups (lines_left l.number-iterator.is_done l.number-iterator.number l.number-iterator.rest.now))
-      ≡ first_of_each_read (lines_of_groups (lines_from 1 l.bytes));
+  same : followed_by l.groups (entries_in group_at (lines_left l.number-iterator.is_done l.number-iterator.number l.number-iterator.rest.now))
+      ≡ first_of_each_read (entries_in group_at (lines_from 1 l.bytes));
 }
