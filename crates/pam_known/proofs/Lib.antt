@@ -1,0 +1,4 @@
+pub mod FaultSteps
+pub mod KnowledgeSteps
+pub mod Listings
+pub mod SetSteps

@@ -1,0 +1,95 @@
+-- What a table tells of the answer of a module: pam_access(8), pam_time(8).
+use Rattle.std.specs.Prelude.{◌≡◌, ℕ, ◌==◌, Bool, ◌&&◌, not, nat_eq, if◌then◌else◌, List, codes, Option, Some, None, Result, Ok, Err}
+use Rattle.std.specs.List.{after_last, list_any, starts_with}
+use Rattle.std.specs.Option.{option_map, option_or}
+use Rattle.std.specs.Str.{bytes_eq}
+use Rattle.pam_conf.specs.Stack.{ModuleText}
+use Rattle.pam_conf.specs.Walk.{same_kind}
+use Rattle.pam_conf.specs.declared.rule.Kind.{Kind}
+use Rattle.pam_conf.specs.declared.rule.Kind.TheVariants.{Account}
+use Rattle.pam_dispatch.specs.State.{perm_denied, success}
+use Rattle.pam_tables.specs.Access.{access_answer, table_of}
+use Rattle.pam_tables.specs.Groups.{Group}
+use Rattle.pam_tables.specs.Login.{LoginText}
+use Rattle.pam_tables.specs.Options.{options_of}
+use Rattle.pam_tables.specs.declared.access.AccessAnswer.{AccessAnswer}
+use Rattle.pam_tables.specs.declared.access.AccessAnswer.TheVariants as access
+use Rattle.pam_tables.specs.declared.error.Table.{Table}
+use Rattle.pam_tables.specs.declared.error.Table.TheVariants.{Access, Time}
+use Rattle.pam_tables.specs.declared.error.TableError.{TableError}
+use Rattle.pam_tables.specs.declared.error.TableFault.{TableFault}
+use Rattle.pam_tables.specs.declared.error.TableFault.TheVariants.{Memory}
+use Rattle.pam_times.specs.Reading.{rules_of}
+use Rattle.pam_times.specs.Times.{answer_of}
+use Rattle.pam_times.specs.declared.times.TimeAnswer.{TimeAnswer}
+use Rattle.pam_times.specs.declared.times.TimeAnswer.TheVariants as times
+use Rattle.pam_known.specs.Tables.{TablesText, TimedText}
+
+-- ---- what a call answers, by what is told
+
+-- a fault is exactly this one, unless memory ran out, which belongs to no line
+abbrev pub IsFault : TableError → TableFault → Type 0 → Type 0
+IsFault e Memory exact = e.line ≡ 0
+IsFault e fault exact = exact
+
+-- a value, or the first fault, unless memory ran out
+abbrev pub Tells : {X Y : Type 0} → (X → Y) → Result X TableError → Result Y TableError → Type 0
+Tells view (Ok x) told = told ≡ Ok (view x)
+Tells view (Err e) told = IsFault e e.fault (told ≡ Err e)
+
+-- what reading a table gives, whose fault names the table
+abbrev pub read_as : {T : Type 0} → Table → Result T (TableFault × ℕ) → Result T TableError
+read_as table (Ok t) = Ok t
+read_as table (Err e) = Err (record { table = table; fault = e.0; line = e.1 })
+
+-- ---- the table that a module reads
+
+-- the name of a module: what stands after the last slash of its path
+unfoldable pub name_of_path : List ℕ → List ℕ
+name_of_path path = after_last (λ b. b == 47) path
+
+-- some argument begins with this key
+unfoldable pub has_key : List ℕ → List (List ℕ) → Bool
+has_key key arguments = list_any (λ a. starts_with nat_eq a key) arguments
+
+-- a module of this name, where no argument with this key names another file
+unfoldable pub is_reader : List ℕ → List ℕ → ModuleText → Bool
+is_reader name key m = bytes_eq (name_of_path m.path) name && not (has_key key m.arguments)
+
+-- the access table, where the module reads it and it is given
+unfoldable pub access_read : TablesText → ModuleText → Option (List ℕ)
+access_read tables m = if is_reader (codes "pam_access.so") (codes "accessfile=") m then tables.access else None
+
+-- the time table, where the module reads it, which it does for accounts alone, and it is given
+unfoldable pub time_read : Kind → TablesText → ModuleText → Option TimedText
+time_read kind tables m =
+    if same_kind kind Account && is_reader (codes "pam_time.so") (codes "conffile=") m then tables.time else None
+
+-- ---- what it tells
+
+-- a login that is granted is a success
+abbrev pub access_code : AccessAnswer → ℕ
+access_code (access.Granted line) = success
+access_code (access.Denied line) = perm_denied
+
+abbrev pub time_code : TimeAnswer → ℕ
+time_code times.Granted = success
+time_code (times.Denied line) = perm_denied
+
+abbrev pub result_map : {X Y E : Type 0} → (X → Y) → Result X E → Result Y E
+result_map f (Ok x) = Ok (f x)
+result_map f (Err e) = Err e
+
+-- what an access table tells, read with the arguments of the module
+unfoldable pub access_told : LoginText → List Group → List (List ℕ) → List ℕ → Result ℕ TableError
+access_told login groups arguments bytes =
+    result_map (λ table. access_code (access_answer table login groups)) (read_as Access (table_of (options_of arguments) bytes))
+
+-- what a time table tells
+unfoldable pub time_told : LoginText → TimedText → Result ℕ TableError
+time_told login timed = result_map (λ rules. time_code (answer_of rules login timed.moment)) (read_as Time (rules_of timed.bytes))
+
+-- WHAT A TABLE TELLS of the answer of a module, as a code, or the table's fault; none where no table tells it
+unfoldable pub table_answer : Kind → LoginText → TablesText → List Group → ModuleText → Option (Result ℕ TableError)
+table_answer kind login tables groups m =
+    option_or (option_map (access_told login groups m.arguments) (access_read tables m)) (option_map (time_told login) (time_read kind tables m))

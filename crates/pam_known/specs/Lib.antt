@@ -1,0 +1,5 @@
+pub mod Answers
+pub mod Knowledge
+pub mod Laws
+pub mod Sets
+pub mod Tables

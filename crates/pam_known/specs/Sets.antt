@@ -1,0 +1,52 @@
+-- For proofs alone: the sets of codes of modules, found one after another.
+use Rattle.std.specs.Prelude.{◌≡◌, ℕ, ◌+◌, ◌<◌, ◌≤◌, List, [], Option, Some, None, Result, Ok, Err}
+use Rattle.std.specs.Option.{option_map}
+use Rattle.pam_codes.specs.Set.{is_in}
+use Rattle.pam_conf.specs.Stack.{Items}
+use Rattle.pam_paths.specs.Known.{answers_by, set_for}
+use Rattle.pam_paths.specs.declared.knowledge.Known.{Known}
+use Rattle.pam_tables.specs.Login.{LoginText, login_view}
+use Rattle.pam_tables.specs.declared.error.TableError.{TableError}
+use Rattle.pam_known.specs.Answers.{IsFault, time_told}
+use Rattle.pam_known.specs.Knowledge.{codes_by, first_fault, numbers, told_at}
+use Rattle.pam_known.specs.Tables.{TimedText, tables_view}
+use Rattle.pam_known.specs.declared.known.Lookup.{Lookup}
+
+-- a code that a table tells, where one does, or its fault, unless memory ran out
+abbrev pub TellsIfAny : Result (Option ℕ) TableError → Option (Result ℕ TableError) → Type 0
+TellsIfAny (Ok None) told = told ≡ None
+TellsIfAny (Ok (Some code)) told = told ≡ Some (Ok code)
+TellsIfAny (Err e) told = IsFault e e.fault (told ≡ Some (Err e))
+
+-- what is kept is what the time table tells
+abbrev pub IsTold : LoginText → Option TimedText → Option ℕ → Type 0
+IsTold login time None = Unit {0}
+IsTold login time (Some code) = option_map (time_told login) time ≡ Some (Ok code)
+
+-- a set that is known lets a module answer exactly these codes
+unfoldable pub Lets : List ℕ → List ℕ → Type 0
+Lets codes set = (code : ℕ) → code < 31 → answers_by set code ≡ is_in code codes
+
+-- of the modules 1 to n, the sets up to a number are done, and those that follow are as before
+pub record AreDone (n : ℕ) (before done : ℕ → List ℕ → Type 0) (sets : ℕ → List ℕ) (number : ℕ) : Type 0 where
+  pub first : (m : ℕ) → 1 ≤ m → m ≤ number → done m (sets m)
+  pub rest : (m : ℕ) → number < m → m ≤ n → before m (sets m)
+
+-- what tables tell the lookup of the module of a number
+abbrev pub told_to : Lookup → Items → ℕ → Option (Result ℕ TableError)
+told_to l items number = told_at l.kind (login_view l.login) (tables_view l.tables) l.groups.now items number
+
+-- the sets that tables tell, and those that tables and a returns file tell
+abbrev pub nothing_set : ℕ → List ℕ → Type 0
+nothing_set number set = set ≡ []
+
+abbrev pub table_set : (ℕ → Option (Result ℕ TableError)) → ℕ → List ℕ → Type 0
+table_set told number set = Lets (codes_by (told number) None) set
+
+abbrev pub line_set : (ℕ → Option (Result ℕ TableError)) → (ℕ → Option (List ℕ)) → ℕ → List ℕ → Type 0
+line_set told line number set = Lets (codes_by (told number) (line number)) set
+
+-- what tables tell of the modules 1 to n, or the first fault, unless memory ran out
+abbrev pub TellsAll : ℕ → (ℕ → Option (Result ℕ TableError)) → List ℕ → Result Known TableError → Type 0
+TellsAll n told numbers (Ok known) = (first_fault told numbers ≡ None) × ((m : ℕ) → 1 ≤ m → m ≤ n → table_set told m (set_for known m))
+TellsAll n told numbers (Err e) = IsFault e e.fault (first_fault told numbers ≡ Some e)

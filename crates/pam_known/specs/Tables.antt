@@ -1,0 +1,29 @@
+-- The tables in which a login is looked up: access.conf(5), time.conf(5), group(5).
+use Rattle.std.specs.Prelude.{ℕ, List, Option}
+use Rattle.std.specs.Option.{option_map}
+use Rattle.jiff.specs.Types.{DateTime}
+use Rattle.pam_known.specs.declared.tables.Tables.{Tables}
+use Rattle.pam_known.specs.declared.tables.TimedTable.{TimedTable}
+
+-- a time table, and the moment at which it is asked
+pub record TimedText : Type 0 where
+  pub bytes : List ℕ
+  pub moment : DateTime
+
+-- the tables that are given
+pub record TablesText : Type 0 where
+  pub groups : Option (List ℕ)
+  pub access : Option (List ℕ)
+  pub time : Option TimedText
+  pub returns : Option (List ℕ)
+
+abbrev pub timed_view : TimedTable → TimedText
+timed_view t = record { bytes = t.bytes.now; moment = t.moment }
+
+abbrev pub tables_view : Tables → TablesText
+tables_view t = record {
+  groups = option_map (λ b. b.now) t.groups;
+  access = option_map (λ b. b.now) t.access;
+  time = option_map timed_view t.time;
+  returns = option_map (λ b. b.now) t.returns;
+}

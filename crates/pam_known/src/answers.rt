@@ -1,0 +1,130 @@
+//! What a table tells of the answer of a module.
+
+ghost use Rattle.std.specs.Prelude.{◌≡◌, ◌≤◌, ◌==◌, not, length, map};
+ghost use Rattle.std.specs.List.{suffix_len};
+ghost use Rattle.std.specs.Option.{option_map};
+ghost use Rattle.pam_conf.specs.ItemsOf.{module_text};
+ghost use Rattle.pam_known.specs.Answers.{Tells, access_code, access_read, access_told, has_key, is_reader, name_of_path, time_code, time_read, time_told};
+ghost use Rattle.pam_known.specs.Tables.{tables_view, timed_view};
+ghost use Rattle.pam_tables.specs.Login.{login_view};
+
+use crate::tables::{Tables, TimedTable};
+use pam_codes::Code;
+use pam_conf::{Kind, Module};
+use pam_tables::{AccessAnswer, AccessOptions, AccessTable, Groups, Login, TableError};
+use pam_times::{TimeAnswer, TimeTable};
+use std::alloc::Global;
+
+fn bytes_after_slash(path: &[u8]) -> usize
+    ensures value { result ≡ suffix_len (λ b. not (b == 47)) path.now }
+    ensures bound { result ≤ length path.now }
+{
+    path.iter().rev().take_while(|b| **b != b'/').count()
+}
+
+/// The name of the module at a path: what follows its last slash.
+#[tactic(auto, unfolding(crate::specs::Answers::name_of_path))]
+pub(crate) fn name_of_path(path: &[u8]) -> &[u8]
+    ensures { result.now ≡ name_of_path path.now }
+{
+    path.split_at(path.len() - bytes_after_slash(path)).1
+}
+
+/// Whether some argument begins with a key.
+#[tactic(auto, unfolding(crate::specs::Answers::has_key))]
+fn has_key(key: &[u8], arguments: &[Vec<u8>]) -> bool
+    ensures { result ≡ has_key key.now (map (λ a. a.items) arguments.now) }
+{
+    for argument in arguments {
+        if argument.starts_with(key) {
+            return true;
+        }
+    }
+    false
+}
+
+/// Whether a module of this name reads the table of the system, as it does unless an argument names another file.
+#[tactic(auto, unfolding(crate::specs::Answers::is_reader))]
+fn is_reader(name: &[u8], key: &[u8], module: &Module) -> bool
+    ensures { result ≡ is_reader name.now key.now (module_text module.now) }
+{
+    name_of_path(&module.path) == name && !has_key(key, &module.arguments)
+}
+
+/// The access table, if the module reads it: pam_access(8).
+#[tactic(auto, unfolding(crate::specs::Answers::access_read))]
+pub(crate) fn access_read<'a>(tables: &Tables<'a>, module: &Module) -> Option<&'a [u8]>
+    ensures { option_map (λ b. b.now) result ≡ access_read (tables_view tables.now) (module_text module.now) }
+{
+    if is_reader(b"pam_access.so", b"accessfile=", module) {
+        tables.access
+    } else {
+        None
+    }
+}
+
+/// The time table, if the module reads it, which it does for accounts alone: pam_time(8).
+#[tactic(auto, unfolding(crate::specs::Answers::time_read))]
+pub(crate) fn time_read<'a>(
+    kind: Kind,
+    tables: &Tables<'a>,
+    module: &Module,
+) -> Option<TimedTable<'a>>
+    ensures { option_map timed_view result ≡ time_read kind (tables_view tables.now) (module_text module.now) }
+{
+    if kind == Kind::Account && is_reader(b"pam_time.so", b"conffile=", module) {
+        tables.time
+    } else {
+        None
+    }
+}
+
+fn access_code(answer: AccessAnswer) -> Code
+    ensures { result ≡ access_code answer }
+{
+    match answer {
+        AccessAnswer::Granted(_) => Code::SUCCESS,
+        AccessAnswer::Denied(_) => Code::PERM_DENIED,
+    }
+}
+
+fn time_code(answer: TimeAnswer) -> Code
+    ensures { result ≡ time_code answer }
+{
+    match answer {
+        TimeAnswer::Granted => Code::SUCCESS,
+        TimeAnswer::Denied(_) => Code::PERM_DENIED,
+    }
+}
+
+/// What an access table tells of a login, read with the arguments of the module.
+#[tactic(auto, unfolding(crate::specs::Answers::access_told))]
+pub(crate) fn access_told(
+    alloc: Global,
+    login: &Login<'_>,
+    groups: &Groups,
+    arguments: &[Vec<u8>],
+    bytes: &[u8],
+) -> Result<Code, TableError>
+    ensures { Tells (λ code. code) result (access_told (login_view login.now) groups.now (map (λ a. a.items) arguments.now) bytes.now) }
+{
+    match AccessTable::read(alloc, bytes, &AccessOptions::of(arguments)) {
+        Ok(table) => Ok(access_code(table.decide(login, groups))),
+        Err(error) => Err(error),
+    }
+}
+
+/// What a time table tells of a login.
+#[tactic(auto, unfolding(crate::specs::Answers::time_told))]
+pub(crate) fn time_told(
+    alloc: Global,
+    login: &Login<'_>,
+    table: TimedTable<'_>,
+) -> Result<Code, TableError>
+    ensures { Tells (λ code. code) result (time_told (login_view login.now) (timed_view table.entry)) }
+{
+    match TimeTable::read(alloc, table.bytes) {
+        Ok(rules) => Ok(time_code(rules.decide(login, &table.moment))),
+        Err(error) => Err(error),
+    }
+}

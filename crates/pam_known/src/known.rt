@@ -1,0 +1,220 @@
+//! What is known of the answers of all modules of a stack.
+
+ghost use Rattle.std.specs.Prelude.{◌≡◌, ◌≢◌, ◌<◌, ◌≤◌, ℕ, [], None, IfNone, IfSome};
+ghost use Rattle.std.specs.List.{list_any};
+ghost use Rattle.pam_codes.specs.Set.{IsCodeSet};
+ghost use Rattle.pam_conf.specs.ItemsOf.{module_text};
+ghost use Rattle.pam_conf.specs.Stack.{module_count};
+ghost use Rattle.pam_known.specs.Answers.{Tells, table_answer};
+ghost use Rattle.pam_known.specs.Knowledge.{Knows, codes_by, groups_read, knowledge, line_at, numbers, reads_access};
+ghost use Rattle.pam_known.specs.Sets.{IsTold, Lets, TellsAll, TellsIfAny, line_set, table_set, told_to};
+ghost use Rattle.pam_known.specs.Tables.{tables_view, timed_view};
+ghost use Rattle.pam_paths.specs.Known.{set_for};
+ghost use Rattle.pam_tables.specs.Login.{login_view};
+
+use crate::answers::{access_read, access_told, name_of_path, time_read, time_told};
+use crate::tables::{Tables, TimedTable};
+use pam_codes::{Code, CodeSet};
+use pam_conf::{Kind, Module, Stack};
+use pam_paths::Known;
+use pam_tables::{Groups, Login, ReturnTable, TableError};
+use std::alloc::Global;
+
+/// Whether the module of a number reads the access table.
+fn reads_access(stack: &Stack, tables: &Tables<'_>, number: usize) -> bool
+    ensures { result ≡ reads_access (tables_view tables.now) stack.now number }
+{
+    match stack.module(number) {
+        Some(module) => access_read(tables, module).is_some(),
+        None => false,
+    }
+}
+
+/// Whether some module reads the access table.
+fn some_reads_access(stack: &Stack, tables: &Tables<'_>) -> bool
+    ensures { result ≡ list_any (reads_access (tables_view tables.now) stack.now) (numbers stack.now) }
+{
+    for index in 0..stack.modules() {
+        if reads_access(stack, tables, index + 1) {
+            return true;
+        }
+    }
+    false
+}
+
+/// The groups, whose file is read only where some module reads the access table.
+#[tactic(auto, unfolding(crate::specs::Knowledge::groups_read))]
+fn groups_read(
+    alloc: Global,
+    stack: &Stack,
+    tables: &Tables<'_>,
+) -> Result<Groups, TableError>
+    ensures { Tells (λ groups. groups) result (groups_read (tables_view tables.now) stack.now) }
+{
+    if !some_reads_access(stack, tables) {
+        return Ok(Groups::new(alloc));
+    }
+    match tables.groups {
+        Some(bytes) => Groups::read(alloc, bytes),
+        None => Ok(Groups::new(alloc)),
+    }
+}
+
+/// Who logs in to a stack of which kind, and the tables and groups that tell of it.
+#[derive(Clone, Copy)]
+struct Lookup<'a> {
+    kind: Kind,
+    login: Login<'a>,
+    tables: Tables<'a>,
+    groups: &'a Groups,
+}
+
+impl Lookup<'_> {
+    /// What the time table tells. It is the same for all modules, so it is kept.
+    fn time_answer(
+        &self,
+        alloc: Global,
+        table: TimedTable<'_>,
+        by_time: &mut Option<Code>,
+    ) -> Result<Code, TableError>
+        requires kept { IsTold (login_view self.now.login) (tables_view self.now.tables).time by_time.old }
+        requires table { (tables_view self.now.tables).time ≡ Some (timed_view table.entry) }
+        ensures told { Tells (λ code. code) result (time_told (login_view self.now.login) (timed_view table.entry)) }
+        ensures kept { IsTold (login_view self.now.login) (tables_view self.now.tables).time by_time.new }
+    {
+        if let Some(code) = *by_time {
+            return Ok(code);
+        }
+        let code = time_told(alloc, &self.login, table)?;
+        *by_time = Some(code);
+        Ok(code)
+    }
+
+    /// What its table tells of the answer of a module, if it reads one. `by_time` is what the time table told before.
+    #[tactic(auto, unfolding(crate::specs::Answers::table_answer))]
+    fn answer_of(
+        &self,
+        alloc: Global,
+        module: &Module,
+        by_time: &mut Option<Code>,
+    ) -> Result<Option<Code>, TableError>
+        requires { IsTold (login_view self.now.login) (tables_view self.now.tables).time by_time.old }
+        ensures told { TellsIfAny result (table_answer self.now.kind (login_view self.now.login) (tables_view self.now.tables) self.now.groups.now (module_text module.now)) }
+        ensures kept { IsTold (login_view self.now.login) (tables_view self.now.tables).time by_time.new }
+    {
+        if let Some(bytes) = access_read(&self.tables, module) {
+            let code = access_told(alloc, &self.login, self.groups, &module.arguments, bytes)?;
+            return Ok(Some(code));
+        }
+        match time_read(self.kind, &self.tables, module) {
+            Some(table) => {
+                let code = self.time_answer(alloc, table, by_time)?;
+                Ok(Some(code))
+            }
+            None => Ok(None),
+        }
+    }
+
+    /// The same of the module of a number.
+    fn answer_at(
+        &self,
+        alloc: Global,
+        stack: &Stack,
+        number: usize,
+        by_time: &mut Option<Code>,
+    ) -> Result<Option<Code>, TableError>
+        requires { IsTold (login_view self.now.login) (tables_view self.now.tables).time by_time.old }
+        ensures told { TellsIfAny result (told_to self.now stack.now number) }
+        ensures kept { IsTold (login_view self.now.login) (tables_view self.now.tables).time by_time.new }
+    {
+        match stack.module(number) {
+            Some(module) => self.answer_of(alloc, module, by_time),
+            None => Ok(None),
+        }
+    }
+
+    /// What tables tell of the answers of all modules.
+    fn table_answers(&self, alloc: Global, stack: &Stack) -> Result<Known, TableError>
+        ensures { TellsAll (module_count stack.now) (told_to self.now stack.now) (numbers stack.now) result }
+    {
+        let mut known = Known::new();
+        let mut by_time = None;
+        for index in 0..stack.modules() {
+            if let Some(code) = self.answer_at(alloc, stack, index + 1, &mut by_time)? {
+                known.set(index + 1, CodeSet::single(code));
+            }
+        }
+        Ok(known)
+    }
+
+    /// The codes of a module's line in a returns file, if it has one and reads no table.
+    fn codes_of(&self, module: &Module, returns: &ReturnTable) -> Option<CodeSet> {
+        if access_read(&self.tables, module).is_some() {
+            return None;
+        }
+        if time_read(self.kind, &self.tables, module).is_some() {
+            return None;
+        }
+        returns.codes(name_of_path(&module.path))
+    }
+
+    /// The same of the module of a number.
+    fn codes_at(&self, stack: &Stack, number: usize, returns: &ReturnTable) -> Option<CodeSet>
+        ensures none { IfNone result (codes_by (told_to self.now stack.now number) (line_at returns.now stack.now number) ≡ codes_by (told_to self.now stack.now number) None) }
+        ensures codes { IfSome result (λ codes. codes_by (told_to self.now stack.now number) (line_at returns.now stack.now number) ≡ codes) }
+        ensures some { IfSome result (λ codes. codes ≢ []) }
+        ensures order { IfSome result (λ codes. IsCodeSet codes) }
+    {
+        match stack.module(number) {
+            Some(module) => self.codes_of(module, returns),
+            None => None,
+        }
+    }
+
+    /// Adds what a returns file tells of the modules that read no table.
+    fn add_returns(&self, stack: &Stack, returns: &ReturnTable, known: &mut Known)
+        requires { (m : ℕ) → 1 ≤ m → m ≤ module_count stack.now → table_set (told_to self.now stack.now) m (set_for known.old m) }
+        ensures { (m : ℕ) → 1 ≤ m → m ≤ module_count stack.now → line_set (told_to self.now stack.now) (line_at returns.now stack.now) m (set_for known.new m) }
+    {
+        for index in 0..stack.modules() {
+            if let Some(codes) = self.codes_at(stack, index + 1, returns) {
+                known.set(index + 1, codes);
+            }
+        }
+    }
+}
+
+/// What is known of the answers of the modules of a stack of this kind, for a login.
+///
+/// A module `pam_access.so` answers what the access table tells, read with the module's own
+/// arguments, unless one of them begins with `accessfile=`; `pam_time.so`, for accounts alone, what
+/// the time table tells, unless an argument begins with `conffile=`. Granted is `success`, denied
+/// `perm_denied`. Each other module answers the codes of its name's line in the returns file, and
+/// any code where there is none.
+///
+/// The first fault is an error: that of the group file, which is read only where a module reads the
+/// access table; then, over the modules in turn, that of the table that a module reads; then that of
+/// the returns file. A failed allocation is `Memory`, with line 0.
+pub fn known_answers(
+    alloc: Global,
+    stack: &Stack,
+    kind: Kind,
+    login: &Login<'_>,
+    tables: &Tables<'_>,
+) -> Result<Known, TableError>
+    ensures { Knows (module_count stack.now) result (knowledge kind (login_view login.now) (tables_view tables.now) stack.now) }
+{
+    let groups = groups_read(alloc, stack, tables)?;
+    let lookup = Lookup {
+        kind,
+        login: *login,
+        tables: *tables,
+        groups: &groups,
+    };
+    let mut known = lookup.table_answers(alloc, stack)?;
+    if let Some(bytes) = tables.returns {
+        let returns = ReturnTable::read(alloc, bytes)?;
+        lookup.add_returns(stack, &returns, &mut known);
+    }
+    Ok(known)
+}

@@ -1,0 +1,187 @@
+//! What tables and a returns file tell of the answers of modules.
+
+use crate::files::put;
+use pam_codes::{Code, CodeSet};
+use pam_conf::{Files, Form, Kind, Stack, resolve};
+use pam_known::{Tables, TimedTable, known_answers};
+use pam_paths::{Knowledge, Known};
+use pam_tables::{Login, Table, TableError, TableFault};
+use pam_times::civil;
+use std::alloc::Global;
+use std::process::Abort;
+use std::test::Fail;
+
+const DENY: &[u8] = b"-:ALL:ALL";
+
+fn no_tables() -> Tables<'static> {
+    Tables {
+        groups: None,
+        access: None,
+        time: None,
+        returns: None,
+    }
+}
+
+/// An access table that denies every login.
+fn denying() -> Tables<'static> {
+    Tables {
+        access: Some(DENY),
+        ..no_tables()
+    }
+}
+
+fn stack_of(alloc: Global, kind: Kind, rules: &[u8]) -> Result<Stack, Fail> {
+    let mut files = Files::new(alloc, Form::Dir);
+    put(alloc, &mut files, b"login", rules)?;
+    Ok(resolve(alloc, &files, b"login", kind)?)
+}
+
+/// What is known of the modules of these rules, for bob.
+fn known(
+    alloc: Global,
+    kind: Kind,
+    rules: &[u8],
+    tables: &Tables<'_>,
+) -> Result<Result<Known, TableError>, Fail> {
+    let stack = stack_of(alloc, kind, rules)?;
+    let login = Login {
+        user: b"bob",
+        service: b"login",
+        tty: b"",
+        rhost: b"",
+    };
+    Ok(known_answers(alloc, &stack, kind, &login, tables))
+}
+
+/// What an account stack of these rules may answer, by the numbers of its first two modules.
+fn answers(
+    alloc: Global,
+    rules: &[u8],
+    tables: &Tables<'_>,
+) -> Result<(CodeSet, CodeSet), Fail> {
+    let known = known(alloc, Kind::Account, rules, tables)??;
+    Ok((known.allowed(1), known.allowed(2)))
+}
+
+fn fault(alloc: Global, rules: &[u8], tables: &Tables<'_>) -> Result<Option<TableError>, Fail> {
+    Ok(known(alloc, Kind::Account, rules, tables)?.err())
+}
+
+fn timed(bytes: &[u8]) -> Result<Option<TimedTable<'_>>, Fail> {
+    let moment = civil(b"2024-05-11T07:59")?;
+    Ok(Some(TimedTable { bytes, moment }))
+}
+
+fn at_line(table: Table, fault: TableFault, line: u32) -> Option<TableError> {
+    Some(TableError { table, fault, line })
+}
+
+fn denied() -> CodeSet {
+    CodeSet::single(Code::PERM_DENIED)
+}
+
+#[test]
+fn an_access_table_tells_its_module_alone(rt: HostRuntime) -> Result<(), Fail> {
+    let rules = b"account required /lib/pam_access.so\naccount required pam_unix.so";
+    let told = answers(rt.alloc(), rules, &denying())?;
+    assert_eq!(rt; told, (denied(), CodeSet::all()));
+    let told = answers(rt.alloc(), rules, &no_tables())?;
+    assert_eq!(rt; told, (CodeSet::all(), CodeSet::all()));
+    Ok(())
+}
+
+#[test]
+fn an_access_table_is_read_with_the_arguments_of_each_module(rt: HostRuntime) -> Result<(), Fail> {
+    let rules = b"account required pam_access.so fieldsep=|\naccount required pam_access.so accessfile=/x";
+    let tables = Tables {
+        access: Some(b"+|ALL|ALL"),
+        ..no_tables()
+    };
+    let told = answers(rt.alloc(), rules, &tables)?;
+    assert_eq!(rt; told, (CodeSet::single(Code::SUCCESS), CodeSet::all()));
+    Ok(())
+}
+
+#[test]
+fn a_time_table_tells_accounts_alone(rt: HostRuntime) -> Result<(), Fail> {
+    let tables = Tables {
+        time: timed(b"*;*;*;!Al0000-2400")?,
+        ..no_tables()
+    };
+    let rules = b"account required pam_time.so\naccount required pam_time.so conffile=/x\nauth required pam_time.so";
+    let told = answers(rt.alloc(), rules, &tables)?;
+    assert_eq!(rt; told, (denied(), CodeSet::all()));
+    let free = known(rt.alloc(), Kind::Auth, rules, &tables)??;
+    assert_eq!(rt; free.allowed(1), CodeSet::all());
+    Ok(())
+}
+
+#[test]
+fn a_returns_file_tells_what_no_table_tells(rt: HostRuntime) -> Result<(), Fail> {
+    let rules = b"account required pam_access.so\naccount required /lib/b.so";
+    let returns = b"pam_access.so success\nb.so auth_err Success\n";
+    let tables = Tables {
+        returns: Some(returns),
+        ..denying()
+    };
+    let (first, second) = answers(rt.alloc(), rules, &tables)?;
+    assert_eq!(rt; first, denied());
+    assert_eq!(rt; (second.len(), second.least()), (2, Some(Code::SUCCESS)));
+    Ok(())
+}
+
+#[test]
+fn tables_that_no_module_reads_have_no_fault(rt: HostRuntime) -> Result<(), Fail> {
+    let tables = Tables {
+        groups: Some(b"bad"),
+        access: Some(b"bad"),
+        time: timed(b"bad")?,
+        returns: Some(b"b.so success"),
+    };
+    let found = fault(rt.alloc(), b"account required b.so", &tables)?;
+    assert_eq!(rt; found, None);
+    let found = fault(rt.alloc(), b"account required pam_time.so", &tables)?;
+    assert_eq!(rt; found, at_line(Table::Time, TableFault::MissingField, 1));
+    Ok(())
+}
+
+/// That the first fault is this one, in stacks whose modules read the time table first, or the access table.
+fn is_first(
+    rt: &impl Abort,
+    alloc: Global,
+    tables: &Tables<'_>,
+    time_first: Option<TableError>,
+    access_first: Option<TableError>,
+) -> Result<(), Fail> {
+    let rules = b"account required pam_time.so\naccount required pam_access.so";
+    assert_eq!(rt; fault(alloc, rules, tables)?, time_first);
+    let rules = b"account required pam_access.so\naccount required pam_time.so";
+    assert_eq!(rt; fault(alloc, rules, tables)?, access_first);
+    Ok(())
+}
+
+#[test]
+fn groups_come_first_then_tables_by_modules_then_returns(rt: HostRuntime) -> Result<(), Fail> {
+    let groups = at_line(Table::Group, TableFault::BadGroup, 1);
+    let access = at_line(Table::Access, TableFault::MissingField, 1);
+    let time = at_line(Table::Time, TableFault::MissingField, 1);
+    let returns = at_line(Table::Returns, TableFault::MissingField, 1);
+    let all_bad = Tables {
+        groups: Some(b"bad"),
+        access: Some(b"bad"),
+        time: timed(b"bad")?,
+        returns: Some(b"bad"),
+    };
+    is_first(&rt, rt.alloc(), &all_bad, groups, groups)?;
+    let no_groups = Tables {
+        groups: None,
+        ..all_bad
+    };
+    is_first(&rt, rt.alloc(), &no_groups, time, access)?;
+    let good_tables = Tables {
+        access: Some(DENY),
+        time: timed(b"")?,
+        ..no_groups
+    };
+    is_first(&rt, rt.alloc(), &good_tables, returns, returns)
+}
