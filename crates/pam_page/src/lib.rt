@@ -1,0 +1,9 @@
+//! One page of the paths through a stack, as text.
+#![tactic(auto)]
+
+mod line;
+mod listing;
+mod page;
+
+pub use listing::Listing;
+pub use page::put_page;
