@@ -1,9 +1,9 @@
 #!/usr/bin/env python3
-"""Measures the built program: python3 benches/run.py PROGRAM [--decisions PROGRAM] [--paths PROGRAM] [--only WORD] [--runs N]
+"""Measures the built program: python3 benches/run.py PROGRAM [--pages] [--decisions PROGRAM] [--paths PROGRAM] [--only WORD] [--runs N]
 
 For each case the inputs are made anew in a temporary folder, the program is run once to warm up and then N times, and
 the least and the median wall time and the peak memory are printed, with the same for an input twice as large where
-growth is of interest. It needs Python's standard library and, for peak memory, /usr/bin/time. With --decisions it also
+growth is of interest. With --pages it also prints long pages of paths. It needs Python's standard library and, for peak memory, /usr/bin/time. With --decisions it also
 runs that program, which decides one stack many times by the library alone; with --paths that one, which explores stacks
 by the library alone.
 """
@@ -168,9 +168,25 @@ def measure_paths(program):
         print("| %s | %.2f | %.2f | %.1f | %.1f MB |" % (name, paths / min(times) / 1e6, steps / paths, modules / paths, peak / 1000))
 
 
+def measure_pages(program, runs):
+    print("| Stack | lines | least | median | million lines a second | peak memory | half as many lines, least |")
+    print("|---|---|---|---|---|---|---|")
+    for name, limit, text in STACKS:
+        with tempfile.TemporaryDirectory() as folder:
+            pam_d(login=text.encode())(folder)
+            words = ["paths", "login", "auth", "--dir", "d", "--limit"]
+            half, _, _ = measure(program, words + [str(limit // 2)], folder, runs)
+            least, median, peak = measure(program, words + [str(limit)], folder, runs)
+            page = subprocess.run([program] + words + [str(limit)], cwd=folder, stdout=subprocess.PIPE, check=True).stdout
+        count = page.count(b"\n") - 2
+        print("| %s | %d | %.1f ms | %.1f ms | %.2f | %.1f MB | %.1f ms |" % (
+            name, count, least * 1000, median * 1000, count / least / 1e6, peak / 1000, half * 1000))
+
+
 def main():
     parser = argparse.ArgumentParser()
     parser.add_argument("program")
+    parser.add_argument("--pages", action="store_true")
     parser.add_argument("--decisions")
     parser.add_argument("--paths")
     parser.add_argument("--only", default="")
@@ -190,6 +206,8 @@ def main():
         least, median, peak = rows[-1]
         half = "%.1f ms" % (rows[0][0] * 1000) if len(rows) > 1 else "-"
         print("| %s | %.1f ms | %.1f ms | %.1f MB | %s |" % (name, least * 1000, median * 1000, peak / 1000, half))
+    if args.pages:
+        measure_pages(program, args.runs)
     if args.decisions:
         measure_decisions(os.path.abspath(args.decisions))
     if args.paths:
