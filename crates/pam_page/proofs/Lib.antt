@@ -1,0 +1,3 @@
+pub mod FlatTexts
+pub mod LineTexts
+pub mod PageTexts

@@ -1,0 +1,15 @@
+-- the lines so far are written, and the paths after them are still to come
+use Rattle.std.proofs.Common.{◌≡◌, ◌≤◌, take, drop, length}
+use Rattle.std.specs.List.{flat_map}
+use Rattle.pam_codes.specs.Out.{TookAll}
+use Rattle.pam_page.specs.Coming.{coming, side}
+use Rattle.pam_page.specs.Page.{path_line}
+use Rattle.pam_page.proofs.page.put_page.Given as goal
+
+abbrev pub invariant-loop-count : goal.invariant-loop-count
+invariant-loop-count g l = record {
+  written : TookAll g.W.Write.contents l.initial.out l.out (flat_map path_line (take l.count (coming l.fn.listing)));
+  left : coming l.listing ≡ drop l.count (coming l.fn.listing);
+  side : side l.listing ≡ side l.fn.listing;
+  within : l.count ≤ length (coming l.fn.listing);
+}

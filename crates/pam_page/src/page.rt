@@ -1,0 +1,53 @@
+//! A page of the paths through a stack.
+
+ghost use Rattle.std.specs.Prelude.{◌≡◌, ◌-◌, ◌<◌, ◌≤◌, ◌^◌};
+ghost use Rattle.pam_codes.specs.Out.{Writes};
+ghost use Rattle.pam_page.specs.Coming.{coming, side};
+ghost use Rattle.pam_page.specs.Page.{first_page, page_text, text_after};
+
+use crate::line::{put_end, put_more, put_path};
+use crate::listing::Listing;
+use pam_codes::{Device, Out};
+use pam_paths::Knowledge;
+use std::io::Write;
+
+/// Writes a line for each of the next paths, at most as many as the limit, and a last line, which says how many they
+/// are and whether more follow.
+pub fn put_page<K: Knowledge, W: Write>(
+    listing: &mut Listing<'_, K>,
+    limit: u32,
+    out: &mut Out<W>,
+) -> Result<(), Device>
+    requires some { 1 ≤ limit }
+    requires room { out.old.failures < 2 ^ 64 - 1 }
+    ensures { Writes W.contents out.old out.new result (page_text (side listing.old) (first_page limit (coming listing.old))) }
+{
+    for count in 0..limit - 1 {
+        let Some(path) = listing.next_path() else {
+            return put_end(listing.side(), u64::from(count), out);
+        };
+        put_path(&path, out)?;
+    }
+    put_rest(listing, limit - 1, out)
+}
+
+/// Writes what is left of a page that has room for one more line.
+#[tactic(auto, unfolding(crate::specs::Page::text_after))]
+fn put_rest<K: Knowledge, W: Write>(
+    listing: &mut Listing<'_, K>,
+    count: u32,
+    out: &mut Out<W>,
+) -> Result<(), Device>
+    requires few { count < 2 ^ 32 - 1 }
+    requires room { out.old.failures < 2 ^ 64 - 1 }
+    ensures { Writes W.contents out.old out.new result (text_after (side listing.old) count (first_page 1 (coming listing.old))) }
+{
+    let Some(path) = listing.next_path() else {
+        return put_end(listing.side(), u64::from(count), out);
+    };
+    put_path(&path, out)?;
+    match listing.next_path() {
+        None => put_end(listing.side(), u64::from(count + 1), out),
+        Some(_) => put_more(listing.side(), u64::from(count + 1), &path.cursor(), out),
+    }
+}
