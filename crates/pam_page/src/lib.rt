@@ -1,6 +1,7 @@
 //! One page of the paths through a stack, as text.
 #![tactic(auto)]
 
+pub mod laws;
 mod line;
 mod listing;
 mod page;

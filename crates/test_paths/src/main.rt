@@ -2,6 +2,7 @@
 //!
 //! - `list SERVICE FIRST LAST [NUMBER=NAME,...]...`: how many paths there are, and the lines from FIRST to LAST.
 //! - `first SERVICE COUNT`: the lines of the first paths.
+//! - `page SERVICE LIMIT from -`, `page SERVICE LIMIT after CURSOR`, or with `before`; then `[NUMBER=NAME,...]...`: a page.
 //! - `ways SERVICE`: whether going on after each path, and back from it, gives exactly the others.
 //! - `cursor SERVICE TEXT`: what is said of a cursor, in both directions.
 //! - `assign SERVICE`: whether each assignment of three codes agrees with one path, which has its decision.
@@ -10,6 +11,7 @@
 mod assignments;
 mod cursors;
 mod lines;
+mod pages;
 mod stacks;
 mod ways;
 
@@ -75,6 +77,7 @@ fn test(rt: &HostRuntime, words: &[&str]) -> Result<(), Error> {
             )
         }
         "first" if words.len() == 3 => first(rt, words[1], words[2].parse()?),
+        "page" if words.len() >= 5 => pages::page(rt, words),
         "ways" => ways::ways(rt, words[1]),
         "cursor" if words.len() == 3 => cursors::cursor(rt, words[1], words[2]),
         "assign" => assignments::assign(rt, words[1]),
