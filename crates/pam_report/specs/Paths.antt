@@ -1,5 +1,5 @@
 -- What `paths` answers: a page of the paths through a stack (pam.conf(5), DESCRIPTION) that allowed answers can follow.
-use Rattle.std.specs.Prelude.{◌≡◌, ◌≢◌, ℕ, List, ◌++◌, codes, Option, None, Some, Result, Ok, Err}
+use Rattle.std.specs.Prelude.{◌≡◌, ◌≢◌, ℕ, max, List, ◌++◌, codes, Option, None, Some, Result, Ok, Err}
 use Rattle.jiff.specs.Types.{DateTime}
 use Rattle.pam_conf.specs.Stack.{Items, module_count}
 use Rattle.pam_conf.specs.declared.conf_error.ConfError.{ConfError}
@@ -53,11 +53,11 @@ pub record PageRequest : Type 0 where
   pub limit : ℕ
   pub part : Part
 
--- the page, with its header, or why its cursor is refused
+-- the page, which has room for one path at least, with its header, or why its cursor is refused
 abbrev pub paged : PageRequest → ℕ → Result (List PathValue) CursorError → Answer
 paged request modules (Err e) = Err (faults.Cursor e)
 paged request modules (Ok paths) = Ok (record {
-  text = header_text request.service request.kind modules ++ page_text (side_of request.part) (first_page request.limit paths);
+  text = header_text request.service request.kind modules ++ page_text (side_of request.part) (first_page (max 1 request.limit) paths);
   status = Success;
 })
 

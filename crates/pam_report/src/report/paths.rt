@@ -1,6 +1,6 @@
 //! What `paths` prints: a page of the paths through a stack.
 
-ghost use Rattle.std.specs.Prelude.{◌≡◌, ◌-◌, ◌<◌, ◌^◌, ◌++◌, IfOk, MatchResult, Err, Ok, codes};
+ghost use Rattle.std.specs.Prelude.{◌≡◌, ◌-◌, ◌<◌, ◌^◌, ◌++◌, IfOk, MatchResult, Err, Ok, codes, max};
 ghost use Rattle.jiff.specs.Types.{DateTime as CivilTime};
 ghost use Rattle.pam_codes.specs.Out.{Writes};
 ghost use Rattle.pam_conf.specs.Resolution.{resolved};
@@ -113,10 +113,10 @@ fn write_page<W: Write>(
 ) -> Result<(), Device>
     requires { out.old.failures < 2 ^ 64 - 1 }
     ensures { Writes W.contents out.old out.new result
-        (header_text request.now.service.now request.now.kind modules ++ page_text (side listing.old) (first_page request.now.limit (coming listing.old))) }
+        (header_text request.now.service.now request.now.kind modules ++ page_text (side listing.old) (first_page (max 1 request.now.limit) (coming listing.old))) }
 {
     put_header(request.service, request.kind, modules, out)?;
-    put_page(listing, request.limit, out)?;
+    put_page(listing, request.limit.max(1), out)?;
     out.finish()
 }
 
