@@ -1,5 +1,6 @@
 pub mod Civil
 pub mod FlatTexts
 pub mod ItemTexts
+pub mod PageTexts
 pub mod ShowTexts
 pub mod TraceSteps

@@ -1,5 +1,6 @@
 -- The bytes of the tables that a request is answered from: access.conf(5), group(5), time.conf(5).
-use Rattle.std.specs.Prelude.{ℕ, List, [], Option, Some, None, Result, Ok, Vec, Bool, beq, true, false, is_some, option_map, ◌&&◌}
+use Rattle.std.specs.Prelude.{ℕ, List, [], Option, Some, None, Result, Ok, Vec, Bool, true, false, is_some, option_map, ◌&&◌}
+use Rattle.std.specs.Bool.{beq}
 use Rattle.std.specs.Global.{Global}
 use Rattle.jiff.specs.Types.{DateTime}
 use Rattle.pam_known.specs.Tables.{TablesText, TimedText}

@@ -1,5 +1,5 @@
 -- The moment that the words of a request give.
-use Rattle.std.specs.Prelude.{◌≡◌, ℕ, ℤ, List, IsSome, Option, None, Some, Result, Ok, Err}
+use Rattle.std.specs.Prelude.{◌≡◌, ⊤, ℕ, ℤ, List, IsSome, Option, None, Some, Result, Ok, Err}
 use Rattle.jiff.specs.Types.{DateTime}
 use Rattle.jiff.specs.Words.{read_whole}
 use Rattle.pam_times.specs.Moments.{Exist, HasParts, IsInstant, Shows, parts_of}

@@ -57,7 +57,7 @@ pub record PageRequest : Type 0 where
 abbrev pub paged : PageRequest → ℕ → Result (List PathValue) CursorError → Answer
 paged request modules (Err e) = Err (faults.Cursor e)
 paged request modules (Ok paths) = Ok (record {
-  text = header_text request.service request.kind modules ++ page_text (side_of request.part) (first_page (max 1 request.limit) paths);
+  text = header_text request.service request.kind modules ++ page_text (side_of request.part) (first_page (max request.limit 1) paths);
   status = Success;
 })
 

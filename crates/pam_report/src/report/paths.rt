@@ -7,10 +7,11 @@ ghost use Rattle.pam_conf.specs.Resolution.{resolved};
 ghost use Rattle.pam_conf.specs.Stack.{Items, module_count};
 ghost use Rattle.pam_dispatch.specs.Flat.{modules_of, runs_of};
 ghost use Rattle.pam_dispatch.specs.Tree.{runs_of_stack};
+ghost use Rattle.pam_known.specs.Knowledge.{Agree};
 ghost use Rattle.pam_page.specs.Coming.{coming, side};
 ghost use Rattle.pam_page.specs.Page.{first_page, page_text};
 ghost use Rattle.pam_paths.specs.Known.{may_answer};
-ghost use Rattle.pam_paths.specs.Listing.{IsListingAfter, IsListingBefore};
+ghost use Rattle.pam_paths.specs.Listing.{Allowance, IsListingAfter, IsListingBefore};
 ghost use Rattle.pam_paths.specs.Paths.{path_through};
 ghost use Rattle.pam_report.specs.Answer.{login_to};
 ghost use Rattle.pam_report.specs.Header.{header_text};
@@ -113,14 +114,14 @@ fn write_page<W: Write>(
 ) -> Result<(), Device>
     requires { out.old.failures < 2 ^ 64 - 1 }
     ensures { Writes W.contents out.old out.new result
-        (header_text request.now.service.now request.now.kind modules ++ page_text (side listing.old) (first_page (max 1 request.now.limit) (coming listing.old))) }
+        (header_text request.now.service.now request.now.kind modules ++ page_text (side listing.old) (first_page (max request.now.limit 1) (coming listing.old))) }
 {
     put_header(request.service, request.kind, modules, out)?;
     put_page(listing, request.limit.max(1), out)?;
     out.finish()
 }
 
-/// Answers `paths` where this is known of the answers of the modules of a stack.
+/// Answers `paths` where this is known of the answers of the modules of a stack, which may be known in another way too.
 fn answer_known<W: Write>(
     alloc: Global,
     request: &PageRequest<'_>,
@@ -129,7 +130,8 @@ fn answer_known<W: Write>(
     out: &mut Out<W>,
 ) -> Result<Status, Fault>
     requires { out.old.failures < 2 ^ 64 - 1 }
-    ensures { LeavesSome W.contents out.old out.new result (IsPageOf (page_view request.now) stack.now (may_answer known.now)) }
+    ensures { (allows : Allowance) → Agree (module_count stack.now) (may_answer known.now) allows
+        → LeavesSome W.contents out.old out.new result (IsPageOf (page_view request.now) stack.now allows) }
 {
     let program = match Program::of(alloc, stack) {
         Ok(program) => program,
