@@ -1,14 +1,22 @@
 -- The knowledge of a stack, from what its parts are.
-use Rattle.std.proofs.Common.{◌≡◌, ℕ, List, ◌∙◌, ap}
+use Rattle.std.proofs.Common.{◌≡◌, ◌≤◌, ℕ, List, [], sym, ◌∙◌, ap, subst}
 use Rattle.std.specs.Prelude.{Option, Some, None, Result, Ok, Err}
-use Rattle.pam_conf.specs.Stack.{Items}
+use Rattle.pam_conf.specs.Stack.{Items, module_count}
 use Rattle.pam_conf.specs.declared.rule.Kind.{Kind}
+use Rattle.pam_paths.specs.Known.{set_for}
+use Rattle.pam_paths.specs.declared.knowledge.Known.{Known}
+use Rattle.pam_tables.specs.Error.{FailsAt}
 use Rattle.pam_tables.specs.Groups.{Group}
 use Rattle.pam_tables.specs.Login.{LoginText}
-use Rattle.pam_tables.specs.Returns.{ReturnLine}
+use Rattle.pam_tables.specs.Returns.{ReturnLine, returns_of}
+use Rattle.pam_tables.specs.declared.error.Table.TheVariants.{Returns}
 use Rattle.pam_tables.specs.declared.error.TableError.{TableError}
-use Rattle.pam_known.specs.Knowledge.{◌>>=◌, codes_by, first_fault, groups_read, knowledge, line_at, numbers, returns_read, told_at, unless}
+use Rattle.pam_known.specs.Answers.{IsFault, read_as}
+use Rattle.pam_known.specs.Knowledge.{◌>>=◌, Knows, codes_by, first_fault, groups_read, knowledge, line_at, numbers, returns_read, told_at, unless}
+use Rattle.pam_known.specs.Sets.{Lets}
 use Rattle.pam_known.specs.Tables.{TablesText}
+use Rattle.pam_known.proofs.FaultSteps.{is_fault_of, read_fails}
+use Rattle.pam_known.proofs.ReaderSteps.{no_lines}
 
 module _ (kind : Kind) (login : LoginText) (tables : TablesText) (items : Items) where
   -- the codes, where the groups and the lines of the returns file are these
@@ -24,22 +32,60 @@ module _ (kind : Kind) (login : LoginText) (tables : TablesText) (items : Items)
   abbrev after_groups : Result (List Group) TableError → Result (ℕ → List ℕ) TableError
   after_groups groups = groups >>= λ g. after_tables g (first_fault (told_at kind login tables g items) (numbers items))
 
-  pub groups_fail : (e : TableError) → groups_read tables items ≡ Err e → knowledge kind login tables items ≡ Err e
+  groups_fail : (e : TableError) → groups_read tables items ≡ Err e → knowledge kind login tables items ≡ Err e
   unfolding knowledge
   groups_fail e is = ap after_groups is
 
+  pub groups_fault : (e : TableError) → IsFault e e.fault (groups_read tables items ≡ Err e) →
+      IsFault e e.fault (knowledge kind login tables items ≡ Err e)
+  groups_fault e =
+      is_fault_of {A = groups_read tables items ≡ Err e} {B = knowledge kind login tables items ≡ Err e} e e.fault (groups_fail e)
+
   module _ (groups : List Group) (read : groups_read tables items ≡ Ok groups) where
-    pub tables_fail : (e : TableError) → first_fault (told_at kind login tables groups items) (numbers items) ≡ Some e →
+    tables_fail : (e : TableError) → first_fault (told_at kind login tables groups items) (numbers items) ≡ Some e →
         knowledge kind login tables items ≡ Err e
     unfolding knowledge
     tables_fail e is = ap after_groups read ∙ ap (after_tables groups) is
 
+    pub tables_fault : (e : TableError) → IsFault e e.fault (first_fault (told_at kind login tables groups items) (numbers items) ≡ Some e) →
+        IsFault e e.fault (knowledge kind login tables items ≡ Err e)
+    tables_fault e =
+        is_fault_of {A = first_fault (told_at kind login tables groups items) (numbers items) ≡ Some e}
+        {B = knowledge kind login tables items ≡ Err e} e e.fault (tables_fail e)
+
     module _ (none : first_fault (told_at kind login tables groups items) (numbers items) ≡ None) where
-      pub returns_fail : (e : TableError) → returns_read tables.returns ≡ Err e → knowledge kind login tables items ≡ Err e
+      returns_fail : (e : TableError) → returns_read tables.returns ≡ Err e → knowledge kind login tables items ≡ Err e
       unfolding knowledge
       returns_fail e is = ap after_groups read ∙ ap (after_tables groups) none ∙ ap (after_returns groups) is
 
-      pub all_read : (lines : List ReturnLine) → returns_read tables.returns ≡ Ok lines →
+      pub returns_fault : (bytes : List ℕ) (e : TableError) → tables.returns ≡ Some bytes → e.table ≡ Returns → FailsAt e.fault e.line (returns_of bytes) →
+          IsFault e e.fault (knowledge kind login tables items ≡ Err e)
+      returns_fault bytes e given same h =
+          is_fault_of {A = read_as Returns (returns_of bytes) ≡ Err e} {B = knowledge kind login tables items ≡ Err e} e e.fault
+          (λ is. returns_fail e (ap returns_read given ∙ is)) (read_fails Returns e (returns_of bytes) same h)
+
+      all_read : (lines : List ReturnLine) → returns_read tables.returns ≡ Ok lines →
           knowledge kind login tables items ≡ Ok (codes_with groups lines)
       unfolding knowledge
       all_read lines is = ap after_groups read ∙ ap (after_tables groups) none ∙ ap (after_returns groups) is
+
+      -- where the sets of modules are those of these lines, they are known
+      pub known_with : (lines : List ReturnLine) (known : Known) → returns_read tables.returns ≡ Ok lines →
+          ((number : ℕ) → 1 ≤ number → number ≤ module_count items → Lets (codes_with groups lines number) (set_for known number)) →
+          Knows (module_count items) (Ok known) (knowledge kind login tables items)
+      unfolding Lets
+      known_with lines known is sets =
+          (codes_with groups lines, all_read lines is, λ number code first last small. sets number first last code small)
+
+      pub known_from_file : (bytes : List ℕ) (lines : List ReturnLine) (known : Known) → tables.returns ≡ Some bytes → returns_of bytes ≡ Ok lines →
+          ((number : ℕ) → 1 ≤ number → number ≤ module_count items → Lets (codes_with groups lines number) (set_for known number)) →
+          Knows (module_count items) (Ok known) (knowledge kind login tables items)
+      known_from_file bytes lines known given is sets = known_with lines known (ap returns_read given ∙ ap (read_as Returns) is) sets
+
+      pub known_from_tables : (known : Known) → tables.returns ≡ None →
+          ((number : ℕ) → 1 ≤ number → number ≤ module_count items →
+          Lets (codes_by (told_at kind login tables groups items number) None) (set_for known number)) →
+          Knows (module_count items) (Ok known) (knowledge kind login tables items)
+      known_from_tables known given sets = known_with [] known (ap returns_read given) (λ number first last.
+          subst (λ (line : Option (List ℕ)). Lets (codes_by (told_at kind login tables groups items number) line) (set_for known number))
+          (sym (no_lines items number)) (sets number first last))

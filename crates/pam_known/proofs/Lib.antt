@@ -1,4 +1,5 @@
 pub mod FaultSteps
 pub mod KnowledgeSteps
 pub mod Listings
+pub mod ReaderSteps
 pub mod SetSteps

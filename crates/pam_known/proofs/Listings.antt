@@ -1,7 +1,7 @@
 -- Listings of paths under knowledges that allow each module the same codes.
-use Rattle.std.proofs.Common.{◌≡◌, ℕ, ◌<◌, ◌≤◌, List, sym, ◌∙◌}
+use Rattle.std.proofs.Common.{ℕ, sym, ◌∙◌}
 use Rattle.pam_dispatch.specs.Runs.{Assignment}
-use Rattle.pam_paths.specs.Listing.{Allowance, IsAllowed, IsAllowedPath, IsListing, IsListingAfter, IsListingBefore}
+use Rattle.pam_paths.specs.Listing.{Allowance, IsAllowed, IsAllowedPath}
 use Rattle.pam_paths.specs.Paths.{PathValue}
 use Rattle.pam_known.specs.Knowledge.{Agree}
 use Rattle.pam_known.specs.Laws.{SameListing, SameListingAfter, SameListingBefore}
@@ -22,22 +22,25 @@ pub same_listing : SameListing
 same_listing n one other path_by paths agree listing = record {
   rising = listing.rising;
   members = λ path. (
-  λ member. same_path n one other path_by path agree ((listing.members path).0 member),
-  λ way. (listing.members path).1 (same_path n other one path_by path (agree_back n one other agree) way));
+    λ member. same_path n one other path_by path agree ((listing.members path).0 member),
+    λ way. (listing.members path).1 (same_path n other one path_by path (agree_back n one other agree) way),
+  );
 }
 
 pub same_listing_after : SameListingAfter
 same_listing_after n one other path_by key paths agree listing = record {
   rising = listing.rising;
   members = λ path. (
-  λ member. let way = (listing.members path).0 member in (same_path n one other path_by path agree way.0, way.1),
-  λ way. (listing.members path).1 (same_path n other one path_by path (agree_back n one other agree) way.0, way.1));
+    λ member. let way = (listing.members path).0 member in (same_path n one other path_by path agree way.0, way.1),
+    λ way. (listing.members path).1 (same_path n other one path_by path (agree_back n one other agree) way.0, way.1),
+  );
 }
 
 pub same_listing_before : SameListingBefore
 same_listing_before n one other path_by key paths agree listing = record {
   falling = listing.falling;
   members = λ path. (
-  λ member. let way = (listing.members path).0 member in (same_path n one other path_by path agree way.0, way.1),
-  λ way. (listing.members path).1 (same_path n other one path_by path (agree_back n one other agree) way.0, way.1));
+    λ member. let way = (listing.members path).0 member in (same_path n one other path_by path agree way.0, way.1),
+    λ way. (listing.members path).1 (same_path n other one path_by path (agree_back n one other agree) way.0, way.1),
+  );
 }

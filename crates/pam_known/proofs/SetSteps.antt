@@ -1,5 +1,6 @@
 -- The sets of codes of modules, found one after another.
 use Rattle.std.proofs.Common.{◌≡◌, ◌≢◌, ℕ, ◌+◌, ◌<◌, ◌≤◌, ◌==◌, zero, suc, Bool, true, false, ◌||◌, not, List, [], ◌∷◌, cond, refl, sym, ◌∙◌, ap, subst, arith, inl, inr}
+use Rattle.std.specs.Prelude.{Option, Some, None, Result, Ok}
 use Rattle.std.specs.List.{list_any, range_with_len}
 use Rattle.std.proofs.lemmas.Bool.{cases_eq, cond-true, cond-false, eq-eqb, ne_eqb, or_left, or_right}
 use Rattle.std.proofs.lemmas.List.{nil_from_length}
@@ -8,7 +9,9 @@ use Rattle.pam_codes.specs.Set.{is_in, IsCodeSet}
 use Rattle.pam_codes.specs.SetBits.{is_in-codes_where}
 use Rattle.pam_paths.specs.Known.{answers_by}
 use Rattle.pam_paths.proofs.KnownCodes.{nothing_set, something_set}
-use Rattle.pam_known.specs.Sets.{AreDone, Lets}
+use Rattle.pam_tables.specs.declared.error.TableError.{TableError}
+use Rattle.pam_known.specs.Knowledge.{codes_by}
+use Rattle.pam_known.specs.Sets.{Adds, AreDone, Lets}
 
 -- ---- one module after another
 
@@ -34,8 +37,8 @@ module _ (n : ℕ) (before done : ℕ → List ℕ → Type 0) (old : ℕ → Li
           (so_far.first m low (omega (arith, ne)))
     ];
     rest = λ m low high.
-      let ne : m ≢ i + 1 = λ e. omega (arith, e) in
-      subst (before m) (sym (put m (omega arith) high ∙ cond-false (m == i + 1) codes (old m) (ne_eqb m (i + 1) ne))) (so_far.rest m (omega arith) high);
+        let ne : m ≢ i + 1 = λ e. omega (arith, e) in
+        subst (before m) (sym (put m (omega arith) high ∙ cond-false (m == i + 1) codes (old m) (ne_eqb m (i + 1) ne))) (so_far.rest m (omega arith) high);
   }
 
 -- ---- sets and codes
@@ -70,3 +73,21 @@ lets_codes codes order some code h =
 pub lets_all : Lets all_codes []
 unfolding Lets
 lets_all code h = sym (ap (is_in code) (nothing_set [] all_codes refl refl) ∙ is_in-codes_where (answers_by []) code h)
+
+-- ---- the sets of a module
+
+pub told_set : (told : Option (Result ℕ TableError)) (code : ℕ) (set : List ℕ) → code < 31 → told ≡ Some (Ok code) → set ≡ code ∷ [] →
+    Lets (codes_by told None) set
+told_set told code set small is same =
+    subst (λ (x : List ℕ). Lets (codes_by told None) x) (sym same) (subst (λ (t : Option (Result ℕ TableError)). Lets (codes_by t None) (code ∷ [])) (sym is) (lets_one code small))
+
+pub untold_set : (told : Option (Result ℕ TableError)) (set : List ℕ) → told ≡ None → set ≡ [] → Lets (codes_by told None) set
+untold_set told set is same =
+    subst (λ (x : List ℕ). Lets (codes_by told None) x) (sym same) (subst (λ (t : Option (Result ℕ TableError)). Lets (codes_by t None) []) (sym is) lets_all)
+
+pub line_set_kept : (told : Option (Result ℕ TableError)) (line : Option (List ℕ)) (set : List ℕ) → codes_by told line ≡ codes_by told None →
+    Lets (codes_by told None) set → Lets (codes_by told line) set
+line_set_kept told line set e h = subst (λ (codes : List ℕ). Lets codes set) (sym e) h
+
+pub line_set_put : (told : Option (Result ℕ TableError)) (line : Option (List ℕ)) (set : List ℕ) → Adds (Some set) told line → Lets (codes_by told line) set
+line_set_put told line set adds = subst (λ (codes : List ℕ). Lets codes set) (sym adds.0) (lets_codes set adds.1 adds.2)

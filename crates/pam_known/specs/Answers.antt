@@ -1,5 +1,5 @@
 -- What a table tells of the answer of a module: pam_access(8), pam_time(8).
-use Rattle.std.specs.Prelude.{◌≡◌, ℕ, ◌==◌, Bool, ◌&&◌, not, nat_eq, if◌then◌else◌, List, codes, Option, Some, None, Result, Ok, Err}
+use Rattle.std.specs.Prelude.{◌≡◌, ℕ, ◌==◌, Bool, ◌&&◌, not, nat_eq, if◌then◌else◌, List, codes, Option, None, Result, Ok, Err}
 use Rattle.std.specs.List.{after_last, list_any, starts_with}
 use Rattle.std.specs.Option.{option_map, option_or}
 use Rattle.std.specs.Str.{bytes_eq}

@@ -1,10 +1,10 @@
 -- What tables and a returns file tell of the answers of all modules of a stack: pam.conf(5), pam_access(8), pam_time(8).
-use Rattle.std.specs.Prelude.{◌≡◌, ℕ, ◌<◌, ◌≤◌, Bool, is_some, if◌then◌else◌, List, [], ◌∷◌, Option, Some, None, Result, Ok, Err}
+use Rattle.std.specs.Prelude.{◌≡◌, ℕ, ◌<◌, ◌≤◌, Bool, false, is_some, if◌then◌else◌, List, [], ◌∷◌, Option, Some, None, Result, Ok, Err}
 use Rattle.std.specs.List.{list_any, range_with_len}
 use Rattle.std.specs.Option.{option_and_then, option_map_or, option_or}
 use Rattle.pam_codes.specs.Code.{all_codes}
 use Rattle.pam_codes.specs.Set.{is_in}
-use Rattle.pam_conf.specs.Stack.{Items, ModuleText, module_at, module_count}
+use Rattle.pam_conf.specs.Stack.{Items, module_at, module_count}
 use Rattle.pam_conf.specs.declared.rule.Kind.{Kind}
 use Rattle.pam_paths.specs.Known.{may_answer}
 use Rattle.pam_paths.specs.Listing.{Allowance}
@@ -12,7 +12,7 @@ use Rattle.pam_paths.specs.declared.knowledge.Known.{Known}
 use Rattle.pam_tables.specs.Groups.{Group, groups_of}
 use Rattle.pam_tables.specs.Login.{LoginText}
 use Rattle.pam_tables.specs.Returns.{ReturnLine, codes_for, returns_of}
-use Rattle.pam_tables.specs.declared.error.Table.TheVariants as tables
+use Rattle.pam_tables.specs.declared.error.Table.TheVariants.{Group as GroupTable, Returns as ReturnsTable}
 use Rattle.pam_tables.specs.declared.error.TableError.{TableError}
 use Rattle.pam_known.specs.Answers.{IsFault, access_read, name_of_path, read_as, table_answer}
 use Rattle.pam_known.specs.Tables.{TablesText}
@@ -39,7 +39,7 @@ line_at lines items number = option_and_then (λ m. codes_for lines (name_of_pat
 -- the groups, of which a file is read only where some module reads the access table
 unfoldable pub groups_read : TablesText → Items → Result (List Group) TableError
 groups_read tables items =
-    if list_any (reads_access tables items) (numbers items) then option_map_or (λ bytes. read_as tables.Group (groups_of bytes)) tables.groups (Ok [])
+    if list_any (reads_access tables items) (numbers items) then option_map_or (λ bytes. read_as GroupTable (groups_of bytes)) tables.groups (Ok [])
     else Ok []
 
 abbrev pub fault_told : Option (Result ℕ TableError) → Option TableError
@@ -55,7 +55,7 @@ first_fault told (number ∷ numbers) = option_or (fault_told (told number)) (fi
 -- the lines of the returns file, which is read wherever it is given
 abbrev pub returns_read : Option (List ℕ) → Result (List ReturnLine) TableError
 returns_read None = Ok []
-returns_read (Some bytes) = read_as tables.Returns (returns_of bytes)
+returns_read (Some bytes) = read_as ReturnsTable (returns_of bytes)
 
 -- ---- the codes of each module
 

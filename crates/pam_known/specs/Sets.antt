@@ -1,7 +1,7 @@
 -- For proofs alone: the sets of codes of modules, found one after another.
-use Rattle.std.specs.Prelude.{◌≡◌, ℕ, ◌+◌, ◌<◌, ◌≤◌, List, [], Option, Some, None, Result, Ok, Err}
+use Rattle.std.specs.Prelude.{◌≡◌, ◌≢◌, ℕ, ◌<◌, ◌≤◌, List, [], Option, Some, None, Result, Ok, Err}
 use Rattle.std.specs.Option.{option_map}
-use Rattle.pam_codes.specs.Set.{is_in}
+use Rattle.pam_codes.specs.Set.{is_in, IsCodeSet}
 use Rattle.pam_conf.specs.Stack.{Items}
 use Rattle.pam_paths.specs.Known.{answers_by, set_for}
 use Rattle.pam_paths.specs.declared.knowledge.Known.{Known}
@@ -27,6 +27,11 @@ IsTold login time (Some code) = option_map (time_told login) time ≡ Some (Ok c
 unfoldable pub Lets : List ℕ → List ℕ → Type 0
 Lets codes set = (code : ℕ) → code < 31 → answers_by set code ≡ is_in code codes
 
+-- the codes of a line are those of its module, or the line changes nothing
+abbrev pub Adds : Option (List ℕ) → Option (Result ℕ TableError) → Option (List ℕ) → Type 0
+Adds None told line = codes_by told line ≡ codes_by told None
+Adds (Some codes) told line = (codes_by told line ≡ codes) × IsCodeSet codes × (codes ≢ [])
+
 -- of the modules 1 to n, the sets up to a number are done, and those that follow are as before
 pub record AreDone (n : ℕ) (before done : ℕ → List ℕ → Type 0) (sets : ℕ → List ℕ) (number : ℕ) : Type 0 where
   pub first : (m : ℕ) → 1 ≤ m → m ≤ number → done m (sets m)
@@ -34,7 +39,7 @@ pub record AreDone (n : ℕ) (before done : ℕ → List ℕ → Type 0) (sets :
 
 -- what tables tell the lookup of the module of a number
 abbrev pub told_to : Lookup → Items → ℕ → Option (Result ℕ TableError)
-told_to l items number = told_at l.kind (login_view l.login) (tables_view l.tables) l.groups.now items number
+told_to l items number = told_at l.kind (login_view l.login.now) (tables_view l.tables.now) l.groups items number
 
 -- the sets that tables tell, and those that tables and a returns file tell
 abbrev pub nothing_set : ℕ → List ℕ → Type 0

@@ -1,10 +1,10 @@
 //! What a table tells of the answer of a module.
 
-ghost use Rattle.std.specs.Prelude.{◌≡◌, ◌≤◌, ◌==◌, not, length, map};
-ghost use Rattle.std.specs.List.{suffix_len};
+ghost use Rattle.std.specs.Prelude.{◌≡◌, ◌≤◌, ◌==◌, nat_eq, not, length, map};
+ghost use Rattle.std.specs.List.{list_any, starts_with, suffix_len};
 ghost use Rattle.std.specs.Option.{option_map};
 ghost use Rattle.pam_conf.specs.ItemsOf.{module_text};
-ghost use Rattle.pam_known.specs.Answers.{Tells, access_code, access_read, access_told, has_key, is_reader, name_of_path, time_code, time_read, time_told};
+ghost use Rattle.pam_known.specs.Answers.{Tells, access_code, access_read, access_told, is_reader, name_of_path, time_code, time_read, time_told};
 ghost use Rattle.pam_known.specs.Tables.{tables_view, timed_view};
 ghost use Rattle.pam_tables.specs.Login.{login_view};
 
@@ -31,22 +31,16 @@ pub(crate) fn name_of_path(path: &[u8]) -> &[u8]
 }
 
 /// Whether some argument begins with a key.
-#[tactic(auto, unfolding(crate::specs::Answers::has_key))]
 fn has_key(key: &[u8], arguments: &[Vec<u8>]) -> bool
-    ensures { result ≡ has_key key.now (map (λ a. a.items) arguments.now) }
+    ensures { result ≡ list_any (λ a. starts_with nat_eq a.items key.now) arguments.now }
 {
-    for argument in arguments {
-        if argument.starts_with(key) {
-            return true;
-        }
-    }
-    false
+    arguments.iter().any(|argument| argument.starts_with(key))
 }
 
 /// Whether a module of this name reads the table of the system, as it does unless an argument names another file.
 #[tactic(auto, unfolding(crate::specs::Answers::is_reader))]
 fn is_reader(name: &[u8], key: &[u8], module: &Module) -> bool
-    ensures { result ≡ is_reader name.now key.now (module_text module.now) }
+    ensures { result ≡ is_reader name.now key.now (module_text «module».now) }
 {
     name_of_path(&module.path) == name && !has_key(key, &module.arguments)
 }
@@ -54,7 +48,7 @@ fn is_reader(name: &[u8], key: &[u8], module: &Module) -> bool
 /// The access table, if the module reads it: pam_access(8).
 #[tactic(auto, unfolding(crate::specs::Answers::access_read))]
 pub(crate) fn access_read<'a>(tables: &Tables<'a>, module: &Module) -> Option<&'a [u8]>
-    ensures { option_map (λ b. b.now) result ≡ access_read (tables_view tables.now) (module_text module.now) }
+    ensures { option_map (λ b. b.now) result ≡ access_read (tables_view tables.now) (module_text «module».now) }
 {
     if is_reader(b"pam_access.so", b"accessfile=", module) {
         tables.access
@@ -65,15 +59,15 @@ pub(crate) fn access_read<'a>(tables: &Tables<'a>, module: &Module) -> Option<&'
 
 /// The time table, if the module reads it, which it does for accounts alone: pam_time(8).
 #[tactic(auto, unfolding(crate::specs::Answers::time_read))]
-pub(crate) fn time_read<'a>(
+pub(crate) fn time_read<'x, 't>(
     kind: Kind,
-    tables: &Tables<'a>,
+    tables: &'x Tables<'t>,
     module: &Module,
-) -> Option<TimedTable<'a>>
-    ensures { option_map timed_view result ≡ time_read kind (tables_view tables.now) (module_text module.now) }
+) -> Option<&'x TimedTable<'t>>
+    ensures { option_map (λ t. timed_view t.now) result ≡ time_read kind (tables_view tables.now) (module_text «module».now) }
 {
     if kind == Kind::Account && is_reader(b"pam_time.so", b"conffile=", module) {
-        tables.time
+        tables.time.as_ref()
     } else {
         None
     }
@@ -119,9 +113,9 @@ pub(crate) fn access_told(
 pub(crate) fn time_told(
     alloc: Global,
     login: &Login<'_>,
-    table: TimedTable<'_>,
+    table: &TimedTable<'_>,
 ) -> Result<Code, TableError>
-    ensures { Tells (λ code. code) result (time_told (login_view login.now) (timed_view table.entry)) }
+    ensures { Tells (λ code. code) result (time_told (login_view login.now) (timed_view table.now)) }
 {
     match TimeTable::read(alloc, table.bytes) {
         Ok(rules) => Ok(time_code(rules.decide(login, &table.moment))),

@@ -1,16 +1,16 @@
 //! What is known of the answers of all modules of a stack.
 
-ghost use Rattle.std.specs.Prelude.{◌≡◌, ◌≢◌, ◌<◌, ◌≤◌, ℕ, [], None, IfNone, IfSome};
+ghost use Rattle.std.specs.Prelude.{◌≡◌, ◌≤◌, ℕ, Some, is_some};
 ghost use Rattle.std.specs.List.{list_any};
-ghost use Rattle.pam_codes.specs.Set.{IsCodeSet};
 ghost use Rattle.pam_conf.specs.ItemsOf.{module_text};
 ghost use Rattle.pam_conf.specs.Stack.{module_count};
-ghost use Rattle.pam_known.specs.Answers.{Tells, table_answer};
-ghost use Rattle.pam_known.specs.Knowledge.{Knows, codes_by, groups_read, knowledge, line_at, numbers, reads_access};
-ghost use Rattle.pam_known.specs.Sets.{IsTold, Lets, TellsAll, TellsIfAny, line_set, table_set, told_to};
+ghost use Rattle.pam_known.specs.Answers.{Tells, name_of_path, table_answer, time_told};
+ghost use Rattle.pam_known.specs.Knowledge.{Knows, groups_read, knowledge, line_at, numbers, reads_access};
+ghost use Rattle.pam_known.specs.Sets.{Adds, IsTold, TellsAll, TellsIfAny, line_set, table_set, told_to};
 ghost use Rattle.pam_known.specs.Tables.{tables_view, timed_view};
 ghost use Rattle.pam_paths.specs.Known.{set_for};
 ghost use Rattle.pam_tables.specs.Login.{login_view};
+ghost use Rattle.pam_tables.specs.Returns.{codes_for};
 
 use crate::answers::{access_read, access_told, name_of_path, time_read, time_told};
 use crate::tables::{Tables, TimedTable};
@@ -44,11 +44,7 @@ fn some_reads_access(stack: &Stack, tables: &Tables<'_>) -> bool
 
 /// The groups, whose file is read only where some module reads the access table.
 #[tactic(auto, unfolding(crate::specs::Knowledge::groups_read))]
-fn groups_read(
-    alloc: Global,
-    stack: &Stack,
-    tables: &Tables<'_>,
-) -> Result<Groups, TableError>
+fn groups_read(alloc: Global, stack: &Stack, tables: &Tables<'_>) -> Result<Groups, TableError>
     ensures { Tells (λ groups. groups) result (groups_read (tables_view tables.now) stack.now) }
 {
     if !some_reads_access(stack, tables) {
@@ -61,33 +57,35 @@ fn groups_read(
 }
 
 /// Who logs in to a stack of which kind, and the tables and groups that tell of it.
-#[derive(Clone, Copy)]
-struct Lookup<'a> {
+#[derive(Drop)]
+struct Lookup<'x, 'l, 't> {
     kind: Kind,
-    login: Login<'a>,
-    tables: Tables<'a>,
-    groups: &'a Groups,
+    login: &'x Login<'l>,
+    tables: &'x Tables<'t>,
+    groups: Groups,
 }
 
-impl Lookup<'_> {
+impl Lookup<'_, '_, '_> {
     /// What the time table tells. It is the same for all modules, so it is kept.
     fn time_answer(
         &self,
         alloc: Global,
-        table: TimedTable<'_>,
+        table: &TimedTable<'_>,
         by_time: &mut Option<Code>,
     ) -> Result<Code, TableError>
-        requires kept { IsTold (login_view self.now.login) (tables_view self.now.tables).time by_time.old }
-        requires table { (tables_view self.now.tables).time ≡ Some (timed_view table.entry) }
-        ensures told { Tells (λ code. code) result (time_told (login_view self.now.login) (timed_view table.entry)) }
-        ensures kept { IsTold (login_view self.now.login) (tables_view self.now.tables).time by_time.new }
+        requires kept { IsTold (login_view self.now.login.now) (tables_view self.now.tables.now).time by_time.old }
+        requires table { (tables_view self.now.tables.now).time ≡ Some (timed_view table.now) }
+        ensures told { Tells (λ code. code) result (time_told (login_view self.now.login.now) (timed_view table.now)) }
+        ensures kept { IsTold (login_view self.now.login.now) (tables_view self.now.tables.now).time by_time.new }
     {
-        if let Some(code) = *by_time {
-            return Ok(code);
+        match *by_time {
+            Some(code) => Ok(code),
+            None => {
+                let code = time_told(alloc, self.login, table)?;
+                *by_time = Some(code);
+                Ok(code)
+            }
         }
-        let code = time_told(alloc, &self.login, table)?;
-        *by_time = Some(code);
-        Ok(code)
     }
 
     /// What its table tells of the answer of a module, if it reads one. `by_time` is what the time table told before.
@@ -98,15 +96,15 @@ impl Lookup<'_> {
         module: &Module,
         by_time: &mut Option<Code>,
     ) -> Result<Option<Code>, TableError>
-        requires { IsTold (login_view self.now.login) (tables_view self.now.tables).time by_time.old }
-        ensures told { TellsIfAny result (table_answer self.now.kind (login_view self.now.login) (tables_view self.now.tables) self.now.groups.now (module_text module.now)) }
-        ensures kept { IsTold (login_view self.now.login) (tables_view self.now.tables).time by_time.new }
+        requires { IsTold (login_view self.now.login.now) (tables_view self.now.tables.now).time by_time.old }
+        ensures told { TellsIfAny result (table_answer self.now.kind (login_view self.now.login.now) (tables_view self.now.tables.now) self.now.groups (module_text «module».now)) }
+        ensures kept { IsTold (login_view self.now.login.now) (tables_view self.now.tables.now).time by_time.new }
     {
-        if let Some(bytes) = access_read(&self.tables, module) {
-            let code = access_told(alloc, &self.login, self.groups, &module.arguments, bytes)?;
+        if let Some(bytes) = access_read(self.tables, module) {
+            let code = access_told(alloc, self.login, &self.groups, &module.arguments, bytes)?;
             return Ok(Some(code));
         }
-        match time_read(self.kind, &self.tables, module) {
+        match time_read(self.kind, self.tables, module) {
             Some(table) => {
                 let code = self.time_answer(alloc, table, by_time)?;
                 Ok(Some(code))
@@ -123,9 +121,9 @@ impl Lookup<'_> {
         number: usize,
         by_time: &mut Option<Code>,
     ) -> Result<Option<Code>, TableError>
-        requires { IsTold (login_view self.now.login) (tables_view self.now.tables).time by_time.old }
+        requires { IsTold (login_view self.now.login.now) (tables_view self.now.tables.now).time by_time.old }
         ensures told { TellsIfAny result (told_to self.now stack.now number) }
-        ensures kept { IsTold (login_view self.now.login) (tables_view self.now.tables).time by_time.new }
+        ensures kept { IsTold (login_view self.now.login.now) (tables_view self.now.tables.now).time by_time.new }
     {
         match stack.module(number) {
             Some(module) => self.answer_of(alloc, module, by_time),
@@ -147,23 +145,31 @@ impl Lookup<'_> {
         Ok(known)
     }
 
-    /// The codes of a module's line in a returns file, if it has one and reads no table.
-    fn codes_of(&self, module: &Module, returns: &ReturnTable) -> Option<CodeSet> {
-        if access_read(&self.tables, module).is_some() {
+    /// Whether a table tells the answer of a module.
+    #[tactic(auto, unfolding(crate::specs::Answers::table_answer))]
+    fn is_told(&self, module: &Module) -> bool
+        ensures { result ≡ is_some (table_answer self.now.kind (login_view self.now.login.now) (tables_view self.now.tables.now) self.now.groups (module_text «module».now)) }
+    {
+        access_read(self.tables, module).is_some()
+            || time_read(self.kind, self.tables, module).is_some()
+    }
+
+    /// The codes of a module's line in a returns file, if it has one and no table tells the answer.
+    fn codes_of(&self, module: &Module, returns: &ReturnTable) -> Option<CodeSet>
+        ensures { Adds result (table_answer self.now.kind (login_view self.now.login.now) (tables_view self.now.tables.now) self.now.groups (module_text «module».now)) (codes_for returns.now (name_of_path «module».now.path.items)) }
+    {
+        if self.is_told(module) {
             return None;
         }
-        if time_read(self.kind, &self.tables, module).is_some() {
-            return None;
-        }
-        returns.codes(name_of_path(&module.path))
+        let codes = returns.codes(name_of_path(&module.path))?;
+        // An empty set would let the module answer any code.
+        prove!(codes.len() > 0);
+        Some(codes)
     }
 
     /// The same of the module of a number.
     fn codes_at(&self, stack: &Stack, number: usize, returns: &ReturnTable) -> Option<CodeSet>
-        ensures none { IfNone result (codes_by (told_to self.now stack.now number) (line_at returns.now stack.now number) ≡ codes_by (told_to self.now stack.now number) None) }
-        ensures codes { IfSome result (λ codes. codes_by (told_to self.now stack.now number) (line_at returns.now stack.now number) ≡ codes) }
-        ensures some { IfSome result (λ codes. codes ≢ []) }
-        ensures order { IfSome result (λ codes. IsCodeSet codes) }
+        ensures { Adds result (told_to self.now stack.now number) (line_at returns.now stack.now number) }
     {
         match stack.module(number) {
             Some(module) => self.codes_of(module, returns),
@@ -195,21 +201,21 @@ impl Lookup<'_> {
 /// The first fault is an error: that of the group file, which is read only where a module reads the
 /// access table; then, over the modules in turn, that of the table that a module reads; then that of
 /// the returns file. A failed allocation is `Memory`, with line 0.
-pub fn known_answers(
+pub fn known_answers<'x>(
     alloc: Global,
     stack: &Stack,
     kind: Kind,
-    login: &Login<'_>,
-    tables: &Tables<'_>,
+    login: &'x Login<'_>,
+    tables: &'x Tables<'_>,
 ) -> Result<Known, TableError>
     ensures { Knows (module_count stack.now) result (knowledge kind (login_view login.now) (tables_view tables.now) stack.now) }
 {
     let groups = groups_read(alloc, stack, tables)?;
     let lookup = Lookup {
         kind,
-        login: *login,
-        tables: *tables,
-        groups: &groups,
+        login,
+        tables,
+        groups,
     };
     let mut known = lookup.table_answers(alloc, stack)?;
     if let Some(bytes) = tables.returns {

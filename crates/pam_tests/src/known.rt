@@ -54,11 +54,7 @@ fn known(
 }
 
 /// What an account stack of these rules may answer, by the numbers of its first two modules.
-fn answers(
-    alloc: Global,
-    rules: &[u8],
-    tables: &Tables<'_>,
-) -> Result<(CodeSet, CodeSet), Fail> {
+fn answers(alloc: Global, rules: &[u8], tables: &Tables<'_>) -> Result<(CodeSet, CodeSet), Fail> {
     let known = known(alloc, Kind::Account, rules, tables)??;
     Ok((known.allowed(1), known.allowed(2)))
 }
@@ -92,7 +88,8 @@ fn an_access_table_tells_its_module_alone(rt: HostRuntime) -> Result<(), Fail> {
 
 #[test]
 fn an_access_table_is_read_with_the_arguments_of_each_module(rt: HostRuntime) -> Result<(), Fail> {
-    let rules = b"account required pam_access.so fieldsep=|\naccount required pam_access.so accessfile=/x";
+    let rules =
+        b"account required pam_access.so fieldsep=|\naccount required pam_access.so accessfile=/x";
     let tables = Tables {
         access: Some(b"+|ALL|ALL"),
         ..no_tables()
@@ -108,7 +105,8 @@ fn a_time_table_tells_accounts_alone(rt: HostRuntime) -> Result<(), Fail> {
         time: timed(b"*;*;*;!Al0000-2400")?,
         ..no_tables()
     };
-    let rules = b"account required pam_time.so\naccount required pam_time.so conffile=/x\nauth required pam_time.so";
+    let rules =
+        b"account required pam_time.so\naccount required pam_time.so conffile=/x\nauth required pam_time.so";
     let told = answers(rt.alloc(), rules, &tables)?;
     assert_eq!(rt; told, (denied(), CodeSet::all()));
     let free = known(rt.alloc(), Kind::Auth, rules, &tables)??;

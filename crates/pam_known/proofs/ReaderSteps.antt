@@ -1,0 +1,95 @@
+-- Which table tells what a module answers.
+use Rattle.std.proofs.Common.{◌≡◌, ◌<◌, ◌||◌, ◌&&◌, ℕ, Bool, true, false, not, List, [], ◌∷◌, map, refl, ap, subst, arith}
+use Rattle.std.specs.Prelude.{Option, Some, None, Result, Ok, Err, is_some, if◌then◌else◌}
+use Rattle.std.specs.List.{list_any}
+use Rattle.std.specs.Option.{option_and_then, option_map, option_or}
+use Rattle.pam_conf.specs.Stack.{Items, ModuleText, module_at}
+use Rattle.pam_conf.specs.declared.rule.Kind.{Kind}
+use Rattle.pam_tables.specs.Access.{access_answer}
+use Rattle.pam_tables.specs.Groups.{Group}
+use Rattle.pam_tables.specs.Login.{LoginText}
+use Rattle.pam_tables.specs.Returns.{codes_for}
+use Rattle.pam_tables.specs.declared.access.AccessAnswer.{AccessAnswer}
+use Rattle.pam_tables.specs.declared.access.AccessAnswer.TheVariants as access
+use Rattle.pam_tables.specs.declared.error.TableError.{TableError}
+use Rattle.pam_times.specs.Times.{answer_of}
+use Rattle.pam_times.specs.declared.times.TimeAnswer.{TimeAnswer}
+use Rattle.pam_times.specs.declared.times.TimeAnswer.TheVariants as times
+use Rattle.pam_known.specs.Answers.{access_code, access_read, access_told, name_of_path, result_map, table_answer, time_code, time_read, time_told}
+use Rattle.pam_known.specs.Knowledge.{codes_by, line_at, told_at}
+use Rattle.pam_known.specs.Tables.{TablesText, TimedText}
+
+pub any_of_map : {X Y : Type 0} (f : X → Y) (test : Y → Bool) (xs : List X) → list_any test (map f xs) ≡ list_any (λ x. test (f x)) xs
+any_of_map f test [] = refl
+any_of_map f test (x ∷ xs) = ap (λ b. test (f x) || b) (any_of_map f test xs)
+
+pub reader_is : (named keyed any : Bool) → named ≡ true → keyed ≡ any → not keyed ≡ (named && not any)
+reader_is true keyed any e f = ap not f
+reader_is false keyed any e f = absurd (cc)
+
+-- the time table that is read is the one that is given
+given_of : (b : Bool) (given : Option TimedText) (table : TimedText) → (if b then given else None) ≡ Some table → given ≡ Some table
+given_of true given table e = e
+given_of false given table e = absurd (cc)
+
+pub read_is_given : (kind : Kind) (tables : TablesText) (m : ModuleText) (table : TimedText) → time_read kind tables m ≡ Some table → tables.time ≡ Some table
+unfolding time_read
+read_is_given kind tables m table e = given_of _ tables.time table e
+
+-- a line changes nothing where a table tells the answer
+pub told_alone : (told : Option (Result ℕ TableError)) (line : Option (List ℕ)) → is_some told ≡ true → codes_by told line ≡ codes_by told None
+told_alone None line e = absurd (cc)
+told_alone (Some (Ok code)) line e = refl
+told_alone (Some (Err fault)) line e = refl
+
+pub untold : (told : Option (Result ℕ TableError)) → is_some told ≡ false → told ≡ None
+untold None e = refl
+untold (Some r) e = absurd (cc)
+
+-- ---- the codes that tables tell
+
+access_small : (answer : AccessAnswer) → access_code answer < 31
+access_small (access.Granted line) = omega arith
+access_small (access.Denied line) = omega arith
+
+time_small : (answer : TimeAnswer) → time_code answer < 31
+time_small times.Granted = omega arith
+time_small (times.Denied line) = omega arith
+
+told_small : {T : Type 0} (f : T → ℕ) (read : Result T TableError) (code : ℕ) → ((t : T) → f t < 31) → result_map f read ≡ Ok code → code < 31
+told_small f (Ok t) code small e = let same : f t ≡ code = cc in subst (λ (k : ℕ). k < 31) same (small t)
+told_small f (Err fault) code small e = absurd (cc)
+
+either_small : (by_access : List ℕ → Result ℕ TableError) (by_time : TimedText → Result ℕ TableError) (a : Option (List ℕ)) (t : Option TimedText) (code : ℕ) →
+    ((bytes : List ℕ) → by_access bytes ≡ Ok code → code < 31) → ((timed : TimedText) → by_time timed ≡ Ok code → code < 31) →
+    option_or (option_map by_access a) (option_map by_time t) ≡ Some (Ok code) → code < 31
+either_small by_access by_time (Some bytes) t code f g e = f bytes (cc)
+either_small by_access by_time None (Some timed) code f g e = g timed (cc)
+either_small by_access by_time None None code f g e = absurd (cc)
+
+pub code_small : (kind : Kind) (login : LoginText) (tables : TablesText) (groups : List Group) (m : ModuleText) (code : ℕ) →
+    table_answer kind login tables groups m ≡ Some (Ok code) → code < 31
+unfolding table_answer access_told time_told
+code_small kind login tables groups m code e =
+    either_small (access_told login groups m.arguments) (time_told login) (access_read tables m) (time_read kind tables m) code
+    (λ bytes is. told_small (λ table. access_code (access_answer table login groups)) _ code (λ table. access_small (access_answer table login groups)) is)
+    (λ timed is. told_small (λ rules. time_code (answer_of rules login timed.moment)) _ code (λ rules. time_small (answer_of rules login timed.moment)) is)
+    e
+
+pub code_small_at : (kind : Kind) (login : LoginText) (tables : TablesText) (groups : List Group) (items : Items) (number code : ℕ) →
+    told_at kind login tables groups items number ≡ Some (Ok code) → code < 31
+unfolding told_at
+code_small_at kind login tables groups items number code e =
+    elim (module_at number items) as (λ (o : Option ModuleText). option_and_then (table_answer kind login tables groups) o ≡ Some (Ok code) → code < 31) [
+      | None ↦ λ f. absurd (cc)
+      | Some m ↦ λ f. code_small kind login tables groups m code f
+    ] e
+
+-- without lines no module has one
+pub no_lines : (items : Items) (number : ℕ) → line_at [] items number ≡ None
+unfolding line_at
+no_lines items number =
+    elim (module_at number items) as (λ (o : Option ModuleText). option_and_then (λ m. codes_for [] (name_of_path m.path)) o ≡ None) [
+      | None ↦ refl
+      | Some m ↦ refl
+    ]
