@@ -1,5 +1,5 @@
 -- Codes word by word, what a line of a returns file says, lines that have codes, and those of a map's entries.
-use Rattle.std.proofs.Common.{◌≡◌, ◌≢◌, ◌∙◌, ◌++◌, ◌||◌, ◌&&◌, ◌<◌, ◌==◌, ℕ, Bool, true, false, List, [], ◌∷◌, cond, eqb, codes, nat_eq, is_some, position}
+use Rattle.std.proofs.Common.{◌≡◌, ◌≢◌, ◌∙◌, ◌++◌, ◌||◌, ◌&&◌, ◌<◌, ◌==◌, ℕ, Bool, true, false, List, [], ◌∷◌, cond, eqb, codes, nat_eq, is_some}
 use Rattle.std.proofs.Common.{map, Option, Some, None, IfSome, Result, Ok, Err, eq-eqb, if◌then◌else◌, refl, sym, ap}
 use Rattle.std.specs.List.{list_any, list_all, starts_with}
 use Rattle.std.specs.Map.{lookup}
