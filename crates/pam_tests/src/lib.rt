@@ -10,6 +10,8 @@ mod files;
 #[cfg(test)]
 mod halting;
 #[cfg(test)]
+mod returns;
+#[cfg(test)]
 mod rules;
 #[cfg(test)]
 mod runs;
