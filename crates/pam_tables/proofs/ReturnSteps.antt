@@ -90,7 +90,8 @@ no_code [] h = refl
 no_code (word ∷ words) h = absurd (go (code_named word) refl (list_all (λ w. is_some (code_named w)) words) h)
   where
     go : (o : Option ℕ) → code_named word ≡ o → (t : Bool) →
-        (if is_some o && t then Ok (codes_where (λ code. option_map_or (λ c. code == c) o false || list_any (names_code code) words)) else Err BadCode) ≡ Ok [] → ⊥
+        (if is_some o && t then Ok (codes_where (λ code. option_map_or (λ c. code == c) o false || list_any (names_code code) words)) else Err BadCode)
+        ≡ Ok [] → ⊥
     go None e t f = absurd (cc)
     go (Some n) e false f = absurd (cc)
     go (Some n) e true f =

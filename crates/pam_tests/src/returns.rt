@@ -16,12 +16,7 @@ fn set_of(names: &[&[u8]]) -> Option<CodeSet> {
 }
 
 /// That a table has these codes for `b.so`, by their names.
-fn expect_codes(
-    rt: &impl Abort,
-    alloc: Global,
-    bytes: &[u8],
-    names: &[&[u8]],
-) -> Result<(), Fail> {
+fn expect_codes(rt: &impl Abort, alloc: Global, bytes: &[u8], names: &[&[u8]]) -> Result<(), Fail> {
     let table = ReturnTable::read(alloc, bytes)?;
     assert_eq!(rt; table.codes(b"b.so"), set_of(names), "{bytes:?}");
     Ok(())
