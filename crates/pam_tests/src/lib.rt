@@ -11,6 +11,7 @@ mod files;
 mod halting;
 #[cfg(test)]
 mod known;
+mod returns;
 #[cfg(test)]
 mod rules;
 #[cfg(test)]
