@@ -1,6 +1,5 @@
-use Rattle.std.proofs.Common.{true, ◌≡◌, subst, ap, ◌∙◌, sym, map}
-use Rattle.clap.specs.Words.{App, HasKind, app_of, is_simple, is_simple_and_free, kind_of, subcommand_of, fault_of, takes}
-use Rattle.clap.specs.declared.error.ErrorKind.TheVariants.{OutOfMemory}
+use Rattle.std.proofs.Common.{◌≡◌, subst, ap, ◌∙◌, sym, map}
+use Rattle.clap.specs.Words.{App, HasKind, app_of, is_simple, is_simple_and_free, subcommand_of, fault_of, takes}
 use Rattle.std.specs.Prelude.{MatchOption}
 use Rattle.pam_words.specs.Asked.{asked_of}
 use Rattle.pam_words.specs.Wanted.{IsRefusal, Reads}
