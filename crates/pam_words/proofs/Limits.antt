@@ -15,7 +15,7 @@ pub limit_is : (text : Text) (n : ℕ) → IsReadable text → n ≡ digits_valu
     → Some n ≡ limit_in text
 limit_is text n readable e low high =
     let taken : accepts false limit_parser text ≡ true =
-        Accepts-accepts false limit_parser text (readable.0, omega (arith, e), omega (arith, e), omega (arith, e)) in
+    Accepts-accepts false limit_parser text (readable.0, omega (arith, e), omega (arith, e), omega (arith, e)) in
     rw taken (ap {A = ℕ} {B = Option ℕ} (λ k. Some k) e)
 
 not_taken : (text : Text) (taken : Bool) → accepts false limit_parser text ≡ taken → ¬ (IsReadable text) → accepts false limit_parser text ≡ false

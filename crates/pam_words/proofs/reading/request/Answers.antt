@@ -47,7 +47,8 @@ returns-clause-refused g c =
     answers-clean (fault_of pamcheck_app words) _ c.read.result c.read.ensures (sym (ap (λ (a : App). fault_of a words) same) ∙ kinds)
 
 pub returns-in-Err-clause-reads : goal.returns-in-Err-clause-reads
-returns-in-Err-clause-reads g c = refused-reads (subcommand_of pamcheck_app (map g.S.AsStr.text c.args.words.now)) c.in-Err.error c.refused.result c.refused.ensures
+returns-in-Err-clause-reads g c =
+    refused-reads (subcommand_of pamcheck_app (map g.S.AsStr.text c.args.words.now)) c.in-Err.error c.refused.result c.refused.ensures
 
 pub returns-in-Err-clause-taken : goal.returns-in-Err-clause-taken
 returns-in-Err-clause-taken g c = λ t.
