@@ -23,7 +23,8 @@ is_simple_and_free-pamcheck = refl
 abbrev pub pairs : {B X Y : Type 0} → (B → X) → (B → Y) → Option B → Option (X × Y)
 pairs {B} {X} {Y} f g o = option_map {T = B} {U = X × Y} (λ b. (f b, g b)) o
 
-pub pairs-names : {B X Y : Type 0} (f : B → X) (g : B → Y) (o : Option B) → option_map {T = B} {U = X} f o ≡ option_map {T = X × Y} {U = X} (λ p. p.0) (pairs f g o)
+pub pairs-names : {B X Y : Type 0} (f : B → X) (g : B → Y) (o : Option B)
+    → option_map {T = B} {U = X} f o ≡ option_map {T = X × Y} {U = X} (λ p. p.0) (pairs f g o)
 pairs-names f g None = refl
 pairs-names f g (Some b) = refl
 
@@ -39,7 +40,10 @@ name-is m = pairs-names _ _ (out-ArgMatches m).subcommand
 -- a pair by its parts
 pub both-are : (o : Option (Text × List Row)) (name : Text) (rows : List Row) → Some name ≡ name_in o → Some rows ≡ rows_in o → o ≡ Some (name, rows)
 both-are None name rows e h = cc
-both-are (Some p) name rows e h = let n : name ≡ p.0 = cc in let r : rows ≡ p.1 = cc in ap₂ {A = Text} {B = List Row} {C = Option (Text × List Row)} (λ v w. Some (v, w)) (sym n) (sym r)
+both-are (Some p) name rows e h =
+    let n : name ≡ p.0 = cc in
+    let r : rows ≡ p.1 = cc in
+    ap₂ {A = Text} {B = List Row} {C = Option (Text × List Row)} (λ v w. Some (v, w)) (sym n) (sym r)
 
 pub none-is : (o : Option (Text × List Row)) → None ≡ name_in o → o ≡ None
 none-is None e = refl

@@ -20,10 +20,12 @@ pub add-local : (old sub new : Command) → AddsSubcommand old sub new → (out-
     → (out-Command new).has_globals ≡ false
 add-local old sub new h e s = h.globals ∙ neither _ _ e s
 
-pub add-rule : (old new : Command) (arg : Arg) (a : App) (r : Rule) → AddsArg old arg new → arg.global ≡ false → app_of old ≡ a → rule_of arg ≡ r → app_of new ≡ with_rule a r
+pub add-rule : (old new : Command) (arg : Arg) (a : App) (r : Rule) → AddsArg old arg new → arg.global ≡ false → app_of old ≡ a → rule_of arg ≡ r
+    → app_of new ≡ with_rule a r
 add-rule old new arg a r h local e s = h.shape local ∙ ap₂ {A = App} {B = Rule} {C = App} with_rule e s
 
-pub add-rule-local : {globals : Bool} (old new : Command) (arg : Arg) → AddsArg old arg new → arg.global ≡ false → (out-Command old).has_globals ≡ globals → (out-Command new).has_globals ≡ globals
+pub add-rule-local : {globals : Bool} (old new : Command) (arg : Arg) → AddsArg old arg new → arg.global ≡ false
+    → (out-Command old).has_globals ≡ globals → (out-Command new).has_globals ≡ globals
 add-rule-local {globals} old new arg h local e = h.globals ∙ (kept _ _ local ∙ e)
 
 pub IfOk-then : {X E : Type 0} (r : Result X E) (P Q : X → Type 0) → ((x : X) → P x → Q x) → IfOk r P → IfOk r Q

@@ -1,9 +1,10 @@
 -- The command line: what the values that `clap` found for the words ask for.
-use Rattle.std.specs.Prelude.{Bool, false, ℕ, ℤ, pos, ◌&&◌, ◌||◌, is_some, nat_le, nat_lt, not, length, List, [], ◌∷◌, Option, Some, None, Result, Ok, Err, codes, option_map, position, unwrap_or, if◌then◌else◌}
+use Rattle.std.specs.Prelude.{Bool, ◌&&◌, ◌||◌, false, not, ℕ, ℤ, pos, nat_le, nat_lt, List, [], ◌∷◌, codes, length, position}
+use Rattle.std.specs.Prelude.{Option, Some, None, is_some, option_map, unwrap_or, Result, Ok, Err, if◌then◌else◌}
 use Rattle.std.specs.Char.{is_ascii_digit}
 use Rattle.std.specs.List.{list_all}
-use Rattle.std.specs.Str.{bytes_eq}
 use Rattle.std.specs.Option.{option_and_then}
+use Rattle.std.specs.Str.{bytes_eq}
 use Rattle.std.specs.Str.Parse.{digits_value, without_leading_plus}
 use Rattle.pam_codes.specs.Code.{code_names, same_name}
 use Rattle.pam_conf.specs.Rule.{kind_named}
@@ -138,14 +139,15 @@ abbrev pub when_of : List Row → Option When
 when_of rows =
     one_when (first_of (codes "at") rows) (first_of (codes "at-unix") rows) (first_of (codes "zone") rows)
 
--- the number of paths of a page that `--limit` did not name
+-- how many paths a page may have where `--limit` is left out
 abbrev pub default_limit : ℕ
 default_limit = 1000
 
--- the number that a text of `--limit` writes; `clap` refuses the words where there is none
+-- the number of a text that `clap` takes as a limit
 abbrev pub limit_in : Text → Option ℕ
 limit_in text = if accepts false limit_parser text then Some (digits_value 10 (without_leading_plus text)) else None
 
+-- no text but such a one is found for `--limit`
 abbrev pub limit_of : List Row → ℕ
 limit_of rows = unwrap_or (option_and_then limit_in (first_of (codes "limit") rows)) default_limit
 
@@ -207,7 +209,7 @@ abbrev pub paths_wish : List Row → Result Wish Refusal
 paths_wish rows =
     stack_of rows >>= λ stack.
     if lacks_user rows then Err login else
-    moment_if_needed rows >>= λ moment.
+    moment_if_needed rows >>= λ when.
     or_refuse (part_of rows) both_ends (λ part.
     Ok (paths (record {
       place = stack.0;
@@ -221,7 +223,7 @@ paths_wish rows =
       time = first_of (codes "time") rows;
       groups = first_of (codes "group") rows;
       returns = first_of (codes "returns") rows;
-      moment = moment;
+      moment = when;
     })))
 
 -- `access SERVICE [ARGUMENT]...`

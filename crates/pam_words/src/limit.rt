@@ -22,7 +22,7 @@ pub(crate) fn limit_parser<'a>() -> ValueParser<'a>
     ValueParser::unsigned(LEAST_LIMIT as u64, MOST_LIMIT as u64)
 }
 
-/// The number of a text that `clap` takes as a limit.
+/// The number of a text that `clap` takes as a limit; none for any other text.
 pub(crate) fn limit_in(text: &str) -> Option<u32>
     ensures { result ≡ limit_in_text text.now }
 {

@@ -33,7 +33,7 @@ pub enum Part<'a> {
     Before(&'a str),
 }
 
-/// What is to be done for a service. A remote host or a terminal that is not given is empty.
+/// What is to be done for a service. A user, a remote host or a terminal that is not given is empty.
 #[derive(Debug, Drop)]
 pub enum Task<'a> {
     /// Lists the stack.

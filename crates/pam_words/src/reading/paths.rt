@@ -10,6 +10,7 @@ use crate::reading::{moment, stack, text, value};
 use crate::wanted::{Moment, Part, Task, Usage};
 use clap::ArgMatches;
 
+/// Whether an id has a value.
 fn has(matches: &ArgMatches<'_>, id: &str) -> bool
     ensures { result ≡ has_value id.now (rows_of (found_of matches.now)) }
 {
@@ -19,10 +20,10 @@ fn has(matches: &ArgMatches<'_>, id: &str) -> bool
 fn limit(matches: &ArgMatches<'_>) -> u32
     ensures { result ≡ limit_of (rows_of (found_of matches.now)) }
 {
-    let Some(text) = value(matches, "limit") else {
+    let Some(number) = value(matches, "limit") else {
         return DEFAULT_LIMIT;
     };
-    limit_in(text).unwrap_or(DEFAULT_LIMIT)
+    limit_in(number).unwrap_or(DEFAULT_LIMIT)
 }
 
 /// The part that is given; none where both ends are.
@@ -51,6 +52,7 @@ fn needs_moment(matches: &ArgMatches<'_>) -> bool
     has(matches, "time") || has(matches, "at") || has(matches, "at-unix") || has(matches, "zone")
 }
 
+/// The one moment that is given, where one is needed.
 fn moment_if_needed<'a>(matches: &ArgMatches<'a>) -> Result<Option<Moment<'a>>, Usage>
     ensures { Gives (λ m. option_map shown_when m) (moment_if_needed_in (rows_of (found_of matches.now))) result }
 {

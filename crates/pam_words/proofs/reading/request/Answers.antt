@@ -1,6 +1,5 @@
-use Rattle.std.proofs.Common.{true, ◌≡◌, subst, ap, ◌∙◌, sym, map}
-use Rattle.clap.specs.Words.{App, HasKind, app_of, is_simple, is_simple_and_free, kind_of, subcommand_of, fault_of, takes}
-use Rattle.clap.specs.declared.error.ErrorKind.TheVariants.{OutOfMemory}
+use Rattle.std.proofs.Common.{◌≡◌, subst, ap, ◌∙◌, sym, map}
+use Rattle.clap.specs.Words.{App, HasKind, app_of, is_simple, is_simple_and_free, subcommand_of, fault_of, takes}
 use Rattle.std.specs.Prelude.{MatchOption}
 use Rattle.pam_words.specs.Asked.{asked_of}
 use Rattle.pam_words.specs.Wanted.{IsRefusal, Reads}
@@ -48,7 +47,8 @@ returns-clause-refused g c =
     answers-clean (fault_of pamcheck_app words) _ c.read.result c.read.ensures (sym (ap (λ (a : App). fault_of a words) same) ∙ kinds)
 
 pub returns-in-Err-clause-reads : goal.returns-in-Err-clause-reads
-returns-in-Err-clause-reads g c = refused-reads (subcommand_of pamcheck_app (map g.S.AsStr.text c.args.words.now)) c.in-Err.error c.refused.result c.refused.ensures
+returns-in-Err-clause-reads g c =
+    refused-reads (subcommand_of pamcheck_app (map g.S.AsStr.text c.args.words.now)) c.in-Err.error c.refused.result c.refused.ensures
 
 pub returns-in-Err-clause-taken : goal.returns-in-Err-clause-taken
 returns-in-Err-clause-taken g c = λ t.

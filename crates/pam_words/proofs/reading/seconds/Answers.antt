@@ -17,7 +17,8 @@ small n h = omega arith
 reads : {E : Type 0} (text : List ℕ) (r : Result ℤ E) → ParsesSigned w64 10 text r → list_all is_ascii_digit text ≡ true → 0 < length text → length text ≤ 12
     → r ≡ Ok (pos (digits_value 10 text))
 reads {E} text (Ok n) h digits some few = ap {A = ℤ} {B = Result ℤ E} (λ z. Ok z) (parse_signed_digits own {E = E} w64 text (Ok n) h digits).1
-reads {E} text (Err e) h digits some few = absurd (parse_signed_digits own {E = E} w64 text (Err e) h digits (some, small _ (digits_value_short own text 12 digits few)))
+reads {E} text (Err e) h digits some few =
+    absurd (parse_signed_digits own {E = E} w64 text (Err e) h digits (some, small _ (digits_value_short own text 12 digits few)))
 
 seconds_is : (text : List ℕ) → list_all is_ascii_digit text ≡ true → 0 < length text → length text ≤ 12 → seconds_of text ≡ Some (pos (digits_value 10 text))
 seconds_is text digits some few = rw digits (grind arith)

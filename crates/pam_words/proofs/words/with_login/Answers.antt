@@ -17,5 +17,6 @@ pub returns-clause-local : goal.returns-clause-local
 returns-clause-local c =
     let with-1 = add-rule-local _ c.in_ok-arg.field-0 _ c.in_ok-arg.ensures c.option.ensures.local refl in
     let with-2 = add-rule-local _ c.in_ok-arg-2.field-0 _ c.in_ok-arg-2.ensures c.option-2.ensures.local with-1 in
-    IfOk-then c.arg-3.result (AddsArg c.in_ok-arg-2.field-0 c.option-3.result) (λ (n : Command). (out-Command n).has_globals ≡ (out-Command c.args.command).has_globals)
+    IfOk-then c.arg-3.result (AddsArg c.in_ok-arg-2.field-0 c.option-3.result)
+    (λ (n : Command). (out-Command n).has_globals ≡ (out-Command c.args.command).has_globals)
     (λ n h. add-rule-local _ n _ h c.option-3.ensures.local with-2) c.arg-3.ensures

@@ -19,5 +19,6 @@ returns-clause-local c =
     let with-1 = add-rule-local _ c.in_ok-arg.field-0 _ c.in_ok-arg.ensures c.option.ensures.local refl in
     let with-2 = add-rule-local _ c.in_ok-arg-2.field-0 _ c.in_ok-arg-2.ensures c.option-2.ensures.local with-1 in
     let with-3 = add-rule-local _ c.in_ok-arg-3.field-0 _ c.in_ok-arg-3.ensures c.option-3.ensures.local with-2 in
-    IfOk-then c.arg-4.result (AddsArg c.in_ok-arg-3.field-0 c.option-4.result) (λ (n : Command). (out-Command n).has_globals ≡ (out-Command c.args.command).has_globals)
+    IfOk-then c.arg-4.result (AddsArg c.in_ok-arg-3.field-0 c.option-4.result)
+    (λ (n : Command). (out-Command n).has_globals ≡ (out-Command c.args.command).has_globals)
     (λ n h. add-rule-local _ n _ h c.option-4.ensures.local with-3) c.arg-4.ensures
