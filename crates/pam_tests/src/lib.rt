@@ -11,6 +11,7 @@ mod files;
 mod halting;
 #[cfg(test)]
 mod known;
+#[cfg(test)]
 mod returns;
 #[cfg(test)]
 mod rules;

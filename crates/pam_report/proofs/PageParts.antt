@@ -1,0 +1,47 @@
+-- The part of a listing that a page is taken from, and what a page answers, from what an explorer promises.
+use Rattle.std.proofs.Common.{◌≡◌, ℕ, List, Result, Ok, Err, Option, refl, sym, subst}
+use Rattle.pam_codes.specs.declared.out.Out.{Out}
+use Rattle.pam_conf.specs.Stack.{Items, module_count}
+use Rattle.pam_known.specs.Knowledge.{Agree, allows_codes}
+use Rattle.pam_known.proofs.Listings.{same_listing, same_listing_after, same_listing_before}
+use Rattle.pam_paths.specs.Listing.{Allowance}
+use Rattle.pam_paths.specs.Paths.{PathValue, path_through}
+use Rattle.pam_paths.specs.declared.cursor.CursorError.{CursorError}
+use Rattle.pam_paths.specs.declared.cursor.CursorError.TheVariants.{Syntax, NotLeast, TooShort, TooLong}
+use Rattle.pam_words.specs.declared.wanted.Part.{Part}
+use Rattle.pam_words.specs.declared.wanted.Part.TheVariants.{Whole, After, Before}
+use Rattle.pam_tables.specs.declared.error.TableError.{TableError}
+use Rattle.pam_report.specs.Leaves.{LeavesSome}
+use Rattle.pam_report.specs.Paths.{IsKnownPage, IsPageOf, IsPart, IsTaken, PageRequest, paged}
+use Rattle.pam_report.specs.declared.fault.Fault.{Fault}
+use Rattle.pam_report.specs.declared.report.Status.{Status}
+
+-- a part under one knowledge is that under another which allows the same
+module _ (one other : Allowance) (items : Items) (agree : Agree (module_count items) one other) where
+  taken-same : (IsRest IsOther : List ℕ → List PathValue → Type 0) → ((key : List ℕ) (paths : List PathValue) → IsRest key paths → IsOther key paths) →
+      (text : List ℕ) (given : Result (List PathValue) CursorError) → IsTaken IsRest items text given → IsTaken IsOther items text given
+  taken-same IsRest IsOther same text (Ok paths) h = (h.0, h.1, h.2, h.3, same h.0 paths h.4)
+  taken-same IsRest IsOther same text (Err Syntax) h = h
+  taken-same IsRest IsOther same text (Err (NotLeast place)) h = h
+  taken-same IsRest IsOther same text (Err TooShort) h = h
+  taken-same IsRest IsOther same text (Err TooLong) h = h
+
+  pub part-same : (part : Part) (given : Result (List PathValue) CursorError) → IsPart one items part given → IsPart other items part given
+  part-same Whole (Ok paths) h = same_listing (module_count items) one other (path_through items) paths agree h
+  part-same Whole (Err e) h = h
+  part-same (After text) given h =
+      taken-same _ _ (λ key paths. same_listing_after (module_count items) one other (path_through items) key paths agree) text.now given h
+  part-same (Before text) given h =
+      taken-same _ _ (λ key paths. same_listing_before (module_count items) one other (path_through items) key paths agree) text.now given h
+
+  -- the page of a part
+  pub page-of : (request : PageRequest) (given : Result (List PathValue) CursorError) → IsPart one items request.part given →
+      IsPageOf request items other (paged request (module_count items) given)
+  page-of request given h = (given, part-same request.part given h, refl)
+
+-- what a page leaves, where the tables tell these codes
+pub known-page : {W : Type 0} (contents : W → Option (List ℕ)) (old new : Out W) (result : Result Status Fault) (request : PageRequest) (items : Items)
+    (codes : ℕ → List ℕ) (told : Result (ℕ → List ℕ) TableError) → told ≡ Ok codes →
+    LeavesSome contents old new result (IsPageOf request items (allows_codes codes)) → LeavesSome contents old new result (IsKnownPage request items told)
+known-page contents old new result request items codes told is h =
+    subst (λ (t : Result (ℕ → List ℕ) TableError). LeavesSome contents old new result (IsKnownPage request items t)) (sym is) h
