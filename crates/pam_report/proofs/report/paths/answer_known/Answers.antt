@@ -1,5 +1,7 @@
 use Rattle.std.proofs.Common.{refl}
+use Rattle.std.specs.Prelude.{max}
 use Rattle.pam_codes.proofs.Writing.{all-is, front-is}
+use Rattle.pam_page.specs.Coming.{coming}
 use Rattle.pam_report.proofs.PageParts.{page-of}
 use Rattle.pam_report.proofs.PageTexts.{page-is}
 use Rattle.pam_report.specs.PageView.{page_view}
@@ -14,10 +16,12 @@ pub returns-in-Ok-write_page : goal.returns-in-Ok-write_page
 returns-in-Ok-write_page g c allows agree =
     let part = c.in-Ok-listing_of.ensures.part c.args.stack.now c.in-Ok.ensures.runs c.in-Ok.ensures.modules in
     (_, page-of _ allows c.args.stack.now agree (page_view c.args.request.now) _ part,
-    all-is c.in-Ok-write_page.ensures (page-is _ _ _ _ c.modules.ensures.count c.in-Ok-listing_of.ensures.side))
+    all-is c.in-Ok-write_page.ensures
+    (page-is _ _ (max c.args.request.now.limit 1) (coming c.in-Ok-listing_of.listing) c.modules.ensures.count c.in-Ok-listing_of.ensures.side))
 
 pub returns : goal.returns
 returns g c allows agree =
     let part = c.in-Ok-listing_of.ensures.part c.args.stack.now c.in-Ok.ensures.runs c.in-Ok.ensures.modules in
     (_, page-of _ allows c.args.stack.now agree (page_view c.args.request.now) _ part,
-    front-is c.in-Err-write_page.ensures (page-is _ _ _ _ c.modules.ensures.count c.in-Ok-listing_of.ensures.side))
+    front-is c.in-Err-write_page.ensures
+    (page-is _ _ (max c.args.request.now.limit 1) (coming c.in-Ok-listing_of.listing) c.modules.ensures.count c.in-Ok-listing_of.ensures.side))
