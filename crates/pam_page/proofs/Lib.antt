@@ -1,3 +1,4 @@
 pub mod FlatTexts
-pub mod LineTexts
+pub mod LineParts
+pub mod MarkedTexts
 pub mod PageTexts

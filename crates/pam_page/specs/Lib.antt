@@ -1,3 +1,5 @@
 pub mod Coming
+pub mod Kept
 pub mod Laws
+pub mod Marks
 pub mod Page

@@ -5,8 +5,9 @@ ghost use Rattle.pam_codes.specs.Out.{Writes};
 ghost use Rattle.pam_page.specs.Coming.{coming, side};
 ghost use Rattle.pam_page.specs.Page.{first_page, page_text, text_after};
 
-use crate::line::{put_end, put_more, put_path};
+use crate::line::{put_end, put_more};
 use crate::listing::Listing;
+use crate::texts::LineTexts;
 use pam_codes::{Device, Out};
 use pam_paths::Knowledge;
 use std::io::Write;
@@ -16,19 +17,22 @@ use std::io::Write;
 pub fn put_page<K: Knowledge, W: Write>(
     listing: &mut Listing<'_, K>,
     limit: u32,
+    texts: LineTexts,
     out: &mut Out<W>,
 ) -> Result<(), Device>
     requires some { 1 ≤ limit }
     requires room { out.old.failures < 2 ^ 64 - 1 }
     ensures { Writes W.contents out.old out.new result (page_text (side listing.old) (first_page limit (coming listing.old))) }
 {
+    let mut texts = texts;
     for count in 0..limit - 1 {
         let Some(path) = listing.next_path() else {
             return put_end(listing.side(), u64::from(count), out);
         };
-        put_path(&path, out)?;
+        texts = texts.of_steps(path.steps());
+        texts.put_path(&path, out)?;
     }
-    put_rest(listing, limit - 1, out)
+    put_rest(listing, limit - 1, texts, out)
 }
 
 /// Writes what is left of a page that has room for one more line.
@@ -36,6 +40,7 @@ pub fn put_page<K: Knowledge, W: Write>(
 fn put_rest<K: Knowledge, W: Write>(
     listing: &mut Listing<'_, K>,
     count: u32,
+    texts: LineTexts,
     out: &mut Out<W>,
 ) -> Result<(), Device>
     requires few { count < 2 ^ 32 - 1 }
@@ -45,7 +50,7 @@ fn put_rest<K: Knowledge, W: Write>(
     let Some(path) = listing.next_path() else {
         return put_end(listing.side(), u64::from(count), out);
     };
-    put_path(&path, out)?;
+    texts.of_steps(path.steps()).put_path(&path, out)?;
     match listing.next_path() {
         None => put_end(listing.side(), u64::from(count + 1), out),
         Some(_) => put_more(listing.side(), u64::from(count + 1), &path.cursor(), out),

@@ -6,7 +6,7 @@ use crate::stacks::{known_of, program_of};
 use anyhow::Error;
 use pam_codes::Out;
 use pam_dispatch::Program;
-use pam_page::{Listing, put_page};
+use pam_page::{LineTexts, Listing, put_page};
 use pam_paths::{Cursor, Explorer, Known};
 
 /// The paths from the first one on, or those after or before a cursor.
@@ -29,7 +29,8 @@ fn listing_of<'a>(
 /// Prints the page of a listing. Each page has at least one line.
 fn print_page(rt: &HostRuntime, listing: &mut Listing<'_, Known>, limit: u32) -> Result<(), Error> {
     let mut text = Vec::new(rt.alloc());
-    put_page(listing, limit.max(1), &mut Out::new(&mut text))?;
+    let texts = LineTexts::new(rt.alloc())?;
+    put_page(listing, limit.max(1), texts, &mut Out::new(&mut text))?;
     let text = String::from_utf8(text)?;
     print!(rt; "{text}")?;
     Ok(())

@@ -1,0 +1,181 @@
+-- The texts that are kept, step by step.
+use Rattle.std.proofs.Common.{◌≡◌, ℕ, ◌+◌, ◌-◌, ◌<◌, ◌≤◌, zero, suc, List, [], ◌∷◌, ◌++◌, length, take, drop, map, get_or, refl, sym, ap, subst, ◌∙◌, arith}
+use Rattle.std.proofs.Common.{Option, Some, None, slice_get, length-drop, codes, decimal, append_assoc, append-nil, ◌⊎◌, inl, inr, length-append}
+use Rattle.std.specs.List.{flat_map}
+use Rattle.std.proofs.lemmas.Grind.{flat_map-append}
+use Rattle.std.proofs.lemmas.List.{get_or-drop, length-map, map-append, take-append-drop, take-append-le, take-map, take-take, take_all, take_at, take_more, take_rest}
+use Rattle.std.proofs.lemmas.Option.{slice_get-get_or, slice_get_past, slice_get_within}
+use Rattle.pam_page.proofs.FlatTexts.{flat_map-push, flat_map-seen}
+use Rattle.pam_page.specs.Marks.{AreTexts, IsEnd, code_text, codes_of, marked, steps_of, undotted}
+use Rattle.pam_page.specs.Page.{code_name, path_line, step_text}
+use Rattle.pam_page.specs.declared.texts.Mark.{Mark}
+use Rattle.pam_paths.specs.Classes.{least}
+use Rattle.pam_paths.specs.CursorText.{cursor_text}
+use Rattle.pam_paths.specs.Paths.{PathValue, StepValue, key, key_of}
+use Rattle.pam_paths.specs.Steps.{step_seen}
+use Rattle.pam_paths.specs.declared.path.PathStep.{PathStep}
+
+-- ---- a list that is cut
+
+record Found {A : Type 0} (xs : List A) (n i : ℕ) (x : A) : Type 0 where
+  within : i < n
+  found : slice_get xs i ≡ Some x
+
+get_front : {A : Type 0} (xs : List A) (n i : ℕ) (x : A) → slice_get (take n xs) i ≡ Some x → Found xs n i x
+get_front xs zero i x e = cc
+get_front [] (suc n) i x e = cc
+get_front (y ∷ xs) (suc n) zero x e = record { within = omega arith; found = e }
+get_front (y ∷ xs) (suc n) (suc i) x e = let f = get_front xs n i x e in record { within = omega (arith, f.within); found = f.found }
+
+no_last : {A : Type 0} (xs : List A) → slice_get xs (length xs - 1) ≡ None → xs ≡ []
+no_last [] e = refl
+no_last (x ∷ xs) e =
+    let found = slice_get-get_or (x ∷ xs) (length (x ∷ xs) - 1) x (omega arith) in
+    cc
+
+-- the front of a text that is cut with its list
+text_cut : {A : Type 0} (text : A → List ℕ) (xs : List A) (n end : ℕ) (all : List ℕ) → all ≡ flat_map text xs → end ≡ length (flat_map text (take n xs))
+    → take end all ≡ flat_map text (take n xs)
+text_cut text xs n end all e l =
+    let parts = sym (flat_map-append text (take n xs) (drop n xs)) ∙ ap (flat_map text) (take-append-drop n xs) in
+    ap (take end) (e ∙ sym parts) ∙ take_at (flat_map text (take n xs)) (flat_map text (drop n xs)) end (sym l)
+
+-- ---- the first of the marks
+
+module _ (marks : List Mark) (dotted text : List ℕ) (whole : AreTexts marks dotted text) where
+  ends_cut : (n i : ℕ) (mark : Mark) → slice_get (take n marks) i ≡ Some mark → IsEnd (take (i + 1) (take n marks)) mark
+  ends_cut n i mark e =
+      let f = get_front marks n i mark e in
+      let same : take (i + 1) (take n marks) ≡ take (i + 1) marks = take-take (i + 1) n marks (omega (arith, f.within)) in
+      subst (λ (ms : List Mark). IsEnd ms mark) (sym same) (whole.ends i mark f.found)
+
+  pub texts_cut : (n : ℕ) (mark : Mark) → slice_get (take n marks) (length (take n marks) - 1) ≡ Some mark
+      → AreTexts (take n marks) (take mark.cursor_end dotted) (take mark.steps_end text)
+  texts_cut n mark e =
+      let front = take n marks in
+      let inside : length front - 1 < length front = slice_get_within front (length front - 1) mark e in
+      let count : length front - 1 + 1 ≡ length front = omega (arith, inside) in
+      let last : IsEnd front mark = subst (λ (ms : List Mark). IsEnd ms mark)
+      (ap (λ (k : ℕ). take k front) count ∙ take_all (length front) front (omega arith)) (ends_cut n (length front - 1) mark e) in
+      record {
+        cursor = text_cut (λ (m : Mark). code_text (marked m)) marks n mark.cursor_end dotted (whole.cursor ∙ flat_map-seen code_text marked marks)
+            (last.cursor ∙ ap length (flat_map-seen code_text marked front)) ∙ sym (flat_map-seen code_text marked front);
+        steps = text_cut (λ (m : Mark). step_text (marked m)) marks n mark.steps_end text (whole.steps ∙ flat_map-seen step_text marked marks)
+            (last.steps ∙ ap length (flat_map-seen step_text marked front)) ∙ sym (flat_map-seen step_text marked front);
+        ends = ends_cut n;
+      }
+
+  pub texts_none : (n : ℕ) → slice_get (take n marks) (length (take n marks) - 1) ≡ None → AreTexts (take n marks) (take 0 dotted) (take 0 text)
+  texts_none n e =
+      let none = no_last (take n marks) e in
+      record {
+        cursor = sym (ap codes_of none);
+        steps = sym (ap steps_of none);
+        ends = ends_cut n;
+      }
+
+pub cut_some : (marks : List Mark) (dotted text : List ℕ) (n : ℕ) (items shown : List Mark) (mark : Mark) (codes_left steps_left : List ℕ) → AreTexts marks dotted text
+    → items ≡ take n marks → shown ≡ items → Some mark ≡ slice_get shown (length shown - 1)
+    → codes_left ≡ take mark.cursor_end dotted → steps_left ≡ take mark.steps_end text → AreTexts items codes_left steps_left
+cut_some marks dotted text n items shown mark codes_left steps_left whole is_items is_shown is_last is_codes is_steps =
+    let last = sym (is_last ∙ ap (λ (l : List Mark). slice_get l (length l - 1)) (is_shown ∙ is_items)) in
+    rw (is_codes, is_steps, is_items) (texts_cut marks dotted text whole n mark last)
+
+pub cut_none : (marks : List Mark) (dotted text : List ℕ) (n : ℕ) (items shown : List Mark) (codes_left steps_left : List ℕ) → AreTexts marks dotted text
+    → items ≡ take n marks → shown ≡ items → None ≡ slice_get shown (length shown - 1) → codes_left ≡ [] → steps_left ≡ [] → AreTexts items codes_left steps_left
+cut_none marks dotted text n items shown codes_left steps_left whole is_items is_shown is_last is_codes is_steps =
+    let last = sym (is_last ∙ ap (λ (l : List Mark). slice_get l (length l - 1)) (is_shown ∙ is_items)) in
+    rw (is_codes, is_steps, is_items) (texts_none marks dotted text whole n last)
+
+-- ---- one more mark
+
+data Place {A : Type 0} (xs : List A) (y : A) (i : ℕ) (x : A) : Type 0 where
+  Earlier : slice_get xs i ≡ Some x → Place xs y i x
+  Final : i ≡ length xs → x ≡ y → Place xs y i x
+
+get_push : {A : Type 0} (xs : List A) (y : A) (i : ℕ) (x : A) → slice_get (xs ++ y ∷ []) i ≡ Some x → Place xs y i x
+get_push [] y zero x e = Final refl cc
+get_push [] y (suc i) x e = cc
+get_push (z ∷ xs) y zero x e = Earlier e
+get_push (z ∷ xs) y (suc i) x e = elim (get_push xs y i x e) [ Earlier f ↦ Earlier f | Final at same ↦ Final (omega (arith, at)) same ]
+
+codes_push : (marks : List Mark) (mark : Mark) → codes_of (marks ++ mark ∷ []) ≡ codes_of marks ++ code_text (marked mark)
+codes_push marks mark = ap (flat_map code_text) (map-append marked marks (mark ∷ [])) ∙ flat_map-push code_text (map marked marks) (marked mark)
+
+steps_push : (marks : List Mark) (mark : Mark) → steps_of (marks ++ mark ∷ []) ≡ steps_of marks ++ step_text (marked mark)
+steps_push marks mark = ap (flat_map step_text) (map-append marked marks (mark ∷ [])) ∙ flat_map-push step_text (map marked marks) (marked mark)
+
+pub texts_push : (marks : List Mark) (dotted text : List ℕ) (mark : Mark) (longer_dotted longer : List ℕ) → AreTexts marks dotted text
+    → longer_dotted ≡ dotted ++ code_text (marked mark) → longer ≡ text ++ step_text (marked mark)
+    → mark.cursor_end ≡ length longer_dotted → mark.steps_end ≡ length longer → AreTexts (marks ++ mark ∷ []) longer_dotted longer
+texts_push marks dotted text mark longer_dotted longer whole d t cursor_end steps_end =
+    let is_cursor = d ∙ ap (λ (l : List ℕ). l ++ code_text (marked mark)) whole.cursor ∙ sym (codes_push marks mark) in
+    let is_steps = t ∙ ap (λ (l : List ℕ). l ++ step_text (marked mark)) whole.steps ∙ sym (steps_push marks mark) in
+    let all = marks ++ mark ∷ [] in
+    record {
+      cursor = is_cursor;
+      steps = is_steps;
+      ends = λ i m e. elim (get_push marks mark i m e) [
+        | Earlier f ↦
+            let inside : i < length marks = slice_get_within marks i m f in
+            subst (λ (ms : List Mark). IsEnd ms m) (sym (take-append-le (i + 1) marks (mark ∷ []) (omega (arith, inside)))) (whole.ends i m f)
+        | Final at same ↦
+            let full : length all ≤ i + 1 = omega (arith, at, length-append marks (mark ∷ [])) in
+            let both : IsEnd all mark = record { cursor = cursor_end ∙ ap length is_cursor; steps = steps_end ∙ ap length is_steps } in
+            rw (same, take_all (i + 1) all full) both
+      ];
+    }
+
+-- ---- steps that are shared, and those that are added
+
+map_more : {A B : Type 0} (f : A → B) (xs : List A) (i : ℕ) (x : A) → i < length xs → x ≡ get_or xs i x → take (i + 1) (map f xs) ≡ take i (map f xs) ++ f x ∷ []
+map_more f xs i x inside e =
+    take-map f (i + 1) xs ∙ ap (map f) (take_more xs i x inside ∙ ap (λ y. take i xs ++ y ∷ []) (sym e)) ∙ map-append f (take i xs) (x ∷ [])
+    ∙ ap (λ l. l ++ f x ∷ []) (sym (take-map f i xs))
+
+pub same_more : (marks : List Mark) (steps : List PathStep) (i j : ℕ) (mark : Mark) (step : PathStep) → i ≡ j → j < length marks → i < length steps
+    → mark ≡ get_or marks j mark → step ≡ get_or steps i step → marked mark ≡ step_seen step
+    → take i (map marked marks) ≡ take i (map step_seen steps) → take (i + 1) (map marked marks) ≡ take (i + 1) (map step_seen steps)
+same_more marks steps i j mark step index inside within is_mark is_step same before =
+    let at : i < length marks = omega (arith, index, inside) in
+    let here : mark ≡ get_or marks i mark = is_mark ∙ ap (λ (k : ℕ). get_or marks k mark) (sym index) in
+    map_more marked marks i mark at here ∙ ap (λ (l : List StepValue). l ++ marked mark ∷ []) before
+    ∙ ap (λ (s : StepValue). take i (map step_seen steps) ++ s ∷ []) same ∙ sym (map_more step_seen steps i step within is_step)
+
+pub added_more : (steps : List PathStep) (shared i : ℕ) (step : PathStep) (before : List StepValue) → shared ≤ length steps
+    → i < length (take (length steps - shared) (drop shared steps)) → step ≡ get_or (take (length steps - shared) (drop shared steps)) i step
+    → before ≡ take (shared + i) (map step_seen steps) → before ++ step_seen step ∷ [] ≡ take (shared + (i + 1)) (map step_seen steps)
+added_more steps shared i step before within inside is_step e =
+    let rest = take_rest steps shared in
+    let at : shared + i < length steps = omega (arith, inside, ap length rest, length-drop shared steps) in
+    let here : step ≡ get_or steps (shared + i) step = is_step ∙ ap (λ (l : List PathStep). get_or l i step) rest ∙ get_or-drop shared steps i step in
+    let count : shared + i + 1 ≡ shared + (i + 1) = omega arith in
+    ap (λ (l : List StepValue). l ++ step_seen step ∷ []) e ∙ sym (map_more step_seen steps (shared + i) step at here)
+    ∙ ap (λ (k : ℕ). take k (map step_seen steps)) count
+
+-- ---- the line
+
+dotted_rest : (steps : List StepValue) → flat_map code_text steps ≡ flat_map (λ (code : ℕ). codes "." ++ decimal code) (key_of steps)
+unfolding key_of code_text
+dotted_rest [] = refl
+dotted_rest (step ∷ steps) = ap (λ (l : List ℕ). code_text step ++ l) (dotted_rest steps)
+
+undotted-is : (steps : List StepValue) → undotted (flat_map code_text steps) ≡ cursor_text (key_of steps)
+unfolding key_of code_text
+undotted-is [] = refl
+undotted-is (step ∷ steps) = ap (λ (l : List ℕ). decimal (least step.class) ++ l) (dotted_rest steps)
+
+regrouped : (a b c d e : List ℕ) → a ++ (b ++ (c ++ (d ++ (e ++ [])))) ≡ ((a ++ (b ++ (c ++ []))) ++ d) ++ e
+regrouped a b c d e = simp (append_assoc, append-nil)
+
+pub kept_line : (path : PathValue) (marks : List Mark) (dotted text cursor name shown : List ℕ) → AreTexts marks dotted text
+    → map marked marks ≡ take (length (map marked marks)) path.steps → length path.steps ≤ length marks
+    → cursor ≡ undotted dotted → name ≡ code_name path.decision → shown ≡ text
+    → cursor ++ (codes " " ++ (name ++ (shown ++ (codes "\n" ++ [])))) ≡ path_line path
+unfolding path_line
+kept_line path marks dotted text cursor name shown whole front long is_cursor is_name is_shown =
+    let all : map marked marks ≡ path.steps = front ∙ take_all (length (map marked marks)) path.steps (omega (arith, long, length-map marks marked)) in
+    let key_text : cursor ≡ cursor_text (key path) =
+    is_cursor ∙ ap undotted (whole.cursor ∙ ap (flat_map code_text) all) ∙ undotted-is path.steps in
+    let texts : shown ≡ flat_map step_text path.steps = is_shown ∙ whole.steps ∙ ap (flat_map step_text) all in
+    rw (key_text, is_name, texts) (regrouped (cursor_text (key path)) (codes " ") (code_name path.decision) (flat_map step_text path.steps) (codes "\n"))
