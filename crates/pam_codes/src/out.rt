@@ -38,6 +38,13 @@ impl<W: Write> Out<W> {
         }
     }
 
+    /// The inner writer.
+    pub fn into_inner(self) -> W
+        ensures { result ≡ self.inner }
+    {
+        self.inner
+    }
+
     /// The number of bytes that the inner writer took.
     pub fn taken(&self) -> u64
         ensures { result ≡ self.now.taken }

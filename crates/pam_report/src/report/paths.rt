@@ -30,7 +30,7 @@ use pam_codes::{Device, Out};
 use pam_conf::{Kind, Stack, resolve};
 use pam_dispatch::Program;
 use pam_known::known_answers;
-use pam_page::{Listing, put_page};
+use pam_page::{LineTexts, Listing, put_page};
 use pam_paths::{Cursor, CursorError, Explorer, Known};
 use pam_tables::Login;
 use pam_times::MomentError;
@@ -110,6 +110,7 @@ fn write_page<W: Write>(
     request: &PageRequest<'_>,
     modules: usize,
     listing: &mut Listing<'_, Known>,
+    texts: LineTexts,
     out: &mut Out<W>,
 ) -> Result<(), Device>
     requires { out.old.failures < 2 ^ 64 - 1 }
@@ -117,7 +118,7 @@ fn write_page<W: Write>(
         (header_text request.now.service.now request.now.kind modules ++ page_text (side listing.old) (first_page (max request.now.limit 1) (coming listing.old))) }
 {
     put_header(request.service, request.kind, modules, out)?;
-    put_page(listing, request.limit.max(1), out)?;
+    put_page(listing, request.limit.max(1), texts, out)?;
     out.finish()
 }
 
@@ -141,7 +142,11 @@ fn answer_known<W: Write>(
         Ok(listing) => listing,
         Err(error) => return Err(Fault::Cursor(error)),
     };
-    match write_page(request, stack.modules(), &mut listing, out) {
+    let texts = match LineTexts::new(alloc) {
+        Ok(texts) => texts,
+        Err(_) => return Err(Fault::Memory),
+    };
+    match write_page(request, stack.modules(), &mut listing, texts, out) {
         Ok(()) => Ok(Status::Success),
         Err(Device) => Err(Fault::Device),
     }
