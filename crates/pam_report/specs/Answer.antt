@@ -121,8 +121,8 @@ Answers contents old new result service (Time table user tty moment) inputs =
 Answers contents old new result service (Paths source kind limit part user rhost tty access time groups returns moment) inputs =
     (at : Option (Result DateTime MomentError)) × IsGivenMoment moment at
     × LeavesSome contents old new result
-        (IsPage (record { service = service; kind = kind; limit = limit; part = part }) (login_to service user.now tty.now rhost.now) inputs at
-        (resolved inputs.files service kind))
+    (IsPage (record { service = service; kind = kind; limit = limit; part = part }) (login_to service user.now tty.now rhost.now) inputs at
+    (resolved inputs.files service kind))
 
 -- what a look-up finds is the answer, or its fault, unless memory ran out
 abbrev pub FindsFault : Fault → Answer → Type 0

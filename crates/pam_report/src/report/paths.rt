@@ -55,7 +55,7 @@ fn paths_after<'a>(
 ) -> Result<Listing<'a, Known>, CursorError>
     ensures part { (items : Items) → runs_of program.now ≡ runs_of_stack items → modules_of program.now ≡ module_count items
         → MatchResult result (λ l. IsTaken (IsListingAfter (may_answer known.now) (module_count items) (path_through items)) items text.now (Ok (coming l)))
-            (λ e. IsTaken (IsListingAfter (may_answer known.now) (module_count items) (path_through items)) items text.now (Err e)) }
+        (λ e. IsTaken (IsListingAfter (may_answer known.now) (module_count items) (path_through items)) items text.now (Err e)) }
     ensures side { IfOk result (λ l. side l ≡ codes "after") }
 {
     let cursor = match Cursor::read(text.as_bytes()) {
@@ -76,7 +76,7 @@ fn paths_before<'a>(
 ) -> Result<Listing<'a, Known>, CursorError>
     ensures part { (items : Items) → runs_of program.now ≡ runs_of_stack items → modules_of program.now ≡ module_count items
         → MatchResult result (λ l. IsTaken (IsListingBefore (may_answer known.now) (module_count items) (path_through items)) items text.now (Ok (coming l)))
-            (λ e. IsTaken (IsListingBefore (may_answer known.now) (module_count items) (path_through items)) items text.now (Err e)) }
+        (λ e. IsTaken (IsListingBefore (may_answer known.now) (module_count items) (path_through items)) items text.now (Err e)) }
     ensures side { IfOk result (λ l. side l ≡ codes "before") }
 {
     let cursor = match Cursor::read(text.as_bytes()) {
@@ -206,7 +206,12 @@ pub(super) fn answer_paths<W: Write>(
         (login_to request.entry.service.now person.entry.user.now person.entry.tty.now person.entry.rhost.now) inputs.now moment
         (resolved inputs.now.files request.entry.service.now request.entry.kind)) }
 {
-    let stack = match resolve(alloc, &inputs.files, request.service.as_bytes(), request.kind) {
+    let stack = match resolve(
+        alloc,
+        &inputs.files,
+        request.service.as_bytes(),
+        request.kind,
+    ) {
         Ok(stack) => stack,
         Err(error) => return Err(Fault::Conf(error)),
     };

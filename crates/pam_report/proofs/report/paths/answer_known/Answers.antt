@@ -14,14 +14,18 @@ returns-in-Err-listing_of g c allows agree =
 
 pub returns-in-Ok-write_page : goal.returns-in-Ok-write_page
 returns-in-Ok-write_page g c allows agree =
-    let part = c.in-Ok-listing_of.ensures.part c.args.stack.now c.in-Ok.ensures.runs c.in-Ok.ensures.modules in
-    (_, page-of _ allows c.args.stack.now agree (page_view c.args.request.now) _ part,
-    all-is c.in-Ok-write_page.ensures
-    (page-is _ _ (max c.args.request.now.limit 1) (coming c.in-Ok-listing_of.listing) c.modules.ensures.count c.in-Ok-listing_of.ensures.side))
+    let part = c.in-Ok-listing_of.ensures.part c.args.stack.now c.in-Ok.ensures.runs c.in-Ok.ensures.modules in (
+      _,
+      page-of _ allows c.args.stack.now agree (page_view c.args.request.now) _ part,
+      all-is c.in-Ok-write_page.ensures
+          (page-is _ _ (max c.args.request.now.limit 1) (coming c.in-Ok-listing_of.listing) c.modules.ensures.count c.in-Ok-listing_of.ensures.side),
+    )
 
 pub returns : goal.returns
 returns g c allows agree =
-    let part = c.in-Ok-listing_of.ensures.part c.args.stack.now c.in-Ok.ensures.runs c.in-Ok.ensures.modules in
-    (_, page-of _ allows c.args.stack.now agree (page_view c.args.request.now) _ part,
-    front-is c.in-Err-write_page.ensures
-    (page-is _ _ (max c.args.request.now.limit 1) (coming c.in-Ok-listing_of.listing) c.modules.ensures.count c.in-Ok-listing_of.ensures.side))
+    let part = c.in-Ok-listing_of.ensures.part c.args.stack.now c.in-Ok.ensures.runs c.in-Ok.ensures.modules in (
+      _,
+      page-of _ allows c.args.stack.now agree (page_view c.args.request.now) _ part,
+      front-is c.in-Err-write_page.ensures
+          (page-is _ _ (max c.args.request.now.limit 1) (coming c.in-Ok-listing_of.listing) c.modules.ensures.count c.in-Ok-listing_of.ensures.side),
+    )
