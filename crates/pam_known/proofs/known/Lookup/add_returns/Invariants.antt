@@ -6,4 +6,5 @@ use Rattle.pam_known.proofs.known.Lookup.add_returns.Given as goal
 
 abbrev pub invariant-loop-index : goal.invariant-loop-index
 invariant-loop-index l =
-    AreDone (module_count l.stack) (table_set (told_to l.self l.stack)) (line_set (told_to l.self l.stack) (line_at l.returns l.stack)) (set_for l.known) l.index
+    let told = told_to l.self l.stack in
+    AreDone (module_count l.stack) (table_set told) (line_set told (line_at l.returns l.stack)) (set_for l.known) l.index

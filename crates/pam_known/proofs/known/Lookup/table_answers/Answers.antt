@@ -38,8 +38,10 @@ loop-index-preserved c =
           record {
             faults = faults;
             sets = subst AreSo (sym w.known-is)
-                (changes n nothing_set (table_set told) (set_for c.loop-index.known) i within c.loop-index.invariant.sets (set_for w.set.new.self) w.single.result
-                (λ m low high. w.set.ensures m low (omega (arith, most, high))) (told_set (told (i + 1)) w.in-Some.code w.single.result small is w.single.ensures));
+                (changes n nothing_set (table_set told) (set_for c.loop-index.known) i within c.loop-index.invariant.sets (set_for w.set.new.self)
+                w.single.result
+                (λ m low high. w.set.ensures m low (omega (arith, most, high)))
+                (told_set (told (i + 1)) w.in-Some.code w.single.result small is w.single.ensures));
             kept = c.answer_at.ensures.kept;
           }
       | in_default w ↦
