@@ -1,5 +1,5 @@
 -- Codes word by word, what a line of a returns file says, lines that have codes, and those of a map's entries.
-use Rattle.std.proofs.Common.{◌≡◌, ◌≢◌, ◌∙◌, ◌++◌, ◌||◌, ◌&&◌, ◌<◌, ◌==◌, ℕ, Bool, true, false, List, [], ◌∷◌, cond, eqb, codes, nat_eq, is_some, position}
+use Rattle.std.proofs.Common.{◌≡◌, ◌≢◌, ◌∙◌, ◌++◌, ◌||◌, ◌&&◌, ◌<◌, ◌==◌, ℕ, Bool, true, false, List, [], ◌∷◌, cond, eqb, codes, nat_eq, is_some}
 use Rattle.std.proofs.Common.{map, Option, Some, None, IfSome, Result, Ok, Err, eq-eqb, if◌then◌else◌, refl, sym, ap}
 use Rattle.std.specs.List.{list_any, list_all, starts_with}
 use Rattle.std.specs.Map.{lookup}
@@ -20,6 +20,12 @@ use Rattle.pam_tables.proofs.NamedSteps.{entry_view, value_of_name}
 abbrev pub codes_with : List ℕ → List (List ℕ) → Result (List ℕ) TableFault
 codes_with set words =
     if list_all (λ w. is_some (code_named w)) words then Ok (codes_where (λ code. is_in code set || list_any (names_code code) words)) else Err BadCode
+
+-- codes with those of more words, of which the first names this code, or none
+abbrev codes_with_first : List ℕ → Option ℕ → List (List ℕ) → Result (List ℕ) TableFault
+codes_with_first set first words =
+    if is_some first && list_all (λ w. is_some (code_named w)) words
+    then Ok (codes_where (λ code. is_in code set || (option_map_or (λ c. code == c) first false || list_any (names_code code) words))) else Err BadCode
 
 pub nothing_read : IsCodeSet []
 unfolding all_codes
@@ -43,14 +49,11 @@ module _ (set new : List ℕ) (n : ℕ) (put : new ≡ codes_where (λ code. cod
       ap (λ (xs : List ℕ). if list_all (λ w. is_some (code_named w)) words then Ok xs else Err BadCode)
       (codes_where-same _ _ (λ code low. ap (λ (t : Bool). t || list_any (names_code code) words) (put_in code low)
       ∙ either (eqb code n) (is_in code set) (list_any (names_code code) words)))
-      ∙ ap (λ (o : Option ℕ). if is_some o && list_all (λ w. is_some (code_named w)) words
-      then Ok (codes_where (λ code. is_in code set || (option_map_or (λ c. code == c) o false || list_any (names_code code) words))) else Err BadCode) named
-      ∙ ap (codes_with set) (sym e)
+      ∙ ap (λ (o : Option ℕ). codes_with_first set o words) named ∙ ap (codes_with set) (sym e)
 
 pub word_refused : (set word : List ℕ) (all words : List (List ℕ)) → all ≡ word ∷ words → None ≡ code_named word → codes_with set all ≡ Err BadCode
 word_refused set word all words e named =
-    ap (codes_with set) e ∙ sym (ap (λ (o : Option ℕ). if is_some o && list_all (λ w. is_some (code_named w)) words
-    then Ok (codes_where (λ code. is_in code set || (option_map_or (λ c. code == c) o false || list_any (names_code code) words))) else Err BadCode) named)
+    ap (codes_with set) e ∙ sym (ap (λ (o : Option ℕ). codes_with_first set o words) named)
 
 or_false : (b : Bool) → (b || false) ≡ b
 or_false true = refl
@@ -86,8 +89,9 @@ unfolding codes_of_words
 no_code [] h = refl
 no_code (word ∷ words) h = absurd (go (code_named word) refl (list_all (λ w. is_some (code_named w)) words) h)
   where
-    go : (o : Option ℕ) → code_named word ≡ o → (t : Bool) → (if is_some o && t
-        then Ok (codes_where (λ code. option_map_or (λ c. code == c) o false || list_any (names_code code) words)) else Err BadCode) ≡ Ok [] → ⊥
+    go : (o : Option ℕ) → code_named word ≡ o → (t : Bool) →
+        (if is_some o && t then Ok (codes_where (λ code. option_map_or (λ c. code == c) o false || list_any (names_code code) words)) else Err BadCode)
+        ≡ Ok [] → ⊥
     go None e t f = absurd (cc)
     go (Some n) e false f = absurd (cc)
     go (Some n) e true f =
@@ -113,14 +117,10 @@ module _ (line : List ℕ) where
       pub bad_module : list_any (λ b. b == 47) name ≡ true → return_at line ≡ Err BadModule
       bad_module h = said (name ∷ words) e ∙ ap (λ (t : Bool). if t then Err BadModule else some_codes name (codes_of_words words)) h
 
-      module _ (plain : list_any (λ b. b == 47) name ≡ false) where
-        pub bad_codes : (fault : TableFault) → codes_of_words words ≡ Err fault → return_at line ≡ Err fault
-        bad_codes fault h =
-            said (name ∷ words) e ∙ ap (λ (t : Bool). if t then Err BadModule else some_codes name (codes_of_words words)) plain ∙ ap (some_codes name) h
-
-        pub good_line : (set : List ℕ) → codes_of_words words ≡ Ok set → return_at line ≡ Ok (Some (name, set))
-        good_line set h =
-            said (name ∷ words) e ∙ ap (λ (t : Bool). if t then Err BadModule else some_codes name (codes_of_words words)) plain ∙ ap (some_codes name) h
+      pub codes_said : list_any (λ b. b == 47) name ≡ false → (read : Result (List ℕ) TableFault) → codes_of_words words ≡ read →
+          return_at line ≡ some_codes name read
+      codes_said h read f =
+          said (name ∷ words) e ∙ ap (λ (t : Bool). if t then Err BadModule else some_codes name (codes_of_words words)) h ∙ ap (some_codes name) f
 
 -- ---- lines that have codes
 

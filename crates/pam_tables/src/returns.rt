@@ -64,7 +64,8 @@ fn read_codes(text: &[u8]) -> Result<CodeSet, TableFault>
 
 /// What a line says, if it is not passed over.
 fn read_line(line: &[u8]) -> Result<Option<ReturnLine<'_>>, TableFault>
-    ensures value { MatchResult result (λ said. return_at line.now ≡ Ok (option_map (λ l. (l.name.now, l.codes)) said)) (λ fault. return_at line.now ≡ Err fault) }
+    ensures value { MatchResult result (λ said. return_at line.now ≡ Ok (option_map (λ l. (l.name.now, l.codes)) said))
+        (λ fault. return_at line.now ≡ Err fault) }
     ensures some { IfOk result (λ said. IfSome said (λ l. l.codes ≢ [])) }
 {
     if line.starts_with(b"#") {

@@ -12,6 +12,8 @@ mod halting;
 #[cfg(test)]
 mod known;
 #[cfg(test)]
+mod returns;
+#[cfg(test)]
 mod rules;
 #[cfg(test)]
 mod runs;

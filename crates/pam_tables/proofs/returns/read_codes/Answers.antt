@@ -1,5 +1,5 @@
 use Rattle.std.proofs.Common.{◌≡◌, ◌≢◌, ◌∙◌, [], Ok, true, false, sym, ap, refl}
-use Rattle.pam_tables.proofs.ReturnSteps.{codes_with, nothing_read, code_put, word_read, word_refused, words_end, bad_code, no_code, some_code}
+use Rattle.pam_tables.proofs.ReturnSteps.{nothing_read, code_put, word_read, word_refused, words_end, bad_code, no_code, some_code}
 use Rattle.pam_tables.proofs.returns.read_codes.Goals as goal
 
 pub loop-word-init : goal.loop-word-init
@@ -32,6 +32,6 @@ returns-then-is_empty-clause-value c =
 pub returns-clause-value : goal.returns-clause-value
 returns-clause-value c =
     let some : c.loop-word.set ≢ [] = λ none.
-        let wrong : false ≡ true = sym c.if-is_empty.false ∙ c.is_empty.ensures.1 none in
-        absurd (cc) in
+    let wrong : false ≡ true = sym c.if-is_empty.false ∙ c.is_empty.ensures.1 none in
+    absurd (cc) in
     sym (some_code _ c.loop-word.set some (sym c.loop-word.invariant.same ∙ words_end c.loop-word.set _ c.loop-word.invariant.order c.in-None.ensures.steps.0))

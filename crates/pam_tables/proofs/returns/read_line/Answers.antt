@@ -1,6 +1,6 @@
 use Rattle.std.proofs.Common.{◌∙◌, sym}
 use Rattle.std.proofs.lemmas.Result.{err_from_is_err_and}
-use Rattle.pam_tables.proofs.ReturnSteps.{comment, no_words, bad_module, bad_codes, good_line}
+use Rattle.pam_tables.proofs.ReturnSteps.{comment, no_words, bad_module, codes_said}
 use Rattle.pam_tables.proofs.returns.read_line.Goals as goal
 
 pub returns-then-starts_with-clause-value : goal.returns-then-starts_with-clause-value
@@ -17,10 +17,10 @@ returns-then-contains-clause-value c =
 pub returns-in_err-codes-clause-value : goal.returns-in_err-codes-clause-value
 returns-in_err-codes-clause-value c =
     let p = err_from_is_err_and c.from_residual.result c.from_residual.ensures.1 in
-    rw (p.1, p.2) (bad_codes c.args.line.now (sym c.starts_with.ensures.value ∙ c.if-starts_with.false) _ _ c.in-Some.ensures
+    rw (p.1, p.2) (codes_said c.args.line.now (sym c.starts_with.ensures.value ∙ c.if-starts_with.false) _ _ c.in-Some.ensures
     (sym c.contains.ensures.value ∙ c.if-contains.false) _ (sym c.in_err-codes.ensures.value))
 
 pub returns-clause-value : goal.returns-clause-value
 returns-clause-value c =
-    good_line c.args.line.now (sym c.starts_with.ensures.value ∙ c.if-starts_with.false) _ _ c.in-Some.ensures
+    codes_said c.args.line.now (sym c.starts_with.ensures.value ∙ c.if-starts_with.false) _ _ c.in-Some.ensures
     (sym c.contains.ensures.value ∙ c.if-contains.false) _ (sym c.in_ok-codes.ensures.value)

@@ -1,5 +1,5 @@
-use Rattle.std.proofs.Common.{◌≡◌, ◌∙◌, ◌++◌, ◌∷◌, [], map, sym, refl, true, false}
-use Rattle.pam_tables.proofs.NamedSteps.{entry_view, known_name, name_known, name_new, added_last, has_name}
+use Rattle.std.proofs.Common.{◌≡◌, ◌∙◌, sym, refl, true, false}
+use Rattle.pam_tables.proofs.NamedSteps.{known_name, name_known, name_new, added_last, has_name}
 use Rattle.pam_tables.proofs.ReturnSteps.{one_line_more}
 use Rattle.pam_tables.proofs.returns.ReturnTable.add_line.Goals as goal
 
