@@ -90,9 +90,9 @@ told_set told code set small is same = lets_same told (Some (Ok code)) set (code
 pub untold_set : (told : Option (Result ℕ TableError)) (set : List ℕ) → told ≡ None → set ≡ [] → Lets (codes_by told None) set
 untold_set told set is same = lets_same told None set [] is same lets_all
 
-pub line_set_kept : (told : Option (Result ℕ TableError)) (line : Option (List ℕ)) (set : List ℕ) → codes_by told line ≡ codes_by told None →
+pub line_kept : (told : Option (Result ℕ TableError)) (line : Option (List ℕ)) (set : List ℕ) → codes_by told line ≡ codes_by told None →
     Lets (codes_by told None) set → Lets (codes_by told line) set
-line_set_kept told line set e h = subst (λ (codes : List ℕ). Lets codes set) (sym e) h
+line_kept told line set e h = subst (λ (codes : List ℕ). Lets codes set) (sym e) h
 
-pub line_set_put : (told : Option (Result ℕ TableError)) (line : Option (List ℕ)) (set : List ℕ) → Adds (Some set) told line → Lets (codes_by told line) set
-line_set_put told line set adds = subst (λ (codes : List ℕ). Lets codes set) (sym adds.0) (lets_codes set adds.1 adds.2)
+pub line_put : (told : Option (Result ℕ TableError)) (line : Option (List ℕ)) (set : List ℕ) → Adds (Some set) told line → Lets (codes_by told line) set
+line_put told line set adds = subst (λ (codes : List ℕ). Lets codes set) (sym adds.0) (lets_codes set adds.1 adds.2)

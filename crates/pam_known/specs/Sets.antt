@@ -23,8 +23,8 @@ abbrev pub told_of : Lookup → ModuleText → Option (Result ℕ TableError)
 told_of l m = table_answer l.kind (login_view l.login.now) (tables_view l.tables.now) l.groups m
 
 -- the same of the module of a number
-abbrev pub told_to : Lookup → Items → ℕ → Option (Result ℕ TableError)
-told_to l items number = told_at l.kind (login_view l.login.now) (tables_view l.tables.now) l.groups items number
+abbrev pub told_of_number : Lookup → Items → ℕ → Option (Result ℕ TableError)
+told_of_number l items number = told_at l.kind (login_view l.login.now) (tables_view l.tables.now) l.groups items number
 
 -- what is kept is what the time table tells the lookup
 abbrev pub IsKept : Lookup → Option ℕ → Type 0
@@ -46,16 +46,16 @@ pub record AreDone (n : ℕ) (before done : ℕ → List ℕ → Type 0) (sets :
   pub rest : (m : ℕ) → number < m → m ≤ n → before m (sets m)
 
 -- the sets that tables tell, and those that tables and a returns file tell
-abbrev pub nothing_set : ℕ → List ℕ → Type 0
-nothing_set number set = set ≡ []
+abbrev pub IsUnset : ℕ → List ℕ → Type 0
+IsUnset number set = set ≡ []
 
-abbrev pub table_set : (ℕ → Option (Result ℕ TableError)) → ℕ → List ℕ → Type 0
-table_set told number set = Lets (codes_by (told number) None) set
+abbrev pub IsTableSet : (ℕ → Option (Result ℕ TableError)) → ℕ → List ℕ → Type 0
+IsTableSet told number set = Lets (codes_by (told number) None) set
 
-abbrev pub line_set : (ℕ → Option (Result ℕ TableError)) → (ℕ → Option (List ℕ)) → ℕ → List ℕ → Type 0
-line_set told line number set = Lets (codes_by (told number) (line number)) set
+abbrev pub IsLineSet : (ℕ → Option (Result ℕ TableError)) → (ℕ → Option (List ℕ)) → ℕ → List ℕ → Type 0
+IsLineSet told line number set = Lets (codes_by (told number) (line number)) set
 
 -- what tables tell of the modules 1 to n, or the first fault, unless memory ran out
 abbrev pub TellsAll : ℕ → (ℕ → Option (Result ℕ TableError)) → List ℕ → Result Known TableError → Type 0
-TellsAll n told numbers (Ok known) = (first_fault told numbers ≡ None) × ((m : ℕ) → 1 ≤ m → m ≤ n → table_set told m (set_for known m))
+TellsAll n told numbers (Ok known) = (first_fault told numbers ≡ None) × ((m : ℕ) → 1 ≤ m → m ≤ n → IsTableSet told m (set_for known m))
 TellsAll n told numbers (Err e) = IsFault e e.fault (first_fault told numbers ≡ Some e)

@@ -6,7 +6,7 @@ ghost use Rattle.pam_conf.specs.ItemsOf.{module_text};
 ghost use Rattle.pam_conf.specs.Stack.{module_count};
 ghost use Rattle.pam_known.specs.Answers.{Tells, name_of_path, time_told};
 ghost use Rattle.pam_known.specs.Knowledge.{Knows, groups_read, knowledge, line_at, numbers, reads_access};
-ghost use Rattle.pam_known.specs.Sets.{Adds, IsKept, TellsAll, TellsIfAny, line_set, table_set, told_of, told_to};
+ghost use Rattle.pam_known.specs.Sets.{Adds, IsKept, TellsAll, TellsIfAny, IsLineSet, IsTableSet, told_of, told_of_number};
 ghost use Rattle.pam_known.specs.Tables.{tables_view, timed_view};
 ghost use Rattle.pam_paths.specs.Known.{set_for};
 ghost use Rattle.pam_tables.specs.Login.{login_view};
@@ -122,7 +122,7 @@ impl Lookup<'_, '_, '_> {
         by_time: &mut Option<Code>,
     ) -> Result<Option<Code>, TableError>
         requires { IsKept self.now by_time.old }
-        ensures told { TellsIfAny result (told_to self.now stack.now number) }
+        ensures told { TellsIfAny result (told_of_number self.now stack.now number) }
         ensures kept { IsKept self.now by_time.new }
     {
         match stack.module(number) {
@@ -133,7 +133,7 @@ impl Lookup<'_, '_, '_> {
 
     /// What tables tell of the answers of all modules.
     fn table_answers(&self, alloc: Global, stack: &Stack) -> Result<Known, TableError>
-        ensures { TellsAll (module_count stack.now) (told_to self.now stack.now) (numbers stack.now) result }
+        ensures { TellsAll (module_count stack.now) (told_of_number self.now stack.now) (numbers stack.now) result }
     {
         let mut known = Known::new();
         let mut by_time = None;
@@ -169,7 +169,7 @@ impl Lookup<'_, '_, '_> {
 
     /// The same of the module of a number.
     fn codes_at(&self, stack: &Stack, number: usize, returns: &ReturnTable) -> Option<CodeSet>
-        ensures { Adds result (told_to self.now stack.now number) (line_at returns.now stack.now number) }
+        ensures { Adds result (told_of_number self.now stack.now number) (line_at returns.now stack.now number) }
     {
         match stack.module(number) {
             Some(module) => self.codes_of(module, returns),
@@ -179,8 +179,8 @@ impl Lookup<'_, '_, '_> {
 
     /// Adds what a returns file tells of the modules that read no table.
     fn add_returns(&self, stack: &Stack, returns: &ReturnTable, known: &mut Known)
-        requires { (m : ℕ) → 1 ≤ m → m ≤ module_count stack.now → table_set (told_to self.now stack.now) m (set_for known.old m) }
-        ensures { (m : ℕ) → 1 ≤ m → m ≤ module_count stack.now → line_set (told_to self.now stack.now) (line_at returns.now stack.now) m (set_for known.new m) }
+        requires { (m : ℕ) → 1 ≤ m → m ≤ module_count stack.now → IsTableSet (told_of_number self.now stack.now) m (set_for known.old m) }
+        ensures { (m : ℕ) → 1 ≤ m → m ≤ module_count stack.now → IsLineSet (told_of_number self.now stack.now) (line_at returns.now stack.now) m (set_for known.new m) }
     {
         for index in 0..stack.modules() {
             if let Some(codes) = self.codes_at(stack, index + 1, returns) {
