@@ -32,7 +32,8 @@ module _ (n : ℕ) (before done : ℕ → List ℕ → Type 0) (old : ℕ → Li
   changes new codes put step = record {
     first = λ m low high. elim (cases_eq m (i + 1)) [
       | inl e ↦ subst (λ (k : ℕ). done k (new k)) (sym e)
-          (subst (done (i + 1)) (sym (put (i + 1) (omega arith) (omega arith) ∙ cond-true (i + 1 == i + 1) codes (old (i + 1)) (eq-eqb (i + 1) (i + 1) refl))) step)
+          (subst (done (i + 1)) (sym (put (i + 1) (omega arith) (omega arith)
+          ∙ cond-true (i + 1 == i + 1) codes (old (i + 1)) (eq-eqb (i + 1) (i + 1) refl))) step)
       | inr ne ↦ subst (done m) (sym (put m low (omega (arith, ne)) ∙ cond-false (m == i + 1) codes (old m) (ne_eqb m (i + 1) ne)))
           (so_far.first m low (omega (arith, ne)))
     ];
@@ -76,18 +77,22 @@ lets_all code h = sym (ap (is_in code) (nothing_set [] all_codes refl refl) ∙ 
 
 -- ---- the sets of a module
 
+lets_same : (told other : Option (Result ℕ TableError)) (set new : List ℕ) → told ≡ other → set ≡ new → Lets (codes_by other None) new →
+    Lets (codes_by told None) set
+lets_same told other set new is same h =
+    subst (λ (t : Option (Result ℕ TableError)). Lets (codes_by t None) set) (sym is)
+    (subst (λ (x : List ℕ). Lets (codes_by other None) x) (sym same) h)
+
 pub told_set : (told : Option (Result ℕ TableError)) (code : ℕ) (set : List ℕ) → code < 31 → told ≡ Some (Ok code) → set ≡ code ∷ [] →
     Lets (codes_by told None) set
-told_set told code set small is same =
-    subst (λ (x : List ℕ). Lets (codes_by told None) x) (sym same) (subst (λ (t : Option (Result ℕ TableError)). Lets (codes_by t None) (code ∷ [])) (sym is) (lets_one code small))
+told_set told code set small is same = lets_same told (Some (Ok code)) set (code ∷ []) is same (lets_one code small)
 
 pub untold_set : (told : Option (Result ℕ TableError)) (set : List ℕ) → told ≡ None → set ≡ [] → Lets (codes_by told None) set
-untold_set told set is same =
-    subst (λ (x : List ℕ). Lets (codes_by told None) x) (sym same) (subst (λ (t : Option (Result ℕ TableError)). Lets (codes_by t None) []) (sym is) lets_all)
+untold_set told set is same = lets_same told None set [] is same lets_all
 
-pub line_set_kept : (told : Option (Result ℕ TableError)) (line : Option (List ℕ)) (set : List ℕ) → codes_by told line ≡ codes_by told None →
+pub line_kept : (told : Option (Result ℕ TableError)) (line : Option (List ℕ)) (set : List ℕ) → codes_by told line ≡ codes_by told None →
     Lets (codes_by told None) set → Lets (codes_by told line) set
-line_set_kept told line set e h = subst (λ (codes : List ℕ). Lets codes set) (sym e) h
+line_kept told line set e h = subst (λ (codes : List ℕ). Lets codes set) (sym e) h
 
-pub line_set_put : (told : Option (Result ℕ TableError)) (line : Option (List ℕ)) (set : List ℕ) → Adds (Some set) told line → Lets (codes_by told line) set
-line_set_put told line set adds = subst (λ (codes : List ℕ). Lets codes set) (sym adds.0) (lets_codes set adds.1 adds.2)
+pub line_put : (told : Option (Result ℕ TableError)) (line : Option (List ℕ)) (set : List ℕ) → Adds (Some set) told line → Lets (codes_by told line) set
+line_put told line set adds = subst (λ (codes : List ℕ). Lets codes set) (sym adds.0) (lets_codes set adds.1 adds.2)

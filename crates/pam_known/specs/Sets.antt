@@ -2,14 +2,14 @@
 use Rattle.std.specs.Prelude.{◌≡◌, ◌≢◌, ℕ, ◌<◌, ◌≤◌, List, [], Option, Some, None, Result, Ok, Err}
 use Rattle.std.specs.Option.{option_map}
 use Rattle.pam_codes.specs.Set.{is_in, IsCodeSet}
-use Rattle.pam_conf.specs.Stack.{Items}
+use Rattle.pam_conf.specs.Stack.{Items, ModuleText}
 use Rattle.pam_paths.specs.Known.{answers_by, set_for}
 use Rattle.pam_paths.specs.declared.knowledge.Known.{Known}
-use Rattle.pam_tables.specs.Login.{LoginText, login_view}
+use Rattle.pam_tables.specs.Login.{login_view}
 use Rattle.pam_tables.specs.declared.error.TableError.{TableError}
-use Rattle.pam_known.specs.Answers.{IsFault, time_told}
+use Rattle.pam_known.specs.Answers.{IsFault, table_answer, time_told}
 use Rattle.pam_known.specs.Knowledge.{codes_by, first_fault, numbers, told_at}
-use Rattle.pam_known.specs.Tables.{TimedText, tables_view}
+use Rattle.pam_known.specs.Tables.{tables_view}
 use Rattle.pam_known.specs.declared.known.Lookup.{Lookup}
 
 -- a code that a table tells, where one does, or its fault, unless memory ran out
@@ -18,10 +18,18 @@ TellsIfAny (Ok None) told = told ≡ None
 TellsIfAny (Ok (Some code)) told = told ≡ Some (Ok code)
 TellsIfAny (Err e) told = IsFault e e.fault (told ≡ Some (Err e))
 
--- what is kept is what the time table tells
-abbrev pub IsTold : LoginText → Option TimedText → Option ℕ → Type 0
-IsTold login time None = Unit {0}
-IsTold login time (Some code) = option_map (time_told login) time ≡ Some (Ok code)
+-- what a table tells the lookup of the answer of a module
+abbrev pub told_of : Lookup → ModuleText → Option (Result ℕ TableError)
+told_of l m = table_answer l.kind (login_view l.login.now) (tables_view l.tables.now) l.groups m
+
+-- the same of the module of a number
+abbrev pub told_of_number : Lookup → Items → ℕ → Option (Result ℕ TableError)
+told_of_number l items number = told_at l.kind (login_view l.login.now) (tables_view l.tables.now) l.groups items number
+
+-- what is kept is what the time table tells the lookup
+abbrev pub IsKept : Lookup → Option ℕ → Type 0
+IsKept l None = Unit {0}
+IsKept l (Some code) = option_map (time_told (login_view l.login.now)) (tables_view l.tables.now).time ≡ Some (Ok code)
 
 -- a set that is known lets a module answer exactly these codes
 unfoldable pub Lets : List ℕ → List ℕ → Type 0
@@ -37,21 +45,17 @@ pub record AreDone (n : ℕ) (before done : ℕ → List ℕ → Type 0) (sets :
   pub first : (m : ℕ) → 1 ≤ m → m ≤ number → done m (sets m)
   pub rest : (m : ℕ) → number < m → m ≤ n → before m (sets m)
 
--- what tables tell the lookup of the module of a number
-abbrev pub told_to : Lookup → Items → ℕ → Option (Result ℕ TableError)
-told_to l items number = told_at l.kind (login_view l.login.now) (tables_view l.tables.now) l.groups items number
-
 -- the sets that tables tell, and those that tables and a returns file tell
-abbrev pub nothing_set : ℕ → List ℕ → Type 0
-nothing_set number set = set ≡ []
+abbrev pub IsUnset : ℕ → List ℕ → Type 0
+IsUnset number set = set ≡ []
 
-abbrev pub table_set : (ℕ → Option (Result ℕ TableError)) → ℕ → List ℕ → Type 0
-table_set told number set = Lets (codes_by (told number) None) set
+abbrev pub IsTableSet : (ℕ → Option (Result ℕ TableError)) → ℕ → List ℕ → Type 0
+IsTableSet told number set = Lets (codes_by (told number) None) set
 
-abbrev pub line_set : (ℕ → Option (Result ℕ TableError)) → (ℕ → Option (List ℕ)) → ℕ → List ℕ → Type 0
-line_set told line number set = Lets (codes_by (told number) (line number)) set
+abbrev pub IsLineSet : (ℕ → Option (Result ℕ TableError)) → (ℕ → Option (List ℕ)) → ℕ → List ℕ → Type 0
+IsLineSet told line number set = Lets (codes_by (told number) (line number)) set
 
 -- what tables tell of the modules 1 to n, or the first fault, unless memory ran out
 abbrev pub TellsAll : ℕ → (ℕ → Option (Result ℕ TableError)) → List ℕ → Result Known TableError → Type 0
-TellsAll n told numbers (Ok known) = (first_fault told numbers ≡ None) × ((m : ℕ) → 1 ≤ m → m ≤ n → table_set told m (set_for known m))
+TellsAll n told numbers (Ok known) = (first_fault told numbers ≡ None) × ((m : ℕ) → 1 ≤ m → m ≤ n → IsTableSet told m (set_for known m))
 TellsAll n told numbers (Err e) = IsFault e e.fault (first_fault told numbers ≡ Some e)

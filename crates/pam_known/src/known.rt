@@ -4,9 +4,9 @@ ghost use Rattle.std.specs.Prelude.{◌≡◌, ◌≤◌, ℕ, Some, is_some};
 ghost use Rattle.std.specs.List.{list_any};
 ghost use Rattle.pam_conf.specs.ItemsOf.{module_text};
 ghost use Rattle.pam_conf.specs.Stack.{module_count};
-ghost use Rattle.pam_known.specs.Answers.{Tells, name_of_path, table_answer, time_told};
+ghost use Rattle.pam_known.specs.Answers.{Tells, name_of_path, time_told};
 ghost use Rattle.pam_known.specs.Knowledge.{Knows, groups_read, knowledge, line_at, numbers, reads_access};
-ghost use Rattle.pam_known.specs.Sets.{Adds, IsTold, TellsAll, TellsIfAny, line_set, table_set, told_to};
+ghost use Rattle.pam_known.specs.Sets.{Adds, IsKept, TellsAll, TellsIfAny, IsLineSet, IsTableSet, told_of, told_of_number};
 ghost use Rattle.pam_known.specs.Tables.{tables_view, timed_view};
 ghost use Rattle.pam_paths.specs.Known.{set_for};
 ghost use Rattle.pam_tables.specs.Login.{login_view};
@@ -73,10 +73,10 @@ impl Lookup<'_, '_, '_> {
         table: &TimedTable<'_>,
         by_time: &mut Option<Code>,
     ) -> Result<Code, TableError>
-        requires kept { IsTold (login_view self.now.login.now) (tables_view self.now.tables.now).time by_time.old }
+        requires kept { IsKept self.now by_time.old }
         requires table { (tables_view self.now.tables.now).time ≡ Some (timed_view table.now) }
         ensures told { Tells (λ code. code) result (time_told (login_view self.now.login.now) (timed_view table.now)) }
-        ensures kept { IsTold (login_view self.now.login.now) (tables_view self.now.tables.now).time by_time.new }
+        ensures kept { IsKept self.now by_time.new }
     {
         match *by_time {
             Some(code) => Ok(code),
@@ -96,9 +96,9 @@ impl Lookup<'_, '_, '_> {
         module: &Module,
         by_time: &mut Option<Code>,
     ) -> Result<Option<Code>, TableError>
-        requires { IsTold (login_view self.now.login.now) (tables_view self.now.tables.now).time by_time.old }
-        ensures told { TellsIfAny result (table_answer self.now.kind (login_view self.now.login.now) (tables_view self.now.tables.now) self.now.groups (module_text «module».now)) }
-        ensures kept { IsTold (login_view self.now.login.now) (tables_view self.now.tables.now).time by_time.new }
+        requires { IsKept self.now by_time.old }
+        ensures told { TellsIfAny result (told_of self.now (module_text «module».now)) }
+        ensures kept { IsKept self.now by_time.new }
     {
         if let Some(bytes) = access_read(self.tables, module) {
             let code = access_told(alloc, self.login, &self.groups, &module.arguments, bytes)?;
@@ -121,9 +121,9 @@ impl Lookup<'_, '_, '_> {
         number: usize,
         by_time: &mut Option<Code>,
     ) -> Result<Option<Code>, TableError>
-        requires { IsTold (login_view self.now.login.now) (tables_view self.now.tables.now).time by_time.old }
-        ensures told { TellsIfAny result (told_to self.now stack.now number) }
-        ensures kept { IsTold (login_view self.now.login.now) (tables_view self.now.tables.now).time by_time.new }
+        requires { IsKept self.now by_time.old }
+        ensures told { TellsIfAny result (told_of_number self.now stack.now number) }
+        ensures kept { IsKept self.now by_time.new }
     {
         match stack.module(number) {
             Some(module) => self.answer_of(alloc, module, by_time),
@@ -133,7 +133,7 @@ impl Lookup<'_, '_, '_> {
 
     /// What tables tell of the answers of all modules.
     fn table_answers(&self, alloc: Global, stack: &Stack) -> Result<Known, TableError>
-        ensures { TellsAll (module_count stack.now) (told_to self.now stack.now) (numbers stack.now) result }
+        ensures { TellsAll (module_count stack.now) (told_of_number self.now stack.now) (numbers stack.now) result }
     {
         let mut known = Known::new();
         let mut by_time = None;
@@ -148,7 +148,7 @@ impl Lookup<'_, '_, '_> {
     /// Whether a table tells the answer of a module.
     #[tactic(auto, unfolding(crate::specs::Answers::table_answer))]
     fn is_told(&self, module: &Module) -> bool
-        ensures { result ≡ is_some (table_answer self.now.kind (login_view self.now.login.now) (tables_view self.now.tables.now) self.now.groups (module_text «module».now)) }
+        ensures { result ≡ is_some (told_of self.now (module_text «module».now)) }
     {
         access_read(self.tables, module).is_some()
             || time_read(self.kind, self.tables, module).is_some()
@@ -156,7 +156,7 @@ impl Lookup<'_, '_, '_> {
 
     /// The codes of a module's line in a returns file, if it has one and no table tells the answer.
     fn codes_of(&self, module: &Module, returns: &ReturnTable) -> Option<CodeSet>
-        ensures { Adds result (table_answer self.now.kind (login_view self.now.login.now) (tables_view self.now.tables.now) self.now.groups (module_text «module».now)) (codes_for returns.now (name_of_path «module».now.path.items)) }
+        ensures { Adds result (told_of self.now (module_text «module».now)) (codes_for returns.now (name_of_path «module».now.path.items)) }
     {
         if self.is_told(module) {
             return None;
@@ -169,7 +169,7 @@ impl Lookup<'_, '_, '_> {
 
     /// The same of the module of a number.
     fn codes_at(&self, stack: &Stack, number: usize, returns: &ReturnTable) -> Option<CodeSet>
-        ensures { Adds result (told_to self.now stack.now number) (line_at returns.now stack.now number) }
+        ensures { Adds result (told_of_number self.now stack.now number) (line_at returns.now stack.now number) }
     {
         match stack.module(number) {
             Some(module) => self.codes_of(module, returns),
@@ -179,8 +179,8 @@ impl Lookup<'_, '_, '_> {
 
     /// Adds what a returns file tells of the modules that read no table.
     fn add_returns(&self, stack: &Stack, returns: &ReturnTable, known: &mut Known)
-        requires { (m : ℕ) → 1 ≤ m → m ≤ module_count stack.now → table_set (told_to self.now stack.now) m (set_for known.old m) }
-        ensures { (m : ℕ) → 1 ≤ m → m ≤ module_count stack.now → line_set (told_to self.now stack.now) (line_at returns.now stack.now) m (set_for known.new m) }
+        requires { (m : ℕ) → 1 ≤ m → m ≤ module_count stack.now → IsTableSet (told_of_number self.now stack.now) m (set_for known.old m) }
+        ensures { (m : ℕ) → 1 ≤ m → m ≤ module_count stack.now → IsLineSet (told_of_number self.now stack.now) (line_at returns.now stack.now) m (set_for known.new m) }
     {
         for index in 0..stack.modules() {
             if let Some(codes) = self.codes_at(stack, index + 1, returns) {

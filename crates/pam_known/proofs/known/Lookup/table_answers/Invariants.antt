@@ -2,16 +2,14 @@ use Rattle.std.proofs.Common.{◌≡◌, ◌+◌, ◌-◌}
 use Rattle.std.specs.List.{range_with_len}
 use Rattle.pam_conf.specs.Stack.{module_count}
 use Rattle.pam_paths.specs.Known.{set_for}
-use Rattle.pam_tables.specs.Login.{login_view}
 use Rattle.pam_known.specs.Knowledge.{first_fault, numbers}
-use Rattle.pam_known.specs.Sets.{AreDone, IsTold, nothing_set, table_set, told_to}
-use Rattle.pam_known.specs.Tables.{tables_view}
+use Rattle.pam_known.specs.Sets.{AreDone, IsKept, IsUnset, IsTableSet, told_of_number}
 use Rattle.pam_known.proofs.known.Lookup.table_answers.Given as goal
 
 abbrev pub invariant-loop-index : goal.invariant-loop-index
 invariant-loop-index l = record {
-  faults : first_fault (told_to l.self l.stack) (range_with_len (l.index + 1) (module_count l.stack - l.index))
-      ≡ first_fault (told_to l.self l.stack) (numbers l.stack);
-  sets : AreDone (module_count l.stack) nothing_set (table_set (told_to l.self l.stack)) (set_for l.known) l.index;
-  kept : IsTold (login_view l.self.login.now) (tables_view l.self.tables.now).time l.by_time;
+  faults : first_fault (told_of_number l.self l.stack) (range_with_len (l.index + 1) (module_count l.stack - l.index))
+      ≡ first_fault (told_of_number l.self l.stack) (numbers l.stack);
+  sets : AreDone (module_count l.stack) IsUnset (IsTableSet (told_of_number l.self l.stack)) (set_for l.known) l.index;
+  kept : IsKept l.self l.by_time;
 }
