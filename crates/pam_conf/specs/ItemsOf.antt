@@ -1,4 +1,4 @@
--- A list of items, as the tree that it is: pam.conf(5).
+-- A list of items as a tree: pam.conf(5).
 use Rattle.std.specs.Prelude.{ℕ, ◌+◌, List, [], ◌∷◌, map}
 use Rattle.pam_conf.specs.declared.stack.Module.{Module}
 use Rattle.pam_conf.specs.declared.stack.Item.{Item}
@@ -6,7 +6,7 @@ use Rattle.pam_conf.specs.declared.stack.Item.TheVariants.{Module as ModuleItem,
 use Rattle.pam_conf.specs.declared.stack.Sub.TheInside.{Inside}
 use Rattle.pam_conf.specs.Stack.{ModuleText, Items, End, ThenModule, ThenSub, SubList}
 
--- a module without where it lies in memory
+-- a module without its layout in memory
 abbrev pub module_text : Module → ModuleText
 module_text m =
     record {
@@ -29,7 +29,7 @@ items_of (SubItem s ∷ rest) = ThenSub s.text s.inner (items_of rest)
 abbrev pub sub_list : Inside → SubList
 sub_list s = record { text = record { file = s.file; line = s.line; target = s.target }; inner = items_of s.items.items }
 
--- how many substacks stand in the list and in its substacks
+-- the number of substacks, nested ones included
 abbrev pub sub_count : Items → ℕ
 sub_count End = 0
 sub_count (ThenModule m rest) = sub_count rest

@@ -1,4 +1,4 @@
--- What is true of the definitions, in the words of pam.conf(5).
+-- Laws of the definitions, in the words of pam.conf(5).
 use Rattle.std.specs.Prelude.{◌≡◌, ◌↔◌, ◌-◌, ◌==◌, ◌≤◌, ℕ, nat_lt, false, List, [], ◌∷◌, length, if◌then◌else◌, Option, Some, None, Err}
 use Rattle.std.specs.List.{list_any}
 use Rattle.pam_conf.specs.Files.{Folder}
@@ -11,11 +11,11 @@ use Rattle.pam_conf.specs.declared.trail.TheConstants.{MAX_OPEN_FILES}
 
 -- WORDS
 
--- the words of a line are the one way to write it as blanks and spellings of words; where there is none there are no words
+-- the words of a line are the one way to write it as blanks and spellings of words; if there is no way it has no words
 abbrev pub WordsAreOneSplit : Type 0
 WordsAreOneSplit = (line : List ℕ) (words : List (List ℕ)) → (words_of line ≡ Some words) ↔ IsSplit line words
 
--- THE WALK BY ITS TRAIL ALONE: the room of a walk and the files of its trail are `MAX_OPEN_FILES` together
+-- THE WALK BY ITS TRAIL ALONE: the room of a walk is `MAX_OPEN_FILES` less the files of its trail
 
 -- the walk of the last file of a trail, with the room that the trail leaves
 abbrev pub trail_walk : Folder → Kind → Option (List ℕ) → List ℕ → ℕ → Walk
@@ -25,17 +25,17 @@ trail_walk folder kind service trail file = walk folder kind service (MAX_OPEN_F
 abbrev pub one_more : Folder → Kind → Option (List ℕ) → List ℕ → Deeper
 one_more folder kind service trail = if nat_lt (length trail) MAX_OPEN_FILES then Some (trail_walk folder kind service) else None
 
--- a stack is the walk of its first file, the one file of the trail
+-- a stack is the walk of its first file, with that file as the whole trail
 abbrev pub StackBeginsATrail : Type 0
 StackBeginsATrail = (folder : Folder) (kind : Kind) (service : Option (List ℕ)) (file : ℕ) →
     stack_from folder kind record { file = file; service = service } ≡ items_or_fault (trail_walk folder kind service (file ∷ []) file)
 
--- a file is walked by its rules, and its targets so with the longer trail
+-- a file is walked rule by rule, and its targets likewise with the longer trail
 abbrev pub WalkFollowsItsTrail : Type 0
 WalkFollowsItsTrail = (folder : Folder) (kind : Kind) (service : Option (List ℕ)) (trail : List ℕ) (file : ℕ) →
     trail_walk folder kind service trail file ≡ file_walk folder kind service (one_more folder kind service trail) trail file
 
--- a target that has a file, and is not open, is too deep exactly where `MAX_OPEN_FILES` files are open
+-- a target that exists and is not open is too deep if and only if `MAX_OPEN_FILES` files are open
 abbrev pub DeepWhereAllAreOpen : Type 0
 DeepWhereAllAreOpen = (folder : Folder) (kind : Kind) (service : Option (List ℕ)) (trail : List ℕ) (target : ℕ) →
     list_any (λ p. p == target) trail ≡ false →

@@ -11,11 +11,11 @@ use Rattle.pam_conf.specs.declared.error.RuleFault.{RuleFault}
 use Rattle.pam_conf.specs.declared.lines.TheConstants.{MAX_FILE_BYTES}
 use Rattle.pam_conf.specs.declared.rule.Form.{Form}
 
--- the rule of a line of this number, if it has one
+-- the rule of the line with this number, if it has one
 unfoldable pub line_rule_of : Form → ℕ → List ℕ → Result (Option RuleText) FaultKind
 line_rule_of form number bytes = words_or_fault bytes >>= rule_of form number
 
--- the text that a reader has left
+-- the text that is not read yet
 abbrev pub text_left : Text → List Mark
 text_left text = text_of text.line text.rest.now
 
@@ -24,21 +24,21 @@ abbrev pub line_number : List Mark → ℕ
 line_number [] = 0
 line_number (m ∷ ms) = m.0
 
--- a fault of one line, with its number
+-- the result of a line, with its number in a fault
 abbrev pub at_line : {A : Type 0} → ℕ → Result A FaultKind → Result A RuleFault
 at_line line (Ok x) = Ok x
 at_line line (Err kind) = Err record { kind = kind; line = line }
 
--- the same where memory ran out, which is a fault of no line
+-- a fault with its line; a failed allocation has line 0
 abbrev pub fault_at : ℕ → FaultKind → RuleFault
 fault_at line faults.Memory = record { kind = faults.Memory; line = 0 }
 fault_at line kind = record { kind = kind; line = line }
 
--- what a line gives
+-- the rule of a line, if it has one, or its fault
 abbrev pub rule_at : Form → List Mark → Result (Option RuleText) RuleFault
 rule_at form line = at_line (line_number line) (line_rule_of form (line_number line) (map (λ m. m.1) line))
 
--- the rules of a line, and behind it those of others
+-- the rule of a line, followed by those of other lines
 abbrev pub onto_rules : Result (Option RuleText) RuleFault → Result (List RuleText) RuleFault → Result (List RuleText) RuleFault
 onto_rules (Err fault) others = Err fault
 onto_rules (Ok None) others = others
@@ -50,7 +50,7 @@ unfoldable pub rules_in : Form → List (List Mark) → Result (List RuleText) R
 rules_in form [] = Ok []
 rules_in form (line ∷ lines) = onto_rules (rule_at form line) (rules_in form lines)
 
--- the line of the first NUL byte: one more than the line feeds before it
+-- the line of the first NUL byte: one more than the number of line feeds before it
 abbrev pub nul_line : List ℕ → Option ℕ
 nul_line bytes = option_map (λ n. 1 + count_by (λ b. b == 10) (take n bytes)) (position (λ b. b == 0) bytes)
 

@@ -1,4 +1,4 @@
--- What a walk has made so far, said by what it makes of every rest: the walk of pam.conf(5)'s includes, piece by piece.
+-- The progress of a walk, by its effect on any continuation: the walk of pam.conf(5)'s includes, piece by piece.
 use Rattle.std.specs.Prelude.{◌≡◌, ℕ, ◌+◌, List, ◌++◌, length, map, filter, slice_index_or, Option, Some, None, Result, Ok, Err, Vec}
 use Rattle.std.specs.Global.{Global}
 use Rattle.pam_conf.specs.Files.{Folder}
@@ -11,13 +11,13 @@ use Rattle.pam_conf.specs.declared.error.RuleFault.{RuleFault}
 use Rattle.pam_conf.specs.declared.rule.Kind.{Kind}
 use Rattle.pam_conf.specs.declared.rule.Rule.{Rule}
 
--- from so many modules and follows, and these items, the walk leads to others
+-- the walk leads from these numbers of modules and follows, and these items, to the new ones
 pub record Passes (modules follows : ℕ) (items : Items) (w : Walk) (new_modules new_follows : ℕ) (new_items : Items) : Type 0 where
   pub refused : (rest : List Event) → refusal modules follows (w.events ++ rest) ≡ refusal new_modules new_follows rest
   pub counted : new_modules ≡ modules + module_count w.items
   pub added : new_items ≡ joined items (numbered (modules + 1) w.items)
 
--- the walk is refused, whatever comes behind it
+-- the walk is refused, whatever follows it
 abbrev pub Refuses : ℕ → ℕ → Walk → ConfError → Type 0
 Refuses modules follows w error = UnlessMemory error error.kind ((rest : List Event) → refusal modules follows (w.events ++ rest) ≡ Some error)
 
@@ -26,12 +26,12 @@ abbrev pub of_kind : Kind → Result (List RuleText) RuleFault → Result (List 
 of_kind kind (Ok rules) = Ok (filter (is_of_kind kind) rules)
 of_kind kind (Err fault) = Err fault
 
--- what reading the file at a position gives
+-- the result of reading the file at a position
 abbrev pub in_file : {X : Type 0} → ℕ → Result X RuleFault → Result X ConfError
 in_file file (Ok x) = Ok x
 in_file file (Err fault) = Err (fault_at file fault.line fault.kind)
 
--- rules that are kept are those that the file has of the kind
+-- the rules stored for a file, if any, are its rules of the kind
 abbrev pub IsKept : Folder → Kind → ℕ → Option (Vec Rule Global) → Type 0
 IsKept folder kind file None = Unit {0}
 IsKept folder kind file (Some rules) = of_kind kind (rules_at folder file) ≡ Ok (map rule_view rules.items)

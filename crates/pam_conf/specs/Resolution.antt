@@ -16,16 +16,16 @@ use Rattle.pam_conf.specs.declared.rule.Form.TheVariants.{Dir, Single}
 use Rattle.pam_conf.specs.declared.rule.Kind.{Kind}
 use Rattle.pam_conf.specs.declared.trail.TheConstants.{MAX_OPEN_FILES}
 
--- where the rules of a service stand: a file, and in pam.conf the service that they carry
+-- the start of a service's rules: a file, and in pam.conf the service that they name
 pub record StartText : Type 0 where
   pub file : ℕ
   pub service : Option (List ℕ)
 
--- a service has rules in pam.conf where one carries it
+-- the start of a service in pam.conf, if a rule names the service
 abbrev pub carried : Bool → ℕ → List ℕ → Option StartText
 carried there file service = if there then Some record { file = file; service = Some service } else None
 
--- where a line of pam.conf has a fault, that is the answer for each service
+-- a fault in any line of pam.conf is the result for each service
 abbrev pub start_read : ℕ → List ℕ → Result (List RuleText) RuleFault → Option StartText
 start_read file service (Err fault) = carried true file service
 start_read file service (Ok rules) = carried (list_any (carries service) rules) file service
@@ -34,7 +34,7 @@ abbrev pub start_in : Form → Folder → List ℕ → Option StartText
 start_in Dir folder service = option_map (λ file. record { file = file; service = None }) (position_of service folder.entries)
 start_in Single folder service = option_and_then (λ file. start_read file service (rules_at folder file)) (position_of (codes "pam.conf") folder.entries)
 
--- where the rules of a service stand, if it has any
+-- the start of a service's rules, if it has any
 abbrev pub start_of : Folder → List ℕ → Option StartText
 start_of folder service = start_in folder.form folder service
 
@@ -42,16 +42,16 @@ start_of folder service = start_in folder.form folder service
 abbrev pub items_or_fault : Walk → Result Items ConfError
 items_or_fault w = option_map_or Err (refusal 0 0 w.events) (Ok (numbered 1 w.items))
 
--- the items of a service; its file is open, and so one file fewer may be opened
+-- the items of a service; its file is open, so one file fewer may be opened
 unfoldable pub stack_from : Folder → Kind → StartText → Result Items ConfError
 stack_from folder kind start = items_or_fault (walk folder kind start.service (MAX_OPEN_FILES - 1) (start.file ∷ []) start.file)
 
--- a service without rules has those of `other`
+-- a service without rules gets the stack of `other`
 abbrev pub without_own : Folder → Kind → Option StartText → Result Items ConfError
 without_own folder kind None = Err record { kind = NoService; at = None; line = 0 }
 without_own folder kind (Some other) = stack_from folder kind other
 
--- an empty stack gives way to that of `other`, if there is one
+-- an empty stack is replaced by that of `other`, if there is one
 abbrev pub unless_empty : Folder → Kind → Option StartText → Result Items ConfError → Result Items ConfError
 unless_empty folder kind (Some other) (Ok End) = stack_from folder kind other
 unless_empty folder kind other stack = stack
@@ -60,16 +60,16 @@ abbrev pub from_starts : Folder → Kind → Option StartText → Option StartTe
 from_starts folder kind None other = without_own folder kind other
 from_starts folder kind (Some own) other = unless_empty folder kind other (stack_from folder kind own)
 
--- THE STACK of a service, in either case, for a kind; or the first fault
+-- THE STACK of a service, in lowercase, for a kind; or the first fault
 unfoldable pub resolved : Folder → List ℕ → Kind → Result Items ConfError
 resolved folder service kind = from_starts folder kind (start_of folder (map to_ascii_lowercase service)) (start_of folder (codes "other"))
 
--- a fact that a fault shows, unless it is want of memory, which has no position
+-- what an error implies; a failed allocation has no position, and implies nothing else
 abbrev pub UnlessMemory : ConfError → FaultKind → Type 0 → Type 0
 UnlessMemory error Memory fact = error ≡ record { kind = Memory; at = None; line = 0 }
 UnlessMemory error kind fact = fact
 
--- what was returned is what the definition gives, unless memory ran out
+-- the view of the result is what the definition says, unless allocation failed
 abbrev pub Resolves : {X Y : Type 0} → (X → Y) → Result X ConfError → Result Y ConfError → Type 0
 Resolves view (Ok x) meant = meant ≡ Ok (view x)
 Resolves view (Err error) meant = UnlessMemory error error.kind (meant ≡ Err error)

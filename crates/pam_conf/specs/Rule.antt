@@ -1,4 +1,4 @@
--- A rule, and what the words of a line make of it: pam.conf(5), "service type control module-path module-arguments".
+-- A rule, read from the words of a line: pam.conf(5), "service type control module-path module-arguments".
 use Rattle.std.specs.Prelude.{ℕ, Bool, true, false, List, [], ◌∷◌, map, codes, drop, ◌==◌, if◌then◌else◌, Option, Some, None, Result, Ok, Err}
 use Rattle.std.specs.Option.{option_map, option_map_or}
 use Rattle.std.specs.List.{list_any, starts_with}
@@ -18,7 +18,7 @@ use Rattle.pam_conf.specs.declared.rule.Body.{Body}
 use Rattle.pam_conf.specs.declared.rule.Body.TheVariants as bodies
 use Rattle.pam_conf.specs.declared.rule.Rule.{Rule}
 
--- A RULE WITHOUT WHERE IT LIES IN MEMORY
+-- A RULE WITHOUT ITS LAYOUT IN MEMORY
 
 pub data RuleBody : Type 0 where
   Module : List Action → List ℕ → List (List ℕ) → RuleBody
@@ -64,12 +64,12 @@ kind_named text =
 abbrev pub kind_or_fault_of : Bool → List ℕ → Result (Bool × Kind) FaultKind
 kind_or_fault_of dashed text = option_map_or (λ k. Ok (dashed, k)) (kind_named text) (Err faults.BadKind)
 
--- a kind, with a dash before it or without
+-- a kind, with or without the prefix `-`
 unfoldable pub dashed_kind_of : List ℕ → Result (Bool × Kind) FaultKind
 dashed_kind_of [] = Err faults.BadKind
 dashed_kind_of (b ∷ bs) = if b == 45 then kind_or_fault_of true bs else kind_or_fault_of false (b ∷ bs)
 
--- a target without the folder in front
+-- a target without the folder's prefix
 abbrev pub without_folder_of : List ℕ → List ℕ
 without_folder_of text = if starts_with ◌==◌ text (codes "/etc/pam.d/") then drop 11 text else text
 
@@ -78,7 +78,7 @@ abbrev pub file_name_of : List ℕ → Result (List ℕ) FaultKind
 file_name_of [] = Err faults.BadTarget
 file_name_of (b ∷ bs) = if list_any (λ c. c == 47) (b ∷ bs) then Err faults.BadTarget else Ok (b ∷ bs)
 
--- the target that stands behind `include`, `substack` or `@include`; further words are passed over
+-- the target after `include`, `substack` or `@include`; further words are ignored
 unfoldable pub target_of : Form → List (List ℕ) → Result (List ℕ) FaultKind
 target_of Single words = Err faults.IncludeInSingleFile
 target_of Dir [] = Err faults.MissingTarget
@@ -97,11 +97,11 @@ abbrev pub module_of : List Action → List (List ℕ) → Result RuleBody Fault
 module_of actions [] = Err faults.MissingField
 module_of actions (path ∷ arguments) = Ok (Module actions (text_of_word path) (map text_of_word arguments))
 
--- what a rule does whose control is no name of an include
+-- the body of a rule whose control is neither `include` nor `substack`
 abbrev pub control_body_of : List ℕ → List (List ℕ) → Result RuleBody FaultKind
 control_body_of control words = control_or_fault control >>= λ actions. module_of actions words
 
--- what stands behind the kind; the control is compared and read as it is written, brackets included
+-- the body of a rule: the words after the kind; the control is compared and read as it is written, brackets included
 unfoldable pub body_of : Form → List (List ℕ) → Result RuleBody FaultKind
 body_of form [] = Err faults.MissingField
 body_of form (control ∷ words) =
@@ -111,7 +111,7 @@ body_of form (control ∷ words) =
 
 -- A LINE
 
--- the rule of a line, from the text of its kind on
+-- the rule of a line, from its kind on
 unfoldable pub kind_rule_of : Form → ℕ → Option (List ℕ) → List ℕ → List (List ℕ) → Result RuleText FaultKind
 kind_rule_of form line service kind words = do
   k ← dashed_kind_of kind
@@ -124,7 +124,7 @@ include_rule_of form line words = do
   target ← target_of form words
   Ok record { line = line; service = None; kind = None; dashed = false; body = Include target }
 
--- the rule of a line that begins with this text and is no `@include`; in pam.conf the text is the service, in either case
+-- the rule of a line that begins with this text, not `@include`; in pam.conf the text is the service, then in lowercase
 unfoldable pub plain_rule_of : Form → ℕ → List ℕ → List (List ℕ) → Result RuleText FaultKind
 plain_rule_of Dir line kind words = kind_rule_of Dir line None kind words
 plain_rule_of Single line service [] = Err faults.MissingField
@@ -137,7 +137,7 @@ first_rule_of form line first words =
     if same_name (codes "@include") first then include_rule_of form line words
     else plain_rule_of form line first words
 
--- the rule that a line's words give, if there are any
+-- the rule of a line with these words, if there are any
 unfoldable pub rule_of : Form → ℕ → List (List ℕ) → Result (Option RuleText) FaultKind
 rule_of form line [] = Ok None
 rule_of form line (first ∷ words) = first_rule_of form line (text_of_word first) words >>= λ r. Ok (Some r)

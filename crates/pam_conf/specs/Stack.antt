@@ -3,7 +3,7 @@ use Rattle.std.specs.Prelude.{◌≡◌, ℕ, ◌+◌, ◌==◌, max, Bool, List
 use Rattle.std.specs.List.{range_with_len}
 use Rattle.pam_codes.specs.declared.action.Action.{Action}
 
--- a module: its number from the left, its rule, and where that stands
+-- a module: its number from the left, its rule, and the rule's file and line
 pub record ModuleText : Type 0 where
   pub number : ℕ
   pub dashed : Bool
@@ -13,13 +13,13 @@ pub record ModuleText : Type 0 where
   pub file : ℕ
   pub line : ℕ
 
--- where the rule of a substack stands, and the file that it names
+-- the file and line of a substack's rule, and the file that it names
 pub record SubText : Type 0 where
   pub file : ℕ
   pub line : ℕ
   pub target : ℕ
 
--- a list of items, each before the rest of its list
+-- a list of items: each item, then the rest of the list
 pub data Items : Type 0 where
   End : Items
   ThenModule : ModuleText → Items → Items
@@ -30,19 +30,19 @@ pub record SubList : Type 0 where
   pub text : SubText
   pub inner : Items
 
--- the items of one list before those of another
+-- one list followed by another
 abbrev pub joined : Items → Items → Items
 joined End after = after
 joined (ThenModule m rest) after = ThenModule m (joined rest after)
 joined (ThenSub s inner rest) after = ThenSub s inner (joined rest after)
 
--- how many modules stand in the list and in its substacks
+-- the number of modules, those of substacks included
 abbrev pub module_count : Items → ℕ
 module_count End = 0
 module_count (ThenModule m rest) = module_count rest + 1
 module_count (ThenSub s inner rest) = module_count inner + module_count rest
 
--- how many lists are open where the most are, this one among them
+-- the greatest number of lists that are open at once, this one included
 abbrev pub depth : Items → ℕ
 depth End = 1
 depth (ThenModule m rest) = depth rest
@@ -54,19 +54,19 @@ numbers_of End = []
 numbers_of (ThenModule m rest) = m.number ∷ numbers_of rest
 numbers_of (ThenSub s inner rest) = numbers_of inner ++ numbers_of rest
 
--- the modules have the numbers from one on, from the left
+-- the modules are numbered from `first` on, from the left
 unfoldable pub IsNumberedFrom : ℕ → Items → Type 0
 IsNumberedFrom first items = numbers_of items ≡ range_with_len first (module_count items)
 
 abbrev pub IsNumbered : Items → Type 0
 IsNumbered = IsNumberedFrom 1
 
--- the first of two that is there
+-- the first of two modules, or the second if there is no first
 abbrev pub first_there : Option ModuleText → Option ModuleText → Option ModuleText
 first_there None other = other
 first_there (Some m) other = Some m
 
--- the first module with a number, from the left
+-- the first module with this number, from the left
 abbrev pub module_at : ℕ → Items → Option ModuleText
 module_at number End = None
 module_at number (ThenModule m rest) = if m.number == number then Some m else module_at number rest

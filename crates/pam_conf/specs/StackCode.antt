@@ -1,4 +1,4 @@
--- A stack written as a row of tokens, by which two stacks are told apart: the tree of pam.conf(5).
+-- A stack encoded as a list of tokens, so that different stacks have different codes: the tree of pam.conf(5).
 use Rattle.std.specs.Prelude.{◌≡◌, ℕ, Bool, List, [], ◌∷◌, ◌++◌, Option, Some, None, ◌⊎◌, refl}
 use Rattle.std.specs.Coded.{Coded, code_by, coded×, coded⊎, coded_ℕ, coded_bool, coded_list, coded_option}
 use Rattle.std.proofs.Common.{inl, inr, ap, ◌∙◌, append_assoc, append-nil, sym}
@@ -55,7 +55,7 @@ sub_text_code =
     code_by (ℕ × (ℕ × ℕ)) (coded× coded_ℕ (coded× coded_ℕ coded_ℕ)) (λ s. (s.file, (s.line, s.target)))
     (λ p. record { file = p.0; line = p.1.0; target = p.1.1 }) (λ _. refl)
 
--- the end of a list, or what an item begins with
+-- the end of a list, or the head of an item
 abbrev pub Token : Type 0
 Token = Option (ModuleText ⊎ SubText)
 

@@ -17,7 +17,7 @@ use Rattle.pam_conf.specs.declared.rule.Kind.TheVariants.{Auth, Account, Passwor
 use Rattle.pam_conf.specs.declared.stack.TheConstants.{MAX_MODULES}
 use Rattle.pam_conf.specs.declared.walk.TheConstants.{MAX_FOLLOWS}
 
--- a fault at a line of a file, which has its position
+-- a fault at a line of the file at a position
 abbrev pub fault_at : ℕ → ℕ → FaultKind → ConfError
 fault_at file line kind = record { kind = kind; at = Some file; line = line }
 
@@ -27,7 +27,7 @@ pub data Event : Type 0 where
   Followed : (file line : ℕ) → Event
   Failed : ConfError → Event
 
--- what a walk gives: its events in order, and its items, whose modules have no numbers yet
+-- the result of a walk: its events in order, and its items, whose modules are not numbered yet
 pub record Walk : Type 0 where
   pub events : List Event
   pub items : Items
@@ -38,7 +38,7 @@ nothing = record { events = []; items = End }
 abbrev pub failed : ConfError → Walk
 failed fault = record { events = Failed fault ∷ []; items = End }
 
--- one walk, and then another
+-- one walk followed by another
 infixr 20 ◌then◌
 abbrev pub ◌then◌ : Walk → Walk → Walk
 first then second = record { events = first.events ++ second.events; items = joined first.items second.items }
@@ -50,39 +50,39 @@ same_kind Password Password = true
 same_kind Session Session = true
 same_kind _ _ = false
 
--- a rule is of the kind; an `@include`, which has none, is of every kind
+-- a rule applies to the kind; an `@include`, which has none, applies to every kind
 abbrev pub is_of_kind : Kind → RuleText → Bool
 is_of_kind kind rule = option_map_or (same_kind kind) rule.kind true
 
--- a rule of pam.conf carries a service
+-- a rule of pam.conf names a service
 abbrev pub carries : List ℕ → RuleText → Bool
 carries service rule = option_map_or (bytes_eq service) rule.service false
 
--- a rule counts where it is of the kind, and in pam.conf carries the service
+-- a rule counts if it applies to the kind, and in pam.conf names the service
 abbrev pub counts : Kind → Option (List ℕ) → RuleText → Bool
 counts kind service rule = is_of_kind kind rule && option_map_or (λ name. carries name rule) service true
 
--- where a target lies, and the walk of its file, if one more file may be opened
+-- the walk of a target, by its trail and position, if one more file may be opened
 abbrev pub Deeper : Type 0
 Deeper = Option (List ℕ → ℕ → Walk)
 
--- a target, by its position: no such file; one that is open already; one too many; or the file, with its walk
+-- the target at a position, with its walk; or no such file, a file that is open already, or one file too many
 abbrev pub target_walk : Deeper → List ℕ → Option ℕ → Result (ℕ × Walk) FaultKind
 target_walk deeper trail None = Err NoService
 target_walk deeper trail (Some target) =
     if list_any (λ p. p == target) trail then Err Cycle
     else option_map_or (λ walk. Ok (target, walk (trail ++ target ∷ []) target)) deeper (Err TooDeep)
 
--- an include that is followed, and then its walk
+-- the event of an include, and then the walk of its target
 abbrev pub followed : ℕ → ℕ → Walk → Walk
 followed file line walk = record { events = Followed file line ∷ walk.events; items = walk.items }
 
--- an include's items stand in its place
+-- an include is replaced by the items of its target
 abbrev pub include_walk : ℕ → ℕ → Result (ℕ × Walk) FaultKind → Walk
 include_walk file line (Err kind) = failed (fault_at file line kind)
 include_walk file line (Ok target) = followed file line target.1
 
--- a substack is one item, also when it is empty
+-- a substack is one item, even if it is empty
 abbrev pub sub_walk : ℕ → ℕ → Result (ℕ × Walk) FaultKind → Walk
 sub_walk file line (Err kind) = failed (fault_at file line kind)
 sub_walk file line (Ok target) = record {
@@ -111,7 +111,7 @@ module _ (folder : Folder) (kind : Kind) (service : Option (List ℕ)) where
   rules_walk deeper trail file [] = nothing
   rules_walk deeper trail file (rule ∷ rules) = rule_walk deeper trail file rule then rules_walk deeper trail file rules
 
-  -- a file that has a fault gives that fault alone
+  -- the walk of a file with a fault is that fault alone
   abbrev pub read_walk : Deeper → List ℕ → ℕ → Result (List RuleText) RuleFault → Walk
   read_walk deeper trail file (Err fault) = failed (fault_at file fault.line fault.kind)
   read_walk deeper trail file (Ok rules) = rules_walk deeper trail file rules
@@ -124,12 +124,12 @@ module _ (folder : Folder) (kind : Kind) (service : Option (List ℕ)) where
   walk zero trail file = file_walk None trail file
   walk (suc room) trail file = file_walk (Some (walk room)) trail file
 
-  -- how a walk goes on in the files that are named, where `room` more may be opened
+  -- the walk of targets, where `room` more files may be opened
   abbrev pub deeper : ℕ → Deeper
   deeper zero = None
   deeper (suc room) = Some (walk room)
 
--- the first of a fault, the module that is one too many, and the include or substack that is one too many
+-- the first error of a walk: a fault, one module too many, or one include or substack too many
 unfoldable pub refusal : ℕ → ℕ → List Event → Option ConfError
 refusal modules follows [] = None
 refusal modules follows (Met file line ∷ events) =

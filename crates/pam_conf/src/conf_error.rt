@@ -1,4 +1,4 @@
-//! Why a service has no stack.
+//! The error of a service without a stack.
 ghost use Rattle.std.specs.Prelude.{◌≡◌};
 
 use crate::error::FaultKind;
@@ -10,9 +10,9 @@ use thiserror::Error;
 #[error("{kind}")]
 pub struct ConfError {
     pub kind: FaultKind,
-    /// The position of the file in `Files`; None where the service has no rules, and for want of memory.
+    /// The position of the file in `Files`; `None` if the service has no rules or allocation failed.
     pub at: Option<usize>,
-    /// From 1; 0 where the fault is of no line.
+    /// From 1; 0 if the fault has no line.
     pub line: usize,
 }
 

@@ -1,3 +1,4 @@
+//! The faults of configuration files.
 ghost use Rattle.std.specs.Prelude.{◌≡◌};
 
 use pam_codes::ControlError;
@@ -7,7 +8,7 @@ use thiserror::Error;
 /// What is wrong with a file, or with the files that a service reads.
 #[derive(Clone, Copy, Debug, PartialEq, Eq, Error)]
 pub enum FaultKind {
-    /// E1, at the line of the first one, in a comment too.
+    /// E1, at the line of the first NUL byte, even in a comment.
     #[error("a NUL byte")]
     NulByte,
     /// E2
@@ -16,7 +17,7 @@ pub enum FaultKind {
     /// E3
     #[error("not one of auth, account, password and session")]
     BadKind,
-    /// E4 to E8. An open bracket is E8 wherever in the line it stands.
+    /// E4 to E8. An open bracket anywhere in the line is E8.
     #[error(transparent)]
     Control(ControlError),
     /// E9
@@ -71,12 +72,12 @@ impl<T: Drop> From<AllocFailed<T>> for FaultKind {
     }
 }
 
-/// Why a file gives no rules: the first fault, and its line.
+/// The first fault of a file, and its line.
 #[derive(Clone, Copy, Debug, PartialEq, Eq, Error)]
 #[error("line {line}: {kind}")]
 pub struct RuleFault {
     pub kind: FaultKind,
-    /// From 1; 0 where the fault is of no line.
+    /// From 1; 0 if the fault has no line.
     pub line: usize,
 }
 

@@ -1,14 +1,14 @@
-//! Laws of the definitions that the contracts cite, each the contract of a function that does nothing.
+//! Laws of the definitions that the contracts cite: each is the contract of an empty function.
 
 ghost use Rattle.pam_conf.specs.Laws.{DeepWhereAllAreOpen, StackBeginsATrail, WalkFollowsItsTrail, WordsAreOneSplit};
 
-/// A line has words exactly where it can be written as blanks and spellings of words, and then in one way.
+/// A line has words if and only if it can be written as blanks and spellings of words, and then in only one way.
 pub fn words_are_one_split()
     ensures { WordsAreOneSplit }
 {}
 
-/// The files that a walk may still open and those of its trail are `MAX_OPEN_FILES` together. So a walk is told by its trail
-/// alone, and a target is too deep exactly where `MAX_OPEN_FILES` files are open.
+/// A walk may open `MAX_OPEN_FILES` files less those of its trail. So the trail alone determines the walk, and a target
+/// is too deep if and only if `MAX_OPEN_FILES` files are open.
 pub fn room_and_trail()
     ensures begins { StackBeginsATrail }
     ensures followed { WalkFollowsItsTrail }

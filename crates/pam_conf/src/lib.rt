@@ -1,4 +1,5 @@
-//! Rules of PAM configuration, and the stacks that they make.
+//! Reads the rules of PAM configuration files: pam.conf(5). Resolves the stack of a service by following the includes
+//! and substacks of its rules.
 #![tactic(auto)]
 
 mod conf_error;

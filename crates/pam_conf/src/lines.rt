@@ -1,3 +1,4 @@
+//! The rules of the lines of a file: pam.conf(5).
 ghost use Rattle.std.specs.Prelude.{◌≡◌, ◌==◌, ◌<◌, ◌≤◌, ◌^◌, ◌∷◌, ◌++◌, [], filter, length, map, position, count_by};
 ghost use Rattle.std.specs.Prelude.{OnOk, IfSome};
 ghost use Rattle.std.specs.Option.{option_map};
@@ -14,18 +15,18 @@ use crate::words::LineReader;
 use pam_codes::Text;
 use std::alloc::{AllocFailed, Global};
 
-/// How many bytes a file has at most: one more is `FileTooLong`.
+/// The maximum length of a file in bytes; a longer one is `FileTooLong`.
 pub const MAX_FILE_BYTES: usize = 1_048_576;
 
-/// The rules of a file in the order of its lines, or its first fault: pam.conf(5).
-/// E16 comes before E1, and E1 before a fault of a line. Want of memory has line 0.
+/// Reads the rules of a file in the order of its lines: pam.conf(5). Returns the first fault: `FileTooLong` (E16) comes
+/// before `NulByte` (E1), and that before the faults of lines. A failed allocation has line 0.
 pub fn rules(alloc: Global, bytes: &[u8], form: Form) -> Result<Vec<Rule>, RuleFault>
     ensures { Gives (λ rules. map rule_view rules.items) result (rules_of form bytes.now) }
 {
     wanted_rules(alloc, bytes, form, None)
 }
 
-/// Of these rules those that are wanted. A fault of another rule is one all the same.
+/// Like `rules`, but returns only the wanted ones. A fault in another rule is still an error.
 #[tactic(auto, unfolding(crate::specs::Lines::rules_of))]
 pub(crate) fn wanted_rules(
     alloc: Global,
@@ -74,7 +75,7 @@ fn nul_line(bytes: &[u8]) -> Option<usize>
     }
 }
 
-/// The rules of all lines that are wanted.
+/// The wanted rules of all lines.
 fn text_rules(
     alloc: Global,
     form: Form,
@@ -96,7 +97,7 @@ fn text_rules(
     Ok(rules)
 }
 
-/// Puts a rule behind the others if it is wanted.
+/// Appends `rule` if it is wanted.
 fn keep(rules: &mut Vec<Rule>, rule: Rule, wanted: Option<Kind>) -> Result<(), AllocFailed<Rule>>
     ensures { OnOk result (map rule_view rules.new.items
         ≡ map rule_view rules.old.items ++ filter (wants wanted) (rule_view rule ∷ [])) }
@@ -107,7 +108,7 @@ fn keep(rules: &mut Vec<Rule>, rule: Rule, wanted: Option<Kind>) -> Result<(), A
     rules.push(rule)
 }
 
-/// The rule of the text's first line, if that line has one. The text goes on behind it.
+/// Reads the next line of `text`, and returns its rule if it has one.
 fn next_rule(
     alloc: Global,
     form: Form,
@@ -124,7 +125,7 @@ fn next_rule(
     }
 }
 
-/// The same with a fault of no line yet.
+/// Like `next_rule`, without the line of a fault.
 fn read_line(
     alloc: Global,
     form: Form,
@@ -140,7 +141,7 @@ fn read_line(
     line_rule(alloc, form, line, reader.words())
 }
 
-/// A fault of a line. Want of memory is of none.
+/// A fault at `line`; a failed allocation has line 0.
 fn fault_at(line: usize, kind: FaultKind) -> RuleFault
     ensures { result ≡ fault_at_line line kind }
 {

@@ -1,4 +1,4 @@
-//! The stack of a service, or why it has none.
+//! Resolves the stack of a service: pam.conf(5).
 ghost use Rattle.std.specs.Prelude.{◌≡◌, ◌<◌, IfOk, IfSome, OnOk, codes, length, map};
 ghost use Rattle.std.specs.Char.{to_ascii_lowercase};
 ghost use Rattle.std.specs.List.{list_any};
@@ -19,20 +19,20 @@ use crate::trail::Trail;
 use crate::walk::{Progress, Walker, file_rules, has_service, kept};
 use std::alloc::{AllocError, Global};
 
-/// The name of the one file of the one-file form.
+/// The name of the file of `Form::Single`.
 const ONE_FILE: &[u8] = b"pam.conf";
 
-/// The service whose rules serve where a service has none.
+/// The service whose rules apply to services without their own.
 const OTHER: &[u8] = b"other";
 
-/// Where the rules of a service stand: a file, and in pam.conf the service that they carry.
+/// The start of a service's rules: a file, and in pam.conf the service that they name.
 #[derive(Drop)]
 struct Start<'a> {
     file: usize,
     service: Option<&'a [u8]>,
 }
 
-/// No rules of a service, and none of `other`.
+/// The error if neither the service nor `other` has rules.
 fn no_service() -> ConfError
     ensures { result ≡ record { kind = FaultKind.NoService; at = None; line = 0 } }
 {
@@ -43,7 +43,7 @@ fn no_service() -> ConfError
     }
 }
 
-/// A text in lower case.
+/// Copies `text` in lowercase.
 fn lower_case(alloc: Global, text: &[u8]) -> Result<Vec<u8>, AllocError>
     ensures { IfOk result (λ lowered. lowered.items ≡ map to_ascii_lowercase text.now) }
 {
@@ -52,7 +52,7 @@ fn lower_case(alloc: Global, text: &[u8]) -> Result<Vec<u8>, AllocError>
     Ok(lowered)
 }
 
-/// Where the rules of a service stand in a folder: in its file, if there is one.
+/// The start of `service` in a folder: its file, if there is one.
 fn folder_start(files: &Files, service: &[u8]) -> Option<Start<'static>>
     ensures start { option_map start_text result ≡ start_in Dir files.now service.now }
     ensures within { IfSome result (λ s. s.file < length files.now.entries) }
@@ -64,7 +64,7 @@ fn folder_start(files: &Files, service: &[u8]) -> Option<Start<'static>>
     })
 }
 
-/// Where the rules of a service stand in the one file: in it, if a rule carries the service.
+/// The start of `service` in pam.conf, if a rule names it.
 fn carried_start<'a>(rules: &[Rule], file: usize, service: &'a [u8]) -> Option<Start<'a>>
     ensures { option_map start_text result ≡ carried (list_any (carries service.now) (map rule_view rules.now)) file service.now }
 {
@@ -79,7 +79,7 @@ fn carried_start<'a>(rules: &[Rule], file: usize, service: &'a [u8]) -> Option<S
     None
 }
 
-/// The stack that begins at a start.
+/// The stack of the walk from `start`.
 fn stack_at(
     alloc: Global,
     files: &Files,
@@ -106,7 +106,7 @@ fn stack_at(
     Ok(Stack::of(items, progress.modules))
 }
 
-/// The stack of a service, or that of `other` where the service has no rules or an empty stack.
+/// The stack from `own`, or from `other` if the service has no rules or an empty stack.
 fn stack_of_starts(
     alloc: Global,
     files: &Files,
@@ -136,7 +136,7 @@ fn stack_of_starts(
     stack_at(alloc, files, kind, progress, other)
 }
 
-/// The stack of a service of a folder.
+/// The stack of a service in a folder.
 fn folder_stack(
     alloc: Global,
     files: &Files,
@@ -151,7 +151,7 @@ fn folder_stack(
     stack_of_starts(alloc, files, kind, &mut progress, own, other)
 }
 
-/// The stack of a service of pam.conf. A fault of any of its lines is the answer.
+/// The stack of a service in pam.conf. A fault in any line of the file is an error.
 fn one_file_stack(
     alloc: Global,
     files: &Files,
@@ -171,9 +171,9 @@ fn one_file_stack(
     stack_of_starts(alloc, files, kind, &mut progress, own, other)
 }
 
-/// The stack of a service, in either case, for a kind; or the first fault of the walk over its files. Where an allocation
-/// failed, the error has no file and line 0.
-/// `other` serves where the service has no rules, or an empty stack: pam.conf(5).
+/// Returns the stack of `service`, in lowercase, for `kind`: pam.conf(5). A service without rules, or with an empty
+/// stack, gets the stack of `other`. Fails with the first fault of the walk over the files. If allocation fails, the
+/// error has no file and line 0.
 pub fn resolve(alloc: Global, files: &Files, service: &[u8], kind: Kind) -> Result<Stack, ConfError>
     ensures { Resolves (λ s. s) result (resolved files.now service.now kind) }
 {

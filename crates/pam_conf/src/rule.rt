@@ -1,3 +1,4 @@
+//! The rule of a line: pam.conf(5), "service type control module-path module-arguments".
 ghost use Rattle.std.specs.Prelude.{◌≡◌, IfOk, map};
 ghost use Rattle.std.specs.Char.{to_ascii_lowercase};
 ghost use Rattle.std.specs.Option.{option_map};
@@ -15,7 +16,7 @@ use crate::words::{next_word, word_text, word_texts};
 use pam_codes::{Control, is_name};
 use std::alloc::{AllocError, Global};
 
-/// What a stack is for: pam.conf(5), `type`.
+/// The management group of a rule: pam.conf(5), `type`.
 #[derive(Clone, Copy, Debug, PartialEq, Eq)]
 pub enum Kind {
     Auth,
@@ -24,10 +25,10 @@ pub enum Kind {
     Session,
 }
 
-/// How the rules of a service are kept: pam.conf(5).
+/// The form of the configuration: pam.conf(5).
 #[derive(Clone, Copy, Debug, PartialEq, Eq)]
 pub enum Form {
-    /// A folder with a file for each service.
+    /// A folder with one file per service.
     Dir,
     /// One file, pam.conf, whose rules begin with the service.
     Single,
@@ -36,30 +37,30 @@ pub enum Form {
 /// What a rule does.
 #[derive(Debug, Drop)]
 pub enum Body {
-    /// Asks a module: its control, its path and its arguments.
+    /// Calls a module: the control, path and arguments.
     Module(Control, Vec<u8>, Vec<Vec<u8>>),
-    /// Takes in the rules of a file, as if they stood here.
+    /// Includes the rules of the file with this name, as if they were written here.
     Include(Vec<u8>),
-    /// Takes in the rules of a file as one item.
+    /// Includes the rules of the file with this name as one item.
     Sub(Vec<u8>),
 }
 
 /// A rule of a file.
 #[derive(Debug, Drop)]
 pub struct Rule {
-    /// The first line that it stands on, from 1.
+    /// The number of its first line, from 1.
     pub line: usize,
-    /// In pam.conf the service, in lower case; in a folder None.
+    /// The service in lowercase in pam.conf; `None` in a folder.
     pub service: Option<Vec<u8>>,
-    /// None for an `@include`, which is of every kind.
+    /// `None` for an `@include`, which applies to every kind.
     pub kind: Option<Kind>,
-    /// Whether a `-` stands before the kind.
+    /// Whether the kind has the prefix `-`.
     pub dashed: bool,
     pub body: Body,
 }
 
 impl Kind {
-    /// The kind of a name, in either case: pam.conf(5), `type`.
+    /// The kind with this name, ignoring ASCII case: pam.conf(5), `type`.
     #[tactic(auto, unfolding(crate::specs::Rule::kind_named))]
     pub fn from_name(name: &[u8]) -> Option<Kind>
         ensures { result ≡ kind_named name.now }
@@ -78,14 +79,13 @@ impl Kind {
     }
 }
 
-/// Whether two kinds are one.
 fn is_same(kind: Kind, other: Kind) -> bool
     ensures { result ≡ same_kind kind other }
 {
     kind == other
 }
 
-/// Whether a rule is of a kind.
+/// Whether `rule` applies to `kind`.
 pub(crate) fn is_of(rule: &Rule, kind: Kind) -> bool
     ensures { result ≡ is_of_kind kind (rule_view rule.now) }
 {
@@ -95,7 +95,7 @@ pub(crate) fn is_of(rule: &Rule, kind: Kind) -> bool
     }
 }
 
-/// Whether a rule is of the kind that is wanted. With none, each is.
+/// Whether `rule` applies to the wanted kind; always true without one.
 pub(crate) fn is_wanted(rule: &Rule, wanted: Option<Kind>) -> bool
     ensures { result ≡ wants wanted (rule_view rule.now) }
 {
@@ -105,7 +105,7 @@ pub(crate) fn is_wanted(rule: &Rule, wanted: Option<Kind>) -> bool
     }
 }
 
-/// The kind of a name, with whether a dash stands before it.
+/// The kind with this name, together with `dashed`.
 fn kind_or_fault(dashed: bool, name: &[u8]) -> Result<(bool, Kind), FaultKind>
     ensures { result ≡ kind_or_fault_of dashed name.now }
 {
@@ -115,7 +115,7 @@ fn kind_or_fault(dashed: bool, name: &[u8]) -> Result<(bool, Kind), FaultKind>
     }
 }
 
-/// The kind of a text, and whether a dash stands before it.
+/// Whether `text` has the prefix `-`, and the kind after it.
 #[tactic(auto, unfolding(crate::specs::Rule::dashed_kind_of))]
 fn dashed_kind(text: &[u8]) -> Result<(bool, Kind), FaultKind>
     ensures { result ≡ dashed_kind_of text.now }
@@ -130,7 +130,7 @@ fn dashed_kind(text: &[u8]) -> Result<(bool, Kind), FaultKind>
     }
 }
 
-/// The name of a file of the folder.
+/// Returns `name` if a file of the folder can have it: not empty, and without `/`.
 fn file_name(name: Vec<u8>) -> Result<Vec<u8>, FaultKind>
     ensures { GivesKind (λ n. n.items) result (file_name_of name.items) }
 {
@@ -141,7 +141,7 @@ fn file_name(name: Vec<u8>) -> Result<Vec<u8>, FaultKind>
     }
 }
 
-/// A target without the folder in front.
+/// Returns a target without the folder's prefix.
 fn without_folder(alloc: Global, text: Vec<u8>) -> Result<Vec<u8>, AllocError>
     ensures { IfOk result (λ n. n.items ≡ without_folder_of text.items) }
 {
@@ -153,7 +153,7 @@ fn without_folder(alloc: Global, text: Vec<u8>) -> Result<Vec<u8>, AllocError>
     }
 }
 
-/// The target that the words begin with.
+/// The target at the start of `words`; further words are ignored.
 #[tactic(auto, unfolding(crate::specs::Rule::target_of))]
 fn target(alloc: Global, form: Form, words: &[Vec<u8>]) -> Result<Vec<u8>, FaultKind>
     ensures { GivesKind (λ t. t.items) result (target_of form (still_to_come words.now)) }
@@ -170,7 +170,7 @@ fn target(alloc: Global, form: Form, words: &[Vec<u8>]) -> Result<Vec<u8>, Fault
     }
 }
 
-/// What a rule does whose control asks a module.
+/// The body of a rule that calls a module; `words` begin with its path.
 fn module_body(alloc: Global, control: Control, words: &[Vec<u8>]) -> Result<Body, FaultKind>
     ensures { GivesKind body_view result (module_of control (still_to_come words.now)) }
 {
@@ -182,7 +182,7 @@ fn module_body(alloc: Global, control: Control, words: &[Vec<u8>]) -> Result<Bod
     Ok(Body::Module(control, path, arguments))
 }
 
-/// What a rule does whose control is a word as it is written.
+/// The body of a rule whose control is neither `include` nor `substack`.
 fn control_body(alloc: Global, control: &[u8], words: &[Vec<u8>]) -> Result<Body, FaultKind>
     ensures { GivesKind body_view result (control_body_of control.now (still_to_come words.now)) }
 {
@@ -192,7 +192,7 @@ fn control_body(alloc: Global, control: &[u8], words: &[Vec<u8>]) -> Result<Body
     }
 }
 
-/// What stands behind the kind.
+/// The body of a rule: the words after the kind.
 #[tactic(auto, unfolding(crate::specs::Rule::body_of))]
 fn rule_body(alloc: Global, form: Form, words: &[Vec<u8>]) -> Result<Body, FaultKind>
     ensures { GivesKind body_view result (body_of form (still_to_come words.now)) }
@@ -211,7 +211,7 @@ fn rule_body(alloc: Global, form: Form, words: &[Vec<u8>]) -> Result<Body, Fault
     control_body(alloc, control, words)
 }
 
-/// The rule of a line, from the text of its kind on.
+/// The rule of a line, from its kind on.
 #[tactic(auto, unfolding(crate::specs::Rule::kind_rule_of))]
 fn kind_rule(
     alloc: Global,
@@ -255,7 +255,7 @@ fn include_rule(
     })
 }
 
-/// Makes the letters small.
+/// Lowercases ASCII letters in place.
 pub(crate) fn lower(text: &mut [u8])
     ensures { text.new ≡ map to_ascii_lowercase text.old }
 {
@@ -264,7 +264,7 @@ pub(crate) fn lower(text: &mut [u8])
     }
 }
 
-/// The rule of a line that begins with a text that is no `@include`.
+/// The rule of a line that begins with `first`, which is not `@include`.
 #[tactic(auto, unfolding(crate::specs::Rule::plain_rule_of))]
 fn plain_rule(
     alloc: Global,
@@ -288,7 +288,7 @@ fn plain_rule(
     }
 }
 
-/// The rule of a line that begins with a text.
+/// The rule of a line that begins with `first`.
 #[tactic(auto, unfolding(crate::specs::Rule::first_rule_of))]
 fn first_rule(
     alloc: Global,
@@ -306,7 +306,7 @@ fn first_rule(
     }
 }
 
-/// The rule that the words of a line give, if there are any.
+/// The rule of a line with these words; `None` if there are none.
 #[tactic(auto, unfolding(crate::specs::Rule::rule_of))]
 pub(crate) fn line_rule(
     alloc: Global,

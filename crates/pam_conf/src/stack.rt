@@ -8,20 +8,20 @@ ghost use Rattle.pam_conf.specs.declared.trail.TheConstants.{MAX_OPEN_FILES};
 use pam_codes::Control;
 use std::marker::Model;
 
-/// How many modules a stack has at most: one more is `TooManyModules`.
+/// The maximum number of modules of a stack; one more is `TooManyModules`.
 pub const MAX_MODULES: usize = 256;
 
 /// A module of a stack, as its rule names it.
 #[derive(Debug, Drop)]
 pub struct Module {
-    /// From 1, in the order in which the files are read.
+    /// From 1, in the order of the walk.
     pub number: usize,
-    /// Whether a dash stands before the kind.
+    /// Whether the kind has the prefix `-`.
     pub dashed: bool,
     pub control: Control,
     pub path: Vec<u8>,
     pub arguments: Vec<Vec<u8>>,
-    /// The file's position in `Files`.
+    /// The position of the rule's file in `Files`.
     pub file: usize,
     pub line: usize,
 }
@@ -67,7 +67,7 @@ pub enum Item {
     Sub(Sub),
 }
 
-/// The stack of a service: at most `MAX_MODULES` modules, numbered from the left, and at most `MAX_OPEN_FILES` lists open.
+/// The stack of a service: up to `MAX_MODULES` modules, numbered from the left, in lists at most `MAX_OPEN_FILES` deep.
 #[derive(Debug, Drop)]
 pub struct Stack {
     items: Vec<Item>,
@@ -93,7 +93,7 @@ impl Model for Stack {
 }
 
 impl Stack {
-    /// The stack of these items, which have so many modules.
+    /// The stack of `items`, which have this many modules.
     pub(crate) fn of(items: Vec<Item>, modules: usize) -> Stack
         requires counted { modules ≡ module_count (items_of items.items) }
         requires few { modules ≤ MAX_MODULES }
@@ -114,7 +114,7 @@ impl Stack {
         self.items.as_slice()
     }
 
-    /// How many modules there are.
+    /// The number of modules, those of substacks included.
     pub fn modules(&self) -> usize
         ensures count { result ≡ module_count self.now }
         ensures most { result ≤ MAX_MODULES }
@@ -122,7 +122,7 @@ impl Stack {
         self.modules
     }
 
-    /// The module with a number; none, unless it is from 1 to `modules`.
+    /// The module with this number; `None` unless it is from 1 to `modules`.
     pub fn module(&self, number: usize) -> Option<&Module>
         ensures module { option_map (λ m. module_text m.now) result ≡ module_at number self.now }
         ensures range { IsSome result ↔ (1 ≤ number) × (number ≤ module_count self.now) }
@@ -131,7 +131,7 @@ impl Stack {
     }
 }
 
-/// The first module with a number.
+/// The first module with this number, in `items` or their substacks.
 fn module_in(items: &[Item], number: usize) -> Option<&Module>
     ensures { option_map (λ m. module_text m.now) result ≡ module_at number (items_of items.now) }
 {

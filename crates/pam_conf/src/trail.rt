@@ -1,13 +1,13 @@
-//! The files that are open while includes are followed.
+//! The files that are open during a walk.
 ghost use Rattle.std.specs.Prelude.{◌≡◌, ◌+◌, ◌-◌, ◌<◌, ◌==◌, ◌∷◌, ◌++◌, [], length};
 ghost use Rattle.std.specs.List.{list_any};
 
 use std::marker::Model;
 
-/// How many files may be open at once, the service's file among them: one more is `TooDeep`.
+/// The maximum number of files open at once, the service's file included; one more is `TooDeep`.
 pub const MAX_OPEN_FILES: usize = 16;
 
-/// The positions of the files that are open, the service's file first.
+/// The positions of the open files, the service's file first.
 #[derive(Drop)]
 pub(crate) struct Trail {
     files: [usize; MAX_OPEN_FILES],
@@ -26,7 +26,7 @@ impl Model for Trail {
 }
 
 impl Trail {
-    /// The trail of a service's file.
+    /// The trail with a service's file alone.
     pub(crate) fn of(file: usize) -> Trail
         ensures { result ≡ file ∷ [] }
     {
@@ -36,21 +36,21 @@ impl Trail {
         }
     }
 
-    /// How many more files may be opened.
+    /// The number of files that may still be opened.
     pub(crate) fn room(&self) -> usize
         ensures { result ≡ MAX_OPEN_FILES - length self.now }
     {
         MAX_OPEN_FILES - self.count
     }
 
-    /// Whether a file is open.
+    /// Whether `file` is open.
     pub(crate) fn contains(&self, file: usize) -> bool
         ensures { result ≡ list_any (λ p. p == file) self.now }
     {
         self.files[..self.count].contains(&file)
     }
 
-    /// The trail with one more file.
+    /// The trail with `file` appended.
     pub(crate) fn with(&self, file: usize) -> Trail
         requires { length self.now < MAX_OPEN_FILES }
         ensures { result ≡ self.now ++ file ∷ [] }

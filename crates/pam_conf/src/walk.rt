@@ -22,13 +22,13 @@ use crate::trail::Trail;
 use pam_codes::Control;
 use std::alloc::{AllocError, Global};
 
-/// How many includes and substacks a walk follows at most: one more is `TooManyFollowed`.
+/// The maximum number of includes and substacks that a walk follows; one more is `TooManyFollowed`.
 pub const MAX_FOLLOWS: usize = 256;
 
-/// What a walk has met so far, and the rules that it has read.
+/// The counts of a walk so far, and the rules that it has read.
 #[derive(Drop)]
 pub(crate) struct Progress {
-    /// By position in `Files`, the rules of the kind of each file that was read and is not open.
+    /// The rules of the kind of each file that was read and is not open, by position in `Files`.
     pub table: Vec<Option<Vec<Rule>>>,
     pub modules: usize,
     pub follows: usize,
@@ -37,7 +37,7 @@ pub(crate) struct Progress {
 }
 
 impl Progress {
-    /// Nothing met, and nothing read, of so many files.
+    /// The progress at the start of a walk over `files`.
     pub(crate) fn new(alloc: Global, files: &Files, kind: Kind) -> Result<Progress, AllocError>
         ensures { IfOk result (λ p. IsTable files.now kind p.table.items) }
     {
@@ -64,7 +64,7 @@ fn fault(file: usize, line: usize, kind: FaultKind) -> ConfError
     }
 }
 
-/// A fault of a file's own lines. Want of memory has no position.
+/// A fault of reading `file`. A failed allocation has no position.
 fn fault_in(file: usize, found: RuleFault) -> ConfError
     ensures kind { result.kind ≡ found.kind }
     ensures place { UnlessMemory result found.kind (result ≡ fault_at file found.line found.kind) }
@@ -79,7 +79,7 @@ fn fault_in(file: usize, found: RuleFault) -> ConfError
     }
 }
 
-/// The rules of the file at a position that are wanted, or its first fault.
+/// Reads the wanted rules of the file at a position.
 pub(crate) fn file_rules(
     alloc: Global,
     files: &Files,
@@ -93,7 +93,7 @@ pub(crate) fn file_rules(
     wanted_rules(alloc, bytes, files.form(), wanted).map_err(|found| fault_in(file, found))
 }
 
-/// Whether a rule of pam.conf carries a service.
+/// Whether a rule of pam.conf names `service`.
 pub(crate) fn has_service(rule: &Rule, service: &[u8]) -> bool
     ensures { result ≡ carries service.now (rule_view rule.now) }
 {
@@ -103,7 +103,7 @@ pub(crate) fn has_service(rule: &Rule, service: &[u8]) -> bool
     }
 }
 
-/// The rules of a kind.
+/// The rules that apply to `kind`.
 pub(crate) fn kept(mut rules: Vec<Rule>, kind: Kind) -> Vec<Rule>
     ensures { map rule_view result.items ≡ filter (is_of_kind kind) (map rule_view rules.items) }
 {
@@ -111,7 +111,7 @@ pub(crate) fn kept(mut rules: Vec<Rule>, kind: Kind) -> Vec<Rule>
     rules
 }
 
-/// The module that a rule of a file asks.
+/// The module that a rule calls.
 fn module_of(
     alloc: Global,
     number: usize,
@@ -152,7 +152,7 @@ pub(crate) struct Walker<'a> {
 }
 
 impl Walker<'_> {
-    /// Whether a rule is of the kind, and in pam.conf of the service.
+    /// Whether `rule` applies to the kind, and in pam.conf to the service.
     fn counts(&self, rule: &Rule) -> bool
         ensures { result ≡ counts self.now.kind (option_map (λ s. s.now) self.now.service) (rule_view rule.now) }
     {
@@ -163,7 +163,7 @@ impl Walker<'_> {
         is_of(rule, self.kind) && is_carried
     }
 
-    /// The rules of the kind of a file, which is then not in the table.
+    /// Takes the rules of a file out of the table, or reads them.
     fn take_rules(
         &self,
         table: &mut Vec<Option<Vec<Rule>>>,
@@ -181,7 +181,7 @@ impl Walker<'_> {
         file_rules(self.alloc, self.files, file, Some(self.kind))
     }
 
-    /// Walks a file that was just opened; it is the last of the trail. Its items come behind those that are there.
+    /// Walks `file`, the last of `trail`, and appends its items to `items`.
     #[cycle(walk)]
     pub(crate) fn walk_file(
         &self,
@@ -204,7 +204,7 @@ impl Walker<'_> {
         Ok(())
     }
 
-    /// Walks rules of a file.
+    /// Walks rules of `file`.
     #[cycle(walk)]
     fn walk_rules(
         &self,
@@ -228,7 +228,7 @@ impl Walker<'_> {
         Ok(())
     }
 
-    /// Walks a rule.
+    /// Walks a rule of `file`.
     #[cycle(walk)]
     fn walk_rule(
         &self,
@@ -287,7 +287,7 @@ impl Walker<'_> {
         }
     }
 
-    /// Follows the target of a rule at a line of a file, and gives the target's position.
+    /// Follows the target of the rule at `line` of `file`, and returns the target's position.
     #[cycle(walk)]
     fn follow(
         &self,

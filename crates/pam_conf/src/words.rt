@@ -1,3 +1,4 @@
+//! The words of a line: pam.conf(5), on brackets in arguments.
 ghost use Rattle.std.specs.Prelude.{◌≡◌, ◌≤◌, ◌<◌, ◌-◌, ◌∷◌, ◌++◌, [], ℕ, List, map, drop, length, slice_index};
 ghost use Rattle.std.specs.Prelude.{IfOk, Ok, OnOk, MatchOption, MatchResult};
 ghost use Rattle.pam_codes.specs.Text.{first_line, behind_line};
@@ -10,23 +11,23 @@ use crate::error::FaultKind;
 use pam_codes::{ControlError, Text, is_blank_byte};
 use std::alloc::{AllocError, Global};
 
-/// Where a line is read.
+/// The state of a reader: between words, in a plain word or in brackets.
 #[derive(Clone, Copy)]
 pub(crate) enum Spot {
     Between,
     Plain,
-    /// The flag: a backslash stands directly before.
+    /// Whether the last byte was a backslash.
     Bracket(bool),
 }
 
-/// A line that is read up to a spot. Line after line uses the memory of the words before.
+/// Splits lines into words, byte by byte. Reuses the memory of the words of earlier lines.
 #[derive(Drop)]
 pub(crate) struct LineReader {
     alloc: Global,
     done: Vec<Vec<u8>>,
-    /// Memory for words to come. What it holds says nothing.
+    /// Memory for further words. Its contents do not matter.
     spare: Vec<Vec<u8>>,
-    /// What is read of the word that is begun. Between words it says nothing.
+    /// The bytes of the current word. Between words they do not matter.
     word: Vec<u8>,
     spot: Spot,
 }
@@ -42,14 +43,14 @@ impl LineReader {
         }
     }
 
-    /// The words that are done.
+    /// The finished words.
     pub(crate) fn words(&self) -> &[Vec<u8>]
         ensures { result.now ≡ self.now.done.items }
     {
         self.done.as_slice()
     }
 
-    /// Goes before the first byte of a line.
+    /// Begins a line.
     fn begin(&mut self) -> Result<(), AllocError>
         ensures { OnOk result ((rest : List ℕ) → all_words self.new rest ≡ words_or_fault rest) }
     {
@@ -58,7 +59,7 @@ impl LineReader {
         Ok(())
     }
 
-    /// Goes behind one more byte of the line.
+    /// Reads one more byte of the line.
     fn advance(&mut self, byte: u8) -> Result<(), AllocError>
         ensures { OnOk result ((rest : List ℕ) → all_words self.new rest ≡ all_words self.old (byte ∷ rest)) }
     {
@@ -109,7 +110,7 @@ impl LineReader {
         Ok(())
     }
 
-    /// The word that is begun goes to those that are done.
+    /// Appends the current word to the finished ones.
     fn end_word(&mut self) -> Result<(), AllocError>
         ensures done { OnOk result (texts self.new.done ≡ texts self.old.done ++ self.old.word.items ∷ []) }
         ensures spot { OnOk result (self.new.spot ≡ Spot.Between) }
@@ -120,7 +121,7 @@ impl LineReader {
         Ok(())
     }
 
-    /// Ends the line. Its words are then those that are done.
+    /// Ends the line. Returns an error if a bracket is open.
     fn finish(&mut self) -> Result<(), FaultKind>
         ensures { MatchResult result (λ _. all_words self.old [] ≡ Ok (texts self.new.done)) (λ kind. FailsKind kind (all_words self.old [])) }
     {
@@ -134,7 +135,7 @@ impl LineReader {
         }
     }
 
-    /// Reads the text's first line. The text goes on behind it.
+    /// Reads the next line of `text`, and its line feed.
     pub(crate) fn read(&mut self, text: &mut Text) -> Result<(), FaultKind>
         ensures words { MatchResult result
             (λ _. words_or_fault (first_line (text_left text.old)) ≡ Ok (texts self.new.done))
@@ -152,7 +153,7 @@ impl LineReader {
     }
 }
 
-/// How many bytes spell the first byte of a text between brackets: two at `\]`.
+/// The number of bytes that spell the first byte of a text between brackets: two at `\]`.
 fn spelling_len(inside: &[u8]) -> usize
     requires { 0 < length inside.now }
     ensures bound { result ≤ length inside.now }
@@ -167,7 +168,7 @@ fn spelling_len(inside: &[u8]) -> usize
     }
 }
 
-/// Puts `]` for each `\]`, from the left.
+/// Replaces each `\]` by `]`, from the left.
 fn unescape(word: &mut Vec<u8>)
     ensures { word.new.items ≡ unescaped word.old.items }
 {
@@ -181,7 +182,7 @@ fn unescape(word: &mut Vec<u8>)
     word.truncate(kept);
 }
 
-/// The text of a word: what stands between its brackets, if it has them.
+/// The text of a word: the unescaped text between its brackets, if it has them.
 pub(crate) fn word_text(alloc: Global, word: &[u8]) -> Result<Vec<u8>, AllocError>
     ensures { IfOk result (λ text. text.items ≡ text_of_word word.now) }
 {
@@ -194,7 +195,7 @@ pub(crate) fn word_text(alloc: Global, word: &[u8]) -> Result<Vec<u8>, AllocErro
     Ok(text)
 }
 
-/// The first of the words, as it is written, and those behind it.
+/// Returns the first word, as it is written, and the words after it.
 pub(crate) fn next_word(words: &[Vec<u8>]) -> Option<(&[u8], &[Vec<u8>])>
     ensures { MatchOption result (still_to_come words.now ≡ [])
         (λ p. still_to_come words.now ≡ p.0.now ∷ still_to_come p.1.now) }
