@@ -1,4 +1,4 @@
--- What the code of an answer decides beside its action: pam.conf(5), DESCRIPTION, the actions of a control.
+-- What the code of an answer determines beside its action: pam.conf(5), DESCRIPTION, the actions of a control.
 use Rattle.std.specs.Prelude.{◌≡◌, ◌⊎◌, ℕ, ◌==◌, ◌&&◌, Bool, true, false, IsTrue, if◌then◌else◌}
 use Rattle.pam_codes.specs.declared.action.Action.{Action}
 use Rattle.pam_codes.specs.declared.action.Action.TheVariants.{Ignore, Ok, Done, Bad, Die, Reset, Jump}
@@ -8,13 +8,13 @@ use Rattle.pam_dispatch.specs.declared.state.State.{State}
 use Rattle.pam_dispatch.specs.declared.step.Outcome.{Outcome}
 use Rattle.pam_dispatch.specs.State.{ignored, perm_denied, success}
 
--- whether a code that is let count becomes the status: in undef, and after a success
+-- whether the code of ok or done becomes the status: in undef, and after a success
 abbrev pub takes_accepted : Impression → ℕ → Bool
 takes_accepted Undef status = true
 takes_accepted Positive status = status == success
 takes_accepted Negative status = false
 
--- whether a code that fails the stack becomes the status: the first does
+-- whether the code of bad or die becomes the status: the first does
 abbrev pub takes_refused : Impression → Bool
 takes_refused Undef = true
 takes_refused Positive = true
@@ -40,7 +40,7 @@ fails Die = true
 fails Reset = false
 fails (Jump items) = false
 
--- the status that then comes from a code: itself, but perm_denied where ignore fails the stack
+-- the status that comes from a code: the code itself, but perm_denied if ignore fails the stack
 abbrev pub told_status : Action → ℕ → ℕ
 told_status action code = if fails action && code == ignored then perm_denied else code
 

@@ -1,4 +1,4 @@
--- The flat list of a stack's items, in the order of pam.conf(5), DESCRIPTION, with a level for each substack around them.
+-- The flat list of a stack's items, each with its level, in the order of pam.conf(5), DESCRIPTION.
 use Rattle.std.specs.Prelude.{◌≡◌, ℕ, ◌+◌, ◌-◌, ◌<◌, ◌==◌, nat_lt, ◌&&◌, if◌then◌else◌, List, [], ◌∷◌, ◌++◌, length, take, drop, slice_index_or, Option, Some, None}
 use Rattle.pam_codes.specs.declared.action.Action.{Action}
 use Rattle.pam_conf.specs.Stack.{Items, End, ThenModule, ThenSub}
@@ -26,33 +26,33 @@ controls_in [] = []
 controls_in (Module level number control behind ∷ rest) = control ∷ controls_in rest
 controls_in (Substack level ∷ rest) = controls_in rest
 
--- how many modules there are
+-- the number of modules
 abbrev pub modules_of : List Entry → ℕ
 modules_of program = length (controls_in program)
 
--- the control of the module of a number, from 1
+-- the control of the module with this number, from 1
 abbrev pub control_at : List Entry → ℕ → List Action
 control_at program number = slice_index_or (controls_in program) (number - 1) []
 
--- the positions of the modules, from the left, where so many entries stand before the list
+-- the positions of the modules, from the left, if `before` entries come before the list
 unfoldable pub positions_from : ℕ → List Entry → List ℕ
 positions_from before [] = []
 positions_from before (Module level number control behind ∷ rest) = before ∷ positions_from (before + 1) rest
 positions_from before (Substack level ∷ rest) = positions_from (before + 1) rest
 
--- the modules are numbered from the left, where so many stand before the list
+-- the modules are numbered from the left, if `before` modules come before the list
 unfoldable pub IsNumbered : ℕ → List Entry → Type 0
 IsNumbered before [] = Unit {0}
 IsNumbered before (Module level number control behind ∷ rest) = (number ≡ before + 1) × IsNumbered (before + 1) rest
 IsNumbered before (Substack level ∷ rest) = IsNumbered before rest
 
--- at most 16 lists are open at an entry, or behind it
+-- at most 16 lists are open at a module, or in a substack
 abbrev pub IsShallow : Entry → Type 0
 IsShallow (Module level number control behind) = level < 16
 IsShallow (Substack level) = level + 1 < 16
 
--- the open run of a flat list: entries deeper than a level are passed over, and so many items of the
--- level; then come the entry states of the open lists, the outermost first, and the state
+-- the open run of a flat list: skips the entries deeper than `level` and `skip` items of that level; `entered` has
+-- the entry states of the open lists, outermost first, and `s` is the state
 unfoldable pub resume : List Entry → ℕ → ℕ → List State → State → Runs
 resume [] level skip entered s = ends s
 resume (Module here number control behind ∷ rest) level skip entered s =
@@ -70,12 +70,12 @@ resume (Substack here ∷ rest) level skip entered s =
 unfoldable pub runs_of : List Entry → Runs
 runs_of program = resume program 0 0 (start_state ∷ []) start_state
 
--- what is left of it from a place on
+-- the rest of the open run from a place on
 unfoldable pub rest_of : List Entry → Place → Runs
 rest_of program place =
     resume (drop place.position program) place.depth 0 (take place.depth place.entered.states) place.state
 
--- a place stands at a module, with an entry state for each open list, or at the end
+-- a place is at a module, with an entry state for each open list, or at the end
 abbrev pub StandsAt : List Entry → ℕ → Option ℕ → Type 0
 StandsAt [] depth here = here ≡ None
 StandsAt (Module level number control behind ∷ rest) depth here = (depth ≡ level + 1) × (here ≡ Some number)

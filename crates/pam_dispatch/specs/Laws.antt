@@ -1,4 +1,4 @@
--- The rules of a run, in the words of pam.conf(5), DESCRIPTION, and of its open form.
+-- Laws of runs and of open runs, in the words of pam.conf(5), DESCRIPTION.
 use Rattle.std.specs.Prelude.{◌≡◌, ◌≤◌, ◌⊎◌, ℕ, false, IsTrue, [], ◌∷◌, ◌++◌}
 use Rattle.pam_conf.specs.Stack.{Items, End, ThenModule, ThenSub, ModuleText, SubText}
 use Rattle.pam_dispatch.specs.declared.state.State.{State}
@@ -15,7 +15,7 @@ RunOfNothing = (s entry : State) (answers : Assignment) → run End s entry answ
 abbrev pub AskedOfNothing : Type 0
 AskedOfNothing = (s entry : State) (answers : Assignment) → asked End s entry answers ≡ []
 
--- a substack runs first, entered in the state that its parent has there; then the rest, with the state reached
+-- a substack runs first, entered in the state of its parent there; then the rest runs, from the state reached
 abbrev pub RunOfSubstack : Type 0
 RunOfSubstack =
     (sub : SubText) (inner rest : Items) (s entry : State) (answers : Assignment) →
@@ -27,7 +27,7 @@ AskedOfSubstack =
     asked (ThenSub sub inner rest) s entry answers
     ≡ asked inner s s answers ++ asked rest (run inner s s answers) entry answers
 
--- a module is asked; then run the last items of the rest, as many as the outcome leaves, with its state
+-- a module is asked; then the last items of the rest run, as many as the outcome leaves, from its state
 abbrev pub RunOfModule : Type 0
 RunOfModule =
     (m : ModuleText) (rest : Items) (s entry : State) (answers : Assignment) →
@@ -41,14 +41,14 @@ AskedOfModule =
     asked (ThenModule m rest) s entry answers
     ≡ ask_of m rest s entry ∷ asked (last_items outcome.left rest) outcome.state entry answers
 
--- an outcome leaves no more items than there are, and the last so many of a list are so many
+-- an outcome leaves no more items than there are, and the last `left` items of a list are that many
 abbrev pub LeftFits : Type 0
 LeftFits = (ask : Ask) (code : ℕ) → (outcome_of ask code).left ≤ ask.behind
 
 abbrev pub LastItemsCount : Type 0
 LastItemsCount = (left : ℕ) (items : Items) → left ≤ count items → count (last_items left items) ≡ left
 
--- the open run of a stack, followed by an assignment, ends as the run of its tree, asks the same, and decides the same
+-- under an assignment, the open run of a stack ends like the run of its tree, asks the same, and decides the same
 abbrev pub OpenRunEnds : Type 0
 OpenRunEnds =
     (items : Items) (answers : Assignment) →
@@ -64,20 +64,19 @@ OpenRunDecides =
     (items : Items) (answers : Assignment) →
     decision_of (final_state (runs_of_stack items) answers) ≡ decided items answers
 
--- where two codes have one action, the outcome of the first tells that of the second
+-- if two codes have one action, the outcome of the first determines that of the second
 abbrev pub OutcomeIsRetold : Type 0
 OutcomeIsRetold =
     (ask : Ask) (known code : ℕ) → action_of ask.control known ≡ action_of ask.control code →
     outcome_of ask code ≡ retold (action_of ask.control code) ask.state (outcome_of ask known) code
 
--- it is the same where their action does not look at the code
+-- it is the same if their action does not look at the code
 abbrev pub OutcomeIsShared : Type 0
 OutcomeIsShared =
     (ask : Ask) (one other : ℕ) → action_of ask.control one ≡ action_of ask.control other →
     looks_at_code (action_of ask.control one) ask.state ≡ false → outcome_of ask one ≡ outcome_of ask other
 
--- two codes whose actions look at them, be it one action or two, have different outcomes, unless both fail the
--- stack as perm_denied
+-- two codes whose actions, one or two, look at them have different outcomes, unless both fail the stack as perm_denied
 abbrev pub OutcomesDiffer : Type 0
 OutcomesDiffer =
     (ask : Ask) (one other : ℕ) →

@@ -1,4 +1,4 @@
--- What a program keeps of a stack, whose rules stand in the order of pam.conf(5), DESCRIPTION.
+-- What a program stores of a stack, in the order of pam.conf(5), DESCRIPTION.
 use Rattle.std.specs.Prelude.{◌≡◌, ℕ, ◌≤◌, List, All}
 use Rattle.pam_conf.specs.declared.stack.TheConstants.{MAX_MODULES}
 use Rattle.std.specs.List.{AllZip}

@@ -1,4 +1,4 @@
--- What an action makes of the state of a run: pam.conf(5), DESCRIPTION, the actions of a control.
+-- The effect of an action on the state of a run: pam.conf(5), DESCRIPTION, the actions of a control.
 use Rattle.std.specs.Prelude.{ℕ, ◌-◌, ◌==◌, nat_le, if◌then◌else◌, List, slice_index_or}
 use Rattle.pam_codes.specs.declared.action.Action.{Action}
 use Rattle.pam_codes.specs.declared.action.Action.TheVariants.{Ignore, Ok, Done, Bad, Die, Reset, Jump}
@@ -24,20 +24,20 @@ state_with impression status = record { impression = impression; status = status
 abbrev pub start_state : State
 start_state = state_with Undef perm_denied
 
--- the state after a code that is let count: it does from undef, or from a success
+-- the state after ok or done: the code counts in undef, and after a success
 abbrev pub accepted : Impression → ℕ → ℕ → State
 accepted Undef status code = state_with Positive code
 accepted Positive status code = if status == success then state_with Positive code else state_with Positive status
 accepted Negative status code = state_with Negative status
 
--- the state after a code that fails the stack: the first one counts, and ignore counts as perm_denied
+-- the state after bad or die: the first code counts, and ignore counts as perm_denied
 abbrev pub refused : Impression → ℕ → ℕ → State
 refused Negative status code = state_with Negative status
 refused Undef status code = state_with Negative (if code == ignored then perm_denied else code)
 refused Positive status code = state_with Negative (if code == ignored then perm_denied else code)
 
 -- the state after a module, from the action, the code, the state before, the state in which its list was
--- entered, and the number of items behind it in its list
+-- entered, and the number of items after it in its list
 abbrev pub act : Action → ℕ → State → State → ℕ → State
 act Ignore code s entry behind = s
 act Ok code s entry behind = accepted s.impression s.status code
@@ -47,13 +47,13 @@ act Die code s entry behind = refused s.impression s.status code
 act Reset code s entry behind = entry
 act (Jump items) code s entry behind = if nat_le items behind then s else state_with Negative perm_denied
 
--- nothing where the impression is positive, else all that is behind
+-- the items left by done: none if the impression is positive, else all
 abbrev pub left_unless_positive : Impression → ℕ → ℕ
 left_unless_positive Positive behind = 0
 left_unless_positive Undef behind = behind
 left_unless_positive Negative behind = behind
 
--- how many of the items behind the module are still to come
+-- the number of items left after the module
 abbrev pub left_of : Action → ℕ → State → ℕ → ℕ
 left_of Ignore code s behind = behind
 left_of Ok code s behind = behind
@@ -63,6 +63,6 @@ left_of Die code s behind = 0
 left_of Done code s behind = left_unless_positive (accepted s.impression s.status code).impression behind
 left_of (Jump items) code s behind = if nat_le items behind then behind - items else 0
 
--- the action of a code, by a control
+-- the action of a code in a control
 abbrev pub action_of : List Action → ℕ → Action
 action_of control code = slice_index_or control code Ignore

@@ -8,7 +8,7 @@ use Rattle.pam_dispatch.specs.State.{start_state}
 use Rattle.pam_dispatch.specs.Decision.{decision_of}
 use Rattle.pam_dispatch.specs.Runs.{Ask, Assignment, Runs, ends, asks, outcome_of}
 
--- how many items a list has; a substack is one
+-- the number of items of a list; a substack is one
 unfoldable pub count : Items → ℕ
 count End = 0
 count (ThenModule m rest) = suc (count rest)
@@ -20,22 +20,22 @@ controls_of End = []
 controls_of (ThenModule m rest) = m.control ∷ controls_of rest
 controls_of (ThenSub sub inner rest) = controls_of inner ++ controls_of rest
 
--- the items behind the first so many
+-- the items after the first `skip`
 unfoldable pub items_behind : ℕ → Items → Items
 items_behind zero items = items
 items_behind (suc skip) End = End
 items_behind (suc skip) (ThenModule m rest) = items_behind skip rest
 items_behind (suc skip) (ThenSub sub inner rest) = items_behind skip rest
 
--- the last so many items of a list
+-- the last `left` items of a list
 abbrev pub last_items : ℕ → Items → Items
 last_items left items = items_behind (count items - left) items
 
--- how a module is asked before the rest of its list, in a state, where its list was entered in another
+-- a module as it is asked, before the rest of its list, in the state `s`, in a list entered in the state `entry`
 abbrev pub ask_of : ModuleText → Items → State → State → Ask
 ask_of m rest s entry = record { module_number = m.number; control = m.control; state = s; entry = entry; behind = count rest }
 
--- the state that a run of the items behind the first so many reaches
+-- the state in which a run of the items after the first `skip` ends
 unfoldable pub run_behind : ℕ → Items → State → State → Assignment → State
 run_behind skip End s entry answers = s
 run_behind (suc skip) (ThenModule m rest) s entry answers = run_behind skip rest s entry answers
@@ -46,7 +46,7 @@ run_behind zero (ThenModule m rest) s entry answers =
 run_behind zero (ThenSub sub inner rest) s entry answers =
     run_behind zero rest (run_behind zero inner s s answers) entry answers
 
--- what that run asks, in turn
+-- the modules asked in that run, in order
 unfoldable pub asked_behind : ℕ → Items → State → State → Assignment → List Ask
 asked_behind skip End s entry answers = []
 asked_behind (suc skip) (ThenModule m rest) s entry answers = asked_behind skip rest s entry answers
@@ -58,19 +58,19 @@ asked_behind zero (ThenSub sub inner rest) s entry answers =
     asked_behind zero inner s s answers
     ++ asked_behind zero rest (run_behind zero inner s s answers) entry answers
 
--- the state that a run of these items reaches from a state, where their list was entered in another
+-- the state in which a run of these items from the state `s` ends, in a list entered in the state `entry`
 abbrev pub run : Items → State → State → Assignment → State
 run items s entry answers = run_behind 0 items s entry answers
 
--- what that run asks, in turn
+-- the modules asked in that run, in order
 abbrev pub asked : Items → State → State → Assignment → List Ask
 asked items s entry answers = asked_behind 0 items s entry answers
 
--- THE DECISION of a stack, where the modules answer so
+-- THE DECISION of a stack whose modules give these answers
 unfoldable pub decided : Items → Assignment → ℕ
 decided items answers = decision_of (run items start_state start_state answers)
 
--- the open run of the items behind the first so many, with what follows it
+-- the open run of the items after the first `skip`, followed by `next`
 unfoldable pub runs_after : ℕ → Items → State → State → (State → Runs) → Runs
 runs_after skip End s entry next = next s
 runs_after (suc skip) (ThenModule m rest) s entry next = runs_after skip rest s entry next

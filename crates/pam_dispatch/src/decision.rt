@@ -1,4 +1,4 @@
-//! What a stack decides.
+//! The decision of a stack.
 
 ghost use Rattle.std.specs.Prelude.{◌≡◌};
 ghost use Rattle.pam_dispatch.specs.Decision.{decision_of};
@@ -7,7 +7,7 @@ use crate::state::{Impression, State};
 use pam_codes::Code;
 use std::marker::Model;
 
-/// What a stack decides: the code that its caller gets.
+/// The decision of a stack: the code that the application gets.
 #[derive(Clone, Copy, Debug, PartialEq, Eq)]
 pub struct Decision {
     code: Code,
@@ -24,7 +24,7 @@ impl Model for Decision {
 }
 
 impl Decision {
-    /// The decision of a last state.
+    /// The decision at the end of a run.
     pub(crate) fn of(state: State) -> Decision
         ensures { result ≡ decision_of state }
     {

@@ -1,13 +1,13 @@
-//! The states in which lists are entered.
+//! The states in which the open lists were entered.
 
 ghost use Rattle.std.specs.Prelude.{◌≡◌, ◌<◌, slice_index_or, slice_set};
 
 use crate::state::State;
 
-/// How many lists can be open at once.
+/// The maximum number of lists open at once.
 pub(crate) const LISTS: usize = 16;
 
-/// The states in which the open lists were entered, the outermost first.
+/// The states in which the open lists were entered, outermost first.
 #[derive(Clone, Copy, Debug)]
 pub struct Entered {
     pub(crate) states: [State; LISTS],
@@ -16,7 +16,7 @@ pub struct Entered {
 impl Entered {
     ghost use Rattle.pam_dispatch.specs.State.{start_state};
 
-    /// The state in which the list of a level was entered.
+    /// The state in which the list at `level` was entered.
     pub(crate) fn at(&self, level: usize) -> State
         requires { level < 16 }
         ensures { result ≡ slice_index_or self.now.states level start_state }
@@ -24,7 +24,7 @@ impl Entered {
         self.states[level]
     }
 
-    /// The list of a level is entered.
+    /// Enters the list at `level` in this state.
     pub(crate) fn enter(&mut self, level: usize, state: &State)
         requires { level < 16 }
         ensures { self.new.states ≡ slice_set self.old.states level state.now }

@@ -2,7 +2,7 @@
 
 use pam_codes::Control;
 
-/// An item of a stack, with the number of substacks around it.
+/// An item of a stack, with its level: the number of substacks around it.
 #[derive(Clone, Copy, Debug)]
 pub enum Entry {
     Module {
@@ -10,7 +10,7 @@ pub enum Entry {
         /// From 1, in the order of the list.
         number: usize,
         control: Control,
-        /// How many items of its own list follow.
+        /// The number of items after it in its own list.
         behind: usize,
     },
     /// The items of the substack follow, one level deeper.

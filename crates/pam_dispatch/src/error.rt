@@ -1,9 +1,9 @@
-//! What a call of the dispatcher cannot do.
+//! The errors of the dispatcher.
 
 use std::alloc::AllocFailed;
 use thiserror::Error;
 
-/// A growth was refused.
+/// Allocation failed.
 #[derive(Clone, Copy, Debug, PartialEq, Eq, Error)]
 #[error("no memory is left")]
 pub struct Memory;
@@ -14,10 +14,10 @@ impl<T: Drop> From<AllocFailed<T>> for Memory {
     }
 }
 
-/// There is not one code for each module.
+/// The number of codes is not that of the modules.
 #[derive(Clone, Copy, Debug, PartialEq, Eq, Error)]
 #[error("the stack has {modules} modules")]
 pub struct WrongCount {
-    /// How many modules the stack has.
+    /// The number of modules of the stack.
     pub modules: usize,
 }

@@ -9,7 +9,7 @@ use crate::entry::Entry;
 use crate::error::Memory;
 use pam_conf::Item;
 
-/// Puts the items of a list, which has so many substacks around it, behind the entries that are there.
+/// Appends `items`, nested `level` deep, to `entries`.
 pub(crate) fn flatten(items: &[Item], level: usize, entries: &mut Vec<Entry>) -> Result<(), Memory>
     requires { level + depth (items_of items.now) ≤ 16 }
     ensures { OnOk result (entries.new.items ≡ entries.old.items ++ flat_list level (items_of items.now)) }

@@ -1,22 +1,22 @@
-//! Laws of the definitions that the contracts of this crate cite.
+//! Laws of the definitions that the contracts cite: each is the contract of an empty function.
 
 ghost use Rattle.pam_dispatch.specs.Laws.{AskedOfModule, AskedOfNothing, AskedOfSubstack, LastItemsCount, LeftFits, OpenRunAsks, OpenRunDecides, OpenRunEnds, OutcomeIsRetold, OutcomeIsShared, OutcomesDiffer, RunOfModule, RunOfNothing, RunOfSubstack};
 
-/// How a run goes through a list of items.
+/// The run of a list of items: empty, or beginning with a substack or a module.
 pub fn run_of_items()
     ensures nothing { RunOfNothing }
     ensures substack { RunOfSubstack }
     ensures module { RunOfModule }
 {}
 
-/// Which modules a run through a list of items asks.
+/// The modules that the run of a list of items asks.
 pub fn asked_of_items()
     ensures nothing { AskedOfNothing }
     ensures substack { AskedOfSubstack }
     ensures module { AskedOfModule }
 {}
 
-/// How many items an outcome leaves.
+/// The number of items that an outcome leaves.
 pub fn items_left()
     ensures fits { LeftFits }
     ensures count { LastItemsCount }
@@ -29,13 +29,13 @@ pub fn open_run()
     ensures decides { OpenRunDecides }
 {}
 
-/// The outcome of a code tells those of the other codes with its action.
+/// The outcome of a code determines those of the other codes with its action.
 pub fn outcomes_of_one_action()
     ensures retold { OutcomeIsRetold }
     ensures shared { OutcomeIsShared }
 {}
 
-/// Codes at which their actions look have different outcomes.
+/// Codes whose actions look at the code have different outcomes, unless both fail as perm_denied.
 pub fn outcomes_that_differ()
     ensures { OutcomesDiffer }
 {}

@@ -1,4 +1,5 @@
-//! The dispatcher: what a stack makes of the answers of its modules.
+//! The dispatcher: runs a stack on the return codes of its modules, as pam.conf(5) describes. Tells which module is
+//! asked next, and at the end what the stack decides.
 #![tactic(auto)]
 
 mod decision;

@@ -1,11 +1,11 @@
-//! Where a run stands.
+//! The places of a run.
 
 ghost use Rattle.std.specs.Prelude.{◌≤◌};
 
 use crate::entered::{Entered, LISTS};
 use crate::state::State;
 
-/// Where a run stands: at a module that is asked next, or at the end.
+/// A place of a run: at the module asked next, or at the end.
 #[derive(Clone, Copy, Debug)]
 pub struct Place {
     pub(crate) position: usize,
@@ -16,7 +16,7 @@ pub struct Place {
     pub ghost shallow: { depth ≤ 16 },
 }
 
-/// The place of a stack that has no modules.
+/// The place of a stack without modules.
 impl Default for Place {
     ghost use Rattle.std.specs.Prelude.{[]};
     ghost use Rattle.pam_dispatch.specs.Flat.{IsPlaceOf};
@@ -43,14 +43,14 @@ impl Place {
     ghost use Rattle.pam_dispatch.specs.Flat.{IsPlaceOf, rest_of};
     ghost use Rattle.pam_dispatch.specs.Runs.{asked_module, state_in};
 
-    /// The number of the module that is asked here; none at the end.
+    /// The number of the module asked here; `None` at the end.
     pub fn module(&self) -> Option<usize>
         ensures { (program : List Entry) → IsPlaceOf program self.now → result ≡ asked_module (rest_of program self.now) }
     {
         self.module_number
     }
 
-    /// The state here.
+    /// The state of the run here.
     pub fn state(&self) -> State
         ensures { (program : List Entry) → IsPlaceOf program self.now → result ≡ state_in (rest_of program self.now) }
     {

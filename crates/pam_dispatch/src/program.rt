@@ -1,4 +1,4 @@
-//! The program of a stack.
+//! The program of a stack, and the steps of its runs.
 
 ghost use Rattle.std.specs.Prelude.{◌≡◌, ◌+◌, ◌-◌, ◌≤◌, ◌^◌, ◌<◌, ℕ, All, IfErr, IfOk, IfSome, IsSome, None, OnOk, Some, drop, length, min, take, ◌≢◌, ◌∷◌};
 ghost use Rattle.std.specs.List.{AllZip};
@@ -29,9 +29,9 @@ use std::marker::Model;
 #[derive(Debug, Drop)]
 pub struct Program {
     entries: Vec<Entry>,
-    /// Where the modules stand in the list, in the order of their numbers.
+    /// The indices of the modules in `entries`, in the order of their numbers.
     positions: Vec<usize>,
-    /// The parts of the modules' controls, in that order.
+    /// The parts of the modules' controls, in the same order.
     parts: Vec<Parts>,
 }
 
@@ -48,7 +48,7 @@ impl Model for Program {
     ghost invariant = { λ p. IsProgram p.entries.items p.positions.items p.parts.items };
 }
 
-/// Where the modules stand in a flat list.
+/// The indices of the modules in a flat list.
 fn module_positions(alloc: Global, entries: &[Entry]) -> Result<Vec<usize>, Memory>
     ensures { IfOk result (λ positions. positions.items ≡ positions_from 0 entries.now) }
 {
@@ -76,17 +76,17 @@ fn module_parts(alloc: Global, entries: &[Entry]) -> Result<Vec<Parts>, Memory>
     Ok(parts)
 }
 
-/// What an answer makes of a run, and where the run goes on.
+/// The outcome of an answer, and where the run continues.
 #[derive(Clone, Copy)]
 struct Answered {
     outcome: Outcome,
-    /// The level of the list that goes on.
+    /// The level of the list that continues.
     level: usize,
-    /// How many of its items are passed over.
+    /// The number of its items to skip.
     skip: usize,
 }
 
-/// What an answer makes of the run at a place.
+/// Answers the module at `place` with `code`.
 fn answer_at(entries: &[Entry], place: &Place, code: Code) -> Answered
     requires entries { All IsShallow entries.now }
     requires place { IsPlaceOf entries.now place.now }
@@ -116,7 +116,7 @@ fn answer_at(entries: &[Entry], place: &Place, code: Code) -> Answered
     }
 }
 
-/// The step from a place.
+/// The step from `place` with the answer `code`.
 fn step_in(entries: &[Entry], place: &Place, code: Code) -> Step
     requires entries { All IsShallow entries.now }
     requires place { IsPlaceOf entries.now place.now }
@@ -143,7 +143,7 @@ fn step_in(entries: &[Entry], place: &Place, code: Code) -> Step
 }
 
 impl Program {
-    /// The program of a stack. `Memory` where a growth was refused.
+    /// Compiles a stack into its program. Returns `Memory` if allocation fails.
     pub fn of(alloc: Global, stack: &Stack) -> Result<Program, Memory>
         ensures runs { IfOk result (λ program. runs_of program ≡ runs_of_stack stack.now) }
         ensures modules { IfOk result (λ program. modules_of program ≡ module_count stack.now) }
@@ -160,7 +160,7 @@ impl Program {
         })
     }
 
-    /// How many modules there are.
+    /// The number of modules.
     pub fn modules(&self) -> usize
         ensures count { result ≡ modules_of self.now }
         ensures most { result ≤ MAX_MODULES }
@@ -169,13 +169,13 @@ impl Program {
         self.positions.len()
     }
 
-    /// The control of a module.
+    /// The control of the module with this number, from 1.
     pub fn control(&self, number: usize) -> &Control
         requires first { 1 ≤ number }
         requires last { number ≤ modules_of self.now }
         ensures value { result.now ≡ control_at self.now number }
 
-        // The control by which the module is asked, wherever that is.
+        // The control with which the module is asked, at any place.
         ensures asked { (place : Place) → IsPlaceOf self.now place → asked_module (rest_of self.now place) ≡ Some number
             → (next_ask (rest_of self.now place)).control ≡ result.now }
     {
@@ -185,20 +185,20 @@ impl Program {
         }
     }
 
-    /// The parts of the control of a module.
+    /// The parts of the control of the module with this number, from 1.
     pub fn parts(&self, number: usize) -> &Parts
         requires first { 1 ≤ number }
         requires last { number ≤ modules_of self.now }
         ensures value { IsParts (control_at self.now number) result.now }
 
-        // Those of the control by which the module is asked, wherever that is.
+        // Those of the control with which the module is asked, at any place.
         ensures asked { (place : Place) → IsPlaceOf self.now place → asked_module (rest_of self.now place) ≡ Some number
             → IsParts (next_ask (rest_of self.now place)).control result.now }
     {
         &self.parts[number - 1]
     }
 
-    /// Where a run begins.
+    /// The place at which a run begins.
     pub fn first(&self) -> Place
         ensures place { IsPlaceOf self.now result }
         ensures whole { rest_of self.now result ≡ runs_of self.now }
@@ -212,7 +212,7 @@ impl Program {
         settle(&self.entries, 0, 0, 0, 1, entered, &start)
     }
 
-    /// What an answer makes of the run at a place, without going there.
+    /// The outcome of answering the module at `place` with `code`, without making the step.
     pub fn outcome(&self, place: &Place, code: Code) -> Outcome
         requires place { IsPlaceOf self.now place.now }
         requires asking { IsSome (asked_module (rest_of self.now place.now)) }
@@ -221,7 +221,7 @@ impl Program {
         answer_at(&self.entries, place, code).outcome
     }
 
-    /// The step that an answer makes. It is counted in `work`.
+    /// Makes the step from `place` with the answer `code`, and counts it in `work`.
     pub fn step(&self, place: &Place, code: Code, work: &mut Work) -> Step
         requires place { IsPlaceOf self.now place.now }
         requires asking { IsSome (asked_module (rest_of self.now place.now)) }
@@ -230,11 +230,11 @@ impl Program {
         ensures state { state_in (rest_of self.now result.place) ≡ result.outcome.state }
         ensures rest { rest_of self.now result.place ≡ after_answer (rest_of self.now place.now) code }
 
-        // Under an assignment with that answer the run goes on to where it went from the old place.
+        // Under an assignment with that answer, the run from the new place ends like that from the old one.
         ensures run { (answers : Assignment) → IfSome (asked_module (rest_of self.now place.now)) (λ number. answers number ≡ code)
             → final_state (rest_of self.now result.place) answers ≡ final_state (rest_of self.now place.now) answers }
 
-        // It asked the module at the old place, and then what it asks from the new one.
+        // The run from the old place asks the module there, and then what the run from the new place asks.
         ensures asks { (answers : Assignment) → IfSome (asked_module (rest_of self.now place.now)) (λ number. answers number ≡ code)
             → asked_by (rest_of self.now place.now) answers ≡ next_ask (rest_of self.now place.now) ∷ asked_by (rest_of self.now result.place) answers }
         ensures counted { work.new ≡ min (work.old + 1) (2 ^ 64 - 1) }
@@ -243,7 +243,7 @@ impl Program {
         self.step_by(place, code)
     }
 
-    /// The step that an answer makes, not counted.
+    /// Like `step`, without counting.
     fn step_by(&self, place: &Place, code: Code) -> Step
         requires place { IsPlaceOf self.now place.now }
         requires asking { IsSome (asked_module (rest_of self.now place.now)) }
@@ -264,7 +264,7 @@ impl Program {
         Decision::of(place.state())
     }
 
-    /// The decision where each module answers its code, from module 1 on; also modules that are never asked have one.
+    /// The decision if each module answers its code, from module 1 on. Modules that are never asked have a code too.
     pub fn decide(&self, codes: &[Code]) -> Result<Decision, WrongCount>
         ensures count { OnOk result (length codes.now ≡ modules_of self.now) }
         ensures decision { IfOk result (λ d. d ≡ decision_of (final_state (runs_of self.now) (answers_of codes.now))) }

@@ -1,4 +1,4 @@
-//! From an entry of the flat list to the next module that is asked.
+//! Moves to the next module that is asked.
 
 ghost use Rattle.std.specs.Prelude.{◌≡◌, ◌<◌, ◌≤◌, All, drop, take};
 ghost use Rattle.pam_dispatch.specs.Flat.{IsPlaceOf, IsShallow, resume, rest_of};
@@ -8,8 +8,8 @@ use crate::entry::Entry;
 use crate::place::Place;
 use crate::state::State;
 
-/// The place where the run stands once the entries deeper than a level and so many items of the level
-/// are passed over, and substacks are entered.
+/// Moves from `position` to the next module asked, or to the end. Skips the entries deeper than `level` and `skip`
+/// items of that level, and then enters substacks.
 pub fn settle(
     program: &[Entry],
     mut position: usize,

@@ -6,7 +6,7 @@ ghost use Rattle.pam_dispatch.specs.State.{start_state, accepted, refused};
 
 use pam_codes::{Action, Code};
 
-/// What the modules so far made of the request.
+/// The impression that the modules so far have made.
 #[derive(Clone, Copy, Debug, PartialEq, Eq)]
 pub enum Impression {
     Undef,
@@ -14,7 +14,7 @@ pub enum Impression {
     Negative,
 }
 
-/// Where a run through a stack has come, as pam.conf(5) counts it.
+/// The state of a run through a stack: pam.conf(5).
 #[derive(Clone, Copy, Debug, PartialEq, Eq)]
 pub struct State {
     pub impression: Impression,
@@ -32,7 +32,7 @@ impl State {
         }
     }
 
-    /// Whether the status after an action comes from the code of the answer, and not from this state alone.
+    /// Whether the status after `action` comes from the code of the answer, and not from this state alone.
     pub fn looks_at_code(self, action: Action) -> bool
         ensures { result ≡ looks_at_code action self }
     {
@@ -43,7 +43,7 @@ impl State {
         }
     }
 
-    /// Whether a code that is let count becomes the status.
+    /// Whether the code of `ok` or `done` becomes the status.
     fn takes_accepted(&self) -> bool
         ensures { result ≡ takes_accepted self.now.impression self.now.status }
     {
@@ -54,14 +54,14 @@ impl State {
         }
     }
 
-    /// Whether a code that fails the stack becomes the status.
+    /// Whether the code of `bad` or `die` becomes the status.
     fn takes_refused(&self) -> bool
         ensures { result ≡ takes_refused self.now.impression }
     {
         self.impression != Impression::Negative
     }
 
-    /// The state after a code that is let count.
+    /// The state after `ok` or `done` with this code.
     pub(crate) fn accept(self, code: Code) -> State
         ensures { result ≡ accepted self.impression self.status code }
     {
@@ -74,7 +74,7 @@ impl State {
         }
     }
 
-    /// The state after a code that fails the stack.
+    /// The state after `bad` or `die` with this code; ignore counts as perm_denied.
     pub(crate) fn refuse(self, code: Code) -> State
         ensures { result ≡ refused self.impression self.status code }
     {

@@ -1,4 +1,4 @@
-//! One answer, and what it makes of a run.
+//! The outcome of an answer, and the step that it makes.
 
 ghost use Rattle.std.specs.Prelude.{◌≡◌, ◌-◌, nat_le, if◌then◌else◌};
 ghost use Rattle.pam_dispatch.specs.State.{act, left_of, left_unless_positive, state_with, perm_denied};
@@ -7,7 +7,7 @@ use crate::place::Place;
 use crate::state::{Impression, State};
 use pam_codes::{Action, Code};
 
-/// What an answer makes of a run: the new state, and how many items of the module's own list are still to come.
+/// The outcome of an answer: the new state, and the number of items left in the module's own list.
 #[derive(Clone, Copy, Debug, Default, PartialEq, Eq)]
 pub struct Outcome {
     pub state: State,
@@ -15,7 +15,7 @@ pub struct Outcome {
 }
 
 impl Outcome {
-    /// What an action makes of a code, in a state, with the entry state of the list and so many items behind.
+    /// The outcome of `action` for `code`, in a list that was entered in the state `entry` and has `behind` items left.
     pub(crate) fn of(
         action: Action,
         code: Code,
@@ -53,7 +53,7 @@ impl Outcome {
     }
 }
 
-/// What `done` makes of a state that it has reached.
+/// The outcome of `done`, after which the state is `state`.
 fn done(state: State, behind: usize) -> Outcome
     ensures state { result.state ≡ state }
     ensures left { result.left ≡ left_unless_positive state.impression behind }
@@ -65,7 +65,7 @@ fn done(state: State, behind: usize) -> Outcome
     Outcome { state, left }
 }
 
-/// What a jump makes of a state.
+/// The outcome of a jump. One past the end of the list fails as perm_denied.
 fn jump(items: usize, state: State, behind: usize) -> Outcome
     ensures state { result.state ≡ (if nat_le items behind then state else state_with Impression.Negative perm_denied) }
     ensures left { result.left ≡ (if nat_le items behind then behind - items else 0) }
@@ -85,7 +85,7 @@ fn jump(items: usize, state: State, behind: usize) -> Outcome
     }
 }
 
-/// Where a step leads.
+/// A step of a run.
 #[derive(Clone, Copy, Debug)]
 pub struct Step {
     pub(crate) place: Place,
@@ -93,21 +93,21 @@ pub struct Step {
 }
 
 impl Step {
-    /// Where the run then stands.
+    /// The place after the step.
     pub fn place(&self) -> Place
         ensures { result ≡ self.now.place }
     {
         self.place
     }
 
-    /// What the answer makes of the run.
+    /// The outcome of the answer.
     pub fn outcome(&self) -> Outcome
         ensures { result ≡ self.now.outcome }
     {
         self.outcome
     }
 
-    /// How many items of the module's own list are still to come.
+    /// The number of items left in the module's own list.
     pub fn left(&self) -> usize
         ensures { result ≡ self.now.outcome.left }
     {

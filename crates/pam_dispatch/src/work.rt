@@ -1,10 +1,10 @@
-//! How much was done.
+//! The work of runs, in steps.
 
 ghost use Rattle.std.specs.Prelude.{◌≡◌, ◌+◌, ◌-◌, ◌^◌, min};
 
 use std::marker::Model;
 
-/// Counts steps.
+/// A count of steps.
 #[derive(Debug, Drop)]
 pub struct Work {
     steps: u64,
@@ -19,14 +19,14 @@ impl Model for Work {
 }
 
 impl Work {
-    /// No step was made.
+    /// Returns a count of 0.
     pub fn new() -> Work
         ensures { result ≡ 0 }
     {
         Work { steps: 0 }
     }
 
-    /// How many steps were made; the count stays at `u64::MAX`.
+    /// The number of steps. Saturates at `u64::MAX`.
     pub fn steps(&self) -> u64
         ensures { result ≡ self.now }
     {
