@@ -16,7 +16,7 @@ impression_number Undef = 0
 impression_number Positive = 1
 impression_number Negative = 2
 
--- two outcomes are the same: the same new state, and as many items of the module's own list still to come
+-- two outcomes are the same: the same new state, and the same number of items left in the module's own list
 unfoldable pub same_outcome : Outcome → Outcome → Bool
 same_outcome o p =
     ((impression_number o.state.impression == impression_number p.state.impression) && (o.state.status == p.state.status))
@@ -26,7 +26,7 @@ same_outcome o p =
 unfoldable pub class_at : Ask → Outcome → List ℕ
 class_at ask o = codes_where (λ d. same_outcome o (outcome_of ask d))
 
--- THE CLASS of a code where a module is asked: all codes alike to it, which are those with the same outcome
+-- THE CLASS of a code for a module that is asked: all codes alike to it, which are those with the same outcome
 abbrev pub class_of : Ask → ℕ → List ℕ
 class_of ask code = class_at ask (outcome_of ask code)
 

@@ -1,4 +1,4 @@
--- What a list of codes is to the paths of a stack, whatever is known of the answers: pam.conf(5), DESCRIPTION.
+-- The standing of codes among the paths of a stack, whatever is known of the answers: pam.conf(5), DESCRIPTION.
 use Rattle.std.specs.Prelude.{◌≡◌, ◌≢◌, ℕ, ◌+◌, List, ◌∷◌, ◌++◌, length, Option, None, Some, IfSome}
 use Rattle.pam_dispatch.specs.Runs.{Assignment}
 use Rattle.pam_paths.specs.declared.cursor.CursorError.{CursorError}
@@ -11,8 +11,8 @@ use Rattle.pam_paths.specs.Listing.{AreCodes}
 abbrev pub IsAccepted : ℕ → (Assignment → PathValue) → List ℕ → Type 0
 IsAccepted n path_by codes = (answers : Assignment) × AreCodes n answers × (codes ≡ key (path_by answers))
 
--- some path has a step at this place, counted from 1: the codes before it are the path's key so far, and the code at
--- it is in the step's class and is not its least
+-- some path has a step at this place, counted from 1: the codes before the place are the key of the path up to the
+-- step, and the code at the place is in the class of the step, but not its least
 pub record IsNotLeast (n : ℕ) (path_by : Assignment → PathValue) (codes : List ℕ) (place : ℕ) : Type 0 where
   pub answers : Assignment
   pub are_codes : AreCodes n answers
@@ -37,7 +37,7 @@ abbrev pub IsTooLong : ℕ → (Assignment → PathValue) → List ℕ → Type 
 IsTooLong n path_by codes =
     (answers : Assignment) × AreCodes n answers × (code : ℕ) × (more : List ℕ) × (codes ≡ key (path_by answers) ++ code ∷ more)
 
--- the four things that codes can be to the paths
+-- the four standings of codes among the paths
 pub data Standing : Type 0 where
   accepted : Standing
   not_least : ℕ → Standing
@@ -50,13 +50,13 @@ HasStanding n path_by codes (not_least place) = IsNotLeast n path_by codes place
 HasStanding n path_by codes too_short = IsTooShort n path_by codes
 HasStanding n path_by codes too_long = IsTooLong n path_by codes
 
--- the standing that an error tells; a fault of the text tells none
+-- the standing that an error reports; a syntax error reports none
 abbrev pub standing_told : CursorError → Option Standing
 standing_told Syntax = None
 standing_told (NotLeast place) = Some (not_least place)
 standing_told TooShort = Some too_short
 standing_told TooLong = Some too_long
 
--- an error answers a cursor where it tells its standing
+-- an error refuses a cursor if it reports the standing of the cursor
 abbrev pub IsRefusal : ℕ → (Assignment → PathValue) → List ℕ → CursorError → Type 0
 IsRefusal n path_by codes error = IfSome (standing_told error) (HasStanding n path_by codes) × (standing_told error ≢ None)

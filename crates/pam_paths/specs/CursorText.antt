@@ -1,19 +1,19 @@
--- The text of a cursor: the numbers of its codes, with dots between them.
+-- The text of a cursor: the numbers of its codes, separated by dots.
 use Rattle.std.specs.Prelude.{◌≡◌, ◌≢◌, ℕ, ◌<◌, ◌≤◌, All, List, [], ◌∷◌, MatchOption, Option, codes, decimal, length}
 use Rattle.std.specs.List.{join_by}
 use Rattle.pam_conf.specs.declared.stack.TheConstants.{MAX_MODULES}
 
--- the codes of a cursor: at most one for each module
+-- the codes of a cursor: at most `MAX_MODULES` of them
 pub record IsCursor (cursor : List ℕ) : Type 0 where
   pub are_codes : All (λ code. code < 31) cursor
   pub few : length cursor ≤ MAX_MODULES
 
--- the numbers in decimal digits, without leading zeros, joined by dots; `-` where there are none
+-- the numbers in decimal digits, without leading zeros, separated by dots; `-` if there are none
 abbrev pub cursor_text : List ℕ → List ℕ
 cursor_text [] = codes "-"
 cursor_text (code ∷ more) = join_by decimal (codes ".") (code ∷ more)
 
--- the code whose number has these digits; None where they are those of no code
+-- the code whose number has these digits; None if there is no such code
 abbrev pub IsCodeOf : List ℕ → Option ℕ → Type 0
 IsCodeOf digits result =
     MatchOption result ((code : ℕ) → code < 31 → decimal code ≢ digits) (λ code. (code < 31) × (decimal code ≡ digits))

@@ -9,7 +9,7 @@ abbrev pub ordered : Direction → List PathValue → List PathValue
 ordered Forward paths = paths
 ordered Backward paths = reverse paths
 
--- the bound that has every code ahead, and the one that has those ahead that come after a code
+-- the bound with every code ahead, and the bound with the codes after a code ahead
 abbrev pub outset : Direction → ℕ
 outset Forward = 0
 outset Backward = 31

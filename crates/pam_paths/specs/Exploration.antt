@@ -1,8 +1,8 @@
--- What a contract sees of an explorer of the paths through a stack.
+-- The value of an explorer of the paths through a stack, in contracts.
 use Rattle.std.specs.Prelude.{ℕ, List}
 use Rattle.pam_paths.specs.Paths.{PathValue}
 
--- the paths that are still to come, the steps that were made, and the modules of the program
+-- the paths left, the number of steps made, and the number of modules of the program
 pub record Exploration : Type 0 where
   pub coming : List PathValue
   pub work : ℕ

@@ -1,4 +1,4 @@
--- For proofs alone: what an explorer holds of a listing, the frames of the path that it gave last.
+-- For proofs alone: the part of a listing that is left, by the frames of the path that an explorer returned last.
 use Rattle.std.specs.Prelude.{◌≡◌, ℕ, ◌+◌, ◌-◌, ◌<◌, ◌≤◌, if◌then◌else◌, List, [], ◌∷◌, ◌++◌, map, reverse, Option, None, Some, IfSome}
 use Rattle.std.specs.List.{range_with_len}
 use Rattle.pam_codes.specs.Set.{codes_where}
@@ -16,7 +16,7 @@ use Rattle.pam_paths.specs.Directions.{ordered, past}
 use Rattle.pam_paths.specs.Listing.{Allowance}
 use Rattle.pam_paths.specs.Paths.{PathValue, StepValue, step_of}
 
--- the branches at a module whose codes are ahead of a bound
+-- the paths that begin at a module with codes ahead of a bound
 abbrev pub branches_in : Direction → Allowance → Ask → (Outcome → List PathValue) → ℕ → List PathValue
 branches_in Forward allows ask below bound = branches allows ask below (range_with_len bound (31 - bound))
 branches_in Backward allows ask below bound = reverse (branches allows ask below (range_with_len 0 bound))
@@ -25,23 +25,23 @@ unfoldable pub ahead_of : Direction → Allowance → Runs → ℕ → List Path
 ahead_of direction allows (ends s) bound = []
 ahead_of direction allows (asks ask next) bound = branches_in direction allows ask (λ o. listing allows (next o)) bound
 
--- the step that a frame has taken
+-- the step of a frame
 abbrev pub step_in : Frame → StepValue
 step_in frame = record { module_number = frame.module_number; class = frame.class }
 
--- these steps, and then each of the paths
+-- the paths, each with the steps of the frames before it
 unfoldable pub under : List Frame → List PathValue → List PathValue
 under [] paths = paths
 under (frame ∷ frames) paths = map (after_step (step_in frame)) (under frames paths)
 
--- the paths that come after those that begin with the steps of the frames
+-- the paths after all that begin with the steps of the frames
 unfoldable pub ahead : Direction → Allowance → List Entry → List Frame → List PathValue
 ahead direction allows program [] = []
 ahead direction allows program (frame ∷ frames) =
     map (after_step (step_in frame)) (ahead direction allows program frames)
     ++ ahead_of direction allows (rest_of program frame.place) (past direction frame.code)
 
--- the paths that come after a key
+-- the paths after a key
 unfoldable pub part : Direction → Allowance → Runs → List ℕ → List PathValue
 part direction allows (ends s) codes = []
 part direction allows (asks ask next) [] = []
@@ -53,7 +53,7 @@ part direction allows (asks ask next) (code ∷ codes) =
 abbrev pub offered_at : Allowance → Runs → List ℕ
 offered_at allows runs = codes_where (is_offered allows (next_ask runs))
 
--- a frame is at a module of the program; it and those that follow have numbers above low
+-- a frame is at a module of the program; this module and those asked later have numbers above `low`
 pub record IsFrame (allows : Allowance) (program : List Entry) (low : ℕ) (frame : Frame) : Type 0 where
   pub place : IsPlaceOf program frame.place
   pub asking : asked_module (rest_of program frame.place) ≡ Some frame.module_number
@@ -65,12 +65,12 @@ unfoldable pub AreFrames : Allowance → List Entry → ℕ → List Frame → T
 AreFrames allows program low [] = Unit {0}
 AreFrames allows program low (frame ∷ frames) = IsFrame allows program low frame × AreFrames allows program (low + 1) frames
 
--- the paths still to come: those from the first place on until it is left, and then those ahead of the frames
+-- the paths left: those from the first place on until it is left, and then those ahead of the frames
 unfoldable pub coming : Direction → Allowance → List Entry → Option Place → List Frame → List PathValue
 coming direction allows program (Some place) frames = ordered direction (listing allows (rest_of program place))
 coming direction allows program None frames = ahead direction allows program frames
 
--- a first place is one of the program, and has no frames before it
+-- a first place is a place of the program, with no frames before it
 abbrev pub IsFirst : List Entry → List Frame → Place → Type 0
 IsFirst program frames place =
     IsPlaceOf program place × AsksRise 0 (modules_of program) (rest_of program place) × (frames ≡ [])

@@ -31,7 +31,7 @@ OnePath =
     × ((path : PathValue) → Member path paths → Agrees answers path → path ≡ path_of runs answers)
     × ((path_of runs answers).decision ≡ decision_of (final_state runs answers))
 
--- the listing of a knowledge is the full listing without the paths that it excludes
+-- the listing under a knowledge is the full listing without the paths that it excludes
 abbrev pub Narrowed : Type 0
 Narrowed =
     (allows : Allowance) (n : ℕ) (runs : Runs) (some all : List PathValue) →
@@ -67,14 +67,14 @@ PagesJoin =
     IsListing allows n path_by all → All (λ size. 1 ≤ size) sizes →
     ArePrefix (pages (λ k. after k all) all sizes) all
 
--- the paths before a member, turned round, the member, and the paths after it are the listing
+-- the paths before a member, last first and then reversed, the member, and the paths after it are the listing
 abbrev pub EndsMeet : Type 0
 EndsMeet =
     (allows : Allowance) (n : ℕ) (path_by : Assignment → PathValue) (all back : List PathValue) (path : PathValue) →
     IsListing allows n path_by all → Member path all → IsListingBefore allows n path_by (key path) back →
     reverse back ++ path ∷ after (key path) all ≡ all
 
--- the pages from the back are a prefix of the paths before a member, turned round
+-- the pages of the paths before a member, last first, are a prefix of them
 abbrev pub PagesJoinBackwards : Type 0
 PagesJoinBackwards =
     (allows : Allowance) (n : ℕ) (path_by : Assignment → PathValue) (all back : List PathValue) (path : PathValue) (sizes : List ℕ) →

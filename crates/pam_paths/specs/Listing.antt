@@ -13,11 +13,11 @@ Allowance = ℕ → ℕ → Bool
 abbrev pub AreCodes : ℕ → Assignment → Type 0
 AreCodes n answers = (m : ℕ) → 1 ≤ m → m ≤ n → answers m < 31
 
--- they are codes that the knowledge allows
+-- the answers of the modules 1 to n are codes that the knowledge allows
 abbrev pub IsAllowed : Allowance → ℕ → Assignment → Type 0
 IsAllowed allows n answers = (m : ℕ) → 1 ≤ m → m ≤ n → (answers m < 31) × (allows m (answers m) ≡ true)
 
--- the knowledge leaves each of the modules 1 to n a code
+-- the knowledge allows each of the modules 1 to n some code
 abbrev pub IsLawful : Allowance → ℕ → Type 0
 IsLawful allows n = (m : ℕ) → 1 ≤ m → m ≤ n → (code : ℕ) × (code < 31) × (allows m code ≡ true)
 
@@ -25,26 +25,26 @@ IsLawful allows n = (m : ℕ) → 1 ≤ m → m ≤ n → (code : ℕ) × (code 
 abbrev pub anything : Allowance
 anything m code = true
 
--- a path that an allowed assignment takes, where `path_by` gives the path of each assignment
+-- a path that an allowed assignment takes, where `path_by` is the path of each assignment
 abbrev pub IsAllowedPath : Allowance → ℕ → (Assignment → PathValue) → PathValue → Type 0
 IsAllowedPath allows n path_by path = (answers : Assignment) × IsAllowed allows n answers × (path ≡ path_by answers)
 
 -- A LISTING of a stack of n modules under a knowledge: the keys rise strictly, and its members are exactly the paths
--- that allowed assignments path_by
+-- that allowed assignments take
 pub record IsListing (allows : Allowance) (n : ℕ) (path_by : Assignment → PathValue) (paths : List PathValue) : Type 0 where
   pub rising : IsRising paths
   pub members : (path : PathValue) → Member path paths ↔ IsAllowedPath allows n path_by path
 
--- its part after a key
+-- the part of a listing after a key
 pub record IsListingAfter (allows : Allowance) (n : ℕ) (path_by : Assignment → PathValue) (k : List ℕ) (paths : List PathValue) : Type 0 where
   pub rising : IsRising paths
   pub members : (path : PathValue) → Member path paths ↔ (IsAllowedPath allows n path_by path × Precedes k (key path))
 
--- its part before a key, from the back
+-- the part of a listing before a key, last first
 pub record IsListingBefore (allows : Allowance) (n : ℕ) (path_by : Assignment → PathValue) (k : List ℕ) (paths : List PathValue) : Type 0 where
   pub falling : IsFalling paths
   pub members : (path : PathValue) → Member path paths ↔ (IsAllowedPath allows n path_by path × Precedes (key path) k)
 
--- a path can be followed: each step's class has a code that its module is allowed
+-- a path can be followed: the class of each step has a code that its module may answer
 abbrev pub can_follow : Allowance → PathValue → Bool
 can_follow allows path = list_all (λ step. list_any (allows step.module_number) step.class) path.steps

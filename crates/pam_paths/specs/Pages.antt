@@ -6,7 +6,7 @@ use Rattle.pam_paths.specs.Paths.{PathValue, key, precedes}
 abbrev pub after : List ℕ → List PathValue → List PathValue
 after k paths = filter (λ path. precedes k (key path)) paths
 
--- the paths before a key, from the back
+-- the paths before a key, last first
 abbrev pub before : List ℕ → List PathValue → List PathValue
 before k paths = reverse (filter (λ path. precedes (key path) k) paths)
 
@@ -16,20 +16,20 @@ last_key [] = []
 last_key (path ∷ []) = key path
 last_key (path ∷ next ∷ paths) = last_key (next ∷ paths)
 
--- a page, and the cursor from which the next one goes on; none where the page says `end`
+-- the paths of a page, and the cursor from which the next page continues; None if the page says `end`
 pub record Page : Type 0 where
   pub paths : List PathValue
   pub more : Option (List ℕ)
 
--- the pages of these sizes, up to the first that says `end`, where a cursor leads to what is left: a page takes
--- the first paths that are left, as many as its size
+-- the pages of these sizes, up to the first that says `end`; a page takes the first paths that are left, as many as its
+-- size, and `going_on` tells which paths are left after its cursor
 unfoldable pub pages : (List ℕ → List PathValue) → List PathValue → List ℕ → List Page
 pages going_on left [] = []
 pages going_on left (size ∷ sizes) =
     if nat_le (length left) size then record { paths = left; more = None } ∷ []
     else record { paths = take size left; more = Some (last_key (take size left)) } ∷ pages going_on (going_on (last_key (take size left))) sizes
 
--- their paths, one page after another
+-- the paths of pages, one page after another
 unfoldable pub joined : List Page → List PathValue
 joined [] = []
 joined (page ∷ more) = page.paths ++ joined more
@@ -40,6 +40,6 @@ SayEnd [] = ⊥
 SayEnd (page ∷ []) = page.more ≡ None
 SayEnd (page ∷ next ∷ more) = SayEnd (next ∷ more)
 
--- pages give a prefix of the paths, and all of them where the last one says `end`
+-- the paths of pages are a prefix of these, and all of them if the last page says `end`
 abbrev pub ArePrefix : List Page → List PathValue → Type 0
 ArePrefix given paths = (rest : List PathValue) × (joined given ++ rest ≡ paths) × (SayEnd given → rest ≡ [])

@@ -7,12 +7,12 @@ use Rattle.pam_dispatch.specs.State.{start_state}
 use Rattle.pam_dispatch.specs.Tree.{asked, decided}
 use Rattle.pam_paths.specs.Classes.{Member, class_of, least}
 
--- what a contract sees of a step: the module that is asked, and the class of its answer
+-- the value of a step: the module asked, and the class of its answer
 pub record StepValue : Type 0 where
   pub module_number : ℕ
   pub class : List ℕ
 
--- what a contract sees of a path: its steps and its decision
+-- the value of a path: its steps and its decision
 pub record PathValue : Type 0 where
   pub steps : List StepValue
   pub decision : ℕ
@@ -20,7 +20,7 @@ pub record PathValue : Type 0 where
 abbrev pub step_of : Ask → ℕ → StepValue
 step_of ask code = record { module_number = ask.module_number; class = class_of ask code }
 
--- the step in which a module, asked so, gives its answer
+-- the step in which a module gives its answer
 abbrev pub step_by : Assignment → Ask → StepValue
 step_by answers ask = step_of ask (answers ask.module_number)
 
@@ -55,7 +55,7 @@ key_of (step ∷ steps) = least step.class ∷ key_of steps
 abbrev pub key : PathValue → List ℕ
 key path = key_of path.steps
 
--- the order of keys: at the first place where they differ, else the shorter first
+-- the order of keys: by the first place where they differ, else the shorter first
 unfoldable pub Precedes : List ℕ → List ℕ → Type 0
 Precedes [] [] = ⊥
 Precedes [] (y ∷ ys) = Unit {0}

@@ -1,4 +1,4 @@
-//! The paths before a cursor, the last one first.
+//! The explorer of the paths before a cursor.
 
 ghost use Rattle.std.specs.Prelude.{◌≡◌, ◌+◌, ◌*◌, ◌≤◌, IfOk, MatchResult};
 ghost use Rattle.std.specs.Iterator.{MakesProgress, YieldsFirst, item_count};
@@ -20,12 +20,12 @@ use arrayvec::ArrayVec;
 use pam_dispatch::{Program, Work};
 use std::marker::Model;
 
-/// The paths before a cursor that are still to come, the last one first.
+/// An iterator over the paths before a cursor, last first.
 #[derive(Drop)]
 pub struct Before<'a, K: Knowledge> {
     program: &'a Program,
     knowledge: &'a K,
-    /// The modules asked on the path that was given last, at first on the cursor's.
+    /// The modules asked on the path returned last, at first on that of the cursor.
     frames: Frames,
     work: Work,
 }
@@ -49,7 +49,7 @@ impl<'a, K: Knowledge> Model for Before<'a, K> {
 }
 
 impl<'a, K: Knowledge> Explorer<'a, K> {
-    /// The paths before a cursor, the last one first. The cursor is accepted or refused as in `after`.
+    /// Explores the paths before `cursor`, last first. Accepts and refuses cursors like `after`.
     pub fn before(
         program: &'a Program,
         knowledge: &'a K,
@@ -61,7 +61,7 @@ impl<'a, K: Knowledge> Explorer<'a, K> {
         ensures listing { IfOk result (λ b. IsListingBefore (K.allows knowledge.now) (modules_of program.now) (path_of (runs_of program.now))
             cursor.now b.coming) }
 
-        // The same over the tree of the stack that the program is of.
+        // The same for the tree of the program's stack.
         ensures tree { (items : Items) → runs_of program.now ≡ runs_of_stack items → MatchResult result
             (λ _. IsAccepted (modules_of program.now) (path_through items) cursor.now)
             (IsRefusal (modules_of program.now) (path_through items) cursor.now) }
@@ -85,7 +85,7 @@ impl<'a, K: Knowledge> Explorer<'a, K> {
 }
 
 impl<'a, K: Knowledge> Before<'a, K> {
-    /// How many steps of the program were made.
+    /// The number of steps of the program so far.
     pub fn work(&self) -> u64
         ensures { result ≡ self.now.work }
     {

@@ -1,4 +1,4 @@
-//! The answers that a run does not tell apart: classes of codes, found part by part of a control.
+//! Classes of codes that a run does not tell apart, computed part by part of a control.
 
 ghost use Rattle.std.specs.Prelude.{◌≡◌, ◌<◌, ◌≤◌, ◌==◌, ◌&&◌, ℕ, IsSome, Some, if◌then◌else◌};
 ghost use Rattle.std.specs.List.{list_any};
@@ -24,7 +24,6 @@ fn impression_number(impression: Impression) -> u8
     }
 }
 
-/// Whether two outcomes are the same.
 #[tactic(auto, unfolding(crate::specs::Classes::same_outcome))]
 fn is_same(one: &Outcome, other: &Outcome) -> bool
     ensures { result ≡ same_outcome one.now other.now }
@@ -34,7 +33,7 @@ fn is_same(one: &Outcome, other: &Outcome) -> bool
         && one.left == other.left
 }
 
-/// Whether a code leads to an outcome.
+/// Whether `code` leads to `outcome`.
 fn leads_to(program: &Program, place: &Place, code: Code, outcome: &Outcome) -> bool
     requires place { IsPlaceOf program.now place.now }
     requires asking { IsSome (asked_module (rest_of program.now place.now)) }
@@ -43,7 +42,7 @@ fn leads_to(program: &Program, place: &Place, code: Code, outcome: &Outcome) -> 
     is_same(outcome, &program.outcome(place, code))
 }
 
-/// The code alone, where it is of a part and leads to an outcome.
+/// The set with `code` alone if it is in `part` and leads to `outcome`; else the empty set.
 fn code_alike(
     program: &Program,
     place: &Place,
@@ -62,8 +61,8 @@ fn code_alike(
     CodeSet::empty()
 }
 
-/// The codes of a part that lead to an outcome. Where the part's action looks at the code, the status tells the code,
-/// save that ignore can count as perm_denied.
+/// The codes of `part` that lead to `outcome`. If the action of the part looks at the code, the status determines the
+/// code, except that ignore can count as perm_denied.
 fn codes_alike(program: &Program, place: &Place, part: &Part, outcome: &Outcome) -> CodeSet
     requires place { IsPlaceOf program.now place.now }
     requires asking { IsSome (asked_module (rest_of program.now place.now)) }
@@ -86,7 +85,7 @@ fn codes_alike(program: &Program, place: &Place, part: &Part, outcome: &Outcome)
     }
 }
 
-/// The codes that lead to an outcome.
+/// The codes that lead to `outcome`.
 fn class_at(program: &Program, place: &Place, parts: &[Part], outcome: &Outcome) -> CodeSet
     requires place { IsPlaceOf program.now place.now }
     requires asking { IsSome (asked_module (rest_of program.now place.now)) }
@@ -100,7 +99,7 @@ fn class_at(program: &Program, place: &Place, parts: &[Part], outcome: &Outcome)
     class
 }
 
-/// The class of a code where a module is asked.
+/// The class of `code` for the module asked at `place`.
 pub(crate) fn class_of(
     program: &Program,
     place: &Place,
@@ -117,8 +116,8 @@ pub(crate) fn class_of(
     class_at(program, place, parts, &program.outcome(place, code))
 }
 
-/// A code of a part whose class can have further codes: any code of a part whose action does not look at the code, and
-/// perm_denied of another, since ignore can count as it.
+/// A code of `part` whose class can have further codes: any code if the action of the part does not look at it,
+/// otherwise perm_denied, since ignore can count as perm_denied.
 fn shared_code(part: &Part, state: State) -> Option<Code>
     ensures { result ≡ shared_code part.now state }
 {
@@ -131,7 +130,7 @@ fn shared_code(part: &Part, state: State) -> Option<Code>
     None
 }
 
-/// These codes, with the least code of a class in place of those that are of the class.
+/// Returns `codes` with those in `class` replaced by the least code of `class`.
 fn with_least(codes: CodeSet, class: CodeSet) -> CodeSet
     ensures { result ≡ codes_where (λ d. if is_in d class then (least class == d) && list_any (λ k. is_in k codes) class else is_in d codes) }
 {
@@ -147,8 +146,8 @@ fn with_least(codes: CodeSet, class: CodeSet) -> CodeSet
     }
 }
 
-/// These codes, with the least code of a class in place of those that are of the class, where a part has a code whose
-/// class can have further codes.
+/// Returns `codes` with those in the class of the shared code of `part`, if it has one, replaced by the least code of
+/// the class.
 fn codes_past(
     program: &Program,
     place: &Place,
@@ -171,8 +170,8 @@ fn codes_past(
     }
 }
 
-/// The least codes of the classes that have an allowed code: at first every allowed code, and then, part by part, one for
-/// each class that can have further codes.
+/// The least codes of the classes that have an allowed code: at first every allowed code; then, part by part, only one
+/// code of each class that can have further ones.
 pub(crate) fn offered_codes(
     program: &Program,
     place: &Place,

@@ -1,4 +1,4 @@
-//! Where a listing goes on.
+//! Cursors, from which a listing continues.
 
 ghost use Rattle.std.specs.Prelude.{◌≡◌, ◌≢◌, ℕ, ◌-◌, ◌<◌, ◌≤◌, ◌^◌, All, IfErr, IfOk, List, length, map};
 ghost use Rattle.pam_conf.specs.declared.stack.TheConstants.{MAX_MODULES};
@@ -17,24 +17,24 @@ use std::io::Write;
 use std::marker::Model;
 use thiserror::Error;
 
-/// Why a listing does not go on from a cursor.
+/// Why a listing cannot continue from a cursor.
 #[derive(Clone, Copy, Debug, PartialEq, Eq, Error)]
 pub enum CursorError {
-    /// The text is no cursor.
+    /// The text is not a cursor.
     #[error("invalid cursor")]
     Syntax,
     /// The code at this step, counted from 1, is not the least of its class.
     #[error("the code at step {0} is not the least of its class")]
     NotLeast(usize),
-    /// A module is still asked where the cursor ends.
+    /// A module is still asked at the end of the cursor.
     #[error("the cursor ends before the path does")]
     TooShort,
-    /// Codes are left where the path has ended.
+    /// Codes are left at the end of the path.
     #[error("the path ends before the cursor does")]
     TooLong,
 }
 
-/// The least codes of the classes of a path, at most one for each module.
+/// The least codes of the classes of a path, at most `MAX_MODULES`.
 #[derive(Drop)]
 pub struct Cursor {
     codes: ArrayVec<u8, MAX_MODULES>,
@@ -52,8 +52,8 @@ impl Model for Cursor {
 }
 
 impl Cursor {
-    /// The cursor of a text: numbers of codes in decimal digits, without leading zeros and with dots between them,
-    /// or `-` for no codes. Any other text is `Syntax`.
+    /// Reads a cursor: numbers of codes in decimal digits, without leading zeros and separated by dots, or `-` for no
+    /// codes. Returns `Syntax` for any other text, and for more than `MAX_MODULES` codes.
     pub fn read(text: &[u8]) -> Result<Cursor, CursorError>
         ensures ok { IfOk result (λ cursor. cursor_text cursor ≡ text.now) }
         ensures cursor { IfOk result IsCursor }
@@ -74,7 +74,7 @@ impl Cursor {
         Ok(Cursor { codes })
     }
 
-    /// Writes the numbers of the codes with dots between them, or `-` where there are none.
+    /// Writes the numbers of the codes, separated by dots, or `-` if there are none.
     pub fn write_text<W: Write>(&self, out: &mut Out<W>) -> Result<(), Device>
         requires { out.old.failures < 2 ^ 64 - 1 }
         ensures { Writes W.contents out.old out.new result (cursor_text self.now) }
@@ -100,7 +100,7 @@ impl Cursor {
         }
     }
 
-    /// The codes, from the first step on.
+    /// The numbers of the codes, in the order of the steps.
     pub(crate) fn codes(&self) -> &[u8]
         ensures value { result.now ≡ self.now }
         ensures codes { All (λ code. code < 31) result.now }
@@ -122,7 +122,7 @@ fn least_codes(steps: &[PathStep]) -> ArrayVec<u8, MAX_MODULES>
     codes
 }
 
-/// The least code of a class; 0 where it has none.
+/// The least code of a class; 0 if it is empty.
 pub(crate) fn least_number(class: CodeSet) -> u8
     ensures value { result ≡ least class }
     ensures code { result < 31 }
@@ -133,7 +133,7 @@ pub(crate) fn least_number(class: CodeSet) -> u8
     }
 }
 
-/// The code of a number.
+/// The code with this number.
 pub(crate) fn code_numbered(number: u8) -> Code
     requires { number < 31 }
     ensures { result ≡ number }

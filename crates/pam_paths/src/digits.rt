@@ -17,7 +17,7 @@ fn digit(byte: u8) -> Option<u8>
     }
 }
 
-/// The code of a number of one digit.
+/// The code of a one-digit number.
 #[tactic(auto, using(crate::proofs::CodeDigits::one_within))]
 fn one_digit(ones: u8) -> Option<Code>
     ensures { IsCodeOf (ones ∷ []) result }
@@ -25,7 +25,7 @@ fn one_digit(ones: u8) -> Option<Code>
     Code::new(digit(ones)?)
 }
 
-/// The code of a number of two digits; none begins with zero.
+/// The code of a two-digit number, which does not begin with zero.
 #[tactic(auto, using(crate::proofs::CodeDigits::two_within))]
 fn two_digits(tens: u8, ones: u8) -> Option<Code>
     ensures { IsCodeOf (tens ∷ ones ∷ []) result }

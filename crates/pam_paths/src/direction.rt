@@ -1,4 +1,4 @@
-//! Which way a listing is gone through.
+//! The direction in which a listing is explored.
 
 ghost use Rattle.std.specs.Prelude.{◌≡◌, ◌<◌, ◌≤◌, ℕ, IfNone, IfSome, IsTrue, false};
 ghost use Rattle.pam_codes.specs.Set.{is_in};
@@ -6,17 +6,17 @@ ghost use Rattle.pam_paths.specs.Directions.{IsAhead, IsNearer, outset, past};
 
 use pam_codes::{CODES, Code, CodeSet};
 
-/// Which way a listing is gone through.
+/// The direction in which a listing is explored.
 #[derive(Clone, Copy, Debug, PartialEq, Eq)]
 pub(crate) enum Direction {
     /// In the order of the least codes.
     Forward,
-    /// From the back.
+    /// In the reverse order.
     Backward,
 }
 
 impl Direction {
-    /// The bound that has every code ahead.
+    /// The bound with every code ahead.
     pub(crate) fn outset(self) -> u8
         ensures value { result ≡ outset self }
         ensures range { result ≤ 31 }
@@ -27,7 +27,7 @@ impl Direction {
         }
     }
 
-    /// The bound that has the codes ahead that come after a code.
+    /// The bound with exactly the codes after `code` ahead.
     pub(crate) fn past(self, code: Code) -> u8
         ensures value { result ≡ past self code }
         ensures range { result ≤ 31 }
@@ -38,7 +38,7 @@ impl Direction {
         }
     }
 
-    /// The first code of a set that is ahead of a bound.
+    /// The first of `codes` that is ahead of `bound`.
     pub(crate) fn first(self, codes: CodeSet, bound: u8) -> Option<Code>
         requires { bound ≤ 31 }
         ensures found { IfSome result (λ found. IsAhead self bound found × (found < 31) × IsTrue (is_in found codes)) }

@@ -1,4 +1,4 @@
-//! The explorer: every path that allowed answers can follow, in the order of their least codes.
+//! The explorer of the paths that allowed answers can follow.
 
 ghost use Rattle.std.specs.Prelude.{◌≡◌, ◌+◌, ◌*◌, ◌≤◌, ◌∷◌, ◌++◌, [], length, None, IfSome, IfNone, IfOk, MatchResult};
 ghost use Rattle.std.specs.Iterator.{MakesProgress, YieldsFirst, item_count};
@@ -23,14 +23,14 @@ use arrayvec::ArrayVec;
 use pam_dispatch::{Place, Program, Work};
 use std::marker::Model;
 
-/// The paths that are still to come, in the order of their least codes.
+/// An iterator over the paths that allowed answers can follow, in the order of the least codes of their classes.
 #[derive(Drop)]
 pub struct Explorer<'a, K: Knowledge> {
     program: &'a Program,
     knowledge: &'a K,
-    /// Where the first path begins, until that path is given.
+    /// The place at which the first path begins, until that path is returned.
     first: Option<Place>,
-    /// The modules asked on the path that was given last.
+    /// The modules asked on the path returned last.
     frames: Frames,
     work: Work,
 }
@@ -52,7 +52,7 @@ impl<'a, K: Knowledge> Model for Explorer<'a, K> {
     ghost invariant = { λ e. IsExploring (K.allows e.knowledge.now) e.program.now e.first e.frames.items };
 }
 
-/// The place from which the next path goes on, under the steps of the frames.
+/// The place from which the next path continues, after the steps of `frames`.
 fn go_on<K: Knowledge>(
     program: &Program,
     knowledge: &K,
@@ -78,7 +78,7 @@ fn go_on<K: Knowledge>(
     }
 }
 
-/// The next path in a direction, if one is left.
+/// The next path in `direction`, if there is one.
 pub(crate) fn next_path<K: Knowledge>(
     program: &Program,
     knowledge: &K,
@@ -106,11 +106,11 @@ pub(crate) fn next_path<K: Knowledge>(
 }
 
 impl<'a, K: Knowledge> Explorer<'a, K> {
-    /// All paths that allowed answers can follow.
+    /// Explores all paths that allowed answers can follow.
     pub fn start(program: &'a Program, knowledge: &'a K) -> Explorer<'a, K>
         ensures listing { IsListing (K.allows knowledge.now) (modules_of program.now) (path_of (runs_of program.now)) result.coming }
 
-        // The same over the tree of the stack that the program is of.
+        // The same for the tree of the program's stack.
         ensures stack { (items : Items) → runs_of program.now ≡ runs_of_stack items
             → IsListing (K.allows knowledge.now) (modules_of program.now) (path_through items) result.coming }
         ensures modules { result.modules ≡ modules_of program.now }
@@ -125,9 +125,9 @@ impl<'a, K: Knowledge> Explorer<'a, K> {
         }
     }
 
-    /// The paths after a cursor, which is accepted whatever the knowledge says of its own path. `NotLeast` at the first
-    /// step whose code is not the least of its class; `TooShort` where a module is still asked at the cursor's end;
-    /// `TooLong` where codes are left at the end of the run.
+    /// Explores the paths after `cursor`, whose own path need not be allowed. Returns `NotLeast` at the first step
+    /// whose code is not the least of its class, `TooShort` if a module is still asked at the end of the cursor, and
+    /// `TooLong` if codes are left at the end of the run.
     pub fn after(
         program: &'a Program,
         knowledge: &'a K,
@@ -139,7 +139,7 @@ impl<'a, K: Knowledge> Explorer<'a, K> {
         ensures listing { IfOk result (λ e. IsListingAfter (K.allows knowledge.now) (modules_of program.now) (path_of (runs_of program.now))
             cursor.now e.coming) }
 
-        // The same over the tree of the stack that the program is of.
+        // The same for the tree of the program's stack.
         ensures tree { (items : Items) → runs_of program.now ≡ runs_of_stack items → MatchResult result
             (λ _. IsAccepted (modules_of program.now) (path_through items) cursor.now)
             (IsRefusal (modules_of program.now) (path_through items) cursor.now) }
@@ -162,7 +162,7 @@ impl<'a, K: Knowledge> Explorer<'a, K> {
         }
     }
 
-    /// How many steps of the program were made.
+    /// The number of steps of the program so far.
     pub fn work(&self) -> u64
         ensures { result ≡ self.now.work }
     {

@@ -1,4 +1,4 @@
-//! The frames of an explorer: the modules asked on the way to the path that it gave last.
+//! The frames of an explorer: the modules asked on the path that it returned last.
 
 ghost use Rattle.std.specs.Prelude.{◌≡◌, ◌+◌, ◌<◌, ◌≤◌, ◌++◌, [], ℕ, length, map, None, Some, IfSome, IfNone};
 ghost use Rattle.pam_conf.specs.declared.stack.TheConstants.{MAX_MODULES};
@@ -19,10 +19,10 @@ use arrayvec::ArrayVec;
 use pam_codes::{Code, CodeSet};
 use pam_dispatch::{MAX_MODULES, Place, Program, Work};
 
-/// The frames of a path, the outermost first.
+/// The frames of a path, outermost first.
 pub(crate) type Frames = ArrayVec<Frame, MAX_MODULES>;
 
-/// A module that is asked, with the class that is followed.
+/// A module asked on a path, with the class that is followed.
 #[derive(Clone, Copy, Debug)]
 pub(crate) struct Frame {
     pub(crate) place: Place,
@@ -46,7 +46,7 @@ impl Default for Frame {
     }
 }
 
-/// A class that can be followed: its least code, its codes, and where they lead.
+/// A class that can be followed: its least code, its codes, and the next place.
 #[derive(Clone, Copy, Debug)]
 pub(crate) struct Branch {
     pub(crate) code: Code,
@@ -83,7 +83,7 @@ impl Frame {
         }
     }
 
-    /// The branch of the class of a code.
+    /// The branch of the class of `code`.
     pub(crate) fn branch(&self, program: &Program, code: Code, work: &mut Work) -> Branch
         requires place { IsPlaceOf program.now self.now.place }
         requires asking { asked_module (rest_of program.now self.now.place) ≡ Some self.now.module_number }
@@ -102,7 +102,7 @@ impl Frame {
         }
     }
 
-    /// The first branch that is ahead of a bound.
+    /// The first branch ahead of `bound`.
     pub(crate) fn branch_ahead(
         &self,
         program: &Program,
@@ -133,7 +133,7 @@ impl Frame {
         }
     }
 
-    /// The frame where a branch is followed.
+    /// The frame with `branch` followed.
     pub(crate) fn following(self, branch: &Branch) -> Frame
         ensures place { result.place ≡ self.place }
         ensures number { result.module_number ≡ self.module_number }
@@ -149,7 +149,7 @@ impl Frame {
     }
 }
 
-/// Goes on to the next branch of the innermost frame that has one.
+/// Pops frames up to the innermost one that has a further branch, and follows that branch.
 pub(crate) fn advance<K: Knowledge>(
     program: &Program,
     knowledge: &K,
@@ -179,7 +179,7 @@ pub(crate) fn advance<K: Knowledge>(
     None
 }
 
-/// Follows the first branches from a place to an end.
+/// Follows the first branch of each module, from `from` to the end of the run.
 pub(crate) fn descend<K: Knowledge>(
     program: &Program,
     knowledge: &K,

@@ -1,4 +1,4 @@
-//! What is known of the answers of modules.
+//! Knowledge of the answers of modules.
 
 ghost use Rattle.std.specs.Prelude.{◌≡◌, ◌≢◌, ◌≤◌, ◌<◌, ◌==◌, ◌-◌, [], if◌then◌else◌, slice_index_or, ℕ};
 ghost use Rattle.pam_codes.specs.Code.{all_codes};
@@ -8,23 +8,23 @@ ghost use Rattle.pam_paths.specs.Known.{answers_by};
 use pam_codes::CodeSet;
 use pam_dispatch::MAX_MODULES;
 
-/// What is known of the answers of modules.
+/// Knowledge of the answers of modules.
 pub trait Knowledge {
     ghost use Rattle.pam_conf.specs.declared.stack.TheConstants.{MAX_MODULES};
     ghost use Rattle.std.specs.Prelude.{ℕ, Bool, true, ◌≡◌, ◌<◌, ◌≤◌};
 
-    /// Whether the module of a number may answer a code.
+    /// Whether the module with this number may answer a code.
     ghost allows: { Self → ℕ → ℕ → Bool };
 
-    /// The codes that the module of a number may answer.
+    /// The codes that the module with this number may answer.
     fn allowed(&self, number: usize) -> CodeSet
         ensures { result ≡ codes_where (allows self.now number) };
 
-    /// Some code is left to each module.
+    /// Each module may answer some code.
     ghost lawful: { (known : Self) (number : ℕ) → 1 ≤ number → number ≤ MAX_MODULES → (code : ℕ) × (code < 31) × (allows known number code ≡ true) };
 }
 
-/// Nothing is known: a module may answer any code.
+/// No knowledge: every module may answer every code.
 #[derive(Clone, Copy, Debug, Default, PartialEq, Eq)]
 pub struct Free;
 
@@ -41,10 +41,10 @@ impl Knowledge for Free {
     }
 }
 
-/// What is known of each module: the codes that it can answer, every code where nothing was set.
+/// The codes that each module may answer: every code for a module that was not set.
 #[derive(Clone, Copy, Debug)]
 pub struct Known {
-    /// By the number of the module, from 1; an empty set means every code.
+    /// By the number of the module less 1; an empty set means every code.
     sets: [CodeSet; MAX_MODULES],
 }
 
@@ -63,7 +63,7 @@ impl Known {
     ghost use Rattle.pam_codes.specs.Set.{is_in};
     ghost use Rattle.pam_paths.specs.Known.{KnowsNothing, set_for};
 
-    /// Nothing is known.
+    /// No module is set.
     pub fn new() -> Known
         ensures { KnowsNothing result }
     {
@@ -72,7 +72,7 @@ impl Known {
         }
     }
 
-    /// The module of a number answers one of these codes, whatever was set for it before.
+    /// Sets the codes that the module with this number may answer, in place of earlier ones.
     pub fn set(&mut self, number: usize, codes: CodeSet)
         requires first { 1 ≤ number }
         requires last { number ≤ MAX_MODULES }
@@ -96,7 +96,7 @@ impl Knowledge for Known {
     }
 }
 
-/// Puts a set at the place of a number.
+/// Stores the set of the module with this number.
 fn put_set(sets: &mut [CodeSet; MAX_MODULES], number: usize, codes: CodeSet)
     requires first { 1 ≤ number }
     requires last { number ≤ MAX_MODULES }
@@ -105,7 +105,7 @@ fn put_set(sets: &mut [CodeSet; MAX_MODULES], number: usize, codes: CodeSet)
     sets[number - 1] = codes;
 }
 
-/// The set at an index; every code where it has none.
+/// The set at `index`; every code if it is empty, or if there is none.
 fn known_codes(sets: &[CodeSet; MAX_MODULES], index: usize) -> CodeSet
     ensures { result ≡ codes_where (answers_by (slice_index_or sets.now index [])) }
 {

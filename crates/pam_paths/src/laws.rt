@@ -1,4 +1,4 @@
-//! Laws of the definitions that the contracts of this crate cite. These functions make no calls.
+//! Laws of the definitions that the contracts cite: each is the contract of an empty function.
 
 ghost use Rattle.pam_paths.specs.Laws.{CursorTextIsOne, Narrowed, OneListing, OnePath, OneStanding, PathOfStack};
 ghost use Rattle.pam_paths.specs.Laws.{EndsMeet, PagesJoin, PagesJoinBackwards, PartAfter, PartBefore};
@@ -18,7 +18,7 @@ pub fn one_path()
     ensures { OnePath }
 {}
 
-/// The listing of a knowledge is the full listing without the paths that it excludes.
+/// The listing under a knowledge is the full listing without the paths that it excludes.
 pub fn filter()
     ensures { Narrowed }
 {}
@@ -33,15 +33,15 @@ pub fn standing()
     ensures { OneStanding }
 {}
 
-/// The pages of a listing, each begun at the cursor of the one before, are a prefix of it, and the whole where the
-/// last says `end`.
+/// The pages of a listing, each begun at the cursor of the one before, are a prefix of it, and all of it if the last
+/// page says `end`.
 pub fn pages()
     ensures after { PartAfter }
     ensures joined { PagesJoin }
 {}
 
-/// The paths before a path, turned round, the path, and the paths after it are the listing; pages from the back are a
-/// prefix of the paths before a path, turned round.
+/// The paths before a path, the path and the paths after it are the listing. Pages of the paths before a path, last
+/// first, are a prefix of them.
 pub fn both_ends()
     ensures before { PartBefore }
     ensures meet { EndsMeet }

@@ -1,5 +1,5 @@
-//! Every path through a stack that the answers of its modules can follow, in order and from any of them in both
-//! directions, one at a time and with no list of them.
+//! Lists every path through a stack that the answers of its modules can follow, in order. A listing continues from any
+//! of its paths, in both directions, and is computed one path at a time.
 #![tactic(auto)]
 
 mod before;

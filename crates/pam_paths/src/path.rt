@@ -1,4 +1,4 @@
-//! A path through a stack.
+//! The paths through a stack.
 
 ghost use Rattle.std.specs.Prelude.{◌≡◌, ◌<◌, ◌≤◌, length, map};
 ghost use Rattle.pam_paths.specs.CursorText.{IsCursor};
@@ -10,7 +10,7 @@ use pam_codes::{Code, CodeSet};
 use pam_dispatch::{Decision, MAX_MODULES};
 use std::marker::Model;
 
-/// A module that is asked, with the class of its answer.
+/// A module asked on a path, with the class of its answer.
 #[derive(Clone, Copy, Debug)]
 pub struct PathStep {
     pub(crate) number: u16,
@@ -34,7 +34,7 @@ impl PathStep {
         usize::from(self.number)
     }
 
-    /// The codes of the class: the run goes on in the same way after each of them.
+    /// The class of the answer: the codes after which the run continues in the same way.
     pub fn class(&self) -> CodeSet
         ensures { result ≡ self.now.class }
     {
@@ -42,7 +42,7 @@ impl PathStep {
     }
 }
 
-/// A path through a stack: the modules that are asked, each with the class of its answer, and what the stack decides.
+/// A path through a stack: the modules asked, each with the class of its answer, and the decision.
 #[derive(Drop)]
 pub struct Path {
     pub(crate) steps: ArrayVec<PathStep, MAX_MODULES>,
@@ -63,21 +63,21 @@ impl Model for Path {
 impl Path {
     ghost use Rattle.pam_paths.specs.Steps.{step_seen};
 
-    /// The modules that are asked, in turn.
+    /// The modules asked, in order.
     pub fn steps(&self) -> &[PathStep]
         ensures { map step_seen result.now ≡ self.now.steps }
     {
         self.steps.as_slice()
     }
 
-    /// What the stack decides.
+    /// The decision of the stack.
     pub fn decision(&self) -> Code
         ensures { result ≡ self.now.decision }
     {
         self.decision.code()
     }
 
-    /// The least codes of the classes, from which a listing goes on.
+    /// The cursor of this path: the least codes of its classes.
     pub fn cursor(&self) -> Cursor
         ensures key { result ≡ key self.now }
         ensures cursor { IsCursor result }

@@ -19,7 +19,7 @@ use crate::knowledge::Knowledge;
 use pam_codes::Code;
 use pam_dispatch::{Place, Program, Work};
 
-/// A step of a cursor: the frame that follows its class, whether the class has an allowed code, and where it leads.
+/// A step of a cursor: the frame of its class, whether the class has an allowed code, and the next place.
 #[derive(Clone, Copy, Debug)]
 pub(crate) struct Turn {
     frame: Frame,
@@ -27,8 +27,8 @@ pub(crate) struct Turn {
     place: Place,
 }
 
-/// The step of a cursor at a place; none where the code is not the least of its class. Its frame is kept where all
-/// classes before it have an allowed code.
+/// The step of a cursor at `place`; `None` if `code` is not the least of its class. Pushes its frame if `offered`: all
+/// earlier classes have an allowed code.
 fn take_turn<K: Knowledge>(
     program: &Program,
     knowledge: &K,
@@ -81,7 +81,7 @@ fn both(before: bool, here: bool) -> bool
     before && here
 }
 
-/// Makes the frames of the path that codes name, up to the first class that has no allowed code.
+/// Pushes the frames of the path of `codes`, up to the first class that has no allowed code.
 pub(crate) fn retrace<K: Knowledge>(
     program: &Program,
     knowledge: &K,
