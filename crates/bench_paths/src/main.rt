@@ -1,6 +1,6 @@
 //! Explores the paths of one stack, for `benches/README.md`: `bench_paths LIMIT FILE...`. The first file is that of the
-//! service, the others are those that it includes. The stack is explored again and again, until as many paths as the
-//! limit were given; then their number, that of the modules that they ask, and that of the steps are printed.
+//! service, the others are its includes. Explores the stack again and again until it has returned LIMIT paths, and then
+//! prints the numbers of paths, of modules asked on them, and of steps.
 #![tactic(auto)]
 
 use anyhow::Error;
@@ -10,7 +10,7 @@ use pam_paths::{Explorer, Free};
 use std::alloc::Global;
 use std::{env, fs};
 
-/// Puts a file in by its name.
+/// Reads the file `name` into `files`.
 fn put(rt: &HostRuntime, alloc: Global, files: &mut Files, name: &str) -> Result<(), Error> {
     let bytes = fs::read(rt, name)?;
     files.put(name.as_bytes().to_vec(alloc)?, bytes)?;
@@ -22,7 +22,7 @@ fn program_of(alloc: Global, files: &Files, service: &[u8]) -> Result<Program, E
     Ok(Program::of(alloc, &stack)?)
 }
 
-/// What was given: paths, the modules that they ask, and the steps that were made.
+/// The numbers of paths returned, of modules asked on them, and of steps.
 #[derive(Clone, Copy, Debug, Default)]
 struct Explored {
     paths: u64,
@@ -30,7 +30,7 @@ struct Explored {
     steps: u64,
 }
 
-/// Explores a stack once, up to a number of paths.
+/// Explores a stack once, up to `limit` paths.
 fn explore(program: &Program, limit: u64, explored: &mut Explored) {
     let mut explorer = Explorer::start(program, &Free);
     for _ in 0..limit {
@@ -43,7 +43,7 @@ fn explore(program: &Program, limit: u64, explored: &mut Explored) {
     explored.steps = explored.steps.saturating_add(explorer.work());
 }
 
-/// Explores a stack again and again, until as many paths as the limit were given.
+/// Explores a stack again and again, up to `limit` paths in all.
 fn explore_to(program: &Program, limit: u64) -> Explored {
     let mut explored = Explored::default();
     for _ in 0..limit {

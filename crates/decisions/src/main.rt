@@ -8,7 +8,7 @@ use std::alloc::Global;
 use std::env;
 use std::process::ExitCode;
 
-/// The program of so many required modules.
+/// The program of a stack of `modules` required modules.
 fn program(alloc: Global, modules: usize) -> Option<Program> {
     let mut text = Vec::new(alloc);
     for _ in 0..modules {
@@ -20,7 +20,7 @@ fn program(alloc: Global, modules: usize) -> Option<Program> {
     Program::of(alloc, &stack).ok()
 }
 
-/// So many answers of success.
+/// Returns `modules` answers of success.
 fn answers(alloc: Global, modules: usize) -> Option<Vec<Code>> {
     let success = Code::new(0)?;
     let mut codes = Vec::new(alloc);
@@ -30,7 +30,7 @@ fn answers(alloc: Global, modules: usize) -> Option<Vec<Code>> {
     Some(codes)
 }
 
-/// How many of the decisions are success, where the first module gives each code in turn.
+/// The number of decisions that are success, where the first module answers each code in turn.
 fn successes(program: &Program, codes: &mut Vec<Code>, times: u32) -> u32 {
     let mut successes: u32 = 0;
     for round in 0..times {
@@ -52,7 +52,7 @@ fn counted(alloc: Global, modules: usize, times: u32) -> Option<u32> {
     Some(successes(&program, &mut codes, times))
 }
 
-/// The two numbers of the words behind the program's name.
+/// The two numbers after the program's name.
 fn numbers(rt: &HostRuntime) -> Option<(usize, u32)> {
     let mut words = env::args(rt).ok()?;
     let _ = words.next();

@@ -1,4 +1,4 @@
-//! Every assignment of three codes, one after another, beside the paths that the explorer gives.
+//! Compares the paths of an explorer with the dispatcher, for every assignment of three codes.
 
 use crate::stacks::program_of;
 use anyhow::Error;
@@ -10,13 +10,13 @@ use std::alloc::Global;
 /// The names of the codes that each module may answer.
 const NAMES: [&str; 3] = ["success", "auth_err", "ignore"];
 
-/// A stack has at most so many modules here.
+/// The maximum number of modules of a stack in this test.
 const MODULES: usize = 5;
 
-/// How many assignments there are.
+/// The number of assignments of three codes to `MODULES` modules.
 const ASSIGNMENTS: usize = 243;
 
-/// The answer of a number, of which the last digit to the base 3 counts.
+/// The answer for the last digit of `number` to base 3.
 fn answer(number: usize) -> Code {
     match Code::from_name(NAMES[number % 3].as_bytes()) {
         Some(code) => code,
@@ -24,7 +24,7 @@ fn answer(number: usize) -> Code {
     }
 }
 
-/// The assignment of a number: its digits to the base 3 are the answers of the modules.
+/// The assignment whose answers are the digits of `number` to base 3, lowest first.
 fn assignment(number: usize) -> [Code; MODULES] {
     [
         answer(number),
@@ -35,7 +35,7 @@ fn assignment(number: usize) -> [Code; MODULES] {
     ]
 }
 
-/// Whether an assignment agrees with a path at each of its steps.
+/// Whether `codes` agrees with each step of `path`.
 fn agrees(codes: &[Code; MODULES], path: &Path) -> bool {
     for step in path.steps() {
         let number = step.number();
@@ -46,7 +46,7 @@ fn agrees(codes: &[Code; MODULES], path: &Path) -> bool {
     true
 }
 
-/// The place of the one path that agrees with an assignment, where its decision is the dispatcher's.
+/// The index of the one path that agrees with `codes`, if its decision is that of the dispatcher.
 fn one_path(
     program: &Program,
     paths: &[Path],
@@ -65,7 +65,7 @@ fn one_path(
     Ok(found)
 }
 
-/// What is known where each module answers one of the three codes.
+/// The knowledge that each module answers one of the three codes.
 fn three_answers() -> Known {
     let mut codes = CodeSet::single(answer(0));
     codes.insert(answer(1));
@@ -92,7 +92,7 @@ fn paths_of(alloc: Global, program: &Program) -> Result<Vec<Path>, Error> {
     Ok(paths)
 }
 
-/// How many assignments have one path with their decision, and how many paths they take.
+/// The number of assignments with exactly one path, and its decision, and the number of paths that they take.
 fn told(alloc: Global, program: &Program, paths: &[Path]) -> Result<(usize, usize), Error> {
     let mut taken = vec![in alloc; false; paths.len()]?;
     let mut count: usize = 0;
@@ -107,7 +107,7 @@ fn told(alloc: Global, program: &Program, paths: &[Path]) -> Result<(usize, usiz
     Ok((count, taken.iter().filter(|is_taken| **is_taken).count()))
 }
 
-/// Prints how many assignments agree with one path, and how many of the paths they take.
+/// Prints the number of assignments with exactly one path, and the number of paths that they take.
 pub(crate) fn assign(rt: &HostRuntime, service: &str) -> Result<(), Error> {
     let program = program_of(rt, service)?;
     let paths = paths_of(rt.alloc(), &program)?;

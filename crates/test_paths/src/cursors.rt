@@ -5,7 +5,7 @@ use anyhow::Error;
 use pam_dispatch::Program;
 use pam_paths::{Cursor, CursorError, Explorer, Free};
 
-/// What is said of a text as a cursor: the error of reading it, or of going on after it and back from it.
+/// The errors of exploring the paths after and before a cursor; both are the error of reading it, if there is one.
 fn refusals(program: &Program, text: &str) -> (Option<CursorError>, Option<CursorError>) {
     match Cursor::read(text.as_bytes()) {
         Err(error) => (Some(error), Some(error)),
@@ -16,7 +16,7 @@ fn refusals(program: &Program, text: &str) -> (Option<CursorError>, Option<Curso
     }
 }
 
-/// Prints what is said of a cursor.
+/// Prints whether a cursor is accepted, or its error.
 pub(crate) fn cursor(rt: &HostRuntime, service: &str, text: &str) -> Result<(), Error> {
     let program = program_of(rt, service)?;
     let (after, before) = refusals(&program, text);

@@ -19,7 +19,7 @@ fn put_step<W: Write>(step: &PathStep, out: &mut Out<W>) -> Result<(), Device>
     step.class().write_text(out)
 }
 
-/// The text of a step, with a blank in front.
+/// The text of a step, with a leading blank.
 fn step_text(alloc: Global, step: &PathStep) -> Result<Vec<u8>, Error> {
     let mut text = Vec::new(alloc);
     put_step(step, &mut Out::new(&mut text))?;

@@ -3,9 +3,9 @@
 //! - `list SERVICE FIRST LAST [NUMBER=NAME,...]...`: how many paths there are, and the lines from FIRST to LAST.
 //! - `first SERVICE COUNT`: the lines of the first paths.
 //! - `page SERVICE LIMIT from -`, `page SERVICE LIMIT after CURSOR`, or with `before`; then `[NUMBER=NAME,...]...`: a page.
-//! - `ways SERVICE`: whether going on after each path, and back from it, gives exactly the others.
-//! - `cursor SERVICE TEXT`: what is said of a cursor, in both directions.
-//! - `assign SERVICE`: whether each assignment of three codes agrees with one path, which has its decision.
+//! - `ways SERVICE`: whether the paths after each path, and those before it, are exactly the others.
+//! - `cursor SERVICE TEXT`: whether a cursor is accepted or refused, in both directions.
+//! - `assign SERVICE`: whether each assignment of three codes agrees with exactly one path, which has its decision.
 #![tactic(auto)]
 
 mod assignments;

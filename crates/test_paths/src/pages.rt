@@ -9,7 +9,7 @@ use pam_dispatch::Program;
 use pam_page::{LineTexts, Listing, put_page};
 use pam_paths::{Cursor, Explorer, Known};
 
-/// The paths from the first one on, or those after or before a cursor.
+/// The paths from the first on, or those after or before a cursor.
 fn listing_of<'a>(
     program: &'a Program,
     known: &'a Known,
@@ -26,7 +26,7 @@ fn listing_of<'a>(
     Ok(Listing::Backward(Explorer::before(program, known, &cursor)?))
 }
 
-/// Prints the page of a listing. Each page has at least one line.
+/// Prints a page of `listing`, of at least one line.
 fn print_page(rt: &HostRuntime, listing: &mut Listing<'_, Known>, limit: u32) -> Result<(), Error> {
     let mut text = Vec::new(rt.alloc());
     let texts = LineTexts::new(rt.alloc())?;

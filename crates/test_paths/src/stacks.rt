@@ -1,4 +1,4 @@
-//! Stacks of the files at hand, and what is known of their modules.
+//! The stacks of test files, and the knowledge of their modules.
 
 use anyhow::Error;
 use pam_codes::{Code, CodeSet};
@@ -8,14 +8,14 @@ use pam_paths::Known;
 use std::alloc::Global;
 use std::fs;
 
-/// Puts a file in by its name.
+/// Reads the file `name` into `files`.
 fn put(rt: &HostRuntime, alloc: Global, files: &mut Files, name: &str) -> Result<(), Error> {
     let bytes = fs::read(rt, name)?;
     files.put(name.as_bytes().to_vec(alloc)?, bytes)?;
     Ok(())
 }
 
-/// The program of the kind `auth` of a service; its stack may read the files `inner` and `empty`.
+/// The program of a service for the kind `auth`. Its rules may include the files `inner` and `empty`.
 pub(crate) fn program_of(rt: &HostRuntime, service: &str) -> Result<Program, Error> {
     let alloc = rt.alloc();
     let mut files = Files::new(alloc, Form::Dir);
@@ -26,7 +26,7 @@ pub(crate) fn program_of(rt: &HostRuntime, service: &str) -> Result<Program, Err
     Ok(Program::of(alloc, &stack)?)
 }
 
-/// The codes of names with commas between them.
+/// The codes of names separated by commas. Skips unknown names.
 fn codes_of(names: &str) -> CodeSet {
     let mut codes = CodeSet::empty();
     for name in names.split(',') {
@@ -37,7 +37,7 @@ fn codes_of(names: &str) -> CodeSet {
     codes
 }
 
-/// Takes a word `NUMBER=NAME,...` into account: the module of that number answers one of these codes.
+/// Adds the knowledge of a word `NUMBER=NAME,...`: the module with this number answers one of these codes.
 fn learn(known: &mut Known, word: &str) -> Result<(), Error> {
     let Some((number, names)) = word.split_once('=') else {
         return Ok(());
@@ -50,7 +50,7 @@ fn learn(known: &mut Known, word: &str) -> Result<(), Error> {
     Ok(())
 }
 
-/// What is known by words `NUMBER=NAME,...`.
+/// The knowledge of words `NUMBER=NAME,...`.
 pub(crate) fn known_of(words: &[&str]) -> Result<Known, Error> {
     let mut known = Known::new();
     for word in words {

@@ -1,4 +1,4 @@
-//! Going on after every path of a stack, and back from it.
+//! Explores the paths after and before every path of a stack.
 
 use crate::lines::line_of;
 use crate::stacks::program_of;
@@ -7,7 +7,7 @@ use pam_dispatch::Program;
 use pam_paths::{Cursor, Explorer, Free, Path};
 use std::alloc::Global;
 
-/// Whether a path has the line at a place.
+/// Whether `path` has the line at index `place`.
 fn has_line(alloc: Global, path: &Path, lines: &[Vec<u8>], place: usize) -> Result<bool, Error> {
     if place >= lines.len() {
         return Ok(false);
@@ -15,7 +15,7 @@ fn has_line(alloc: Global, path: &Path, lines: &[Vec<u8>], place: usize) -> Resu
     Ok(line_of(alloc, path)?.as_slice() == lines[place].as_slice())
 }
 
-/// Whether the paths after a cursor have exactly the lines from a place on.
+/// Whether the paths after `cursor` have exactly the lines from `first` on.
 fn goes_on(
     alloc: Global,
     program: &Program,
@@ -33,7 +33,7 @@ fn goes_on(
     Ok(after.next().is_none())
 }
 
-/// Whether the paths before a cursor, from the back, have exactly the lines before a place.
+/// Whether the paths before `cursor`, last first, have exactly the lines before `end`.
 fn goes_back(
     alloc: Global,
     program: &Program,
@@ -63,7 +63,7 @@ fn all_lines(alloc: Global, program: &Program) -> Result<Vec<Vec<u8>>, Error> {
     Ok(lines)
 }
 
-/// How many paths lead on to all later ones and back to all earlier ones, up to the first that does not.
+/// The number of paths that lead to all later and all earlier ones, up to the first that does not.
 fn both_ways(alloc: Global, program: &Program, lines: &[Vec<u8>]) -> Result<usize, Error> {
     let mut explorer = Explorer::start(program, &Free);
     for place in 0..lines.len() {
@@ -80,7 +80,7 @@ fn both_ways(alloc: Global, program: &Program, lines: &[Vec<u8>]) -> Result<usiz
     Ok(lines.len())
 }
 
-/// Prints how many of the paths of a stack lead to all others.
+/// Prints how many paths of a stack lead to all others.
 pub(crate) fn ways(rt: &HostRuntime, service: &str) -> Result<(), Error> {
     let program = program_of(rt, service)?;
     let lines = all_lines(rt.alloc(), &program)?;
