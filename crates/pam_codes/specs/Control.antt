@@ -70,6 +70,7 @@ granting_pairs granted other = (Named 0, granted) ∷ (Named 12, granted) ∷ (N
 unfoldable pub keyword_pairs : List ℕ → Option Pairs
 keyword_pairs word = option_map (λ k. k.1) (find (λ k. same_name k.0 word) keywords)
 
+-- the actions of a keyword
 abbrev pub keyword_actions : List ℕ → Result (List Action) ControlError
 keyword_actions word = option_map_or (λ ps. Ok (actions_of ps)) (keyword_pairs word) (Err BadControl)
 

@@ -3,6 +3,7 @@ use Rattle.std.specs.Prelude.{ℕ, List, [], ◌∷◌, ◌++◌, decimal}
 use Rattle.pam_codes.specs.declared.line.Piece.{Piece}
 use Rattle.pam_codes.specs.declared.line.Piece.TheVariants.{Bytes, Number}
 
+-- bytes as they are, and a number in decimal
 abbrev pub piece_text : Piece → List ℕ
 piece_text (Bytes bytes) = bytes.now
 piece_text (Number n) = decimal n

@@ -5,6 +5,7 @@ use Rattle.pam_codes.specs.declared.code.TheConstants.{CODES}
 use Rattle.pam_codes.specs.Code.{code_names}
 use Rattle.pam_codes.specs.Set.{codes_where, is_in}
 
+-- the name of a code
 abbrev pub name_of : ℕ → List ℕ
 name_of code = slice_index_or code_names code []
 

@@ -1,4 +1,4 @@
--- The progress of a walk, by its effect on any continuation: the walk of pam.conf(5)'s includes, piece by piece.
+-- For proofs alone: the progress of a walk, by its effect on any continuation: pam.conf(5), on include and substack.
 use Rattle.std.specs.Prelude.{◌≡◌, ℕ, ◌+◌, List, ◌++◌, length, map, filter, slice_index_or, Option, Some, None, Result, Ok, Err, Vec}
 use Rattle.std.specs.Global.{Global}
 use Rattle.pam_conf.specs.Files.{Folder}
@@ -36,6 +36,7 @@ abbrev pub IsKept : Folder → Kind → ℕ → Option (Vec Rule Global) → Typ
 IsKept folder kind file None = Unit {0}
 IsKept folder kind file (Some rules) = of_kind kind (rules_at folder file) ≡ Ok (map rule_view rules.items)
 
+-- a table with the rules stored for each file
 pub record IsTable (folder : Folder) (kind : Kind) (table : List (Option (Vec Rule Global))) : Type 0 where
   pub full : length table ≡ length folder.entries
   pub kept : (file : ℕ) → IsKept folder kind file (slice_index_or table file None)

@@ -30,6 +30,7 @@ abbrev pub start_read : ℕ → List ℕ → Result (List RuleText) RuleFault �
 start_read file service (Err fault) = carried true file service
 start_read file service (Ok rules) = carried (list_any (carries service) rules) file service
 
+-- the start of a service's rules in configuration of a form
 abbrev pub start_in : Form → Folder → List ℕ → Option StartText
 start_in Dir folder service = option_map (λ file. record { file = file; service = None }) (position_of service folder.entries)
 start_in Single folder service = option_and_then (λ file. start_read file service (rules_at folder file)) (position_of (codes "pam.conf") folder.entries)
@@ -56,6 +57,7 @@ abbrev pub unless_empty : Folder → Kind → Option StartText → Result Items 
 unless_empty folder kind (Some other) (Ok End) = stack_from folder kind other
 unless_empty folder kind other stack = stack
 
+-- the stack from the start of the service, and that of `other`
 abbrev pub from_starts : Folder → Kind → Option StartText → Option StartText → Result Items ConfError
 from_starts folder kind None other = without_own folder kind other
 from_starts folder kind (Some own) other = unless_empty folder kind other (stack_from folder kind own)

@@ -20,6 +20,7 @@ use Rattle.pam_conf.specs.declared.rule.Rule.{Rule}
 
 -- A RULE WITHOUT ITS LAYOUT IN MEMORY
 
+-- the control, path and arguments of a module, or the target of an include or a substack
 pub data RuleBody : Type 0 where
   Module : List Action → List ℕ → List (List ℕ) → RuleBody
   Include : List ℕ → RuleBody
@@ -53,6 +54,7 @@ abbrev pub ◌>>=◌ : {A B : Type 0} → Result A FaultKind → (A → Result B
 (Ok x) >>= f = f x
 (Err e) >>= f = Err e
 
+-- the kind with this name: pam.conf(5), "type"
 unfoldable pub kind_named : List ℕ → Option Kind
 kind_named text =
     if same_name (codes "auth") text then Some Auth

@@ -1,4 +1,4 @@
--- The words of a line, part of which is read: pam.conf(5), on brackets in arguments.
+-- For proofs alone: the words of a line, part of which is read: pam.conf(5), on brackets in arguments.
 use Rattle.std.specs.Prelude.{ℕ, List, [], ◌∷◌, ◌++◌, map, Result, Vec}
 use Rattle.std.specs.Global.{Global}
 use Rattle.std.specs.Option.{option_map}
@@ -12,6 +12,7 @@ use Rattle.pam_conf.specs.declared.words.Spot.TheVariants as spots
 abbrev pub texts : Vec (Vec ℕ Global) Global → List (List ℕ)
 texts words = map (λ w. w.items) words.items
 
+-- the words that are not read yet
 abbrev pub still_to_come : List (Vec ℕ Global) → List (List ℕ)
 still_to_come words = map (λ w. w.items) words
 

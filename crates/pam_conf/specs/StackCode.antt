@@ -1,4 +1,4 @@
--- A stack encoded as a list of tokens, so that different stacks have different codes: the tree of pam.conf(5).
+-- For proofs alone: a stack encoded as tokens, so that different stacks have different codes: pam.conf(5).
 use Rattle.std.specs.Prelude.{◌≡◌, ℕ, Bool, List, [], ◌∷◌, ◌++◌, Option, Some, None, ◌⊎◌, refl}
 use Rattle.std.specs.Coded.{Coded, code_by, coded×, coded⊎, coded_ℕ, coded_bool, coded_list, coded_option}
 use Rattle.std.proofs.Common.{inl, inr, ap, ◌∙◌, append_assoc, append-nil, sym}

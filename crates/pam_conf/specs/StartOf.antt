@@ -1,4 +1,4 @@
--- The start of a service's rules, as the code stores it: pam.conf(5).
+-- For proofs alone: the start of a service's rules, as the code stores it: pam.conf(5).
 use Rattle.std.specs.Option.{option_map}
 use Rattle.pam_conf.specs.Resolution.{StartText}
 use Rattle.pam_conf.specs.declared.resolution.Start.{Start}

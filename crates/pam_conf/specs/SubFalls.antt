@@ -1,4 +1,4 @@
--- Each substack of a list has fewer substacks than the list: pam.conf(5).
+-- For proofs alone: each substack of a list has fewer substacks than the list: pam.conf(5).
 use Rattle.std.specs.Prelude.{◌+◌, ◌≤◌, List, [], ◌∷◌}
 use Rattle.std.proofs.Common.{arith}
 use denote.Param.Weighed.{most}

@@ -1,4 +1,4 @@
--- The rules that a caller wants: those of one kind, or all of them.
+-- For proofs alone: the rules that a caller wants, those of one kind or all: pam.conf(5), "type".
 use Rattle.std.specs.Prelude.{Bool, true, List, Option, Some, None, Result}
 use Rattle.pam_conf.specs.Progress.{of_kind}
 use Rattle.pam_conf.specs.Rule.{RuleText}

@@ -11,5 +11,6 @@ decision_by Positive status = status
 decision_by Undef status = if status == success then perm_denied else status
 decision_by Negative status = if status == success then perm_denied else status
 
+-- the decision in a state at the end of a run
 abbrev pub decision_of : State → ℕ
 decision_of s = decision_by s.impression s.status

@@ -16,6 +16,7 @@ flat_list level End = []
 flat_list level (ThenModule m rest) = Module level m.number m.control (count rest) ∷ flat_list level rest
 flat_list level (ThenSub sub inner rest) = Substack level ∷ (flat_list (level + 1) inner ++ flat_list level rest)
 
+-- the number of substacks around an entry
 abbrev pub level_of : Entry → ℕ
 level_of (Module level number control behind) = level
 level_of (Substack level) = level

@@ -44,6 +44,7 @@ pub data Standing : Type 0 where
   too_short : Standing
   too_long : Standing
 
+-- codes have a standing among the paths
 abbrev pub HasStanding : ℕ → (Assignment → PathValue) → List ℕ → Standing → Type 0
 HasStanding n path_by codes accepted = IsAccepted n path_by codes
 HasStanding n path_by codes (not_least place) = IsNotLeast n path_by codes place

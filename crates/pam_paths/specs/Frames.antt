@@ -61,6 +61,7 @@ pub record IsFrame (allows : Allowance) (program : List Entry) (low : ℕ) (fram
   pub offered : frame.offered ≡ offered_at allows (rest_of program frame.place)
   pub code : frame.code < 31
 
+-- frames, outermost first, of modules with numbers above `low`, `low + 1` and so on
 unfoldable pub AreFrames : Allowance → List Entry → ℕ → List Frame → Type 0
 AreFrames allows program low [] = Unit {0}
 AreFrames allows program low (frame ∷ frames) = IsFrame allows program low frame × AreFrames allows program (low + 1) frames

@@ -17,6 +17,7 @@ pub record PathValue : Type 0 where
   pub steps : List StepValue
   pub decision : ℕ
 
+-- the step of a module that is asked, for the class of a code
 abbrev pub step_of : Ask → ℕ → StepValue
 step_of ask code = record { module_number = ask.module_number; class = class_of ask code }
 
