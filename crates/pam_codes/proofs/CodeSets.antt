@@ -1,4 +1,4 @@
--- What the bits of a set say of its codes.
+-- The bits of a set, and its codes.
 use Rattle.std.proofs.Common.{◌≡◌, ◌≢◌, ◌<◌, ◌≤◌, ◌+◌, ◌*◌, ◌/◌, ◌%◌, ◌^◌, ◌||◌, ◌==◌, ℕ, zero, suc, Bool, true, false, List, [], ◌∷◌, length, slice_get, Some, None, cond, if◌then◌else◌, nat_lt, eqb, filter, All, subst, ap, ◌∙◌, sym, refl, arith, count_ones, bit_and, bit_or, eq-eqb}
 use Rattle.std.specs.List.{range_with_len}
 use Rattle.std.specs.List.Sorted.{IsStrictlyIncreasing}
@@ -107,7 +107,7 @@ first_of_bits bits some small =
 pub least_code : (bits : ℕ) → (bits ≡ 0 → ⊥) → bits < 2 ^ 31 → (if nat_lt (trailing_zeros w32 bits) 31 then Some (trailing_zeros w32 bits) else None) ≡ slice_get (codes_of_bits bits) 0
 least_code bits some small = ap (λ (t : Bool). if t then Some (trailing_zeros w32 bits) else None) (lt-ltb _ _ (lowest_below bits some small)) ∙ sym (first_of_bits bits some small)
 
--- how many bits
+-- the number of bits
 pub count_of_bits : (bits : ℕ) → bits < 2 ^ 31 → count_ones bits ≡ length (codes_of_bits bits)
 unfolding codes_of_bits bits_of_codes
 count_of_bits bits small =
@@ -128,7 +128,7 @@ all_codes-within : All (λ code. code < 31) all_codes
 unfolding all_codes
 all_codes-within = All-from_get_or (λ code. code < 31) (range_with_len 0 31) 0 (λ k h. let inside : k < 31 = omega (arith, length-range_with_len 0 31) in omega (arith, get_or-range_with_len 0 31 k 0 inside))
 
--- codes that pass a test make a set
+-- the codes that pass a test are a set
 pub codes_where-is_set : (test : ℕ → Bool) → IsCodeSet (codes_where test)
 codes_where-is_set test = codes_where-same test (λ code. is_in code (codes_where test)) (λ code h. sym (is_in-codes_where test code h))
 

@@ -28,7 +28,7 @@ pub action_or_bad : (found : Option Action) → IfSome found IsAction → IsActi
 action_or_bad None f = tt
 action_or_bad (Some a) f = f
 
--- what is written where a keyword has these actions, and where none has
+-- the text of a control with the actions of a keyword, and of one without
 pub text_of_keyword : (actions : List Action) (word : List ℕ) → keyword_of actions ≡ Some word → control_text actions ≡ word
 unfolding control_text
 text_of_keyword actions word h = ap (λ (o : Option (List ℕ)). unwrap_or o (list_text actions)) h

@@ -1,4 +1,4 @@
--- The parts of a control, put together one by one.
+-- The parts of a control, built one by one.
 use Rattle.std.proofs.Common.{◌≡◌, ◌≢◌, ℕ, ◌<◌, ◌≤◌, ◌&&◌, Bool, true, false, not, List, [], ◌∷◌, ◌++◌, Option, Some, None, IsTrue, All, length, get_or, slice_get, sym, ◌∙◌, ap, subst, inl, inr, arith}
 use Rattle.std.specs.List.{AllPairs, Any}
 use Rattle.std.proofs.lemmas.Bool.{and_from, and_parts, cases_Bool, cases_lt, cases_order, false≢true, not-true, not_from_false}
@@ -74,7 +74,7 @@ IsParts-all control remaining parts now none = record {
     some_same : {a b : Action} → Some a ≡ Some b → a ≡ b
     some_same h = cc
 
--- what some part has before another is pushed
+-- some part still has a property after another part is pushed
 any_before : (P : Part → Type 0) (parts : List Part) (part : Part) → Any P parts → Any P (parts ++ part ∷ [])
 any_before P parts part h =
     (h.0, h.1, omega (arith, length-append parts (part ∷ []), h.2), get_or_append_left parts (part ∷ []) h.1 h.0 h.2 ∙ h.3, h.4)

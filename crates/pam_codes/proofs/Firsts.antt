@@ -6,7 +6,7 @@ use Rattle.pam_codes.specs.Code.{all_codes}
 use Rattle.pam_codes.specs.Set.{codes_where, is_in, IsCodeSet}
 use Rattle.pam_codes.specs.SetBits.{eqb-other, filter_run}
 
--- what an option says of the first code of a run that passes
+-- an option is the first code of a run that passes
 abbrev pub FirstIn : (ℕ → Bool) → ℕ → ℕ → Option ℕ → Type 0
 FirstIn test a n (Some m) = (a ≤ m) × (m < a + n) × (test m ≡ true) × ((c : ℕ) → a ≤ c → c < m → test c ≡ false)
 FirstIn test a n None = (c : ℕ) → a ≤ c → c < a + n → test c ≡ false
@@ -35,7 +35,7 @@ first_in test a (suc n) =
       | false ↦ λ e. later test a n (slice_get more 0) e (first_in test (a + 1) n)
     ] refl
 
--- no greater number is in what a filter leaves of a run
+-- a filtered run contains no number past its end
 not_in_run : (test : ℕ → Bool) (a n code : ℕ) → a + n ≤ code → is_in code (filter test (range_with_len a n)) ≡ false
 not_in_run test a zero code past = refl
 not_in_run test a (suc n) code past =

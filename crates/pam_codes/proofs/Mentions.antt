@@ -1,4 +1,4 @@
--- What is written of the codes, code by code.
+-- The pairs of a control, code by code.
 use Rattle.std.proofs.Common.{◌≡◌, ◌<◌, ◌≤◌, ◌+◌, ◌∙◌, ℕ, List, [], ◌∷◌, ◌++◌, length, take, drop, get_or, slice_get, Some, codes, ap, sym, refl, arith, append_assoc, append-nil, length-take}
 use Rattle.std.proofs.lemmas.List.{take-append-drop, take_more, take_all}
 use Rattle.std.proofs.lemmas.Option.{get_or_from_slice_get}
@@ -52,7 +52,7 @@ mentions-failed default names actions i code action h k e f =
     ap (λ (text : List ℕ). (mentions default (take i names) (take i actions) ++ text) ++ mentions default (drop (i + 1) names) (drop (i + 1) actions)) (mention_is default names actions i code action e f)
     ∙ mentions-at default names actions i action h k
 
--- what stands behind the codes
+-- the text after the pairs of codes
 abbrev pub end_text : Action → List ℕ
 end_text default = concat (codes "default=" ∷ action_text default ∷ codes "]" ∷ [])
 

@@ -12,7 +12,7 @@ use Rattle.pam_codes.specs.declared.error.ControlError.{ControlError}
 use Rattle.pam_codes.specs.Code.{all_codes}
 use Rattle.pam_codes.specs.Control.{◌>>=◌, Pairs, last_named, first_default, actions_of, pairs_of, with_front}
 
--- the action of a code, where pairs that were read before gave `named` and `default`, and ps are still to come
+-- the action of a code, if the pairs read so far set `named` and `default`, and `ps` is the rest
 abbrev pub action_after : List (Option Action) → Option Action → Pairs → ℕ → Action
 action_after named default ps code = unwrap_or (last_named code ps) (unwrap_or (get_or named code None) (unwrap_or default (unwrap_or (first_default ps) Bad)))
 
@@ -77,7 +77,7 @@ pub start_pairs : (r : Result Pairs ControlError) → (r >>= λ ps. Ok (actions_
 start_pairs (Ok ps) = ap Ok (actions_after-start ps)
 start_pairs (Err e) = refl
 
--- behind the last pair
+-- after the last pair
 pub last_pairs : (named : List (Option Action)) (default : Option Action) (tokens : List (List ℕ)) (all : Result (List Action) ControlError) → tokens ≡ [] → (pairs_of tokens >>= λ ps. Ok (actions_after named default ps)) ≡ all → Ok (map (λ code. unwrap_or (get_or named code None) (unwrap_or default Bad)) all_codes) ≡ all
 unfolding actions_after pairs_of
 last_pairs named default tokens all e h = ap (λ (ts : List (List ℕ)). pairs_of ts >>= λ ps. Ok (actions_after named default ps)) (sym e) ∙ h

@@ -7,7 +7,7 @@ use Rattle.pam_codes.specs.Action.{action_named}
 use Rattle.pam_codes.specs.Subject.{subject_of}
 use Rattle.pam_codes.specs.Control.{equals_sign, pairs_of, with_front}
 
--- where the first of three tokens is wrong
+-- errors of the first of three tokens, and of the next ones
 pub bad_subject : (word : List ℕ) (rest : List (List ℕ)) (e : ControlError) → subject_of word ≡ Err e → pairs_of (word ∷ rest) ≡ Err e
 unfolding pairs_of
 bad_subject word [] e h = rw h refl

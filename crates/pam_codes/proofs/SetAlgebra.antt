@@ -1,4 +1,4 @@
--- The bits of sets that are made of others, and the first and the last code of a part of a set.
+-- The bits of sets built from others, and the first and the last code of a part of a set.
 use Rattle.std.proofs.Common.{◌≡◌, ◌<◌, ◌≤◌, ◌+◌, ◌-◌, ◌*◌, ◌/◌, ◌%◌, ◌^◌, ◌||◌, ◌&&◌, ℕ, zero, suc, Bool, true, false, List, min, max, not, eqb, ltb, cond, slice_get, Option, Some, None, IsTrue, IfSome, IfNone, add-one, refl, sym, ◌∙◌, ap, inl, inr, arith, bit_and, bit_or}
 use Rattle.std.specs.Int.{bit_at, bit_not, trailing_zeros, w32}
 use Rattle.std.proofs.Math.Nat.{div-eq_of_lt-le, pow-suc, pow-le-pow_right}
@@ -182,7 +182,7 @@ module _ (bits last : ℕ) where
         ],
       )
 
--- what these say of an option
+-- the same, of an option
 module _ (number : ℕ) (codes : List ℕ) where
   pub first-found : (found : Option ℕ) → FirstFrom number codes found → IfSome found (λ m. (number ≤ m) × (m < 31) × IsTrue (is_in m codes))
   first-found (Some m) h = (h.0, h.1, h.2)

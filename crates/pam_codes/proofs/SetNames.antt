@@ -79,7 +79,7 @@ less_codes remaining next code first is_set next_is =
     let rest = first_and_rest remaining code first in
     omega (arith, ap (λ (cs : List ℕ). length cs) (next_is ∙ rest_of_set remaining code (drop 1 remaining) is_set rest), ap (λ (cs : List ℕ). length cs) rest)
 
--- what is written, by the number of codes
+-- the text of a set, by the number of codes
 pub set_text-any : (set : List ℕ) → length set ≡ 31 → set_text set ≡ codes "any"
 unfolding set_text
 set_text-any set all = cond-true (length set == 31) _ _ (eq-eqb _ _ all)

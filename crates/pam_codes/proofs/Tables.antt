@@ -30,7 +30,7 @@ same_name_is a b false h = elim (same_name a b) as (λ (v : Bool). same_name a b
 pub same_name_at : (n : ℕ) (known bytes text : List ℕ) (r : Bool) → slice_get code_names n ≡ Some known → bytes ≡ known → IsTrue r ↔ (map to_ascii_lowercase bytes ≡ map to_ascii_lowercase text) → same_name (get_or code_names n []) text ≡ r
 same_name_at n known bytes text r e b h = ap (λ (k : List ℕ). same_name k text) (get_or_from_slice_get code_names n known [] e ∙ sym b) ∙ same_name_is bytes text r h
 
--- how many names there are
+-- the number of names
 pub length-code_names : length code_names ≡ 31
 unfolding code_names
 length-code_names = refl

@@ -1,4 +1,4 @@
--- The first line of a text, the lines behind it, and their numbers.
+-- The first line of a text, the lines after it, and their numbers.
 use Rattle.std.proofs.Common.{◌≡◌, ◌+◌, ◌&&◌, ◌⊎◌, ◌<◌, ◌≤◌, inl, inr, ⊎_elim, length, arith, ℕ, Bool, true, false, List, [], ◌∷◌, map, cond, eqb, ap, refl}
 use Rattle.std.specs.List.{onto_first}
 use Rattle.std.proofs.lemmas.Bool.{eqb-true}
@@ -39,12 +39,12 @@ no_longer : (ms : List Mark) → length (behind_line ms) ≤ length ms
 no_longer [] = omega arith
 no_longer (m ∷ ms) = elim (eqb m.1 10) as (λ (t : Bool). length (cond t ms (behind_line ms)) ≤ length (m ∷ ms)) [ true ↦ omega arith | false ↦ let k : length (behind_line ms) ≤ length ms = no_longer ms in omega arith ]
 
--- a line of a text that is not empty makes it shorter
+-- the text after its first line is shorter, unless it is empty
 pub shorter : (ms : List Mark) → (ms ≡ [] → ⊥) → length (behind_line ms) < length ms
 shorter [] n = absurd (n refl)
 shorter (m ∷ ms) n = elim (eqb m.1 10) as (λ (t : Bool). length (cond t ms (behind_line ms)) < length (m ∷ ms)) [ true ↦ omega arith | false ↦ let k : length (behind_line ms) ≤ length ms = no_longer ms in omega arith ]
 
--- the lines of a text are its first, and those behind it, if a line feed ends it
+-- the lines of a text are its first, and those after it, if a line feed ends it
 pub split_first : (ms : List Mark) → (lines_of ms ≡ first_marks ms ∷ lines_of (behind_line ms)) ⊎ ((lines_of ms ≡ first_marks ms ∷ []) × (behind_line ms ≡ []))
 split_first [] = inr (refl, refl)
 split_first (m ∷ ms) = elim (eqb m.1 10) as (λ (t : Bool). (cond t ([] ∷ lines_of ms) (onto_first m (lines_of ms)) ≡ cond t [] (m ∷ first_marks ms) ∷ lines_of (cond t ms (behind_line ms))) ⊎ ((cond t ([] ∷ lines_of ms) (onto_first m (lines_of ms)) ≡ cond t [] (m ∷ first_marks ms) ∷ []) × (cond t ms (behind_line ms) ≡ []))) [
@@ -54,7 +54,7 @@ split_first (m ∷ ms) = elim (eqb m.1 10) as (λ (t : Bool). (cond t ([] ∷ li
 
 -- ---- the numbers of lines
 
--- each byte stands in a line before this one
+-- each byte is on a line before this one
 unfoldable pub Before : ℕ → List Mark → Type 0
 Before n [] = Unit {0}
 Before n (m ∷ ms) = (m.0 < n) × Before n ms

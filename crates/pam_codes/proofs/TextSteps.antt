@@ -6,7 +6,7 @@ use Rattle.pam_codes.specs.Text.{Mark, marked, uncommented, joined, text_of, pas
 pub unequal : (a b : ℕ) → (a ≡ b → ⊥) → eqb a b ≡ false
 unequal a b h = elim (eqb a b) as (λ (t : Bool). eqb a b ≡ t → t ≡ false) [ true ↦ λ e. absurd (h (eqb-true a b e)) | false ↦ λ e. refl ] refl
 
--- inside a comment all goes up to the line feed
+-- inside a comment, all bytes up to the line feed are removed
 rest_of_comment : (l : ℕ) (bs : List ℕ) → uncommented true (marked l bs) ≡ uncommented false (marked l (drop (prefix_len (λ c. not (eqb c 10)) bs) bs))
 unfolding marked uncommented
 rest_of_comment l [] = refl
@@ -19,7 +19,7 @@ rest_of_comment l (b ∷ bs) = elim (eqb b 10) as (λ (t : Bool). eqb b 10 ≡ t
       rw more (rw one-add (rw e (rest_of_comment l bs)))
 ] refl
 
--- a comment in front says nothing
+-- a leading comment does not change the text
 skip : (l : ℕ) (bs : List ℕ) → uncommented false (marked l bs) ≡ uncommented false (marked l (past_comment bs))
 unfolding marked uncommented past_comment
 skip l [] = refl
@@ -37,7 +37,7 @@ comment_end (a ∷ bs) b r h = elim (eqb a 10) as (λ (t : Bool). eqb a 10 ≡ t
   | false ↦ λ e g. comment_end bs b r (rw one-add at g)
 ] refl h
 
--- what is behind a comment does not begin as one
+-- the bytes after a comment do not begin with another
 pub no_comment : (bs : List ℕ) (b : ℕ) (r : List ℕ) → past_comment bs ≡ b ∷ r → eqb b 35 ≡ false
 unfolding past_comment
 no_comment [] b r h = absurd (cc)
@@ -61,7 +61,7 @@ unfolding past_comment
 past_comment-no [] h = refl
 past_comment-no (b ∷ bs) h = rw (unequal b 35 h) refl
 
--- a byte that is no backslash joins nothing
+-- a byte that is not a backslash joins no lines
 joined-plain : (m : Mark) (ms : List Mark) → eqb m.1 92 ≡ false → joined (m ∷ ms) ≡ m ∷ joined ms
 unfolding joined
 joined-plain m [] h = refl
@@ -104,7 +104,7 @@ kept r (b ∷ s) l e h =
 pub step_backslash : (bs r : List ℕ) (l : ℕ) → past_comment bs ≡ 92 ∷ r → ((more : List ℕ) → past_comment r ≡ 10 ∷ more → ⊥) → text_of l bs ≡ (l, 92) ∷ text_of l r
 step_backslash bs r l h n = backslash bs r l h ∙ kept r _ l refl n ∙ ap (λ (ms : List Mark). (l, 92) ∷ joined ms) (sym (skip l r))
 
--- a list that begins with another number, or with none
+-- a list that begins with another number, or is empty
 pub not_first : (bs : List ℕ) (b : ℕ) (r : List ℕ) → bs ≡ b ∷ r → (b ≡ 10 → ⊥) → (more : List ℕ) → bs ≡ 10 ∷ more → ⊥
 not_first bs b r e n more f = n (cc)
 

@@ -1,5 +1,6 @@
--- How what was written joins up, call by call. A function that writes `a ++ b ++ c` by three calls needs, at the call that
--- fails, `err-then` or `err-then-more` over `all-then` of the calls before it, and for a last call without `?` `writes-then`.
+-- How the effects of calls that write combine. A function that writes `a ++ b ++ c` by three calls needs, at the call
+-- that fails, `err-then` or `err-then-more` over `all-then` of the calls before it, and for a last call without `?`
+-- `writes-then`.
 use Rattle.std.proofs.Common.{◌≡◌, ℕ, ◌+◌, ◌-◌, ◌<◌, ◌≤◌, List, [], ◌++◌, length, take, drop, ◌==◌, ◌&&◌, not, if◌then◌else◌, ◌∷◌, refl, sym, ap, subst, ◌∙◌, arith, length-append, append_assoc, append-nil, Option, Some, None, Result, Ok, Err}
 use Rattle.std.proofs.lemmas.List.{take-append-drop}
 use Rattle.std.proofs.KnownBytes.{Appends-trans, Appends-nil}
@@ -11,7 +12,7 @@ use Rattle.std.specs.Prelude.{IsErr}
 use Rattle.pam_codes.specs.declared.out.Out.{Out}
 use Rattle.pam_codes.specs.declared.out.Device.{Device}
 
--- what a `write` that took nothing adds to the failures, and one that took some bytes
+-- the failures of a `write` that wrote nothing, and of one that wrote some bytes
 pub fails-taking_none : (n : ℕ) (bytes : List ℕ) → n ≡ 0 → 0 < length bytes → let count : ℕ = if n == 0 && not (length bytes == 0) then 1 else 0 in count ≡ 1
 fails-taking_none n [] e h = absurd (omega (arith, h))
 fails-taking_none n (b ∷ bs) e h = rw (e, unequal (length (b ∷ bs)) 0 (λ q. omega (arith, q, h))) refl
@@ -33,7 +34,7 @@ module _ {W : Type 0} {contents : W → Option (List ℕ)} where
   pub all-none : (s : Out W) → TookAll contents s s []
   all-none s = record { took = took-none s; as_before = refl }
 
-  -- a call that took nothing
+  -- a call that wrote nothing
   pub took-kept : {old new : Out W} → Keeps (contents old.inner) (contents new.inner) → new.taken ≡ old.taken → Took contents old new []
   took-kept {old} k e = let fits = old.countable in record { held = Appends-kept_nil _ _ k; counted = omega arith }
 
@@ -62,11 +63,11 @@ module _ {W : Type 0} {contents : W → Option (List ℕ)} where
     failed = e;
   }
 
-  -- two texts, both taken whole
+  -- two texts, both written whole
   pub all-then : {old mid new : Out W} {a b : List ℕ} → TookAll contents old mid a → TookAll contents mid new b → TookAll contents old new (a ++ b)
   all-then s t = record { took = took-then s.took t.took; as_before = t.as_before ∙ s.as_before }
 
-  -- a text taken whole, and then a prefix of the next
+  -- a text written whole, and then a prefix of the next
   pub front-then : {old mid new : Out W} {a b : List ℕ} → TookAll contents old mid a → TookFront contents mid new b → TookFront contents old new (a ++ b)
   front-then {a = a} s t = record {
     front = a ++ t.front;
@@ -96,7 +97,7 @@ module _ {W : Type 0} {contents : W → Option (List ℕ)} where
   err-front (Ok x) e s = cc
   err-front (Err x) e s = s
 
-  -- the call that failed behind all of a text, with more of the text to come
+  -- the call that failed after all of a text, before the rest of it
   pub err-then : {old mid new : Out W} {a b : List ℕ} (r : Result (Unit {0}) Device) → IsErr r → TookAll contents old mid a → TookFront contents mid new b → Writes contents old new r (a ++ b)
   err-then r e s t = err-front r e (front-then s t)
 

@@ -1,4 +1,4 @@
--- The pairs of a control that was written give its actions.
+-- The pairs of a written control have its actions.
 use Rattle.std.proofs.Common.{◌≡◌, ◌<◌, ◌+◌, ◌∙◌, ◌||◌, ℕ, zero, suc, Bool, true, false, not, List, [], ◌∷◌, ◌++◌, length, get_or, take, cond, eqb, codes, nat_lt, Option, Some, None, unwrap_or, Result, Ok, Err, All, ap, sym, refl, arith, append_assoc, append-nil, length-append}
 use Rattle.std.specs.List.{list_all, concat, find}
 use Rattle.std.specs.Option.{option_map, option_map_or}
@@ -54,7 +54,7 @@ found_read actions (k ∷ ks) r word h = elim (same_actions (actions_of k.1) act
 
 -- PAIRS
 
--- the pairs that are written of the actions from this code on
+-- the written pairs of the actions from this code on
 abbrev pairs_from : Action → ℕ → List Action → Pairs
 pairs_from default code [] = (Default, default) ∷ []
 pairs_from default code (a ∷ actions) = cond (same_action a default) (pairs_from default (code + 1) actions) ((Named code, a) ∷ pairs_from default (code + 1) actions)
@@ -92,7 +92,7 @@ named_here default from (a ∷ actions) (suc i) code e h =
       | false ↦ ap (λ (t : Bool). unwrap_or (cond t (Some (unwrap_or (last_named code (pairs_from default (from + 1) actions)) a)) (last_named code (pairs_from default (from + 1) actions))) default) (eqb-other from code (omega arith)) ∙ rest
     ]
 
--- the pairs give the actions back
+-- the actions of the pairs are the actions that were written
 actions_of-from : (default : Action) (actions : List Action) → length actions ≡ 31 → actions_of (pairs_from default 0 actions) ≡ actions
 unfolding actions_of
 actions_of-from default actions n = sym (filled actions (action_of (pairs_from default 0 actions)) 31 n (omega arith)
@@ -120,14 +120,14 @@ default-named = refl
 abbrev default_text : Action → List ℕ
 default_text default = codes "default=" ++ action_text default
 
--- a pair with what stands behind it
+-- a pair and the text after it
 pair_apart : (name word more tail : List ℕ) → ((name ++ 61 ∷ (word ++ 32 ∷ [])) ++ more) ++ tail ≡ name ++ 61 ∷ (word ++ 32 ∷ (more ++ tail))
 pair_apart name word more tail =
     append_assoc (name ++ 61 ∷ (word ++ 32 ∷ [])) more tail
     ∙ append_assoc name (61 ∷ (word ++ 32 ∷ [])) (more ++ tail)
     ∙ ap (λ (text : List ℕ). name ++ 61 ∷ text) (append_assoc word (32 ∷ []) (more ++ tail))
 
--- what is written between the brackets is read as the pairs
+-- the written text between the brackets is read as the pairs
 mentions_read : (default : Action) → IsAction default → (code : ℕ) (names : List (List ℕ)) (actions : List Action) → AreNamed code names → All IsAction actions → length names ≡ length actions → pairs_of (tokens_of (mentions default names actions ++ default_text default)) ≡ Ok (pairs_from default code actions)
 unfolding pairs_of tokens_of
 mentions_read default d code [] [] n h e =
@@ -175,7 +175,7 @@ not_both true y h = absurd (false≢true h)
 not_both false true h = absurd (false≢true h)
 not_both false false h = (refl, refl)
 
--- the first bracket stands behind plain bytes
+-- the first closing bracket comes after plain bytes
 closing_at-plain : (bytes rest : List ℕ) → list_all is_plain bytes ≡ true → closing_at false (bytes ++ 93 ∷ rest) ≡ Some (length bytes)
 unfolding closing_at
 closing_at-plain [] rest h = refl

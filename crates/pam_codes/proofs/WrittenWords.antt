@@ -1,4 +1,4 @@
--- The words of a control that was written are the tokens that are read.
+-- The words of a written control are the tokens that are read.
 use Rattle.std.proofs.Common.{◌≡◌, ◌<◌, ◌≤◌, ◌+◌, ◌-◌, ◌*◌, ◌/◌, ◌%◌, ◌^◌, ◌∙◌, ◌&&◌, ◌||◌, ◌==◌, ℕ, Bool, true, false, not, List, [], ◌∷◌, ◌++◌, length, cond, eqb, map, Ok, ap, refl, arith, decimal}
 use Rattle.std.specs.List.{onto_first, list_all}
 use Rattle.std.specs.Char.{is_ascii_digit, to_ascii_lowercase}
@@ -17,7 +17,7 @@ use Rattle.pam_codes.specs.Tokens.{is_word_byte, begins_word, tokens_of}
 use Rattle.pam_codes.proofs.PairSteps.{whole_pair}
 use Rattle.pam_codes.proofs.TokensOf.{tokens_of-word_byte, tokens_of-equals}
 
--- a byte that no bracket ends at, and behind which one may end
+-- a byte that is not a closing bracket, and does not escape one
 abbrev pub is_plain : ℕ → Bool
 is_plain b = not (b == 93 || b == 92)
 
@@ -29,7 +29,7 @@ pub record IsWord (word : List ℕ) : Type 0 where
   pub some : 0 < length word
   pub bytes : list_all is_written word ≡ true
 
--- a word in front is a token, where no word goes on behind it
+-- a leading word is a token, if no word continues after it
 tokens_of-front : (word rest : List ℕ) → 0 < length word → list_all is_written word ≡ true → begins_word rest ≡ false → tokens_of (word ++ rest) ≡ word ∷ tokens_of rest
 tokens_of-front [] rest n h e = absurd (omega arith)
 tokens_of-front (b ∷ []) rest n h e =
@@ -43,7 +43,7 @@ tokens_of-front (b ∷ c ∷ word) rest n h e =
     ∙ ap (λ (t : Bool). cond t (onto_first b (tokens_of (c ∷ (word ++ rest)))) ((b ∷ []) ∷ tokens_of (c ∷ (word ++ rest)))) next
     ∙ ap (onto_first b) (tokens_of-front (c ∷ word) rest (omega arith) parts.1 e)
 
--- a pair in front is read
+-- a leading pair is read
 pub pair_read : (name word rest : List ℕ) (s : Subject) (a : Action) → IsWord name → IsWord word → subject_of name ≡ Ok s → action_named word ≡ Ok a → begins_word rest ≡ false → pairs_of (tokens_of (name ++ 61 ∷ (word ++ rest))) ≡ with_front (s, a) (pairs_of (tokens_of rest))
 pair_read name word rest s a n w hs ha e =
     let tokens : tokens_of (name ++ 61 ∷ (word ++ rest)) ≡ name ∷ (61 ∷ []) ∷ word ∷ tokens_of rest =
@@ -126,7 +126,7 @@ jump_read items digits s few some =
     let value = s.value in
     rw (other 105 (103 ∷ 110 ∷ 111 ∷ 114 ∷ 101 ∷ []) (omega arith), other 98 (97 ∷ 100 ∷ []) (omega arith), other 100 (105 ∷ 101 ∷ []) (omega arith), other 111 (107 ∷ []) (omega arith), other 100 (111 ∷ 110 ∷ 101 ∷ []) (omega arith), other 114 (101 ∷ 115 ∷ 101 ∷ 116 ∷ []) (omega arith), jump_text digits s.digits_only s.some few, value, eqb-other items 0 (omega arith)) refl
 
--- what is written of an action is read as it
+-- the text of an action is read as the action
 pub action_read : (a : Action) → IsAction a → action_named (action_text a) ≡ Ok a
 unfolding action_named
 action_read Ignore h = refl

@@ -27,9 +27,9 @@ depth-numbered n End = refl
 depth-numbered n (ThenModule m rest) = depth-numbered (n + 1) rest
 depth-numbered n (ThenSub s inner rest) = omega (arith, depth-numbered n inner, depth-numbered (n + module_count inner) rest)
 
--- HOW MANY LISTS A WALK OPENS
+-- THE NUMBER OF LISTS THAT A WALK OPENS
 
--- the files that are named open fewer lists than so many
+-- the targets open fewer than `n` lists
 IsBelow : ℕ → Deeper → Type 0
 IsBelow n None = 1 ≤ n
 IsBelow n (Some w) = (1 ≤ n) × ((trail : List ℕ) (file : ℕ) → depth (w trail file).items + 1 ≤ n)
@@ -93,7 +93,7 @@ module _ (folder : Folder) (kind : Kind) (service : Option (List ℕ)) where
   read-depth n d trail file (Err fault) h = below-one n d h
   read-depth n d trail file (Ok rules) h = rules-depth n d trail file rules h
 
-  -- a walk opens at most one list more than it may open files
+  -- a walk opens at most one list more than the number of files that it may open
   pub depth-walk : (room : ℕ) (trail : List ℕ) (file : ℕ) → depth (walk folder kind service room trail file).items ≤ room + 1
   unfolding walk IsBelow
   depth-walk zero trail file = read-depth 1 None trail file (rules_at folder file) (omega arith)

@@ -49,7 +49,7 @@ position_none name es h = rw (past_all name es h, le-ltb (length (map named es))
 abbrev with_entries : Folder → List Named → Folder
 with_entries f es = record f { entries = es }
 
--- the files, once a file is put
+-- the files after an insertion
 pub put_named : (f g : Folder) (es fs : Kept) (name bytes : Vec ℕ Global) → with_entries f (map named es) ≡ g →
     fs ≡ insert_entry (λ a b. bytes_eq a.items b.items) es name bytes →
     with_entries f (map named fs) ≡ with_entries g (put_file name.items bytes.items g.entries)

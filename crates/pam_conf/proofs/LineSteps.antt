@@ -13,7 +13,7 @@ use Rattle.pam_conf.specs.declared.error.RuleFault.{RuleFault}
 use Rattle.pam_conf.specs.declared.rule.Form.{Form}
 use Rattle.pam_conf.specs.declared.rule.Kind.{Kind}
 
--- what a line gives, by its number and its bytes
+-- the rule of a line, by its number and its bytes
 pub rule_at_line : (form : Form) (l : ℕ) (ms : List Mark) → HeadIs l ms → rule_at form (first_marks ms) ≡ at_line l (line_rule_of form l (first_line ms))
 unfolding HeadIs line_rule_of words_in rule_of
 rule_at_line form l [] h = refl
@@ -35,7 +35,7 @@ pub some_words : (form : Form) (l : ℕ) (bytes : List ℕ) (words : List (List 
 unfolding line_rule_of
 some_words form l bytes words h = ap (λ r. r >>= rule_of form l) h
 
--- a fault of a line that is the definition's stays so with its number
+-- a fault of the definition of a line remains one with its number
 numbered : {A : Type 0} (line : ℕ) (kind : FaultKind) (meant : Result A FaultKind) → FailsKind kind meant →
     FailsAs (fault_at line kind) (fault_at line kind).kind (at_line line meant)
 numbered line faults.Memory meant h = refl
@@ -54,7 +54,7 @@ empty_line : (form : Form) → rule_at form [] ≡ Ok None
 unfolding line_rule_of words_in rule_of
 empty_line form = refl
 
--- the rules of a text are those of its first line, and those behind it
+-- the rules of a text are those of its first line, and those of the lines after it
 pub rules_step : (form : Form) (ms : List Mark) → rules_in form (lines_of ms)
     ≡ onto_rules (rule_at form (first_marks ms)) (rules_in form (lines_of (behind_line ms)))
 unfolding rules_in
@@ -65,7 +65,7 @@ rules_step form ms =
     ∙ ap (λ ts. onto_rules front (rules_in form (lines_of ts))) (sym p.1))
     (split_first ms)
 
--- rules that were read before stand in front
+-- rules that were read before come first
 unfoldable pub with_rules : List RuleText → Result (List RuleText) RuleFault → Result (List RuleText) RuleFault
 with_rules front (Ok rules) = Ok (front ++ rules)
 with_rules front (Err f) = Err f
@@ -91,7 +91,7 @@ sifted_wanted (Some kind) (Ok rules) = refl
 sifted_wanted (Some kind) (Err f) = refl
 
 module _ (wanted : Option Kind) (form : Form) (front : List RuleText) where
-  -- the wanted rules of a text, behind those that were read before
+  -- the wanted rules of a text, after those that were read before
   abbrev pub read_on : Result (List RuleText) RuleFault → Result (List RuleText) RuleFault
   read_on r = with_rules front (sifted wanted r)
 
@@ -99,7 +99,7 @@ module _ (wanted : Option Kind) (form : Form) (front : List RuleText) where
   unfolding with_rules rules_in line_rule_of words_in rule_of
   all_read ms e = ap (λ (ts : List Mark). read_on (rules_in form (lines_of ts))) e ∙ ap Ok (append-nil front)
 
-  -- what a text gives, where its first line is read
+  -- the rules of a text whose first line is read
   first_read : (ms : List Mark) (r : Result (Option RuleText) RuleFault) → rule_at form (first_marks ms) ≡ r →
       read_on (rules_in form (lines_of ms)) ≡ read_on (onto_rules r (rules_in form (lines_of (behind_line ms))))
   first_read ms r h = ap read_on (rules_step form ms ∙ ap (λ s. onto_rules s (rules_in form (lines_of (behind_line ms)))) h)
@@ -133,7 +133,7 @@ module _ (wanted : Option Kind) (form : Form) (front : List RuleText) where
       ap (λ (us : List Mark). with_rules (front ++ filter (wants wanted) (x ∷ [])) (sifted wanted (rules_in form (lines_of us)))) e ∙ one_more x _
       ∙ sym (first_read ms (Ok (Some x)) h)
 
--- what fails a line fails the file
+-- a fault of a line is a fault of the file
 pub fails_on : (fault : RuleFault) (kind : FaultKind) (r : Result (Option RuleText) RuleFault) (s : Result (List RuleText) RuleFault) →
     (r ≡ Err fault → s ≡ Err fault) → FailsAs fault kind r → FailsAs fault kind s
 fails_on fault faults.Memory r s f h = h

@@ -47,7 +47,7 @@ module _ (folder : Folder) (kind : Kind) (start : StartText) where
         unless-weaker e e.kind (λ h. let no : refusal 0 0 w.events ≡ Some e = ap (refusal 0 0) (sym (append-nil w.events)) ∙ h [] in rw no refl)
         (subst (λ (t : List ℕ). Refuses 0 0 (begun t) e) is r)
 
-    -- what makes the items a stack
+    -- the items are a stack
     pub stack-counted : (m f : ℕ) (i0 i : Items) → i0 ≡ End → Passes 0 0 i0 (begun trail) m f i → m ≡ module_count i
     stack-counted m f i0 i none p =
         let same : i ≡ numbered 1 (begun trail).items = p.added ∙ ap (λ j. joined j (numbered 1 (begun trail).items)) none in
@@ -93,7 +93,7 @@ keeps-own folder kind own first other xs items is stack same some =
     ∙ not_empty folder kind other xs some
     ∙ ap Ok same
 
--- a fault of the file where the rules stand
+-- a fault of the file of the rules
 read_fault : (folder : Folder) (kind : Kind) (service : Option (List ℕ)) (file : ℕ) (r : Result (List RuleText) RuleFault) (e : ConfError) →
     in_file file r ≡ Err e → (refusal 0 0 (read_walk folder kind service (deeper folder kind service (MAX_OPEN_FILES - 1)) (file ∷ []) file r).events) ≡ Some e
 unfolding refusal
@@ -135,7 +135,7 @@ faulty folder kind service other file e (Ok rules) h s = absurd (cc)
 faulty folder kind service None file e (Err fault) h s = s
 faulty folder kind service (Some other) file e (Err fault) h s = ap (unless_empty folder kind (Some other)) s
 
--- a fault of any line is the answer
+-- a fault of any line of pam.conf is the result
 pub one-file_fault : (folder : Folder) (kind : Kind) (service : List ℕ) (other : Option StartText) (file : ℕ) (e : ConfError) →
     position_of (codes "pam.conf") folder.entries ≡ Some file → UnlessMemory e e.kind (in_file file (rules_at folder file) ≡ Err e) →
     UnlessMemory e e.kind (from_starts folder kind (start_in Single folder service) other ≡ Err e)
@@ -152,7 +152,7 @@ pub one-file_kept : (folder : Folder) (kind : Kind) (file : ℕ) (rules kept : L
     kept ≡ filter (is_of_kind kind) rules → of_kind kind (rules_at folder file) ≡ Ok kept
 one-file_kept folder kind file rules kept read same = ap (of_kind kind) (read-rules folder file (rules_at folder file) rules read) ∙ ap Ok (sym same)
 
--- where the rules of a service stand in pam.conf
+-- the start of a service's rules in pam.conf
 pub one-file_start : (folder : Folder) (service : List ℕ) (file : ℕ) (rules : List RuleText) → position_of (codes "pam.conf") folder.entries ≡ Some file →
     in_file file (rules_at folder file) ≡ Ok rules → start_in Single folder service ≡ carried (list_any (carries service) rules) file service
 one-file_start folder service file rules at read =

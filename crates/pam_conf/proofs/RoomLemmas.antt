@@ -16,7 +16,7 @@ use Rattle.pam_conf.specs.declared.trail.TheConstants.{MAX_OPEN_FILES}
 use Rattle.pam_conf.proofs.WalkLemmas.{walk-file}
 
 module _ (folder : Folder) (kind : Kind) (service : Option (List ℕ)) where
-  -- two ways to walk the targets, which are the same with one more file open
+  -- two ways to walk the targets that are the same with one more file open
   module _ (trail : List ℕ) (v w : List ℕ → ℕ → Walk) (same : (p : ℕ) → v (trail ++ p ∷ []) p ≡ w (trail ++ p ∷ []) p) (file : ℕ) where
     target-same : (o : Option ℕ) → target_walk (Some v) trail o ≡ target_walk (Some w) trail o
     target-same None = refl
@@ -46,11 +46,11 @@ module _ (folder : Folder) (kind : Kind) (service : Option (List ℕ)) where
     pub file-same : file_walk folder kind service (Some v) trail file ≡ file_walk folder kind service (Some w) trail file
     file-same = read-same (rules_at folder file)
 
-  -- the walk of an open file, where this is how its targets are walked
+  -- the walk of an open file with this walk of its targets
   abbrev walked : List ℕ → ℕ → Deeper → Walk
   walked trail file targets = file_walk folder kind service targets trail file
 
-  -- the targets, as the room tells how they are walked, where it is what the trail leaves
+  -- the walk of the targets, with the room that the trail leaves
   abbrev left : List ℕ → Deeper
   left trail = deeper folder kind service (MAX_OPEN_FILES - length trail)
 

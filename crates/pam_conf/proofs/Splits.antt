@@ -66,7 +66,7 @@ is_words (plain b bs rest ws n h ends s) =
 
 -- FROM THE WORDS TO THE SPLIT
 
--- what the words of the rest of a line say of it
+-- the meaning of the words of the rest of a line
 abbrev Means : Place → List ℕ → List (List ℕ) → Type 0
 Means Between line ws = IsSplit line ws
 Means Plain line [] = ⊥

@@ -30,7 +30,7 @@ table_unread folder kind table full none = record {
   kept = λ file. subst (IsKept folder kind file) (sym (none file)) tt;
 }
 
--- a table stays one where an entry is written that is the file's
+-- storing the rules of a file keeps the table valid
 pub table-set : (folder : Folder) (kind : Kind) (table : Table) (file : ℕ) (rules : Option (Vec Rule Global)) → file < length table →
     IsTable folder kind table → IsKept folder kind file rules → IsTable folder kind (set table file rules)
 table-set folder kind table file rules within is kept = record {

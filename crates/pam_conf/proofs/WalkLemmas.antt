@@ -48,7 +48,7 @@ numbered-joined n (ThenSub s inner rest) back =
     ap (ThenSub s (numbered n inner)) (numbered-joined (n + module_count inner) rest back
     ∙ ap (λ k. joined (numbered (n + module_count inner) rest) (numbered k back)) e)
 
--- ONE WALK AND THEN ANOTHER
+-- ONE WALK FOLLOWED BY ANOTHER
 
 pub passes-nothing : (m f : ℕ) (items : Items) → Passes m f items nothing m f items
 passes-nothing m f items = record {
@@ -78,7 +78,7 @@ pub refuses-then : (m f m1 f1 : ℕ) (i i1 : Items) (v w : Walk) (e : ConfError)
 refuses-then m f m1 f1 i i1 v w e p =
     unless-weaker e e.kind (λ h rest. ap (refusal m f) (append_assoc v.events w.events rest) ∙ p.refused (w.events ++ rest) ∙ h rest)
 
--- ALONG THE RULES: what was walked from the beginning on, and the walk that is left
+-- ALONG THE RULES: the walk from the beginning on, and the walk that is left
 
 pub record Leads (m0 f0 : ℕ) (i0 : Items) (w0 : Walk) (m f : ℕ) (i : Items) (w : Walk) : Type 0 where
   pub passes : (m' f' : ℕ) (i' : Items) → Passes m f i w m' f' i' → Passes m0 f0 i0 w0 m' f' i'
@@ -179,7 +179,7 @@ module _ (folder : Folder) (kind : Kind) (service : Option (List ℕ)) where
   walk-file zero trail file = refl
   walk-file (suc room) trail file = refl
 
-  -- rules of other kinds give nothing
+  -- rules of other kinds do not change the walk
   rules_walk-of_kind : (d : Deeper) (trail : List ℕ) (file : ℕ) (rules : List RuleText) →
       rules_walk folder kind service d trail file (filter (is_of_kind kind) rules) ≡ rules_walk folder kind service d trail file rules
   rules_walk-of_kind d trail file [] = refl
@@ -201,7 +201,7 @@ module _ (folder : Folder) (kind : Kind) (service : Option (List ℕ)) where
       walk folder kind service room trail file ≡ rules_walk folder kind service (deeper folder kind service room) trail file rules
   walk-kept room trail file rules e = walk-file room trail file ∙ read_walk-kept (deeper folder kind service room) trail file (rules_at folder file) rules e
 
-  -- rules as they lie in memory
+  -- rules, as the code stores them
   pub file-walked : (m f m' f' : ℕ) (i i' : Items) (trail : List ℕ) (file : ℕ) (rules slice : List Rule) →
       in_file file (of_kind kind (rules_at folder file)) ≡ Ok (map rule_view rules) → slice ≡ rules →
       Passes m f i (rules_walk folder kind service (deeper folder kind service (MAX_OPEN_FILES - length trail)) trail file (map rule_view slice)) m' f' i' →
@@ -226,14 +226,14 @@ module _ (folder : Folder) (kind : Kind) (service : Option (List ℕ)) where
   read_refused m f d trail file (Ok all) e h rest = absurd (cc)
   read_refused m f d trail file (Err fault) e h rest = let same : fault_at file fault.line fault.kind ≡ e = cc in ap Some same
 
-  -- a file that has a fault is refused
+  -- a file with a fault is refused
   pub file-refused : (m f room : ℕ) (trail : List ℕ) (file : ℕ) (e : ConfError) →
       UnlessMemory e e.kind (in_file file (of_kind kind (rules_at folder file)) ≡ Err e) → Refuses m f (walk folder kind service room trail file) e
   file-refused m f room trail file e =
       unless-weaker e e.kind (λ h rest. ap (λ (w : Walk). refusal m f (w.events ++ rest)) (walk-file room trail file)
       ∙ read_refused m f (deeper folder kind service room) trail file (rules_at folder file) e h rest)
 
--- the walk of rules as they lie in memory, in an open file
+-- the walk of rules, as the code stores them, in an open file
 abbrev pub walk_of : Folder → Kind → Option (List ℕ) → List ℕ → ℕ → List Rule → Walk
 walk_of folder kind service trail file rules =
     rules_walk folder kind service (deeper folder kind service (MAX_OPEN_FILES - length trail)) trail file (map rule_view rules)
@@ -317,7 +317,7 @@ module _ (folder : Folder) (kind : Kind) (service : Option (List ℕ)) (d : Deep
         Refuses m f (include_walk file r.line (target_walk d trail (position_of target folder.entries))) e → Refuses m f rule_walked e
     rule-sub_refused m f target e body h = rw (own, body) (sub-refused m f file r.line (target_walk d trail (position_of target folder.entries)) e h)
 
--- the rules that are left: the next one, and those behind it
+-- the rules that are left: the next one, and those after it
 pub walk-more : (folder : Folder) (kind : Kind) (service : Option (List ℕ)) (trail : List ℕ) (file : ℕ) (rules : List Rule) (k : ℕ) (r : Rule) →
     k < length rules → r ≡ get_or rules k r →
     walk_of folder kind service trail file (drop k rules) ≡ rule_walk folder kind service (deeper folder kind service (MAX_OPEN_FILES - length trail)) trail
@@ -329,11 +329,11 @@ walk-more folder kind service trail file rules k r within is =
 position_found : (n len p : ℕ) → cond (ltb n len) (Some n) None ≡ Some p → p < len
 position_found n len p h = let parts = cond_some (ltb n len) n p h in let q : n < len = ltb-true n len parts.0 in omega (arith, parts.1)
 
--- a position that is found is one of the files
+-- a position that is found is that of a file
 pub position-within : (name : List ℕ) (folder : Folder) (p : ℕ) → position_of name folder.entries ≡ Some p → p < length folder.entries
 position-within name folder p h = position_found (position_or_len (λ f. bytes_eq name f.0) folder.entries) (length folder.entries) p h
 
--- what was read without a fault are the rules of the kind
+-- rules read without a fault are those of the kind
 pub kept-read : (kind : Kind) (file : ℕ) (r : Result (List RuleText) RuleFault) (rules : List RuleText) → in_file file (of_kind kind r) ≡ Ok rules →
     of_kind kind r ≡ Ok rules
 kept-read kind file (Ok all) rules e = let same : filter (is_of_kind kind) all ≡ rules = cc in ap Ok same

@@ -17,7 +17,7 @@ option_map_twice : {A B C : Type 0} (f : B → C) (g : A → B) (o : Option A) �
 option_map_twice f g None = refl
 option_map_twice f g (Some x) = refl
 
--- two readings that differ by what stands in front
+-- two readings that differ by a prefix
 chained : {A B C : Type 0} (k : A → C) (f : B → C) (g : A → B) → ((x : A) → k x ≡ f (g x)) → (o : Option A) → option_map k o ≡ option_map f (option_map g o)
 chained k f g h o = option_map_same k (λ x. f (g x)) h o ∙ sym (option_map_twice f g o)
 
@@ -93,7 +93,7 @@ bracket_more d w v b e rest h k =
     rw (bracket b e false rest (stays b e h), k) (chained (λ ws. d ++ glued (w ++ b ∷ []) ws) (λ ws. d ++ glued w ws) (onto_first b)
     (λ ws. ap (λ xs. d ++ xs) (glued-onto w b ws)) (words_in (Bracket (eqb b 92)) rest))
 
--- what follows from two facts that a success shows
+-- a consequence of two facts that hold on success
 pub on_ok_both : {X E : Type 0} (r : Result X E) (A B C : Type 0) → OnOk r A → OnOk r B → (A → B → C) → OnOk r C
 on_ok_both (Ok x) A B C a b f = f a b
 on_ok_both (Err e) A B C a b f = tt
@@ -117,14 +117,14 @@ nothing_done (Some ws) = refl
 
 -- THE TEXT BETWEEN BRACKETS
 
--- where `\]` stands
+-- at `\]`
 pub unescaped_pair : (xs : List ℕ) → 2 ≤ length xs → get_or xs 0 0 ≡ 92 → get_or xs 1 0 ≡ 93 → unescaped xs ≡ get_or xs 1 0 ∷ unescaped (drop 2 xs)
 unfolding unescaped
 unescaped_pair [] h f g = absurd (omega arith)
 unescaped_pair (a ∷ []) h f g = absurd (omega arith)
 unescaped_pair (a ∷ b ∷ xs) h f g = rw (f, g) refl
 
--- where another byte stands
+-- at another byte
 pub unescaped_one : (xs : List ℕ) → 0 < length xs → (2 ≤ length xs → get_or xs 0 0 ≡ 92 → get_or xs 1 0 ≡ 93 → ⊥) →
     unescaped xs ≡ get_or xs 0 0 ∷ unescaped (drop 1 xs)
 unfolding unescaped
@@ -139,7 +139,7 @@ unescaped_one (a ∷ b ∷ xs) h n =
       | false ↦ λ e. refl
     ] refl
 
--- where nothing is left
+-- at the end
 pub unescaped_done : (w s : List ℕ) (k r : ℕ) → length w ≤ r → take k w ++ unescaped (drop r w) ≡ s → take k w ≡ s
 unfolding unescaped
 unescaped_done w s k r h e = sym (append-nil (take k w)) ∙ ap (λ t. take k w ++ unescaped t) (sym (drop_all r w h)) ∙ e

@@ -1,5 +1,5 @@
--- What a run asks, one step at a time. A loop that begins at `Program::first`, steps by the answer of
--- each module that `Place::module` names, and stops at none, visits what `asked_by` says, in turn.
+-- The modules that a run asks, one step at a time. A loop that begins at `Program::first`, steps by the answer of each
+-- module that `Place::module` names, and stops at `None` visits those of `asked_by` in order.
 use Rattle.std.proofs.Common.{◌≡◌, ℕ, ◌<◌, ◌≤◌, List, [], ◌∷◌, Option, Some, None, length, arith, refl, sym, ◌∙◌, ap, subst}
 use Rattle.std.specs.Prelude.{IfSome, IsSome}
 use Rattle.pam_dispatch.specs.Runs.{Ask, Assignment, AsksRise, Runs, ends, asks, after_answer, asked_by, asked_module, final_state, next_ask, outcome_in, outcome_of, state_in}
@@ -29,7 +29,7 @@ module _ (answers : Assignment) where
   asked_by-step (asks ask next) number h =
       ap (λ (n : ℕ). ask ∷ asked_by (next (outcome_of ask (answers n))) answers) (ap number_in h)
 
-  -- and the run after its answer ends where the run does
+  -- and the run after its answer ends like the whole run
   pub final_state-step : (runs : Runs) (number : ℕ) → asked_module runs ≡ Some number →
       final_state (after_answer runs (answers number)) answers ≡ final_state runs answers
   unfolding final_state
@@ -37,7 +37,7 @@ module _ (answers : Assignment) where
   final_state-step (asks ask next) number h =
       sym (ap (λ (n : ℕ). final_state (next (outcome_of ask (answers n))) answers) (ap number_in h))
 
-  -- a run that comes after a module's answer ends where the run did, and asks less
+  -- the run after a module's answer ends like the whole run, and asks less
   module _ (runs next : Runs) (number code : ℕ) (asked : asked_module runs ≡ Some number) (is : answers number ≡ code)
       (follows : next ≡ after_answer runs code) where
     follows_answer : next ≡ after_answer runs (answers number)
@@ -74,7 +74,7 @@ AsksRise-step low high (asks ask next) number rise h =
     subst (λ n. (low < n) × (n ≤ high) × ((code : ℕ) → AsksRise n high (next (outcome_of ask code)))) (ap number_in h)
     (rise.0, rise.1, λ code. rise.2 (outcome_of ask code))
 
--- the same, where the module that is asked answers a code
+-- the same, if the module that is asked answers a code
 module _ (answers : Assignment) (code : ℕ) where
   pub final_state-answer : (runs : Runs) → IfSome (asked_module runs) (λ number. answers number ≡ code) →
       final_state (after_answer runs code) answers ≡ final_state runs answers

@@ -1,4 +1,4 @@
--- Where a program finds the control of a module.
+-- How a program finds the control of a module.
 use Rattle.std.proofs.Common.{◌≡◌, ℕ, ◌+◌, ◌-◌, ◌<◌, ◌≤◌, List, [], ◌∷◌, zero, suc, refl, sym, ◌∙◌, ap, subst, arith, length, get_or, Some}
 use Rattle.std.specs.Prelude.{is_some}
 use Rattle.std.specs.List.{AllZip}
@@ -31,7 +31,7 @@ pub length-positions : (entries program : List Entry) (positions : List ℕ) {pa
 length-positions entries program positions p is =
     ap (λ (x : List ℕ). length x) p.found ∙ length-positions_from 0 entries ∙ ap (λ (ts : List Entry). modules_of ts) is
 
--- a module that stands in a program has the control of its number
+-- a module of a program has the control of its number
 pub control_at-module : (program : List Entry) (position : ℕ) (past : Entry) (level number : ℕ) (control : List Action) (behind : ℕ) →
     IsNumbered 0 program → position < length program → get_or program position past ≡ Module level number control behind →
     control_at program number ≡ control
@@ -40,7 +40,7 @@ control_at-module program position past level number control behind n within is 
     let same : number - 1 ≡ found.0 = omega (arith, found.1) in
     ap (λ (x : ℕ). get_or (controls_in program) x []) same ∙ found.2
 
--- a place that asks a module stands at that module, and no other
+-- a place that asks a module is at that module, and no other
 at_entry : (program : List Entry) (place : Place) (number : ℕ) → IsNumbered 0 program → IsPlaceOf program place →
     asked_module (rest_of program place) ≡ Some number → place.position < length program →
     (e : Entry) → get_or program place.position (Substack 0) ≡ e → (next_ask (rest_of program place)).control ≡ control_at program number

@@ -18,7 +18,7 @@ count-items_of [] = refl
 count-items_of (ModuleItem m ∷ xs) = ap suc (count-items_of xs)
 count-items_of (SubItem s ∷ xs) = ap suc (count-items_of xs)
 
--- a module behind the entries of what stands before it
+-- a module comes after the entries of the items before it
 pub flat_list-module : (level i behind : ℕ) (xs : List Item) (entries : List Entry) (d : Item) (m : Module) → i < length xs → get_or xs i d ≡ ModuleItem m →
     behind + (i + 1) ≡ length xs →
     (entries ++ ModuleEntry level m.number m.control behind ∷ []) ++ flat_list level (items_of (drop (i + 1) xs)) ≡ entries ++ flat_list level (items_of (drop i xs))
@@ -31,7 +31,7 @@ flat_list-module level i behind xs entries d m h e b =
     ∙ ap (λ (k : ℕ). entries ++ ModuleEntry level m.number m.control k ∷ flat_list level (items_of (drop (suc i) xs))) (sym (count-items_of (drop (suc i) xs) ∙ left))
     ∙ ap (λ (x : Items). entries ++ flat_list level x) (sym (items_of-drop_module xs i d m h e))
 
--- a substack and its entries behind those of what stands before it
+-- a substack and its entries come after the entries of the items before it
 pub flat_list-sub : (level i : ℕ) (xs : List Item) (entries : List Entry) (d : Item) (s : SubList) → i < length xs → get_or xs i d ≡ SubItem s →
     ((entries ++ Substack level ∷ []) ++ flat_list (level + 1) s.inner) ++ flat_list level (items_of (drop (i + 1) xs)) ≡ entries ++ flat_list level (items_of (drop i xs))
 unfolding flat_list
@@ -43,7 +43,7 @@ flat_list-sub level i xs entries d s h e =
     ∙ ap (λ (k : ℕ). entries ++ Substack level ∷ (flat_list (level + 1) s.inner ++ flat_list level (items_of (drop k xs)))) next
     ∙ ap (λ (x : Items). entries ++ flat_list level x) (sym (items_of-drop_sub xs i d s h e))
 
--- nothing is left behind the last item
+-- nothing is left after the last item
 pub flat_list-end : (level i : ℕ) (xs : List Item) (entries : List Entry) → length xs ≤ i → entries ++ flat_list level (items_of (drop i xs)) ≡ entries
 unfolding flat_list
 flat_list-end level i xs entries h =
@@ -55,7 +55,7 @@ depth-drop_suc (ModuleItem m ∷ xs) zero = omega arith
 depth-drop_suc (SubItem s ∷ xs) zero = omega arith
 depth-drop_suc (x ∷ xs) (suc i) = depth-drop_suc xs i
 
--- behind an item no more lists are open
+-- after an item no more lists are open
 pub shallow-behind : (level i : ℕ) (xs : List Item) → level + depth (items_of (drop i xs)) ≤ 16 → level + depth (items_of (drop (i + 1) xs)) ≤ 16
 shallow-behind level i xs h =
     let next : i + 1 ≡ suc i = omega arith in

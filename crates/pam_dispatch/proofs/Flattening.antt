@@ -24,7 +24,7 @@ HeadBelow-flat_list level high End (t ∷ ts) l h = omega (arith, h)
 HeadBelow-flat_list level high (ThenModule m rest) ts l h = l
 HeadBelow-flat_list level high (ThenSub sub inner rest) ts l h = l
 
--- the run of a flat list does not depend on what is to be passed over at a deeper level, nor on deeper entry states
+-- the run of a flat list depends neither on the number to skip at a deeper level, nor on deeper entry states
 same_above : (ts : List Entry) (level l1 k1 l2 k2 : ℕ) (es fs : List State) (s : State) → HeadBelow level ts → level ≤ suc l1 → level ≤ suc l2 →
     ((here : ℕ) → here < level → here ≡ l1 → 0 < k1 → ⊥) → ((here : ℕ) → here < level → here ≡ l2 → 0 < k2 → ⊥) →
     ((here : ℕ) → here < level → take (here + 1) es ≡ take (here + 1) fs) →
@@ -44,7 +44,7 @@ same_above (Substack here ∷ ts) level l1 k1 l2 k2 es fs s h a b p q t g =
     ∙ ap (λ (x : List State). resume ts (here + 1) 0 (x ++ s ∷ []) s) (t here h)
     ∙ sym (resume-sub here ts l2 k2 fs s (omega arith) (q here h))
 
--- deeper items are passed over
+-- deeper items are skipped
 pass_deeper : (deep : ℕ) (items : Items) (ts : List Entry) (level skip : ℕ) (es : List State) (s : State) → level < deep →
     resume (flat_list deep items ++ ts) level skip es s ≡ resume ts level skip es s
 unfolding flat_list

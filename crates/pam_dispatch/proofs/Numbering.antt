@@ -8,13 +8,13 @@ use Rattle.pam_dispatch.specs.declared.entry.Entry.TheVariants.{Module, Substack
 use Rattle.pam_dispatch.specs.Runs.{Runs, ends, asks, AsksRise}
 use Rattle.pam_dispatch.specs.Flat.{resume, runs_of, controls_in, modules_of, positions_from, IsNumbered}
 
--- what rises above a number rises above each lower one
+-- numbers that rise above a number rise above each lower one
 pub AsksRise-lower : (low above high : ℕ) (r : Runs) → low ≤ above → AsksRise above high r → AsksRise low high r
 unfolding AsksRise
 AsksRise-lower low above high (ends s) le h = tt
 AsksRise-lower low above high (asks ask next) le h = (omega (arith, h.0), h.1, h.2)
 
--- a run of numbered modules asks them in turn
+-- a run of numbered modules asks them in order
 AsksRise-resume : (ts : List Entry) (before high level skip : ℕ) (es : List State) (s : State) →
     IsNumbered before ts → before + modules_of ts ≤ high → AsksRise before high (resume ts level skip es s)
 unfolding IsNumbered resume AsksRise controls_in
@@ -63,12 +63,12 @@ pub record ModuleAt (ts : List Entry) (position number : ℕ) (control : List Ac
   pub within : position < length ts
   pub is : (past : Entry) → get_or ts position past ≡ Module level number control behind
 
--- behind one more entry
+-- after one more entry
 ModuleAt-behind : (e : Entry) (ts : List Entry) (position number : ℕ) (control : List Action) →
     ModuleAt ts position number control → ModuleAt (e ∷ ts) (suc position) number control
 ModuleAt-behind e ts position number control m = record { level = m.level; behind = m.behind; within = omega (arith, m.within); is = m.is }
 
--- the module of an index stands where the list of positions says
+-- the module of an index is at its position in the list of positions
 pub at_positions_from : (ts : List Entry) (before numbered index : ℕ) → IsNumbered numbered ts → index < modules_of ts →
     (position : ℕ) × (get_or (positions_from before ts) index 0 ≡ before + position)
     × ModuleAt ts position (numbered + index + 1) (get_or (controls_in ts) index [])
@@ -87,7 +87,7 @@ at_positions_from (Substack level ∷ rest) before numbered index n h =
     let deeper = at_positions_from rest (before + 1) numbered index n h in
     (suc deeper.0, deeper.1 ∙ omega arith, ModuleAt-behind (Substack level) rest deeper.0 _ _ deeper.2)
 
--- a module that stands in the list has the control of its number
+-- a module of the list has the control of its number
 pub control_in-module : (ts : List Entry) (before position : ℕ) (past : Entry) (level number : ℕ) (control : List Action) (behind : ℕ) →
     IsNumbered before ts → position < length ts → get_or ts position past ≡ Module level number control behind →
     (index : ℕ) × (number ≡ before + index + 1) × (get_or (controls_in ts) index [] ≡ control)

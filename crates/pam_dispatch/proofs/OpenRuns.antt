@@ -1,4 +1,4 @@
--- Runs over trees: the rules that they follow, and their open form under an assignment.
+-- Runs over trees: their laws, and their open form under an assignment.
 use Rattle.std.proofs.Common.{◌≡◌, ℕ, ◌-◌, ◌≤◌, List, ◌∷◌, ◌++◌, zero, suc, refl, sym, ◌∙◌, ap, arith, leb, append_assoc, append-nil}
 use Rattle.pam_conf.specs.Stack.{Items, End, ThenModule, ThenSub}
 use Rattle.pam_dispatch.specs.declared.state.State.{State}
@@ -12,7 +12,7 @@ use Rattle.pam_dispatch.specs.State.{start_state, action_of, accepted, left_of, 
 use Rattle.pam_dispatch.specs.Runs.{Ask, Assignment, Runs, outcome_of, final_state, asked_by}
 use Rattle.pam_dispatch.specs.Tree.{count, items_behind, ask_of, run_behind, asked_behind, run, asked, runs_after, runs_of_stack, decided}
 
--- a run behind the first items is the run of what is behind them
+-- a run after the first items is the run of the items after them
 pub run_behind-items_behind : (skip : ℕ) (items : Items) (s entry : State) (answers : Assignment) →
     run_behind skip items s entry answers ≡ run (items_behind skip items) s entry answers
 unfolding run_behind items_behind
@@ -33,7 +33,7 @@ asked_behind-items_behind (suc skip) End s entry answers = refl
 asked_behind-items_behind (suc skip) (ThenModule m rest) s entry answers = asked_behind-items_behind skip rest s entry answers
 asked_behind-items_behind (suc skip) (ThenSub sub inner rest) s entry answers = asked_behind-items_behind skip rest s entry answers
 
--- so many items are behind the first ones
+-- the number of items after the first `skip`
 pub count-items_behind : (skip : ℕ) (items : Items) → count (items_behind skip items) ≡ count items - skip
 unfolding count items_behind
 count-items_behind zero items = omega arith
@@ -41,7 +41,7 @@ count-items_behind (suc skip) End = omega arith
 count-items_behind (suc skip) (ThenModule m rest) = omega (arith, count-items_behind skip rest)
 count-items_behind (suc skip) (ThenSub sub inner rest) = omega (arith, count-items_behind skip rest)
 
--- an open run, followed by an assignment, goes on as its tree's run does
+-- under an assignment, an open run continues like the run of its tree
 pub final_state-runs_after : (skip : ℕ) (items : Items) (s entry : State) (next : State → Runs) (answers : Assignment) →
     final_state (runs_after skip items s entry next) answers
     ≡ final_state (next (run_behind skip items s entry answers)) answers
@@ -54,7 +54,7 @@ final_state-runs_after zero (ThenSub sub inner rest) s entry next answers =
     final_state-runs_after zero inner s s (λ t. runs_after zero rest t entry next) answers
     ∙ final_state-runs_after zero rest (run_behind zero inner s s answers) entry next answers
 
--- and asks what its tree's run asks
+-- and asks what the run of its tree asks
 pub asked_by-runs_after : (skip : ℕ) (items : Items) (s entry : State) (next : State → Runs) (answers : Assignment) →
     asked_by (runs_after skip items s entry next) answers
     ≡ asked_behind skip items s entry answers ++ asked_by (next (run_behind skip items s entry answers)) answers

@@ -1,4 +1,4 @@
--- What a place tells of the run from it on.
+-- Places, and the runs from them on.
 use Rattle.std.proofs.Common.{◌≡◌, ℕ, ◌+◌, ◌-◌, ◌<◌, ◌&&◌, List, [], ◌∷◌, ◌++◌, eqb, ltb, refl, sym, ◌∙◌, ap, subst, inl, inr, arith, take, drop, length, get_or, Option}
 use Rattle.std.specs.Prelude.{IsSome}
 use Rattle.std.proofs.lemmas.Bool.{cases_lt, cond_both, false≢true}
@@ -40,7 +40,7 @@ asked-resume (Module here m control behind ∷ rest) depth n es s h =
 asked-resume (Substack here ∷ rest) depth n es s h = absurd h
 
 module _ (program : List Entry) (place : Place) (valid : IsPlaceOf program place) where
-  -- a place tells what is asked and the state
+  -- a place has the module asked and the state
   pub place_module : place.module_number ≡ asked_module (rest_of program place)
   unfolding IsPlaceOf rest_of
   place_module = asked-resume (drop place.position program) place.depth place.module_number (take place.depth place.entered.states) place.state valid

@@ -1,4 +1,4 @@
--- What a run over a flat list makes of each entry.
+-- The effect of each entry on a run over a flat list.
 use Rattle.std.proofs.Common.{◌≡◌, ℕ, ◌+◌, ◌-◌, ◌<◌, ◌≤◌, false, ◌&&◌, List, [], ◌∷◌, ◌++◌, eqb, ltb, zero, suc, refl, sym, ◌∙◌, ap, arith, take, drop, length, get_or, drop-cons, add-one, add-suc, slice_set, Some}
 use Rattle.std.proofs.lemmas.List.{get_or-take}
 use Rattle.std.proofs.Math.Seq.{take-suc-set}
@@ -17,14 +17,14 @@ take-take (suc m) zero xs h = absurd (omega arith)
 take-take (suc m) (suc d) [] h = refl
 take-take (suc m) (suc d) (x ∷ xs) h = ap (λ zs. x ∷ zs) (take-take m d xs (omega arith))
 
--- a deeper entry is passed over
+-- a deeper entry is skipped
 pub resume-deeper : (e : Entry) (rest : List Entry) (level skip : ℕ) (es : List State) (s : State) → level < level_of e →
     resume (e ∷ rest) level skip es s ≡ resume rest level skip es s
 unfolding resume
 resume-deeper (Module here m control behind) rest level skip es s h = cond-true (ltb level here) _ _ (lt-ltb _ _ h)
 resume-deeper (Substack here) rest level skip es s h = cond-true (ltb level here) _ _ (lt-ltb _ _ h)
 
--- an item of the level is passed over while some are to be
+-- an item of the level is skipped while some are left to skip
 pub resume-item : (e : Entry) (rest : List Entry) (level skip : ℕ) (es : List State) (s : State) → level_of e ≡ level → 0 < skip →
     resume (e ∷ rest) level skip es s ≡ resume rest level (skip - 1) es s
 unfolding resume
@@ -66,7 +66,7 @@ resume-module here m control behind rest level skip es s l h =
     cond-false (ltb level here) _ _ (le-ltb _ _ l)
     ∙ cond-false (eqb here level && ltb 0 skip) _ _ (stays here level skip h)
 
--- entry states deeper than the module's level are not looked at
+-- entry states deeper than the module's level are not used
 pub ask_at-take : (here m : ℕ) (control : List Action) (behind : ℕ) (rest : List Entry) (d : ℕ) (es : List State) (s : State) → here < d →
     ask_at here m control behind rest (take d es) s ≡ ask_at here m control behind rest es s
 unfolding ask_at

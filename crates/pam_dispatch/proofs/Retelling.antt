@@ -1,4 +1,4 @@
--- The outcomes of codes that have one action, and of codes that an action looks at.
+-- The outcomes of codes with one action, and of codes whose action looks at them.
 use Rattle.std.proofs.Common.{◌≡◌, ℕ, ◌==◌, ◌&&◌, ◌⊎◌, Bool, true, false, cond, IsTrue, refl, sym, ◌∙◌, ap, inl, inr}
 use Rattle.std.proofs.lemmas.Bool.{eqb-true, false≢true}
 use Rattle.pam_codes.specs.declared.action.Action.{Action}
@@ -14,7 +14,7 @@ use Rattle.pam_dispatch.specs.State.{act, action_of, ignored, left_of, left_unle
 abbrev outcome : State → ℕ → Outcome
 outcome s l = record { state = s; left = l }
 
--- the state after a code is let count, where b tells whether it becomes the status
+-- the state after a code counts, where `b` tells whether it becomes the status
 abbrev counted : Bool → ℕ → ℕ → State
 counted b st c = cond b (state_with Positive c) (state_with Positive st)
 
@@ -66,7 +66,7 @@ outcome-shared ask one other same blind =
     ∙ ap (λ (b : Bool). cond b told known)
     (sym (ap (λ (a : Action). looks_at_code a ask.state) same) ∙ blind))
 
--- WHAT AN ACTION MAKES OF A CODE AT WHICH IT LOOKS
+-- THE OUTCOME OF AN ACTION THAT LOOKS AT THE CODE
 
 abbrev told_impression : Action → Impression
 told_impression a = cond (fails a) Negative Positive
@@ -93,7 +93,7 @@ told Die Undef st e n c h = refl
 told Die Positive st e n c h = refl
 told Die Negative st e n c h = absurd (false≢true h)
 
--- two codes that give one status
+-- the two codes with one status
 abbrev Denied : ℕ → Type 0
 Denied c = (c ≡ perm_denied) ⊎ (c ≡ ignored)
 

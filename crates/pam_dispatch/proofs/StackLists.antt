@@ -89,7 +89,7 @@ either_has : (a b : Option ModuleText) (P : ModuleText → Type 0) → IfSome a 
 either_has None b P x y = y refl
 either_has (Some m) b P x y = x
 
--- what holds of the one that is there
+-- a fact about the module, if there is one
 if_both : (o : Option ModuleText) (P Q : ModuleText → Type 0) → (IsSome o → (m : ModuleText) → P m → Q m) → IfSome o P → IfSome o Q
 if_both None P Q h x = tt
 if_both (Some m) P Q h x = h refl m x
@@ -148,7 +148,7 @@ program-flat_list items positions parts few shallow numbered found divided =
       divided = divided;
     }
 
--- what was flattened behind an empty list
+-- the flat list, appended to an empty list
 pub whole_list : (items list : Items) (front entries : List Entry) → front ≡ [] → list ≡ items → entries ≡ front ++ flat_list 0 list → entries ≡ flat_list 0 items
 whole_list items list front entries f l e =
     e ∙ ap (λ (x : List Entry). x ++ flat_list 0 list) f ∙ ap (flat_list 0) l

@@ -94,7 +94,7 @@ step_told d allows ask next q m c class asking is at =
     ∙ ap (λ (x : List ℕ). map (after_step (record { module_number = m; class = x })) (ordered d (listing allows (next (outcome_of ask c))))) (sym is)
     ∙ ap (λ (x : Runs). map (after_step (record { module_number = m; class = class })) (ordered d (listing allows x))) (sym at)
 
--- the branches ahead of a bound, where the next one is known
+-- the branches ahead of a bound, if the next one is known
 pub branch-ahead : (d : Direction) (allows : Allowance) (r q : Runs) (m bound c : ℕ) (class : List ℕ) → asked_module r ≡ Some m →
     IsAhead d bound c → c < 31 → is_offered allows (next_ask r) c ≡ true →
     ((k : ℕ) → k < 31 → IsAhead d bound k → IsNearer d k c → is_offered allows (next_ask r) k ≡ false) →

@@ -1,4 +1,4 @@
--- What the text of a cursor says of its codes, and what its parts between dots say of it.
+-- The text of a cursor, its codes, and its parts between dots.
 use Rattle.std.proofs.Common.{◌≡◌, ◌≢◌, ℕ, ◌+◌, ◌%◌, ◌^◌, ◌<◌, ◌≤◌, Bool, false, eqb, codes, decimal, refl, sym, ap, ◌∙◌, arith, lit<}
 use Rattle.std.proofs.Common.{All, List, [], ◌∷◌, ◌++◌, append-nil, get_or, length, map}
 use Rattle.std.proofs.lemmas.Bool.{ne_eqb}
@@ -11,7 +11,7 @@ use Rattle.pam_conf.specs.declared.stack.TheConstants.{MAX_MODULES}
 use Rattle.pam_paths.specs.CursorText.{IsCursor, cursor_text}
 use Rattle.pam_paths.specs.Laws.{CursorTextIsOne}
 
--- where a text is cut
+-- the byte at which a text is split
 abbrev pub is_dot : ℕ → Bool
 is_dot b = eqb b 46
 
@@ -63,9 +63,9 @@ parts_are : (cursor text : List ℕ) → IsCursor cursor → text ≢ codes "-" 
 parts_are [] text valid other same = absurd (other (sym same))
 parts_are (code ∷ more) text valid other same = sym (parts_of_text code more valid.are_codes) ∙ ap (slice_split is_dot) same
 
--- WHAT IS NO CURSOR
+-- TEXTS THAT ARE NOT CURSORS
 
--- a text with a part that is no code's number
+-- a text with a part that is not the number of a code
 pub no_cursor-part : (text : List ℕ) (i : ℕ) (part : List ℕ) → text ≢ codes "-" → i < length (slice_split is_dot text)
     → part ≡ get_or (slice_split is_dot text) i part → ((code : ℕ) → code < 31 → decimal code ≢ part)
     → (cursor : List ℕ) → IsCursor cursor → cursor_text cursor ≢ text

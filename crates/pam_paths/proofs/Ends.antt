@@ -1,4 +1,4 @@
--- How a cursor is answered, and what comes after it and before it.
+-- How a cursor is accepted or refused, and the paths after and before it.
 use Rattle.std.proofs.Common.{◌≡◌, ◌≢◌, ℕ, ◌<◌, List, All, sym, ◌∙◌, subst, Option, Some, None}
 use Rattle.std.specs.Prelude.{IfSome}
 use Rattle.pam_dispatch.specs.Runs.{AsksRise, Runs}
@@ -42,7 +42,7 @@ module _ (allows : Allowance) (n : ℕ) (runs : Runs) (k : List ℕ) (paths : Li
       subst (IsListingBefore allows n (path_of runs) k) (sym (is ∙ part-before allows runs k e))
       (before-is allows n (path_of runs) k (listing allows runs) (listing-is allows n runs rise a.0 a.1))
 
--- THE SAME, OF THE CODES THAT A CURSOR GIVES
+-- THE SAME, OF THE CODES OF A CURSOR
 
 module _ (n : ℕ) (runs : Runs) (codes k : List ℕ) (same : codes ≡ k) (rise : AsksRise 0 n runs) where
   pub refused_at : (e : CursorError) → All (λ code. code < 31) codes → standing_told e ≡ Some (standing_of runs codes) → IsRefusal n (path_of runs) k e

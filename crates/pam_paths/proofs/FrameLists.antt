@@ -82,7 +82,7 @@ pub pushed : (allows : Allowance) (program : List Entry) (fs : List Frame) (f : 
     IsFrame allows program (length fs) f → AreFrames allows program 0 (fs ++ f ∷ [])
 pushed allows program fs f h k = AreFrames-push allows program 0 fs f h (subst (λ x. IsFrame allows program x f) (omega arith) k)
 
--- what is asked after a module has a greater number
+-- the modules asked after a module have greater numbers
 pub rise_after : (low n m c : ℕ) (r : Runs) → AsksRise low n r → asked_module r ≡ Some m →
     (low < m) × (m ≤ n) × AsksRise m n (after_answer r c)
 unfolding AsksRise
@@ -128,7 +128,7 @@ frame_same allows program low f g is place number offered code = record {
   code = code;
 }
 
--- WHAT IS AHEAD OF THEM
+-- THE PATHS AHEAD OF FRAMES
 
 -- at a module the listing is all its branches
 pub listing-ahead : (d : Direction) (allows : Allowance) (r : Runs) (m : ℕ) → asked_module r ≡ Some m →
@@ -138,7 +138,7 @@ listing-ahead d allows (ends s) m e = absurd (let k : ⊥ = cc in k)
 listing-ahead Forward allows (asks ask next) m e = refl
 listing-ahead Backward allows (asks ask next) m e = refl
 
--- a listing has a path, where the knowledge leaves each module a code
+-- a listing has a path, if the knowledge allows each module some code
 listing-some : (allows : Allowance) (low n : ℕ) (r : Runs) → AsksRise low n r → IsLawful allows n → listing allows r ≡ [] → ⊥
 unfolding Member
 listing-some allows low n r rise lawful e =

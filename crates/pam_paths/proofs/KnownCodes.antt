@@ -1,4 +1,4 @@
--- The codes that a set of known answers leaves.
+-- The codes that a set of known answers allows.
 use Rattle.std.proofs.Common.{◌≡◌, ◌≢◌, ℕ, ◌-◌, ◌≤◌, ◌==◌, ◌||◌, Bool, true, false, List, [], ◌∷◌, cond, length, not, zero, suc, refl, sym, ◌∙◌, ap, arith}
 use Rattle.std.proofs.Common.{inl, inr, get_or, slice_set, replicate}
 use Rattle.std.specs.Prelude.{filter}

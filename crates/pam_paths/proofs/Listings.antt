@@ -92,7 +92,7 @@ branches-back allows ask below (c ∷ cs) p h =
           record { code = b.code; among = inr b.among; offered = b.offered; rest = b.rest; inside = b.inside; is = b.is }
     ]
 
--- what is before each member is before all
+-- a key that precedes each member precedes all
 pub PrecedesAll-from : (k : List ℕ) (ps : List PathValue) → ((p : PathValue) → Member p ps → Precedes k (key p)) → PrecedesAll k ps
 unfolding Member PrecedesAll
 PrecedesAll-from k [] h = tt
@@ -244,7 +244,7 @@ listing-only allows low n (asks ask next) p h b ok i =
       found.is ∙ ap (after_step (step_of ask c)) (again.2 ∙ rest) ∙ sym (path_of-step ask next a c e),
     )
 
--- an allowed assignment, where the knowledge leaves each module a code
+-- an allowed assignment, if the knowledge allows each module some code
 allowed_code : (allows : Allowance) (n : ℕ) → IsLawful allows n → (m : ℕ) → (c : ℕ) × (1 ≤ m → m ≤ n → (c < 31) × (allows m c ≡ true))
 allowed_code allows n lawful m =
     elim (cases_lt m 1) [

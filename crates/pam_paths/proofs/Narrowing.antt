@@ -1,4 +1,4 @@
--- The listing of a knowledge, from the full listing.
+-- The listing under a knowledge, from the full listing.
 use Rattle.std.proofs.Common.{◌≡◌, ℕ, ◌+◌, ◌≤◌, Bool, true, false, ◌&&◌, List, [], ◌∷◌, ◌++◌, map, cond, zero, suc, refl, sym, ◌∙◌, ap, arith}
 use Rattle.std.specs.Prelude.{filter, ◌==◌}
 use Rattle.std.specs.List.{list_any, range_with_len}

@@ -1,4 +1,4 @@
--- The offered codes, found part by part of a control.
+-- The offered codes, computed part by part of a control.
 use Rattle.std.proofs.Common.{◌≡◌, ◌≢◌, ℕ, ◌+◌, ◌<◌, ◌≤◌, ◌==◌, ◌&&◌, ◌||◌, Bool, true, false, not, List, [], ◌∷◌, cond, refl, sym, ◌∙◌, ap, subst, inl}
 use Rattle.std.proofs.Common.{inr, arith, length, take, get_or, Option, Some, None}
 use Rattle.std.specs.Prelude.{IsSome, slice_get}
@@ -85,7 +85,7 @@ module _ (ask : Ask) where
     abbrev offered : ℕ → Bool
     offered d = is_offered_by allowed ask d
 
-    -- a class has a code that is left where it has an allowed one
+    -- a class has a code that is left if and only if it has an allowed one
     any_left : (parts : List Part) (codes : List ℕ) (d : ℕ) → d < 31 → codes ≡ codes_where (past_parts allowed ask parts) →
         list_any (λ k. is_in k codes) (class_of ask d) ≡ list_any (λ k. is_in k allowed) (class_of ask d)
     unfolding past_parts is_offered_by
@@ -172,7 +172,7 @@ module _ (ask : Ask) where
         let e : shared_code p ask.state ≡ Some r = cond-false _ _ (slice_get p.codes 0) looks ∙ first in
         shared-told p r d e ∙ same_outcome-from _ _ (one_outcome ask p.action r d (part.acts r (first-in p.codes r first)) (part.acts d inside) looks)
 
-    -- so does perm_denied under any other action, and what is alike to it
+    -- so does perm_denied under any other action, and so do the codes alike to it
     shares-denied : (p : Part) (d : ℕ) → is_in 6 p.codes ≡ true → looks_at_code p.action ask.state ≡ true →
         outcome_of ask 6 ≡ outcome_of ask d → is_shared ask d p ≡ true
     shares-denied p d inside looks same =

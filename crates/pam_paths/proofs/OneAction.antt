@@ -1,4 +1,4 @@
--- What the outcomes of codes say of them, by their actions.
+-- The outcomes of codes, by their actions.
 use Rattle.std.proofs.Common.{◌≡◌, ◌≢◌, ◌⊎◌, ℕ, ◌==◌, ◌&&◌, Bool, true, false, refl, sym, ◌∙◌, ap, inl, inr, Some}
 use Rattle.std.specs.Prelude.{slice_get}
 use Rattle.std.proofs.lemmas.Bool.{cond-false, cond-true, ne_eqb}
@@ -23,7 +23,7 @@ pub one_outcome : (ask : Ask) (a : Action) (c d : ℕ) → slice_get ask.control
     looks_at_code a ask.state ≡ false → outcome_of ask c ≡ outcome_of ask d
 one_outcome ask a c d k l h = outcome-shared ask c d (action_at ask c a k ∙ sym (action_at ask d a l)) (looks_of ask c a false k h)
 
--- a code at which its action looks is the status, unless it is ignore
+-- a code whose action looks at it is the status, unless it is ignore
 told_own : (a : Action) (d : ℕ) → d ≢ 25 → told_status a d ≡ d
 told_own a d ne = cond-false (fails a && (d == 25)) 6 d (and-none (fails a) (d == 25) (ne_eqb d 25 ne))
   where
@@ -44,7 +44,7 @@ own_status ask a d k h ne =
     ∙ cond-true (looks_at_code own ask.state) told (outcome_of ask d) (looks_of ask d a true k h))
     ∙ told_own own d ne
 
--- codes at which their actions look are alike only where they are one code, or perm_denied and ignore
+-- codes whose actions look at them are alike only if they are one code, or perm_denied and ignore
 pub alike_codes : (ask : Ask) (a b : Action) (c d : ℕ) → slice_get ask.control c ≡ Some a → slice_get ask.control d ≡ Some b →
     looks_at_code a ask.state ≡ true → looks_at_code b ask.state ≡ true → outcome_of ask c ≡ outcome_of ask d →
     (c ≡ d) ⊎ (((c ≡ 6) × (d ≡ 25)) ⊎ ((c ≡ 25) × (d ≡ 6)))

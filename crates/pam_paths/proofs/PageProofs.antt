@@ -1,4 +1,4 @@
--- Pages of a listing, from its front and from its back.
+-- Pages of a listing, forward and backward.
 use Rattle.std.proofs.Common.{◌≡◌, ℕ, ◌<◌, ◌≤◌, Bool, true, false, List, [], ◌∷◌, ◌++◌, take-append-drop, cond, suc, refl, sym, ◌∙◌, ap, subst, inl, inr}
 use Rattle.std.proofs.Common.{arith, append-nil, append_assoc, reverse, length, take, drop, All, nat_le, Some, None}
 use Rattle.std.specs.Prelude.{filter}
@@ -47,7 +47,7 @@ unfolding IsRising
 rising_back [] p ys h q m = PrecedesAll-at (key p) ys q h.0 m
 rising_back (x ∷ xs) p ys h q m = rising_back xs p ys h.1 q m
 
--- what is after one of them, and what is before it
+-- the paths after one of them, and those before it
 split_after : (all xs : List PathValue) (p : PathValue) (ys : List PathValue) → all ≡ xs ++ p ∷ ys → IsRising all → after (key p) all ≡ ys
 split_after all xs p ys e rise =
     let rising : IsRising (xs ++ p ∷ ys) = subst IsRising e rise in
@@ -104,7 +104,7 @@ last_of_some : (ps : List PathValue) → 1 ≤ length ps → Last ps
 last_of_some [] h = absurd (omega (arith, h))
 last_of_some (p ∷ ps) h = last_of p ps
 
--- a cursor leads to what is after its path
+-- a cursor leads to the paths after its own
 abbrev GoesOn : (List ℕ → List PathValue) → List PathValue → Type 0
 GoesOn go all = (front rest : List PathValue) (p : PathValue) → all ≡ front ++ p ∷ rest → go (key p) ≡ rest
 
@@ -144,7 +144,7 @@ pages_front go all front left (size ∷ sizes) on e ok =
           ))
     ]
 
--- THE PART BEFORE A KEY, FROM THE BACK
+-- THE PART BEFORE A KEY, LAST FIRST
 
 Member-reverse : (p : PathValue) (ps : List PathValue) → Member p (reverse ps) → Member p ps
 unfolding Member

@@ -116,7 +116,7 @@ accepted-back (not_least j) e = absurd (let x : ⊥ = cc in x)
 accepted-back too_short e = absurd (let x : ⊥ = cc in x)
 accepted-back too_long e = absurd (let x : ⊥ = cc in x)
 
--- an accepted key begins with the least code of a class, and goes on as an accepted key
+-- an accepted key begins with the least code of a class, and continues as an accepted key
 accepted-on : (ask : Ask) (next : Outcome → Runs) (c : ℕ) (k : List ℕ) → standing_of (asks ask next) (c ∷ k) ≡ accepted →
     (least (class_of ask c) ≡ c) × (standing_of (next (outcome_of ask c)) k ≡ accepted)
 unfolding standing_of
@@ -137,7 +137,7 @@ head-low ask c (d ∷ ds) e h =
     let w = of_class ask c d (subst (λ (x : List ℕ). Member d x) e (inl refl)) in
     omega (arith, w.0, h)
 
--- what is computed of an accepted key is a part of the listing
+-- the computed part of an accepted key is a part of the listing
 pub part-after : (allows : Allowance) (runs : Runs) (k : List ℕ) → standing_of runs k ≡ accepted →
     part Forward allows runs k ≡ filter (λ p. precedes k (key p)) (listing allows runs)
 unfolding part listing standing_of precedes key_of all_codes

@@ -1,4 +1,4 @@
--- What the frames of a cursor say of the codes that are left.
+-- The frames of a cursor, and the codes that are left.
 use Rattle.std.proofs.Common.{◌≡◌, ◌≢◌, ℕ, drop-cons, ◌+◌, ◌<◌, ◌≤◌, ◌&&◌, Bool, true, false, List, [], ◌∷◌, ◌++◌, map, cond, suc, refl, sym, ◌∙◌, ap, subst}
 use Rattle.std.proofs.Common.{arith, length, drop, get_or, append_assoc, append-nil, Some, None}
 use Rattle.std.proofs.lemmas.Bool.{false≢true}
@@ -86,7 +86,7 @@ module _ (d : Direction) (allows : Allowance) (program : List Entry) (fs : List 
       ∙ ap (λ (x : Runs). under fs (ahead_of d allows x (past d f.code)) ++ ahead d allows program fs) here
       ∙ sym (ahead-push d allows program fs f))
 
-  -- a frame is kept where the classes before it have an allowed code
+  -- a frame is kept if the classes before it have an allowed code
   pub part-kept : (offered more : Bool) (whole : List PathValue) → more ≡ is_offered allows (next_ask r) c →
       whole ≡ cond offered (under fs (part d allows r (c ∷ k))) [] ++ ahead d allows program fs →
       whole ≡ cond (offered && more) (under (cond offered (fs ++ f ∷ []) fs) (part d allows q k)) [] ++ ahead d allows program
@@ -116,7 +116,7 @@ left-cons codes i c l e =
     let next : suc i ≡ i + 1 = omega arith in
     drop-cons codes i c l ∙ ap (λ (x : ℕ). get_or codes i c ∷ drop x codes) next ∙ ap (λ (x : ℕ). x ∷ drop (i + 1) codes) (sym e)
 
--- at the beginning no frame is there
+-- at the beginning there is no frame
 pub first_frames : (allows : Allowance) (program : List Entry) (fs : List Frame) → fs ≡ [] → AreFrames allows program 0 fs
 unfolding AreFrames
 first_frames allows program fs e = subst (AreFrames allows program 0) (sym e) tt

@@ -1,4 +1,4 @@
--- Classes of codes, found part by part of a control.
+-- Classes of codes, computed part by part of a control.
 use Rattle.std.proofs.Common.{◌≡◌, ◌≢◌, ℕ, ◌+◌, ◌<◌, ◌≤◌, ◌==◌, ◌&&◌, ◌||◌, Bool, true, false, not, List, [], ◌∷◌, cond, refl, sym, ◌∙◌, ap, subst, inl}
 use Rattle.std.proofs.Common.{inr, arith, length, take, get_or, zero, suc, Some, None}
 use Rattle.std.specs.Prelude.{filter, slice_get}
@@ -23,7 +23,7 @@ use Rattle.pam_paths.proofs.Sets.{same_tests}
 
 -- SETS
 
--- a code is in a list where it is a member
+-- a code is in a list if it is a member
 pub Member-is_in : (codes : List ℕ) (c : ℕ) → is_in c codes ≡ true → Member c codes
 Member-is_in codes c h =
     let w = list_any_back (λ k. k == c) codes h in
@@ -100,7 +100,7 @@ module _ (ask : Ask) (o : Outcome) where
     abbrev alike : ℕ → Bool
     alike d = is_in d part.codes && leads d
 
-    -- where the action looks at the code
+    -- if the action looks at the code
     pub alike-looking : (s : ℕ) (told other found : List ℕ) → looks_at_code part.action ask.state ≡ true → s ≡ o.state.status →
         told ≡ codes_where (λ d. (d == s) && alike d) → other ≡ codes_where (λ d. (d == 25) && alike d) →
         found ≡ codes_where (λ d. is_in d told || is_in d other) → found ≡ codes_where alike
@@ -124,7 +124,7 @@ module _ (ask : Ask) (o : Outcome) where
               or_left (is_in d told) (is_in d other) (in_told ∙ and_from (d == s) (alike d) (eq-eqb d s at) h)
         ]))
 
-    -- where it does not, all codes have the outcome of the first
+    -- if it does not, all codes have the outcome of the first
     leads-first : (r d : ℕ) → looks_at_code part.action ask.state ≡ false → slice_get part.codes 0 ≡ Some r →
         is_in d part.codes ≡ true → leads d ≡ leads r
     leads-first r d looks first inside =

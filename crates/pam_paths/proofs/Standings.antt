@@ -1,4 +1,4 @@
--- The standing of codes at the paths of a run.
+-- The standing of codes among the paths of a run.
 use Rattle.std.proofs.Common.{◌≡◌, ◌≢◌, ℕ, ◌+◌, ◌<◌, ◌==◌, List, [], ◌∷◌, ◌++◌, length, All, suc, refl, sym, ◌∙◌, ap, subst, arith, inl, inr}
 use Rattle.std.proofs.lemmas.Bool.{eq-eqb, ne_eqb, cases_eq, cond-true, cond-false}
 use Rattle.pam_dispatch.specs.declared.step.Outcome.{Outcome}
@@ -55,7 +55,7 @@ nil_not_joined : {X : Type 0} (front : List X) (x : X) (rest : List X) → [] �
 nil_not_joined [] x rest e = let k : ⊥ = cc in k
 nil_not_joined (y ∷ front) x rest e = let k : ⊥ = cc in k
 
--- WHAT THE RELATIONS SAY IS WHAT IS COMPUTED
+-- THE COMPUTED STANDING FOLLOWS FROM THE RELATIONS
 
 accepted-is : (low n : ℕ) (runs : Runs) (a : Assignment) (k : List ℕ) → AsksRise low n runs → AreCodes n a → k ≡ key (path_of runs a) →
     standing_of runs k ≡ accepted
@@ -130,7 +130,7 @@ stands-is n runs k (not_least j) rise h =
 stands-is n runs k too_short rise h = sym (too_short-is 0 n runs h.0 k h.2 h.3 rise h.1 h.4)
 stands-is n runs k too_long rise h = sym (too_long-is 0 n runs h.0 k h.2 h.3 rise h.1 h.4)
 
--- AND WHAT IS COMPUTED, THE RELATIONS SAY
+-- AND THE RELATIONS FOLLOW FROM IT
 
 -- the path under an assignment with a code for the module asked
 path-with : (ask : Ask) (next : Outcome → Runs) (n : ℕ) (a : Assignment) (c : ℕ) → ((o : Outcome) → AsksRise ask.module_number n (next o)) →

@@ -55,7 +55,7 @@ module _ (allows : Allowance) (n : ℕ) (runs : Runs) (items : Items) (is : runs
     );
   }
 
--- what codes are to the paths through an open run, they are to those through its tree
+-- codes have the same standing among the paths through an open run and through its tree
 module _ (n : ℕ) (runs : Runs) (items : Items) (is : runs ≡ runs_of_stack items) where
   key-tree : (answers : Assignment) → key (path_of runs answers) ≡ key (path_through items answers)
   key-tree answers = ap (λ (p : PathValue). key p) (path_of-tree runs items is answers)

@@ -4,6 +4,6 @@ use Rattle.pam_conf.specs.Rule.{rule_view}
 use Rattle.pam_conf.specs.Walk.{carries}
 use Rattle.pam_conf.proofs.resolution.carried_start.Given as goal
 
--- no rule before carries the service
+-- no rule so far names the service
 abbrev pub invariant-loop-rule : goal.invariant-loop-rule
 invariant-loop-rule l = list_any (carries l.service) (map rule_view l.rules) ≡ list_any (carries l.service) (map rule_view (drop l.rule-index l.rules))

@@ -5,7 +5,7 @@ use Rattle.pam_codes.specs.Control.{pairs_of, token_actions, ◌>>=◌}
 use Rattle.pam_codes.proofs.Overlay.{actions_after}
 use Rattle.pam_codes.proofs.control.Control.from_list.Given as goal
 
--- what is read so far and the pairs of what is left make what all make
+-- the pairs read so far and those of the rest have the actions of all pairs
 abbrev pub invariant-loop-word : goal.invariant-loop-word
 invariant-loop-word l = record {
   can : (goal.iterator-loop-word).can_next l.tokens;

@@ -1,4 +1,4 @@
--- the codes so far are written
+-- the pairs of the codes so far are written
 use Rattle.std.proofs.Common.{take}
 use Rattle.pam_codes.specs.Code.{code_names}
 use Rattle.pam_codes.specs.ControlText.{mentions}

@@ -18,7 +18,7 @@ decreases-walk_rules l = 4 * (MAX_OPEN_FILES - length l.trail.now) + 2
 abbrev pub decreases-walk_file : goal.decreases-walk_file
 decreases-walk_file l = 4 * (MAX_OPEN_FILES - length l.trail.now) + 3
 
--- what is walked from the beginning on leads to the rules that are left
+-- the walk so far leads to that of the rules that are left
 abbrev pub invariant-walk_rules-loop-rule : goal.invariant-walk_rules-loop-rule
 invariant-walk_rules-loop-rule l = record {
   table : IsTable l.self.files.now l.self.kind l.progress.table.items;

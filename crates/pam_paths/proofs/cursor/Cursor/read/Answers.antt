@@ -10,7 +10,7 @@ use Rattle.pam_paths.specs.declared.cursor.CursorError.TheVariants.{Syntax}
 use Rattle.pam_paths.proofs.CursorTexts.{is_dot, no_cursor-full, no_cursor-part, text_of_parts}
 use Rattle.pam_paths.proofs.cursor.Cursor.read.Goals as goal
 
--- the error of a part that is no code's number
+-- the error of a part that is not the number of a code
 error_is : (found : Option ℕ) (error : CursorError) → Err error ≡ ok_or found Syntax → found ≡ None → error ≡ Syntax
 error_is (Some code) error same none = cc
 error_is None error same none = cc
