@@ -23,7 +23,7 @@ module _ (test : ℕ → Bool) where
   pub all_passed : (n : ℕ) → 31 ≤ n → passed_below n ≡ codes_where test
   all_passed n h = codes_where-same _ _ (λ c l. ap (λ (b : Bool). b && test c) (lt-ltb c n (omega arith)))
 
-  -- the next number is no bound for those that are not it
+  -- a code other than `n` is below `n` if and only if it is below `n + 1`
   one_more : (n c : ℕ) → c ≢ n → ltb c n ≡ ltb c (n + 1)
   one_more n c ne = elim (cases_lt c n) [
     | inl l ↦ lt-ltb c n l ∙ sym (lt-ltb c (n + 1) (omega arith))

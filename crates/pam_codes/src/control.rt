@@ -124,7 +124,7 @@ impl Control {
         }
     }
 
-    /// Reads a control as it is written, brackets included: pam.conf(5). Returns the leftmost fault, except that an
+    /// Reads a control as it is written, brackets included: pam.conf(5). Fails with the leftmost fault, except that an
     /// open bracket and bytes after the closing one come first.
     #[tactic(auto, unfolding(crate::specs::Control::control_of))]
     pub fn read(text: &[u8]) -> Result<Control, ControlError>

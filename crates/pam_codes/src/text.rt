@@ -34,7 +34,7 @@ impl<'a> Text<'a> {
         self.line
     }
 
-    /// Whether no text is left. A comment may still be.
+    /// Whether no text is left. A comment may remain.
     pub fn is_done(&self) -> bool
         ensures { IsTrue result ↔ (text_of self.now.line self.now.rest.now ≡ []) }
     {
@@ -120,7 +120,7 @@ fn after_feed(bytes: &[u8]) -> Option<&[u8]>
     if *first == b'\n' { Some(rest) } else { None }
 }
 
-/// Returns `bytes` without a leading comment, from its line feed on.
+/// Returns `bytes` without a leading comment. The line feed of the comment stays.
 fn skip_comment(bytes: &[u8]) -> &[u8]
     ensures value { result.now ≡ past_comment bytes.now }
     ensures bound { length result.now ≤ length bytes.now }

@@ -61,7 +61,7 @@ IsNumberedFrom first items = numbers_of items ≡ range_with_len first (module_c
 abbrev pub IsNumbered : Items → Type 0
 IsNumbered = IsNumberedFrom 1
 
--- the first of two modules, or the second if there is no first
+-- the first of two modules, or the second if the first is absent
 abbrev pub first_there : Option ModuleText → Option ModuleText → Option ModuleText
 first_there None other = other
 first_there (Some m) other = Some m

@@ -18,8 +18,8 @@ use std::alloc::{AllocFailed, Global};
 /// The maximum length of a file in bytes; a longer one is `FileTooLong`.
 pub const MAX_FILE_BYTES: usize = 1_048_576;
 
-/// Reads the rules of a file in the order of its lines: pam.conf(5). Returns the first fault: `FileTooLong` (E16) comes
-/// before `NulByte` (E1), and that before the faults of lines. A failed allocation has line 0.
+/// Reads the rules of a file in the order of its lines: pam.conf(5). Fails with the first fault: `FileTooLong` (E16)
+/// comes before `NulByte` (E1), and that before the faults of lines. A failed allocation has line 0.
 pub fn rules(alloc: Global, bytes: &[u8], form: Form) -> Result<Vec<Rule>, RuleFault>
     ensures { Gives (λ rules. map rule_view rules.items) result (rules_of form bytes.now) }
 {

@@ -1,4 +1,4 @@
--- What the code of an answer determines beside its action: pam.conf(5), DESCRIPTION, the actions of a control.
+-- What the code of an answer determines besides its action: pam.conf(5), DESCRIPTION, the actions of a control.
 use Rattle.std.specs.Prelude.{◌≡◌, ◌⊎◌, ℕ, ◌==◌, ◌&&◌, Bool, true, false, IsTrue, if◌then◌else◌}
 use Rattle.pam_codes.specs.declared.action.Action.{Action}
 use Rattle.pam_codes.specs.declared.action.Action.TheVariants.{Ignore, Ok, Done, Bad, Die, Reset, Jump}

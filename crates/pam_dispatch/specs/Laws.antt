@@ -76,7 +76,7 @@ OutcomeIsShared =
     (ask : Ask) (one other : ℕ) → action_of ask.control one ≡ action_of ask.control other →
     looks_at_code (action_of ask.control one) ask.state ≡ false → outcome_of ask one ≡ outcome_of ask other
 
--- two codes whose actions, one or two, look at them have different outcomes, unless both fail the stack as perm_denied
+-- two codes whose actions look at them have different outcomes, unless both fail the stack as perm_denied
 abbrev pub OutcomesDiffer : Type 0
 OutcomesDiffer =
     (ask : Ask) (one other : ℕ) →

@@ -264,7 +264,7 @@ impl Program {
         Decision::of(place.state())
     }
 
-    /// The decision if each module answers its code, from module 1 on. Modules that are never asked have a code too.
+    /// The decision if each module answers its code, from module 1 on. Modules that are never asked need one too.
     pub fn decide(&self, codes: &[Code]) -> Result<Decision, WrongCount>
         ensures count { OnOk result (length codes.now ≡ modules_of self.now) }
         ensures decision { IfOk result (λ d. d ≡ decision_of (final_state (runs_of self.now) (answers_of codes.now))) }

@@ -15,7 +15,7 @@ pub struct Outcome {
 }
 
 impl Outcome {
-    /// The outcome of `action` for `code`, in a list that was entered in the state `entry` and has `behind` items left.
+    /// The outcome of `action` for `code` in `state`; the list was entered in `entry`, and `behind` items of it follow.
     pub(crate) fn of(
         action: Action,
         code: Code,

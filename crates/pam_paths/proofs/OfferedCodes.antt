@@ -250,7 +250,7 @@ pub state-asked : (r : Runs) → state_in r ≡ (next_ask r).state
 state-asked (ends s) = refl
 state-asked (asks ask next) = refl
 
--- whether the status tells the code, at a place
+-- whether the action looks at the code, at a place
 pub looks-asked : (r : Runs) (action : Action) (s : State) (b : Bool) → s ≡ state_in r → looks_at_code action s ≡ b →
     looks_at_code action (next_ask r).state ≡ b
 looks-asked r action s b e h = ap (λ (x : State). looks_at_code action x) (sym (state-asked r) ∙ sym e) ∙ h

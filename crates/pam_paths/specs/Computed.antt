@@ -25,7 +25,7 @@ branches allows ask below (code ∷ codes) =
     (if is_offered allows ask code then map (after_step (step_of ask code)) (below (outcome_of ask code)) else [])
     ++ branches allows ask below codes
 
--- the paths of an open run
+-- the listing of an open run
 unfoldable pub listing : Allowance → Runs → List PathValue
 listing allows (ends s) = record { steps = []; decision = decision_of s } ∷ []
 listing allows (asks ask next) = branches allows ask (λ o. listing allows (next o)) all_codes

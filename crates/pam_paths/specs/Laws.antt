@@ -67,7 +67,7 @@ PagesJoin =
     IsListing allows n path_by all → All (λ size. 1 ≤ size) sizes →
     ArePrefix (pages (λ k. after k all) all sizes) all
 
--- the paths before a member, last first and then reversed, the member, and the paths after it are the listing
+-- the paths before a member, the member, and the paths after it are the listing
 abbrev pub EndsMeet : Type 0
 EndsMeet =
     (allows : Allowance) (n : ℕ) (path_by : Assignment → PathValue) (all back : List PathValue) (path : PathValue) →

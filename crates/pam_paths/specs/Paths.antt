@@ -25,7 +25,7 @@ step_of ask code = record { module_number = ask.module_number; class = class_of 
 abbrev pub step_by : Assignment → Ask → StepValue
 step_by answers ask = step_of ask (answers ask.module_number)
 
--- THE PATH that an assignment takes through the tree of a stack: each module asked, in turn, with the class of its
+-- THE PATH that an assignment takes through the tree of a stack: each module asked, in order, with the class of its
 -- answer there, and the decision
 unfoldable pub path_through : Items → Assignment → PathValue
 path_through items answers = record {

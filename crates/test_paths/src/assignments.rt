@@ -92,7 +92,7 @@ fn paths_of(alloc: Global, program: &Program) -> Result<Vec<Path>, Error> {
     Ok(paths)
 }
 
-/// The number of assignments with exactly one path, and its decision, and the number of paths that they take.
+/// The number of assignments with exactly one path and its decision, and the number of paths that they take.
 fn told(alloc: Global, program: &Program, paths: &[Path]) -> Result<(usize, usize), Error> {
     let mut taken = vec![in alloc; false; paths.len()]?;
     let mut count: usize = 0;
@@ -107,7 +107,7 @@ fn told(alloc: Global, program: &Program, paths: &[Path]) -> Result<(usize, usiz
     Ok((count, taken.iter().filter(|is_taken| **is_taken).count()))
 }
 
-/// Prints the number of assignments with exactly one path, and the number of paths that they take.
+/// Prints the number of assignments with exactly one path and its decision, and the number of paths that they take.
 pub(crate) fn assign(rt: &HostRuntime, service: &str) -> Result<(), Error> {
     let program = program_of(rt, service)?;
     let paths = paths_of(rt.alloc(), &program)?;
