@@ -48,7 +48,7 @@ seen_through : (r : Result Pairs ControlError) (p : Subject × Action) (f g : Pa
 seen_through (Ok ps) p f g h = ap Ok (h ps)
 seen_through (Err e) p f g h = refl
 
--- one pair on
+-- one more pair
 pub advance_pairs : (named new_named : List (Option Action)) (default new_default : Option Action) (p : Subject × Action) (tokens : List (List ℕ)) (word : List ℕ) (behind rest : List (List ℕ)) (all : Result (List Action) ControlError)
     → tokens ≡ word ∷ behind → pairs_of (word ∷ behind) ≡ with_front p (pairs_of rest)
     → ((ps : Pairs) → actions_after new_named new_default ps ≡ actions_after named default (p ∷ ps))
@@ -82,7 +82,7 @@ pub last_pairs : (named : List (Option Action)) (default : Option Action) (token
 unfolding actions_after pairs_of
 last_pairs named default tokens all e h = ap (λ (ts : List (List ℕ)). pairs_of ts >>= λ ps. Ok (actions_after named default ps)) (sym e) ∙ h
 
--- an array that has f of each code
+-- an array with `f` of each code
 pub filled : (xs : List Action) (f : ℕ → Action) (n : ℕ) → length xs ≡ 31 → 31 ≤ n → ((k : ℕ) → k < n → get_or xs k Bad ≡ f k) → xs ≡ map f all_codes
 unfolding all_codes
 filled xs f n len all h = ext_get_or Bad xs (map f (range_with_len 0 31)) (len ∙ sym (length-map-range_with_len f 0 31)) (λ k lt. h k (omega arith) ∙ sym (get_or-map-range_with_len f 0 31 k k Bad (omega arith) (omega arith)))

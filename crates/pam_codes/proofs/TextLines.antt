@@ -4,7 +4,7 @@ use Rattle.std.specs.List.{onto_first}
 use Rattle.std.proofs.lemmas.Bool.{eqb-true}
 use Rattle.pam_codes.specs.Text.{Mark, marked, uncommented, joined, text_of, lines_of, first_line, first_marks, behind_line}
 
--- the first byte, if there is one, is of this line
+-- the first byte, if there is one, is on this line
 unfoldable pub HeadIs : ℕ → List Mark → Type 0
 HeadIs l [] = Unit {0}
 HeadIs l (m ∷ ms) = m.0 ≡ l

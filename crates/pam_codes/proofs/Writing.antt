@@ -26,11 +26,11 @@ Appends-kept_nil (Some x) None k = absurd k
 Appends-kept_nil (Some x) (Some y) k = k ∙ sym (append-nil x)
 
 module _ {W : Type 0} {contents : W → Option (List ℕ)} where
-  -- nothing was written yet
+  -- nothing is written
   pub took-none : (s : Out W) → Took contents s s []
   took-none s = let fits = s.countable in record { held = Appends-nil _; counted = omega arith }
 
-  -- nothing was asked for yet
+  -- an empty text is written
   pub all-none : (s : Out W) → TookAll contents s s []
   all-none s = record { took = took-none s; as_before = refl }
 
@@ -77,7 +77,7 @@ module _ {W : Type 0} {contents : W → Option (List ℕ)} where
     failed = t.failed ∙ ap (λ n. n + 1) s.as_before;
   }
 
-  -- a prefix of a text is one of each longer text
+  -- a prefix of a text is a prefix of each longer text
   pub front-longer : {old new : Out W} {a : List ℕ} (b : List ℕ) → TookFront contents old new a → TookFront contents old new (a ++ b)
   front-longer b s = record {
     front = s.front;

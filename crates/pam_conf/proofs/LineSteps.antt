@@ -23,13 +23,13 @@ rule_at_line form l (m ∷ ms) h =
       | false ↦ rw (h, bytes_of_marks ms) refl
     ]
 
--- a line without words has their fault
+-- a fault of the words of a line is the fault of the line
 pub no_words : (form : Form) (l : ℕ) (bytes : List ℕ) (kind : FaultKind) → FailsKind kind (words_or_fault bytes) → FailsKind kind (line_rule_of form l bytes)
 unfolding line_rule_of
 no_words form l bytes faults.Memory h = tt
 no_words form l bytes kind h = ap (λ r. r >>= rule_of form l) h
 
--- a line of these words has their rule
+-- the rule of a line is that of its words
 pub some_words : (form : Form) (l : ℕ) (bytes : List ℕ) (words : List (List ℕ)) → words_or_fault bytes ≡ Ok words →
     line_rule_of form l bytes ≡ rule_of form l words
 unfolding line_rule_of

@@ -83,7 +83,7 @@ not_empty folder kind None (SubItem s ∷ xs) h = refl
 not_empty folder kind (Some other) (ModuleItem m ∷ xs) h = refl
 not_empty folder kind (Some other) (SubItem s ∷ xs) h = refl
 
--- a stack that is not empty stays
+-- a stack that is not empty is not replaced
 pub keeps-own : (folder : Folder) (kind : Kind) (own : Option Start) (first : Start) (other : Option StartText) (xs : List Item) (items : Items) →
     own ≡ Some first → stack_from folder kind (start_text first) ≡ Ok items → items_of xs ≡ items → false ≡ eqb (length xs) 0 →
     from_starts folder kind (option_map start_text own) other ≡ Ok items

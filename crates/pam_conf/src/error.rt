@@ -11,7 +11,7 @@ pub enum FaultKind {
     /// E1, at the line of the first NUL byte, even in a comment.
     #[error("a NUL byte")]
     NulByte,
-    /// E2
+    /// E2: a line ends before its kind, control or path.
     #[error("the kind, the control or the path is missing")]
     MissingField,
     /// E3
@@ -20,25 +20,25 @@ pub enum FaultKind {
     /// E4 to E8. An open bracket anywhere in the line is E8.
     #[error(transparent)]
     Control(ControlError),
-    /// E9
+    /// E9: nothing follows `include`, `substack` or `@include`.
     #[error("no target is named")]
     MissingTarget,
-    /// E10
+    /// E10: the target is empty, or has a `/` besides the folder's prefix.
     #[error("the target is empty or lies in another folder")]
     BadTarget,
-    /// E11
+    /// E11: the target is open already.
     #[error("the target is being read already")]
     Cycle,
-    /// E12
+    /// E12: the target would be the 17th open file.
     #[error("more than 16 files would be open")]
     TooDeep,
-    /// E13
+    /// E13, at the 257th module.
     #[error("more than 256 modules")]
     TooManyModules,
-    /// E14
+    /// E14: an include, substack or `@include` in pam.conf.
     #[error("an include in pam.conf")]
     IncludeInSingleFile,
-    /// E15
+    /// E15: neither the service nor `other` has rules, or a target has no file.
     #[error("no rules for the service, or no file of this name")]
     NoService,
     /// E16, at line 0.
@@ -47,7 +47,7 @@ pub enum FaultKind {
     /// E17, at line 0.
     #[error("out of memory")]
     Memory,
-    /// E18
+    /// E18, at the 257th include or substack.
     #[error("more than 256 includes and substacks")]
     TooManyFollowed,
 }

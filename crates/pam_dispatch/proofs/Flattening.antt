@@ -12,7 +12,7 @@ use Rattle.pam_dispatch.specs.Flat.{level_of, resume, flat_list, runs_of}
 use Rattle.pam_dispatch.specs.State.{start_state}
 use Rattle.pam_dispatch.proofs.Resume.{resume-deeper, resume-item, resume-sub, resume-module, ask_at}
 
--- the first entry, if there is one, is above a level
+-- the first entry, if there is one, has a lower level
 unfoldable pub HeadBelow : ℕ → List Entry → Type 0
 HeadBelow level [] = Unit {0}
 HeadBelow level (e ∷ ts) = level_of e < level

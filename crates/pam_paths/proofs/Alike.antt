@@ -121,7 +121,7 @@ list_any_back test (y ∷ ys) h =
       | inr k ↦ let again = list_any_back test ys k in (again.0, inr again.1, again.2)
     ]
 
--- the all_codes of a class
+-- a code with the same outcome is in the class
 pub in_class : (ask : Ask) (c d : ℕ) → d < 31 → outcome_of ask c ≡ outcome_of ask d → Member d (class_of ask c)
 unfolding class_at all_codes
 in_class ask c d low e =
