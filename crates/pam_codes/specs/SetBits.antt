@@ -62,7 +62,7 @@ filter_run p q a (suc n) h =
     ap (λ (t : Bool). cond t (a ∷ filter p (range_with_len (a + 1) n)) (filter p (range_with_len (a + 1) n))) (h a (omega arith) (omega arith))
     ∙ ap (λ (xs : List ℕ). cond (q a) (a ∷ xs) xs) (filter_run p q (a + 1) n (λ code low high. h code (omega arith) (omega arith)))
 
--- tests that agree on all codes have the same codes
+-- tests that agree on all codes select the same codes
 pub codes_where-same : (p q : ℕ → Bool) → ((code : ℕ) → code < 31 → p code ≡ q code) → codes_where p ≡ codes_where q
 unfolding all_codes
 codes_where-same p q h = filter_run p q 0 31 (λ code low high. h code (omega arith))

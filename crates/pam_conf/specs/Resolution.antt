@@ -57,7 +57,7 @@ abbrev pub unless_empty : Folder → Kind → Option StartText → Result Items 
 unless_empty folder kind (Some other) (Ok End) = stack_from folder kind other
 unless_empty folder kind other stack = stack
 
--- the stack from the start of the service, and that of `other`
+-- the stack of a service, from its start and that of `other`
 abbrev pub from_starts : Folder → Kind → Option StartText → Option StartText → Result Items ConfError
 from_starts folder kind None other = without_own folder kind other
 from_starts folder kind (Some own) other = unless_empty folder kind other (stack_from folder kind own)

@@ -1,8 +1,8 @@
 //! Tests of the paths of stacks through the public calls of the libraries. Each line of standard input is a test:
 //!
 //! - `list SERVICE FIRST LAST [NUMBER=NAME,...]...`: how many paths there are, and the lines from FIRST to LAST.
-//! - `first SERVICE COUNT`: the lines of the first paths.
-//! - `page SERVICE LIMIT from -`, `page SERVICE LIMIT after CURSOR`, or with `before`; then `[NUMBER=NAME,...]...`: a page.
+//! - `first SERVICE COUNT`: the lines of the first COUNT paths.
+//! - `page SERVICE LIMIT from -`, or with `after CURSOR` or `before CURSOR`; then `[NUMBER=NAME,...]...`: a page.
 //! - `ways SERVICE`: whether the paths after each path, and those before it, are exactly the others.
 //! - `cursor SERVICE TEXT`: whether a cursor is accepted or refused, in both directions.
 //! - `assign SERVICE`: whether each assignment of three codes agrees with exactly one path, which has its decision.
