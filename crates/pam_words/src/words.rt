@@ -63,7 +63,7 @@ fn limit<'a>(alloc: Global) -> Arg<'a>
         alloc,
         "limit",
         "N",
-        "How many paths to list, 1 to 1000000; 1000 if left out",
+        "The most paths to list, 1 to 1000000; 1000 if left out",
     )
     .value_parser(limit_parser())
 }
@@ -117,12 +117,17 @@ fn with_page<'a>(alloc: Global, command: Command<'a>) -> Result<Command<'a>, All
 {
     command
         .arg(limit(alloc))?
-        .arg(option(alloc, "after", "CURSOR", "Lists the paths after this one"))?
+        .arg(option(
+            alloc,
+            "after",
+            "CURSOR",
+            "Lists the paths after this cursor",
+        ))?
         .arg(option(
             alloc,
             "before",
             "CURSOR",
-            "Lists the paths before this one, the last first",
+            "Lists the paths before this cursor, the last first",
         ))
 }
 
