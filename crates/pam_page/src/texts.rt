@@ -96,7 +96,8 @@ fn undotted(codes: &[u8]) -> &[u8]
 impl LineTexts {
     ghost use Rattle.pam_page.specs.Kept.{kept};
 
-    /// No texts, with room for those of any path. The page that is written with them takes no memory.
+    /// No texts, with room for those of any path, so that a page that is written with them takes no memory. An error
+    /// where an allocation fails.
     pub fn new(alloc: Global) -> Result<LineTexts, AllocError> {
         Ok(LineTexts {
             marks: Vec::with_capacity(alloc, MAX_MODULES)?,
