@@ -48,6 +48,7 @@ fn is_same(one: &Outcome, other: &Outcome) -> bool
 }
 
 /// Whether a code leads to an outcome.
+#[inline(always)]
 fn leads_to(program: &Program, place: &Place, code: Code, outcome: &Outcome) -> bool
     requires place { IsPlaceOf program.now place.now }
     requires asking { IsSome (asked_module (rest_of program.now place.now)) }
@@ -265,6 +266,7 @@ impl Classes {
     }
 
     /// The class of a code.
+    #[inline]
     pub(crate) fn class_of(
         &self,
         program: &Program,

@@ -84,6 +84,7 @@ impl Frame {
     }
 
     /// The branch of the class of a code.
+    #[inline(always)]
     pub(crate) fn branch(&self, program: &Program, code: Code, work: &mut Work) -> Branch
         requires place { IsPlaceOf program.now self.now.place }
         requires asking { asked_module (rest_of program.now self.now.place) ≡ Some self.now.module_number }
@@ -109,6 +110,7 @@ impl Frame {
     }
 
     /// The first branch that is ahead of a bound.
+    #[inline(always)]
     pub(crate) fn branch_ahead(
         &self,
         program: &Program,
@@ -141,6 +143,7 @@ impl Frame {
     }
 
     /// The frame where a branch is followed.
+    #[inline(always)]
     pub(crate) fn following(self, branch: &Branch) -> Frame
         ensures place { result.place ≡ self.place }
         ensures number { result.module_number ≡ self.module_number }
@@ -223,6 +226,7 @@ pub(crate) fn descend<K: Knowledge>(
 }
 
 /// The steps of the frames.
+#[inline(always)]
 pub(crate) fn steps_of(frames: &Frames) -> ArrayVec<PathStep, MAX_MODULES>
     ensures { map step_seen result.items ≡ map step_in frames.now.items }
 {
