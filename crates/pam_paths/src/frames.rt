@@ -74,10 +74,11 @@ impl Frame {
         ensures classes { AreClasses (next_ask (rest_of program.now place)) result.classes }
     {
         let allowed = knowledge.allowed(module_number);
+        let classes = Classes::at(program, &place, module_number, allowed);
         Frame {
             place,
             module_number: module_number as u16,
-            classes: Classes::at(program, &place, module_number, allowed),
+            classes,
             code: Code::SUCCESS,
             class: CodeSet::empty(),
         }
