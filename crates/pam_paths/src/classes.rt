@@ -27,6 +27,16 @@ pub(crate) struct Classes {
     pub(crate) known: CodeSet,
 }
 
+impl Default for Classes {
+    fn default() -> Classes {
+        Classes {
+            offered: CodeSet::empty(),
+            shared: CodeSet::empty(),
+            known: CodeSet::empty(),
+        }
+    }
+}
+
 fn impression_number(impression: Impression) -> u8
     ensures { result ≡ impression_number impression }
 {
@@ -141,16 +151,6 @@ fn with_least(codes: CodeSet, class: CodeSet) -> CodeSet
             }
         }
         None => codes.without(class),
-    }
-}
-
-impl Default for Classes {
-    fn default() -> Classes {
-        Classes {
-            offered: CodeSet::empty(),
-            shared: CodeSet::empty(),
-            known: CodeSet::empty(),
-        }
     }
 }
 
