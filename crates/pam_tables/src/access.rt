@@ -1,4 +1,5 @@
 //! Access tables, as in access.conf(5): reading them and deciding logins.
+
 ghost use Rattle.std.specs.Prelude.{◌≡◌, ℕ, IfOk, IfErr, map};
 ghost use Rattle.std.specs.Option.{option_map};
 ghost use Rattle.pam_tables.specs.Access.{line_view, permission_of, is_passed_over as is_passed_over_of, line_of_fields, fields_of as fields_of_line, access_line, table_of, users_match as users_match_of, origins_match as origins_match_of, answer_with, first_answer, access_answer};

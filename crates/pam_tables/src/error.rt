@@ -1,4 +1,5 @@
 //! The faults of tables.
+
 ghost use Rattle.std.specs.Prelude.{◌≡◌};
 ghost use Rattle.pam_tables.specs.Error.{line_of_fault};
 

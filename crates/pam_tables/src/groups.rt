@@ -1,4 +1,5 @@
 //! Groups of users, as in group(5).
+
 ghost use Rattle.std.specs.Prelude.{◌≡◌, ◌==◌, [], codes, MatchOption, Ok, Err};
 ghost use Rattle.std.specs.List.{list_any};
 ghost use Rattle.std.specs.Str.{bytes_eq};

@@ -1,4 +1,5 @@
 //! The lines of a table, and the parts of a line.
+
 ghost use Rattle.std.specs.Prelude.{◌≡◌, ◌+◌, ◌^◌, ◌<◌, ◌≤◌, ◌==◌, OnOk, IfOk, IfSome, ℕ, List, count_by, length, position, take};
 ghost use Rattle.std.specs.List.{prefix_len, suffix_len};
 ghost use Rattle.std.specs.Option.{option_map};

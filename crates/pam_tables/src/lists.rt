@@ -1,4 +1,5 @@
 //! Lists of tokens with EXCEPT, as in access.conf(5).
+
 ghost use Rattle.std.specs.Prelude.{◌≡◌, ◌∷◌, [], List};
 ghost use Rattle.pam_tables.specs.declared.lists.Mark.{Mark as MarkOf};
 ghost use Rattle.pam_tables.specs.Lists.{list_matches, mark_of, matches_behind};

@@ -1,4 +1,5 @@
 //! Logins and their origins, as in access.conf(5).
+
 ghost use Rattle.std.specs.Prelude.{◌≡◌};
 ghost use Rattle.pam_tables.specs.Login.{login_view, origin_of, origin_view, without_dev, IsKnown};
 

@@ -1,4 +1,5 @@
 //! Returns files: the codes that modules may return.
+
 ghost use Rattle.std.specs.Prelude.{◌≡◌, ◌≢◌, [], IfOk, IfSome, MatchResult, Ok, Err};
 ghost use Rattle.std.specs.Option.{option_map};
 ghost use Rattle.pam_tables.specs.Error.{Gives, GivesPart};

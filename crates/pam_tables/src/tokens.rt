@@ -1,4 +1,5 @@
 //! The tokens of users and origins, as in access.conf(5).
+
 ghost use Rattle.std.specs.Prelude.{◌≡◌, ◌≤◌, ◌∷◌, ◌&&◌, ◌||◌, [], ℕ, not, length, map, MatchOption, MatchResult, Ok, Err, ◌==◌};
 ghost use Rattle.std.specs.List.{prefix_len, list_any};
 ghost use Rattle.std.specs.Option.{option_map};
