@@ -12,11 +12,13 @@ module _ {A : Type 0} (text : A → List ℕ) where
   pub flat_map-push : (xs : List A) (x : A) → flat_map text (xs ++ x ∷ []) ≡ flat_map text xs ++ text x
   flat_map-push xs x = flat_map-append text xs (x ∷ []) ∙ ap (λ l. flat_map text xs ++ l) (flat_map-one x)
 
-  pub flat_map-take : (xs : List A) (i : ℕ) (d : A) → i < length xs → flat_map text (take (i + 1) xs) ≡ flat_map text (take i xs) ++ text (get_or xs i d)
+  pub flat_map-take : (xs : List A) (i : ℕ) (d : A) → i < length xs
+      → flat_map text (take (i + 1) xs) ≡ flat_map text (take i xs) ++ text (get_or xs i d)
   flat_map-take xs i d h = ap (flat_map text) (take_more xs i d h) ∙ flat_map-push (take i xs) (get_or xs i d)
 
   -- the elements before the i-th, that element and the others
-  pub flat_map-at : (xs : List A) (i : ℕ) (d : A) → i < length xs → (flat_map text (take i xs) ++ text (get_or xs i d)) ++ flat_map text (drop (i + 1) xs) ≡ flat_map text xs
+  pub flat_map-at : (xs : List A) (i : ℕ) (d : A) → i < length xs
+      → (flat_map text (take i xs) ++ text (get_or xs i d)) ++ flat_map text (drop (i + 1) xs) ≡ flat_map text xs
   flat_map-at xs i d h =
       ap (λ l. l ++ flat_map text (drop (i + 1) xs)) (sym (flat_map-take xs i d h)) ∙ sym (flat_map-append text (take (i + 1) xs) (drop (i + 1) xs))
       ∙ ap (flat_map text) (take-append-drop (i + 1) xs)

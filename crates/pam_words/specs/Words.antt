@@ -99,7 +99,13 @@ time_app = with_moment (login_app (codes "time"))
 unfoldable pub bare_app : App
 bare_app = let app = new_app (codes "pamcheck") in record app { top = record app.top { subcommand_required = true } }
 
+-- the commands on a stack
+abbrev pub with_stacks : App → App
+with_stacks app =
+    with_subcommand (with_subcommand (with_subcommand app
+    show_app.top) decide_app.top) paths_app.top
+
 unfoldable pub pamcheck_app : App
 pamcheck_app =
-    with_subcommand (with_subcommand (with_subcommand (with_subcommand (with_subcommand bare_app
-    show_app.top) decide_app.top) paths_app.top) access_app.top) time_app.top
+    with_subcommand (with_subcommand (with_stacks bare_app)
+    access_app.top) time_app.top

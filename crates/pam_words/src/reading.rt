@@ -5,7 +5,7 @@ ghost use Rattle.std.specs.Char.{is_ascii_digit};
 ghost use Rattle.std.specs.List.{list_all};
 ghost use Rattle.std.specs.Option.{option_copied};
 ghost use Rattle.clap.specs.Words.{found_of, rows_of, first_of, all_of, takes, fault_of, subcommand_of};
-ghost use Rattle.pam_words.specs.Asked.{access_wish, asked_of, code_named as code_of_name, codes_named as codes_of_names, codes_of_rows, decide_wish, instant_of, kind_of_rows, place_of, seconds_of, show_wish, stack_of, text_of, texts_of, time_wish, when_of};
+ghost use Rattle.pam_words.specs.Asked.{access_wish, asked_of, code_named as code_of_name, codes_named as codes_of_names, codes_of_rows, decide_wish, instant_of, kind_of_rows, place_of, seconds_of, show_wish, stack_of, text_of, texts_of, time_wish, when_of, wish_of};
 ghost use Rattle.pam_words.specs.Wanted.{Answers, AsksFor, Gives, IsRead, IsRefusal, IsRefusalOf, Reads, RefusesBy, shown_place, shown_when};
 ghost use Rattle.pam_words.specs.Words.{pamcheck_app};
 
@@ -218,21 +218,27 @@ fn time<'a>(matches: &ArgMatches<'a>) -> Result<Task<'a>, Usage>
     })
 }
 
+fn task<'a>(alloc: Global, command: &str, matches: &ArgMatches<'a>) -> Result<Task<'a>, Usage>
+    ensures { AsksFor (wish_of command.now (rows_of (found_of matches.now))) result }
+{
+    if command == "show" {
+        show(matches)
+    } else if command == "decide" {
+        decide(alloc, matches)
+    } else if command == "paths" {
+        paths::paths(matches)
+    } else if command == "access" {
+        access(alloc, matches)
+    } else {
+        time(matches)
+    }
+}
+
 /// What a command asks for, by the values that `clap` found for its words.
 fn read<'a>(alloc: Global, command: &str, matches: &ArgMatches<'a>) -> Result<Request<'a>, Usage>
     ensures { Answers (asked_of command.now (rows_of (found_of matches.now))) result }
 {
-    let task = if command == "show" {
-        show(matches)?
-    } else if command == "decide" {
-        decide(alloc, matches)?
-    } else if command == "paths" {
-        paths::paths(matches)?
-    } else if command == "access" {
-        access(alloc, matches)?
-    } else {
-        time(matches)?
-    };
+    let task = task(alloc, command, matches)?;
     Ok(Request {
         service: text(matches, "service"),
         task,

@@ -3,7 +3,7 @@
 ghost use Rattle.std.specs.Prelude.{◌≡◌, IfOk, false};
 ghost use Rattle.clap.specs.Words.{app_of, new_app, rule_of};
 ghost use Rattle.clap.specs.declared.builder.Command.TheViews.{out-Command as fields_of};
-ghost use Rattle.pam_words.specs.Words.{access_app, bare_app, decide_app, limit_rule, login_app, option_rule, pamcheck_app, paths_app, repeated_rule, required_option_rule, required_rule, show_app, stack_app, time_app, with_login as with_login_rules, with_moment as with_moment_rules, with_page as with_page_rules, with_tables as with_table_rules};
+ghost use Rattle.pam_words.specs.Words.{access_app, bare_app, decide_app, limit_rule, login_app, option_rule, pamcheck_app, paths_app, repeated_rule, required_option_rule, required_rule, show_app, stack_app, time_app, with_login as with_login_rules, with_moment as with_moment_rules, with_page as with_page_rules, with_stacks as with_stack_commands, with_tables as with_table_rules};
 
 use crate::limit::limit_parser;
 use clap::{Arg, ArgAction, Command};
@@ -63,7 +63,7 @@ fn limit<'a>(alloc: Global) -> Arg<'a>
         alloc,
         "limit",
         "N",
-        "How many paths to list, 1 to 1000000; 1000 if left out",
+        "The most paths to list, 1 to 1000000; 1000 if left out",
     )
     .value_parser(limit_parser())
 }
@@ -117,12 +117,17 @@ fn with_page<'a>(alloc: Global, command: Command<'a>) -> Result<Command<'a>, All
 {
     command
         .arg(limit(alloc))?
-        .arg(option(alloc, "after", "CURSOR", "Lists the paths after this one"))?
+        .arg(option(
+            alloc,
+            "after",
+            "CURSOR",
+            "Lists the paths after this cursor",
+        ))?
         .arg(option(
             alloc,
             "before",
             "CURSOR",
-            "Lists the paths before this one, the last first",
+            "Lists the paths before this cursor, the last first",
         ))
 }
 
@@ -246,15 +251,25 @@ fn bare_command<'a>(alloc: Global) -> Command<'a>
     named(alloc, "pamcheck", "Explains what a PAM stack can decide").subcommand_required(true)
 }
 
+/// The commands on a stack.
+fn with_stacks<'a>(alloc: Global, command: Command<'a>) -> Result<Command<'a>, AllocError>
+    requires { (fields_of command).has_globals ≡ false }
+    ensures app { IfOk result (λ c. app_of c ≡ with_stack_commands (app_of command.entry)) }
+    ensures local { IfOk result (λ c. (fields_of c).has_globals ≡ false) }
+{
+    command
+        .subcommand(show_command(alloc)?)?
+        .subcommand(decide_command(alloc)?)?
+        .subcommand(paths_command(alloc)?)
+}
+
 /// The whole command: `clap` takes no other words.
 #[tactic(auto, unfolding(crate::specs::Words::pamcheck_app))]
 pub fn pamcheck_command<'a>(alloc: Global) -> Result<Command<'a>, AllocError>
     ensures app { IfOk result (λ c. app_of c ≡ pamcheck_app) }
     ensures local { IfOk result (λ c. (fields_of c).has_globals ≡ false) }
 {
-    let command = bare_command(alloc).subcommand(show_command(alloc)?)?;
-    let command = command.subcommand(decide_command(alloc)?)?;
-    let command = command.subcommand(paths_command(alloc)?)?;
-    let command = command.subcommand(access_command(alloc)?)?;
-    command.subcommand(time_command(alloc)?)
+    with_stacks(alloc, bare_command(alloc))?
+        .subcommand(access_command(alloc)?)?
+        .subcommand(time_command(alloc)?)
 }
