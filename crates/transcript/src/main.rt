@@ -1,6 +1,6 @@
-//! Runs each line of standard input as words of pamcheck, and writes what a terminal shows: the words, the answer, the
-//! text on standard error after `!`, and the exit status. Words are separated by one space each, so two spaces in a row
-//! enclose an empty word; an empty line has no words.
+//! Runs each line of standard input as words of pamcheck, and writes what a terminal shows: the words, the answer,
+//! the text on standard error after `!`, and the exit status. Words are separated by one space each, so two spaces in
+//! a row enclose an empty word. An empty line has no words.
 #![tactic(auto)]
 
 use pam_codes::Out;
