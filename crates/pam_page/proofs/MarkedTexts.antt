@@ -1,4 +1,4 @@
--- The texts that are kept, step by step.
+-- The kept texts, step by step.
 use Rattle.std.proofs.Common.{◌≡◌, ℕ, ◌+◌, ◌-◌, ◌<◌, ◌≤◌, zero, suc, List, [], ◌∷◌, ◌++◌, length, take, drop, map, get_or, refl, sym, ap, subst, ◌∙◌, arith}
 use Rattle.std.proofs.Common.{Some, None, slice_get, length-drop, codes, decimal, append_assoc, append-nil, length-append}
 use Rattle.std.specs.List.{flat_map}
@@ -34,7 +34,7 @@ no_last (x ∷ xs) e =
     let found = slice_get-get_or (x ∷ xs) (length (x ∷ xs) - 1) x (omega arith) in
     cc
 
--- the front of a text that is cut with its list
+-- a text is cut together with its list
 text_cut : {A : Type 0} (text : A → List ℕ) (xs : List A) (n end : ℕ) (all : List ℕ) → all ≡ flat_map text xs → end ≡ length (flat_map text (take n xs))
     → take end all ≡ flat_map text (take n xs)
 text_cut text xs n end all e l =

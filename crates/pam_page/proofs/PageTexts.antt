@@ -12,7 +12,7 @@ use Rattle.pam_page.specs.Page.{first_page, last_line, page_text, path_line, tex
 use Rattle.pam_paths.specs.Pages.{Page, last_key}
 use Rattle.pam_paths.specs.Paths.{PathValue, key}
 
--- the first of what is left of a list
+-- the first of the remaining elements of a list
 pub record Goes {A : Type 0} (all : List A) (i : ℕ) (x : A) (rest : List A) : Type 0 where
   pub inside : i < length all
   pub before : take (i + 1) all ≡ take i all ++ x ∷ []
@@ -108,7 +108,7 @@ pub rest_front : (side : List ℕ) (count : ℕ) (path : PathValue) (paths : Lis
 rest_front side count path [] = (last_line side (count + 1) None, rest_end side count path)
 rest_front side count path (next ∷ paths) = (last_line side (count + 1) (Some (key path)), rest_more side count path next paths)
 
--- ---- the same, as the calls give them
+-- ---- the same, from the results of calls
 
 pub rest_end-is : (side at : List ℕ) (count n : ℕ) (path : PathValue) (paths left : List PathValue)
     → at ≡ side → n ≡ count + 1 → paths ≡ path ∷ left → left ≡ []
