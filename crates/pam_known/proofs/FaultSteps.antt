@@ -28,13 +28,13 @@ pub read_fails : {T : Type 0} (table : Table) (e : TableError) (read : Result T 
 read_fails table e read same h =
     subst (λ (t : Table). IsFault e e.fault (read_as t read ≡ Err e)) same (read_fails_here e.table e.fault e.line read h)
 
--- the numbers that are left after one more
+-- the remaining numbers, after one more
 next_numbers : (n i : ℕ) → i < n → range_with_len (i + 1) (n - i) ≡ (i + 1) ∷ range_with_len (i + 1 + 1) (n - (i + 1))
 next_numbers n i h =
     let more : n - i ≡ suc (n - (i + 1)) = omega arith in
     ap (λ (k : ℕ). range_with_len (i + 1) k) more
 
--- the same of a test that the next module does not pass
+-- the same, for a test that the next module fails
 pub any_next : (test : ℕ → Bool) (n i : ℕ) (all : Bool) → i < n → test (i + 1) ≡ false → list_any test (range_with_len (i + 1) (n - i)) ≡ all →
     list_any test (range_with_len (i + 1 + 1) (n - (i + 1))) ≡ all
 any_next test n i all h fails e =

@@ -1,4 +1,4 @@
--- The knowledge of a stack, from what its parts are.
+-- The knowledge of a stack, from its parts.
 use Rattle.std.proofs.Common.{◌≡◌, ◌≤◌, ℕ, List, [], sym, ◌∙◌, ap, subst}
 use Rattle.std.specs.Prelude.{Option, Some, None, Result, Ok, Err}
 use Rattle.pam_conf.specs.Stack.{Items, module_count}
@@ -19,7 +19,7 @@ use Rattle.pam_known.proofs.FaultSteps.{is_fault_of, read_fails}
 use Rattle.pam_known.proofs.ReaderSteps.{no_lines}
 
 module _ (kind : Kind) (login : LoginText) (tables : TablesText) (items : Items) where
-  -- the codes, where the groups and the lines of the returns file are these
+  -- the codes, if the groups and the lines of the returns file are these
   abbrev pub codes_with : List Group → List ReturnLine → ℕ → List ℕ
   codes_with groups lines number = codes_by (told_at kind login tables groups items number) (line_at lines items number)
 
@@ -69,7 +69,7 @@ module _ (kind : Kind) (login : LoginText) (tables : TablesText) (items : Items)
       unfolding knowledge
       all_read lines is = ap after_groups read ∙ ap (after_tables groups) none ∙ ap (after_returns groups) is
 
-      -- where the sets of modules are those of these lines, they are known
+      -- if the sets of the modules are those of these lines, the knowledge is theirs
       pub known_with : (lines : List ReturnLine) (known : Known) → returns_read tables.returns ≡ Ok lines →
           ((number : ℕ) → 1 ≤ number → number ≤ module_count items → Lets (codes_with groups lines number) (set_for known number)) →
           Knows (module_count items) (Ok known) (knowledge kind login tables items)

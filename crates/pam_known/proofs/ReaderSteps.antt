@@ -1,4 +1,4 @@
--- Which table tells what a module answers.
+-- Which table tells the code of a module.
 use Rattle.std.proofs.Common.{◌≡◌, ◌<◌, ◌||◌, ◌&&◌, ℕ, Bool, true, false, not, List, [], ◌∷◌, map, refl, ap, subst, arith}
 use Rattle.std.specs.Prelude.{Option, Some, None, Result, Ok, Err, is_some, if◌then◌else◌}
 use Rattle.std.specs.List.{list_any}
@@ -36,7 +36,7 @@ pub read_is_given : (kind : Kind) (tables : TablesText) (m : ModuleText) (table 
 unfolding time_read
 read_is_given kind tables m table e = given_of _ tables.time table e
 
--- a line changes nothing where a table tells the answer
+-- a line changes nothing if a table tells the code
 pub told_alone : (told : Option (Result ℕ TableError)) (line : Option (List ℕ)) → is_some told ≡ true → codes_by told line ≡ codes_by told None
 told_alone None line e = absurd (cc)
 told_alone (Some (Ok code)) line e = refl
@@ -85,7 +85,7 @@ code_small_at kind login tables groups items number code e =
       | Some m ↦ λ f. code_small kind login tables groups m code f
     ] e
 
--- without lines no module has one
+-- without lines, no module has one
 pub no_lines : (items : Items) (number : ℕ) → line_at [] items number ≡ None
 unfolding line_at
 no_lines items number =

@@ -26,7 +26,7 @@ module _ (n : ℕ) (before done : ℕ → List ℕ → Type 0) (old : ℕ → Li
     rest = λ m low high. so_far.rest m (omega arith) high;
   }
 
-  -- the set of the next module is put in
+  -- the set of the next module is replaced
   pub changes : (new : ℕ → List ℕ) (codes : List ℕ) → ((m : ℕ) → 1 ≤ m → m ≤ n → new m ≡ cond (m == i + 1) codes (old m)) →
       done (i + 1) codes → AreDone n before done new (i + 1)
   changes new codes put step = record {
@@ -55,7 +55,7 @@ or_none : (b : Bool) → (b || not true) ≡ b
 or_none true = refl
 or_none false = refl
 
--- a set with a code lets its module answer its codes
+-- a set that is not empty allows its own codes
 lets_some : (codes : List ℕ) (k : ℕ) → k < 31 → is_in k codes ≡ true → Lets codes codes
 unfolding Lets answers_by all_codes
 lets_some codes k small member code h =
@@ -70,7 +70,7 @@ unfolding Lets
 lets_codes codes order some code h =
     sym (ap (is_in code) (something_set codes order (λ none. some (nil_from_length codes none))) ∙ is_in-codes_where (answers_by codes) code h)
 
--- an empty set lets its module answer all codes
+-- an empty set allows all codes
 pub lets_all : Lets all_codes []
 unfolding Lets
 lets_all code h = sym (ap (is_in code) (nothing_set [] all_codes refl refl) ∙ is_in-codes_where (answers_by []) code h)

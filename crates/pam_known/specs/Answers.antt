@@ -1,4 +1,4 @@
--- What a table tells of the answer of a module: pam_access(8), pam_time(8).
+-- The code of a module that reads a table: pam_access(8), pam_time(8).
 use Rattle.std.specs.Prelude.{◌≡◌, ℕ, ◌==◌, Bool, ◌&&◌, not, nat_eq, if◌then◌else◌, List, codes, Option, None, Result, Ok, Err}
 use Rattle.std.specs.List.{after_last, list_any, starts_with}
 use Rattle.std.specs.Option.{option_map, option_or}
@@ -25,49 +25,49 @@ use Rattle.pam_times.specs.declared.times.TimeAnswer.{TimeAnswer}
 use Rattle.pam_times.specs.declared.times.TimeAnswer.TheVariants as times
 use Rattle.pam_known.specs.Tables.{TablesText, TimedText}
 
--- ---- what a call answers, by what is told
+-- ---- results of calls
 
--- a fault is exactly this one, unless memory ran out, which belongs to no line
+-- exactly this fault, unless an allocation failed, which has no line
 abbrev pub IsFault : TableError → TableFault → Type 0 → Type 0
 IsFault e Memory exact = e.line ≡ 0
 IsFault e fault exact = exact
 
--- a value, or the first fault, unless memory ran out
+-- a value, or the first fault, unless an allocation failed
 abbrev pub Tells : {X Y : Type 0} → (X → Y) → Result X TableError → Result Y TableError → Type 0
 Tells view (Ok x) told = told ≡ Ok (view x)
 Tells view (Err e) told = IsFault e e.fault (told ≡ Err e)
 
--- what reading a table gives, whose fault names the table
+-- a table, or its fault together with the kind of the table
 abbrev pub read_as : {T : Type 0} → Table → Result T (TableFault × ℕ) → Result T TableError
 read_as table (Ok t) = Ok t
 read_as table (Err e) = Err (record { table = table; fault = e.0; line = e.1 })
 
 -- ---- the table that a module reads
 
--- the name of a module: what stands after the last slash of its path
+-- the name of a module: the text after the last slash of its path
 unfoldable pub name_of_path : List ℕ → List ℕ
 name_of_path path = after_last (λ b. b == 47) path
 
--- some argument begins with this key
+-- whether an argument begins with this key
 unfoldable pub has_key : List ℕ → List (List ℕ) → Bool
 has_key key arguments = list_any (λ a. starts_with nat_eq a key) arguments
 
--- a module of this name, where no argument with this key names another file
+-- a module of this name, of which no argument with this key names another file
 unfoldable pub is_reader : List ℕ → List ℕ → ModuleText → Bool
 is_reader name key m = bytes_eq (name_of_path m.path) name && not (has_key key m.arguments)
 
--- the access table, where the module reads it and it is given
+-- the access table, if it is given and the module reads it
 unfoldable pub access_read : TablesText → ModuleText → Option (List ℕ)
 access_read tables m = if is_reader (codes "pam_access.so") (codes "accessfile=") m then tables.access else None
 
--- the time table, where the module reads it, which it does for accounts alone, and it is given
+-- the time table, if it is given and the module reads it. Only `account` modules do
 unfoldable pub time_read : Kind → TablesText → ModuleText → Option TimedText
 time_read kind tables m =
     if same_kind kind Account && is_reader (codes "pam_time.so") (codes "conffile=") m then tables.time else None
 
--- ---- what it tells
+-- ---- the code that the table tells
 
--- a login that is granted is a success
+-- a granted login is a success
 abbrev pub access_code : AccessAnswer → ℕ
 access_code (access.Granted line) = success
 access_code (access.Denied line) = perm_denied
@@ -80,16 +80,16 @@ abbrev pub result_map : {X Y E : Type 0} → (X → Y) → Result X E → Result
 result_map f (Ok x) = Ok (f x)
 result_map f (Err e) = Err e
 
--- what an access table tells, read with the arguments of the module
+-- the code that an access table tells, read with the arguments of the module
 unfoldable pub access_told : LoginText → List Group → List (List ℕ) → List ℕ → Result ℕ TableError
 access_told login groups arguments bytes =
     result_map (λ table. access_code (access_answer table login groups)) (read_as Access (table_of (options_of arguments) bytes))
 
--- what a time table tells
+-- the code that a time table tells
 unfoldable pub time_told : LoginText → TimedText → Result ℕ TableError
 time_told login timed = result_map (λ rules. time_code (answer_of rules login timed.moment)) (read_as Time (rules_of timed.bytes))
 
--- WHAT A TABLE TELLS of the answer of a module, as a code, or the table's fault; none where no table tells it
+-- THE CODE of a module that reads a table, or the table's fault; none for other modules
 unfoldable pub table_answer : Kind → LoginText → TablesText → List Group → ModuleText → Option (Result ℕ TableError)
 table_answer kind login tables groups m =
     option_or (option_map (access_told login groups m.arguments) (access_read tables m)) (option_map (time_told login) (time_read kind tables m))

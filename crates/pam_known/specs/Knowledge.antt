@@ -1,4 +1,4 @@
--- What tables and a returns file tell of the answers of all modules of a stack: pam.conf(5), pam_access(8), pam_time(8).
+-- The codes that modules may return, from tables and a returns file: pam.conf(5), pam_access(8), pam_time(8).
 use Rattle.std.specs.Prelude.{◌≡◌, ℕ, ◌<◌, ◌≤◌, Bool, false, is_some, if◌then◌else◌, List, [], ◌∷◌, Option, Some, None, Result, Ok, Err}
 use Rattle.std.specs.List.{list_any, range_with_len}
 use Rattle.std.specs.Option.{option_and_then, option_map_or, option_or}
@@ -17,26 +17,26 @@ use Rattle.pam_tables.specs.declared.error.TableError.{TableError}
 use Rattle.pam_known.specs.Answers.{IsFault, access_read, name_of_path, read_as, table_answer}
 use Rattle.pam_known.specs.Tables.{TablesText}
 
--- ---- the modules, by their numbers
+-- ---- modules by number
 
 abbrev pub numbers : Items → List ℕ
 numbers items = range_with_len 1 (module_count items)
 
--- a module of the stack reads the access table
+-- whether a module reads the access table
 abbrev pub reads_access : TablesText → Items → ℕ → Bool
 reads_access tables items number = option_map_or (λ m. is_some (access_read tables m)) (module_at number items) false
 
--- what a table tells of the answer of the module of a number
+-- the code of a module that reads a table, by its number
 unfoldable pub told_at : Kind → LoginText → TablesText → List Group → Items → ℕ → Option (Result ℕ TableError)
 told_at kind login tables groups items number = option_and_then (table_answer kind login tables groups) (module_at number items)
 
--- the codes of its line in a returns file
+-- the codes of a module's line in a returns file, by its number
 unfoldable pub line_at : List ReturnLine → Items → ℕ → Option (List ℕ)
 line_at lines items number = option_and_then (λ m. codes_for lines (name_of_path m.path)) (module_at number items)
 
 -- ---- the first fault
 
--- the groups, of which a file is read only where some module reads the access table
+-- the groups, from a file that is read only if a module reads the access table
 unfoldable pub groups_read : TablesText → Items → Result (List Group) TableError
 groups_read tables items =
     if list_any (reads_access tables items) (numbers items) then option_map_or (λ bytes. read_as GroupTable (groups_of bytes)) tables.groups (Ok [])
@@ -47,26 +47,26 @@ fault_told None = None
 fault_told (Some (Ok code)) = None
 fault_told (Some (Err e)) = Some e
 
--- the fault of the first of these modules whose table has one
+-- the first fault of a table that one of these modules reads
 unfoldable pub first_fault : (ℕ → Option (Result ℕ TableError)) → List ℕ → Option TableError
 first_fault told [] = None
 first_fault told (number ∷ numbers) = option_or (fault_told (told number)) (first_fault told numbers)
 
--- the lines of the returns file, which is read wherever it is given
+-- the lines of the returns file, which is read whenever it is given
 abbrev pub returns_read : Option (List ℕ) → Result (List ReturnLine) TableError
 returns_read None = Ok []
 returns_read (Some bytes) = read_as ReturnsTable (returns_of bytes)
 
 -- ---- the codes of each module
 
--- the code that a table tells, else the codes of a line, else all codes. A fault tells no code, and is the answer instead
+-- the code that a table tells, else the codes of a line, else all codes. A fault tells no code: it is the result
 abbrev pub codes_by : Option (Result ℕ TableError) → Option (List ℕ) → List ℕ
 codes_by (Some (Ok code)) line = code ∷ []
 codes_by (Some (Err e)) line = all_codes
 codes_by None (Some codes) = codes
 codes_by None None = all_codes
 
--- the knowledge of codes by the numbers of modules
+-- the knowledge that allows each module these codes, by its number
 abbrev pub allows_codes : (ℕ → List ℕ) → Allowance
 allows_codes codes number code = is_in code (codes number)
 
@@ -79,22 +79,22 @@ abbrev pub unless : {B : Type 0} → Option TableError → Result B TableError �
 unless None told = told
 unless (Some e) told = Err e
 
--- THE KNOWLEDGE that a login, the tables and a returns file give of a stack: the codes that each module may answer, by
--- its number. The first fault is that of the groups, then of the tables, in the order of the modules, then of the
--- returns file
+-- THE KNOWLEDGE of a stack for a login, from the tables and a returns file: the codes that each module may return, by
+-- its number. The first fault is that of the groups, then those of the tables, in the order of the modules, then that
+-- of the returns file
 unfoldable pub knowledge : Kind → LoginText → TablesText → Items → Result (ℕ → List ℕ) TableError
 knowledge kind login tables items =
     groups_read tables items
     >>= λ groups. unless (first_fault (told_at kind login tables groups items) (numbers items)) (returns_read tables.returns
     >>= λ lines. Ok (λ number. codes_by (told_at kind login tables groups items number) (line_at lines items number)))
 
--- ---- what a call answers
+-- ---- results of calls
 
--- two knowledges let each of the modules 1 to n answer the same codes
+-- two knowledges allow each of the modules 1 to n the same codes
 abbrev pub Agree : ℕ → Allowance → Allowance → Type 0
 Agree n one other = (number code : ℕ) → 1 ≤ number → number ≤ n → code < 31 → one number code ≡ other number code
 
--- the codes of the modules 1 to n, or the first fault, unless memory ran out
+-- the codes of the modules 1 to n, or the first fault, unless an allocation failed
 abbrev pub Knows : ℕ → Result Known TableError → Result (ℕ → List ℕ) TableError → Type 0
 Knows n (Ok known) told = (codes : ℕ → List ℕ) × (told ≡ Ok codes) × Agree n (may_answer known) (allows_codes codes)
 Knows n (Err e) told = IsFault e e.fault (told ≡ Err e)

@@ -1,4 +1,4 @@
--- For proofs alone: the sets of codes of modules, found one after another.
+-- For proofs alone: the sets of codes, while they are found module by module.
 use Rattle.std.specs.Prelude.{◌≡◌, ◌≢◌, ℕ, ◌<◌, ◌≤◌, List, [], Option, Some, None, Result, Ok, Err}
 use Rattle.std.specs.Option.{option_map}
 use Rattle.pam_codes.specs.Set.{is_in, IsCodeSet}
@@ -12,26 +12,26 @@ use Rattle.pam_known.specs.Knowledge.{codes_by, first_fault, numbers, told_at}
 use Rattle.pam_known.specs.Tables.{tables_view}
 use Rattle.pam_known.specs.declared.known.Lookup.{Lookup}
 
--- a code that a table tells, where one does, or its fault, unless memory ran out
+-- the code that a table tells, if it tells one, or its fault, unless an allocation failed
 abbrev pub TellsIfAny : Result (Option ℕ) TableError → Option (Result ℕ TableError) → Type 0
 TellsIfAny (Ok None) told = told ≡ None
 TellsIfAny (Ok (Some code)) told = told ≡ Some (Ok code)
 TellsIfAny (Err e) told = IsFault e e.fault (told ≡ Some (Err e))
 
--- what a table tells the lookup of the answer of a module
+-- the code that a table tells for a module, for this lookup
 abbrev pub told_of : Lookup → ModuleText → Option (Result ℕ TableError)
 told_of l m = table_answer l.kind (login_view l.login.now) (tables_view l.tables.now) l.groups m
 
--- the same of the module of a number
+-- the same, by the number of the module
 abbrev pub told_of_number : Lookup → Items → ℕ → Option (Result ℕ TableError)
 told_of_number l items number = told_at l.kind (login_view l.login.now) (tables_view l.tables.now) l.groups items number
 
--- what is kept is what the time table tells the lookup
+-- the kept code is what the time table tells
 abbrev pub IsKept : Lookup → Option ℕ → Type 0
 IsKept l None = Unit {0}
 IsKept l (Some code) = option_map (time_told (login_view l.login.now)) (tables_view l.tables.now).time ≡ Some (Ok code)
 
--- a set that is known lets a module answer exactly these codes
+-- a set allows exactly these codes
 unfoldable pub Lets : List ℕ → List ℕ → Type 0
 Lets codes set = (code : ℕ) → code < 31 → answers_by set code ≡ is_in code codes
 
@@ -40,12 +40,12 @@ abbrev pub Adds : Option (List ℕ) → Option (Result ℕ TableError) → Optio
 Adds None told line = codes_by told line ≡ codes_by told None
 Adds (Some codes) told line = (codes_by told line ≡ codes) × IsCodeSet codes × (codes ≢ [])
 
--- of the modules 1 to n, the sets up to a number are done, and those that follow are as before
+-- of the modules 1 to n, the sets up to a number are done, and the later ones are as before
 pub record AreDone (n : ℕ) (before done : ℕ → List ℕ → Type 0) (sets : ℕ → List ℕ) (number : ℕ) : Type 0 where
   pub first : (m : ℕ) → 1 ≤ m → m ≤ number → done m (sets m)
   pub rest : (m : ℕ) → number < m → m ≤ n → before m (sets m)
 
--- the sets that tables tell, and those that tables and a returns file tell
+-- the sets from tables, and those from tables and a returns file
 abbrev pub IsUnset : ℕ → List ℕ → Type 0
 IsUnset number set = set ≡ []
 
@@ -55,7 +55,7 @@ IsTableSet told number set = Lets (codes_by (told number) None) set
 abbrev pub IsLineSet : (ℕ → Option (Result ℕ TableError)) → (ℕ → Option (List ℕ)) → ℕ → List ℕ → Type 0
 IsLineSet told line number set = Lets (codes_by (told number) (line number)) set
 
--- what tables tell of the modules 1 to n, or the first fault, unless memory ran out
+-- the codes that tables tell for the modules 1 to n, or the first fault, unless an allocation failed
 abbrev pub TellsAll : ℕ → (ℕ → Option (Result ℕ TableError)) → List ℕ → Result Known TableError → Type 0
 TellsAll n told numbers (Ok known) = (first_fault told numbers ≡ None) × ((m : ℕ) → 1 ≤ m → m ≤ n → IsTableSet told m (set_for known m))
 TellsAll n told numbers (Err e) = IsFault e e.fault (first_fault told numbers ≡ Some e)

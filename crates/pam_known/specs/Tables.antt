@@ -1,16 +1,16 @@
--- The tables in which a login is looked up: access.conf(5), time.conf(5), group(5).
+-- The files that a login is looked up in: access.conf(5), time.conf(5), group(5).
 use Rattle.std.specs.Prelude.{ℕ, List, Option}
 use Rattle.std.specs.Option.{option_map}
 use Rattle.jiff.specs.Types.{DateTime}
 use Rattle.pam_known.specs.declared.tables.Tables.{Tables}
 use Rattle.pam_known.specs.declared.tables.TimedTable.{TimedTable}
 
--- a time table, and the moment at which it is asked
+-- a time table, and the moment of the login
 pub record TimedText : Type 0 where
   pub bytes : List ℕ
   pub moment : DateTime
 
--- the tables that are given
+-- the files that are given
 pub record TablesText : Type 0 where
   pub groups : Option (List ℕ)
   pub access : Option (List ℕ)

@@ -1,4 +1,4 @@
-//! What a table tells of the answer of a module.
+//! The answer of one module, from the table that it reads.
 
 ghost use Rattle.std.specs.Prelude.{◌≡◌, ◌≤◌, ◌==◌, nat_eq, not, length, map};
 ghost use Rattle.std.specs.List.{list_any, starts_with, suffix_len};
@@ -22,7 +22,7 @@ fn bytes_after_slash(path: &[u8]) -> usize
     path.iter().rev().take_while(|b| **b != b'/').count()
 }
 
-/// The name of the module at a path: what follows its last slash.
+/// Returns the name of the module at a path: the text after the last slash.
 #[tactic(auto, unfolding(crate::specs::Answers::name_of_path))]
 pub(crate) fn name_of_path(path: &[u8]) -> &[u8]
     ensures { result.now ≡ name_of_path path.now }
@@ -30,14 +30,14 @@ pub(crate) fn name_of_path(path: &[u8]) -> &[u8]
     path.split_at(path.len() - bytes_after_slash(path)).1
 }
 
-/// Whether some argument begins with a key.
+/// Whether an argument begins with a key.
 fn has_key(key: &[u8], arguments: &[Vec<u8>]) -> bool
     ensures { result ≡ list_any (λ a. starts_with nat_eq a.items key.now) arguments.now }
 {
     arguments.iter().any(|argument| argument.starts_with(key))
 }
 
-/// Whether a module of this name reads the table of the system, as it does unless an argument names another file.
+/// Whether a module has this name and reads the system's table: no argument names another file.
 #[tactic(auto, unfolding(crate::specs::Answers::is_reader))]
 fn is_reader(name: &[u8], key: &[u8], module: &Module) -> bool
     ensures { result ≡ is_reader name.now key.now (module_text «module».now) }
@@ -45,7 +45,7 @@ fn is_reader(name: &[u8], key: &[u8], module: &Module) -> bool
     name_of_path(&module.path) == name && !has_key(key, &module.arguments)
 }
 
-/// The access table, if the module reads it: pam_access(8).
+/// Returns the access table, if it is given and the module reads it, as in pam_access(8).
 #[tactic(auto, unfolding(crate::specs::Answers::access_read))]
 pub(crate) fn access_read<'a>(tables: &Tables<'a>, module: &Module) -> Option<&'a [u8]>
     ensures { option_map (λ b. b.now) result ≡ access_read (tables_view tables.now) (module_text «module».now) }
@@ -57,7 +57,7 @@ pub(crate) fn access_read<'a>(tables: &Tables<'a>, module: &Module) -> Option<&'
     }
 }
 
-/// The time table, if the module reads it, which it does for accounts alone: pam_time(8).
+/// Returns the time table, if it is given and the module reads it, as in pam_time(8). Only `account` modules do.
 #[tactic(auto, unfolding(crate::specs::Answers::time_read))]
 pub(crate) fn time_read<'x, 't>(
     kind: Kind,
@@ -91,7 +91,7 @@ fn time_code(answer: TimeAnswer) -> Code
     }
 }
 
-/// What an access table tells of a login, read with the arguments of the module.
+/// Returns the code of a module that reads this access table, with these arguments.
 #[tactic(auto, unfolding(crate::specs::Answers::access_told))]
 pub(crate) fn access_told(
     alloc: Global,
@@ -108,7 +108,7 @@ pub(crate) fn access_told(
     }
 }
 
-/// What a time table tells of a login.
+/// Returns the code of a module that reads this time table.
 #[tactic(auto, unfolding(crate::specs::Answers::time_told))]
 pub(crate) fn time_told(
     alloc: Global,

@@ -1,4 +1,4 @@
-//! What is known of the answers of all modules of a stack.
+//! The codes that the modules of a stack may return.
 
 ghost use Rattle.std.specs.Prelude.{◌≡◌, ◌≤◌, ℕ, Some, is_some};
 ghost use Rattle.std.specs.List.{list_any};
@@ -30,7 +30,7 @@ fn reads_access(stack: &Stack, tables: &Tables<'_>, number: usize) -> bool
     }
 }
 
-/// Whether some module reads the access table.
+/// Whether a module reads the access table.
 fn some_reads_access(stack: &Stack, tables: &Tables<'_>) -> bool
     ensures { result ≡ list_any (reads_access (tables_view tables.now) stack.now) (numbers stack.now) }
 {
@@ -42,7 +42,7 @@ fn some_reads_access(stack: &Stack, tables: &Tables<'_>) -> bool
     false
 }
 
-/// The groups, whose file is read only where some module reads the access table.
+/// Returns the groups. Reads the group file only if a module reads the access table.
 #[tactic(auto, unfolding(crate::specs::Knowledge::groups_read))]
 fn groups_read(alloc: Global, stack: &Stack, tables: &Tables<'_>) -> Result<Groups, TableError>
     ensures { Tells (λ groups. groups) result (groups_read (tables_view tables.now) stack.now) }
@@ -56,7 +56,7 @@ fn groups_read(alloc: Global, stack: &Stack, tables: &Tables<'_>) -> Result<Grou
     }
 }
 
-/// Who logs in to a stack of which kind, and the tables and groups that tell of it.
+/// A login to a stack of a kind, with the tables and groups to look it up in.
 #[derive(Drop)]
 struct Lookup<'x, 'l, 't> {
     kind: Kind,
@@ -66,7 +66,7 @@ struct Lookup<'x, 'l, 't> {
 }
 
 impl Lookup<'_, '_, '_> {
-    /// What the time table tells. It is the same for all modules, so it is kept.
+    /// Returns the code that the time table tells. It is the same for all modules, so `by_time` keeps it.
     fn time_answer(
         &self,
         alloc: Global,
@@ -88,7 +88,7 @@ impl Lookup<'_, '_, '_> {
         }
     }
 
-    /// What its table tells of the answer of a module, if it reads one. `by_time` is what the time table told before.
+    /// Returns the code that a module returns because of its table, if it reads one. `by_time` is as for `time_answer`.
     #[tactic(auto, unfolding(crate::specs::Answers::table_answer))]
     fn answer_of(
         &self,
@@ -113,7 +113,7 @@ impl Lookup<'_, '_, '_> {
         }
     }
 
-    /// The same of the module of a number.
+    /// Like `answer_of`, for the module of a number.
     fn answer_at(
         &self,
         alloc: Global,
@@ -131,7 +131,7 @@ impl Lookup<'_, '_, '_> {
         }
     }
 
-    /// What tables tell of the answers of all modules.
+    /// Returns the codes of all modules that read a table.
     fn table_answers(&self, alloc: Global, stack: &Stack) -> Result<Known, TableError>
         ensures { TellsAll (module_count stack.now) (told_of_number self.now stack.now) (numbers stack.now) result }
     {
@@ -145,7 +145,7 @@ impl Lookup<'_, '_, '_> {
         Ok(known)
     }
 
-    /// Whether a table tells the answer of a module.
+    /// Whether the module reads a table, which then tells its code.
     #[tactic(auto, unfolding(crate::specs::Answers::table_answer))]
     fn is_told(&self, module: &Module) -> bool
         ensures { result ≡ is_some (told_of self.now (module_text «module».now)) }
@@ -154,7 +154,7 @@ impl Lookup<'_, '_, '_> {
             || time_read(self.kind, self.tables, module).is_some()
     }
 
-    /// The codes of a module's line in a returns file, if it has one and no table tells the answer.
+    /// Returns the codes of the module's line in a returns file, if it has one and reads no table.
     fn codes_of(&self, module: &Module, returns: &ReturnTable) -> Option<CodeSet>
         ensures { Adds result (told_of self.now (module_text «module».now)) (codes_for returns.now (name_of_path «module».now.path.items)) }
     {
@@ -162,12 +162,12 @@ impl Lookup<'_, '_, '_> {
             return None;
         }
         let codes = returns.codes(name_of_path(&module.path))?;
-        // An empty set would let the module answer any code.
+        // An empty set would allow every code.
         prove!(codes.len() > 0);
         Some(codes)
     }
 
-    /// The same of the module of a number.
+    /// Like `codes_of`, for the module of a number.
     fn codes_at(&self, stack: &Stack, number: usize, returns: &ReturnTable) -> Option<CodeSet>
         ensures { Adds result (told_of_number self.now stack.now number) (line_at returns.now stack.now number) }
     {
@@ -177,7 +177,7 @@ impl Lookup<'_, '_, '_> {
         }
     }
 
-    /// Adds what a returns file tells of the modules that read no table.
+    /// Adds the codes of a returns file, for the modules that read no table.
     fn add_returns(&self, stack: &Stack, returns: &ReturnTable, known: &mut Known)
         requires { (m : ℕ) → 1 ≤ m → m ≤ module_count stack.now → IsTableSet (told_of_number self.now stack.now) m (set_for known.old m) }
         ensures { (m : ℕ) → 1 ≤ m → m ≤ module_count stack.now → IsLineSet (told_of_number self.now stack.now) (line_at returns.now stack.now) m (set_for known.new m) }
@@ -190,17 +190,16 @@ impl Lookup<'_, '_, '_> {
     }
 }
 
-/// What is known of the answers of the modules of a stack of this kind, for a login.
+/// Returns the codes that the modules of a stack of this kind may return for a login.
 ///
-/// A module `pam_access.so` answers what the access table tells, read with the module's own
-/// arguments, unless one of them begins with `accessfile=`; `pam_time.so`, for accounts alone, what
-/// the time table tells, unless an argument begins with `conffile=`. Granted is `success`, denied
-/// `perm_denied`. Each other module answers the codes of its name's line in the returns file, and
-/// any code where there is none.
+/// A module `pam_access.so` returns what the access table says, read with the module's own arguments, unless one of
+/// them begins with `accessfile=`. A module `pam_time.so` returns what the time table says, for `account` only, unless
+/// an argument begins with `conffile=`. Granted is `success`, denied is `perm_denied`. Every other module may return
+/// the codes of its line in the returns file, or any code if it has no line.
 ///
-/// The first fault is an error: that of the group file, which is read only where a module reads the
-/// access table; then, over the modules in turn, that of the table that a module reads; then that of
-/// the returns file. A failed allocation is `Memory`, with line 0.
+/// Returns the first fault: of the group file, which is read only if a module reads the access table; then of the
+/// table that a module reads, in the order of the modules; then of the returns file. A failed allocation is `Memory`,
+/// with line 0.
 pub fn known_answers<'x>(
     alloc: Global,
     stack: &Stack,

@@ -1,8 +1,8 @@
-//! Laws of the definitions that the contract of this crate cites. These functions make no calls.
+//! Laws of the definitions that contracts use. Each is the contract of a function with an empty body.
 
 ghost use Rattle.pam_known.specs.Laws.{SameListing, SameListingAfter, SameListingBefore};
 
-/// Knowledges that allow each module the same codes have the same listing, and the same parts of it.
+/// If two knowledges allow each module the same codes, they have the same listing, and the same parts of it.
 pub fn same_listing()
     ensures all { SameListing }
     ensures after { SameListingAfter }

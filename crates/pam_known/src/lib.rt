@@ -1,4 +1,5 @@
-//! What tables and a returns file tell of the answers of the modules of a stack.
+//! The codes that the modules of a stack may return for a login, as far as they are known.
+//! Access and time tables tell the codes of the modules that read them, and a returns file those of the others.
 #![tactic(auto)]
 
 mod answers;

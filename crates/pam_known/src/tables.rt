@@ -1,22 +1,22 @@
-//! The tables in which a login is looked up.
+//! The files that a login is looked up in.
 
 use jiff::civil::DateTime;
 
-/// The bytes of a time table, time.conf(5), and the moment at which it is asked.
+/// A time table, as in time.conf(5), and the moment of the login.
 #[derive(Clone, Copy)]
 pub struct TimedTable<'a> {
     pub bytes: &'a [u8],
     pub moment: DateTime,
 }
 
-/// The bytes of the tables that tell what modules answer. One that is not given tells nothing.
+/// The contents of the files that tell the codes of modules. One that is `None` tells nothing.
 #[derive(Clone, Copy)]
 pub struct Tables<'a> {
-    /// The groups that the access table names: group(5).
+    /// The group file that the access table refers to, as in group(5).
     pub groups: Option<&'a [u8]>,
-    /// access.conf(5).
+    /// The access table, as in access.conf(5).
     pub access: Option<&'a [u8]>,
     pub time: Option<TimedTable<'a>>,
-    /// A returns file: the codes that modules may return, by their names.
+    /// A returns file: the codes that modules may return, by module name.
     pub returns: Option<&'a [u8]>,
 }

@@ -1,10 +1,11 @@
--- The texts that are kept, step by step.
+-- The kept texts, step by step.
 use Rattle.std.proofs.Common.{◌≡◌, ℕ, ◌+◌, ◌-◌, ◌<◌, ◌≤◌, zero, suc, List, [], ◌∷◌, ◌++◌, length, take, drop, map, get_or, refl, sym, ap, subst, ◌∙◌, arith}
-use Rattle.std.proofs.Common.{Option, Some, None, slice_get, length-drop, codes, decimal, append_assoc, append-nil, ◌⊎◌, inl, inr, length-append}
+use Rattle.std.proofs.Common.{Some, None, slice_get, length-drop, codes, decimal, append_assoc, append-nil, length-append}
 use Rattle.std.specs.List.{flat_map}
 use Rattle.std.proofs.lemmas.Grind.{flat_map-append}
-use Rattle.std.proofs.lemmas.List.{get_or-drop, length-map, map-append, take-append-drop, take-append-le, take-map, take-take, take_all, take_at, take_more, take_rest}
-use Rattle.std.proofs.lemmas.Option.{slice_get-get_or, slice_get_past, slice_get_within}
+use Rattle.std.proofs.lemmas.List.{get_or-drop, length-map, map-append, take-append-drop, take-append-le, take-map, take-take}
+use Rattle.std.proofs.lemmas.List.{take_all, take_at, take_more, take_rest}
+use Rattle.std.proofs.lemmas.Option.{slice_get-get_or, slice_get_within}
 use Rattle.pam_page.proofs.FlatTexts.{flat_map-push, flat_map-seen}
 use Rattle.pam_page.specs.Marks.{AreTexts, IsEnd, code_text, codes_of, marked, steps_of, undotted}
 use Rattle.pam_page.specs.Page.{code_name, path_line, step_text}
@@ -33,7 +34,7 @@ no_last (x ∷ xs) e =
     let found = slice_get-get_or (x ∷ xs) (length (x ∷ xs) - 1) x (omega arith) in
     cc
 
--- the front of a text that is cut with its list
+-- a text is cut together with its list
 text_cut : {A : Type 0} (text : A → List ℕ) (xs : List A) (n end : ℕ) (all : List ℕ) → all ≡ flat_map text xs → end ≡ length (flat_map text (take n xs))
     → take end all ≡ flat_map text (take n xs)
 text_cut text xs n end all e l =
@@ -74,15 +75,16 @@ module _ (marks : List Mark) (dotted text : List ℕ) (whole : AreTexts marks do
         ends = ends_cut n;
       }
 
-pub cut_some : (marks : List Mark) (dotted text : List ℕ) (n : ℕ) (items shown : List Mark) (mark : Mark) (codes_left steps_left : List ℕ) → AreTexts marks dotted text
-    → items ≡ take n marks → shown ≡ items → Some mark ≡ slice_get shown (length shown - 1)
+pub cut_some : (marks : List Mark) (dotted text : List ℕ) (n : ℕ) (items shown : List Mark) (mark : Mark) (codes_left steps_left : List ℕ)
+    → AreTexts marks dotted text → items ≡ take n marks → shown ≡ items → Some mark ≡ slice_get shown (length shown - 1)
     → codes_left ≡ take mark.cursor_end dotted → steps_left ≡ take mark.steps_end text → AreTexts items codes_left steps_left
 cut_some marks dotted text n items shown mark codes_left steps_left whole is_items is_shown is_last is_codes is_steps =
     let last = sym (is_last ∙ ap (λ (l : List Mark). slice_get l (length l - 1)) (is_shown ∙ is_items)) in
     rw (is_codes, is_steps, is_items) (texts_cut marks dotted text whole n mark last)
 
 pub cut_none : (marks : List Mark) (dotted text : List ℕ) (n : ℕ) (items shown : List Mark) (codes_left steps_left : List ℕ) → AreTexts marks dotted text
-    → items ≡ take n marks → shown ≡ items → None ≡ slice_get shown (length shown - 1) → codes_left ≡ [] → steps_left ≡ [] → AreTexts items codes_left steps_left
+    → items ≡ take n marks → shown ≡ items → None ≡ slice_get shown (length shown - 1) → codes_left ≡ [] → steps_left ≡ []
+    → AreTexts items codes_left steps_left
 cut_none marks dotted text n items shown codes_left steps_left whole is_items is_shown is_last is_codes is_steps =
     let last = sym (is_last ∙ ap (λ (l : List Mark). slice_get l (length l - 1)) (is_shown ∙ is_items)) in
     rw (is_codes, is_steps, is_items) (texts_none marks dotted text whole n last)
@@ -128,7 +130,8 @@ texts_push marks dotted text mark longer_dotted longer whole d t cursor_end step
 
 -- ---- steps that are shared, and those that are added
 
-map_more : {A B : Type 0} (f : A → B) (xs : List A) (i : ℕ) (x : A) → i < length xs → x ≡ get_or xs i x → take (i + 1) (map f xs) ≡ take i (map f xs) ++ f x ∷ []
+map_more : {A B : Type 0} (f : A → B) (xs : List A) (i : ℕ) (x : A) → i < length xs → x ≡ get_or xs i x
+    → take (i + 1) (map f xs) ≡ take i (map f xs) ++ f x ∷ []
 map_more f xs i x inside e =
     take-map f (i + 1) xs ∙ ap (map f) (take_more xs i x inside ∙ ap (λ y. take i xs ++ y ∷ []) (sym e)) ∙ map-append f (take i xs) (x ∷ [])
     ∙ ap (λ l. l ++ f x ∷ []) (sym (take-map f i xs))

@@ -1,6 +1,6 @@
 -- The text of a page, line by line.
-use Rattle.std.proofs.Common.{◌≡◌, ℕ, ◌+◌, ◌-◌, ◌<◌, ◌≤◌, suc, zero, List, [], ◌∷◌, ◌++◌, length, take, drop, refl, sym, ap, ◌∙◌, append_assoc, append-nil, arith}
-use Rattle.std.proofs.Common.{◌⊎◌, inl, inr, add-zero, Bool, cond, Option, Some, None, length-append, length-take, length-drop}
+use Rattle.std.proofs.Common.{◌≡◌, ℕ, ◌+◌, ◌-◌, ◌<◌, ◌≤◌, List, [], ◌∷◌, ◌++◌, length, take, drop, refl, sym, ap, ◌∙◌, arith}
+use Rattle.std.proofs.Common.{append_assoc, append-nil, ◌⊎◌, inl, inr, add-zero, Bool, cond, Option, Some, None, length-append, length-drop}
 use Rattle.std.proofs.lemmas.Bool.Decides.{leb_tells}
 use Rattle.std.proofs.lemmas.Bool.{le-leb, lt-leb}
 use Rattle.std.proofs.lemmas.List.{drop_more, length-take-le, take-append-drop, take_more}
@@ -12,7 +12,7 @@ use Rattle.pam_page.specs.Page.{first_page, last_line, page_text, path_line, tex
 use Rattle.pam_paths.specs.Pages.{Page, last_key}
 use Rattle.pam_paths.specs.Paths.{PathValue, key}
 
--- the first of what is left of a list
+-- the first of the remaining elements of a list
 pub record Goes {A : Type 0} (all : List A) (i : ℕ) (x : A) (rest : List A) : Type 0 where
   pub inside : i < length all
   pub before : take (i + 1) all ≡ take i all ++ x ∷ []
@@ -88,7 +88,8 @@ unfolding text_after
 rest_none side count m =
     ap (text_after side count) (first_page-end m [] (omega arith)) ∙ ap (λ (k : ℕ). last_line side k None) (add-zero count)
 
-pub rest_end : (side : List ℕ) (count : ℕ) (path : PathValue) → path_line path ++ last_line side (count + 1) None ≡ text_after side count (first_page 1 (path ∷ []))
+pub rest_end : (side : List ℕ) (count : ℕ) (path : PathValue)
+    → path_line path ++ last_line side (count + 1) None ≡ text_after side count (first_page 1 (path ∷ []))
 unfolding text_after
 rest_end side count path =
     ap (λ (text : List ℕ). text ++ last_line side (count + 1) None) (sym (append-nil (path_line path)))
@@ -107,31 +108,36 @@ pub rest_front : (side : List ℕ) (count : ℕ) (path : PathValue) (paths : Lis
 rest_front side count path [] = (last_line side (count + 1) None, rest_end side count path)
 rest_front side count path (next ∷ paths) = (last_line side (count + 1) (Some (key path)), rest_more side count path next paths)
 
--- ---- the same, as the calls give them
+-- ---- the same, from the results of calls
 
-pub rest_end-is : (side at : List ℕ) (count n : ℕ) (path : PathValue) (paths left : List PathValue) → at ≡ side → n ≡ count + 1 → paths ≡ path ∷ left → left ≡ []
+pub rest_end-is : (side at : List ℕ) (count n : ℕ) (path : PathValue) (paths left : List PathValue)
+    → at ≡ side → n ≡ count + 1 → paths ≡ path ∷ left → left ≡ []
     → path_line path ++ last_line at n None ≡ text_after side count (first_page 1 paths)
 rest_end-is side at count n path paths left is_at is_count first none =
     rw (is_at, is_count, first, none) (rest_end side count path)
 
-pub rest_more-is : (side at : List ℕ) (count n : ℕ) (cursor : List ℕ) (path next : PathValue) (paths left more : List PathValue) → at ≡ side → n ≡ count + 1
+pub rest_more-is : (side at : List ℕ) (count n : ℕ) (cursor : List ℕ) (path next : PathValue) (paths left more : List PathValue)
+    → at ≡ side → n ≡ count + 1
     → cursor ≡ key path → paths ≡ path ∷ left → left ≡ next ∷ more
     → path_line path ++ last_line at n (Some cursor) ≡ text_after side count (first_page 1 paths)
 rest_more-is side at count n cursor path next paths left more is_at is_count is_key first second =
     rw (is_at, is_count, is_key, first, second) (rest_more side count path next more)
 
 -- no path is left
-pub page_none : (side at : List ℕ) (all : List PathValue) (count n limit : ℕ) → count < limit → count ≤ length all → drop count all ≡ [] → at ≡ side → n ≡ count
+pub page_none : (side at : List ℕ) (all : List PathValue) (count n limit : ℕ)
+    → count < limit → count ≤ length all → drop count all ≡ [] → at ≡ side → n ≡ count
     → flat_map path_line (take count all) ++ last_line at n None ≡ page_text side (first_page limit all)
 page_none side at all count n limit room within none is_at is_count =
     let front = flat_map path_line (take count all) in
     let m = limit - count in
     let text = λ (left : List PathValue). front ++ text_after side count (first_page m left) in
     rw (is_at, is_count)
-    (ap (λ (last : List ℕ). front ++ last) (sym (rest_none side count m)) ∙ ap text (sym none) ∙ page_at side all count m limit (omega arith) (omega arith) within)
+    (ap (λ (last : List ℕ). front ++ last) (sym (rest_none side count m)) ∙ ap text (sym none)
+    ∙ page_at side all count m limit (omega arith) (omega arith) within)
 
 -- one more line is written, and others follow
-pub page_front : (side : List ℕ) (all : List PathValue) (count limit : ℕ) (path : PathValue) (rest : List PathValue) → count + 1 < limit → drop count all ≡ path ∷ rest
+pub page_front : (side : List ℕ) (all : List PathValue) (count limit : ℕ) (path : PathValue) (rest : List PathValue)
+    → count + 1 < limit → drop count all ≡ path ∷ rest
     → (more : List ℕ) × ((flat_map path_line (take count all) ++ path_line path) ++ more ≡ page_text side (first_page limit all))
 page_front side all count limit path rest room first =
     let next = goes all count path rest first in
@@ -142,7 +148,8 @@ page_front side all count limit path rest room first =
     (more, ap (λ (text : List ℕ). text ++ more) (sym lines) ∙ page_at side all (count + 1) m limit (omega arith) (omega arith) (omega (arith, next.inside)))
 
 -- there is room for one more line
-pub page_rest : (side at : List ℕ) (all left : List PathValue) (count n limit : ℕ) → n + 1 ≡ limit → count ≡ n → count ≤ length all → left ≡ drop count all → at ≡ side
+pub page_rest : (side at : List ℕ) (all left : List PathValue) (count n limit : ℕ)
+    → n + 1 ≡ limit → count ≡ n → count ≤ length all → left ≡ drop count all → at ≡ side
     → flat_map path_line (take count all) ++ text_after at n (first_page 1 left) ≡ page_text side (first_page limit all)
 page_rest side at all left count n limit e is_count within is_left is_at =
     rw (is_left, is_at, ← is_count) (page_at side all count 1 limit (omega arith) (omega arith) within)

@@ -1,4 +1,4 @@
--- The texts of the steps of a path, and where each of them ends.
+-- The texts of the steps of a path, and the end of each.
 use Rattle.std.specs.Prelude.{◌≡◌, ℕ, ◌+◌, List, [], ◌∷◌, ◌++◌, codes, decimal, length, map, take, Some, slice_get}
 use Rattle.std.specs.List.{flat_map}
 use Rattle.pam_page.specs.Page.{step_text}
@@ -15,7 +15,7 @@ code_text step = codes "." ++ decimal (least step.class)
 abbrev pub marked : Mark → StepValue
 marked mark = step_seen mark.step
 
--- the text of a cursor, of the codes with a dot before each; `-` for none
+-- the text of a cursor, from the codes with a dot before each. It is `-` if there are none
 abbrev pub undotted : List ℕ → List ℕ
 undotted [] = codes "-"
 undotted (dot ∷ text) = text
@@ -31,7 +31,7 @@ pub record IsEnd (marks : List Mark) (mark : Mark) : Type 0 where
   pub cursor : mark.cursor_end ≡ length (codes_of marks)
   pub steps : mark.steps_end ≡ length (steps_of marks)
 
--- the texts of the steps, and at each mark the end of those up to it
+-- the texts of the steps of these marks, each mark at the end of its own
 pub record AreTexts (marks : List Mark) (dotted text : List ℕ) : Type 0 where
   pub cursor : dotted ≡ codes_of marks
   pub steps : text ≡ steps_of marks

@@ -1,4 +1,4 @@
-//! Bytes in memory that is taken once.
+//! A byte buffer of fixed capacity.
 
 ghost use Rattle.std.specs.Prelude.{◌≡◌, [], length, take, IfOk};
 
@@ -6,7 +6,7 @@ use std::alloc::{AllocError, Global};
 use std::io;
 use std::io::Write;
 
-/// A writer of bytes, which holds as many as it was made for.
+/// A writer into memory that is allocated once. It never grows.
 #[derive(Drop)]
 pub(crate) struct Buffer {
     bytes: Vec<u8>,
@@ -32,7 +32,7 @@ impl Buffer {
         self.bytes.len()
     }
 
-    /// Keeps the first bytes.
+    /// Keeps the first `count` bytes.
     pub(crate) fn truncate(&mut self, count: usize)
         ensures { self.new.bytes.items ≡ take count self.old.bytes.items }
     {
@@ -40,7 +40,7 @@ impl Buffer {
     }
 }
 
-/// `write` takes as many bytes as there is room for, and no memory.
+/// `write` writes as many bytes as there is room for, and allocates nothing.
 impl Write for Buffer {
     ghost use Rattle.std.specs.Prelude.{Some};
     ghost use Rattle.std.specs.Io.{WritesAtMost};

@@ -1,4 +1,5 @@
-//! One page of the paths through a stack, as text.
+//! Pages of the paths through a stack, written as text: a line for each path, and a last line.
+//! A line copies the text of the steps it shares with the line before it.
 #![tactic(auto)]
 
 mod buffer;

@@ -1,4 +1,4 @@
-//! The lines of a page, written in pieces.
+//! The lines of a page, written part by part.
 
 ghost use Rattle.std.specs.Prelude.{◌≡◌, ◌-◌, ◌<◌, ◌^◌, None, Some, map};
 ghost use Rattle.std.specs.List.{flat_map};
@@ -50,7 +50,7 @@ pub(crate) fn put_path<W: Write>(path: &Path, out: &mut Out<W>) -> Result<(), De
     out.put(b"\n")
 }
 
-/// Writes the last line of a page that no path follows.
+/// Writes the last line of a page, if no path follows it.
 #[tactic(auto, unfolding(crate::specs::Page::last_line))]
 pub(crate) fn put_end<W: Write>(side: &[u8], count: u64, out: &mut Out<W>) -> Result<(), Device>
     requires { out.old.failures < 2 ^ 64 - 1 }
@@ -63,7 +63,7 @@ pub(crate) fn put_end<W: Write>(side: &[u8], count: u64, out: &mut Out<W>) -> Re
     ])
 }
 
-/// Writes the last line of a page that other paths follow.
+/// Writes the last line of a page, if more paths follow it. `cursor` is that of its last path.
 #[tactic(auto, unfolding(crate::specs::Page::last_line))]
 pub(crate) fn put_more<W: Write>(
     side: &[u8],

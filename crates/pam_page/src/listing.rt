@@ -1,21 +1,21 @@
-//! The paths of a page, in one of the two directions.
+//! The paths that a page is taken from, in either direction.
 
 ghost use Rattle.std.specs.Prelude.{◌≡◌, ◌∷◌, [], MatchOption};
 ghost use Rattle.pam_page.specs.Coming.{coming, side};
 
 use pam_paths::{Before, Explorer, Knowledge, Path};
 
-/// The paths through a stack that are still to come, in one of the two directions.
+/// The remaining paths through a stack, in either direction.
 #[derive(Drop)]
 pub enum Listing<'a, K: Knowledge> {
-    /// In the order of their cursors.
+    /// In ascending order of cursors.
     Forward(Explorer<'a, K>),
-    /// The last one first.
+    /// In descending order of cursors.
     Backward(Before<'a, K>),
 }
 
 impl<K: Knowledge> Listing<'_, K> {
-    /// The next path, if one is left.
+    /// Returns the next path, if one is left.
     pub(crate) fn next_path(&mut self) -> Option<Path>
         ensures path { MatchOption result (coming self.old ≡ []) (λ path. coming self.old ≡ path ∷ coming self.new) }
         ensures side { side self.new ≡ side self.old }
@@ -26,7 +26,7 @@ impl<K: Knowledge> Listing<'_, K> {
         }
     }
 
-    /// `after` or `before`: where the next page lies, seen from the last cursor of this one.
+    /// Returns `after` or `before`: the option that, with the last cursor of a page, lists the next one.
     pub(crate) fn side(&self) -> &'static [u8]
         ensures { result.now ≡ side self.now }
     {

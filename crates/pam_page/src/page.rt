@@ -12,8 +12,9 @@ use pam_codes::{Device, Out};
 use pam_paths::Knowledge;
 use std::io::Write;
 
-/// Writes a line for each of the next paths, at most as many as the limit, and a last line, which says how many they
-/// are and whether more follow.
+/// Writes a line for each of the next paths, at most as many as the limit, and a last line: `end`, or where others follow
+/// `more` and the cursor of the last one. The first of those others is taken from the listing too. No memory is taken.
+/// An error where the writer fails.
 pub fn put_page<K: Knowledge, W: Write>(
     listing: &mut Listing<'_, K>,
     limit: u32,

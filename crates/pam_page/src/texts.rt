@@ -1,6 +1,6 @@
 //! The texts of the path whose line was written last.
 
-ghost use Rattle.std.specs.Prelude.{◌≡◌, ◌++◌, ◌∷◌, ◌-◌, ◌<◌, ◌≤◌, ◌^◌, [], if◌then◌else◌, IsTrue, length, map, take};
+ghost use Rattle.std.specs.Prelude.{◌≡◌, ◌++◌, ◌∷◌, ◌-◌, ◌<◌, ◌≤◌, ◌^◌, [], if◌then◌else◌, IfOk, IsTrue, length, map, take};
 ghost use Rattle.pam_codes.specs.Out.{Writes};
 ghost use Rattle.pam_page.specs.Marks.{AreTexts, code_text, marked, undotted};
 ghost use Rattle.pam_page.specs.Page.{path_line, step_text};
@@ -96,8 +96,11 @@ fn undotted(codes: &[u8]) -> &[u8]
 impl LineTexts {
     ghost use Rattle.pam_page.specs.Kept.{kept};
 
-    /// No texts, with room for those of any path. The page that is written with them takes no memory.
-    pub fn new(alloc: Global) -> Result<LineTexts, AllocError> {
+    /// No texts, with room for those of any path, so that a page that is written with them takes no memory. An error
+    /// where an allocation fails.
+    pub fn new(alloc: Global) -> Result<LineTexts, AllocError>
+        ensures { IfOk result (λ texts. kept texts ≡ []) }
+    {
         Ok(LineTexts {
             marks: Vec::with_capacity(alloc, MAX_MODULES)?,
             cursor: Buffer::with_capacity(alloc, CODE_BYTES * MAX_MODULES)?,

@@ -1,4 +1,4 @@
--- A civil time that is written, by what reading it promises.
+-- A civil time, from the contract of the function that reads it.
 use Rattle.std.proofs.Common.{◌≡◌, ◌↔◌, false, true, List, ℕ, Result, Ok, Err, subst}
 use Rattle.std.specs.Prelude.{IsOk, IfOk, IfErr}
 use Rattle.jiff.specs.Types.{DateTime}
@@ -7,7 +7,7 @@ use Rattle.pam_times.specs.declared.moments.MomentError.{MomentError}
 use Rattle.pam_times.specs.declared.moments.MomentError.TheVariants as moments
 use Rattle.pam_report.specs.Moments.{IsWritten}
 
--- no test is both
+-- no test has both results
 pub not_ok : false ≡ true → ⊥
 not_ok both = cc
 

@@ -17,7 +17,7 @@ module _ {A : Type 0} (text : A → List ℕ) where
       ap (λ l. l ++ flat_map text (drop (i + 1) xs)) (sym (flat_map-take xs i d h)) ∙ sym (flat_map-append text (take (i + 1) xs) (drop (i + 1) xs))
       ∙ ap (flat_map text) (take-append-drop (i + 1) xs)
 
--- the same of a text that has one byte for each element
+-- the same, for a text of one byte per element
 pub map-at : {A : Type 0} (byte : A → ℕ) (xs : List A) (i : ℕ) (d : A) → i < length xs → (map byte (take i xs) ++ byte (get_or xs i d) ∷ []) ++ map byte (drop (i + 1) xs) ≡ map byte xs
 map-at byte xs i d h =
     ap (λ l. l ++ map byte (drop (i + 1) xs)) (sym (map-append byte (take i xs) (get_or xs i d ∷ []))) ∙ sym (map-append byte (take i xs ++ get_or xs i d ∷ []) (drop (i + 1) xs))

@@ -13,7 +13,7 @@ use Rattle.pam_conf.specs.declared.stack.Module.{Module}
 use Rattle.pam_conf.specs.declared.stack.Sub.TheInside.{Inside}
 use Rattle.pam_report.specs.Show.{items_text, module_line, sub_line}
 
--- what of a text is written, and what is not
+-- a part of a text is written, and the rest is not
 pub record Partly {W : Type 0} (contents : W → Option (List ℕ)) (old new : Out W) (whole rest : List ℕ) : Type 0 where
   pub front : List ℕ
   pub parts : front ++ rest ≡ whole
@@ -39,7 +39,7 @@ at-sub files level i xs d s h e =
     ap (λ (x : Items). items_text files level x) (items_of-drop_sub xs i d s h e)
     ∙ ap (λ (k : ℕ). (sub_line files level s.text ++ items_text files (level + 1) s.inner) ++ items_text files level (items_of (drop k xs))) next
 
--- nothing is left behind the last item
+-- no text is left after the last item
 at-end : (files : Folder) (level i : ℕ) (xs : List Item) → length xs ≤ i → items_text files level (items_of (drop i xs)) ≡ []
 unfolding items_text
 at-end files level i xs h = ap (λ (ys : List Item). items_text files level (items_of ys)) (drop_of_length-le xs h)
@@ -88,7 +88,7 @@ module _ {W : Type 0} {contents : W → Option (List ℕ)} where
   sub-failed files level i xs d s h is e p t =
       partly-failed (sub_line files level s.text ++ items_text files (level + 1) s.inner) (items_text files level (items_of (drop (i + 1) xs))) p (at-sub files level i xs d s h (sym is ∙ e)) t
 
--- the items that a substack lends
+-- the borrowed items of a substack
 pub inner-is : (items : List Item) (inside : Inside) (s : SubList) → items ≡ inside.items.items → sub_list inside ≡ s → items_of items ≡ s.inner
 inner-is items inside s e v = ap items_of e ∙ ap (λ (x : SubList). x.inner) v
 

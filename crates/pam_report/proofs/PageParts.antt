@@ -1,4 +1,4 @@
--- The part of a listing that a page is taken from, and what a page answers, from what an explorer promises.
+-- The part of a listing that a page is taken from, and the answer, from the contract of the explorer.
 use Rattle.std.proofs.Common.{◌≡◌, ℕ, List, Result, Ok, Err, Option, refl, sym, subst}
 use Rattle.pam_codes.specs.declared.out.Out.{Out}
 use Rattle.pam_conf.specs.Stack.{Items, module_count}
@@ -16,7 +16,7 @@ use Rattle.pam_report.specs.Paths.{IsKnownPage, IsPageOf, IsPart, IsTaken, PageR
 use Rattle.pam_report.specs.declared.fault.Fault.{Fault}
 use Rattle.pam_report.specs.declared.report.Status.{Status}
 
--- a part under one knowledge is that under another which allows the same
+-- a part under one knowledge is that under another that allows the same codes
 module _ (one other : Allowance) (items : Items) (agree : Agree (module_count items) one other) where
   taken-same : (IsRest IsOther : List ℕ → List PathValue → Type 0) → ((key : List ℕ) (paths : List PathValue) → IsRest key paths → IsOther key paths) →
       (text : List ℕ) (given : Result (List PathValue) CursorError) → IsTaken IsRest items text given → IsTaken IsOther items text given
@@ -39,7 +39,7 @@ module _ (one other : Allowance) (items : Items) (agree : Agree (module_count it
       IsPageOf request items other (paged request (module_count items) given)
   page-of request given h = (given, part-same request.part given h, refl)
 
--- what a page leaves, where the tables tell these codes
+-- what is written of a page, if the tables tell these codes
 pub known-page : {W : Type 0} (contents : W → Option (List ℕ)) (old new : Out W) (result : Result Status Fault) (request : PageRequest) (items : Items)
     (codes : ℕ → List ℕ) (told : Result (ℕ → List ℕ) TableError) → told ≡ Ok codes →
     LeavesSome contents old new result (IsPageOf request items (allows_codes codes)) → LeavesSome contents old new result (IsKnownPage request items told)

@@ -1,4 +1,4 @@
--- The text of a page, by its header, its side and its limit.
+-- The text of a page, from its header, its side and its limit.
 use Rattle.std.proofs.Common.{◌≡◌, ℕ, List, ◌++◌, refl}
 use Rattle.pam_conf.specs.declared.rule.Kind.{Kind}
 use Rattle.pam_page.specs.Page.{first_page, page_text}

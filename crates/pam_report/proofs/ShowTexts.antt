@@ -31,7 +31,7 @@ indent-one = refl
 pub indent-more : (n : ℕ) → indent n ++ codes "  " ≡ indent (n + 1)
 indent-more n = ap (λ (l : List ℕ). indent n ++ l) (sym indent-one) ∙ indent-sum n 1
 
--- a level and those that follow
+-- a level and the later ones
 pub indent-at : (n level : ℕ) → n < level → (indent n ++ codes "  ") ++ indent (level - (n + 1)) ≡ indent level
 indent-at n level h =
     let all : n + 1 + (level - (n + 1)) ≡ level = omega arith in

@@ -1,4 +1,4 @@
--- The text of what a run asks, one module at a time, and the text and the answer that it is part of.
+-- The text of a run, module by module, and the answer it is a part of.
 use Rattle.std.proofs.Common.{◌≡◌, ℕ, ◌-◌, ◌<◌, ◌≤◌, ◌==◌, List, ◌++◌, Option, Some, None, Ok, length, get_or, arith, sym, ◌∙◌, ap, subst, append_assoc, append-nil}
 use Rattle.std.proofs.lemmas.Bool.{cond-true, eq-eqb}
 use Rattle.std.proofs.lemmas.List.{get_or_default}
@@ -36,7 +36,7 @@ line-is items ask number code path action state n p a s =
     ∙ ap (λ (x : ℕ). path_text x (path_at x items) ++ outcome_text code (action_of ask.control code) (outcome_of ask code).state) (sym n)
 
 module _ (items : Items) (answers : Assignment) where
-  -- what a run that asks a module prints
+  -- the text of a run that asks a module
   trace-asks : (runs : Runs) (number : ℕ) → asked_module runs ≡ Some number →
       trace_text items answers (asked_by runs answers)
       ≡ asked_text items (next_ask runs) (answers number) ++ trace_text items answers (asked_by (after_answer runs (answers number)) answers)
@@ -45,7 +45,7 @@ module _ (items : Items) (answers : Assignment) where
       ap (λ (x : List Ask). trace_text items answers x) (asked_by-step answers runs number asks)
       ∙ ap (λ (n : ℕ). asked_text items (next_ask runs) (answers n) ++ trace_text items answers (asked_by (after_answer runs (answers number)) answers)) (number-next_ask runs number asks)
 
-  -- at the end a text so far is the whole text
+  -- at the end, the text so far is the whole text
   pub trace-ends : (whole text : List ℕ) (runs : Runs) (number : Option ℕ) → text ++ trace_text items answers (asked_by runs answers) ≡ whole →
       number ≡ asked_module runs → number ≡ None → text ≡ whole
   unfolding trace_text
@@ -73,7 +73,7 @@ module _ (program : List Entry) (place : Place) (module_number : Option ℕ) (nu
         subst (λ (r : Runs). AsksRise 0 (modules_of program) r) (sym follows)
         (AsksRise-lower 0 number _ _ (omega arith) (range.2 code))
 
-    -- with the line of the module a text so far goes on
+    -- the text so far goes on with the line of the module
     pub trace-goes_on : (items : Items) (codes : List ℕ) → length codes ≡ modules_of program → (whole text : List ℕ) →
         text ++ trace_text items (answers_of codes) (asked_by (rest_of program place) (answers_of codes)) ≡ whole →
         (path : List ℕ) (control : List Action) (action : Action) (outcome : Outcome) →
@@ -98,7 +98,7 @@ module _ (program : List Entry) (place : Place) (module_number : Option ℕ) (nu
         ∙ sym (ap (λ (x : List ℕ). text ++ x) (trace-asks items answers runs number asks))
         ∙ so_far
 
--- the text of an answer, from what is written
+-- the text of an answer, from its parts
 pub decide_text-is : (service : List ℕ) (kind : Kind) (items : Items) (answered : List ℕ) (program : List Entry) (modules decision : ℕ) →
     modules ≡ module_count items → runs_of program ≡ runs_of_stack items → decision ≡ decided items (answers_of answered) →
     header_text service kind modules ++ trace_text items (answers_of answered) (asked_by (runs_of program) (answers_of answered)) ++ decision_text decision
@@ -111,7 +111,7 @@ decide_text-is service kind items answered program modules decision m r d =
     ∙ ap (λ (x : List Ask). header_text service kind (module_count items) ++ trace_text items answers x ++ decision_text decision) (asked_by-runs_of_stack items answers)
     ∙ ap (λ (n : ℕ). header_text service kind (module_count items) ++ trace_text items answers (asked items start_state start_state answers) ++ decision_text n) d
 
--- where there is a code for each module, the answer is that text
+-- if there is a code for each module, the answer is that text
 pub decided_by-is : (service : List ℕ) (kind : Kind) (items : Items) (answered : List ℕ) → length answered ≡ module_count items →
     decided_by service kind answered items
     ≡ Ok (record { text = decide_text service kind items answered; status = status_of_decision (decided items (answers_of answered)) })

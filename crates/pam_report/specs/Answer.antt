@@ -1,4 +1,4 @@
--- The answer to a request: what follows from its inputs, and what it leaves of the writer.
+-- The answer to a request: the text and the status that its inputs imply, and what a call writes.
 use Rattle.std.specs.Prelude.{◌≡◌, ℕ, ℤ, List, [], map, IsSome, Option, None, Result, Ok, Err, ◌==◌, if◌then◌else◌, length}
 use Rattle.std.specs.Char.{to_ascii_lowercase}
 use Rattle.pam_codes.specs.declared.out.Out.{Out}
@@ -40,11 +40,11 @@ use Rattle.pam_report.specs.declared.fault.Fault.TheVariants as faults
 use Rattle.pam_report.specs.declared.report.Status.{Status}
 use Rattle.pam_report.specs.declared.report.Status.TheVariants.{Success, Refusal}
 
--- a success is code 0
+-- only the code 0 is a success
 abbrev pub status_of_decision : ℕ → Status
 status_of_decision code = if code == 0 then Success else Refusal
 
--- what follows from a stack, or its fault
+-- an answer from a stack, or the stack's fault
 abbrev pub with_stack : Result Items ConfError → (Items → Answer) → Answer
 with_stack (Err e) next = Err (faults.Conf e)
 with_stack (Ok items) next = next items
@@ -52,7 +52,7 @@ with_stack (Ok items) next = next items
 abbrev pub shown : List ℕ → Kind → Folder → Items → Answer
 shown service kind files items = Ok (record { text = show_text service kind files items; status = Success })
 
--- one code is given for each module, also for those never asked
+-- a code is given for each module, also for those never asked
 abbrev pub decided_by : List ℕ → Kind → List ℕ → Items → Answer
 decided_by service kind answered items =
     if length answered == module_count items
@@ -75,7 +75,7 @@ abbrev pub with_table : LoginText → List Group → Result TableText (TableFaul
 with_table login groups (Err e) = Err (table_fault tables.Access e)
 with_table login groups (Ok table) = Ok (access_report (access_answer table login groups))
 
--- the group file is judged before the table
+-- a fault of the group file comes before those of the table
 abbrev pub with_groups : LoginText → Options → List ℕ → Result (List Group) (TableFault × ℕ) → Answer
 with_groups login options bytes (Err e) = Err (table_fault tables.Group e)
 with_groups login options bytes (Ok groups) = with_table login groups (table_of options bytes)
@@ -96,18 +96,18 @@ abbrev pub with_rules : LoginText → DateTime → Result (List Rule) (TableFaul
 with_rules login moment (Err e) = Err (table_fault tables.Time e)
 with_rules login moment (Ok rules) = Ok (time_report (time_answer_of rules login moment))
 
--- the moment is judged before the table
+-- a fault of the moment comes before those of the table
 abbrev pub timed : LoginText → List ℕ → Result DateTime MomentError → Answer
 timed login bytes (Err e) = Err (faults.Moment e)
 timed login bytes (Ok moment) = with_rules login moment (rules_of bytes)
 
 -- ---- the answer to a request
 
--- a login to a service, which is in lower case
+-- a login to a service, which is lowercased
 abbrev pub login_to : List ℕ → List ℕ → List ℕ → List ℕ → LoginText
 login_to service user tty rhost = record { user = user; service = map to_ascii_lowercase service; tty = tty; rhost = rhost }
 
--- THE ANSWER to a task for a service, of these inputs, and what it leaves of the writer
+-- THE ANSWER to a task for a service, from these inputs, and what the call writes
 abbrev pub Answers : {W : Type 0} → (W → Option (List ℕ)) → Out W → Out W → Result Status Fault → List ℕ → Task → Inputs → Type 0
 Answers contents old new result service (Show source kind) inputs =
     Leaves contents old new result (with_stack (resolved inputs.files service kind) (shown service kind inputs.files))
@@ -124,7 +124,7 @@ Answers contents old new result service (Paths source kind limit part user rhost
     (IsPage (record { service = service; kind = kind; limit = limit; part = part }) (login_to service user.now tty.now rhost.now) inputs at
     (resolved inputs.files service kind))
 
--- what a look-up finds is the answer, or its fault, unless memory ran out
+-- what is looked up is the answer, or its fault, unless an allocation failed
 abbrev pub FindsFault : Fault → Answer → Type 0
 FindsFault (faults.Table e) answer = IsTableFault (λ given. answer ≡ given) e e.fault
 FindsFault _ answer = ⊥

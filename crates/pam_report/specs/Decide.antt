@@ -1,4 +1,4 @@
--- What `decide` prints: the modules that a run asks, as pam.conf(5) tells it, and the decision.
+-- The text of `decide`: the modules that a run asks, as in pam.conf(5), and the decision.
 use Rattle.std.specs.Prelude.{ℕ, List, ◌∷◌, [], ◌++◌, codes, decimal}
 use Rattle.std.specs.List.{concat}
 use Rattle.std.specs.Option.{option_map_or}
@@ -16,7 +16,7 @@ use Rattle.pam_dispatch.specs.declared.state.State.{State}
 use Rattle.pam_report.specs.Header.{code_name, header_text}
 use Rattle.pam_report.specs.WordText.{word_text}
 
--- an action as a control has it, a jump behind `jump:`
+-- an action as in a control; a jump is written after `jump:`
 unfoldable pub action_text : Action → List ℕ
 action_text (Jump items) = codes "jump:" ++ word_of_action (Jump items)
 action_text action = word_of_action action
@@ -26,7 +26,7 @@ impression_name Undef = codes "undef"
 impression_name Positive = codes "positive"
 impression_name Negative = codes "negative"
 
--- the path of the module of a number
+-- the path of a module, by number
 unfoldable pub path_at : ℕ → Items → List ℕ
 path_at number items = option_map_or (λ m. m.path) (module_at number items) []
 
@@ -38,21 +38,21 @@ path_text number path = concat (decimal number ∷ codes " " ∷ []) ++ word_tex
 unfoldable pub code_text : ℕ → List ℕ
 code_text code = concat (codes " " ∷ code_name code ∷ codes " " ∷ [])
 
--- ` IMPRESSION STATUS`, to the end of the line
+-- ` IMPRESSION STATUS` and a line feed
 unfoldable pub state_text : State → List ℕ
 state_text s = concat (codes " " ∷ impression_name s.impression ∷ codes " " ∷ code_name s.status ∷ codes "\n" ∷ [])
 
--- ` CODE ACTION IMPRESSION STATUS`, the state being that after the action
+-- ` CODE ACTION IMPRESSION STATUS`, with the state after the action
 unfoldable pub outcome_text : ℕ → Action → State → List ℕ
 outcome_text code action s = code_text code ++ action_text action ++ state_text s
 
--- the line of a module that is asked and answers a code
+-- the line of a module that is asked and returns a code
 unfoldable pub asked_text : Items → Ask → ℕ → List ℕ
 asked_text items ask code =
     path_text ask.module_number (path_at ask.module_number items)
     ++ outcome_text code (action_of ask.control code) (outcome_of ask code).state
 
--- the lines of the modules that are asked, in turn
+-- the lines of the modules that are asked, in order
 unfoldable pub trace_text : Items → Assignment → List Ask → List ℕ
 trace_text items answers [] = []
 trace_text items answers (ask ∷ asks) = asked_text items ask (answers ask.module_number) ++ trace_text items answers asks
@@ -61,7 +61,7 @@ trace_text items answers (ask ∷ asks) = asked_text items ask (answers ask.modu
 unfoldable pub decision_text : ℕ → List ℕ
 decision_text code = concat (codes "decision " ∷ code_name code ∷ codes "\n" ∷ [])
 
--- THE TEXT of `decide`, where the modules answer these codes
+-- THE TEXT of `decide`, if the modules return these codes
 unfoldable pub decide_text : List ℕ → Kind → Items → List ℕ → List ℕ
 decide_text service kind items answered =
     header_text service kind (module_count items)

@@ -1,4 +1,4 @@
--- The line of a fault: its number and name, and its place where it has one.
+-- The line of a fault: its number and name, and its place if it has one.
 use Rattle.std.specs.Prelude.{ℕ, List, [], ◌∷◌, codes, decimal, Option, Some, None, slice_get, string_bytes}
 use Rattle.std.specs.List.{concat}
 use Rattle.std.specs.Option.{option_map}
@@ -47,12 +47,12 @@ conf_fault conf.FileTooLong = codes "E16 FileTooLong"
 conf_fault conf.Memory = codes "E17 Memory"
 conf_fault conf.TooManyFollowed = codes "E18 TooManyFollowed"
 
--- the name of the file at a position, if the files have that position
+-- the name of the file at a position, if there is one
 abbrev pub file_at : Folder → Option ℕ → Option (List ℕ)
 file_at files None = None
 file_at files (Some position) = option_map (λ f. f.0) (slice_get files.entries position)
 
--- ` FILE:LINE`, where there is a file
+-- ` FILE:LINE` after the name, if there is a file
 abbrev pub conf_text : List ℕ → Option (List ℕ) → ℕ → List ℕ
 conf_text name None line = concat (codes "pamcheck: " ∷ name ∷ codes "\n" ∷ [])
 conf_text name (Some file) line = concat (codes "pamcheck: " ∷ name ∷ codes " " ∷ file ∷ codes ":" ∷ decimal line ∷ codes "\n" ∷ [])
@@ -82,12 +82,12 @@ table_name Returns = codes "returns"
 abbrev pub memory_line : List ℕ
 memory_line = codes "pamcheck: E17 Memory\n"
 
--- ` FILE:LINE` after the name where there is a file; want of memory has no place
+-- ` FILE:LINE` after the name, if there is a file. A failed allocation has no place
 abbrev pub conf_line : Folder → ConfError → FaultKind → List ℕ
 conf_line files e conf.Memory = memory_line
 conf_line files e kind = conf_text (conf_fault kind) (file_at files e.at) e.line
 
--- ` TABLE:LINE` after the name; want of memory has no place
+-- ` TABLE:LINE` after the name. A failed allocation has no place
 abbrev pub table_line : Table → TableFault → ℕ → List ℕ
 table_line t table.Memory line = codes "pamcheck: TE11 Memory\n"
 table_line t fault line =
@@ -99,7 +99,7 @@ moment_fault_name Rule = codes "M2 Rule"
 moment_fault_name moment.Memory = codes "M3 Memory"
 moment_fault_name Syntax = codes "M4 Syntax"
 
--- ` step N` after the name of C2: the place of a code, counted from 1
+-- ` step N` after the name of C2, for the code with this number, from 1
 abbrev pub cursor_line : CursorError → List ℕ
 cursor_line cursor.Syntax = codes "pamcheck: C1 Syntax\n"
 cursor_line (cursor.NotLeast step) = concat (codes "pamcheck: C2 NotLeast step " ∷ decimal step ∷ codes "\n" ∷ [])
@@ -116,7 +116,7 @@ fault_line files (Cursor e) = cursor_line e
 fault_line files Device = codes "pamcheck: V2 Write\n"
 fault_line files Memory = memory_line
 
--- THE LINE of an input that is not there; the name of what cannot be read is as the words or the folder have it
+-- THE LINE of an input that cannot be read. Its name is as given on the command line, or that of an entry of the folder
 abbrev pub input_line : InputError → List ℕ
 input_line (Read name) = concat (codes "pamcheck: V1 Read " ∷ string_bytes name ∷ codes "\n" ∷ [])
 input_line inputs.Memory = memory_line

@@ -1,4 +1,4 @@
--- The bytes of the tables that a request is answered from: access.conf(5), group(5), time.conf(5).
+-- The tables that a request is answered from: access.conf(5), group(5), time.conf(5).
 use Rattle.std.specs.Prelude.{ℕ, List, [], Option, Some, None, Result, Ok, Vec, Bool, true, false, is_some, option_map, ◌&&◌}
 use Rattle.std.specs.Bool.{beq}
 use Rattle.std.specs.Global.{Global}
@@ -15,12 +15,12 @@ abbrev pub bytes_given : Option (Vec ℕ Global) → List ℕ
 bytes_given None = []
 bytes_given (Some bytes) = bytes.items
 
--- the groups of a file; without one there are none
+-- the groups of a file, which are none without a file
 abbrev pub groups_given : Option (Vec ℕ Global) → Result (List Group) (TableFault × ℕ)
 groups_given None = Ok []
 groups_given (Some bytes) = groups_of bytes.items
 
--- ---- which tables are named, and which are given
+-- ---- tables named and tables given
 
 abbrev pub no_tables : TableSet
 no_tables = record { groups = false; access = false; time = false; returns = false }
@@ -34,7 +34,7 @@ tables_named (Time table user tty moment) = record { groups = false; access = fa
 tables_named (Paths source kind limit part user rhost tty access time groups returns moment) =
     record { groups = is_some groups; access = is_some access; time = is_some time; returns = is_some returns }
 
--- those that are given are exactly those that a task names
+-- exactly the tables that a task names are given
 abbrev pub fits_task : Task → Inputs → Bool
 fits_task task inputs =
     beq (is_some inputs.groups) (tables_named task).groups
@@ -42,9 +42,9 @@ fits_task task inputs =
     && (beq (is_some inputs.time) (tables_named task).time
     && beq (is_some inputs.returns) (tables_named task).returns))
 
--- ---- the tables that tell what modules answer
+-- ---- the tables that tell the codes of modules
 
--- a time table tells nothing without a moment
+-- a time table, if there is a moment
 abbrev pub timed : Option (Vec ℕ Global) → Option DateTime → Option TimedText
 timed (Some bytes) (Some moment) = Some (record { bytes = bytes.items; moment = moment })
 timed (Some bytes) None = None

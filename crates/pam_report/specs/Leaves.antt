@@ -1,4 +1,4 @@
--- What a call that answers leaves of the writer.
+-- What a call that answers writes.
 use Rattle.std.specs.Prelude.{◌≡◌, ℕ, List, Option, None, Result, Ok, Err}
 use Rattle.pam_codes.specs.Out.{TookAll, TookFront}
 use Rattle.pam_codes.specs.declared.out.Out.{Out}
@@ -13,7 +13,7 @@ use Rattle.pam_report.specs.declared.fault.Fault.{Fault}
 use Rattle.pam_report.specs.declared.fault.Fault.TheVariants as faults
 use Rattle.pam_report.specs.declared.report.Status.{Status}
 
--- a fault is the answer's, unless memory ran out, which has no place
+-- a fault is that of the answer, unless an allocation failed, which has no place
 abbrev pub IsConfFault : (Answer → Type 0) → ConfError → FaultKind → Type 0
 IsConfFault IsAnswer error conf.Memory = error ≡ record { kind = conf.Memory; at = None; line = 0 }
 IsConfFault IsAnswer error _ = IsAnswer (Err (faults.Conf error))
@@ -22,8 +22,8 @@ abbrev pub IsTableFault : (Answer → Type 0) → TableError → TableFault → 
 IsTableFault IsAnswer error reasons.Memory = error.line ≡ 0
 IsTableFault IsAnswer error _ = IsAnswer (Err (faults.Table error))
 
--- what is left of the writer: all of the text where there is an answer, a prefix of it where a write failed, and
--- nothing where there is a fault or no memory
+-- the text is written in full if there is an answer, up to some byte if a write failed, and not at all if there is a
+-- fault or an allocation failed
 module _ {W : Type 0} (contents : W → Option (List ℕ)) (old new : Out W) where
   abbrev pub LeavesFault : (Answer → Type 0) → Fault → Type 0
   LeavesFault IsAnswer faults.Device = (report : Report) × IsAnswer (Ok report) × TookFront contents old new report.text
@@ -34,11 +34,11 @@ module _ {W : Type 0} (contents : W → Option (List ℕ)) (old new : Out W) whe
   LeavesFault IsAnswer (faults.Cursor e) = (new ≡ old) × IsAnswer (Err (faults.Cursor e))
   LeavesFault IsAnswer (faults.Table e) = (new ≡ old) × IsTableFault IsAnswer e e.fault
 
-  -- after a call that answers what the relation says
+  -- for an answer that satisfies a relation
   abbrev pub LeavesSome : Result Status Fault → (Answer → Type 0) → Type 0
   LeavesSome (Ok status) IsAnswer = (text : List ℕ) × IsAnswer (Ok (record { text = text; status = status })) × TookAll contents old new text
   LeavesSome (Err fault) IsAnswer = LeavesFault IsAnswer fault
 
-  -- after a call that answers this
+  -- for this answer
   abbrev pub Leaves : Result Status Fault → Answer → Type 0
   Leaves result answer = LeavesSome result (λ given. answer ≡ given)

@@ -1,4 +1,4 @@
--- The moment that the words of a request give.
+-- The moment of a request.
 use Rattle.std.specs.Prelude.{◌≡◌, ⊤, ℕ, ℤ, List, IsSome, Option, None, Some, Result, Ok, Err}
 use Rattle.jiff.specs.Types.{DateTime}
 use Rattle.jiff.specs.Words.{read_whole}
@@ -8,12 +8,12 @@ use Rattle.pam_times.specs.declared.moments.MomentError.TheVariants as moments
 use Rattle.pam_words.specs.declared.wanted.Moment.{Moment}
 use Rattle.pam_words.specs.declared.wanted.Moment.TheVariants.{Civil, Instant}
 
--- the civil time that is written, or why there is none
+-- the civil time of a text, or the fault if it has none
 abbrev pub IsWritten : List ℕ → Result DateTime MomentError → Type 0
 IsWritten text (Ok moment) = HasParts (parts_of text) moment
 IsWritten text (Err e) = (e ≡ moments.Syntax) × (Exist (parts_of text) → ⊥)
 
--- the civil time that a zone's clock shows at an instant, or why there is none
+-- the civil time in a time zone at an instant, or the fault if there is none
 abbrev pub IsShownAt : ℤ → List ℕ → Result DateTime MomentError → Type 0
 IsShownAt seconds zone (Ok moment) = Shows seconds zone moment
 IsShownAt seconds zone (Err moments.Range) = IsInstant seconds → ⊥
@@ -21,12 +21,12 @@ IsShownAt seconds zone (Err moments.Rule) = IsInstant seconds × (IsSome (read_w
 IsShownAt seconds zone (Err moments.Memory) = ⊥
 IsShownAt seconds zone (Err moments.Syntax) = ⊥
 
--- the civil time that the words give
+-- the civil time of a moment
 abbrev pub IsMoment : Moment → Result DateTime MomentError → Type 0
 IsMoment (Civil text) at = IsWritten text.now at
 IsMoment (Instant seconds zone) at = IsShownAt seconds zone.now at
 
--- that of a moment which may be given
+-- the same, for a moment that may be missing
 abbrev pub IsGivenMoment : Option Moment → Option (Result DateTime MomentError) → Type 0
 IsGivenMoment None None = ⊤
 IsGivenMoment None (Some at) = ⊥

@@ -1,4 +1,4 @@
--- What a contract sees of the page that is asked for.
+-- A page request, as contracts see it.
 use Rattle.pam_report.specs.Paths as paths
 use Rattle.pam_report.specs.declared.report.paths.PageRequest.{PageRequest}
 

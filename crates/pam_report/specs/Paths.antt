@@ -1,4 +1,4 @@
--- What `paths` answers: a page of the paths through a stack (pam.conf(5), DESCRIPTION) that allowed answers can follow.
+-- The answer to `paths`: a page of the paths through a stack (pam.conf(5), DESCRIPTION), given what modules may return.
 use Rattle.std.specs.Prelude.{◌≡◌, ◌≢◌, ℕ, max, List, ◌++◌, codes, Option, None, Some, Result, Ok, Err}
 use Rattle.jiff.specs.Types.{DateTime}
 use Rattle.pam_conf.specs.Stack.{Items, module_count}
@@ -25,7 +25,7 @@ use Rattle.pam_report.specs.declared.fault.Fault.TheVariants as faults
 use Rattle.pam_report.specs.declared.inputs.Inputs.{Inputs}
 use Rattle.pam_report.specs.declared.report.Status.TheVariants.{Success}
 
--- the paths after a text, or before it: it is the cursor of some path, or there is a reason why it is none
+-- the paths after or before the cursor of a text, or the reason why it is the cursor of no path
 abbrev pub IsTaken : (List ℕ → List PathValue → Type 0) → Items → List ℕ → Result (List PathValue) CursorError → Type 0
 IsTaken IsRest items text (Err Syntax) = (cursor : List ℕ) → IsCursor cursor → cursor_text cursor ≢ text
 IsTaken IsRest items text (Err e) =
@@ -33,27 +33,27 @@ IsTaken IsRest items text (Err e) =
 IsTaken IsRest items text (Ok paths) =
     (cursor : List ℕ) × IsCursor cursor × (cursor_text cursor ≡ text) × IsAccepted (module_count items) (path_through items) cursor × IsRest cursor paths
 
--- the part of the listing of a stack, where this is known of the answers, or why its cursor is refused
+-- the part of the listing of a stack, if these codes are allowed, or the reason why its cursor is refused
 abbrev pub IsPart : Allowance → Items → Part → Result (List PathValue) CursorError → Type 0
 IsPart allows items Whole (Ok paths) = IsListing allows (module_count items) (path_through items) paths
 IsPart allows items Whole (Err e) = ⊥
 IsPart allows items (After text) given = IsTaken (IsListingAfter allows (module_count items) (path_through items)) items text.now given
 IsPart allows items (Before text) given = IsTaken (IsListingBefore allows (module_count items) (path_through items)) items text.now given
 
--- where the next page lies, seen from the last cursor of this one
+-- the option that, with the last cursor of a page, lists the next page
 abbrev pub side_of : Part → List ℕ
 side_of Whole = codes "after"
 side_of (After text) = codes "after"
 side_of (Before text) = codes "before"
 
--- a page that is asked for
+-- a page that is requested
 pub record PageRequest : Type 0 where
   pub service : List ℕ
   pub kind : Kind
   pub limit : ℕ
   pub part : Part
 
--- the page, which has room for one path at least, with its header, or why its cursor is refused
+-- the page with its header, or the reason why its cursor is refused. It has room for at least one path
 abbrev pub paged : PageRequest → ℕ → Result (List PathValue) CursorError → Answer
 paged request modules (Err e) = Err (faults.Cursor e)
 paged request modules (Ok paths) = Ok (record {
@@ -63,7 +63,7 @@ paged request modules (Ok paths) = Ok (record {
 
 -- ---- the order of faults: the configuration, the moment, the tables, the cursor
 
--- the answer where this is known of the answers of modules
+-- the answer, if these codes are allowed
 abbrev pub IsPageOf : PageRequest → Items → Allowance → Answer → Type 0
 IsPageOf request items allows answer =
     (given : Result (List PathValue) CursorError) × IsPart allows items request.part given × (answer ≡ paged request (module_count items) given)
@@ -75,7 +75,7 @@ IsKnownPage request items (Ok allowed) answer = IsPageOf request items (allows_c
 abbrev pub IsPageAt : PageRequest → LoginText → Inputs → Items → Option DateTime → Answer → Type 0
 IsPageAt request login inputs items moment answer = IsKnownPage request items (knowledge request.kind login (tables_given inputs moment) items) answer
 
--- a moment that is given is judged also where no table needs it
+-- a given moment must be valid even if no table needs it
 abbrev pub IsStackPage : PageRequest → LoginText → Inputs → Items → Option (Result DateTime MomentError) → Answer → Type 0
 IsStackPage request login inputs items None answer = IsPageAt request login inputs items None answer
 IsStackPage request login inputs items (Some (Ok moment)) answer = IsPageAt request login inputs items (Some moment) answer

@@ -1,10 +1,10 @@
--- What an answer is: a text and a status, or the first fault.
+-- An answer: a text and a status, or the first fault.
 use Rattle.std.specs.Prelude.{ℕ, List, Result}
 use Rattle.pam_report.specs.declared.fault.Fault.{Fault}
 use Rattle.pam_report.specs.declared.report.Status.{Status}
 use Rattle.pam_report.specs.declared.report.Status.TheVariants.{Success, Refusal}
 
--- the text that is written, and the status
+-- the text and the status
 pub record Report : Type 0 where
   pub text : List ℕ
   pub status : Status

@@ -1,4 +1,4 @@
--- What `show` prints: the stack of a service, rule by rule, as pam.conf(5) orders it.
+-- The text of `show`: the stack of a service, rule by rule, in the order of pam.conf(5).
 use Rattle.std.specs.Prelude.{ℕ, ◌+◌, Bool, true, false, List, ◌∷◌, [], ◌++◌, codes, decimal, replicate, ◌*◌}
 use Rattle.std.specs.List.{concat, flat_map}
 use Rattle.pam_codes.specs.ControlText.{control_text}
@@ -16,16 +16,16 @@ indent level = replicate (2 * level) 32
 unfoldable pub place_text : Folder → ℕ → ℕ → List ℕ
 place_text files file line = concat (name_at files file ∷ codes ":" ∷ decimal line ∷ [])
 
--- what stands before the control; a rule that is dashed has its dash there
+-- the text before a control, with the dash of a dashed rule
 abbrev pub dash_text : Bool → List ℕ
 dash_text true = codes " - "
 dash_text false = codes " "
 
--- each word behind a space
+-- words, with a space before each
 abbrev pub words_text : List (List ℕ) → List ℕ
 words_text words = flat_map (λ word. codes " " ++ word_text word) words
 
--- `NUMBER FILE:LINE ` at a level, with `- ` behind it for a dashed rule
+-- `NUMBER FILE:LINE ` at a level, with `- ` after it for a dashed rule
 unfoldable pub module_front : Folder → ℕ → ModuleText → List ℕ
 module_front files level m =
     indent level ++ concat (decimal m.number ∷ codes " " ∷ []) ++ place_text files m.file m.line ++ dash_text m.dashed
@@ -40,7 +40,7 @@ unfoldable pub sub_line : Folder → ℕ → SubText → List ℕ
 sub_line files level s =
     indent level ++ codes "sub " ++ place_text files s.file s.line ++ concat (codes " " ∷ name_at files s.target ∷ codes "\n" ∷ [])
 
--- the lines of a list at a level; the items of a substack are one level deeper
+-- the lines of a list at a level. The items of a substack are one level deeper
 unfoldable pub items_text : Folder → ℕ → Items → List ℕ
 items_text files level End = []
 items_text files level (ThenModule m rest) = module_line files level m ++ items_text files level rest

@@ -1,4 +1,4 @@
--- What `access` and `time` print: the line of a table that decides, as pam_access(8) and pam_time(8) find it.
+-- The text of `access` and `time`: the line of a table that decides, as in pam_access(8) and pam_time(8).
 use Rattle.std.specs.Prelude.{ℕ, List, [], ◌∷◌, codes, decimal, Some, None}
 use Rattle.std.specs.List.{concat}
 use Rattle.pam_tables.specs.declared.access.AccessAnswer.{AccessAnswer}

@@ -1,4 +1,4 @@
-//! Why a request has no answer, and the line that says so.
+//! Faults: why a request has no answer, with their lines and exit statuses.
 
 ghost use Rattle.std.specs.Prelude.{◌≡◌, ◌++◌, IfOk, OnOk};
 ghost use Rattle.std.specs.Option.{option_map};
@@ -15,25 +15,25 @@ use pam_times::MomentError;
 use std::alloc::{AllocError, Global};
 use thiserror::Error;
 
-/// The status of codes that are not one for each module.
+/// The exit status if there is not one code for each module.
 const WRONG_COUNT: u8 = 2;
 
-/// The status of a cursor that no path of the stack has.
+/// The exit status for a bad cursor.
 const BAD_CURSOR: u8 = 2;
 
-/// The status of a fault of the configuration.
+/// The exit status for a fault of the configuration.
 const BAD_CONFIGURATION: u8 = 3;
 
-/// The status of a fault of a table.
+/// The exit status for a fault of a table.
 const BAD_TABLE: u8 = 4;
 
-/// The status of words that give no moment.
+/// The exit status for a bad moment.
 const BAD_MOMENT: u8 = 4;
 
-/// The status of a failed read or write.
+/// The exit status for a failed read or write.
 const FAILED: u8 = 5;
 
-/// The status of want of memory.
+/// The exit status for a failed allocation.
 const NO_MEMORY: u8 = 6;
 
 /// Why a request has no answer.
@@ -45,19 +45,19 @@ pub enum Fault {
     /// A fault of a table.
     #[error(transparent)]
     Table(TableError),
-    /// The words give no moment.
+    /// The moment is invalid.
     #[error(transparent)]
     Moment(MomentError),
-    /// Not one code for each module.
+    /// The number of codes is not that of modules.
     #[error(transparent)]
     Count(WrongCount),
-    /// No path of the stack has the cursor.
+    /// The cursor is that of no path of the stack.
     #[error(transparent)]
     Cursor(CursorError),
     /// A write failed.
     #[error("standard output took no more")]
     Device,
-    /// Allocation failed.
+    /// An allocation failed.
     #[error("out of memory")]
     Memory,
 }
@@ -96,7 +96,7 @@ fn conf_fault_name(kind: FaultKind) -> &'static str
     }
 }
 
-/// Appends the text of the piece.
+/// Appends the text of a piece.
 fn push_piece(text: &mut Vec<u8>, piece: Piece<'_>) -> Result<(), AllocError>
     ensures { OnOk result (text.new.items ≡ text.old.items ++ piece_text piece.entry) }
 {
@@ -109,7 +109,7 @@ fn push_piece(text: &mut Vec<u8>, piece: Piece<'_>) -> Result<(), AllocError>
     }
 }
 
-/// The pieces as one text.
+/// Concatenates pieces.
 fn joined(alloc: Global, pieces: &[Piece<'_>]) -> Result<Vec<u8>, AllocError>
     ensures { IfOk result (λ text. text.items ≡ line_text pieces.now) }
 {
@@ -208,8 +208,9 @@ fn cursor_fault_text(alloc: Global, error: CursorError) -> Result<Vec<u8>, Alloc
     }
 }
 
-/// The line `pamcheck: NUMBER NAME` of a fault, with its place where it has one. A position that the files do not
-/// have gives no place, and want of memory never has one.
+/// Returns the line of a fault: `pamcheck: NUMBER NAME`, with its place if it has one.
+///
+/// A failed allocation has no place, and neither has a fault whose position is not in `files`.
 #[tactic(auto, unfolding(crate::specs::Fault::fault_line))]
 pub fn fault_text(alloc: Global, fault: &Fault, files: &Files) -> Result<Vec<u8>, AllocError>
     ensures { IfOk result (λ text. text.items ≡ fault_line files.now fault.now) }
@@ -271,7 +272,7 @@ fn conf_fault_text(alloc: Global, error: &ConfError, files: &Files) -> Result<Ve
     }
 }
 
-/// The name of the file at a position, if the files have it.
+/// Returns the name of the file at a position, if there is one.
 fn file_at(files: &Files, at: Option<usize>) -> Option<&[u8]>
     ensures { option_map (λ name. name.now) result ≡ file_at files.now at }
 {
@@ -281,7 +282,7 @@ fn file_at(files: &Files, at: Option<usize>) -> Option<&[u8]>
     }
 }
 
-/// The exit status of a fault.
+/// Returns the exit status of a fault.
 pub fn fault_status(fault: &Fault) -> u8
     ensures { result ≡ status_of_fault fault.now }
 {
@@ -305,7 +306,7 @@ pub fn fault_status(fault: &Fault) -> u8
     }
 }
 
-/// The line of an input that is not there.
+/// Returns the line of an input that cannot be read.
 pub(crate) fn input_text(alloc: Global, error: &InputError) -> Result<Vec<u8>, AllocError>
     ensures { IfOk result (λ text. text.items ≡ input_line error.now) }
 {
@@ -322,7 +323,7 @@ pub(crate) fn input_text(alloc: Global, error: &InputError) -> Result<Vec<u8>, A
     }
 }
 
-/// The exit status of an input that is not there.
+/// Returns the exit status of an input that cannot be read.
 pub(crate) fn input_status(error: &InputError) -> u8
     ensures { result ≡ status_of_input error.now }
 {

@@ -14,13 +14,14 @@ use std::path::Path;
 use std::{fs, io};
 use thiserror::Error;
 
-/// The most bytes that a file is read for: one past the limit, so that a file that is too long is seen to be.
+/// The number of bytes read from a file at most: one more than a table or configuration may have, so that a longer file
+/// is noticed.
 const MOST: u64 = 1_048_577;
 
-/// Why an input is not there.
+/// Why an input cannot be read.
 #[derive(Debug, Drop, Error)]
 pub enum InputError {
-    /// The name as it stood in the words, or that of an entry of the folder.
+    /// The name, as given on the command line, or that of an entry of the folder.
     #[error("{0} cannot be read")]
     Read(String),
     #[error("out of memory")]
@@ -39,7 +40,7 @@ impl<T: Drop> From<AllocFailed<T>> for InputError {
     }
 }
 
-/// What a failed read of this name is: want of memory too may be its cause.
+/// Converts a failed read of this name, which may be a failed allocation too.
 fn unread(alloc: Global, name: &str, error: &io::Error) -> InputError {
     if error.kind() == ErrorKind::OutOfMemory {
         return InputError::Memory;
@@ -57,12 +58,12 @@ fn bytes_at<R: std::rt::Files>(rt: &R, alloc: Global, path: Path<'_>) -> io::Res
     Ok(bytes)
 }
 
-/// A file that the words name.
+/// Reads a file that the request names.
 fn named_file<R: std::rt::Files>(rt: &R, alloc: Global, name: &str) -> Result<Vec<u8>, InputError> {
     bytes_at(rt, alloc, Path::new(name)).map_err(|error| unread(alloc, name, &error))
 }
 
-/// Whether an entry is a regular file, links followed. One that leads nowhere, or in a ring, is none.
+/// Whether an entry is a regular file, after links are followed. A dangling or circular link is not.
 fn is_regular<R: std::rt::Files>(rt: &R, path: Path<'_>) -> io::Result<bool> {
     match fs::metadata(rt, path) {
         Ok(metadata) => Ok(metadata.is_file()),
@@ -79,7 +80,7 @@ fn push_name(alloc: Global, names: &mut Vec<String>, name: &str) -> Result<(), A
     Ok(())
 }
 
-/// The names of the entries of a folder, in rising byte order.
+/// Returns the names of the entries of a folder, in ascending byte order.
 fn entry_names<R: std::rt::Files + AllocGlobal + Clone + Drop>(
     rt: &R,
     alloc: Global,
@@ -93,7 +94,7 @@ fn entry_names<R: std::rt::Files + AllocGlobal + Clone + Drop>(
     Ok(names)
 }
 
-/// The bytes of an entry of a folder, if it is a regular file.
+/// Reads an entry of a folder, if it is a regular file.
 fn entry_bytes<R: std::rt::Files>(
     rt: &R,
     alloc: Global,
@@ -127,7 +128,7 @@ fn folder_files<R: std::rt::Files + AllocGlobal + Clone + Drop>(
     Ok(files)
 }
 
-/// The regular files of a folder, links followed, or the one file in the place of `pam.conf`.
+/// Reads the regular files of a folder, after links are followed, or one file in place of `pam.conf`.
 fn source_files<R: std::rt::Files + AllocGlobal + Clone + Drop>(
     rt: &R,
     alloc: Global,
@@ -144,7 +145,7 @@ fn source_files<R: std::rt::Files + AllocGlobal + Clone + Drop>(
     }
 }
 
-/// What a request is answered from: the configuration, and the bytes of tables.
+/// The contents of the files that a request names: the configuration and the tables.
 #[derive(Drop)]
 pub struct Inputs {
     pub files: Files,
@@ -174,7 +175,7 @@ impl Inputs {
     ghost use Rattle.std.specs.Prelude.{◌≡◌};
     ghost use Rattle.pam_report.specs.Inputs.{fits_task};
 
-    /// Whether these are the bytes of exactly the tables that a request names.
+    /// Whether exactly the tables that the request names are given.
     pub fn fits(&self, request: &Request<'_>) -> bool
         ensures { result ≡ fits_task request.now.task self.now }
     {
@@ -216,7 +217,7 @@ fn tables_named(task: &Task<'_>) -> TableSet
     }
 }
 
-/// The bytes of a table; none where it is not there.
+/// Returns the contents of a table, which are empty if it is not given.
 pub(crate) fn bytes_given(bytes: &Option<Vec<u8>>) -> &[u8]
     ensures { result.now ≡ bytes_given bytes.now }
 {
@@ -235,7 +236,7 @@ fn slice_given(bytes: &Option<Vec<u8>>) -> Option<&[u8]>
     }
 }
 
-/// The tables that tell what modules answer at a moment.
+/// Returns the tables that tell the codes of modules at a moment. Without a moment there is no time table.
 pub(crate) fn tables_given(inputs: &Inputs, moment: Option<DateTime>) -> Tables<'_>
     ensures { tables_view result ≡ tables_given inputs.now moment }
 {
@@ -255,7 +256,7 @@ pub(crate) fn tables_given(inputs: &Inputs, moment: Option<DateTime>) -> Tables<
     }
 }
 
-/// Inputs without tables.
+/// Returns inputs without tables.
 fn without_tables(files: Files) -> Inputs {
     Inputs {
         files,
@@ -266,7 +267,7 @@ fn without_tables(files: Files) -> Inputs {
     }
 }
 
-/// The group file, if one is named, and then the access table.
+/// Reads the group file, if one is named, then the access table.
 fn access_inputs<R: std::rt::Files>(
     rt: &R,
     alloc: Global,
@@ -291,7 +292,7 @@ fn time_inputs<R: std::rt::Files>(
     Ok(inputs)
 }
 
-/// A file that the words may name.
+/// Reads a file, if one is named.
 fn optional_file<R: std::rt::Files>(
     rt: &R,
     alloc: Global,
@@ -303,7 +304,7 @@ fn optional_file<R: std::rt::Files>(
     }
 }
 
-/// The names of the tables of `paths`.
+/// The names of the files given to `paths`.
 #[derive(Clone, Copy)]
 struct TableNames<'a> {
     groups: Option<&'a str>,
@@ -326,7 +327,8 @@ fn paths_inputs<R: std::rt::Files + AllocGlobal + Clone + Drop>(
     Ok(inputs)
 }
 
-/// Reads what a request names: the source first, then the group, access, time and returns files.
+/// Reads the files of a request: the configuration, then the group file, the access table, the time table and the
+/// returns file.
 pub(crate) fn inputs_of<R: std::rt::Files + AllocGlobal + Clone + Drop>(
     rt: &R,
     alloc: Global,

@@ -1,4 +1,5 @@
-//! From a request and its inputs to the answer, or the line and the status of a fault.
+//! The commands of `pamcheck`: from a request and its inputs to the printed answer and the exit status.
+//! A request that has no answer gets the line and the exit status of its first fault.
 #![tactic(auto)]
 
 mod fault;

@@ -1,4 +1,4 @@
-//! A run of the program: words in, an answer on standard output, a fault on standard error, and a status.
+//! A run of the program: reads the command line, answers on standard output, and reports faults on standard error.
 
 ghost use Rattle.std.specs.Prelude.{◌-◌, ◌<◌, ◌^◌};
 
@@ -12,8 +12,8 @@ use std::alloc::{AllocError, Global};
 use std::io::Write;
 use std::rt::Files;
 
-/// Reads the words, reads what they name, answers, and gives the exit status. What goes wrong with `err` changes
-/// nothing.
+/// Runs the program with these words, the first of which is its name, and returns the exit status. Failed writes to
+/// `err` are ignored.
 pub fn run<R: Files + AllocGlobal + Clone + Drop, W: Write, V: Write>(
     rt: &R,
     alloc: Global,
@@ -30,7 +30,7 @@ pub fn run<R: Files + AllocGlobal + Clone + Drop, W: Write, V: Write>(
     }
 }
 
-/// Says on standard error what is wrong with the words, and gives the exit status.
+/// Reports wrong words on standard error, and returns the exit status.
 pub fn refuse<V: Write>(alloc: Global, usage: &Usage, err: &mut Out<V>) -> u8 {
     match usage {
         Usage::Help(text) | Usage::Words(text) => {
@@ -46,7 +46,7 @@ pub fn refuse<V: Write>(alloc: Global, usage: &Usage, err: &mut Out<V>) -> u8 {
     usage_status(usage)
 }
 
-/// Says on standard error that memory ran out before any words were read, and gives the exit status.
+/// Reports an allocation that failed before any words were read, and returns the exit status.
 pub fn refuse_without_memory<V: Write>(alloc: Global, err: &mut Out<V>) -> u8 {
     refuse_by(
         alloc,
@@ -56,7 +56,7 @@ pub fn refuse_without_memory<V: Write>(alloc: Global, err: &mut Out<V>) -> u8 {
     )
 }
 
-/// Reads what a request names, and answers it.
+/// Reads the files that a request names, and answers it.
 fn answer_request<R: Files + AllocGlobal + Clone + Drop, W: Write, V: Write>(
     rt: &R,
     alloc: Global,
@@ -111,13 +111,13 @@ fn help<W: Write, V: Write>(
     }
 }
 
-/// Says a fault on standard error, and gives its exit status.
+/// Reports a fault on standard error, and returns its exit status.
 fn refuse_by<V: Write>(alloc: Global, fault: &Fault, files: &ConfFiles, err: &mut Out<V>) -> u8 {
     say(fault_text(alloc, fault, files), err);
     fault_status(fault)
 }
 
-/// Writes a line to standard error, unless there was no memory for it.
+/// Writes a line to standard error, unless its allocation failed.
 fn say<V: Write>(line: Result<Vec<u8>, AllocError>, err: &mut Out<V>) {
     if let Ok(line) = line {
         let _ = err.write_all(&line);

@@ -1,4 +1,4 @@
-//! Answers: computed first, which finds all faults, and written then, which takes no memory.
+//! Answers. Each is computed first, which finds all faults, and then written, which allocates nothing.
 
 ghost use Rattle.std.specs.Prelude.{◌≡◌, ◌-◌, ◌<◌, ◌^◌};
 ghost use Rattle.pam_report.specs.Answer.{Answers};
@@ -24,17 +24,17 @@ use std::alloc::Global;
 use std::io::Write;
 use time::{answer_time, given_moment, moment_of};
 
-/// How an answer turned out.
+/// The outcome of an answer.
 #[derive(Clone, Copy, Debug, PartialEq, Eq)]
 pub enum Status {
-    /// Answered; where something is decided, it is success or granted.
+    /// Answered. A decision is `success` or granted.
     Success,
-    /// Another decision, or denied.
+    /// Answered with another decision, or denied.
     Refusal,
 }
 
 impl Status {
-    /// The exit status.
+    /// Returns the exit status: 0 or 1.
     pub fn number(self) -> u8
         ensures { result ≡ status_number self }
     {
@@ -45,8 +45,10 @@ impl Status {
     }
 }
 
-/// Writes the answer to a request, and flushes once at its end. All faults but a failed write are found before the
-/// first byte. The tables are those that the request names where the inputs fit it; one that is not there is empty.
+/// Answers a request: writes the text and flushes once, at its end.
+///
+/// All faults but a failed write are found before the first byte is written. Uses the tables of `inputs`, which are
+/// those that the request names if it fits; see `Inputs::fits`. `access` and `time` take a missing one as empty.
 pub fn answer<W: Write>(
     alloc: Global,
     request: &Request<'_>,

@@ -94,7 +94,7 @@ pub table_read : (o : Options) (fs ls : List ℕ) (group_names : Bool) (bytes : 
 unfolding table_of
 table_read o fs ls group_names bytes lines v h = rw (← v) (table_checked bytes group_names _ ∙ ap (table_with group_names) h)
 
--- ---- separators that are the same set
+-- ---- equal sets of separators
 
 module _ (fs gs ls ms : List ℕ) (fields : (b : ℕ) → is_among fs b ≡ is_among gs b) (lists : (b : ℕ) → is_among ls b ≡ is_among ms b) where
   same_fields : is_among fs ≡ is_among gs

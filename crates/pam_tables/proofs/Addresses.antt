@@ -9,7 +9,7 @@ use Rattle.pam_tables.specs.Lines.{is_among, cut_at}
 use Rattle.pam_tables.specs.Address.{numeral, number_in, octet_of, all_four, four_octets, v4_of}
 use Rattle.pam_tables.proofs.Cutting.{split_found, split_none, split_two, split_three, none_passes, found_within, split_parts}
 
--- the only byte of a set of one
+-- a set of one byte has only that byte
 pub among_one : (c b : ℕ) → is_among (c ∷ []) b ≡ true → c ≡ b
 unfolding is_among
 among_one c b h =
@@ -43,7 +43,7 @@ all_four_none (Some a) None c = refl
 all_four_none (Some a) (Some b) None = refl
 all_four_none (Some a) (Some b) (Some c) = refl
 
--- three texts, and what stands behind the third dot
+-- three texts, and the text after the third dot
 pub four_parts : (a b c d : List ℕ) → four_octets (a ∷ b ∷ c ∷ slice_split (is_among (codes ".")) d)
     ≡ all_four (octet_of a) (octet_of b) (octet_of c) (octet_of d)
 four_parts a b c d =

@@ -54,7 +54,7 @@ and_false : (b : Bool) → (b && false) ≡ false
 and_false true = refl
 and_false false = refl
 
--- a test that no separator passes does not pass on each byte of a text with one
+-- a test that fails on separators does not hold on all bytes of a text that has one
 pub none_passes : (p q : ℕ → Bool) (text : List ℕ) → ((b : ℕ) → p b ≡ true → q b ≡ false) → position_or_len p text < length text → list_all q text ≡ false
 none_passes p q [] f h = absurd (omega arith)
 none_passes p q (b ∷ bs) f h =
@@ -63,7 +63,7 @@ none_passes p q (b ∷ bs) f h =
       | false ↦ λ e l. ap (λ (t : Bool). q b && t) (none_passes p q bs f (omega arith)) ∙ and_false (q b)
     ] refl h
 
--- the place of the separator that was found
+-- the index of a separator is within the text
 pub found_within : (p : ℕ → Bool) (text : List ℕ) (x : List ℕ × List ℕ) → Some x ≡ cut_at p text → position_or_len p text < length text
 found_within p text x h =
     elim (nat_lt (position_or_len p text) (length text)) as (λ (t : Bool). nat_lt (position_or_len p text) (length text) ≡ t → Some x ≡ cut_at p text →
@@ -72,7 +72,7 @@ found_within p text x h =
       | false ↦ λ e g. let nothing : Some x ≡ None = rw e at g in absurd (cc)
     ] refl h
 
--- a text has a first part
+-- a list of parts is not empty
 pub record FirstPart {X : Type 0} (ps : List (List X)) : Type 0 where
   pub first : List X
   pub others : List (List X)

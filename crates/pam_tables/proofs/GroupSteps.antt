@@ -1,4 +1,4 @@
--- The fields of a group's line, its members, and what a line adds.
+-- The fields of a group's line, its members, and the entry it adds.
 use Rattle.std.proofs.Common.{◌≡◌, ◌∙◌, ◌||◌, ℕ, Bool, true, false, List, [], ◌∷◌, length, map, filter, cond, codes, Option, Some, None, Result}
 use Rattle.std.proofs.Common.{Ok, Err, refl, sym, ap, arith, if◌then◌else◌}
 use Rattle.std.specs.List.{list_any, slice_split}

@@ -1,4 +1,4 @@
--- The first of the lines that are left.
+-- The first of the remaining lines.
 use Rattle.std.proofs.Common.{◌≡◌, ◌+◌, ℕ, Bool, true, false, List, [], ◌∷◌, ◌<◌, length, arith, Some, None, refl, ap}
 use Rattle.pam_tables.specs.Lines.{cut_at, is_among, lines_from, lines_left, numbered, without_return}
 use Rattle.pam_tables.proofs.Cutting.{split_found, split_none}

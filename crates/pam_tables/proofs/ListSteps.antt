@@ -22,7 +22,7 @@ odd_after_next b n = ap (λ (t : Bool). cond t (not b) b) (odd_next n) ∙ turne
 odd_of : (n : ℕ) → odd_after false n ≡ nat_eq (n % 2) 1
 odd_of n = elim (nat_eq (n % 2) 1) as (λ (t : Bool). cond t true false ≡ t) [ true ↦ refl | false ↦ refl ]
 
--- parts behind an even or an odd number of parts that hold
+-- parts after an even or an odd number of parts that hold
 parts_behind : (b : Bool) (ps : List (List Mark)) → odd_with b false ps ≡ odd_after b (prefix_len part_holds ps)
 parts_behind b [] = refl
 parts_behind b (p ∷ ps) =
@@ -52,7 +52,7 @@ list_match s mark e m rest =
     already o true p ps = refl
     already o false p ps = refl
 
--- a token that does not
+-- a token that does not match
 pub list_miss : (s : Parts) (mark : Mark) → s.is_decided ≡ false → mark ≡ Miss → (rest : List Mark) → matches_behind s rest ≡ matches_behind s (mark ∷ rest)
 unfolding matches_behind
 list_miss s mark e m rest =

@@ -1,4 +1,4 @@
--- Entries with names, of which the first of each name counts: in a map, and line by line.
+-- Entries by name, of which the first of each name counts: in a map, and line by line.
 use Rattle.std.proofs.Common.{◌≡◌, ◌∙◌, ◌++◌, ◌||◌, ℕ, Bool, true, false, List, [], ◌∷◌, map, cond, is_some, Option, Some, None, Result, Ok, Err, refl, sym, ap}
 use Rattle.std.proofs.Common.{append_assoc, append-nil}
 use Rattle.std.specs.List.{list_any}
@@ -54,7 +54,7 @@ module _ {K X V : Type 0} (name : K → List ℕ) (value : X → V) where
 -- ---- entries line by line
 
 module _ {V : Type 0} where
-  -- entries that are read already, with those of the lines after them
+  -- the entries read so far, with those of the later lines
   unfoldable pub followed_by : List (List ℕ × V) → Result (List (List ℕ × V)) (TableFault × ℕ) → Result (List (List ℕ × V)) (TableFault × ℕ)
   followed_by known (Ok entries) = Ok (known ++ first_of_each (map (λ e. e.0) known) entries)
   followed_by known (Err e) = Err e
@@ -96,7 +96,7 @@ module _ {V : Type 0} where
   stops known n fault (Err f) others h = let same : f ≡ fault = cc in ap (λ (x : TableFault). Err (x, n)) same
   stops known n fault (Ok o) others h = absurd (cc)
 
-  -- a line that gives a value to a name adds it where the name is new
+  -- a line with a name and a value adds them, if the name is new
   module _ (known : List (List ℕ × V)) (r : Result (Option (List ℕ × V)) TableFault) (name : List ℕ) (x : V) (e : r ≡ Ok (Some (name, x))) where
     pub name_known : has_name name known ≡ true → with_line known r ≡ Ok known
     name_known h = ap (with_line known) e ∙ ap (λ (t : Bool). Ok (cond t known (known ++ (name, x) ∷ []))) h

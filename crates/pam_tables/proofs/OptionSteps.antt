@@ -4,7 +4,7 @@ use Rattle.std.specs.List.{list_any}
 use Rattle.std.specs.Str.{bytes_eq}
 use Rattle.pam_tables.specs.Options.{given_or, last_value, options_of}
 
--- options by their parts
+-- options from their parts
 pub options_are : (arguments : List (List ℕ)) (f l : List ℕ) (o p : Option (List ℕ)) (h : Bool) → f ≡ given_or (codes ":") o →
     o ≡ last_value (codes "fieldsep=") arguments → l ≡ given_or (32 ∷ 9 ∷ 44 ∷ []) p → p ≡ last_value (codes "listsep=") arguments
     → h ≡ list_any (λ a. bytes_eq a (codes "nodefgroup")) arguments → record {

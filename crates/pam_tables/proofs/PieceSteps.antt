@@ -9,7 +9,7 @@ use Rattle.pam_tables.specs.Lines.{is_among, cut_at}
 use Rattle.pam_tables.specs.Address.{double_colon, more_pieces, number_from, numeral, pieces_in, pieces_of, last_pieces, with_piece}
 use Rattle.pam_tables.proofs.Cutting.{split_found, split_none, split_parts}
 
--- a text cut behind so many bytes of a text
+-- a cut of the text after the first n bytes, as a cut of the whole text
 abbrev pub behind : ℕ → List ℕ → Option (List ℕ × List ℕ) → Option (List ℕ × List ℕ)
 behind n text o = option_map (λ q. (take n text ++ q.0, q.1)) o
 
@@ -55,7 +55,7 @@ colon_end n text h = sym (ap (λ (s : List ℕ). behind n text (double_colon s))
 pub one_zero : (n k z : ℕ) → z < k → number_from 65536 (n * 65536 + 0) (replicate (k - (z + 1)) 0) ≡ number_from 65536 n (replicate (k - z) 0)
 one_zero n k z h = let e : k - z ≡ suc (k - (z + 1)) = omega arith in rw e refl
 
--- ---- pieces behind others
+-- ---- pieces after others
 
 pub more_with : (n c piece : ℕ) (o : Option (List ℕ)) → more_pieces (n * 65536 + piece) (c + 1) o ≡ more_pieces n c (with_piece (Some piece) o)
 more_with n c piece None = refl
@@ -66,7 +66,7 @@ pub more_full : (n c piece : ℕ) (o : Option (List ℕ)) → 8 ≤ c → None �
 more_full n c piece None h = refl
 more_full n c piece (Some ps) h = let e : nat_le (c + length (piece ∷ ps)) 8 ≡ false = lt-leb _ _ (omega arith) in rw e refl
 
--- one more piece was put behind
+-- a piece was appended
 pub one_more : (n c piece x y : ℕ) → Some (x, y) ≡ more_pieces n c (Some (piece ∷ [])) → (x ≡ n * 65536 + piece) × (y ≡ c + 1)
 one_more n c piece x y h =
     elim (nat_le (c + 1) 8) as (λ (t : Bool). ◌≡◌ {A = Option (ℕ × ℕ)} (Some (x, y)) (cond t (Some (n * 65536 + piece, c + 1)) None) →
@@ -100,7 +100,7 @@ unfolding pieces_of
 pieces_empty t [] h = refl
 pieces_empty t (b ∷ bs) h = absurd (omega arith)
 
--- a piece that is none ends all
+-- an invalid piece makes the text invalid
 pub piece_fails : (n c : ℕ) (t : Bool) (rest a r : List ℕ) → Some (a, r) ≡ cut_at (is_among (codes ":")) rest → None ≡ numeral 16 4 a →
     None ≡ more_pieces n c (pieces_in t (slice_split (is_among (codes ":")) rest))
 piece_fails n c t rest a r e f =

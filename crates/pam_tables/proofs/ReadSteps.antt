@@ -46,7 +46,7 @@ checked_passes bytes read u h =
       | Some x ↦ λ f. absurd (cc)
     ] h
 
--- ---- what was read already stands in front
+-- ---- what was read before comes first
 
 abbrev pub in_front : {A E : Type 0} → List A → Result (List A) E → Result (List A) E
 in_front front (Ok xs) = Ok (front ++ xs)

@@ -1,4 +1,4 @@
--- Codes word by word, what a line of a returns file says, lines that have codes, and those of a map's entries.
+-- Codes word by word, the entry of a line of a returns file, lines that have codes, and those of a map's entries.
 use Rattle.std.proofs.Common.{◌≡◌, ◌≢◌, ◌∙◌, ◌++◌, ◌||◌, ◌&&◌, ◌<◌, ◌==◌, ℕ, Bool, true, false, List, [], ◌∷◌, cond, eqb, codes, nat_eq, is_some}
 use Rattle.std.proofs.Common.{map, Option, Some, None, IfSome, Result, Ok, Err, eq-eqb, if◌then◌else◌, refl, sym, ap}
 use Rattle.std.specs.List.{list_any, list_all, starts_with}
@@ -16,12 +16,12 @@ use Rattle.pam_tables.proofs.NamedSteps.{entry_view, value_of_name}
 
 -- ---- words one after another
 
--- codes that are read already, with those of the words after them
+-- the codes read so far, with those of the later words
 abbrev pub codes_with : List ℕ → List (List ℕ) → Result (List ℕ) TableFault
 codes_with set words =
     if list_all (λ w. is_some (code_named w)) words then Ok (codes_where (λ code. is_in code set || list_any (names_code code) words)) else Err BadCode
 
--- codes with those of more words, of which the first names this code, or none
+-- codes with those of more words, the first of which names this code, or none
 abbrev codes_with_first : List ℕ → Option ℕ → List (List ℕ) → Result (List ℕ) TableFault
 codes_with_first set first words =
     if is_some first && list_all (λ w. is_some (code_named w)) words

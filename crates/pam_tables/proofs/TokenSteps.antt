@@ -24,7 +24,7 @@ or_true : (a b : Bool) → (a || b) ≡ true → a ≡ false → b ≡ true
 or_true true b h e = absurd (cc)
 or_true false b h e = h
 
--- a separator or a blank in front says nothing
+-- a leading separator or blank changes nothing
 gap_byte : (s : List ℕ) (b : ℕ) (bs : List ℕ) → is_gap s b ≡ true → tokens_of s (b ∷ bs) ≡ tokens_of s bs
 unfolding tokens_of
 gap_byte s b bs h =
@@ -38,7 +38,7 @@ gap_byte s b bs h =
           ∙ sym (ap tokens_in ps.are)
     ] refl
 
--- separators and blanks in front are passed over
+-- leading separators and blanks are skipped
 pub gap_skipped : (s text : List ℕ) → tokens_of s text ≡ tokens_of s (drop (prefix_len (is_gap s) text) text)
 gap_skipped s [] = refl
 gap_skipped s (b ∷ bs) =
@@ -47,7 +47,7 @@ gap_skipped s (b ∷ bs) =
       | false ↦ λ e. refl
     ] refl
 
--- what passes at the front of what is behind the front that passes
+-- no byte right after the longest passing prefix passes
 pub none_behind : (p : ℕ → Bool) (bs : List ℕ) → prefix_len p (drop (prefix_len p bs) bs) ≡ 0
 none_behind p [] = refl
 none_behind p (b ∷ bs) = elim (p b) as (λ (t : Bool). p b ≡ t → prefix_len p (drop (cond t (1 + prefix_len p bs) 0) (b ∷ bs)) ≡ 0) [
@@ -63,7 +63,7 @@ no_tokens s (b ∷ bs) h = absurd (omega arith)
 abbrev in_part : List ℕ → ℕ → Bool
 in_part s b = not (is_among s b)
 
--- the first part, and parts that have the tokens behind it
+-- the first part, and other parts with the tokens after it
 record FirstSplit (s text : List ℕ) : Type 0 where
   others : List (List ℕ)
   are : slice_split (is_among s) text ≡ take (prefix_len (in_part s) text) text ∷ others
@@ -110,7 +110,7 @@ few_blanks b bs h =
     (prefix_len is_blank (reverse bs)) (length bs) whole some in
     omega (arith, all, most)
 
--- a text that begins with no blank keeps a byte when the blanks at its end go
+-- a text that does not begin with a blank is not empty after blanks are trimmed from its end
 kept : (b : ℕ) (bs : List ℕ) → is_blank b ≡ false → has_bytes (trimmed_end (b ∷ bs)) ≡ true
 kept b bs h =
     let few : suffix_len is_blank (b ∷ bs) ≤ length bs = few_blanks b bs h in

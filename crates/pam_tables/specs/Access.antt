@@ -19,14 +19,14 @@ use Rattle.pam_tables.specs.declared.access.Permission.TheVariants.{Grant, Deny}
 use Rattle.pam_tables.specs.declared.error.TableFault.{TableFault}
 use Rattle.pam_tables.specs.declared.error.TableFault.TheVariants.{MissingField, BadPermission}
 
--- a line of a table, by its number
+-- a line of a table, with its number
 pub record LineText : Type 0 where
   pub number : ℕ
   pub permission : Permission
   pub users : List UserPattern
   pub origins : List OriginPattern
 
--- the lines of a table, and whether plain names of users may name groups
+-- a table: its lines, and whether plain names of users may name groups
 pub record TableText : Type 0 where
   pub lines : List LineText
   pub group_names : Bool
@@ -47,14 +47,14 @@ permission_of text =
     else if bytes_eq text (codes "-") then Ok Deny
     else Err BadPermission
 
--- a comment, or a line of blanks
+-- whether a line is a comment or blank
 unfoldable pub is_passed_over : List ℕ → Bool
 is_passed_over line = starts_with nat_eq line (codes "#") || is_blank_line line
 
 abbrev pub has_tokens : List ℕ → List ℕ → Bool
 has_tokens separators text = not (length (tokens_of separators text) == 0)
 
--- the line of three fields: a missing field comes first, then a bad permission, then the tokens from the left
+-- the line of three fields. A missing field is the first fault, then a bad permission, then the tokens from the left
 unfoldable pub line_of_fields : List ℕ → ℕ → List ℕ → List ℕ → List ℕ → Result LineText TableFault
 line_of_fields separators number permission users origins =
     if has_tokens separators users && has_tokens separators origins
@@ -64,7 +64,7 @@ line_of_fields separators number permission users origins =
     >>= λ os. Ok (record { number = number; permission = p; users = us; origins = os }))
     else Err MissingField
 
--- permission, users and the rest: origins
+-- the permission, the users and the origins: the line cut at its first two separators
 unfoldable pub fields_of : List ℕ → List ℕ → Option (List ℕ × List ℕ × List ℕ)
 fields_of separators line =
     option_map_or (λ p. option_map (λ q. (p.0, q.0, q.1)) (cut_at (is_among separators) p.1)) (cut_at (is_among separators) line) None
@@ -73,7 +73,7 @@ abbrev pub some_line : Result LineText TableFault → Result (Option LineText) T
 some_line (Ok line) = Ok (Some line)
 some_line (Err fault) = Err fault
 
--- what a line spells, if it is not passed over
+-- a line, unless it is a comment or blank
 unfoldable pub access_line : List ℕ → List ℕ → ℕ → List ℕ → Result (Option LineText) TableFault
 access_line field_separators list_separators number line =
     if is_passed_over line then Ok None
@@ -103,7 +103,7 @@ abbrev pub answer_with : Permission → ℕ → AccessAnswer
 answer_with Grant number = Granted (Some number)
 answer_with Deny number = Denied number
 
--- the first line whose users and origins both match decides, and without one the login is granted
+-- the first line whose users and origins both match decides; if no line matches, the login is granted
 abbrev pub first_answer : List Group → Bool → List ℕ → OriginText → List LineText → AccessAnswer
 first_answer groups by_name user origin [] = Granted None
 first_answer groups by_name user origin (line ∷ lines) =

@@ -8,15 +8,15 @@ use Rattle.pam_tables.specs.Lines.{is_among}
 use Rattle.pam_tables.specs.declared.address.Address.{Address}
 use Rattle.pam_tables.specs.declared.address.Address.TheVariants.{V4, V6}
 
--- the number that digits of a base write behind a number
+-- a number with more digits of a base after it
 abbrev pub number_from : ℕ → ℕ → List ℕ → ℕ
 number_from base number digits = fold (λ n d. n * base + d) number digits
 
--- the number that digits of a base write
+-- the number written by digits of a base
 abbrev pub number_in : ℕ → List ℕ → ℕ
 number_in base digits = number_from base 0 digits
 
--- a text of one to so many digits of a base
+-- the number written by a text of 1 to `most` digits of a base
 unfoldable pub numeral : ℕ → ℕ → List ℕ → Option ℕ
 numeral base most text =
     if nat_lt 0 (length text) && nat_le (length text) most && list_all (λ c. is_digit c base) text
@@ -24,7 +24,7 @@ numeral base most text =
 
 -- ---- IPv4
 
--- a number from 0 to 255, of which no text of several digits begins with 0
+-- a number from 0 to 255, without leading zeros
 unfoldable pub octet_of : List ℕ → Option ℕ
 octet_of text =
     if nat_lt 1 (length text) && slice_index text 0 == 48 then None
@@ -38,13 +38,13 @@ abbrev pub four_octets : List (List ℕ) → Option ℕ
 four_octets (a ∷ b ∷ c ∷ d ∷ []) = all_four (octet_of a) (octet_of b) (octet_of c) (octet_of d)
 four_octets _ = None
 
--- four such numbers, joined by dots
+-- an IPv4 address: four octets joined by dots
 unfoldable pub v4_of : List ℕ → Option ℕ
 v4_of text = four_octets (slice_split (is_among (codes ".")) text)
 
 -- ---- IPv6
 
--- what stands behind the last colon: a piece of hexadecimal digits, or two pieces as an IPv4 text
+-- the text after the last colon: a piece of hexadecimal digits, or an IPv4 address as two pieces
 abbrev pub last_pieces : Bool → List ℕ → Option (List ℕ)
 last_pieces ends_in_v4 text = option_map_or (λ piece. Some (piece ∷ []))
     (numeral 16 4 text)
@@ -60,12 +60,12 @@ pieces_in ends_in_v4 [] = Some []
 pieces_in ends_in_v4 (text ∷ []) = last_pieces ends_in_v4 text
 pieces_in ends_in_v4 (text ∷ next ∷ texts) = with_piece (numeral 16 4 text) (pieces_in ends_in_v4 (next ∷ texts))
 
--- the 16-bit pieces that a text writes, joined by colons; none where it is empty
+-- the 16-bit pieces of a text, joined by colons. An empty text has none
 unfoldable pub pieces_of : Bool → List ℕ → Option (List ℕ)
 pieces_of ends_in_v4 [] = Some []
 pieces_of ends_in_v4 (b ∷ bs) = pieces_in ends_in_v4 (slice_split (is_among (codes ":")) (b ∷ bs))
 
--- what stands before and behind the first `::`
+-- the text before and after the first `::`
 unfoldable pub double_colon : List ℕ → Option (List ℕ × List ℕ)
 double_colon [] = None
 double_colon (b ∷ bs) =
@@ -77,7 +77,7 @@ abbrev pub eight_pieces : Option (List ℕ) → Option ℕ
 eight_pieces None = None
 eight_pieces (Some pieces) = if length pieces == 8 then Some (number_in 65536 pieces) else None
 
--- `::` stands for one or more pieces of zero
+-- `::` is one or more pieces of zero
 abbrev pub around_zeros : Option (List ℕ) → Option (List ℕ) → Option ℕ
 around_zeros None back = None
 around_zeros (Some front) None = None
@@ -90,14 +90,14 @@ v6_of text = option_map_or (λ p. around_zeros (pieces_of false p.0) (pieces_of 
     (double_colon text)
     (eight_pieces (pieces_of true text))
 
--- pieces behind so many that write a number, if there are at most eight together: the number, and how many
+-- the number and the count of pieces, after more pieces are appended. There are at most eight
 abbrev pub more_pieces : ℕ → ℕ → Option (List ℕ) → Option (ℕ × ℕ)
 more_pieces number count None = None
 more_pieces number count (Some pieces) =
     if nat_le (count + length pieces) 8 then Some (number_from 65536 number pieces, count + length pieces) else None
 
--- ---- both
+-- ---- either family
 
--- the address that a text writes
+-- the address written by a text
 unfoldable pub address_of : List ℕ → Option Address
 address_of text = option_map_or (λ v. Some (V4 v)) (v4_of text) (option_map V6 (v6_of text))

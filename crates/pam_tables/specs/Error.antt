@@ -5,18 +5,18 @@ use Rattle.pam_tables.specs.declared.error.TableError.{TableError}
 use Rattle.pam_tables.specs.declared.error.TableFault.{TableFault}
 use Rattle.pam_tables.specs.declared.error.TableFault.TheVariants.{Memory}
 
--- want of memory belongs to no line
+-- a failed allocation has no line
 abbrev pub line_of_fault : TableFault → ℕ → ℕ
 line_of_fault Memory line = 0
 line_of_fault _ line = line
 
--- ---- what a call answers, by what reading gives
+-- ---- results of calls, against what the bytes spell
 
 abbrev pub FailsIn : {Y : Type 0} → TableFault → Result Y TableFault → Type 0
 FailsIn Memory read = Unit {0}
 FailsIn fault read = read ≡ Err fault
 
--- a part of a line, seen by view, or its fault, unless memory ran out
+-- a part of a line or its fault, as read says, unless an allocation failed
 abbrev pub GivesPart : {X Y : Type 0} → (X → Y) → Result X TableFault → Result Y TableFault → Type 0
 GivesPart view (Ok x) read = read ≡ Ok (view x)
 GivesPart view (Err fault) read = FailsIn fault read
@@ -25,21 +25,21 @@ abbrev pub FailsAt : {Y : Type 0} → TableFault → ℕ → Result Y (TableFaul
 FailsAt Memory line read = line ≡ 0
 FailsAt fault line read = read ≡ Err (fault, line)
 
--- a table, seen by view, or its first fault and the line of that, unless memory ran out
+-- a table, or its first fault with its line, as read says, unless an allocation failed
 abbrev pub Gives : {X Y : Type 0} → Table → (X → Y) → Result X TableError → Result Y (TableFault × ℕ) → Type 0
 Gives table view (Ok x) read = read ≡ Ok (view x)
 Gives table view (Err e) read = (e.table ≡ table) × FailsAt e.fault e.line read
 
--- ---- lines one after another
+-- ---- line by line
 
--- what a line gives, if it gives anything, and its fault, stand before those of the others
+-- the entry of a line, if it has one, before those of the other lines; its fault comes before theirs
 abbrev pub onto_lines : {A : Type 0} → ℕ → Result (Option A) TableFault → Result (List A) (TableFault × ℕ) → Result (List A) (TableFault × ℕ)
 onto_lines line (Err fault) others = Err (fault, line)
 onto_lines line (Ok None) others = others
 onto_lines line (Ok (Some x)) (Ok xs) = Ok (x ∷ xs)
 onto_lines line (Ok (Some x)) (Err e) = Err e
 
--- what numbered lines give, or the fault of the first that has one, with its number
+-- the entries of numbered lines, or the first fault, with its line number
 unfoldable pub read_lines : {A : Type 0} → (ℕ → List ℕ → Result (Option A) TableFault) → List (ℕ × List ℕ) → Result (List A) (TableFault × ℕ)
 read_lines read [] = Ok []
 read_lines read (line ∷ lines) = onto_lines line.0 (read line.0 line.1) (read_lines read lines)

@@ -7,43 +7,43 @@ use Rattle.pam_tables.specs.declared.error.TableFault.{TableFault}
 use Rattle.pam_tables.specs.declared.error.TableFault.TheVariants.{NulByte, TableTooLong}
 use Rattle.pam_tables.specs.declared.lines.TheConstants.{MAX_TABLE_BYTES}
 
--- the fault of the bytes as a whole, and its line: more of them than a table may have, or a NUL byte
+-- the fault of the bytes as a whole, with its line: too many bytes, or a NUL byte
 unfoldable pub fault_of_bytes : List ℕ → Option (TableFault × ℕ)
 fault_of_bytes bytes =
     if nat_lt MAX_TABLE_BYTES (length bytes) then Some (TableTooLong, 0)
     else option_map (λ i. (NulByte, count_by (λ b. b == 10) (take i bytes) + 1)) (position (λ b. b == 0) bytes)
 
--- what reading gives, if the bytes as a whole have no fault
+-- the fault of the bytes as a whole, or else what was read
 abbrev pub checked : {A : Type 0} → List ℕ → Result A (TableFault × ℕ) → Result A (TableFault × ℕ)
 checked bytes read = option_map_or Err (fault_of_bytes bytes) read
 
--- nothing, if the bytes as a whole have no fault
+-- whether the bytes as a whole have no fault
 abbrev pub sound : List ℕ → Result (Unit {0}) (TableFault × ℕ)
 sound bytes = checked bytes (Ok tt)
 
--- whether a text has a byte
+-- whether a text is not empty
 abbrev pub has_bytes : List ℕ → Bool
 has_bytes [] = false
 has_bytes (b ∷ bs) = true
 
--- the separators are a set of bytes
+-- whether a byte is a separator
 unfoldable pub is_among : List ℕ → ℕ → Bool
 is_among separators b = list_any (λ s. s == b) separators
 
--- a line without the carriage return that ends it
+-- a line without a carriage return at its end
 abbrev pub without_return : List ℕ → List ℕ
 without_return line = if ends_with nat_eq line (13 ∷ []) then take (length line - 1) line else line
 
--- lines with their numbers, of which the first is given
+-- lines with their numbers, counted from this one
 abbrev pub numbered : ℕ → List (List ℕ) → List (ℕ × List ℕ)
 numbered number [] = []
 numbered number (line ∷ lines) = (number, without_return line) ∷ numbered (number + 1) lines
 
--- the lines of bytes, the first of which has this number
+-- the lines of a text, numbered from this one
 unfoldable pub lines_from : ℕ → List ℕ → List (ℕ × List ℕ)
 lines_from number bytes = numbered number (slice_split (is_among (10 ∷ [])) bytes)
 
--- the lines from a place on, if the last was not given yet
+-- the remaining lines, of which there are none after the last was yielded
 unfoldable pub lines_left : Bool → ℕ → List ℕ → List (ℕ × List ℕ)
 lines_left true number bytes = []
 lines_left false number bytes = lines_from number bytes
@@ -52,11 +52,11 @@ lines_left false number bytes = lines_from number bytes
 abbrev pub is_blank : ℕ → Bool
 is_blank b = b == 32 || b == 9
 
--- a line of blanks alone
+-- a line of blanks only
 abbrev pub is_blank_line : List ℕ → Bool
 is_blank_line line = list_all is_blank line
 
--- a text without blanks at its front, at its end, and at both
+-- a text without blanks at its start, at its end, and at both
 abbrev pub trimmed_start : List ℕ → List ℕ
 trimmed_start text = drop (prefix_len is_blank text) text
 
@@ -66,6 +66,6 @@ trimmed_end text = take (length text - suffix_len is_blank text) text
 abbrev pub trimmed : List ℕ → List ℕ
 trimmed text = trimmed_end (trimmed_start text)
 
--- what stands before and behind the first separator
+-- the text before and after the first separator
 abbrev pub cut_at : (ℕ → Bool) → List ℕ → Option (List ℕ × List ℕ)
 cut_at is_separator text = option_map (λ i. (take i text, drop (i + 1) text)) (position is_separator text)

@@ -15,16 +15,16 @@ pub record LoginText : Type 0 where
 abbrev pub login_view : Login → LoginText
 login_view l = record { user = l.user.now; service = l.service.now; tty = l.tty.now; rhost = l.rhost.now }
 
--- a remote host, or a local place
+-- the origin of a login: a remote host, or a local place
 pub data OriginText : Type 0 where
   Remote : List ℕ → OriginText
   Local : List ℕ → OriginText
 
--- a terminal without one `/dev/` in front
+-- a terminal without one `/dev/` prefix
 abbrev pub without_dev : List ℕ → List ℕ
 without_dev tty = if bytes_eq (take 5 tty) (codes "/dev/") then drop 5 tty else tty
 
--- the remote host; without one the terminal, and without that the service
+-- the remote host if there is one, else the terminal if there is one, else the service
 unfoldable pub origin_of : LoginText → OriginText
 origin_of l =
     if not (length l.rhost == 0) then Remote l.rhost
@@ -35,7 +35,7 @@ abbrev pub origin_view : Origin → OriginText
 origin_view (origins.Remote host address) = Remote host.now
 origin_view (origins.Local text) = Local text.now
 
--- the address that is kept is that of the host's text
+-- the address kept with a host is that of its text
 abbrev pub IsKnown : Origin → Type 0
 IsKnown (origins.Remote host address) = address ≡ address_of host.now
 IsKnown (origins.Local text) = Unit {0}

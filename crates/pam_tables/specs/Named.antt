@@ -1,10 +1,10 @@
--- Lines that give values to names, of which the first line of a name counts: group(5), and returns files.
+-- Files whose lines give values to names, of which the first of a name counts: group(5), returns files.
 use Rattle.std.specs.Prelude.{ℕ, List, [], ◌∷◌, ◌++◌, if◌then◌else◌, Option, Some, None, Result, Ok, Err}
 use Rattle.std.specs.List.{list_any}
 use Rattle.std.specs.Str.{bytes_eq}
 use Rattle.pam_tables.specs.declared.error.TableFault.{TableFault}
 
--- of entries after those with these names, the first of each name
+-- the first entry of each name, except these names
 abbrev pub first_of_each : {V : Type 0} → List (List ℕ) → List (List ℕ × V) → List (List ℕ × V)
 first_of_each names [] = []
 first_of_each names (entry ∷ entries) =
@@ -15,7 +15,7 @@ abbrev pub first_of_each_read : {V : Type 0} → Result (List (List ℕ × V)) (
 first_of_each_read (Ok entries) = Ok (first_of_each [] entries)
 first_of_each_read (Err e) = Err e
 
--- entries with one more, where its name is new
+-- entries with one more, if its name is new
 abbrev pub with_entry : {V : Type 0} → List (List ℕ × V) → Option (List ℕ × V) → List (List ℕ × V)
 with_entry entries None = entries
 with_entry entries (Some entry) = if list_any (λ e. bytes_eq entry.0 e.0) entries then entries else entries ++ entry ∷ []

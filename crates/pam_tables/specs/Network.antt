@@ -11,7 +11,7 @@ use Rattle.pam_tables.specs.declared.network.Network.TheVariants as networks
 use Rattle.pam_tables.specs.declared.error.TableFault.{TableFault}
 use Rattle.pam_tables.specs.declared.error.TableFault.TheVariants.{BadMask}
 
--- the number of so many binary digits that has ones at its highest places
+-- the number of `width` binary digits, of which the highest `count` are ones
 unfoldable pub ones : ℕ → ℕ → ℕ
 ones width count = number_in 2 (replicate count 1 ++ replicate (width - count) 0)
 
@@ -30,20 +30,20 @@ abbrev pub masked : Address → List ℕ → Result (Option Network) TableFault
 masked (addresses.V4 v) text = option_map_or (λ k. Ok (Some (networks.V4 v k))) (v4_mask_of text) (Err BadMask)
 masked (addresses.V6 v) text = option_map_or (λ k. Ok (Some (networks.V6 v k))) (v6_mask_of text) (Err BadMask)
 
--- the network that a text writes: an address, a slash and a mask. Without an address before a slash there is none
+-- the network written as an address, a slash and a mask. A text without an address before a slash is none
 unfoldable pub network_of : List ℕ → Result (Option Network) TableFault
 network_of text = option_map_or (λ p. option_map_or (λ a. masked a p.1) (address_of p.0) (Ok None)) (cut_at (is_among (codes "/")) text) (Ok None)
 
--- the bit at a place
+-- the bit at an index
 abbrev pub bit : ℕ → ℕ → ℕ
 bit n i = n / 2 ^ i % 2
 
--- at each of the lowest places where the mask has a one, two numbers have the same bit
+-- whether two numbers agree in each of the lowest bits where the mask has a one
 unfoldable pub bits_agree : ℕ → ℕ → ℕ → ℕ → Bool
 bits_agree zero v w mask = true
 bits_agree (suc i) v w mask = (not (bit mask i == 1) || bit v i == bit w i) && bits_agree i v w mask
 
--- an address is in a network of its family where they agree under the mask
+-- a network contains the addresses of its family that agree with its own under the mask
 abbrev pub is_in_network : Network → Address → Bool
 is_in_network (networks.V4 w mask) (addresses.V4 v) = bits_agree 32 v w mask
 is_in_network (networks.V6 w mask) (addresses.V6 v) = bits_agree 128 v w mask

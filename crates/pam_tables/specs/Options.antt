@@ -3,13 +3,13 @@ use Rattle.std.specs.Prelude.{ℕ, Bool, not, List, [], ◌∷◌, length, take,
 use Rattle.std.specs.List.{list_any}
 use Rattle.std.specs.Str.{bytes_eq}
 
--- the bytes at which lines and lists are cut, and whether plain names may name groups
+-- the separators of fields and of lists, and whether plain names may name groups
 pub record Options : Type 0 where
   pub field_separators : List ℕ
   pub list_separators : List ℕ
   pub group_names : Bool
 
--- what stands behind a key, where an argument begins with it
+-- the value of an argument that begins with a key: the text after the key
 abbrev pub value_of : List ℕ → List ℕ → Option (List ℕ)
 value_of key argument = if bytes_eq (take (length key) argument) key then Some (drop (length key) argument) else None
 
@@ -17,18 +17,18 @@ abbrev pub or_else : {A : Type 0} → Option A → Option A → Option A
 or_else None other = other
 or_else (Some x) other = Some x
 
--- of several arguments with a key the last counts
+-- the value of the last argument with a key
 abbrev pub last_value : List ℕ → List (List ℕ) → Option (List ℕ)
 last_value key [] = None
 last_value key (argument ∷ arguments) = or_else (last_value key arguments) (value_of key argument)
 
--- the default stands where no value is given, or an empty one
+-- the default, if no value is given or it is empty
 abbrev pub given_or : List ℕ → Option (List ℕ) → List ℕ
 given_or default None = default
 given_or default (Some []) = default
 given_or default (Some (b ∷ bs)) = b ∷ bs
 
--- the options that arguments give: `fieldsep=`, `listsep=` and `nodefgroup`
+-- THE OPTIONS of arguments: `fieldsep=`, `listsep=` and `nodefgroup`
 unfoldable pub options_of : List (List ℕ) → Options
 options_of arguments = record {
   field_separators = given_or (codes ":") (last_value (codes "fieldsep=") arguments);

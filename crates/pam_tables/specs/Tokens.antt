@@ -22,13 +22,13 @@ use Rattle.pam_tables.specs.declared.tokens.UserToken.TheVariants as users
 use Rattle.pam_tables.specs.declared.tokens.OriginToken.{OriginToken}
 use Rattle.pam_tables.specs.declared.tokens.OriginToken.TheVariants as origins
 
--- the texts between separators, without blanks at their ends; empty ones are dropped
+-- the texts between separators, without blanks at either end. Empty ones are dropped
 unfoldable pub tokens_of : List ℕ → List ℕ → List (List ℕ)
 tokens_of separators text = filter has_bytes (map trimmed (slice_split (is_among separators) text))
 
 -- ---- users
 
--- what a token of users stands for: EXCEPT, everybody, a group, or a user or a group
+-- the meaning of a token of users: EXCEPT, ALL, a group only, or a user or group
 pub data UserPattern : Type 0 where
   UsersExcept : UserPattern
   AnyUser : UserPattern
@@ -41,7 +41,7 @@ user_view users.All = AnyUser
 user_view (users.Group name) = GroupOnly name.now
 user_view (users.Name name) = UserName name.now
 
--- the name between parentheses, of one byte at least
+-- the name in parentheses, which is not empty
 abbrev pub group_name : List ℕ → Option (List ℕ)
 group_name token =
     if nat_lt 2 (length token) && (starts_with nat_eq token (codes "(") && ends_with nat_eq token (codes ")"))
@@ -54,13 +54,13 @@ plain_user token =
     else if same_name (codes "ALL") token then Ok AnyUser
     else Ok (UserName token)
 
--- what a token of users stands for. `@` in front, and a later `@` outside of `(name)`, are faults
+-- the meaning of a token of users. A leading `@` is a fault, and so is a later `@` outside of `(name)`
 unfoldable pub user_token : List ℕ → Result UserPattern TableFault
 user_token token =
     if starts_with nat_eq token (codes "@") then Err Netgroup
     else option_map_or (λ name. Ok (GroupOnly name)) (group_name token) (plain_user token)
 
--- whether it matches the user; by_name says whether plain names may name groups
+-- how a token matches a user. If by_name, plain names may name groups
 unfoldable pub user_mark : List Group → Bool → List ℕ → UserPattern → Mark
 user_mark groups by_name user UsersExcept = Except
 user_mark groups by_name user AnyUser = Match
@@ -69,7 +69,7 @@ user_mark groups by_name user (UserName name) = mark_of (same_name name user || 
 
 -- ---- origins
 
--- what a token of origins stands for
+-- the meaning of a token of origins
 pub data OriginPattern : Type 0 where
   OriginsExcept : OriginPattern
   AnyOrigin : OriginPattern
@@ -104,11 +104,11 @@ network_or_plain token (Err fault) = Err fault
 network_or_plain token (Ok (Some network)) = Ok (HostNetwork network)
 network_or_plain token (Ok None) = Ok (plain_origin token)
 
--- what a token of origins stands for. `@` in front is a fault, and so is a bad mask behind an address
+-- the meaning of a token of origins. A leading `@` is a fault, and so is a bad mask after an address and a slash
 unfoldable pub origin_token : List ℕ → Result OriginPattern TableFault
 origin_token token = if starts_with nat_eq token (codes "@") then Err Netgroup else network_or_plain token (network_of token)
 
--- a text ends with another, whatever the case of their letters
+-- whether a text ends with another, ignoring case
 abbrev pub ends_with_name : List ℕ → List ℕ → Bool
 ends_with_name text end = nat_le (length end) (length text) && same_name end (drop (length text - length end) text)
 
@@ -121,7 +121,7 @@ abbrev pub is_v4 : Option Address → Bool
 is_v4 (Some (addresses.V4 v)) = true
 is_v4 _ = false
 
--- whether a token of origins matches a remote host, by its text and the address that this writes
+-- how a token matches a remote host, whose text writes this address
 abbrev pub host_mark : List ℕ → Option Address → OriginPattern → Mark
 host_mark host address OriginsExcept = Except
 host_mark host address AnyOrigin = Match
@@ -132,7 +132,7 @@ host_mark host address (HostNetwork network) = mark_of (option_map_or (is_in_net
 host_mark host address (HostAddress own text) = mark_of (option_map_or (same_address own) address false)
 host_mark host address (OriginName text) = mark_of (same_name text host)
 
--- whether it matches a local place
+-- how a token matches a terminal or a service
 abbrev pub place_mark : List ℕ → OriginPattern → Mark
 place_mark place OriginsExcept = Except
 place_mark place AnyOrigin = Match
@@ -152,7 +152,7 @@ with_token (Err fault) others = Err fault
 with_token (Ok x) (Ok xs) = Ok (x ∷ xs)
 with_token (Ok x) (Err fault) = Err fault
 
--- what the tokens stand for, or the fault of the first that has one
+-- the meanings of all tokens, or the first fault
 unfoldable pub each_token : {A : Type 0} → (List ℕ → Result A TableFault) → List (List ℕ) → Result (List A) TableFault
 each_token read [] = Ok []
 each_token read (token ∷ tokens) = with_token (read token) (each_token read tokens)

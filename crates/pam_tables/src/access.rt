@@ -1,3 +1,5 @@
+//! Access tables, as in access.conf(5): reading them and deciding logins.
+
 ghost use Rattle.std.specs.Prelude.{◌≡◌, ℕ, IfOk, IfErr, map};
 ghost use Rattle.std.specs.Option.{option_map};
 ghost use Rattle.pam_tables.specs.Access.{line_view, permission_of, is_passed_over as is_passed_over_of, line_of_fields, fields_of as fields_of_line, access_line, table_of, users_match as users_match_of, origins_match as origins_match_of, answer_with, first_answer, access_answer};
@@ -16,14 +18,16 @@ use crate::tokens::{OriginToken, UserToken, has_token, read_tokens};
 use std::alloc::Global;
 use std::marker::Model;
 
-/// Whether a login is granted, and the number of the line that decides. No line grants too.
+/// The answer for a login, with the number of the line that decides.
+///
+/// A login that no line matches is granted, as `Granted(None)`.
 #[derive(Clone, Copy, Debug, PartialEq, Eq)]
 pub enum AccessAnswer {
     Granted(Option<u32>),
     Denied(u32),
 }
 
-/// What a line does with the logins that it matches.
+/// The answer of a line for the logins that it matches.
 #[derive(Clone, Copy, Debug, PartialEq, Eq)]
 enum Permission {
     Grant,
@@ -63,7 +67,7 @@ struct AccessLine<'a> {
     origins: Vec<OriginToken<'a>>,
 }
 
-/// Permission, users and origins of a line.
+/// The three fields of a line, not yet split into tokens.
 #[derive(Clone, Copy)]
 struct Fields<'a> {
     permission: &'a [u8],
@@ -71,7 +75,7 @@ struct Fields<'a> {
     origins: &'a [u8],
 }
 
-/// A comment, or a line of blanks.
+/// Whether a line is a comment or blank.
 #[tactic(auto, unfolding(crate::specs::Access::is_passed_over))]
 fn is_passed_over(line: &[u8]) -> bool
     ensures { result ≡ is_passed_over_of line.now }
@@ -96,7 +100,7 @@ fn cut_fields<'a>(line: &'a [u8], separators: &[u8]) -> Option<Fields<'a>>
     }
 }
 
-/// The line of three fields.
+/// Reads a line from its three fields.
 fn line_of<'a>(
     alloc: Global,
     number: u32,
@@ -122,7 +126,7 @@ fn line_of<'a>(
     })
 }
 
-/// What a line spells, if it is not passed over.
+/// Reads a line. Returns `Ok(None)` for a comment or a blank line.
 fn read_line<'a>(
     alloc: Global,
     number: u32,
@@ -165,7 +169,7 @@ fn origins_match(origins: &[OriginToken<'_>], origin: &Origin<'_>) -> bool
     parts.matches()
 }
 
-/// The answer of the first line that matches.
+/// Returns the answer of the first line that matches.
 fn first_match(
     lines: &[AccessLine<'_>],
     by_name: bool,
@@ -184,7 +188,7 @@ fn first_match(
     AccessAnswer::Granted(None)
 }
 
-/// A table of pam_access: access.conf(5). It borrows the bytes that it was read from.
+/// An access table of pam_access(8), as in access.conf(5). Borrows the bytes it was read from.
 #[derive(Drop)]
 pub struct AccessTable<'a> {
     lines: Vec<AccessLine<'a>>,
@@ -200,7 +204,7 @@ impl<'a> Model for AccessTable<'a> {
     ghost view = { λ t. record { lines = map line_view t.lines.items; group_names = t.group_names } };
 }
 
-/// The separators of a table, each once.
+/// Returns the separators without duplicates.
 fn separators(alloc: Global, bytes: &[u8]) -> Result<Vec<u8>, TableError>
     ensures same { IfOk result (λ v. (b : ℕ) → is_among v.items b ≡ is_among bytes.now b) }
     ensures memory { IfErr result (λ e. e ≡ record { table = Table.Access; fault = TableFault.Memory; line = 0 }) }
@@ -236,8 +240,9 @@ fn read_lines<'a>(
 }
 
 impl<'a> AccessTable<'a> {
-    /// The table of these bytes. Its first fault is an error: too long a table, then a NUL byte,
-    /// then the lines from the top.
+    /// Reads a table, or returns its first fault.
+    ///
+    /// A file that is too long comes first, then a NUL byte, then the faults of the lines from the top.
     pub fn read(
         alloc: Global,
         bytes: &'a [u8],
@@ -252,7 +257,7 @@ impl<'a> AccessTable<'a> {
         Ok(AccessTable { lines, group_names })
     }
 
-    /// What the table says of a login. It takes no memory.
+    /// Returns the table's answer for a login. Allocates nothing.
     #[tactic(auto, unfolding(crate::specs::Access::access_answer))]
     pub fn decide(&self, login: &Login<'_>, groups: &Groups) -> AccessAnswer
         ensures { result ≡ access_answer self.now (login_view login.now) groups.now }

@@ -1,3 +1,5 @@
+//! IPv4 and IPv6 addresses.
+
 ghost use Rattle.std.specs.Prelude.{◌≡◌, ◌≤◌, ◌+◌, ◌<◌, ◌^◌, IfSome, length};
 ghost use Rattle.std.specs.Option.{option_map};
 ghost use Rattle.pam_tables.specs.Address.{numeral, octet_of, all_four, v4_of, address_of};
@@ -5,14 +7,14 @@ ghost use Rattle.pam_tables.specs.Address.{numeral, octet_of, all_four, v4_of, a
 use crate::lines::cut;
 use crate::pieces::v6;
 
-/// An IPv4 or an IPv6 address, as a number.
+/// An IPv4 or IPv6 address, as a number.
 #[derive(Clone, Copy, Debug, PartialEq, Eq)]
 pub(crate) enum Address {
     V4(u32),
     V6(u128),
 }
 
-/// The number that one to `most` digits of a base write.
+/// Parses 1 to `most` digits in a base.
 #[tactic(auto, unfolding(crate::specs::Address::numeral))]
 pub(crate) fn numeral(base: u32, most: usize, text: &[u8]) -> Option<u32>
     requires least_base { 2 ≤ base }
@@ -54,7 +56,7 @@ fn octets(first: &[u8], second: &[u8], third: &[u8], fourth: &[u8]) -> Option<u3
     Some(((first * 256 + second) * 256 + third) * 256 + fourth)
 }
 
-/// The address of an IPv4 text.
+/// Parses an IPv4 address: four decimal octets without leading zeros.
 pub(crate) fn v4(text: &[u8]) -> Option<u32>
     ensures { result ≡ v4_of text.now }
 {
@@ -65,7 +67,7 @@ pub(crate) fn v4(text: &[u8]) -> Option<u32>
 }
 
 impl Address {
-    /// The address that a text writes.
+    /// Parses an IPv4 or IPv6 address.
     #[tactic(auto, unfolding(crate::specs::Address::address_of))]
     pub(crate) fn read(text: &[u8]) -> Option<Address>
         ensures { result ≡ address_of text.now }

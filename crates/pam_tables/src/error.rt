@@ -1,10 +1,12 @@
+//! The faults of tables.
+
 ghost use Rattle.std.specs.Prelude.{◌≡◌};
 ghost use Rattle.pam_tables.specs.Error.{line_of_fault};
 
 use std::alloc::{AllocError, AllocFailed};
 use thiserror::Error;
 
-/// The kind of a table.
+/// The kind of a file with a fault.
 #[derive(Clone, Copy, Debug, PartialEq, Eq)]
 pub enum Table {
     Access,
@@ -13,7 +15,7 @@ pub enum Table {
     Returns,
 }
 
-/// Why bytes are no table.
+/// Why a table or a line of it is invalid.
 #[derive(Clone, Copy, Debug, PartialEq, Eq, Error)]
 pub enum TableFault {
     #[error("a field is missing")]
@@ -68,8 +70,8 @@ impl From<AllocError> for TableFault {
     }
 }
 
-/// The fault of a table, and its line. The line is 0 where memory ran out and where the table is
-/// too long.
+/// A fault of a table, with the number of its line from 1. The line is 0 if an allocation failed or the file is too
+/// long.
 #[derive(Clone, Copy, Debug, PartialEq, Eq, Error)]
 #[error("{table:?}, line {line}: {fault}")]
 pub struct TableError {
@@ -79,7 +81,7 @@ pub struct TableError {
 }
 
 impl TableError {
-    /// A fault that was found in this line; want of memory has the line 0.
+    /// Returns a fault of this line. For `Memory` the line is 0.
     pub fn new(table: Table, fault: TableFault, line: u32) -> TableError
         ensures { result ≡ record { table = table; fault = fault; line = line_of_fault fault line } }
     {

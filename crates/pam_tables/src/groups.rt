@@ -1,3 +1,5 @@
+//! Groups of users, as in group(5).
+
 ghost use Rattle.std.specs.Prelude.{◌≡◌, ◌==◌, [], codes, MatchOption, Ok, Err};
 ghost use Rattle.std.specs.List.{list_any};
 ghost use Rattle.std.specs.Str.{bytes_eq};
@@ -13,10 +15,10 @@ use indexmap::IndexMap;
 use std::alloc::Global;
 use std::marker::Model;
 
-/// The members of groups, by the names of the groups: group(5).
+/// The members of groups, by group name, as in group(5).
 #[derive(Drop)]
 pub struct Groups {
-    // the members stand as in the line of their group, joined by commas
+    // the last field of the group's line: names joined by commas
     members: IndexMap<Vec<u8>, Vec<u8>>,
 }
 
@@ -29,14 +31,14 @@ impl Model for Groups {
     ghost view = { λ g. map (λ e. (e.0.items, members_of e.1.items)) g.members.entries };
 }
 
-/// The name and the members of a group, as its line has them.
+/// The name and the members of a group, as written in its line.
 #[derive(Clone, Copy)]
 struct GroupLine<'a> {
     name: &'a [u8],
     members: &'a [u8],
 }
 
-/// The name and the members, if a line has four fields and the first is not empty.
+/// Splits a line into four fields. Returns `None` if their number is not four or the first is empty.
 fn group_line(line: &[u8]) -> Option<GroupLine<'_>>
     ensures { MatchOption result (group_of_fields (slice_split (is_among (codes ":")) line.now) ≡ Err TableFault.BadGroup)
         (λ g. group_of_fields (slice_split (is_among (codes ":")) line.now) ≡ Ok (g.name.now, members_of g.members.now)) }
@@ -70,7 +72,7 @@ fn has_member(members: &[u8], user: &[u8]) -> bool
 }
 
 impl Groups {
-    /// No groups.
+    /// Returns an empty table: no group has members.
     pub fn new(alloc: Global) -> Self
         ensures { result ≡ [] }
     {
@@ -79,7 +81,9 @@ impl Groups {
         }
     }
 
-    /// The groups of a file. Of each name the first line counts.
+    /// Reads a group file, or returns its first fault. If several lines have the same name, the first counts.
+    ///
+    /// A file that is too long comes first, then a NUL byte, then the faults of the lines from the top.
     pub fn read(alloc: Global, bytes: &[u8]) -> Result<Groups, TableError>
         ensures { Gives Table.Group (λ groups. groups) result (groups_of bytes.now) }
     {
@@ -113,7 +117,7 @@ impl Groups {
         Ok(())
     }
 
-    /// Whether the group of exactly that name lists the user.
+    /// Whether the group named exactly `group` lists the user.
     pub fn lists(&self, group: &[u8], user: &[u8]) -> bool
         ensures { result ≡ lists_user self.now group.now user.now }
     {

@@ -1,4 +1,5 @@
-//! The tables of pam_access and pam_time, the groups that they name, and the codes that modules may return.
+//! Access tables (access.conf(5)), group files (group(5)) and returns files, which say what modules may return.
+//! Time tables are in `pam_times`, with the same faults and the same limit of size.
 #![tactic(auto)]
 
 mod access;

@@ -1,3 +1,5 @@
+//! The lines of a table, and the parts of a line.
+
 ghost use Rattle.std.specs.Prelude.{◌≡◌, ◌+◌, ◌^◌, ◌<◌, ◌≤◌, ◌==◌, OnOk, IfOk, IfSome, ℕ, List, count_by, length, position, take};
 ghost use Rattle.std.specs.List.{prefix_len, suffix_len};
 ghost use Rattle.std.specs.Option.{option_map};
@@ -8,10 +10,10 @@ ghost use Rattle.pam_tables.specs.Lines.{sound, without_return, lines_from, line
 use crate::error::{Table, TableError, TableFault};
 use std::alloc::{AllocError, Global};
 
-/// How many bytes a table has at most: one more is `TableTooLong`.
+/// The greatest length of a table, in bytes. A longer one is `TableTooLong`.
 pub const MAX_TABLE_BYTES: usize = 1_048_576;
 
-/// The place of the first NUL byte.
+/// The index of the first NUL byte.
 fn nul_at(bytes: &[u8]) -> Option<usize>
     ensures value { result ≡ position (λ b. b == 0) bytes.now }
     ensures within { IfSome result (λ i. i < length bytes.now) }
@@ -26,7 +28,10 @@ fn feeds(bytes: &[u8]) -> usize
     bytes.iter().filter(|b| **b == b'\n').count()
 }
 
-/// Refuses a table that is too long (its line is 0), and then one with a NUL byte.
+/// Checks the bytes of a table as a whole.
+///
+/// Returns `TableTooLong`, with line 0, if there are more than `MAX_TABLE_BYTES`; else `NulByte` with the line of the
+/// first NUL byte, if there is one.
 #[tactic(auto, unfolding(crate::specs::Lines::fault_of_bytes))]
 pub fn check_bytes(table: Table, bytes: &[u8]) -> Result<(), TableError>
     ensures fault { Gives table (λ done. done) result (sound bytes.now) }
@@ -50,7 +55,7 @@ pub(crate) fn is_blank_byte(byte: u8) -> bool
     byte == b' ' || byte == b'\t'
 }
 
-/// Whether a line has blanks alone.
+/// Whether a text is empty or only spaces and tabs.
 pub(crate) fn is_blank_text(text: &[u8]) -> bool
     ensures { result ≡ is_blank_line text.now }
 {
@@ -71,14 +76,14 @@ fn blanks_at_end(text: &[u8]) -> usize
     text.iter().rev().take_while(|b| is_blank_byte(**b)).count()
 }
 
-/// A text without the blanks at its end.
+/// Removes spaces and tabs from the end.
 pub(crate) fn trim_end(text: &[u8]) -> &[u8]
     ensures { result.now ≡ trimmed_end text.now }
 {
     text.split_at(text.len() - blanks_at_end(text)).0
 }
 
-/// A text without the blanks at its ends.
+/// Removes spaces and tabs from both ends.
 pub(crate) fn trim(text: &[u8]) -> &[u8]
     ensures { result.now ≡ trimmed text.now }
 {
@@ -92,7 +97,7 @@ pub(crate) fn is_separator(separators: &[u8], byte: u8) -> bool
     separators.contains(&byte)
 }
 
-/// The bytes, each once, so that a test of one byte looks at 256 at most.
+/// Returns the bytes without duplicates, so that a separator test compares at most 256.
 pub(crate) fn distinct(alloc: Global, bytes: &[u8]) -> Result<Vec<u8>, AllocError>
     ensures { IfOk result (λ v. (b : ℕ) → is_among v.items b ≡ is_among bytes.now b) }
 {
@@ -112,7 +117,7 @@ fn separator_at(text: &[u8], separators: &[u8]) -> Option<usize>
     text.iter().position(|b| is_separator(separators, *b))
 }
 
-/// What stands before and behind the first separator.
+/// Splits a text at the first separator, which is in neither part. Returns `None` if there is no separator.
 pub fn cut<'a>(text: &'a [u8], separators: &[u8]) -> Option<(&'a [u8], &'a [u8])>
     ensures value { option_map (λ p. (p.0.now, p.1.now)) result ≡ cut_at (is_among separators.now) text.now }
     ensures shorter { IfSome result (λ p. length p.1.now < length text.now) }
@@ -132,7 +137,7 @@ fn drop_return(line: &[u8]) -> &[u8]
     }
 }
 
-/// The lines of a table from a place on, each with its number, without their ends.
+/// The remaining lines of a table, with their numbers, without line ends.
 #[derive(Drop)]
 pub(crate) struct Lines<'a> {
     rest: &'a [u8],

@@ -1,18 +1,20 @@
+//! Lists of tokens with EXCEPT, as in access.conf(5).
+
 ghost use Rattle.std.specs.Prelude.{◌≡◌, ◌∷◌, [], List};
 ghost use Rattle.pam_tables.specs.declared.lists.Mark.{Mark as MarkOf};
 ghost use Rattle.pam_tables.specs.Lists.{list_matches, mark_of, matches_behind};
 
-/// What a token does in a list.
+/// What a token means for the list it is in.
 #[derive(Clone, Copy, Debug, PartialEq, Eq)]
 pub(crate) enum Mark {
-    /// It is the word EXCEPT.
+    /// The word EXCEPT.
     Except,
     Match,
     Miss,
 }
 
 impl Mark {
-    /// The mark of a token that is not EXCEPT.
+    /// Returns the mark of a token other than EXCEPT.
     pub(crate) fn of(matches: bool) -> Mark
         ensures { result ≡ mark_of matches }
     {
@@ -20,14 +22,14 @@ impl Mark {
     }
 }
 
-/// A list with EXCEPTs, as far as its tokens were looked at.
+/// The state of matching a list, whose parts are separated by EXCEPT.
 #[derive(Clone, Copy)]
 pub(crate) struct Parts {
-    /// Whether an odd number of parts is closed.
+    /// Whether the number of closed parts is odd.
     is_odd: bool,
     /// Whether a token of the open part matches.
     holds: bool,
-    /// Whether a closed part does not hold, so that nothing more counts.
+    /// Whether a closed part does not hold. The remaining tokens are then ignored.
     is_decided: bool,
 }
 
@@ -42,7 +44,7 @@ impl Parts {
         }
     }
 
-    /// The list with its next token.
+    /// Returns the state after one more token.
     pub(crate) fn then(self, mark: Mark) -> Parts
         ensures { (rest : List MarkOf) → matches_behind result rest ≡ matches_behind self (mark ∷ rest) }
     {

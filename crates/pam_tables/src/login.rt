@@ -1,10 +1,11 @@
+//! Logins and their origins, as in access.conf(5).
+
 ghost use Rattle.std.specs.Prelude.{◌≡◌};
 ghost use Rattle.pam_tables.specs.Login.{login_view, origin_of, origin_view, without_dev, IsKnown};
 
 use crate::address::Address;
 
-/// Who logs in, to which service, on which terminal and from which host. An empty terminal or
-/// host is an absent one.
+/// A login: the user, the service, the terminal and the remote host. An empty terminal or host means there is none.
 #[derive(Clone, Copy, Debug)]
 pub struct Login<'a> {
     pub user: &'a [u8],
@@ -13,16 +14,16 @@ pub struct Login<'a> {
     pub rhost: &'a [u8],
 }
 
-/// Where a login comes from.
+/// The origin of a login.
 #[derive(Clone, Copy)]
 pub(crate) enum Origin<'a> {
-    /// A remote host, and the address that its text writes.
+    /// A remote host, and its address if the text is one.
     Remote(&'a [u8], Option<Address>),
     /// A terminal without `/dev/`, or a service.
     Local(&'a [u8]),
 }
 
-/// A terminal without one `/dev/` in front.
+/// Removes one `/dev/` prefix from the name of a terminal.
 pub fn drop_dev(tty: &[u8]) -> &[u8]
     ensures { result.now ≡ without_dev tty.now }
 {

@@ -1,3 +1,5 @@
+//! Networks: an address and a mask.
+
 ghost use Rattle.std.specs.Prelude.{◌≡◌, ◌≤◌, ◌-◌, ◌^◌};
 ghost use Rattle.pam_tables.specs.Network.{ones, v4_mask_of, v6_mask_of, is_in_network, network_of, bits_agree};
 
@@ -6,7 +8,7 @@ use crate::error::TableFault;
 use crate::lines::cut;
 use crate::pieces::v6;
 
-/// The addresses that agree with one address in each bit of a mask.
+/// The addresses that agree with `address` in each bit of `mask`.
 #[derive(Clone, Copy, Debug, PartialEq, Eq)]
 pub(crate) enum Network {
     V4 { address: u32, mask: u32 },
@@ -35,7 +37,7 @@ fn v6_ones(count: u32) -> u128
     }
 }
 
-/// A mask of IPv4: a number of bits, or an address.
+/// Parses an IPv4 mask: a number of bits up to 32, or an address.
 #[tactic(auto, unfolding(crate::specs::Network::v4_mask_of))]
 fn v4_mask(text: &[u8]) -> Option<u32>
     ensures { result ≡ v4_mask_of text.now }
@@ -52,7 +54,7 @@ fn v4_mask(text: &[u8]) -> Option<u32>
     }
 }
 
-/// A mask of IPv6: a number of bits, or an address.
+/// Parses an IPv6 mask: a number of bits up to 128, or an address.
 #[tactic(auto, unfolding(crate::specs::Network::v6_mask_of))]
 fn v6_mask(text: &[u8]) -> Option<u128>
     ensures { result ≡ v6_mask_of text.now }
@@ -82,8 +84,9 @@ fn v6_agree(first: u128, second: u128, mask: u128) -> bool
 }
 
 impl Network {
-    /// The network of an address, a slash and a mask. None where no address stands before a
-    /// slash, and `BadMask` where no mask follows it.
+    /// Parses an address, a slash and a mask.
+    ///
+    /// Returns `Ok(None)` if no address comes before the first slash, and `BadMask` if the mask is invalid.
     #[tactic(auto, unfolding(crate::specs::Network::network_of))]
     pub(crate) fn read(text: &[u8]) -> Result<Option<Network>, TableFault>
         ensures { result ≡ network_of text.now }
@@ -105,7 +108,7 @@ impl Network {
         }
     }
 
-    /// Whether an address is of the same family, and agrees in each bit of the mask.
+    /// Whether an address is in the network. An address of the other family is not.
     pub(crate) fn contains(&self, address: Address) -> bool
         ensures { result ≡ is_in_network self.now address }
     {

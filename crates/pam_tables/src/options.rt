@@ -1,3 +1,5 @@
+//! The options of pam_access(8).
+
 ghost use Rattle.std.specs.Prelude.{◌≡◌, map, codes};
 ghost use Rattle.std.specs.List.{list_any};
 ghost use Rattle.std.specs.Option.{option_map};
@@ -6,8 +8,7 @@ ghost use Rattle.pam_tables.specs.Options.{value_of, last_value as last_value_of
 
 use std::marker::Model;
 
-/// How an access table is cut, and whether its plain names may name groups: the arguments of
-/// pam_access(8).
+/// The options of an access table, from the arguments of pam_access(8): `fieldsep=`, `listsep=` and `nodefgroup`.
 #[derive(Debug, Drop)]
 pub struct AccessOptions<'a> {
     pub(crate) field_separators: &'a [u8],
@@ -23,14 +24,14 @@ impl<'a> Model for AccessOptions<'a> {
     ghost view = { λ o. record { field_separators = o.field_separators.now; list_separators = o.list_separators.now; group_names = o.group_names } };
 }
 
-/// What stands behind the key of an argument that begins with it.
+/// Returns the text after the key, if the argument begins with the key.
 fn value<'a>(argument: &'a [u8], key: &[u8]) -> Option<&'a [u8]>
     ensures { option_map (λ v. v.now) result ≡ value_of key.now argument.now }
 {
     argument.strip_prefix(key)
 }
 
-/// The value of the last argument with this key.
+/// Returns the value of the last argument with this key.
 fn last_value<'a>(arguments: &'a [Vec<u8>], key: &[u8]) -> Option<&'a [u8]>
     ensures { option_map (λ v. v.now) result ≡ last_value_of key.now (map (λ a. a.items) arguments.now) }
 {
@@ -43,7 +44,7 @@ fn last_value<'a>(arguments: &'a [Vec<u8>], key: &[u8]) -> Option<&'a [u8]>
     last
 }
 
-/// The value, where it was given and has a byte.
+/// Returns the value, or the default if there is none or it is empty.
 fn given<'a>(value: Option<&'a [u8]>, default: &'a [u8]) -> &'a [u8]
     ensures { result.now ≡ given_or default.now (option_map (λ v. v.now) value.entry) }
 {
@@ -60,7 +61,7 @@ fn has_argument(arguments: &[Vec<u8>], text: &[u8]) -> bool
 }
 
 impl<'a> AccessOptions<'a> {
-    /// The options that the arguments of a module give. Other arguments change nothing.
+    /// Reads the options from a module's arguments. Ignores other arguments.
     pub fn of(arguments: &'a [Vec<u8>]) -> Self
         ensures { result ≡ options_of (map (λ a. a.items) arguments.now) }
     {

@@ -1,3 +1,5 @@
+//! IPv6 addresses, read piece by piece.
+
 ghost use Rattle.std.specs.Prelude.{◌≡◌, ◌≤◌, ◌+◌, ◌<◌, ◌*◌, ◌^◌, ◌∷◌, [], Some, true, false, replicate};
 ghost use Rattle.std.specs.Option.{option_map};
 ghost use Rattle.pam_tables.specs.Address.{v6_of, double_colon as double_colon_of, around_zeros as around_zeros_of, pieces_of, last_pieces, more_pieces, number_from};
@@ -5,7 +7,7 @@ ghost use Rattle.pam_tables.specs.Address.{v6_of, double_colon as double_colon_o
 use crate::address::{numeral, v4};
 use crate::lines::cut;
 
-/// 16-bit pieces from the front of an IPv6 address: the number that they write, and how many they are.
+/// The leading 16-bit pieces of an IPv6 address: their value as one number, and their count.
 #[derive(Clone, Copy)]
 struct Pieces {
     number: u128,
@@ -37,7 +39,7 @@ impl Pieces {
         }
     }
 
-    /// With one more piece, if there is room.
+    /// Appends a piece. Returns `None` if there are eight already.
     fn then(self, piece: u32) -> Option<Pieces>
         requires { piece < 65536 }
         ensures { option_map (λ p. (p.number, p.count)) result ≡ more_pieces self.number self.count (Some (piece ∷ [])) }
@@ -49,7 +51,7 @@ impl Pieces {
         }
     }
 
-    /// With what stands behind the last colon.
+    /// Appends the text after the last colon: a piece, or an IPv4 address as two pieces if `ends_in_v4`.
     fn then_last(self, text: &[u8], ends_in_v4: bool) -> Option<Pieces>
         ensures { option_map (λ p. (p.number, p.count)) result ≡ more_pieces self.number self.count (last_pieces ends_in_v4 text.now) }
     {
@@ -66,7 +68,7 @@ impl Pieces {
         }
     }
 
-    /// With the pieces that a text writes.
+    /// Appends the pieces of a text, which are joined by colons.
     fn then_text(self, text: &[u8], ends_in_v4: bool) -> Option<Pieces>
         ensures { option_map (λ p. (p.number, p.count)) result ≡ more_pieces self.number self.count (pieces_of ends_in_v4 text.now) }
     {
@@ -83,7 +85,7 @@ impl Pieces {
         pieces.then_last(rest, ends_in_v4)
     }
 
-    /// With so many pieces of zero.
+    /// Appends `count` zero pieces.
     fn then_zeros(self, count: u32) -> Pieces
         requires { self.count + count ≤ 8 }
         ensures number { result.number ≡ number_from 65536 self.number (replicate count 0) }
@@ -97,7 +99,7 @@ impl Pieces {
     }
 }
 
-/// What stands before and behind the first `::`.
+/// Splits a text at the first `::`.
 fn double_colon(text: &[u8]) -> Option<(&[u8], &[u8])>
     ensures { option_map (λ p. (p.0.now, p.1.now)) result ≡ double_colon_of text.now }
 {
@@ -110,7 +112,7 @@ fn double_colon(text: &[u8]) -> Option<(&[u8], &[u8])>
     None
 }
 
-/// The address of the pieces before and behind `::`.
+/// Returns the address with these pieces before and after `::`, which is one or more zero pieces.
 fn around_zeros(front: &[u8], back: &[u8]) -> Option<u128>
     ensures { result ≡ around_zeros_of (pieces_of false front.now) (pieces_of true back.now) }
 {
@@ -124,7 +126,7 @@ fn around_zeros(front: &[u8], back: &[u8]) -> Option<u128>
     Some(pieces.number)
 }
 
-/// The address of an IPv6 text.
+/// Parses an IPv6 address.
 #[tactic(auto, unfolding(crate::specs::Address::v6_of))]
 pub(crate) fn v6(text: &[u8]) -> Option<u128>
     ensures { result ≡ v6_of text.now }

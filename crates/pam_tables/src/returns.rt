@@ -1,3 +1,5 @@
+//! Returns files: the codes that modules may return.
+
 ghost use Rattle.std.specs.Prelude.{◌≡◌, ◌≢◌, [], IfOk, IfSome, MatchResult, Ok, Err};
 ghost use Rattle.std.specs.Option.{option_map};
 ghost use Rattle.pam_tables.specs.Error.{Gives, GivesPart};
@@ -12,15 +14,14 @@ use pam_codes::{Code, CodeSet};
 use std::alloc::Global;
 use std::marker::Model;
 
-/// What separates the words of a line.
+/// The separators between the words of a line.
 const BLANKS: &[u8] = b" \t";
 
-/// The codes that modules may return, by the names of the modules.
+/// The codes that modules may return, by module name.
 ///
-/// A line of a returns file is the name of a module and one or more names of codes, separated by
-/// spaces and tabs, as `pam_unix.so success auth_err`. Names of codes are read in either case. A
-/// line whose first byte is `#`, and a line of blanks alone, is passed over. The first line of a
-/// name counts.
+/// A line of a returns file is a module name and one or more code names, separated by spaces and tabs, as in
+/// `pam_unix.so success auth_err`. The case of code names is ignored. Lines that begin with `#` and blank lines are
+/// skipped. If several lines have the same name, the first counts.
 #[derive(Drop)]
 pub struct ReturnTable {
     codes: IndexMap<Vec<u8>, CodeSet>,
@@ -44,7 +45,7 @@ struct ReturnLine<'a> {
     codes: CodeSet,
 }
 
-/// The codes that the words of a text name.
+/// Reads the names of one or more codes.
 fn read_codes(text: &[u8]) -> Result<CodeSet, TableFault>
     ensures value { result ≡ codes_of_words (words_of text.now) }
     ensures some { IfOk result (λ codes. codes ≢ []) }
@@ -62,7 +63,7 @@ fn read_codes(text: &[u8]) -> Result<CodeSet, TableFault>
     Ok(set)
 }
 
-/// What a line says, if it is not passed over.
+/// Reads a line. Returns `Ok(None)` for a comment or a blank line.
 fn read_line(line: &[u8]) -> Result<Option<ReturnLine<'_>>, TableFault>
     ensures value { MatchResult result (λ said. return_at line.now ≡ Ok (option_map (λ l. (l.name.now, l.codes)) said))
         (λ fault. return_at line.now ≡ Err fault) }
@@ -90,12 +91,11 @@ impl ReturnTable {
         }
     }
 
-    /// The table of a returns file, or its first fault.
+    /// Reads a returns file, or returns its first fault.
     ///
-    /// A file that is too long comes first (`TableTooLong`, line 0), then a NUL byte (`NulByte`),
-    /// then the faults of the lines from the top. In a line a slash in the module's name comes
-    /// first (`BadModule`), then that no code is given (`MissingField`), then a word that names no
-    /// code (`BadCode`). A failed allocation is `Memory`, with line 0.
+    /// A file that is too long comes first (`TableTooLong`, line 0), then a NUL byte (`NulByte`), then the faults of
+    /// the lines from the top. Within a line, `BadModule` (a slash in the name) comes before `MissingField` (no code)
+    /// and `BadCode` (a word that is no code). A failed allocation is `Memory`, with line 0.
     pub fn read(alloc: Global, bytes: &[u8]) -> Result<ReturnTable, TableError>
         ensures { Gives Table.Returns (λ table. table) result (returns_of bytes.now) }
     {
@@ -109,7 +109,7 @@ impl ReturnTable {
         Ok(table)
     }
 
-    /// Adds what a line says, if its name is new.
+    /// Adds the codes of a line, if its name is new.
     fn add_line(&mut self, alloc: Global, line: &[u8]) -> Result<(), TableFault>
         ensures { GivesPart (λ _. self.new) result (with_line self.old (return_at line.now)) }
     {
@@ -126,7 +126,7 @@ impl ReturnTable {
         Ok(())
     }
 
-    /// The codes that the module of exactly that name may return, one at least, if a line has it.
+    /// Returns the codes of the module named exactly `name`, if a line has it. There is at least one.
     pub fn codes(&self, name: &[u8]) -> Option<CodeSet>
         ensures value { result ≡ codes_for self.now name.now }
         ensures some { IfSome result (λ codes. codes ≢ []) }

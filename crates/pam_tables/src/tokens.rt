@@ -1,3 +1,5 @@
+//! The tokens of users and origins, as in access.conf(5).
+
 ghost use Rattle.std.specs.Prelude.{◌≡◌, ◌≤◌, ◌∷◌, ◌&&◌, ◌||◌, [], ℕ, not, length, map, MatchOption, MatchResult, Ok, Err, ◌==◌};
 ghost use Rattle.std.specs.List.{prefix_len, list_any};
 ghost use Rattle.std.specs.Option.{option_map};
@@ -17,7 +19,7 @@ use crate::network::Network;
 use pam_codes::is_name;
 use std::alloc::Global;
 
-/// How many separators and blanks stand in front.
+/// The length of the leading separators and blanks.
 fn gap_len(text: &[u8], separators: &[u8]) -> usize
     ensures value { result ≡ prefix_len (λ b. is_among separators.now b || is_blank b) text.now }
     ensures bound { result ≤ length text.now }
@@ -27,7 +29,7 @@ fn gap_len(text: &[u8], separators: &[u8]) -> usize
         .count()
 }
 
-/// How many bytes stand before the first separator.
+/// The length of the text before the first separator.
 fn part_len(text: &[u8], separators: &[u8]) -> usize
     ensures value { result ≡ prefix_len (λ b. not (is_among separators.now b)) text.now }
     ensures bound { result ≤ length text.now }
@@ -37,7 +39,7 @@ fn part_len(text: &[u8], separators: &[u8]) -> usize
         .count()
 }
 
-/// The first token, and what stands behind it.
+/// Splits off the first token. Returns it and the text after it.
 pub(crate) fn first_token<'a>(text: &'a [u8], separators: &[u8]) -> Option<(&'a [u8], &'a [u8])>
     ensures { MatchOption result (tokens_of separators.now text.now ≡ [])
         (λ p. tokens_of separators.now text.now ≡ p.0.now ∷ tokens_of separators.now p.1.now) }
@@ -60,7 +62,7 @@ pub(crate) fn has_token(text: &[u8], separators: &[u8]) -> bool
     }
 }
 
-/// The tokens of a list.
+/// An iterator over the tokens of a list.
 #[derive(Drop)]
 pub(crate) struct Tokens<'a, 's> {
     rest: &'a [u8],
@@ -89,7 +91,7 @@ impl<'a, 's> Iterator for Tokens<'a, 's> {
     }
 }
 
-/// A token of a list, by what its text stands for.
+/// A kind of token that is read from its text.
 pub(crate) trait Token<'a>: Drop {
     ghost use Rattle.std.specs.Prelude.{List, Result};
     ghost use Rattle.pam_tables.specs.declared.error.TableFault.{TableFault};
@@ -104,18 +106,18 @@ pub(crate) trait Token<'a>: Drop {
         ensures { MatchResult result (λ t. meant token.now ≡ Ok (seen t)) (λ fault. meant token.now ≡ Err fault) };
 }
 
-/// A token of users.
+/// A token in the users field of access.conf(5).
 #[derive(Clone, Copy)]
 pub(crate) enum UserToken<'a> {
     Except,
     All,
-    /// A group alone, as `(name)`.
+    /// A group only, written `(name)`.
     Group(&'a [u8]),
-    /// A user or a group.
+    /// A user, or a group of that name.
     Name(&'a [u8]),
 }
 
-/// The name between parentheses.
+/// Returns the name in parentheses, if the token is one. It is not empty.
 fn group_name(token: &[u8]) -> Option<&[u8]>
     ensures { option_map (λ n. n.now) result ≡ group_name_of token.now }
 {
@@ -147,7 +149,7 @@ impl<'a> UserToken<'a> {
         }
     }
 
-    /// What the token does for a user. A plain name may name a group where `by_name` says so.
+    /// Matches the token against a user. A plain name may be a group if `by_name`.
     #[tactic(auto, unfolding(crate::specs::Tokens::user_mark))]
     pub(crate) fn mark(&self, user: &[u8], groups: &Groups, by_name: bool) -> Mark
         ensures { result ≡ user_mark groups.now by_name user.now (user_view self.now) }
@@ -184,15 +186,15 @@ impl<'a> Token<'a> for UserToken<'a> {
     }
 }
 
-/// A token of origins.
+/// A token in the origins field of access.conf(5).
 #[derive(Clone, Copy)]
 pub(crate) enum OriginToken<'a> {
     Except,
     All,
     Local,
-    /// The end of a host's name, as `.example.org`.
+    /// The suffix of a host name, as `.example.org`.
     Suffix(&'a [u8]),
-    /// The front of an IPv4 text, as `192.168.`.
+    /// The prefix of an IPv4 address, as `192.168.`.
     Prefix(&'a [u8]),
     Network(Network),
     Address(Address, &'a [u8]),
@@ -245,7 +247,7 @@ impl<'a> OriginToken<'a> {
         }
     }
 
-    /// What the token does for a remote host, of this address if it has one.
+    /// Matches the token against a remote host, whose text writes this address.
     fn host_mark(&self, host: &[u8], address: Option<Address>) -> Mark
         ensures { result ≡ host_mark host.now address (origin_token_view self.now) }
     {
@@ -271,7 +273,7 @@ impl<'a> OriginToken<'a> {
         }
     }
 
-    /// What the token does for a terminal or a service.
+    /// Matches the token against a terminal or a service.
     fn place_mark(&self, place: &[u8]) -> Mark
         ensures { result ≡ place_mark place.now (origin_token_view self.now) }
     {
@@ -287,7 +289,7 @@ impl<'a> OriginToken<'a> {
         }
     }
 
-    /// What the token does for an origin.
+    /// Matches the token against an origin.
     #[tactic(auto, unfolding(crate::specs::Tokens::origin_mark))]
     pub(crate) fn mark(&self, origin: &Origin<'_>) -> Mark
         requires { IsKnown origin.now }
@@ -322,7 +324,7 @@ impl<'a> Token<'a> for OriginToken<'a> {
     }
 }
 
-/// How many tokens a list has.
+/// Counts the tokens of a list.
 fn token_count(text: &[u8], separators: &[u8]) -> usize {
     let mut count = 0usize;
     for _token in Tokens::of(text, separators) {
@@ -331,7 +333,7 @@ fn token_count(text: &[u8], separators: &[u8]) -> usize {
     count
 }
 
-/// What the tokens of a list stand for.
+/// Reads all tokens of a list, or returns the fault of the first that has one.
 pub(crate) fn read_tokens<'a, T: Token<'a>>(
     alloc: Global,
     text: &'a [u8],

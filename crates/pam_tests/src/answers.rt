@@ -1,4 +1,4 @@
-//! Answers of each command over writers that take little, answer errors, or cannot flush.
+//! The answer of each command, with writers that write little, return errors, or fail to flush.
 
 ghost use Rattle.std.specs.Prelude.{◌<◌, ◌-◌, ◌^◌};
 
@@ -12,7 +12,7 @@ use std::alloc::Global;
 use std::process::Abort;
 use std::test::Fail;
 
-/// A command, what it is answered from, and what it prints.
+/// A command, its inputs, and what it prints.
 struct Command {
     words: &'static [&'static str],
     login: &'static [u8],
@@ -119,7 +119,7 @@ fn asked(alloc: Global, words: &'static [&'static str]) -> Result<Request<'stati
     }
 }
 
-/// The answer of a command: its status, or its fault.
+/// Returns the result of a command: its exit status or its fault.
 fn answered(
     alloc: Global,
     command: &Command,
@@ -134,7 +134,7 @@ fn answered(
     }
 }
 
-/// That all bytes are taken and then flushed, once, whether or not the flush succeeds.
+/// Asserts that the whole text is written, then flushed once, whether or not the flush succeeds.
 fn flushes_once(rt: &impl Abort, alloc: Global, command: &Command) -> Result<(), Fail> {
     for (step, can_flush) in [(usize::MAX, true), (1, true), (usize::MAX, false)] {
         let mut halting = Halting::new(alloc, step, usize::MAX, NOTHING, can_flush);
@@ -153,7 +153,7 @@ fn flushes_once(rt: &impl Abort, alloc: Global, command: &Command) -> Result<(),
     Ok(())
 }
 
-/// That a write that fails after some bytes is no answer, and that those are a prefix of the text.
+/// Asserts that a write that fails after some bytes is a fault, and that those bytes are a prefix of the text.
 fn halts(rt: &impl Abort, alloc: Global, command: &Command) -> Result<(), Fail> {
     for (room, end) in [(7, FULL), (0, NOTHING), (0, INTERRUPTED)] {
         let mut halting = Halting::new(alloc, usize::MAX, room, end, true);

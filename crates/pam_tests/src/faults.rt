@@ -1,4 +1,4 @@
-//! Faults that no command can be made to give from a file of the tree.
+//! Faults that no command returns for a file of the tree.
 
 use crate::files::put;
 use pam_conf::{ConfError, FaultKind, Files, Form};
@@ -8,7 +8,7 @@ use std::alloc::Global;
 use std::process::Abort;
 use std::test::Fail;
 
-/// A fault, its line and its status. Want of memory has no place, whatever the fault says.
+/// A fault, its line and its exit status. A failed allocation never has a place.
 static FAULTS: [(Fault, &[u8], u8); 5] = [
     (
         Fault::Conf(ConfError {
@@ -47,7 +47,7 @@ fn files(alloc: Global) -> Result<Files, Fail> {
     Ok(files)
 }
 
-/// The line of a fault.
+/// Returns the line of a fault.
 fn line(alloc: Global, fault: &Fault) -> Result<Vec<u8>, Fail> {
     let files = files(alloc)?;
     let text = fault_text(alloc, fault, &files)?;

@@ -1,11 +1,11 @@
-//! Files by name.
+//! Configuration files, by name.
 
 use pam_conf::{Files, Form, Kind, Stack, resolve};
 use std::alloc::Global;
 use std::process::Abort;
 use std::test::Fail;
 
-/// Puts a file of that name and text.
+/// Adds a file, or replaces the one of this name.
 pub(crate) fn put(alloc: Global, files: &mut Files, name: &[u8], text: &[u8]) -> Result<(), Fail> {
     let name = name.to_vec(alloc)?;
     let text = text.to_vec(alloc)?;
@@ -13,7 +13,7 @@ pub(crate) fn put(alloc: Global, files: &mut Files, name: &[u8], text: &[u8]) ->
     Ok(())
 }
 
-/// Two files, of which the first was put once more.
+/// Returns two files, the first of which was replaced.
 fn two_files(alloc: Global) -> Result<Files, Fail> {
     let mut files = Files::new(alloc, Form::Dir);
     for (name, text) in [
@@ -26,7 +26,7 @@ fn two_files(alloc: Global) -> Result<Files, Fail> {
     Ok(files)
 }
 
-/// That the file at a position has this name.
+/// Asserts that the file at a position has this name.
 fn is_named(rt: &impl Abort, files: &Files, position: usize, name: Option<&[u8]>) {
     assert_eq!(rt; files.name(position), name);
 }
@@ -43,7 +43,7 @@ fn a_name_that_is_there_keeps_its_position(rt: HostRuntime) -> Result<(), Fail> 
     Ok(())
 }
 
-/// That the first module of a stack has this path, in the file of this position.
+/// Asserts that the first module of a stack has this path, in the file at this position.
 fn asks_first(rt: &impl Abort, stack: &Stack, path: &[u8], file: usize) {
     match stack.module(1) {
         Some(module) => {

@@ -1,23 +1,23 @@
-//! A writer that takes little, then errs or takes nothing, and may not flush. It counts the calls.
+//! A writer that writes little, then fails or writes nothing, and may fail to flush. It counts its calls.
 
 use std::alloc::Global;
 use std::io;
 use std::io::{Error, ErrorKind, Write};
 
-/// What a writer does once it has taken all that it may.
+/// What a writer does when it is full.
 #[derive(Clone, Copy, Debug)]
 pub(crate) enum End {
     TakesNothing,
     Answers(ErrorKind),
 }
 
-/// Takes at most `step` bytes a call and `room` bytes in all.
+/// Writes at most `step` bytes per call, and `room` bytes in total.
 #[derive(Drop)]
 pub(crate) struct Halting {
     pub bytes: Vec<u8>,
     pub calls: u32,
     pub flushes: u32,
-    /// How many bytes had been taken at the last flush.
+    /// The number of bytes that were written before the last flush.
     pub flushed: usize,
     pub step: usize,
     pub room: usize,

@@ -1,4 +1,4 @@
-//! Tests of the libraries through their public calls, in one place: so no library is proved a second time for its tests.
+//! Tests of the libraries' public functions. They are one crate, so that no library is proved again for its tests.
 #![tactic(auto)]
 
 #[cfg(test)]

@@ -6,7 +6,7 @@ use std::alloc::Global;
 use std::process::Abort;
 use std::test::Fail;
 
-/// The set of the codes with these names.
+/// Returns the set of the codes with these names.
 fn set_of(names: &[&[u8]]) -> Option<CodeSet> {
     let mut set = CodeSet::empty();
     for name in names {
@@ -15,7 +15,7 @@ fn set_of(names: &[&[u8]]) -> Option<CodeSet> {
     Some(set)
 }
 
-/// That a table has these codes for `b.so`, by their names.
+/// Asserts that a table has the codes with these names for `b.so`.
 fn expect_codes(rt: &impl Abort, alloc: Global, bytes: &[u8], names: &[&[u8]]) -> Result<(), Fail> {
     let table = ReturnTable::read(alloc, bytes)?;
     assert_eq!(rt; table.codes(b"b.so"), set_of(names), "{bytes:?}");

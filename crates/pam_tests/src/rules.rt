@@ -1,4 +1,4 @@
-//! The rules of a file, in either form.
+//! The rules of a configuration file, in either form.
 
 use pam_conf::{Body, FaultKind, Form, Kind, Rule, RuleFault, rules};
 use std::alloc::Global;
@@ -15,7 +15,7 @@ fn are(rt: &impl Abort, words: &[Vec<u8>], wanted: &[&[u8]]) {
     }
 }
 
-/// That a rule asks a module of this path with these arguments.
+/// Asserts that a rule has a module with this path and these arguments.
 fn asks(rt: &impl Abort, rule: &Rule, path: &[u8], arguments: &[&[u8]]) {
     match &rule.body {
         Body::Module(_, found, words) => {
@@ -26,7 +26,7 @@ fn asks(rt: &impl Abort, rule: &Rule, path: &[u8], arguments: &[&[u8]]) {
     }
 }
 
-/// The one fault of a text.
+/// Returns the fault of a text.
 fn fault(rt: &impl Abort, alloc: Global, text: &[u8], form: Form) -> RuleFault {
     match rules(alloc, text, form) {
         Ok(_) => {

@@ -1,4 +1,4 @@
-//! Steps that are counted.
+//! The number of steps of a run.
 
 use crate::files::put;
 use pam_codes::Code;

@@ -5,7 +5,7 @@ use std::alloc::Global;
 use std::process::Abort;
 use std::test::Fail;
 
-/// The set of these codes.
+/// Returns the set of these codes.
 fn set_of(codes: &[Code]) -> CodeSet {
     let mut set = CodeSet::empty();
     for code in codes {
@@ -14,7 +14,7 @@ fn set_of(codes: &[Code]) -> CodeSet {
     set
 }
 
-/// The first codes, up to a number.
+/// Returns the set of the first `count` codes.
 fn first_codes(count: u8) -> CodeSet {
     let mut set = CodeSet::empty();
     for number in 0..count {
@@ -31,7 +31,7 @@ fn text_of(alloc: Global, set: CodeSet) -> Result<Vec<u8>, Fail> {
     Ok(text)
 }
 
-/// That a set has these codes: the least of them, and how many.
+/// Asserts that a set has this code, this least code and this length.
 fn has(rt: &impl Abort, set: CodeSet, code: Code, least: Code, len: usize) {
     assert_eq!(rt; set.contains(code), true);
     assert_eq!(rt; (set.least(), set.len()), (Some(least), len));
@@ -131,7 +131,7 @@ fn expect_parts(rt: &impl Abort, keyword: &[u8], expected: &[Part]) -> Result<()
     Ok(())
 }
 
-/// The codes of each keyword, as pam.conf(5) has the values that it stands for.
+/// The codes of each keyword are those of its value in pam.conf(5).
 #[test]
 fn parts_of_the_keywords(rt: HostRuntime) -> Result<(), Fail> {
     let granting = set_of(&[Code::SUCCESS, Code::NEW_AUTHTOK_REQD]);

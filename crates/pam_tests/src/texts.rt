@@ -1,9 +1,9 @@
-//! The text of configuration files, with the numbers of their lines.
+//! The text of configuration files, with line numbers.
 
 use pam_codes::Text;
 use std::process::Abort;
 
-/// Each file, what it spells, and how many bytes of that come from its first line, its second and so on.
+/// A file, its text, and the number of bytes of the text that come from each line.
 static ROWS: [(&[u8], &[u8], &[u8]); 9] = [
     (
         b"auth required a.so [query=a \\] b] \\\n  debug # note \\\n-auth optional c.so",
@@ -20,14 +20,14 @@ static ROWS: [(&[u8], &[u8], &[u8]); 9] = [
     (b"# a\n\n#\nb\n", b"\n\n\nb\n", &[1, 1, 1, 2]),
 ];
 
-/// That the next byte of a text is this one, of this line.
+/// Asserts that this is the next byte of a text, and its line.
 fn is_next(rt: &impl Abort, text: &mut Text<'_>, line: usize, byte: Option<u8>) {
     assert_eq!(rt; text.is_done(), false);
     assert_eq!(rt; text.line(), line);
     assert_eq!(rt; text.next(), byte.map(|b| (line, b)));
 }
 
-/// That a file spells these bytes, from lines of these lengths.
+/// Asserts that a file has this text, from lines of these lengths.
 fn spells(rt: &impl Abort, file: &[u8], spelled: &[u8], lengths: &[u8]) {
     assert!(rt; file.len() < 100);
     let mut text = Text::of(file);

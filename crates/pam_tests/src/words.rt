@@ -7,7 +7,7 @@ use std::alloc::{AllocError, Global};
 use std::process::Abort;
 use std::test::Fail;
 
-/// Words of `paths`, and why they are refused.
+/// Words of `paths`, and the number of their refusal.
 static REFUSED: [(&str, &str); 18] = [
     ("paths login auth --access t --after 0 --before 1", "U2"),
     ("paths login atuh --dir d --access t", "U3"),
@@ -35,7 +35,7 @@ static REFUSED: [(&str, &str); 18] = [
     ("paths login auth success --dir d", "U1"),
 ];
 
-/// Words of `paths`, and the limit of the page.
+/// Words of `paths`, and the limit of their page.
 static LIMITS: [(&str, u32); 5] = [
     ("paths login auth --dir d", 1000),
     ("paths login auth --dir d --limit 1", 1),
@@ -47,7 +47,7 @@ static LIMITS: [(&str, u32); 5] = [
     ),
 ];
 
-/// The program's name, and the words of a line.
+/// Returns the program's name and the words of a line.
 fn words_of<'a>(alloc: Global, line: &'a str) -> Result<Vec<&'a str>, AllocError> {
     let mut words = Vec::new(alloc);
     words.push("pamcheck")?;
@@ -57,7 +57,7 @@ fn words_of<'a>(alloc: Global, line: &'a str) -> Result<Vec<&'a str>, AllocError
     Ok(words)
 }
 
-/// The number of a refusal.
+/// Returns the number of a refusal.
 fn number(answer: Result<Request<'_>, Usage>) -> &'static str {
     match answer {
         Err(Usage::Words(_)) => "U1",
@@ -100,7 +100,7 @@ fn limits_of_paths(rt: HostRuntime) -> Result<(), Fail> {
     Ok(())
 }
 
-/// That a refusal has this line and this status.
+/// Asserts the line and the exit status of a refusal.
 fn is_told(
     rt: &impl Abort,
     alloc: Global,
@@ -116,7 +116,7 @@ fn is_told(
     Ok(())
 }
 
-/// What no line of a transcript can show.
+/// A transcript cannot show these refusals.
 #[test]
 fn refusals_where_the_words_are_gathered(rt: HostRuntime) -> Result<(), Fail> {
     is_told(&rt, rt.alloc(), &Usage::Login, "pamcheck: U5 Login\n", 2)?;

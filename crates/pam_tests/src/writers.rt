@@ -1,4 +1,4 @@
-//! Writers that take little, answer errors, or cannot flush.
+//! Writers that write little, return errors, or fail to flush.
 
 ghost use Rattle.std.specs.Prelude.{◌<◌, ◌-◌, ◌^◌};
 
@@ -38,7 +38,7 @@ fn in_pieces<W: Write>(out: &mut Out<W>) -> Result<(), Device>
     out.finish()
 }
 
-/// Writers: what one takes at a call and in all, what it does then, whether it can flush; and whether all of the text
+/// Writers: the bytes per call and in total, what it does when full, whether it can flush; and whether the whole text
 /// is written.
 static ROWS: [(usize, usize, End, bool, bool); 8] = [
     (1, 53, NOTHING, true, true),
@@ -51,7 +51,7 @@ static ROWS: [(usize, usize, End, bool, bool); 8] = [
     (53, 53, NOTHING, false, false),
 ];
 
-/// That a call that wrote the text ended well or with one failure, and counted the bytes that the writer took.
+/// Asserts that a write succeeded or failed once, and that the written bytes were counted.
 fn ended(
     rt: &impl Abort,
     out: &Out<&mut Halting>,

@@ -1,4 +1,4 @@
--- A logic list and its writing.
+-- A logic list and its signs.
 use Rattle.std.proofs.Common.{◌≡◌, ◌∙◌, ℕ, Bool, true, false, List, [], ◌∷◌, Option, Some, None, Ok, refl, sym, ap, subst}
 use Rattle.pam_times.specs.Laws.{written_item, written_behind, IsWritten}
 use Rattle.pam_times.specs.Logic.{ItemOf, Sign, Not, Join, Token, signs_of, onto_items, items_from, items_or_fault, items_of}
@@ -10,7 +10,7 @@ use Rattle.pam_times.specs.declared.logic.Place.TheVariants as places
 abbrev Items : Type 0
 Items = List (ItemOf (List ℕ))
 
--- the writing of items from a place on
+-- the signs of items from a place on
 abbrev From : Place → List Sign → Items → Type 0
 From places.Joint signs items = signs ≡ written_behind items
 From (places.Item joint) signs [] = ⊥
@@ -50,7 +50,7 @@ behind_joint : (joint : Joint) (signs : List Sign) (o : Option Items) → OrNone
 behind_joint joint signs None h = tt
 behind_joint joint signs (Some items) h = behind_joint_items joint signs items h
 
--- what is read was written so
+-- signs that are read as items are those of the items
 read_from : (place : Place) (signs : List Sign) → OrNone place signs (items_from place signs)
 unfolding items_from
 read_from places.Joint [] = refl
@@ -66,7 +66,7 @@ read_from (places.Token joint) (Not ∷ signs) = tt
 read_from (places.Token joint) (Join other ∷ signs) = tt
 read_from (places.Token joint) (Token t ∷ signs) = turned joint t signs _ (read_from places.Joint signs)
 
--- what is written so is read
+-- the signs of items are read as those items
 read_item : (joint : Joint) (b : Bool) (t : List ℕ) (items : Items) → items_from places.Joint (written_behind items) ≡ Some items →
     items_from (places.Item joint) (written_item b t (written_behind items)) ≡ Some ((joint, b, t) ∷ items)
 unfolding items_from

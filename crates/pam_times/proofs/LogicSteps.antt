@@ -48,7 +48,7 @@ folded_from acc (x ∷ xs) = folded_from (join x.0 acc x.1) xs ∙ step_case x.0
 pub folded_all : (xs : List (Joint × Bool)) → folded false xs ≡ is_true_of xs
 folded_all xs = folded_from false xs
 
--- the same over items that are still to come
+-- the same, for the remaining items
 abbrev pub folded_items : {A : Type 0} → (A → Bool) → Bool → List (ItemOf A) → Bool
 folded_items f acc items = folded acc (map (item_value f) items)
 
@@ -66,7 +66,7 @@ signs_blank : (b : ℕ) (bs : List ℕ) → is_blank b ≡ true → signs_of (b 
 unfolding signs_of
 signs_blank b bs h = ap (λ (t : Bool). cond t (signs_of bs) (sign_step b bs)) h
 
--- blanks in front are passed over
+-- leading blanks are skipped
 pub signs_skip : (bs : List ℕ) → signs_of bs ≡ signs_of (drop (prefix_len is_blank bs) bs)
 signs_skip [] = refl
 signs_skip (b ∷ bs) = elim (is_blank b) as (λ (t : Bool). is_blank b ≡ t → signs_of (b ∷ bs) ≡ signs_of (drop (prefix_len is_blank (b ∷ bs)) (b ∷ bs))) [
@@ -112,7 +112,7 @@ rest_of b (c ∷ cs) rec =
           rw stop refl
     ] refl
 
--- a token in front ends at the first byte that no token has
+-- a leading token ends at the first byte that is in no token
 signs_token : (bs : List ℕ) → begins_token bs ≡ true → signs_of bs
     ≡ Token (take (prefix_len is_token_byte bs) bs) ∷ signs_of (drop (prefix_len is_token_byte bs) bs)
 signs_token [] h = absurd (cc)
@@ -156,7 +156,7 @@ token_first (b ∷ bs) a r n z h k l p q = rw (p, q) (signs_token (b ∷ bs) (no
 
 -- ---- items
 
--- items that are complete stand in front
+-- the complete items come first
 abbrev pub in_front : List (ItemOf (List ℕ)) → Option (List (ItemOf (List ℕ))) → Option (List (ItemOf (List ℕ)))
 in_front front None = None
 in_front front (Some items) = Some (front ++ items)

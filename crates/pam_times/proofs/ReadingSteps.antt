@@ -64,7 +64,7 @@ first_numbered l (m ∷ ms) others h =
       | false ↦ rw (h, bytes_of_marks ms) refl
     ]
 
--- the rules of a text are that of its first line, and those behind it
+-- the rules of a text: that of its first line, then those of the text after it
 rules_step : (l : ℕ) (ms : List Mark) → HeadIs l ms → rules_in ms ≡ onto_lines l (rule_of l (first_line ms)) (rules_in (behind_line ms))
 unfolding read_lines line_then
 rules_step l ms h = ⊎_elim

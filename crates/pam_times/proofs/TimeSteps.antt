@@ -6,7 +6,7 @@ use Rattle.jiff_core.specs.Calendar.{weekday_number, IsBetween}
 use mir.Val.{of_z, to_z}
 use Rattle.pam_times.specs.Entry.{weekday_of_day}
 
--- the weekday that jiff gives is that of the definition
+-- the day of the week in jiff is that of the definition
 pub same_weekday : (number : ℤ) → weekday_number number ≡ weekday_of_day number
 unfolding weekday_number weekday_of_day
 same_weekday number = refl

@@ -15,7 +15,7 @@ use Rattle.pam_times.specs.declared.entry.Entry.{Entry}
 abbrev pub weekdays : List ℕ
 weekdays = 0 ∷ 1 ∷ 2 ∷ 3 ∷ 4 ∷ 5 ∷ 6 ∷ []
 
--- the weekday of a day number: day 0, 1970-01-01, is a Thursday
+-- the day of the week of a day number. Day 0, 1970-01-01, is a Thursday
 unfoldable pub weekday_of_day : ℤ → ℕ
 weekday_of_day number = unsigned_abs (int_rem_euclid (number +ℤ pos 3) (pos 7))
 
@@ -28,7 +28,7 @@ run first last = record { first = first; last = last }
 abbrev pub covers : DayRun → ℕ → Bool
 covers r day = nat_le r.first day && nat_le day r.last
 
--- the names of days, without case
+-- the names of days, in either case
 unfoldable pub named_days : List ℕ → Option DayRun
 named_days name =
     if same_name name (codes "mo") then Some (run 0 0)
@@ -47,7 +47,7 @@ abbrev pub onto : {A : Type 0} → Option A → Option (List A) → Option (List
 onto (Some x) (Some xs) = Some (x ∷ xs)
 onto _ _ = None
 
--- the days that a text mentions, each by two letters
+-- the days that a text names, by two letters each
 abbrev pub mentions : List ℕ → Option (List DayRun)
 mentions [] = Some []
 mentions (a ∷ []) = None
@@ -56,7 +56,7 @@ mentions (a ∷ b ∷ rest) = onto (named_days (a ∷ b ∷ [])) (mentions rest)
 abbrev pub is_odd : ℕ → Bool
 is_odd n = n % 2 == 1
 
--- a weekday is in the set where the number of mentions that cover it is odd
+-- a day is in the set if an odd number of names cover it
 abbrev pub day_set : List DayRun → List Bool
 day_set runs = map (λ day. is_odd (count_by (λ r. covers r day) runs)) weekdays
 
@@ -66,7 +66,7 @@ days_of text = option_map day_set (mentions text)
 abbrev pub differ : Bool → Bool → Bool
 differ a b = not (beq a b)
 
--- a set of days, changed where one more mention covers a day
+-- a set of days, with those of a range toggled
 abbrev pub toggled : List Bool → DayRun → List Bool
 toggled days r = map (λ day. differ (slice_index_or days day false) (covers r day)) weekdays
 
@@ -76,11 +76,11 @@ abbrev pub minute_of : Option ℕ → Option ℕ → Option ℕ
 minute_of (Some hour) (Some minute) = if nat_le hour 23 && nat_le minute 59 then Some (60 * hour + minute) else None
 minute_of _ _ = None
 
--- the minute of the day that is written HHMM at a place of the text
+-- the minute of the day written HHMM at an index
 abbrev pub time_at : List ℕ → ℕ → Option ℕ
 time_at text i = minute_of (pair_at text i) (pair_at text (i + 2))
 
--- the same, or 2400
+-- the same, or 2400, the end of the day
 abbrev pub finish_at : List ℕ → ℕ → Option ℕ
 finish_at text i =
     if slice_index text i == 50 && slice_index text (i + 1) == 52 && slice_index text (i + 2) == 48 && slice_index text (i + 3) == 48 then Some 1440
@@ -92,7 +92,7 @@ abbrev pub entry_from : Option (List Bool) → Option ℕ → Bool → Option �
 entry_from (Some days) (Some start) true (Some finish) = Some (record { days = days; start = start; finish = finish })
 entry_from _ _ _ _ = None
 
--- one or more days, and HHMM-HHMM
+-- an entry: one or more days, and HHMM-HHMM
 unfoldable pub entry_of : List ℕ → Option Entry
 entry_of text = if nat_lt (length text) 11 then None
     else let at = length text - 9 in
@@ -101,7 +101,7 @@ entry_of text = if nat_lt (length text) 11 then None
 abbrev pub is_on : Entry → ℕ → Bool
 is_on e day = slice_index_or e.days day false
 
--- whether an entry holds a minute of a weekday: a range that goes past midnight belongs to the day on which it starts
+-- whether an entry covers a minute of a day. A range that goes past midnight belongs to the day on which it starts
 unfoldable pub holds : Entry → ℕ → ℕ → Bool
 holds e day minute =
     if nat_lt e.start e.finish then is_on e day && (nat_le e.start minute && nat_lt minute e.finish)

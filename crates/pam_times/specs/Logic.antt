@@ -1,4 +1,4 @@
--- time.conf(5): a logic list has items, joined by `&` and `|`, of which `!` inverts one.
+-- time.conf(5): a logic list has items joined by `&` and `|`; `!` inverts an item.
 use Rattle.std.specs.Prelude.{◌≡◌, ℕ, ◌==◌, ◌&&◌, ◌||◌, Bool, true, false, not, List, [], ◌∷◌, map, if◌then◌else◌, Option, Some, None, Result, Ok, Err}
 use Rattle.std.specs.List.{list_all}
 use Rattle.pam_codes.specs.Tokens.{is_blank}
@@ -15,40 +15,41 @@ use Rattle.pam_times.specs.declared.logic.Place.TheVariants as places
 
 -- ---- the value of a list
 
--- the value up to an item, from that before it and that of the item
+-- the value up to an item, from the value before it and that of the item
 abbrev pub join : Joint → Bool → Bool → Bool
 join And before value = before && value
 join _ before value = before || value
 
--- what stands before an item, whether it is inverted, and what is meant by its token
+-- the operator before an item, whether it is inverted, and the meaning of its token
 abbrev pub ItemOf : Type 0 → Type 0
 ItemOf A = Joint × Bool × A
 
--- an item that is the first, or stands behind `|`
+-- an item that is the first, or comes after `|`
 abbrev pub may_begin : Joint → Bool
 may_begin And = false
 may_begin _ = true
 
--- an item that leaves a true list true: a false one behind `&` does not
+-- an item that keeps a true list true: any but a false one after `&`
 abbrev pub keeps : Joint × Bool → Bool
 keeps item = may_begin item.0 || item.1
 
--- a list whose items have these values is true where some true item is the first or stands behind `|`, and every later item that stands behind `&` is true
+-- a list with these values of items is true if some true item is the first or comes after `|`,
+-- and each later item that comes after `&` is true
 abbrev pub is_true_of : List (Joint × Bool) → Bool
 is_true_of [] = false
 is_true_of (item ∷ items) = ((may_begin item.0 && item.1) && list_all keeps items) || is_true_of items
 
--- the value of an item: that of its token, inverted by `!`
+-- the value of an item: the value of its token, inverted by `!`
 abbrev pub item_value : {A : Type 0} → (A → Bool) → ItemOf A → Joint × Bool
 item_value f item = (item.0, differ item.1 (f item.2))
 
--- the value of a list, by the values of what its tokens mean
+-- THE VALUE of a list, from the values of its tokens
 abbrev pub is_true : {A : Type 0} → (A → Bool) → List (ItemOf A) → Bool
 is_true f items = is_true_of (map (item_value f) items)
 
 -- ---- the text of a list
 
--- `!`, a joint, or a token
+-- `!`, an operator, or a token
 pub data Sign : Type 0 where
   Not : Sign
   Join : Joint → Sign
@@ -65,7 +66,7 @@ abbrev pub onto_token : ℕ → List Sign → List Sign
 onto_token b (Token t ∷ signs) = Token (b ∷ t) ∷ signs
 onto_token b signs = Token (b ∷ []) ∷ signs
 
--- each mark by itself, and each longest run of bytes other than blanks and marks
+-- the signs of a text: each `!` and operator, and each longest run of bytes other than these and blanks
 unfoldable pub signs_of : List ℕ → List Sign
 signs_of [] = []
 signs_of (b ∷ bs) =
@@ -85,7 +86,8 @@ abbrev pub onto_items : Joint → Bool → List ℕ → Option (List (ItemOf (Li
 onto_items joint is_inverted token (Some items) = Some ((joint, is_inverted, token) ∷ items)
 onto_items joint is_inverted token None = None
 
--- the items from a place on, if the signs are such a list: an item is a token, with at most one `!` before it, and there is a joint between two items
+-- the items from a place on, if the signs are a list: an item is a token, with at most one `!` before it,
+-- and there is an operator between two items
 unfoldable pub items_from : Place → List Sign → Option (List (ItemOf (List ℕ)))
 items_from (places.Item joint) (Not ∷ signs) = items_from (places.Token joint) signs
 items_from (places.Item joint) (Token t ∷ signs) = onto_items joint false t (items_from places.Joint signs)
@@ -98,17 +100,17 @@ abbrev pub items_or_fault : Option (List (ItemOf (List ℕ))) → Result (List (
 items_or_fault (Some items) = Ok items
 items_or_fault None = Err BadLogic
 
--- the items of a text, whose tokens are texts
+-- the items of a text
 unfoldable pub items_of : List ℕ → Result (List (ItemOf (List ℕ))) TableFault
 items_of text = items_or_fault (items_from (places.Item First) (signs_of text))
 
--- ---- what one sign does
+-- ---- the effect of one sign
 
--- an item by what its token means
+-- an item, with the meaning of its token
 abbrev pub item_view : {A B : Type 0} → (A → B) → Item A → ItemOf B
 item_view view item = (item.joint, item.is_inverted, view item.meant)
 
--- the place that a sign leads to has the same items to come, and where there is none, there are no items
+-- a sign leads to a place with the same remaining items; if it is a fault, there are no items
 abbrev pub Leads : Place → Sign → Result Place TableFault → Type 0
 Leads place sign (Ok next) = (rest : List Sign) → items_from place (sign ∷ rest) ≡ items_from next rest
 Leads place sign (Err fault) = (fault ≡ BadLogic) × ((rest : List Sign) → items_from place (sign ∷ rest) ≡ None)
@@ -116,7 +118,8 @@ Leads place sign (Err fault) = (fault ≡ BadLogic) × ((rest : List Sign) → i
 abbrev pub onto_item : ItemOf (List ℕ) → Option (List (ItemOf (List ℕ))) → Option (List (ItemOf (List ℕ)))
 onto_item item items = onto_items item.0 item.1 item.2 items
 
--- the item that a token completes stands before those to come, behind which a joint must follow
+-- the item that a token completes comes before the remaining ones, which begin with an operator; if it is a fault,
+-- there are no items
 abbrev pub Completes : {A : Type 0} → (A → List ℕ) → Place → List ℕ → Result (Item A) TableFault → Type 0
 Completes view place token (Ok item) =
     (rest : List Sign) → items_from place (Token token ∷ rest) ≡ onto_item (item_view view item) (items_from places.Joint rest)

@@ -1,4 +1,4 @@
--- The moment at which pam_time(8) is asked: `YYYY-MM-DDTHH:MM`, or with `:SS`, or an instant in a zone.
+-- The moment of a decision of pam_time(8): `YYYY-MM-DDTHH:MM`, or with `:SS`, or an instant in a time zone.
 use Rattle.std.specs.Prelude.{◌≡◌, ◌+◌, ◌-◌, ◌*◌, ◌==◌, ◌&&◌, ℕ, ◌<◌, ℤ, ◌+ℤ◌, ◌*ℤ◌, Bool, List, Option, Some, None, pos, length, nat_le, slice_index, if◌then◌else◌}
 use Rattle.std.specs.Char.{is_ascii_digit}
 use Rattle.jiff.specs.Placed.{IsPosixZone}
@@ -9,15 +9,15 @@ use Rattle.pam_times.specs.declared.moments.Parts.{Parts}
 abbrev pub two_digits : ℕ → ℕ → Option ℕ
 two_digits a b = if is_ascii_digit a && is_ascii_digit b then Some (10 * (a - 48) + (b - 48)) else None
 
--- the two digits at a place of the text
+-- the number of two digits at an index
 abbrev pub pair_at : List ℕ → ℕ → Option ℕ
 pair_at text i = two_digits (slice_index text i) (slice_index text (i + 1))
 
--- the text is long enough, and the marks stand at their places: two hyphens, `T` and a colon
+-- the text is long enough, and has its two hyphens, its `T` and its colon
 abbrev pub has_marks : List ℕ → Bool
 has_marks text = nat_le 16 (length text) && (slice_index text 4 == 45 && slice_index text 7 == 45 && (slice_index text 10 == 84 && slice_index text 13 == 58))
 
--- the seconds, which may be left out
+-- the seconds, 0 if left out
 abbrev pub seconds_of : List ℕ → Option ℕ
 seconds_of text = if length text == 16 then Some 0
     else if length text == 19 && slice_index text 16 == 58 then pair_at text 17 else None
@@ -33,32 +33,32 @@ parts_from (Some century) (Some year) (Some month) (Some day) (Some hour) (Some 
 })
 parts_from _ _ _ _ _ _ _ = None
 
--- the parts of a text that is spelled so
+-- the fields of a text in this format
 abbrev pub parts_of : List ℕ → Option Parts
 parts_of text = if has_marks text
     then parts_from (pair_at text 0) (pair_at text 2) (pair_at text 5) (pair_at text 8) (pair_at text 11) (pair_at text 14) (seconds_of text) else None
 
--- the calendar and the clock have these parts
+-- the calendar and the clock have such a date and time
 abbrev pub Exist : Option Parts → Type 0
 Exist None = ⊥
 Exist (Some p) = IsDate (pos p.year) (pos p.month) (pos p.day) × IsTime (pos p.hour) (pos p.minute) (pos p.second) (pos 0)
 
--- the civil time with these parts
+-- the civil time with these fields
 abbrev pub HasParts : Option Parts → DateTime → Type 0
 HasParts None d = ⊥
 HasParts (Some p) d = IsYmd (pos p.year) (pos p.month) (pos p.day) d.date × IsHms (pos p.hour) (pos p.minute) (pos p.second) (pos 0) d.time
 
--- each part has two digits, and the year four
+-- the year has four digits, and each other field two
 abbrev pub IsShort : Parts → Type 0
 IsShort p = (p.year < 10000) × (p.month < 100) × (p.day < 100) × (p.hour < 100) × (p.minute < 100) × (p.second < 100)
 
 -- ---- an instant on the clock of a POSIX zone rule
 
--- the calendar has this instant: from -9999-01-02T01:59:59Z to 9999-12-30T22:00:00Z, so that a clock at any offset shows a date
+-- the calendar has this instant: from -9999-01-02T01:59:59Z to 9999-12-30T22:00:00Z, so each zone has a date for it
 abbrev pub IsInstant : ℤ → Type 0
 IsInstant seconds = IsTimestampNanos (seconds *ℤ pos 1000000000)
 
--- the calendar has that instant, and d is what the clock of the rule shows then
+-- the calendar has the instant, and d is the civil time in the zone of the rule
 pub record Shows (seconds : ℤ) (rule : List ℕ) (d : DateTime) : Type 0 where
   pub exists : IsInstant seconds
   pub zone : TimeZone

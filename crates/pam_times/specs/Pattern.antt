@@ -1,4 +1,4 @@
--- time.conf(5): a name may have a wildcard, one `*` that stands for any bytes.
+-- time.conf(5): a name may have one wildcard, `*`, which matches any bytes.
 use Rattle.std.specs.Prelude.{◌≡◌, ℕ, ◌+◌, ◌==◌, ◌&&◌, ◌++◌, Bool, List, length, take, drop, position, nat_lt, nat_eq, count_by, Option, Some, None}
 use Rattle.std.specs.List.{ends_with}
 use Rattle.std.specs.Option.{option_map_or}
@@ -10,12 +10,12 @@ is_star b = b == 42
 abbrev pub has_two_stars : List ℕ → Bool
 has_two_stars name = nat_lt 1 (count_by is_star name)
 
--- a text begins with the front, and what is behind that ends with the back
+-- a text begins with front, and its rest ends with back
 abbrev pub is_framed : List ℕ → List ℕ → List ℕ → Bool
 is_framed front back text =
     bytes_eq (take (length front) text) front && ends_with nat_eq (drop (length front) text) back
 
--- a text matches a name
+-- whether a text matches a name
 abbrev pub matches : List ℕ → List ℕ → Bool
 matches name text = option_map_or (λ i. is_framed (take i name) (drop (i + 1) name) text) (position is_star name) (bytes_eq name text)
 
@@ -23,6 +23,6 @@ abbrev pub MeansAt : Option ℕ → List ℕ → List ℕ → Type 0
 MeansAt None name text = name ≡ text
 MeansAt (Some i) name text = (filling : List ℕ) × (text ≡ take i name ++ (filling ++ drop (i + 1) name))
 
--- some bytes in the place of the first wildcard, if there is one, make the text of the name
+-- a text matches if it is the name, with some bytes in place of the first wildcard, if there is one
 abbrev pub Means : List ℕ → List ℕ → Type 0
 Means name text = MeansAt (position is_star name) name text

@@ -1,4 +1,4 @@
--- time.conf(5): the text of a table has a rule a line, `services;terminals;users;times`, where `#` begins a comment.
+-- time.conf(5): each line of a table is a rule, `services;terminals;users;times`. `#` begins a comment.
 use Rattle.std.specs.Prelude.{ℕ, ◌==◌, ◌||◌, Bool, false, List, [], ◌∷◌, ◌++◌, codes, map, if◌then◌else◌, Option, Some, None, Result, Ok, Err}
 use Rattle.std.specs.List.{list_all}
 use Rattle.pam_codes.specs.Text.{Mark, text_of, lines_of}
@@ -17,9 +17,9 @@ use Rattle.pam_times.specs.declared.reading.Field.{Field}
 use Rattle.pam_times.specs.declared.reading.Field.TheVariants.{Services, Terminals, Users}
 use Rattle.pam_times.specs.declared.reading.Fields.{Fields}
 
--- ---- what a text is read as
+-- ---- fields
 
--- the items whose tokens mean something, or the first fault of a token
+-- the meanings of all tokens, or the first fault
 abbrev pub onto_list : {A : Type 0} → Result A TableFault → Result (List A) TableFault → Result (List A) TableFault
 onto_list (Err fault) others = Err fault
 onto_list (Ok x) (Ok xs) = Ok (x ∷ xs)
@@ -45,7 +45,7 @@ abbrev pub is_netgroup : Field → List ℕ → Bool
 is_netgroup Users name = begins_with_at name
 is_netgroup _ name = false
 
--- a name has at most one wildcard, and no user is a netgroup
+-- a name has at most one wildcard, and a user is no netgroup
 abbrev pub name_of : Field → List ℕ → Result (List ℕ) TableFault
 name_of field name = if is_netgroup field name then Err Netgroup else if has_two_stars name then Err TwoWildcards else Ok name
 
@@ -64,7 +64,7 @@ times_of text = each_of (λ token. entry_or_fault (entry_of token)) (items_of te
 abbrev pub is_blank_text : List ℕ → Bool
 is_blank_text text = list_all is_blank text
 
--- four fields, of which the last is the rest of the line
+-- the four fields of a line, the last of which is its rest
 pub record FieldTexts : Type 0 where
   pub services : List ℕ
   pub terminals : List ℕ
@@ -109,7 +109,7 @@ abbrev pub rule_of_fields : ℕ → Option FieldTexts → Result (Option Rule) T
 rule_of_fields line None = Err MissingField
 rule_of_fields line (Some f) = rule_from line (names_of Services f.services) (names_of Terminals f.terminals) (names_of Users f.users) (times_of f.times)
 
--- the rule of a line, if it has one, or its first fault
+-- the rule of a line, or its first fault. A blank line has none
 unfoldable pub rule_of : ℕ → List ℕ → Result (Option Rule) TableFault
 rule_of number line = if is_blank_text line then Ok None else rule_of_fields number (fields_of line)
 
@@ -123,11 +123,11 @@ number_of (m ∷ ms) = m.0
 abbrev pub numbered_line : List Mark → ℕ × List ℕ
 numbered_line ms = (number_of ms, map (λ m. m.1) ms)
 
--- the lines of a text without comments, with continued lines joined
+-- the lines of a text, without comments, with continued lines joined
 abbrev pub numbered_lines : List Mark → List (ℕ × List ℕ)
 numbered_lines text = map numbered_line (lines_of text)
 
--- the text that a reader has left
+-- the remaining text
 abbrev pub text_left : Text → List Mark
 text_left text = text_of text.line text.rest.now
 
@@ -141,6 +141,6 @@ with_rule rules (Err fault) = Err fault
 abbrev pub rules_in : List Mark → Result (List Rule) (TableFault × ℕ)
 rules_in text = read_lines rule_of (numbered_lines text)
 
--- THE RULES OF A TABLE, or its first fault and the line of that
+-- THE RULES OF A TABLE, or its first fault, with its line
 unfoldable pub rules_of : List ℕ → Result (List Rule) (TableFault × ℕ)
 rules_of bytes = checked bytes (rules_in (text_of 1 bytes))

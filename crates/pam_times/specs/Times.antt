@@ -1,5 +1,5 @@
--- time.conf(5): a rule has services, terminals, users and times; pam_time(8) denies a login by the first rule
--- whose first three fields hold and whose times do not.
+-- time.conf(5): a rule has services, terminals, users and times. pam_time(8) denies a login by the first rule
+-- whose first three fields match and whose times do not.
 use Rattle.std.specs.Prelude.{ℕ, ◌+◌, ◌*◌, ◌&&◌, Bool, not, List, [], ◌∷◌, map, if◌then◌else◌}
 use Rattle.jiff.specs.Types.{DateTime}
 use Rattle.jiff.specs.Words.{epoch_day}
@@ -37,7 +37,7 @@ rule_view r = record {
   times = map (item_view (λ e. e)) r.times.items;
 }
 
--- ---- what a table says of a login
+-- ---- the answer of a table
 
 abbrev pub names_hold : NameList → List ℕ → Bool
 names_hold items text = is_true (λ name. matches name text) items
@@ -48,11 +48,11 @@ minute_of_day moment = moment.time.hour * 60 + moment.time.minute
 abbrev pub times_hold : TimeList → ℕ → ℕ → Bool
 times_hold items day minute = is_true (λ entry. holds entry day minute) items
 
--- services, terminals without one `/dev/` in front, and users
+-- the services, the terminals (without one `/dev/` prefix) and the users of a rule match a login
 abbrev pub is_active : Rule → LoginText → Bool
 is_active r login = names_hold r.services login.service && (names_hold r.terminals (without_dev login.tty) && names_hold r.users login.user)
 
--- denied at the first rule that is active at none of its times
+-- denied by the first rule that matches the login but not the moment
 abbrev pub answer_at : List Rule → LoginText → ℕ → ℕ → TimeAnswer
 answer_at [] login day minute = Granted
 answer_at (r ∷ rs) login day minute = if is_active r login && not (times_hold r.times day minute) then Denied r.line else answer_at rs login day minute

@@ -1,4 +1,4 @@
-//! Entries of times: days of the week and a range of the day.
+//! Entries of the times field: days of the week and a range of the day.
 
 ghost use Rattle.std.specs.Prelude.{◌≡◌, ◌+◌, ◌<◌, ◌≤◌, ◌&&◌, nat_le, length, slice_index, slice_index_or, false, IfSome};
 ghost use Rattle.std.specs.Option.{option_map};
@@ -7,7 +7,7 @@ ghost use Rattle.pam_times.specs.Entry.{covers, named_days, toggled, days_of, ti
 use crate::moments::pair;
 use pam_codes::is_name;
 
-/// Days of the week that follow one another, from 0 for Monday.
+/// A range of days of the week, both ends included. Monday is 0.
 #[derive(Clone, Copy)]
 struct DayRun {
     first: u8,
@@ -28,7 +28,7 @@ impl DayRun {
     }
 }
 
-/// The days that two letters name, without case.
+/// Returns the days that two letters name, in either case.
 #[tactic(auto, unfolding(crate::specs::Entry::named_days))]
 fn named_days(name: &[u8]) -> Option<DayRun>
     ensures { result ≡ named_days name.now }
@@ -58,7 +58,7 @@ fn named_days(name: &[u8]) -> Option<DayRun>
     }
 }
 
-/// A set of days with those of a run changed: in where they were out, and out where they were in.
+/// Toggles the days of a range in a set.
 fn toggled(days: [bool; 7], run: DayRun) -> [bool; 7]
     ensures { result ≡ toggled days run }
 {
@@ -73,7 +73,7 @@ fn toggled(days: [bool; 7], run: DayRun) -> [bool; 7]
     ]
 }
 
-/// The days that pairs of letters name. A day that they cover twice is not among them.
+/// Reads pairs of letters that name days. A day named an even number of times is not in the set, as in time.conf(5).
 fn days(text: &[u8]) -> Option<[bool; 7]>
     ensures { result ≡ days_of text.now }
 {
@@ -87,7 +87,7 @@ fn days(text: &[u8]) -> Option<[bool; 7]>
     Some(days)
 }
 
-/// The minute of the day that four digits give, hours and minutes.
+/// Parses `HHMM` at an index. Returns the minute of the day.
 fn time(text: &[u8], at: usize) -> Option<u16>
     requires { at + 3 < length text.now }
     ensures { result ≡ time_at text.now at }
@@ -101,7 +101,7 @@ fn time(text: &[u8], at: usize) -> Option<u16>
     }
 }
 
-/// The same, or `2400` for the end of the day.
+/// Like `time`, but also accepts `2400`, the end of the day.
 fn finish(text: &[u8], at: usize) -> Option<u16>
     requires { at + 3 < length text.now }
     ensures { result ≡ finish_at text.now at }
@@ -113,8 +113,8 @@ fn finish(text: &[u8], at: usize) -> Option<u16>
     }
 }
 
-/// Days of the week, from Monday on, and the minutes of a day at which a range starts and
-/// finishes. A range that goes past midnight belongs to the day on which it starts.
+/// The days of the week from Monday on, and the range of minutes of the day. The finish is excluded; if it is not after
+/// the start, the range goes past midnight and belongs to the day on which it starts.
 #[derive(Clone, Copy)]
 pub(crate) struct Entry {
     days: [bool; 7],
@@ -123,7 +123,7 @@ pub(crate) struct Entry {
 }
 
 impl Entry {
-    /// One or more days and `HHMM-HHMM`.
+    /// Parses one or more days and `HHMM-HHMM`.
     #[tactic(auto, unfolding(crate::specs::Entry::entry_of))]
     pub(crate) fn read(text: &[u8]) -> Option<Entry>
         ensures { result ≡ entry_of text.now }
@@ -152,7 +152,7 @@ impl Entry {
         self.days[usize::from(day)]
     }
 
-    /// Whether the entry holds a minute of a weekday.
+    /// Whether the entry covers a minute of a day of the week.
     #[tactic(auto, unfolding(crate::specs::Entry::holds))]
     pub(crate) fn holds(&self, day: u8, minute: u16) -> bool
         requires { day < 7 }

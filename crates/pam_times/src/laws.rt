@@ -1,8 +1,8 @@
-//! Laws of the definitions that the contracts cite, each the contract of a function that does nothing.
+//! Laws of the definitions that contracts use. Each is the contract of a function with an empty body.
 
 ghost use Rattle.pam_times.specs.Laws.{ListsAreWrittenInOneWay};
 
-/// A text is a logic list exactly where its marks and tokens are those of items, and then of one list of items.
+/// A text is read as a list of items if and only if its signs spell them, so it spells at most one list.
 pub fn lists_are_written_in_one_way()
     ensures { ListsAreWrittenInOneWay }
 {}

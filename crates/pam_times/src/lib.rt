@@ -1,4 +1,5 @@
-//! Time tables of pam_time, and the moments at which they are asked.
+//! Time tables of pam_time(8), as in time.conf(5): which logins they grant at a moment.
+//! A moment is a civil time, read from text or from an instant and a POSIX time zone.
 #![tactic(auto)]
 
 mod entry;

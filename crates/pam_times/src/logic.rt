@@ -1,4 +1,4 @@
-//! Logic lists: items that are joined by `&` and `|`.
+//! Logic lists of time.conf(5): items joined by `&` and `|`.
 
 ghost use Rattle.std.specs.Prelude.{◌≡◌, ◌∷◌, ◌≤◌, [], length, map, MatchOption};
 ghost use Rattle.std.specs.Iterator.{YieldsFirstBy, item_count};
@@ -11,17 +11,17 @@ use pam_codes::is_blank_byte;
 use pam_tables::TableFault;
 use std::alloc::Global;
 
-/// What stands before an item of a list.
+/// The operator before an item of a list.
 #[derive(Clone, Copy)]
 pub(crate) enum Joint {
-    /// Nothing: it is the first.
+    /// None: the first item.
     First,
     And,
     Or,
 }
 
 impl Joint {
-    /// The value of a list up to an item, from that of the list before it and that of the item.
+    /// Returns the value of a list up to an item, given its value before the item and the value of the item.
     pub(crate) fn join(self, before: bool, value: bool) -> bool
         ensures { result ≡ join self before value }
     {
@@ -33,7 +33,7 @@ impl Joint {
     }
 }
 
-/// An item of a list, and what its token means.
+/// An item of a list: a token, by its meaning, with the operator before it. `!` inverts it.
 #[derive(Clone, Copy)]
 pub(crate) struct Item<T> {
     pub(crate) joint: Joint,
@@ -41,7 +41,7 @@ pub(crate) struct Item<T> {
     pub(crate) meant: T,
 }
 
-/// A part of the text of a list.
+/// A token or an operator in the text of a list.
 #[derive(Clone, Copy)]
 enum Part<'a> {
     Not,
@@ -76,7 +76,7 @@ fn skip_blanks(bytes: &[u8]) -> &[u8]
     bytes.split_at(blank_len(bytes)).1
 }
 
-/// The first part, and the bytes behind it.
+/// Splits off the first part. Returns it and the text after it.
 fn first_part(bytes: &[u8]) -> Option<(Part<'_>, &[u8])>
     ensures { MatchOption result (signs_of bytes.now ≡ []) (λ p. signs_of bytes.now ≡ sign_view p.0 ∷ signs_of p.1.now) }
 {
@@ -97,7 +97,7 @@ fn first_part(bytes: &[u8]) -> Option<(Part<'_>, &[u8])>
     Some((Part::Token(token), behind))
 }
 
-/// The parts of a text that are still to come.
+/// An iterator over the parts of a text.
 #[derive(Drop)]
 struct Parts<'a> {
     rest: &'a [u8],
@@ -117,18 +117,18 @@ impl<'a> Iterator for Parts<'a> {
     }
 }
 
-/// What may come next.
+/// What may come next in a list.
 #[derive(Clone, Copy)]
 enum Place {
-    /// An item, behind this joint.
+    /// An item, after this operator.
     Item(Joint),
     /// The token of an inverted item.
     Token(Joint),
-    /// A joint, or the end.
+    /// An operator, or the end.
     Joint,
 }
 
-/// The place behind a `!`.
+/// Returns the place after a `!`.
 #[tactic(auto, unfolding(crate::specs::Logic::items_from))]
 fn inverted(place: Place) -> Result<Place, TableFault>
     ensures { Leads place Not result }
@@ -140,7 +140,7 @@ fn inverted(place: Place) -> Result<Place, TableFault>
     }
 }
 
-/// The place behind a joint.
+/// Returns the place after an operator.
 #[tactic(auto, unfolding(crate::specs::Logic::items_from))]
 fn joined(place: Place, joint: Joint) -> Result<Place, TableFault>
     ensures { Leads place (Join joint) result }
@@ -152,7 +152,7 @@ fn joined(place: Place, joint: Joint) -> Result<Place, TableFault>
     }
 }
 
-/// The item that a token completes.
+/// Returns the item that a token completes.
 #[tactic(auto, unfolding(crate::specs::Logic::items_from))]
 fn completed(place: Place, token: &[u8]) -> Result<Item<&[u8]>, TableFault>
     ensures { Completes (λ t. t.now) place token.now result }
@@ -172,7 +172,7 @@ fn completed(place: Place, token: &[u8]) -> Result<Item<&[u8]>, TableFault>
     }
 }
 
-/// The items of a list, whose tokens are texts.
+/// Reads the items of a list. Returns `BadLogic` if the text is no list.
 #[tactic(auto, unfolding(crate::specs::Logic::items_of))]
 pub(crate) fn items<'a>(alloc: Global, text: &'a [u8]) -> Result<Vec<Item<&'a [u8]>>, TableFault>
     ensures { GivesPart (λ items. map (item_view (λ t. t.now)) items.items) result (items_of text.now) }

@@ -9,20 +9,23 @@ use jiff::civil::DateTime;
 use jiff::tz::TimeZone;
 use thiserror::Error;
 
-/// Why there is no moment. No call of this crate answers `Memory`.
+/// Why there is no moment. No function here returns `Memory`.
 #[derive(Clone, Copy, Debug, PartialEq, Eq, Error)]
 pub enum MomentError {
+    /// The instant is outside the range of the calendar.
     #[error("the instant lies outside the years -9999 to 9999")]
     Range,
+    /// The time zone is no POSIX rule.
     #[error("the zone is no POSIX rule")]
     Rule,
     #[error("no memory")]
     Memory,
+    /// The text is no date and time, or names one that does not exist.
     #[error("no date and time")]
     Syntax,
 }
 
-/// The parts of a civil time, which may not exist.
+/// The fields of a civil time, not yet checked against the calendar.
 #[derive(Clone, Copy)]
 struct Parts {
     year: u16,
@@ -33,7 +36,7 @@ struct Parts {
     second: u8,
 }
 
-/// The number of two digits, as `jiff` takes it.
+/// Converts a number of two digits to the type `jiff` expects.
 fn signed(pair: u8) -> i8
     requires { pair < 100 }
     ensures { result ≡ pos pair }
@@ -41,7 +44,7 @@ fn signed(pair: u8) -> i8
     pair as i8
 }
 
-/// The number of the two digits at a place of the text.
+/// Parses two digits at an index.
 pub(crate) fn pair(text: &[u8], at: usize) -> Option<u8>
     requires { at + 1 < length text.now }
     ensures value { result ≡ pair_at text.now at }
@@ -99,7 +102,7 @@ fn written_parts(text: &[u8]) -> Option<Parts>
     })
 }
 
-/// The civil time of the parts, if they exist.
+/// Returns the civil time with these fields, if there is one.
 fn datetime(parts: Parts) -> Result<DateTime, MomentError>
     requires { IsShort parts }
     ensures accepts { IsOk result ↔ Exist (Some parts) }
@@ -118,8 +121,8 @@ fn datetime(parts: Parts) -> Result<DateTime, MomentError>
     }
 }
 
-/// The civil time that is written `YYYY-MM-DDTHH:MM`, or with `:SS`. `Syntax` for any other text,
-/// and for a date or a time that does not exist.
+/// Parses a civil time, written `YYYY-MM-DDTHH:MM` or `YYYY-MM-DDTHH:MM:SS`. Returns `Syntax` for any other text, and
+/// for a date or time that does not exist.
 pub fn civil(text: &[u8]) -> Result<DateTime, MomentError>
     ensures accepts { IsOk result ↔ Exist (parts_of text.now) }
     ensures value { IfOk result (HasParts (parts_of text.now)) }
@@ -131,9 +134,10 @@ pub fn civil(text: &[u8]) -> Result<DateTime, MomentError>
     }
 }
 
-/// What a clock under a POSIX zone rule shows at an instant, in seconds since 1970-01-01T00:00
-/// UTC. `Range` where the calendar has no such instant: it has those from -9999-01-02T01:59:59Z
-/// to 9999-12-30T22:00:00Z. Else `Rule` for a text that is no POSIX rule. This takes no memory.
+/// Converts an instant, in seconds since 1970-01-01T00:00 UTC, to the civil time in a POSIX time zone.
+///
+/// Returns `Range` if the instant is not from -9999-01-02T01:59:59Z to 9999-12-30T22:00:00Z; else `Rule` if the zone is
+/// no POSIX rule. Allocates nothing.
 pub fn moment(unix_seconds: i64, zone_rule: &str) -> Result<DateTime, MomentError>
     ensures range { result ≡ Err MomentError.Range ↔ ¬ (IsInstant unix_seconds) }
     ensures rule { result ≡ Err MomentError.Rule ↔ IsInstant unix_seconds × ¬ (IsSome (read_whole zone_rule.now)) }

@@ -1,4 +1,4 @@
-//! Names with a wildcard.
+//! Names with one wildcard.
 
 ghost use Rattle.std.specs.Prelude.{◌≡◌, ◌↔◌, ◌<◌, ◌==◌, length, position, nat_lt, count_by, IfSome, IsTrue};
 ghost use Rattle.pam_times.specs.Pattern.{is_star, has_two_stars, matches, is_framed, Means};
@@ -10,14 +10,14 @@ fn star_at(pattern: &[u8]) -> Option<usize>
     pattern.iter().position(|b| *b == b'*')
 }
 
-/// Whether more than one `*` stands in a name.
+/// Whether a name has more than one `*`.
 pub(crate) fn has_two_stars(pattern: &[u8]) -> bool
     ensures { result ≡ has_two_stars pattern.now }
 {
     pattern.iter().filter(|b| **b == b'*').count() > 1
 }
 
-/// Whether a text begins with the front and ends with the back, which do not overlap.
+/// Whether a text begins with `front` and ends with `back`, without overlap.
 fn is_framed(front: &[u8], back: &[u8], text: &[u8]) -> bool
     ensures { result ≡ is_framed front.now back.now text.now }
 {
@@ -28,7 +28,7 @@ fn is_framed(front: &[u8], back: &[u8], text: &[u8]) -> bool
     begin == front && rest.ends_with(back)
 }
 
-/// Whether a text matches a name byte for byte, where the first `*` stands for any bytes.
+/// Whether a text matches a name, in which the first `*` matches any bytes. Case matters.
 pub(crate) fn matches(pattern: &[u8], text: &[u8]) -> bool
     ensures value { result ≡ matches pattern.now text.now }
     ensures means { IsTrue result ↔ Means pattern.now text.now }

@@ -1,4 +1,4 @@
-//! The rules of a table's text.
+//! The text of a time table: its lines and their fields.
 
 ghost use Rattle.std.specs.Prelude.{◌≡◌, map, OnOk};
 ghost use Rattle.std.specs.Option.{option_map};
@@ -17,7 +17,7 @@ use pam_codes::{Text, is_blank_byte};
 use pam_tables::{TableFault, cut};
 use std::alloc::{AllocError, Global};
 
-/// The fields that have names.
+/// A field whose tokens are names.
 #[derive(Clone, Copy)]
 enum Field {
     Services,
@@ -25,7 +25,7 @@ enum Field {
     Users,
 }
 
-/// The fields of a line.
+/// The four fields of a line, not yet split into items.
 #[derive(Clone, Copy)]
 struct Fields<'a> {
     services: &'a [u8],
@@ -49,7 +49,7 @@ fn has_empty(fields: Fields<'_>) -> bool
         || is_blank_text(fields.times)
 }
 
-/// The four fields of a line, if each has more than blanks. The last is the rest of the line.
+/// Splits a line into its four fields. Returns `None` if one is missing or blank. The last is the rest of the line.
 fn split_fields(line: &[u8]) -> Option<Fields<'_>>
     ensures { option_map fields_view result ≡ fields_of line.now }
 {
@@ -79,7 +79,7 @@ fn is_netgroup(field: Field, name: &[u8]) -> bool
     }
 }
 
-/// A name, with memory of its own.
+/// Copies a name, if it is a valid token of the field.
 fn name(alloc: Global, field: Field, token: &[u8]) -> Result<Vec<u8>, TableFault>
     ensures { GivesPart (λ name. name.items) result (name_of field token.now) }
 {
@@ -101,7 +101,7 @@ fn entry(token: &[u8]) -> Result<Entry, TableFault>
     }
 }
 
-/// A list of names.
+/// Reads a list of names.
 #[tactic(auto, unfolding(crate::specs::Reading::names_of))]
 fn names(alloc: Global, field: Field, text: &[u8]) -> Result<Vec<Item<Vec<u8>>>, TableFault>
     ensures { GivesPart (λ names. map (item_view (λ t. t.items)) names.items) result (names_of field text.now) }
@@ -118,7 +118,7 @@ fn names(alloc: Global, field: Field, text: &[u8]) -> Result<Vec<Item<Vec<u8>>>,
     Ok(names)
 }
 
-/// A list of entries.
+/// Reads a list of entries.
 #[tactic(auto, unfolding(crate::specs::Reading::times_of))]
 fn times(alloc: Global, text: &[u8]) -> Result<Vec<Item<Entry>>, TableFault>
     ensures { GivesPart (λ times. map (item_view (λ e. e)) times.items) result (times_of text.now) }
@@ -135,7 +135,7 @@ fn times(alloc: Global, text: &[u8]) -> Result<Vec<Item<Entry>>, TableFault>
     Ok(times)
 }
 
-/// The rule of a line, if it has one.
+/// Reads the rule of a line. Returns `Ok(None)` for a blank line.
 #[tactic(auto, unfolding(crate::specs::Reading::rule_of))]
 pub(crate) fn rule(alloc: Global, line: u32, text: &[u8]) -> Result<Option<TimeRule>, TableFault>
     ensures { GivesPart (option_map rule_view) result (rule_of line text.now) }
@@ -160,8 +160,7 @@ pub(crate) fn rule(alloc: Global, line: u32, text: &[u8]) -> Result<Option<TimeR
     }))
 }
 
-/// Puts the bytes of the text's first line into `line`, in place of what it held. The text goes on
-/// behind it.
+/// Replaces the contents of `line` with the next line of the text, and advances the text past it.
 pub(crate) fn take_line(text: &mut Text, line: &mut Vec<u8>) -> Result<(), AllocError>
     ensures line { OnOk result (line.new.items ≡ first_line (text_left text.old)) }
     ensures rest { OnOk result (text_left text.new ≡ behind_line (text_left text.old)) }

@@ -1,4 +1,4 @@
-//! Tables of times.
+//! Time tables, as in time.conf(5): reading them and deciding logins.
 
 ghost use Rattle.std.specs.Prelude.{◌≡◌, ◌<◌, map, OnOk};
 ghost use Rattle.jiff.specs.Words.{epoch_day};
@@ -20,15 +20,15 @@ use pam_tables::{Login, Table, TableError, TableFault, check_bytes, drop_dev};
 use std::alloc::Global;
 use std::marker::Model;
 
-/// What a table says of a login.
+/// The answer for a login.
 #[derive(Clone, Copy, Debug, PartialEq, Eq)]
 pub enum TimeAnswer {
     Granted,
-    /// By the rule of this line.
+    /// Denied by the rule in this line.
     Denied(u32),
 }
 
-/// A rule: its lists, and the number of its line.
+/// A rule, with the number of its line.
 #[derive(Drop)]
 pub(crate) struct TimeRule {
     pub(crate) line: u32,
@@ -38,7 +38,7 @@ pub(crate) struct TimeRule {
     pub(crate) times: Vec<Item<Entry>>,
 }
 
-/// A table of pam_time: time.conf(5).
+/// A time table of pam_time(8), as in time.conf(5).
 #[derive(Drop)]
 pub struct TimeTable {
     rules: Vec<TimeRule>,
@@ -77,7 +77,7 @@ fn times_hold(items: &[Item<Entry>], day: u8, minute: u16) -> bool
     value
 }
 
-/// The weekday, from 0 for Monday.
+/// Returns the day of the week. Monday is 0.
 fn weekday(moment: &DateTime) -> u8
     ensures value { result ≡ weekday_of_day (epoch_day moment.now.date) }
     ensures bound { result < 7 }
@@ -114,10 +114,11 @@ fn first_answer(rules: &[TimeRule], login: &Login<'_>, day: u8, minute: u16) -> 
 }
 
 impl TimeTable {
-    /// The table of these bytes. Its first fault is an error: `TableTooLong` (more than 1,048,576
-    /// bytes, line 0), then `NulByte`, then those of the lines from the top. In a line
-    /// `MissingField` comes first, then the fields from the left; in a field `BadLogic`, and then
-    /// its tokens from the left.
+    /// Reads a table, or returns its first fault.
+    ///
+    /// A file that is too long comes first (`TableTooLong`, line 0), then a NUL byte (`NulByte`), then the faults of
+    /// the lines from the top. Within a line `MissingField` comes first, then the fields from the left. Within a field
+    /// `BadLogic` comes first, then its tokens from the left. A failed allocation is `Memory`, with line 0.
     pub fn read(alloc: Global, bytes: &[u8]) -> Result<TimeTable, TableError>
         ensures { Gives Table.Time (λ table. table) result (rules_of bytes.now) }
     {
@@ -136,8 +137,8 @@ impl TimeTable {
         Ok(table)
     }
 
-    /// Adds the rule of the text's first line, if it has one. The text goes on behind that line,
-    /// whose bytes then stand in `line`.
+    /// Adds the rule of the next line of the text, if it has one, and advances the text past it. `line` is a
+    /// buffer, and holds that line afterwards.
     fn add_line(
         &mut self,
         alloc: Global,
@@ -155,9 +156,10 @@ impl TimeTable {
         Ok(())
     }
 
-    /// Denied by the first rule whose services, terminals and users hold for the login and whose
-    /// times do not hold the moment. An absent terminal is the empty text, seconds do not count,
-    /// and nothing is allocated.
+    /// Returns the table's answer for a login at a moment. Ignores seconds, and allocates nothing.
+    ///
+    /// Denied by the first rule whose services, terminals and users match the login and whose times do not include the
+    /// moment. A missing terminal is matched as the empty text.
     #[tactic(auto, unfolding(crate::specs::Times::answer_of))]
     pub fn decide(&self, login: &Login<'_>, moment: &DateTime) -> TimeAnswer
         ensures { result ≡ answer_of self.now (login_view login.now) moment.now }

@@ -1,4 +1,4 @@
--- What `parse` reads from a text, and what `clap` takes as a limit.
+-- Texts that `parse` reads as a number, and those that `clap` accepts as a limit.
 use Rattle.std.proofs.Common.{◌≡◌, ℕ, ◌<◌, ◌≤◌, ◌^◌, Bool, true, false, Option, Some, None, refl, ap, arith}
 use Rattle.std.specs.Str.Parse.{IsNumeral, digits_value, without_leading_plus}
 use Rattle.clap.proofs.ValueTestLemmas.{accepts-Accepts, Accepts-accepts}

@@ -1,4 +1,4 @@
--- What `clap` answers, and what then is answered.
+-- Results of `clap`, and the refusals for them.
 use Rattle.std.proofs.Common.{◌≡◌, [], List, Option, Some, None, Result, Ok, Err, subst, sym, inl, inr, ◌∙◌}
 use Rattle.std.specs.Prelude.{MatchOption}
 use Rattle.clap.specs.Words.{Row, Text, HasKind, IsAmong, Kinds, kind_of}
@@ -67,7 +67,7 @@ answers-read asked (Err (usage.Help error)) h = absurd h
 answers-read asked (Err (usage.Words error)) h = absurd h
 answers-read asked (Err usage.NotUtf8) h = absurd h
 
--- where `clap` takes the words, it fails for want of memory alone
+-- if `clap` accepts the words, it fails only for an allocation
 pub refused-read : (error : Error) (u : Usage) → IsRefusalOf error u → kind_of error ≡ OutOfMemory → IsRead (Err u)
 refused-read error usage.Memory h m = tt
 refused-read error (usage.Help e) h m = let a = h.0 in let b = h.1 in cc

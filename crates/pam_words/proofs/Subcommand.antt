@@ -37,7 +37,7 @@ rows_in o = option_map {T = Text × List Row} {U = List Row} (λ p. p.1) o
 pub name-is : (m : ArgMatches) → subcommand_name_of m ≡ name_in (subcommand_rows_of m)
 name-is m = pairs-names _ _ (out-ArgMatches m).subcommand
 
--- a pair by its parts
+-- a pair from its parts
 pub both-are : (o : Option (Text × List Row)) (name : Text) (rows : List Row) → Some name ≡ name_in o → Some rows ≡ rows_in o → o ≡ Some (name, rows)
 both-are None name rows e h = cc
 both-are (Some p) name rows e h =

@@ -1,4 +1,4 @@
--- A command with one more argument or subcommand, by what `clap` says of the addition.
+-- A command with one more argument or subcommand, from the contract of `clap`.
 use Rattle.std.proofs.Common.{◌≡◌, ◌||◌, Bool, true, false, Result, Ok, Err, IfOk, ap₂, refl, ◌∙◌}
 use Rattle.clap.specs.Words.{AddsArg, AddsSubcommand, App, Rule, app_of, rule_of, with_rule, with_subcommand}
 use Rattle.clap.specs.declared.builder.Arg.{Arg}

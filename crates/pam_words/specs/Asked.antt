@@ -1,4 +1,4 @@
--- The command line: what the values that `clap` found for the words ask for.
+-- The command line: the request that the values found by `clap` spell.
 use Rattle.std.specs.Prelude.{Bool, ◌&&◌, ◌||◌, false, not, ℕ, ℤ, pos, nat_le, nat_lt, List, [], ◌∷◌, codes, length, position}
 use Rattle.std.specs.Prelude.{Option, Some, None, is_some, option_map, unwrap_or, Result, Ok, Err, if◌then◌else◌}
 use Rattle.std.specs.Char.{is_ascii_digit}
@@ -75,9 +75,9 @@ pub data Refusal : Type 0 where
   moment : Refusal
   both_ends : Refusal
 
--- ---- words
+-- ---- values
 
--- the text of an id; the empty one where there is none
+-- the text of an id, empty if it has none
 abbrev pub text_of : Text → List Row → Text
 text_of id rows = unwrap_or (first_of id rows) []
 
@@ -85,11 +85,11 @@ text_of id rows = unwrap_or (first_of id rows) []
 abbrev pub texts_of : Text → List Row → List Text
 texts_of id rows = unwrap_or (all_of id rows) []
 
--- the words give the id a value
+-- whether an id has a value
 abbrev pub has : Text → List Row → Bool
 has id rows = is_some (first_of id rows)
 
--- exactly one source
+-- the source: `--dir` or `--conf`, exactly one
 abbrev pub one_place : Option Text → Option Text → Option Place
 one_place (Some name) None = Some (dir name)
 one_place None (Some name) = Some (conf name)
@@ -110,7 +110,7 @@ both (Some code) (Some rest) = Some (code ∷ rest)
 both (Some code) None = None
 both None rest = None
 
--- the codes of the names in turn, where each is the name of one
+-- the codes with these names, in order. Each must be the name of one
 abbrev pub codes_named : List Text → Option (List ℕ)
 codes_named [] = Some []
 codes_named (name ∷ names) = both (code_named name) (codes_named names)
@@ -118,7 +118,7 @@ codes_named (name ∷ names) = both (code_named name) (codes_named names)
 abbrev pub codes_of_rows : List Row → Option (List ℕ)
 codes_of_rows rows = codes_named (texts_of (codes "code") rows)
 
--- the number of 1 to 12 decimal digits
+-- the number written by 1 to 12 decimal digits
 abbrev pub seconds_of : Text → Option ℤ
 seconds_of text =
     if nat_lt 0 (length text) && nat_le (length text) 12 && list_all is_ascii_digit text
@@ -139,19 +139,19 @@ abbrev pub when_of : List Row → Option When
 when_of rows =
     one_when (first_of (codes "at") rows) (first_of (codes "at-unix") rows) (first_of (codes "zone") rows)
 
--- how many paths a page may have where `--limit` is left out
+-- the limit if `--limit` is not given
 abbrev pub default_limit : ℕ
 default_limit = 1000
 
--- the number of a text that `clap` takes as a limit
+-- the number of a text that `clap` accepts as a limit
 abbrev pub limit_in : Text → Option ℕ
 limit_in text = if accepts false limit_parser text then Some (digits_value 10 (without_leading_plus text)) else None
 
--- no text but such a one is found for `--limit`
+-- the limit. `clap` finds no text for `--limit` but one that it accepts
 abbrev pub limit_of : List Row → ℕ
 limit_of rows = unwrap_or (option_and_then limit_in (first_of (codes "limit") rows)) default_limit
 
--- `--after` or `--before`, not both
+-- at most one of `--after` and `--before`
 abbrev pub one_part : Option Text → Option Text → Option Span
 one_part None None = Some whole
 one_part (Some cursor) None = Some (after cursor)
@@ -161,17 +161,17 @@ one_part (Some cursor) (Some other) = None
 abbrev pub part_of : List Row → Option Span
 part_of rows = one_part (first_of (codes "after") rows) (first_of (codes "before") rows)
 
--- a table that looks a login up, and no user who logs in
+-- an access or time table is given, and no user
 abbrev pub lacks_user : List Row → Bool
 lacks_user rows = (has (codes "access") rows || has (codes "time") rows) && not (has (codes "user") rows)
 
--- a time table, or a word of a moment
+-- a time table or an option of the moment is given
 abbrev pub needs_moment : List Row → Bool
 needs_moment rows = has (codes "time") rows || has (codes "at") rows || has (codes "at-unix") rows || has (codes "zone") rows
 
 -- ---- commands
 
--- the refusal where there is no value, else what the value gives
+-- a refusal if there is no value
 abbrev pub or_refuse : {A B : Type 0} → Option A → Refusal → (A → Result B Refusal) → Result B Refusal
 or_refuse None refusal next = Err refusal
 or_refuse (Some value) refusal next = next value
@@ -181,7 +181,7 @@ abbrev pub ◌>>=◌ : {A B : Type 0} → Result A Refusal → (A → Result B R
 (Ok value) >>= next = next value
 (Err refusal) >>= next = Err refusal
 
--- the source, and then KIND
+-- the source, then KIND
 abbrev pub stack_of : List Row → Result (Place × Kind) Refusal
 stack_of rows =
     or_refuse (place_of rows) source (λ place.
@@ -199,7 +199,7 @@ decide_wish rows =
     or_refuse (codes_of_rows rows) code_name (λ codes.
     Ok (decide stack.0 stack.1 codes))
 
--- a moment where it is needed, and none elsewhere
+-- the moment, if one is needed
 abbrev pub moment_if_needed : List Row → Result (Option When) Refusal
 moment_if_needed rows =
     if needs_moment rows then or_refuse (when_of rows) moment (λ when. Ok (Some when)) else Ok None
@@ -256,7 +256,7 @@ wish_of command rows =
     else if bytes_eq command (codes "access") then access_wish rows
     else time_wish rows
 
--- what a command asks for, or the first refusal
+-- THE REQUEST of a command, or its first refusal
 abbrev pub asked_of : Text → List Row → Result Asked Refusal
 asked_of command rows =
     wish_of command rows >>= λ wish. Ok (record { service = text_of (codes "service") rows; wish = wish })

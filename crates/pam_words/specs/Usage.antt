@@ -4,7 +4,7 @@ use Rattle.clap.specs.Words.{Text}
 use Rattle.pam_words.specs.declared.wanted.Usage.{Usage}
 use Rattle.pam_words.specs.declared.wanted.Usage.TheVariants.{Help, Words, NotUtf8, Source, KindName, CodeName, Login, Moment, BothEnds, Memory}
 
--- a refusal with a line of its own: the other two have the text of `clap`
+-- a refusal with a line of its own. The other two have the text of `clap`
 abbrev pub IsNumbered : Usage → Type 0
 IsNumbered (Help error) = ⊥
 IsNumbered (Words error) = ⊥

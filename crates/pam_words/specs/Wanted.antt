@@ -1,4 +1,4 @@
--- The command line: what a request shows, and what an answer may be.
+-- The command line: results of the library's functions, against the request that the words spell.
 use Rattle.std.specs.Prelude.{◌≡◌, ◌≢◌, ⊤, Result, Ok, Err, [], map, option_map}
 use Rattle.std.specs.Option.{option_copied}
 use Rattle.clap.specs.Words.{IsAmong, Kinds, kind_of}
@@ -18,7 +18,7 @@ use Rattle.pam_words.specs.declared.wanted.Request.{Request}
 use Rattle.pam_words.specs.declared.wanted.Usage.{Usage}
 use Rattle.pam_words.specs.declared.wanted.Usage.TheVariants as usage
 
--- ---- what a request shows
+-- ---- a request as its texts
 
 abbrev pub shown_place : Source → Place
 shown_place (Dir name) = asked.dir name.now
@@ -68,9 +68,9 @@ shown_wish (Paths source kind limit part user rhost tty access time groups retur
 abbrev pub shown : Request → Asked
 shown request = record { service = request.service.now; wish = shown_wish request.task }
 
--- ---- the answer, where `clap` takes the words
+-- ---- results, if `clap` accepts the words
 
--- the result is the value, or its refusal, or memory ran out
+-- the result is the value or its refusal, unless an allocation failed
 abbrev pub Gives : {A B : Type 0} → (A → B) → Result B Refusal → Result A Usage → Type 0
 Gives view value (Ok x) = value ≡ Ok (view x)
 Gives view value (Err usage.Source) = value ≡ Err asked.source
@@ -90,38 +90,37 @@ AsksFor = Gives shown_wish
 abbrev pub Answers : Result Asked Refusal → Result Request Usage → Type 0
 Answers = Gives shown
 
--- ---- the answer, where `clap` may refuse the words
+-- ---- results, if `clap` may refuse the words
 
--- memory ran out, or `clap` refused the words
+-- an allocation failed, or `clap` refused the words
 abbrev pub IsRefusal : Result Request Usage → Type 0
 IsRefusal (Err usage.Memory) = ⊤
 IsRefusal (Err (usage.Help error)) = ⊤
 IsRefusal (Err (usage.Words error)) = ⊤
 IsRefusal _ = ⊥
 
--- the words were read: they are no wrong words, nor a request for help
+-- `clap` accepted the words
 abbrev pub IsRead : Result Request Usage → Type 0
 IsRead (Err (usage.Help error)) = ⊥
 IsRead (Err (usage.Words error)) = ⊥
 IsRead (Err usage.NotUtf8) = ⊥
 IsRead _ = ⊤
 
--- the answer is what is asked for, unless `clap` refused the words
+-- the result is the request or its refusal, unless `clap` refused the words
 abbrev pub Reads : Result Asked Refusal → Result Request Usage → Type 0
 Reads asked (Err (usage.Help error)) = ⊤
 Reads asked (Err (usage.Words error)) = ⊤
 Reads asked (Err other) = Answers asked (Err other)
 Reads asked (Ok request) = Answers asked (Ok request)
 
--- the refusal that stands for an error of `clap`
+-- the refusal for an error of `clap`
 abbrev pub IsRefusalOf : Error → Usage → Type 0
 IsRefusalOf error usage.Memory = kind_of error ≡ OutOfMemory
 IsRefusalOf error (usage.Help e) = (kind_of e ≡ kind_of error) × (kind_of e ≡ DisplayHelp)
 IsRefusalOf error (usage.Words e) = (kind_of e ≡ kind_of error) × (kind_of e ≢ DisplayHelp) × (kind_of e ≢ OutOfMemory)
 IsRefusalOf error _ = ⊥
 
--- `clap` refuses the words where it has a kind of error for them, and only there: with help where
--- that is the kind, and else as wrong words
+-- `clap` refuses the words if and only if they have a kind of error: with help if that is the kind, else as wrong words
 abbrev pub RefusesBy : Kinds → Result Request Usage → Type 0
 RefusesBy kinds (Err usage.Memory) = ⊤
 RefusesBy kinds (Err (usage.Help error)) = IsAmong DisplayHelp kinds × (kind_of error ≡ DisplayHelp)

@@ -1,11 +1,11 @@
--- The command line: which words each command takes.
+-- The command line: the words that each command accepts.
 use Rattle.std.specs.Prelude.{ℕ, Some, codes, true}
 use Rattle.clap.specs.Words.{App, Rule, Text, new_app, new_rule, with_rule, with_subcommand}
 use Rattle.clap.specs.declared.builder.ArgAction.TheVariants.{Append}
 use Rattle.clap.specs.declared.builder.value_parser.ValueParser.{ValueParser}
 use Rattle.clap.specs.declared.builder.value_parser.ValueParser.TheVariants.{Unsigned}
 
--- a word that must be there
+-- a required word
 abbrev pub required_rule : Text → Rule
 required_rule id = record (new_rule id) { value_names = 1; required = true }
 
@@ -13,7 +13,7 @@ required_rule id = record (new_rule id) { value_names = 1; required = true }
 abbrev pub option_rule : Text → Rule
 option_rule id = record (new_rule id) { long = Some id; value_names = 1 }
 
--- `--ID VALUE` that must be there
+-- `--ID VALUE`, required
 abbrev pub required_option_rule : Text → Rule
 required_option_rule id = record (option_rule id) { required = true }
 
@@ -21,7 +21,7 @@ required_option_rule id = record (option_rule id) { required = true }
 abbrev pub repeated_rule : Text → Rule
 repeated_rule id = record (new_rule id) { value_names = 1; action = Some Append }
 
--- how many paths a page may have
+-- the range of `--limit`
 abbrev pub least_limit : ℕ
 least_limit = 1
 
@@ -35,7 +35,7 @@ limit_parser = Unsigned least_limit most_limit
 abbrev pub limit_rule : Rule
 limit_rule = record (option_rule (codes "limit")) { parser = Some limit_parser }
 
--- NAME SERVICE KIND, with `--dir` and `--conf`
+-- `NAME SERVICE KIND`, with `--dir` and `--conf`
 abbrev pub stack_app : Text → App
 stack_app name =
     with_rule (with_rule (with_rule (with_rule (new_app name)
@@ -50,13 +50,13 @@ show_app = stack_app (codes "show")
 unfoldable pub decide_app : App
 decide_app = with_rule (stack_app (codes "decide")) (repeated_rule (codes "code"))
 
--- which page of a listing
+-- the options that choose a page of a listing
 abbrev pub with_page : App → App
 with_page app =
     with_rule (with_rule (with_rule app
     limit_rule) (option_rule (codes "after"))) (option_rule (codes "before"))
 
--- who logs in, and from where
+-- the options of a login: the user, the remote host and the terminal
 abbrev pub with_login : App → App
 with_login app =
     with_rule (with_rule (with_rule app
@@ -77,7 +77,7 @@ with_moment app =
 unfoldable pub paths_app : App
 paths_app = with_moment (with_tables (with_login (with_page (stack_app (codes "paths")))))
 
--- NAME SERVICE for a login, by the table of `--NAME`
+-- `NAME SERVICE`, with the table given by `--NAME`, a user and a terminal
 abbrev pub login_app : Text → App
 login_app name =
     with_rule (with_rule (with_rule (with_rule (new_app name)
@@ -95,11 +95,17 @@ access_app =
 unfoldable pub time_app : App
 time_app = with_moment (login_app (codes "time"))
 
--- no words but those of a command
+-- the program, which requires a command
 unfoldable pub bare_app : App
 bare_app = let app = new_app (codes "pamcheck") in record app { top = record app.top { subcommand_required = true } }
 
+-- the commands that read a stack
+abbrev pub with_stacks : App → App
+with_stacks app =
+    with_subcommand (with_subcommand (with_subcommand app
+    show_app.top) decide_app.top) paths_app.top
+
 unfoldable pub pamcheck_app : App
 pamcheck_app =
-    with_subcommand (with_subcommand (with_subcommand (with_subcommand (with_subcommand bare_app
-    show_app.top) decide_app.top) paths_app.top) access_app.top) time_app.top
+    with_subcommand (with_subcommand (with_stacks bare_app)
+    access_app.top) time_app.top

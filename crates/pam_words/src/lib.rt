@@ -1,4 +1,5 @@
-//! The words of the command line: what they ask for, and why they are refused.
+//! The command line of `pamcheck`: its commands and options, as a `clap` command, and the requests read from them.
+//! Wrong words are refused with a `Usage`, which has a line and an exit status.
 #![tactic(auto)]
 
 mod limit;

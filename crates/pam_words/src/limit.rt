@@ -1,4 +1,4 @@
-//! How many paths a page may have.
+//! The greatest number of paths in a page, set by `--limit`.
 
 ghost use Rattle.std.specs.Prelude.{◌≡◌};
 ghost use Rattle.pam_words.specs.Asked.{limit_in as limit_in_text};
@@ -6,23 +6,23 @@ ghost use Rattle.pam_words.specs.Words.{limit_parser as parser_of_limits};
 
 use clap::builder::ValueParser;
 
-/// The fewest paths of a page.
+/// The least value of `--limit`.
 const LEAST_LIMIT: u32 = 1;
 
-/// The most paths of a page.
+/// The greatest value of `--limit`.
 const MOST_LIMIT: u32 = 1_000_000;
 
-/// The paths of a page where the words name no number.
+/// The limit if `--limit` is not given.
 pub(crate) const DEFAULT_LIMIT: u32 = 1000;
 
-/// What `clap` takes as a limit.
+/// Returns the parser with which `clap` checks a limit.
 pub(crate) fn limit_parser<'a>() -> ValueParser<'a>
     ensures { result ≡ parser_of_limits }
 {
     ValueParser::unsigned(LEAST_LIMIT as u64, MOST_LIMIT as u64)
 }
 
-/// The number of a text that `clap` takes as a limit; none for any other text.
+/// Parses a limit. Returns `None` for any text that `clap` does not accept as one.
 pub(crate) fn limit_in(text: &str) -> Option<u32>
     ensures { result ≡ limit_in_text text.now }
 {

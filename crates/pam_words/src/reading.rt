@@ -1,11 +1,11 @@
-//! What the words ask for.
+//! Reads a request from the words of the command line.
 
 ghost use Rattle.std.specs.Prelude.{◌≡◌, true, map, IfOk, MatchOption, option_map, codes};
 ghost use Rattle.std.specs.Char.{is_ascii_digit};
 ghost use Rattle.std.specs.List.{list_all};
 ghost use Rattle.std.specs.Option.{option_copied};
 ghost use Rattle.clap.specs.Words.{found_of, rows_of, first_of, all_of, takes, fault_of, subcommand_of};
-ghost use Rattle.pam_words.specs.Asked.{access_wish, asked_of, code_named as code_of_name, codes_named as codes_of_names, codes_of_rows, decide_wish, instant_of, kind_of_rows, place_of, seconds_of, show_wish, stack_of, text_of, texts_of, time_wish, when_of};
+ghost use Rattle.pam_words.specs.Asked.{access_wish, asked_of, code_named as code_of_name, codes_named as codes_of_names, codes_of_rows, decide_wish, instant_of, kind_of_rows, place_of, seconds_of, show_wish, stack_of, text_of, texts_of, time_wish, when_of, wish_of};
 ghost use Rattle.pam_words.specs.Wanted.{Answers, AsksFor, Gives, IsRead, IsRefusal, IsRefusalOf, Reads, RefusesBy, shown_place, shown_when};
 ghost use Rattle.pam_words.specs.Words.{pamcheck_app};
 
@@ -20,28 +20,28 @@ use pam_conf::Kind;
 use std::alloc::{AllocError, Global};
 use std::convert::AsStr;
 
-/// The value of an id.
+/// Returns the value of an id, the first if there are several.
 fn value<'a>(matches: &ArgMatches<'a>, id: &str) -> Option<&'a str>
     ensures { option_copied result ≡ first_of id.now (rows_of (found_of matches.now)) }
 {
     matches.get_str(id)
 }
 
-/// The value of an id, or the empty text.
+/// Returns the value of an id, or the empty text.
 fn text<'a>(matches: &ArgMatches<'a>, id: &str) -> &'a str
     ensures { result.now ≡ text_of id.now (rows_of (found_of matches.now)) }
 {
     value(matches, id).unwrap_or("")
 }
 
-/// All values of an id, in order.
+/// Returns all values of an id, in order.
 fn values<'m, 'a>(matches: &'m ArgMatches<'a>, id: &str) -> Option<&'m [&'a str]>
     ensures { option_map (λ s. map (λ v. v.now) s.now) result ≡ all_of id.now (rows_of (found_of matches.now)) }
 {
     matches.get_strs(id)
 }
 
-/// The one source that is given.
+/// Returns the source, if exactly one is given.
 fn source<'a>(matches: &ArgMatches<'a>) -> Option<Source<'a>>
     ensures { option_map shown_place result ≡ place_of (rows_of (found_of matches.now)) }
 {
@@ -66,7 +66,7 @@ fn code_named(name: &str) -> Option<Code>
     Code::from_name(name.as_bytes())
 }
 
-/// The codes of the names in turn; none where one is no code's name.
+/// Returns the codes with these names, in order. Returns `Ok(None)` if one is no code's name.
 fn codes_named(alloc: Global, names: &[&str]) -> Result<Option<Vec<Code>>, AllocError>
     ensures { IfOk result (λ r. option_map (λ v. v.items) r ≡ codes_of_names (map (λ s. s.now) names.now)) }
 {
@@ -89,7 +89,7 @@ fn codes(alloc: Global, matches: &ArgMatches<'_>) -> Result<Option<Vec<Code>>, A
     }
 }
 
-/// The number of 1 to 12 decimal digits.
+/// Parses 1 to 12 decimal digits.
 fn seconds(text: &str) -> Option<i64>
     ensures { result ≡ seconds_of text.now }
 {
@@ -117,7 +117,7 @@ fn instant<'a>(digits: &str, zone: Option<&'a str>) -> Option<Moment<'a>>
     })
 }
 
-/// The one moment that is given.
+/// Returns the moment, if exactly one is given.
 fn moment<'a>(matches: &ArgMatches<'a>) -> Option<Moment<'a>>
     ensures { option_map shown_when result ≡ when_of (rows_of (found_of matches.now)) }
 {
@@ -133,7 +133,7 @@ fn moment<'a>(matches: &ArgMatches<'a>) -> Option<Moment<'a>>
     }
 }
 
-/// The bytes of each text.
+/// Copies the bytes of each text.
 fn copies(alloc: Global, texts: &[&str]) -> Result<Vec<Vec<u8>>, AllocError>
     ensures { IfOk result (λ v. map (λ t. t.items) v.items ≡ map (λ s. s.now) texts.now) }
 {
@@ -153,7 +153,7 @@ fn arguments(alloc: Global, matches: &ArgMatches<'_>) -> Result<Vec<Vec<u8>>, Al
     }
 }
 
-/// The source and the kind.
+/// Reads the source and the kind.
 fn stack<'a>(matches: &ArgMatches<'a>) -> Result<(Source<'a>, Kind), Usage>
     ensures { Gives (λ p. (shown_place p.0, p.1)) (stack_of (rows_of (found_of matches.now))) result }
 {
@@ -218,28 +218,34 @@ fn time<'a>(matches: &ArgMatches<'a>) -> Result<Task<'a>, Usage>
     })
 }
 
-/// What a command asks for, by the values that `clap` found for its words.
+fn task<'a>(alloc: Global, command: &str, matches: &ArgMatches<'a>) -> Result<Task<'a>, Usage>
+    ensures { AsksFor (wish_of command.now (rows_of (found_of matches.now))) result }
+{
+    if command == "show" {
+        show(matches)
+    } else if command == "decide" {
+        decide(alloc, matches)
+    } else if command == "paths" {
+        paths::paths(matches)
+    } else if command == "access" {
+        access(alloc, matches)
+    } else {
+        time(matches)
+    }
+}
+
+/// Reads the request of a command from its values.
 fn read<'a>(alloc: Global, command: &str, matches: &ArgMatches<'a>) -> Result<Request<'a>, Usage>
     ensures { Answers (asked_of command.now (rows_of (found_of matches.now))) result }
 {
-    let task = if command == "show" {
-        show(matches)?
-    } else if command == "decide" {
-        decide(alloc, matches)?
-    } else if command == "paths" {
-        paths::paths(matches)?
-    } else if command == "access" {
-        access(alloc, matches)?
-    } else {
-        time(matches)?
-    };
+    let task = task(alloc, command, matches)?;
     Ok(Request {
         service: text(matches, "service"),
         task,
     })
 }
 
-/// The refusal of words that `clap` does not take.
+/// Converts an error of `clap`.
 fn refused(error: Error) -> Usage
     ensures { IsRefusalOf error result }
 {
@@ -250,7 +256,7 @@ fn refused(error: Error) -> Usage
     }
 }
 
-/// What the words ask for; the first word is the program's name.
+/// Reads the words of the command line, the first of which is the name of the program. Borrows them.
 pub fn request<'a, S: AsStr>(alloc: Global, words: &'a [S]) -> Result<Request<'a>, Usage>
     ensures reads { MatchOption (subcommand_of pamcheck_app (map S.text words.entry.now)) (IsRefusal result) (λ p. Reads (asked_of p.0 p.1) result) }
     ensures taken { takes pamcheck_app (map S.text words.entry.now) ≡ true → IsRead result }

@@ -1,4 +1,4 @@
-//! What a refusal of the words prints and answers.
+//! The line and the exit status of a refusal.
 
 ghost use Rattle.std.specs.Prelude.{◌≡◌, IfOk, string_bytes};
 ghost use Rattle.pam_words.specs.Usage.{IsNumbered, line_of, name_of, status_of};
@@ -6,13 +6,13 @@ ghost use Rattle.pam_words.specs.Usage.{IsNumbered, line_of, name_of, status_of}
 use crate::wanted::Usage;
 use std::alloc::{AllocError, Global};
 
-/// The status of wrong words.
+/// The exit status for wrong words.
 const WRONG_WORDS: u8 = 2;
 
-/// The status of want of memory.
+/// The exit status for a failed allocation.
 const NO_MEMORY: u8 = 6;
 
-/// The number and the name.
+/// Returns the number and name of a refusal.
 fn name(usage: &Usage) -> &'static str
     requires { IsNumbered usage.now }
     ensures { result.now ≡ name_of usage.now }
@@ -31,8 +31,7 @@ fn name(usage: &Usage) -> &'static str
     }
 }
 
-/// The line of a refusal, with its line feed. `Help` and `Words` have the text of `clap` in its
-/// place.
+/// Returns the line of a refusal, with its line feed. `Help` and `Words` print the text of `clap` instead.
 pub fn usage_text(alloc: Global, usage: &Usage) -> Result<String, AllocError>
     requires { IsNumbered usage.now }
     ensures { IfOk result (λ text. string_bytes text ≡ line_of usage.now) }
@@ -43,7 +42,7 @@ pub fn usage_text(alloc: Global, usage: &Usage) -> Result<String, AllocError>
     Ok(line)
 }
 
-/// The exit status.
+/// Returns the exit status of a refusal: 0 for help, 2 for wrong words, 6 for a failed allocation.
 pub fn usage_status(usage: &Usage) -> u8
     ensures { result ≡ status_of usage.now }
 {

@@ -1,39 +1,39 @@
-//! The types of what the words ask for.
+//! The types of requests and refusals.
 
 use pam_codes::Code;
 use pam_conf::Kind;
 use thiserror::Error;
 
-/// Where the configuration lies.
+/// The place of the configuration.
 #[derive(Clone, Copy, Debug)]
 pub enum Source<'a> {
-    /// A folder with a file for each service.
+    /// A folder with a file for each service, as `/etc/pam.d`.
     Dir(&'a str),
-    /// One file for all services.
+    /// One file for all services, as `/etc/pam.conf`.
     Conf(&'a str),
 }
 
-/// When a login takes place.
+/// The moment of a login.
 #[derive(Clone, Copy, Debug)]
 pub enum Moment<'a> {
-    /// A civil date and time, as it was written.
+    /// A civil date and time, as given.
     Civil(&'a str),
-    /// Seconds since 1970, and the rule of a zone as it was written.
+    /// Seconds since 1970-01-01T00:00 UTC, and a POSIX time zone, as given.
     Instant { seconds: i64, zone: &'a str },
 }
 
 /// The part of a listing that a page is taken from.
 #[derive(Clone, Copy, Debug)]
 pub enum Part<'a> {
-    /// All paths, the least cursor first.
+    /// All paths, in ascending order of cursors.
     Whole,
-    /// The paths after a cursor, in the same order.
+    /// The paths after this cursor, in ascending order.
     After(&'a str),
-    /// The paths before a cursor, the last one first.
+    /// The paths before this cursor, in descending order.
     Before(&'a str),
 }
 
-/// What is to be done for a service. A user, a remote host or a terminal that is not given is empty.
+/// A command for a service. A user, remote host or terminal that is not given is empty.
 #[derive(Debug, Drop)]
 pub enum Task<'a> {
     /// Lists the stack.
@@ -41,13 +41,13 @@ pub enum Task<'a> {
         source: Source<'a>,
         kind: Kind,
     },
-    /// Runs the stack, one code for each of its modules in turn.
+    /// Runs the stack with one code for each of its modules, in order.
     Decide {
         source: Source<'a>,
         kind: Kind,
         codes: Vec<Code>,
     },
-    /// Looks a login up in an access table. The arguments are those of pam_access(8).
+    /// Looks up a login in an access table. The arguments are those of pam_access(8).
     Access {
         table: &'a str,
         groups: Option<&'a str>,
@@ -56,14 +56,14 @@ pub enum Task<'a> {
         tty: &'a str,
         arguments: Vec<Vec<u8>>,
     },
-    /// Looks a login up in a time table.
+    /// Looks up a login in a time table.
     Time {
         table: &'a str,
         user: &'a str,
         tty: &'a str,
         moment: Moment<'a>,
     },
-    /// Lists the paths through the stack, one page of them.
+    /// Lists one page of the paths through the stack.
     Paths {
         source: Source<'a>,
         kind: Kind,
@@ -80,23 +80,23 @@ pub enum Task<'a> {
     },
 }
 
-/// What the words ask for. The service is as it was written.
+/// A command with its service. The service is as given, not lowercased.
 #[derive(Debug, Drop)]
 pub struct Request<'a> {
     pub service: &'a str,
     pub task: Task<'a>,
 }
 
-/// Why the words give no request. The first that applies is answered, in this order.
+/// Why the words are refused. If several reasons apply, the first in this order is returned.
 #[derive(Debug, Drop, Error)]
 pub enum Usage {
-    /// Help was asked for; the text of `clap` goes to standard output.
+    /// Help was requested. The text of the `clap` error goes to standard output.
     #[error(transparent)]
     Help(clap::Error),
-    /// U1: `clap` takes no such words.
+    /// U1: `clap` refuses the words.
     #[error(transparent)]
     Words(clap::Error),
-    /// U1 too: a word is not UTF-8. Whoever gathers the words finds it; `request` never answers it.
+    /// U1 too: a word is not UTF-8. `request` never returns it; its caller does, while collecting the words.
     #[error("a word is not UTF-8")]
     NotUtf8,
     /// U2: not exactly one source is given.
@@ -111,14 +111,14 @@ pub enum Usage {
     /// U5: an access or time table is given without a user.
     #[error("a table without a user")]
     Login,
-    /// U6: not exactly one form of the moment is given, `--zone` is given without `--at-unix`, or
-    /// the seconds are not 1 to 12 digits. Paths need a moment only for a time table.
+    /// U6: not exactly one form of the moment is given, `--zone` is given without `--at-unix`, or the seconds are not
+    /// 1 to 12 digits. `paths` needs a moment only for a time table.
     #[error("not exactly one moment")]
     Moment,
-    /// U8: `--after` and `--before` are both given.
+    /// U8: both `--after` and `--before` are given.
     #[error("more than one of --after and --before")]
     BothEnds,
-    /// U7: allocation failed.
+    /// U7: an allocation failed.
     #[error("out of memory")]
     Memory,
 }

@@ -1,9 +1,9 @@
-//! The command that `clap` reads the words by.
+//! The `clap` command of `pamcheck`.
 
 ghost use Rattle.std.specs.Prelude.{◌≡◌, IfOk, false};
 ghost use Rattle.clap.specs.Words.{app_of, new_app, rule_of};
 ghost use Rattle.clap.specs.declared.builder.Command.TheViews.{out-Command as fields_of};
-ghost use Rattle.pam_words.specs.Words.{access_app, bare_app, decide_app, limit_rule, login_app, option_rule, pamcheck_app, paths_app, repeated_rule, required_option_rule, required_rule, show_app, stack_app, time_app, with_login as with_login_rules, with_moment as with_moment_rules, with_page as with_page_rules, with_tables as with_table_rules};
+ghost use Rattle.pam_words.specs.Words.{access_app, bare_app, decide_app, limit_rule, login_app, option_rule, pamcheck_app, paths_app, repeated_rule, required_option_rule, required_rule, show_app, stack_app, time_app, with_login as with_login_rules, with_moment as with_moment_rules, with_page as with_page_rules, with_stacks as with_stack_commands, with_tables as with_table_rules};
 
 use crate::limit::limit_parser;
 use clap::{Arg, ArgAction, Command};
@@ -16,7 +16,7 @@ fn named<'a>(alloc: Global, name: &'a str, about: &'a str) -> Command<'a>
     Command::new(alloc, name).about(about)
 }
 
-/// A word that must be there.
+/// A required word.
 fn positional<'a>(alloc: Global, id: &'a str, name: &'a str, help: &'a str) -> Arg<'a>
     ensures rule { rule_of result ≡ required_rule id.entry.now }
     ensures local { result.global ≡ false }
@@ -27,7 +27,7 @@ fn positional<'a>(alloc: Global, id: &'a str, name: &'a str, help: &'a str) -> A
         .required(true)
 }
 
-/// `--ID NAME`.
+/// An option `--ID NAME`.
 fn option<'a>(alloc: Global, id: &'a str, name: &'a str, help: &'a str) -> Arg<'a>
     ensures rule { rule_of result ≡ option_rule id.entry.now }
     ensures local { result.global ≡ false }
@@ -35,7 +35,7 @@ fn option<'a>(alloc: Global, id: &'a str, name: &'a str, help: &'a str) -> Arg<'
     Arg::new(alloc, id).long(id).value_name(name).help(help)
 }
 
-/// `--ID NAME` that must be there.
+/// A required option `--ID NAME`.
 fn required_option<'a>(alloc: Global, id: &'a str, name: &'a str, help: &'a str) -> Arg<'a>
     ensures rule { rule_of result ≡ required_option_rule id.entry.now }
     ensures local { result.global ≡ false }
@@ -54,7 +54,7 @@ fn repeated<'a>(alloc: Global, id: &'a str, name: &'a str, help: &'a str) -> Arg
         .action(ArgAction::Append)
 }
 
-/// `--limit N`.
+/// The option `--limit N`.
 fn limit<'a>(alloc: Global) -> Arg<'a>
     ensures rule { rule_of result ≡ limit_rule }
     ensures local { result.global ≡ false }
@@ -63,12 +63,12 @@ fn limit<'a>(alloc: Global) -> Arg<'a>
         alloc,
         "limit",
         "N",
-        "How many paths to list, 1 to 1000000; 1000 if left out",
+        "The most paths to list, 1 to 1000000; 1000 if left out",
     )
     .value_parser(limit_parser())
 }
 
-/// SERVICE, KIND and the source.
+/// A command with SERVICE, KIND and a source.
 fn stack_command<'a>(
     alloc: Global,
     name: &'a str,
@@ -110,23 +110,28 @@ fn decide_command<'a>(alloc: Global) -> Result<Command<'a>, AllocError>
     ))
 }
 
-/// The page of a listing.
+/// Adds the options that choose a page of a listing.
 fn with_page<'a>(alloc: Global, command: Command<'a>) -> Result<Command<'a>, AllocError>
     ensures app { IfOk result (λ c. app_of c ≡ with_page_rules (app_of command.entry)) }
     ensures local { IfOk result (λ c. (fields_of c).has_globals ≡ (fields_of command.entry).has_globals) }
 {
     command
         .arg(limit(alloc))?
-        .arg(option(alloc, "after", "CURSOR", "Lists the paths after this one"))?
+        .arg(option(
+            alloc,
+            "after",
+            "CURSOR",
+            "Lists the paths after this cursor",
+        ))?
         .arg(option(
             alloc,
             "before",
             "CURSOR",
-            "Lists the paths before this one, the last first",
+            "Lists the paths before this cursor, the last first",
         ))
 }
 
-/// Who logs in, and from where.
+/// Adds the options of a login: the user, the remote host and the terminal.
 fn with_login<'a>(alloc: Global, command: Command<'a>) -> Result<Command<'a>, AllocError>
     ensures app { IfOk result (λ c. app_of c ≡ with_login_rules (app_of command.entry)) }
     ensures local { IfOk result (λ c. (fields_of c).has_globals ≡ (fields_of command.entry).has_globals) }
@@ -137,7 +142,7 @@ fn with_login<'a>(alloc: Global, command: Command<'a>) -> Result<Command<'a>, Al
         .arg(option(alloc, "tty", "TTY", "The terminal"))
 }
 
-/// The tables that say what modules return.
+/// Adds the options that name tables and a returns file.
 fn with_tables<'a>(alloc: Global, command: Command<'a>) -> Result<Command<'a>, AllocError>
     ensures app { IfOk result (λ c. app_of c ≡ with_table_rules (app_of command.entry)) }
     ensures local { IfOk result (λ c. (fields_of c).has_globals ≡ (fields_of command.entry).has_globals) }
@@ -164,7 +169,7 @@ fn with_tables<'a>(alloc: Global, command: Command<'a>) -> Result<Command<'a>, A
         ))
 }
 
-/// The moment of a login.
+/// Adds the options that give the moment of a login.
 fn with_moment<'a>(alloc: Global, command: Command<'a>) -> Result<Command<'a>, AllocError>
     ensures app { IfOk result (λ c. app_of c ≡ with_moment_rules (app_of command.entry)) }
     ensures local { IfOk result (λ c. (fields_of c).has_globals ≡ (fields_of command.entry).has_globals) }
@@ -197,7 +202,7 @@ fn paths_command<'a>(alloc: Global) -> Result<Command<'a>, AllocError>
     with_moment(alloc, command)
 }
 
-/// SERVICE, a user at a terminal, and the table of `--NAME`.
+/// A command with SERVICE, a user, a terminal and the table, given by `--NAME`.
 fn login_command<'a>(
     alloc: Global,
     name: &'a str,
@@ -237,7 +242,7 @@ fn time_command<'a>(alloc: Global) -> Result<Command<'a>, AllocError>
     with_moment(alloc, command)
 }
 
-/// The program, which wants a command.
+/// The program, without its commands. One of them is required.
 #[tactic(auto, unfolding(crate::specs::Words::bare_app))]
 fn bare_command<'a>(alloc: Global) -> Command<'a>
     ensures app { app_of result ≡ bare_app }
@@ -246,15 +251,25 @@ fn bare_command<'a>(alloc: Global) -> Command<'a>
     named(alloc, "pamcheck", "Explains what a PAM stack can decide").subcommand_required(true)
 }
 
-/// The whole command: `clap` takes no other words.
+/// Adds the commands that read a stack.
+fn with_stacks<'a>(alloc: Global, command: Command<'a>) -> Result<Command<'a>, AllocError>
+    requires { (fields_of command).has_globals ≡ false }
+    ensures app { IfOk result (λ c. app_of c ≡ with_stack_commands (app_of command.entry)) }
+    ensures local { IfOk result (λ c. (fields_of c).has_globals ≡ false) }
+{
+    command
+        .subcommand(show_command(alloc)?)?
+        .subcommand(decide_command(alloc)?)?
+        .subcommand(paths_command(alloc)?)
+}
+
+/// Returns the whole command line, as a `clap` command.
 #[tactic(auto, unfolding(crate::specs::Words::pamcheck_app))]
 pub fn pamcheck_command<'a>(alloc: Global) -> Result<Command<'a>, AllocError>
     ensures app { IfOk result (λ c. app_of c ≡ pamcheck_app) }
     ensures local { IfOk result (λ c. (fields_of c).has_globals ≡ false) }
 {
-    let command = bare_command(alloc).subcommand(show_command(alloc)?)?;
-    let command = command.subcommand(decide_command(alloc)?)?;
-    let command = command.subcommand(paths_command(alloc)?)?;
-    let command = command.subcommand(access_command(alloc)?)?;
-    command.subcommand(time_command(alloc)?)
+    with_stacks(alloc, bare_command(alloc))?
+        .subcommand(access_command(alloc)?)?
+        .subcommand(time_command(alloc)?)
 }

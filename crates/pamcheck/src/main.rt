@@ -9,13 +9,13 @@ use std::io::{BufWriter, ErrorKind, Write};
 use std::process::ExitCode;
 use std::{env, io};
 
-/// The words of the command line. One that is not UTF-8 is an error.
+/// Returns the words of the command line. It is an error if one is not UTF-8.
 fn words(rt: &HostRuntime) -> io::Result<Vec<String>> {
     let words: Vec<String> = env::args(rt)?.collect(rt.alloc())?;
     Ok(words)
 }
 
-/// Why there are no words.
+/// Returns the refusal if the words cannot be read.
 fn usage_of(error: &io::Error) -> Usage {
     if error.kind() == ErrorKind::OutOfMemory {
         Usage::Memory
@@ -24,7 +24,7 @@ fn usage_of(error: &io::Error) -> Usage {
     }
 }
 
-/// Runs the words with a buffer for standard output.
+/// Runs the program with a buffer for standard output, and returns the exit status.
 fn status<V: Write>(rt: &HostRuntime, alloc: Global, words: &[String], err: &mut Out<V>) -> u8 {
     match BufWriter::new(alloc, io::writer(rt)) {
         Ok(writer) => run(rt, alloc, words, &mut Out::new(writer), err),

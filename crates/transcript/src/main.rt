@@ -1,6 +1,6 @@
-//! Runs each line of standard input as words of pamcheck, and writes what a terminal would show: the words, the answer,
-//! after `!` what is said on standard error, and the exit status. Words are separated by one blank, so that two in a row
-//! hold an empty word; an empty line has no words.
+//! Runs each line of standard input as words of pamcheck, and writes what a terminal shows: the words, the answer,
+//! the text on standard error after `!`, and the exit status. Words are separated by one space each, so two spaces in
+//! a row enclose an empty word. An empty line has no words.
 #![tactic(auto)]
 
 use pam_codes::Out;
@@ -8,7 +8,7 @@ use pam_report::run;
 use std::alloc::{AllocError, Global};
 use std::io::{self, BufRead, BufReader, BufWriter, Write};
 
-/// The program's name, and the words of a line.
+/// Returns the program's name and the words of a line.
 fn words_of(alloc: Global, line: &str) -> Result<Vec<String>, AllocError> {
     let mut words = Vec::new(alloc);
     words.push(String::from_str(alloc, "pamcheck")?)?;
@@ -21,7 +21,7 @@ fn words_of(alloc: Global, line: &str) -> Result<Vec<String>, AllocError> {
     Ok(words)
 }
 
-/// Runs a line, and writes it with all that it answers.
+/// Runs a line, and writes it with its results.
 fn show<W: Write>(rt: &HostRuntime, alloc: Global, line: &str, screen: &mut W) -> io::Result<()> {
     let words = words_of(alloc, line)?;
     let mut written = Vec::new(alloc);

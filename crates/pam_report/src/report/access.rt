@@ -1,4 +1,4 @@
-//! What `access` prints: the line of an access table that decides.
+//! The `access` command: the line of an access table that decides.
 
 ghost use Rattle.std.specs.Prelude.{◌≡◌, ◌-◌, ◌<◌, ◌^◌, IfOk, map};
 ghost use Rattle.std.specs.Char.{to_ascii_lowercase};
@@ -18,7 +18,7 @@ use pam_tables::{AccessAnswer, AccessOptions, AccessTable, Groups, Login, Table,
 use std::alloc::{AllocError, Global};
 use std::io::Write;
 
-/// The service in lower case.
+/// Lowercases the service.
 pub(super) fn lowered(alloc: Global, service: &str) -> Result<Vec<u8>, AllocError>
     ensures { IfOk result (λ v. v.items ≡ map to_ascii_lowercase service.now) }
 {
@@ -66,7 +66,7 @@ fn status_of(answer: AccessAnswer) -> Status
     }
 }
 
-/// The groups of a file, if one is given.
+/// Reads the groups, if a file is given.
 fn groups(alloc: Global, bytes: &Option<Vec<u8>>) -> Result<Groups, TableError>
     ensures { Gives Table.Group (λ groups. groups) result (groups_given bytes.now) }
 {
@@ -76,7 +76,7 @@ fn groups(alloc: Global, bytes: &Option<Vec<u8>>) -> Result<Groups, TableError>
     }
 }
 
-/// What the table says of a login.
+/// Looks up a login in the access table.
 fn look_up(
     alloc: Global,
     login: &Login<'_>,
@@ -125,7 +125,7 @@ fn answer_login<W: Write>(
     }
 }
 
-/// Who logs in, as the words say it.
+/// The login, as given on the command line.
 #[derive(Clone, Copy)]
 pub(super) struct Person<'a> {
     pub user: &'a str,

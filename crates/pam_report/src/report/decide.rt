@@ -1,4 +1,4 @@
-//! What `decide` prints: the modules that are asked, and the decision.
+//! The `decide` command: the modules that a run asks, and the decision.
 
 ghost use Rattle.std.specs.Prelude.{◌≡◌, ◌-◌, ◌<◌, ◌^◌, ◌++◌, length};
 ghost use Rattle.pam_codes.specs.Out.{Writes};
@@ -42,7 +42,7 @@ fn put_action<W: Write>(action: Action, out: &mut Out<W>) -> Result<(), Device>
     out.put_line(&[action.piece()])
 }
 
-/// The name of a code.
+/// Returns the name of a code.
 #[tactic(auto, unfolding(crate::specs::Header::code_name))]
 fn name_of(code: Code) -> &'static [u8]
     ensures { result.now ≡ code_name code }
@@ -50,7 +50,7 @@ fn name_of(code: Code) -> &'static [u8]
     code.name().as_bytes()
 }
 
-/// Writes a code between blanks.
+/// Writes a code with a space before and after it.
 #[tactic(auto, unfolding(crate::specs::Decide::code_text))]
 fn put_code<W: Write>(code: Code, out: &mut Out<W>) -> Result<(), Device>
     requires { out.old.failures < 2 ^ 64 - 1 }
@@ -63,7 +63,7 @@ fn put_code<W: Write>(code: Code, out: &mut Out<W>) -> Result<(), Device>
     ])
 }
 
-/// Writes ` IMPRESSION STATUS`, to the end of the line.
+/// Writes ` IMPRESSION STATUS` and a line feed.
 #[tactic(auto, unfolding(crate::specs::Decide::state_text))]
 fn put_state<W: Write>(state: State, out: &mut Out<W>) -> Result<(), Device>
     requires { out.old.failures < 2 ^ 64 - 1 }
@@ -78,7 +78,7 @@ fn put_state<W: Write>(state: State, out: &mut Out<W>) -> Result<(), Device>
     ])
 }
 
-/// Writes ` CODE ACTION IMPRESSION STATUS`, the state being that after the action.
+/// Writes ` CODE ACTION IMPRESSION STATUS`, with the state after the action.
 fn put_outcome<W: Write>(
     code: Code,
     action: Action,
@@ -93,7 +93,7 @@ fn put_outcome<W: Write>(
     put_state(state, out)
 }
 
-/// The path of a module, by its number.
+/// Returns the path of a module, by number.
 #[tactic(auto, unfolding(crate::specs::Decide::path_at))]
 fn path_at(stack: &Stack, number: usize) -> &[u8]
     ensures { result.now ≡ path_at number stack.now }
@@ -129,7 +129,7 @@ fn put_asked<W: Write>(
     put_outcome(code, action, state, out)
 }
 
-/// Writes the line of each module that is asked, step by step.
+/// Runs the stack, and writes the line of each module that is asked.
 fn put_trace<W: Write>(
     stack: &Stack,
     program: &Program,
@@ -165,7 +165,7 @@ fn put_decision<W: Write>(decision: Decision, out: &mut Out<W>) -> Result<(), De
     ])
 }
 
-/// Writes the answer, where the program and the decision are those of the stack.
+/// Writes the answer, from the program and the decision of the stack.
 fn write_run<W: Write>(
     service: &str,
     kind: Kind,
@@ -187,7 +187,7 @@ fn write_run<W: Write>(
     out.finish()
 }
 
-/// Answers `decide`, of a stack.
+/// Answers `decide` for a resolved stack.
 fn decide_stack<W: Write>(
     alloc: Global,
     service: &str,

@@ -30,7 +30,7 @@ fn put_lowercase<W: Write>(text: &[u8], out: &mut Out<W>) -> Result<(), Device>
     Ok(())
 }
 
-/// Writes `SERVICE KIND N modules`, the service in lower case.
+/// Writes `SERVICE KIND N modules`, with the service in lowercase.
 #[tactic(auto, unfolding(crate::specs::Header::header_text))]
 pub(super) fn put_header<W: Write>(
     service: &str,

@@ -1,4 +1,4 @@
-//! What `paths` prints: a page of the paths through a stack.
+//! The `paths` command: a page of the paths through a stack.
 
 ghost use Rattle.std.specs.Prelude.{◌≡◌, ◌-◌, ◌<◌, ◌^◌, ◌++◌, IfOk, MatchResult, Err, Ok, codes, max};
 ghost use Rattle.jiff.specs.Types.{DateTime as CivilTime};
@@ -38,7 +38,7 @@ use pam_words::Part;
 use std::alloc::Global;
 use std::io::Write;
 
-/// The page that is asked for.
+/// A page that is requested.
 #[derive(Clone, Copy)]
 pub(super) struct PageRequest<'a> {
     pub service: &'a str,
@@ -47,7 +47,7 @@ pub(super) struct PageRequest<'a> {
     pub part: Part<'a>,
 }
 
-/// The paths after a cursor.
+/// Returns the paths after a cursor.
 fn paths_after<'a>(
     program: &'a Program,
     known: &'a Known,
@@ -68,7 +68,7 @@ fn paths_after<'a>(
     }
 }
 
-/// The paths before a cursor, the last one first.
+/// Returns the paths before a cursor, the last one first.
 fn paths_before<'a>(
     program: &'a Program,
     known: &'a Known,
@@ -89,7 +89,7 @@ fn paths_before<'a>(
     }
 }
 
-/// The part of the listing that a page is taken from.
+/// Returns the part of the listing that a page is taken from.
 fn listing_of<'a>(
     program: &'a Program,
     known: &'a Known,
@@ -122,7 +122,7 @@ fn write_page<W: Write>(
     out.finish()
 }
 
-/// Answers `paths` where this is known of the answers of the modules of a stack, which may be known in another way too.
+/// Answers `paths` for a resolved stack, with the codes that its modules may return.
 fn answer_known<W: Write>(
     alloc: Global,
     request: &PageRequest<'_>,
@@ -152,7 +152,7 @@ fn answer_known<W: Write>(
     }
 }
 
-/// Answers `paths` of a stack, at a moment.
+/// Answers `paths` for a resolved stack, at a moment.
 fn answer_at<W: Write>(
     alloc: Global,
     request: &PageRequest<'_>,
@@ -172,7 +172,7 @@ fn answer_at<W: Write>(
     }
 }
 
-/// Answers `paths` of a stack.
+/// Answers `paths` for a resolved stack.
 fn answer_stack<W: Write>(
     alloc: Global,
     request: &PageRequest<'_>,

@@ -1,4 +1,4 @@
-//! What `show` prints: the stack, rule by rule.
+//! The `show` command: the stack, rule by rule.
 
 ghost use Rattle.std.specs.Prelude.{◌≡◌, ◌-◌, ◌<◌, ◌≤◌, ◌^◌, ◌+◌, ◌++◌, codes, map};
 ghost use Rattle.pam_codes.specs.Out.{Writes};
@@ -20,7 +20,7 @@ use pam_conf::{Files, Item, Kind, Module, Stack, Sub, resolve};
 use std::alloc::Global;
 use std::io::Write;
 
-/// The name of the file at a position.
+/// Returns the name of the file at a position.
 #[tactic(auto, unfolding(crate::specs::Header::name_at))]
 fn name_at(files: &Files, position: usize) -> &[u8]
     ensures { result.now ≡ name_at files.now position }
@@ -31,7 +31,7 @@ fn name_at(files: &Files, position: usize) -> &[u8]
     }
 }
 
-/// Writes two spaces for each level.
+/// Writes two spaces per level.
 fn put_indent<W: Write>(level: usize, out: &mut Out<W>) -> Result<(), Device>
     requires { out.old.failures < 2 ^ 64 - 1 }
     ensures { Writes W.contents out.old out.new result (indent level) }
@@ -60,7 +60,7 @@ fn put_place<W: Write>(
     ])
 }
 
-/// Writes a word behind a space.
+/// Writes a word, with a space before it.
 fn put_one_word<W: Write>(word: &[u8], out: &mut Out<W>) -> Result<(), Device>
     requires { out.old.failures < 2 ^ 64 - 1 }
     ensures { Writes W.contents out.old out.new result (codes " " ++ word_text word.now) }
@@ -69,7 +69,7 @@ fn put_one_word<W: Write>(word: &[u8], out: &mut Out<W>) -> Result<(), Device>
     put_word(word, out)
 }
 
-/// Writes each word behind a space.
+/// Writes words, with a space before each.
 fn put_words<W: Write>(words: &[Vec<u8>], out: &mut Out<W>) -> Result<(), Device>
     requires { out.old.failures < 2 ^ 64 - 1 }
     ensures { Writes W.contents out.old out.new result (words_text (map (λ w. w.items) words.now)) }
@@ -80,7 +80,7 @@ fn put_words<W: Write>(words: &[Vec<u8>], out: &mut Out<W>) -> Result<(), Device
     Ok(())
 }
 
-/// Writes what stands before the control of a module.
+/// Writes the start of a module's line, up to its control.
 #[tactic(auto, unfolding(crate::specs::Show::module_front))]
 fn put_front<W: Write>(
     files: &Files,
@@ -141,7 +141,7 @@ fn put_sub<W: Write>(files: &Files, level: usize, sub: &Sub, out: &mut Out<W>) -
     ])
 }
 
-/// Writes the items of a list at a level, those of a substack one level deeper.
+/// Writes the items of a list at a level. Those of a substack are one level deeper.
 fn put_items<W: Write>(
     files: &Files,
     level: usize,

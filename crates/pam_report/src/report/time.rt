@@ -1,4 +1,4 @@
-//! What `time` prints: the line of a time table that denies.
+//! The `time` command: the line of a time table that denies.
 
 ghost use Rattle.std.specs.Prelude.{◌≡◌, ◌-◌, ◌<◌, ◌^◌, Ok, Result, []};
 ghost use Rattle.jiff.specs.Types.{DateTime as CivilTime};
@@ -43,7 +43,7 @@ fn status_of(answer: TimeAnswer) -> Status
     }
 }
 
-/// The civil time that the words give.
+/// Returns the civil time of a moment.
 pub(super) fn moment_of(wanted: Moment<'_>) -> Result<DateTime, MomentError>
     ensures { IsMoment wanted.entry result }
 {
@@ -53,7 +53,7 @@ pub(super) fn moment_of(wanted: Moment<'_>) -> Result<DateTime, MomentError>
     }
 }
 
-/// That of a moment which may be given.
+/// Like `moment_of`, for a moment that may be missing.
 pub(super) fn given_moment(moment: Option<Moment<'_>>) -> Option<Result<DateTime, MomentError>>
     ensures { IsGivenMoment moment.entry result }
 {
@@ -63,7 +63,7 @@ pub(super) fn given_moment(moment: Option<Moment<'_>>) -> Option<Result<DateTime
     }
 }
 
-/// What the table says of a login at a moment.
+/// Looks up a login at a moment in the time table.
 fn look_up(
     alloc: Global,
     login: &Login<'_>,

@@ -1,4 +1,4 @@
-//! Words, as they are written.
+//! Words, written so that pam.conf(5) reads them back.
 
 ghost use Rattle.std.specs.Prelude.{◌≡◌, ◌-◌, ◌<◌, ◌^◌};
 ghost use Rattle.std.specs.List.{list_any};
@@ -25,7 +25,7 @@ fn has_blank(text: &[u8]) -> bool
     text.iter().any(|byte| is_blank_byte(*byte))
 }
 
-/// Writes the text with a backslash before each closing bracket.
+/// Writes a text, with `\]` for each `]`.
 fn put_escaped<W: Write>(text: &[u8], out: &mut Out<W>) -> Result<(), Device>
     requires { out.old.failures < 2 ^ 64 - 1 }
     ensures { Writes W.contents out.old out.new result (escaped text.now) }
@@ -40,7 +40,7 @@ fn put_escaped<W: Write>(text: &[u8], out: &mut Out<W>) -> Result<(), Device>
     Ok(())
 }
 
-/// Writes a text as a word: as it stands where a plain word can have it, else in brackets.
+/// Writes a text as a word, in brackets unless it is plain.
 pub(super) fn put_word<W: Write>(text: &[u8], out: &mut Out<W>) -> Result<(), Device>
     requires { out.old.failures < 2 ^ 64 - 1 }
     ensures { Writes W.contents out.old out.new result (word_text text.now) }

@@ -1,4 +1,4 @@
-//! What the words of `paths` ask for.
+//! Reads a `paths` request from its words.
 
 ghost use Rattle.std.specs.Prelude.{◌≡◌, codes, option_map};
 ghost use Rattle.clap.specs.Words.{found_of, rows_of};
@@ -26,7 +26,7 @@ fn limit(matches: &ArgMatches<'_>) -> u32
     limit_in(number).unwrap_or(DEFAULT_LIMIT)
 }
 
-/// The part that is given; none where both ends are.
+/// Returns the part of the listing, or `None` if both `--after` and `--before` are given.
 fn part<'a>(matches: &ArgMatches<'a>) -> Option<Part<'a>>
     ensures { option_map shown_part result ≡ part_of (rows_of (found_of matches.now)) }
 {
@@ -38,21 +38,21 @@ fn part<'a>(matches: &ArgMatches<'a>) -> Option<Part<'a>>
     }
 }
 
-/// Whether a table that looks a login up is given without a user.
+/// Whether an access or time table is given without a user.
 fn lacks_user(matches: &ArgMatches<'_>) -> bool
     ensures { result ≡ lacks_user_in (rows_of (found_of matches.now)) }
 {
     (has(matches, "access") || has(matches, "time")) && !has(matches, "user")
 }
 
-/// Whether a time table or a word of a moment is given.
+/// Whether a time table or an option of the moment is given.
 fn needs_moment(matches: &ArgMatches<'_>) -> bool
     ensures { result ≡ needs_moment_in (rows_of (found_of matches.now)) }
 {
     has(matches, "time") || has(matches, "at") || has(matches, "at-unix") || has(matches, "zone")
 }
 
-/// The one moment that is given, where one is needed.
+/// Returns the moment, if one is needed.
 fn moment_if_needed<'a>(matches: &ArgMatches<'a>) -> Result<Option<Moment<'a>>, Usage>
     ensures { Gives (λ m. option_map shown_when m) (moment_if_needed_in (rows_of (found_of matches.now))) result }
 {

@@ -1,9 +1,7 @@
-use Rattle.std.proofs.Common.{◌≡◌, ◌∙◌, ap, List, ℕ, Some, codes, map, refl}
-use Rattle.std.specs.List.{flat_map}
+use Rattle.std.proofs.Common.{◌∙◌, ap, refl}
 use Rattle.pam_codes.proofs.Writing.{all-then, err-front, front-is, front-longer, front-then, writes-is, writes-then}
 use Rattle.pam_page.proofs.LineParts.{code_name-is, path_line-is}
-use Rattle.pam_page.specs.Page.{code_name, step_text}
-use Rattle.pam_paths.specs.Steps.{step_seen}
+use Rattle.pam_page.specs.Page.{code_name}
 use Rattle.pam_page.proofs.line.put_path.Goals as goal
 
 pub returns-in_err-write_text : goal.returns-in_err-write_text

@@ -1,4 +1,4 @@
--- the lines so far are written, and the paths after them are still to come
+-- the lines so far are written, and the later paths remain
 use Rattle.std.proofs.Common.{◌≡◌, ◌≤◌, take, drop, length}
 use Rattle.std.specs.List.{flat_map}
 use Rattle.pam_codes.specs.Out.{TookAll}

@@ -1,4 +1,4 @@
--- the codes so far, and then those of the names that are left
+-- the codes so far, then those of the remaining names
 use Rattle.std.proofs.Common.{◌≡◌, map, drop, ◌++◌, option_map}
 use Rattle.pam_words.specs.Asked.{codes_named}
 use Rattle.pam_words.proofs.reading.codes_named.Given as goal

@@ -13,7 +13,7 @@ own = numerals_by_value _ (search rules)
 small : (n : ℕ) → n < 10 ^ 12 → n < 2 ^ 63
 small n h = omega arith
 
--- digits that are few enough are always read
+-- up to 12 digits are always read
 reads : {E : Type 0} (text : List ℕ) (r : Result ℤ E) → ParsesSigned w64 10 text r → list_all is_ascii_digit text ≡ true → 0 < length text → length text ≤ 12
     → r ≡ Ok (pos (digits_value 10 text))
 reads {E} text (Ok n) h digits some few = ap {A = ℤ} {B = Result ℤ E} (λ z. Ok z) (parse_signed_digits own {E = E} w64 text (Ok n) h digits).1

@@ -10,4 +10,5 @@ loop-step-preserved c =
     let step = c.step-item.result in
     let before = kept l.texts in
     c.with-longer.ensures ∙ ap (λ (fits : Bool). cond fits (before ++ step_seen step ∷ []) before) c.if-not-fits.false
-    ∙ added_more c.args.steps.now c.shared-shared.result l.step-index step before c.shared-shared.ensures.within c.loop-step-test.true c.step-item.is l.invariant
+    ∙ added_more c.args.steps.now c.shared-shared.result l.step-index step before
+    c.shared-shared.ensures.within c.loop-step-test.true c.step-item.is l.invariant

@@ -13,7 +13,8 @@ returns g c =
     let path = c.args.path.now in
     let texts = c.args.self.now in
     let count = ap length c.steps.ensures in
-    let long : length path.steps ≤ length texts.marks.items = omega (arith, c.if-len-steps.false, c.len.ensures, count, length-map c.steps.result.now step_seen) in
+    let long : length path.steps ≤ length texts.marks.items =
+    omega (arith, c.if-len-steps.false, c.len.ensures, count, length-map c.steps.result.now step_seen) in
     let name = c.as_bytes.ensures.value ∙ code_name-is _ _ c.name.ensures ∙ ap code_name c.decision.ensures in
     writes-is _ _ _ _ _ _ c.put_line.ensures
     (kept_line path texts.marks.items texts.cursor.bytes.items texts.steps.bytes.items _ _ _ texts.texts c.requires.kept long

@@ -10,6 +10,7 @@ loop-mark-preserved c =
     record {
       index = omega (arith, l.invariant.index);
       within = omega (arith, within);
-      same = same_more c.as_slice-marks.result.now steps l.count l.mark-index c.mark-item.result c.index-steps-count.result l.invariant.index c.loop-mark-test.true within
+      same = same_more c.as_slice-marks.result.now steps l.count l.mark-index c.mark-item.result c.index-steps-count.result
+          l.invariant.index c.loop-mark-test.true within
           c.mark-item.is c.index-steps-count.is (c.is_of.ensures c.if-not-is_of.false) l.invariant.same;
     }

@@ -15,5 +15,6 @@ invariant_of-result c =
     record {
       texts = subst (λ (ms : List Mark). AreTexts ms cursor steps) (sym pushed)
           (texts_push marks self.cursor.bytes.items self.steps.bytes.items mark cursor steps self.texts
-          (c.with_code-cursor.ensures.ok c.if-code_fits.true) (c.with_step-steps.ensures.ok c.if-step_fits.true) c.len-then-len-capacity.ensures c.len-then-len-capacity-2.ensures);
+          (c.with_code-cursor.ensures.ok c.if-code_fits.true) (c.with_step-steps.ensures.ok c.if-step_fits.true)
+          c.len-then-len-capacity.ensures c.len-then-len-capacity-2.ensures);
     }

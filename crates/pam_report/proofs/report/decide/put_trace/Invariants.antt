@@ -1,4 +1,4 @@
--- the place is one of the program, and what is written with what is still asked is the whole text
+-- the place is one of the program, and the text so far with that of the rest of the run is the whole text
 use Rattle.std.proofs.Common.{◌≡◌, ℕ, List, ◌++◌, length}
 use Rattle.pam_codes.specs.Out.{TookAll}
 use Rattle.pam_dispatch.specs.Flat.{IsPlaceOf, modules_of, rest_of, runs_of}

@@ -6,7 +6,7 @@ use Rattle.pam_conf.specs.declared.rule.Kind.{Kind}
 use Rattle.pam_report.specs.Header.{header_text, kind_name}
 use Rattle.pam_report.proofs.report.header.put_header.Goals as goal
 
--- what stands behind the service
+-- the text after the service
 abbrev behind : List ℕ → ℕ → List ℕ
 behind name modules = codes " " ++ (name ++ (codes " " ++ (decimal modules ++ (codes " modules\n" ++ []))))
 
