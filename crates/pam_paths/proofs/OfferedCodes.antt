@@ -97,7 +97,7 @@ module _ (ask : Ask) where
     any-more : (d : ℕ) → list_any (is_shared ask d) (take (i + 1) parts) ≡ (before d || is_shared ask d part)
     any-more d = list_any_more (is_shared ask d) parts i part l ∙ ap (λ (p : Part). before d || is_shared ask d p) (sym at)
 
-    -- the codes of the classes worked out, with the class of one more part
+    -- the codes of the classes computed, with the class of one more part
     pub seen-more : (class new : List ℕ) (c : ℕ) → shared_code part ask.state ≡ Some c → class ≡ class_at ask (outcome_of ask c) →
         new ≡ codes_where (λ d. is_in d seen || is_in d class) → new ≡ codes_where (λ d. list_any (is_shared ask d) (take (i + 1) parts))
     seen-more class new c e is h = h ∙ codes_where-same (λ d. is_in d seen || is_in d class) (λ d. list_any (is_shared ask d) (take (i + 1) parts)) (λ d low.
@@ -280,7 +280,7 @@ module _ (ask : Ask) where
           | inr f ↦ cond-false _ _ _ f ∙ sym (offered-alone allowed d low f)
         ])
 
-    -- a code in none of the classes worked out is alone in its class
+    -- a code in none of the classes computed is alone in its class
     pub class-alone : (seen : List ℕ) (i : ℕ) → length parts ≤ i → seen ≡ codes_where (λ d. list_any (is_shared ask d) (take i parts)) →
         (d : ℕ) → d < 31 → is_in d seen ≡ false → class_of ask d ≡ d ∷ []
     unfolding class_at

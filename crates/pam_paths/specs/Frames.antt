@@ -55,7 +55,7 @@ part direction allows (asks ask next) (code ∷ codes) =
 abbrev pub offered_at : Allowance → Runs → List ℕ
 offered_at allows runs = codes_where (is_offered allows (next_ask runs))
 
--- the classes worked out for a module that is asked: any other code is alone in its class, and the class worked out
+-- the classes computed for a module that is asked: any other code is alone in its class, and the class computed
 -- last is the class of each of its codes
 pub record AreClasses (ask : Ask) (classes : Classes) : Type 0 where
   pub alone : (code : ℕ) → code < 31 → is_in code classes.shared ≡ false → class_of ask code ≡ code ∷ []

@@ -16,14 +16,14 @@ ghost use Rattle.pam_paths.specs.Sharing.{is_offered_by, keeps_failure, shared_c
 use pam_codes::{Action, Code, CodeSet, Part};
 use pam_dispatch::{Impression, Outcome, Place, Program, State};
 
-/// The classes worked out for a module that is asked.
+/// The classes computed for a module that is asked.
 #[derive(Clone, Copy, Debug)]
 pub(crate) struct Classes {
     /// The least codes of the classes that have an allowed code.
     pub(crate) offered: CodeSet,
-    /// The codes of the classes worked out; any other code is alone in its class.
+    /// The codes of the classes computed; any other code is alone in its class.
     pub(crate) shared: CodeSet,
-    /// The class worked out last.
+    /// The class computed last.
     pub(crate) known: CodeSet,
 }
 
@@ -153,7 +153,7 @@ fn with_least(codes: CodeSet, class: CodeSet) -> CodeSet
     }
 }
 
-/// The shared code of `part`, unless it is in `seen`, the classes worked out so far.
+/// The shared code of `part`, unless it is in `seen`, the classes computed so far.
 fn unseen_code(part: &Part, state: State, seen: CodeSet) -> Option<Code>
     ensures some { IfSome result (λ code. shared_code part.now state ≡ Some code) }
     ensures none { IfNone result (IfSome (shared_code part.now state) (λ code. IsTrue (is_in code seen))) }
