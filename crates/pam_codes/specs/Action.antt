@@ -1,4 +1,4 @@
--- What a control does with an answer (pam.conf(5), the actions between brackets).
+-- The actions of a control (pam.conf(5), the actions between brackets).
 use Rattle.std.specs.Prelude.{ℕ, ◌+◌, ◌-◌, ◌*◌, ◌<◌, ◌≤◌, Bool, true, false, not, List, length, fold, codes, decimal, ◌==◌, ◌&&◌, nat_lt, if◌then◌else◌, Result, Ok, Err}
 use Rattle.std.specs.List.{list_all}
 use Rattle.std.specs.Char.{is_ascii_digit}
@@ -8,7 +8,7 @@ use Rattle.pam_codes.specs.declared.error.ControlError.{ControlError}
 use Rattle.pam_codes.specs.declared.error.ControlError.TheVariants.{BadAction, ZeroJump}
 use Rattle.pam_codes.specs.Code.{same_name}
 
--- an action of a control: a jump passes over 1 to 999,999,999 items
+-- an action of a control: a jump skips 1 to 999,999,999 items
 abbrev pub IsAction : Action → Type 0
 IsAction (Jump items) = (0 < items) × (items ≤ 999999999)
 IsAction _ = Unit {0}
@@ -25,7 +25,7 @@ same_action _ _ = false
 
 -- READING
 
--- the number that decimal digits spell
+-- the value of decimal digits
 abbrev pub decimal_value : List ℕ → ℕ
 decimal_value digits = fold (λ n d. 10 * n + (d - 48)) 0 digits
 
@@ -33,7 +33,7 @@ decimal_value digits = fold (λ n d. 10 * n + (d - 48)) 0 digits
 abbrev pub is_jump_text : List ℕ → Bool
 is_jump_text word = nat_lt 0 (length word) && nat_lt (length word) 10 && list_all is_ascii_digit word
 
--- the action that a word names, or its fault
+-- the action of a word, or its fault
 unfoldable pub action_named : List ℕ → Result Action ControlError
 action_named word =
     if same_name (codes "ignore") word then Ok Ignore
@@ -48,7 +48,7 @@ action_named word =
 
 -- WRITING
 
--- the word of an action; of a jump the number, without leading zeros
+-- the word of an action; the number of a jump, without leading zeros
 abbrev pub action_text : Action → List ℕ
 action_text Ignore = codes "ignore"
 action_text Accept = codes "ok"

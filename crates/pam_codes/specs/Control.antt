@@ -53,7 +53,7 @@ actions_of ps = map (action_of ps) all_codes
 
 -- KEYWORDS
 
--- each keyword, and the pairs that it stands for
+-- each keyword, and its equivalent pairs
 unfoldable pub keywords : List (List ℕ × Pairs)
 keywords =
     (codes "required", (Named 0, Accept) ∷ (Named 12, Accept) ∷ (Named 25, Ignore) ∷ (Default, Bad) ∷ [])
@@ -62,11 +62,11 @@ keywords =
     ∷ (codes "optional", (Named 0, Accept) ∷ (Named 12, Accept) ∷ (Default, Ignore) ∷ [])
     ∷ []
 
--- an action for success and a new token, ignore for ignore, and an action for all others
+-- `granted` for success and new_authtok_reqd, ignore for ignore, and `other` for the other codes
 abbrev pub granting_pairs : Action → Action → Pairs
 granting_pairs granted other = (Named 0, granted) ∷ (Named 12, granted) ∷ (Named 25, Ignore) ∷ (Default, other) ∷ []
 
--- the pairs that a word stands for, if it is a keyword
+-- the pairs of a word, if it is a keyword
 unfoldable pub keyword_pairs : List ℕ → Option Pairs
 keyword_pairs word = option_map (λ k. k.1) (find (λ k. same_name k.0 word) keywords)
 
@@ -75,7 +75,7 @@ keyword_actions word = option_map_or (λ ps. Ok (actions_of ps)) (keyword_pairs 
 
 -- BRACKETS
 
--- how many bytes stand before the first `]` that has no backslash directly before it; escaped: a backslash stands directly before the bytes
+-- the index of the first `]` with no backslash directly before it; `escaped`: a backslash is directly before the bytes
 unfoldable pub closing_at : Bool → List ℕ → Option ℕ
 closing_at escaped [] = None
 closing_at escaped (b ∷ bs) = if b == 93 && not escaped then Some 0 else option_map (λ n. n + 1) (closing_at (b == 92) bs)
@@ -84,11 +84,11 @@ closing_at escaped (b ∷ bs) = if b == 93 && not escaped then Some 0 else optio
 abbrev pub equals_sign : List ℕ → Result (Unit {0}) ControlError
 equals_sign token = if bytes_eq token (codes "=") then Ok tt else Err BadControl
 
--- one more pair in front
+-- the pairs with one more at the start
 abbrev pub with_front : Subject × Action → Result Pairs ControlError → Result Pairs ControlError
 with_front p read = read >>= λ ps. Ok (p ∷ ps)
 
--- the pairs that tokens make, taken three at a time
+-- the pairs of tokens, three tokens each
 unfoldable pub pairs_of : List (List ℕ) → Result Pairs ControlError
 pairs_of [] = Ok []
 pairs_of (a ∷ []) = do
@@ -104,21 +104,21 @@ pairs_of (a ∷ b ∷ c ∷ rest) = do
   action ← action_named c
   with_front (subject, action) (pairs_of rest)
 
--- the actions that the tokens between brackets give
+-- the actions of the tokens between brackets
 abbrev pub token_actions : List (List ℕ) → Result (List Action) ControlError
 token_actions tokens = do
   pairs ← pairs_of tokens
   Ok (actions_of pairs)
 
--- the actions that text behind `[` gives, whose `]` stands behind n bytes: nothing may follow it
+-- the actions of the text after `[`, with its `]` at index `n`: nothing may follow the `]`
 abbrev pub closed_actions : ℕ → List ℕ → Result (List Action) ControlError
 closed_actions n bytes = if nat_lt (n + 1) (length bytes) then Err BadControl else token_actions (tokens_of (take n bytes))
 
--- the actions that text behind `[` gives
+-- the actions of the text after `[`
 unfoldable pub bracket_actions : List ℕ → Result (List Action) ControlError
 bracket_actions bytes = option_map_or (λ n. closed_actions n bytes) (closing_at false bytes) (Err OpenBracket)
 
--- the 31 actions that the text of a control gives, or its fault
+-- the 31 actions of the text of a control, or its fault
 unfoldable pub control_of : List ℕ → Result (List Action) ControlError
 control_of [] = keyword_actions []
 control_of (b ∷ bs) = if b == 91 then bracket_actions bs else keyword_actions (b ∷ bs)

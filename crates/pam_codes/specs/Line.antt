@@ -1,4 +1,4 @@
--- The text of a line that is written in pieces.
+-- The text of a line written in pieces.
 use Rattle.std.specs.Prelude.{ℕ, List, [], ◌∷◌, ◌++◌, decimal}
 use Rattle.pam_codes.specs.declared.line.Piece.{Piece}
 use Rattle.pam_codes.specs.declared.line.Piece.TheVariants.{Bytes, Number}

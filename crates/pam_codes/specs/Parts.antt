@@ -1,4 +1,4 @@
--- The parts of a control (pam.conf(5), "[value1=action1 value2=action2 ...]"): the codes, divided by what is done with them.
+-- The parts of a control (pam.conf(5), "[value1=action1 value2=action2 ...]"): the codes, grouped by action.
 use Rattle.std.specs.Prelude.{◌≡◌, ◌≢◌, ◌<◌, ℕ, List, length, slice_get, slice_index, Some, IsTrue, All}
 use Rattle.std.specs.List.{AllPairs, Any}
 use Rattle.pam_codes.specs.declared.action.Action.{Action}
@@ -6,18 +6,18 @@ use Rattle.pam_codes.specs.declared.parts.Part.{Part}
 use Rattle.pam_codes.specs.declared.code.TheConstants.{CODES}
 use Rattle.pam_codes.specs.Set.{is_in, IsCodeSet}
 
--- the least of the codes of a part
+-- the least code of a part
 abbrev pub least_of : Part → ℕ
 least_of part = slice_index part.codes 0
 
--- one code or more, all of which have the action of the part
+-- one or more codes, all with the action of the part
 pub record IsPart (control : List Action) (part : Part) : Type 0 where
   pub set : IsCodeSet part.codes
   pub filled : 0 < length part.codes
   pub acts : (code : ℕ) → IsTrue (is_in code part.codes) → slice_get control code ≡ Some part.action
 
--- THE PARTS of a control: each code is in one of them and in no other, no two have the same action, and they
--- are in the order of their least codes
+-- THE PARTS of a control: each code is in exactly one of them, no two have the same action, and they are in the order
+-- of their least codes
 pub record IsParts (control : List Action) (parts : List Part) : Type 0 where
   pub each_part : All (IsPart control) parts
   pub each_code : (code : ℕ) → code < CODES → Any (λ part. IsTrue (is_in code part.codes)) parts

@@ -7,10 +7,10 @@ use Rattle.pam_codes.specs.Code.{all_codes}
 abbrev pub codes_where : (ℕ → Bool) → List ℕ
 codes_where test = filter test all_codes
 
--- whether the code is one of these
+-- whether the code is among these
 abbrev pub is_in : ℕ → List ℕ → Bool
 is_in code codes = list_any (λ c. c == code) codes
 
--- these are codes, in order and each once
+-- a set of codes: in order, each at most once
 abbrev pub IsCodeSet : List ℕ → Type 0
 IsCodeSet codes = codes ≡ codes_where (λ code. is_in code codes)

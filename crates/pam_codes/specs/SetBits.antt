@@ -1,4 +1,4 @@
--- The bits of a set of return codes, and the codes back from them (pam.conf(5), the values between brackets).
+-- The bits of a set of return codes, and the codes of bits (pam.conf(5), the values between brackets).
 use Rattle.std.proofs.Common.{◌≡◌, ◌≢◌, ◌<◌, ◌≤◌, ◌+◌, ◌^◌, ◌==◌, ℕ, zero, suc, Bool, true, false, List, ◌∷◌, cond, eqb, map, filter, subst, ap, ◌∙◌, sym, refl, arith, eq-eqb}
 use Rattle.std.specs.List.{range_with_len}
 use Rattle.std.specs.Int.{bit_at}
@@ -24,7 +24,7 @@ eqb-self n = eq-eqb n n refl
 pub eqb-other : (m n : ℕ) → m ≢ n → eqb m n ≡ false
 eqb-other m n h = elim (eqb m n) as (λ (t : Bool). eqb m n ≡ t → t ≡ false) [ true ↦ λ e. absurd (h (eqb-true m n e)) | false ↦ λ e. refl ] refl
 
--- a code is in what a filter leaves of a run of codes where it is in the run and passes
+-- filtering a run of codes keeps exactly the codes that pass
 in_run_before : (test : ℕ → Bool) (a n code : ℕ) → code < a → is_in code (filter test (range_with_len a n)) ≡ false
 in_run_before test a zero code h = refl
 in_run_before test a (suc n) code h =
@@ -51,7 +51,7 @@ in_run test a (suc n) code low high =
           ]
     ] refl
 
--- a code is one of those that pass where it passes
+-- `codes_where test` contains a code if and only if the code passes
 pub is_in-codes_where : (test : ℕ → Bool) (code : ℕ) → code < 31 → is_in code (codes_where test) ≡ test code
 unfolding all_codes
 is_in-codes_where test code h = in_run test 0 31 code (omega arith) (omega arith)
@@ -62,7 +62,7 @@ filter_run p q a (suc n) h =
     ap (λ (t : Bool). cond t (a ∷ filter p (range_with_len (a + 1) n)) (filter p (range_with_len (a + 1) n))) (h a (omega arith) (omega arith))
     ∙ ap (λ (xs : List ℕ). cond (q a) (a ∷ xs) xs) (filter_run p q (a + 1) n (λ code low high. h code (omega arith) (omega arith)))
 
--- two tests that agree on the codes give the same codes
+-- tests that agree on all codes have the same codes
 pub codes_where-same : (p q : ℕ → Bool) → ((code : ℕ) → code < 31 → p code ≡ q code) → codes_where p ≡ codes_where q
 unfolding all_codes
 codes_where-same p q h = filter_run p q 0 31 (λ code low high. h code (omega arith))
@@ -72,7 +72,7 @@ one_or_zero zero h = refl
 one_or_zero (suc zero) h = refl
 one_or_zero (suc (suc n)) h = absurd (omega arith)
 
--- the bits of the codes whose bit is set
+-- converting bits to codes and back does not change them
 pub bits_of_codes-codes_of_bits : (bits : ℕ) → bits < 2 ^ 31 → bits_of_codes (codes_of_bits bits) ≡ bits
 unfolding bits_of_codes codes_of_bits all_codes
 bits_of_codes-codes_of_bits bits small =

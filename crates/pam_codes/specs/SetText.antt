@@ -8,11 +8,11 @@ use Rattle.pam_codes.specs.Set.{codes_where, is_in}
 abbrev pub name_of : ℕ → List ℕ
 name_of code = slice_index_or code_names code []
 
--- the names of codes, with a comma between each two
+-- the names of the codes, separated by commas
 unfoldable pub names_text : List ℕ → List ℕ
 names_text set = join_with_byte 44 (map name_of set)
 
--- `any` for all codes, `but:` and the missing ones where 16 to 30 are in, else those of the set
+-- `any` for all 31 codes, `but:` and the missing names for 16 to 30, else the names of the set
 unfoldable pub set_text : List ℕ → List ℕ
 set_text set =
     if length set == CODES then codes "any"

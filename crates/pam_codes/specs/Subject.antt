@@ -1,4 +1,4 @@
--- What a pair between brackets speaks of (pam.conf(5), the values between brackets).
+-- The values of the pairs of a control (pam.conf(5), the values between brackets).
 use Rattle.std.specs.Prelude.{ℕ, List, codes, position, if◌then◌else◌, Result, Ok, Err}
 use Rattle.std.specs.Option.{option_map_or}
 use Rattle.pam_codes.specs.declared.subject.Subject.{Subject}
@@ -7,13 +7,13 @@ use Rattle.pam_codes.specs.declared.error.ControlError.{ControlError}
 use Rattle.pam_codes.specs.declared.error.ControlError.TheVariants.{BadValue}
 use Rattle.pam_codes.specs.Code.{code_names, same_name}
 
--- what a word speaks of which is no code's name
+-- the value of a word that is not the name of a code
 abbrev pub other_subject : List ℕ → Result Subject ControlError
 other_subject word =
     if same_name (codes "incomplete") word then Ok Incomplete
     else if same_name (codes "default") word then Ok Default
     else Err BadValue
 
--- what a word speaks of, or its fault
+-- the value of a word, or its fault
 unfoldable pub subject_of : List ℕ → Result Subject ControlError
 subject_of word = option_map_or (λ n. Ok (Named n)) (position (λ n. same_name n word) code_names) (other_subject word)

@@ -1,4 +1,4 @@
-//! What a control does with an answer.
+//! The actions of a control: pam.conf(5).
 
 ghost use Rattle.std.specs.Prelude.{◌≡◌, ◌≤◌, IsTrue, IfOk};
 ghost use Rattle.std.specs.List.{list_all};
@@ -10,22 +10,22 @@ use crate::code::is_name;
 use crate::error::ControlError;
 use crate::line::Piece;
 
-/// What the answer of a module does to the run of its list, by pam.conf(5).
+/// What the return code of a module does to the run of its list: the actions of pam.conf(5).
 #[derive(Clone, Copy, Debug, PartialEq, Eq)]
 pub enum Action {
-    /// Leaves the answer aside.
+    /// The code does not count.
     Ignore,
-    /// Lets the answer count, unless an earlier one failed.
+    /// The code counts, unless an earlier module failed.
     Ok,
-    /// As `Ok`, and ends the list where none failed.
+    /// Like `Ok`, and ends the list unless a module failed.
     Done,
-    /// Makes the list fail with this answer, if it is the first to fail.
+    /// The list fails, with this code if it is the first to fail.
     Bad,
-    /// As `Bad`, and ends the list.
+    /// Like `Bad`, and ends the list.
     Die,
-    /// Forgets what the list has come to.
+    /// Restores the state in which the list was entered.
     Reset,
-    /// Passes over so many items: in a control 1 to 999,999,999.
+    /// Skips this many items: 1 to 999,999,999 in a control.
     Jump(u32),
 }
 
@@ -35,7 +35,7 @@ fn all_digits(word: &[u8]) -> bool
     word.iter().all(|b| b.is_ascii_digit())
 }
 
-/// Whether a text is one to nine digits.
+/// Whether `word` is one to nine decimal digits.
 fn is_jump(word: &[u8]) -> bool
     ensures { result ≡ is_jump_text word.now }
 {
@@ -45,7 +45,7 @@ fn is_jump(word: &[u8]) -> bool
     all_digits(word)
 }
 
-/// The number that digits spell.
+/// The value of decimal digits.
 fn decimal(digits: &[u8]) -> u32
     requires { IsTrue (is_jump_text digits.now) }
     ensures value { result ≡ decimal_value digits.now }
@@ -59,7 +59,7 @@ fn decimal(digits: &[u8]) -> u32
 }
 
 impl Action {
-    /// The action of a word of a control, in either case.
+    /// The action with this name, ignoring ASCII case, or a jump of this number.
     #[tactic(auto, unfolding(crate::specs::Action::action_named))]
     pub(crate) fn from_name(word: &[u8]) -> Result<Action, ControlError>
         ensures value { result ≡ action_named word.now }
@@ -87,7 +87,7 @@ impl Action {
         }
     }
 
-    /// The word in a control; of a jump the number.
+    /// The word in a control; the number of a jump.
     pub fn piece(self) -> Piece<'static>
         ensures { piece_text result ≡ action_text self }
     {
@@ -102,7 +102,6 @@ impl Action {
         }
     }
 
-    /// Whether the other is the same action.
     pub(crate) fn is_same(self, other: Action) -> bool
         ensures { result ≡ same_action self other }
     {

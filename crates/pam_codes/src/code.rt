@@ -5,17 +5,17 @@ ghost use Rattle.pam_codes.specs.Code.{code_names, same_name};
 
 use std::marker::Model;
 
-/// The number of codes.
+/// The number of return codes.
 pub const CODES: usize = 31;
 
-/// Whether two texts are one name, whatever the case of their letters.
+/// Whether `text` is `name`, ignoring ASCII case.
 pub fn is_name(name: &[u8], text: &[u8]) -> bool
     ensures { result ≡ same_name name.now text.now }
 {
     name.eq_ignore_ascii_case(text)
 }
 
-/// What a module returns: one of the 31 codes that pam.conf(5) names.
+/// A return code of a module: one of the 31 that pam.conf(5) names.
 #[derive(Clone, Copy, Debug, PartialEq, Eq, PartialOrd, Ord)]
 pub struct Code {
     number: u8,
@@ -43,13 +43,13 @@ impl Code {
     /// The user must choose a new password.
     pub const NEW_AUTHTOK_REQD: Code = Code { number: 12 };
 
-    /// The answer of the module is to be ignored.
+    /// The module is to be ignored.
     pub const IGNORE: Code = Code { number: 25 };
 
     /// The conversation has no data yet.
     pub const CONV_AGAIN: Code = Code { number: 30 };
 
-    /// The code of a number, if it has one.
+    /// The code with this number, if there is one.
     pub fn new(number: u8) -> Option<Code>
         ensures { result ≡ (if nat_lt number 31 then Some number else None) }
     {
@@ -60,7 +60,7 @@ impl Code {
         }
     }
 
-    /// The code of a number that is known to have one.
+    /// The code with this number, which is below 31.
     pub(crate) fn of_number(number: u8) -> Code
         requires { number < 31 }
         ensures { result ≡ number }
@@ -76,7 +76,7 @@ impl Code {
         self.number
     }
 
-    /// The place of the code in a table of all codes.
+    /// The index of the code in a table of all codes.
     pub(crate) fn index(self) -> usize
         ensures value { result ≡ self }
         ensures range { result < CODES }
@@ -84,7 +84,7 @@ impl Code {
         usize::from(self.number)
     }
 
-    /// The name in configuration text.
+    /// The name in a configuration file.
     #[tactic(auto, unfolding(crate::specs::Code::code_names))]
     pub fn name(self) -> &'static str
         ensures { slice_get code_names self ≡ Some result.now }
@@ -125,7 +125,7 @@ impl Code {
         }
     }
 
-    /// The code of a name, in either case; `incomplete` and `default` are none.
+    /// The code with this name, ignoring ASCII case; `None` for `incomplete` and `default`.
     pub fn from_name(name: &[u8]) -> Option<Code>
         ensures { result ≡ position (λ n. same_name n name.now) code_names }
     {

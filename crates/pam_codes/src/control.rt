@@ -1,4 +1,4 @@
-//! The control of a rule: its text, and what it makes of each return code.
+//! The control of a rule: its text, and its action for each return code.
 
 ghost use Rattle.std.specs.Prelude.{◌≡◌, ◌<◌, ◌≤◌, ◌+◌, ◌-◌, ◌^◌, Ok, Err, false, ◌∷◌, [], All, List, Option, Some, None, MatchResult, IfOk, OnOk, MatchOption, map, get_or, length, unwrap_or, slice_get, slice_index_or, IfSome};
 ghost use Rattle.std.specs.Option.{option_map};
@@ -19,7 +19,7 @@ use crate::tokens::Tokens;
 use std::io::Write;
 use std::marker::Model;
 
-/// What a rule makes of each return code: an action for each of the 31.
+/// The control of a rule: an action for each of the 31 return codes.
 #[derive(Clone, Copy, Debug, PartialEq, Eq)]
 pub struct Control {
     actions: [Action; CODES],
@@ -40,7 +40,7 @@ impl Model for Control {
 }
 
 impl Control {
-    /// The action of a code.
+    /// The action for `code`.
     pub fn action(&self, code: Code) -> Action
         ensures of_code { slice_get self.now code ≡ Some result }
         ensures action { IsAction result }
@@ -49,7 +49,7 @@ impl Control {
         self.actions[code.index()]
     }
 
-    /// A control that lets success and a new token pass, and passes over ignore.
+    /// The control with `granted` for success and new_authtok_reqd, ignore for ignore, and `other` for the other codes.
     #[tactic(auto, unfolding(crate::specs::Control::actions_of, crate::specs::Code::all_codes))]
     fn keyword(granted: Action, other: Action) -> Control
         requires granted { IsAction granted }
@@ -63,7 +63,7 @@ impl Control {
         Control { actions }
     }
 
-    /// The control of a keyword, in either case.
+    /// The control of a keyword, ignoring ASCII case.
     #[tactic(auto, unfolding(crate::specs::Control::keywords, crate::specs::Control::keyword_pairs, crate::specs::Control::actions_of, crate::specs::Code::all_codes))]
     fn from_keyword(word: &[u8]) -> Option<Control>
         ensures { result ≡ option_map actions_of (keyword_pairs word.now) }
@@ -81,7 +81,7 @@ impl Control {
         }
     }
 
-    /// The control that the actions by name and the default make.
+    /// The control with the `named` actions, and `default` for the other codes.
     fn of(named: [Option<Action>; CODES], default: Action) -> Control
         requires named { All (λ action. IfSome action IsAction) named }
         requires default { IsAction default }
@@ -94,7 +94,7 @@ impl Control {
         Control { actions }
     }
 
-    /// The control that stands between brackets.
+    /// Reads the text between brackets.
     fn from_list(text: &[u8]) -> Result<Control, ControlError>
         ensures { result ≡ token_actions (tokens_of text.now) }
     {
@@ -112,7 +112,7 @@ impl Control {
         Ok(Control::of(named, default.unwrap_or(Action::Bad)))
     }
 
-    /// The control that stands behind an opening bracket.
+    /// Reads the text after an opening bracket.
     #[tactic(auto, unfolding(crate::specs::Control::bracket_actions))]
     fn from_brackets(text: &[u8]) -> Result<Control, ControlError>
         ensures { result ≡ bracket_actions text.now }
@@ -124,8 +124,8 @@ impl Control {
         }
     }
 
-    /// The control of a word as it is written, brackets included, by pam.conf(5); its first fault comes from the left,
-    /// save that an open bracket and bytes behind the closing one come before all else.
+    /// Reads a control as it is written, brackets included: pam.conf(5). Returns the leftmost fault, except that an
+    /// open bracket and bytes after the closing one come first.
     #[tactic(auto, unfolding(crate::specs::Control::control_of))]
     pub fn read(text: &[u8]) -> Result<Control, ControlError>
         ensures { result ≡ control_of text.now }
@@ -136,7 +136,7 @@ impl Control {
         Control::from_keyword(text).ok_or(ControlError::BadControl)
     }
 
-    /// Whether this is the control of a keyword with these actions.
+    /// Whether this is `Control::keyword(granted, other)`.
     fn is_keyword(&self, granted: Action, other: Action) -> bool
         requires granted { IsAction granted }
         requires other { IsAction other }
@@ -145,7 +145,7 @@ impl Control {
         Control::keyword(granted, other).actions == self.actions
     }
 
-    /// The keyword that has these actions.
+    /// The keyword with these actions, if there is one.
     #[tactic(auto, unfolding(crate::specs::Control::keywords, crate::specs::Control::actions_of, crate::specs::Code::all_codes))]
     fn keyword_name(&self) -> Option<&'static str>
         ensures { MatchOption result (keyword_of self.now ≡ None) (λ word. keyword_of self.now ≡ Some word.now) }
@@ -163,7 +163,7 @@ impl Control {
         }
     }
 
-    /// The action that is written as `default`: that of the last code, `conv_again`.
+    /// The action to write as `default`: that of the last code, `conv_again`.
     fn default_action(&self) -> Action
         ensures value { result ≡ default_of self.now }
         ensures control { IsControl self.now }
@@ -171,7 +171,7 @@ impl Control {
         self.actions[Code::CONV_AGAIN.index()]
     }
 
-    /// Writes the pairs of the codes whose action is not the default.
+    /// Writes a pair for each code whose action is not `default`.
     fn write_mentions<W: Write>(&self, default: Action, out: &mut Out<W>) -> Result<(), Device>
         requires room { out.old.failures < 2 ^ 64 - 1 }
         requires control { IsControl self.now }
@@ -184,7 +184,7 @@ impl Control {
         Ok(())
     }
 
-    /// Writes the pairs between brackets.
+    /// Writes the pairs in brackets.
     fn write_list<W: Write>(&self, out: &mut Out<W>) -> Result<(), Device>
         requires { out.old.failures < 2 ^ 64 - 1 }
         ensures { Writes W.contents out.old out.new result (list_text self.now) }
@@ -199,8 +199,8 @@ impl Control {
         ])
     }
 
-    /// Writes the keyword that has these actions, or else a pair for each code whose action is not that of the last,
-    /// and a default.
+    /// Writes the keyword with these actions. If there is none, writes in brackets a pair for each code whose action is
+    /// not that of the last code, and then the default.
     pub fn write_text<W: Write>(&self, out: &mut Out<W>) -> Result<(), Device>
         requires { out.old.failures < 2 ^ 64 - 1 }
         ensures { Writes W.contents out.old out.new result (control_text self.now) }
@@ -212,7 +212,7 @@ impl Control {
     }
 }
 
-/// Writes the pair of a code, unless its action is the default.
+/// Writes the pair of `code` and a space, unless `action` is `default`.
 fn write_mention<W: Write>(
     code: Code,
     action: Action,
@@ -233,7 +233,7 @@ fn write_mention<W: Write>(
     ])
 }
 
-/// Where the first closing bracket stands that has no backslash directly before it.
+/// The index of the first unescaped `]`: the byte before it is not a backslash.
 fn closing(text: &[u8]) -> Option<usize>
     ensures found { result ≡ closing_at false text.now }
     ensures bound { IfSome result (λ n. n < length text.now) }
@@ -258,7 +258,7 @@ fn equals_sign(token: &[u8]) -> Result<(), ControlError>
     }
 }
 
-/// The pair that begins with a word.
+/// Reads the rest of the pair that begins with `word`.
 #[tactic(auto, using(crate::proofs::PairSteps::bad_subject, crate::proofs::PairSteps::no_sign, crate::proofs::PairSteps::bad_sign, crate::proofs::PairSteps::no_action, crate::proofs::PairSteps::bad_action, crate::proofs::PairSteps::whole_pair))]
 fn pair(word: &[u8], tokens: &mut Tokens) -> Result<(Subject, Action), ControlError>
     ensures pair { MatchResult result

@@ -1,8 +1,8 @@
-//! Laws of the definitions, each the contract of a function that does nothing.
+//! Laws of the definitions: each is the contract of an empty function.
 
 ghost use Rattle.pam_codes.specs.Laws.{ReadsAsWritten};
 
-/// What is written of a control is read as the same control.
+/// Reading the written text of a control returns the same control.
 pub fn control_text()
     ensures { ReadsAsWritten }
 {}

@@ -1,4 +1,5 @@
-//! Return codes, actions and controls of PAM rules; the text of a file; the writer that counts.
+//! Return codes, actions and controls of PAM rules: pam.conf(5). Also the text of a file without its comments, and a
+//! writer that counts bytes and failures.
 #![tactic(auto)]
 
 mod action;

@@ -1,4 +1,4 @@
-//! A line, written in pieces.
+//! Writing a line piece by piece.
 
 ghost use Rattle.std.specs.Prelude.{◌-◌, ◌<◌, ◌^◌};
 ghost use Rattle.pam_codes.specs.Out.{Writes};
@@ -26,7 +26,7 @@ impl<W: Write> Out<W> {
         }
     }
 
-    /// Writes the pieces one after another, as `put` does.
+    /// Writes `pieces` in order, like `put`.
     pub fn put_line(&mut self, pieces: &[Piece<'_>]) -> Result<(), Device>
         requires { self.old.failures < 2 ^ 64 - 1 }
         ensures { Writes W.contents self.old self.new result (line_text pieces.now) }

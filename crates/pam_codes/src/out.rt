@@ -1,4 +1,4 @@
-//! A writer that counts what was taken and what failed.
+//! A writer that counts bytes and failures.
 
 ghost use Rattle.std.specs.Prelude.{◌<◌, ◌^◌};
 
@@ -7,13 +7,13 @@ use std::io;
 use std::io::Write;
 use thiserror::Error;
 
-/// A call of the writer that failed: it answered an error, or took nothing of what it was given.
+/// A failed write or flush: the writer returned an error, or wrote none of the bytes.
 #[derive(Clone, Copy, Debug, PartialEq, Eq, Error)]
 #[error("the writer failed")]
 pub struct Device;
 
-/// A writer over another one, with the number of bytes taken and the number of calls that failed.
-/// Both stay at `u64::MAX` once there. It has no buffer of its own.
+/// A writer that counts the bytes written to an inner writer, and its failed calls. Both counts saturate at `u64::MAX`.
+/// It has no buffer of its own.
 #[derive(Drop)]
 pub struct Out<W> {
     inner: W,
@@ -38,28 +38,28 @@ impl<W: Write> Out<W> {
         }
     }
 
-    /// The inner writer.
+    /// Returns the inner writer.
     pub fn into_inner(self) -> W
         ensures { result ≡ self.inner }
     {
         self.inner
     }
 
-    /// The number of bytes that the inner writer took.
+    /// The number of bytes that the inner writer has written.
     pub fn taken(&self) -> u64
         ensures { result ≡ self.now.taken }
     {
         self.taken
     }
 
-    /// The number of calls of the inner writer that failed.
+    /// The number of failed calls of the inner writer.
     pub fn failures(&self) -> u64
         ensures { result ≡ self.now.failures }
     {
         self.failures
     }
 
-    /// Writes all of the bytes: goes on after a short write, and tries nothing again after a failure, of whatever kind.
+    /// Writes all of `bytes`. Continues after a short write, and retries no failure, not even an interrupted write.
     pub fn put(&mut self, bytes: &[u8]) -> Result<(), Device>
         requires { self.old.failures < 2 ^ 64 - 1 }
         ensures { Writes W.contents self.old self.new result bytes.now }
@@ -75,7 +75,7 @@ impl<W: Write> Out<W> {
         Ok(())
     }
 
-    /// Writes the number in decimal digits.
+    /// Writes `number` in decimal.
     pub fn put_number(&mut self, number: u64) -> Result<(), Device>
         requires { self.old.failures < 2 ^ 64 - 1 }
         ensures { Writes W.contents self.old self.new result (decimal number) }

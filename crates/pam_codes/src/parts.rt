@@ -1,4 +1,4 @@
-//! The parts of a control: its codes, divided by their actions.
+//! The parts of a control: its codes, grouped by action.
 
 ghost use Rattle.std.specs.Prelude.{◌≡◌, slice_index_or};
 ghost use Rattle.pam_codes.specs.declared.action.Action.TheVariants.{Ignore};
@@ -13,14 +13,14 @@ use crate::set::CodeSet;
 use arrayvec::ArrayVec;
 use std::marker::Model;
 
-/// The codes that have one action.
+/// The codes with one action.
 #[derive(Clone, Copy, Debug, PartialEq, Eq)]
 pub struct Part {
     pub codes: CodeSet,
     pub action: Action,
 }
 
-/// A part of no codes.
+/// A part without codes.
 impl Default for Part {
     ghost use Rattle.std.specs.Prelude.{[]};
 
@@ -58,7 +58,7 @@ impl Parts {
 }
 
 impl Control {
-    /// The codes that have an action.
+    /// The codes with this action.
     fn codes_with(&self, action: Action) -> CodeSet
         ensures { result ≡ codes_where (λ c. same_action (slice_index_or self.now c Ignore) action) }
     {
@@ -72,7 +72,7 @@ impl Control {
         codes
     }
 
-    /// Its parts: each code is in one of them, with its action.
+    /// The parts of this control: each code is in exactly one of them.
     pub fn parts(&self) -> Parts
         ensures { IsParts self.now result }
     {

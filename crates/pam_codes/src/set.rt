@@ -7,7 +7,7 @@ ghost use Rattle.pam_codes.specs.Set.{codes_where, is_in, IsCodeSet};
 use crate::code::{CODES, Code};
 use std::marker::Model;
 
-/// A set of codes, one bit for each.
+/// A set of return codes, one bit per code.
 #[derive(Clone, Copy, Debug, PartialEq, Eq)]
 pub struct CodeSet {
     bits: u32,
@@ -30,14 +30,14 @@ impl Model for CodeSet {
 }
 
 impl CodeSet {
-    /// The set of no code.
+    /// The empty set.
     pub fn empty() -> CodeSet
         ensures { result ≡ [] }
     {
         CodeSet { bits: 0 }
     }
 
-    /// The set of every code.
+    /// The set of all 31 codes.
     pub fn all() -> CodeSet
         ensures { result ≡ all_codes }
     {
@@ -46,7 +46,7 @@ impl CodeSet {
         }
     }
 
-    /// The set of one code.
+    /// The set with `code` alone.
     pub fn single(code: Code) -> CodeSet
         ensures { result ≡ code ∷ [] }
     {
@@ -55,21 +55,21 @@ impl CodeSet {
         }
     }
 
-    /// Puts a code in, which may be there already.
+    /// Adds `code`. Does nothing if the set has it already.
     pub fn insert(&mut self, code: Code)
         ensures { self.new ≡ codes_where (λ c. c == code || is_in c self.old) }
     {
         self.bits |= 1 << code.number();
     }
 
-    /// Whether the code is in the set.
+    /// Whether the set contains `code`.
     pub fn contains(self, code: Code) -> bool
         ensures { result ≡ is_in code self }
     {
         (self.bits >> code.number()) & 1 == 1
     }
 
-    /// The codes that are in this set, in the other or in both.
+    /// The codes in `self` or `other`.
     pub fn union(self, other: CodeSet) -> CodeSet
         ensures { result ≡ codes_where (λ c. is_in c self || is_in c other) }
     {
@@ -78,7 +78,7 @@ impl CodeSet {
         }
     }
 
-    /// The codes of this set that are not in the other.
+    /// The codes in `self` but not in `other`.
     pub fn without(self, other: CodeSet) -> CodeSet
         ensures { result ≡ codes_where (λ c. is_in c self && not (is_in c other)) }
     {
@@ -87,14 +87,14 @@ impl CodeSet {
         }
     }
 
-    /// Whether some code is in both sets.
+    /// Whether the sets have a code in common.
     pub fn meets(self, other: CodeSet) -> bool
         ensures { IsTrue result ↔ (c : ℕ) × (c < CODES) × IsTrue (is_in c self) × IsTrue (is_in c other) }
     {
         self.bits & other.bits != 0
     }
 
-    /// The code with the least number.
+    /// The least code by number; `None` if the set is empty.
     pub fn least(self) -> Option<Code>
         ensures first { result ≡ slice_get self 0 }
         ensures order { IsCodeSet self }
@@ -105,7 +105,7 @@ impl CodeSet {
         Code::new(self.bits.trailing_zeros() as u8)
     }
 
-    /// The code with the least number, of those from a number on.
+    /// The least code whose number is at least `first`.
     pub fn least_from(self, first: u8) -> Option<Code>
         ensures found { IfSome result (λ found. (first ≤ found) × (found < CODES) × IsTrue (is_in found self)) }
         ensures before { IfSome result (λ found. (c : ℕ) → first ≤ c → c < found → is_in c self ≡ false) }
@@ -117,7 +117,7 @@ impl CodeSet {
         codes.least()
     }
 
-    /// The code with the greatest number, of those below a number.
+    /// The greatest code whose number is below `last`.
     pub fn greatest_below(self, last: u8) -> Option<Code>
         ensures found { IfSome result (λ found. (found < last) × (found < CODES) × IsTrue (is_in found self)) }
         ensures after { IfSome result (λ found. (c : ℕ) → found < c → c < last → is_in c self ≡ false) }
@@ -130,14 +130,14 @@ impl CodeSet {
         Code::new(bits.ilog2() as u8)
     }
 
-    /// Whether no code is in the set.
+    /// Whether the set is empty.
     pub fn is_empty(self) -> bool
         ensures { IsTrue result ↔ (self ≡ []) }
     {
         self.bits == 0
     }
 
-    /// How many codes are in the set.
+    /// The number of codes in the set.
     pub fn len(self) -> usize
         ensures count { result ≡ length self }
         ensures order { IsCodeSet self }
@@ -146,7 +146,7 @@ impl CodeSet {
     }
 }
 
-/// The bits of the codes with lesser numbers.
+/// The bits of the codes below `number`.
 fn bits_below(number: u8) -> u32
     ensures { result ≡ 2 ^ (min number CODES) - 1 }
 {

@@ -10,11 +10,11 @@ use crate::out::{Device, Out};
 use crate::set::CodeSet;
 use std::io::Write;
 
-/// How many codes of a set are written by their names; of a larger set the missing ones are.
+/// The size of the largest set that is written by its own codes; a larger one is written by the missing codes.
 const MOST_NAMED: usize = 15;
 
 impl CodeSet {
-    /// Writes `any` for all codes, and else the names of its codes in order, or `but:` and those of the missing ones.
+    /// Writes the names in order, comma-separated: for 16 to 30 codes `but:` and the missing ones, for all 31 `any`.
     pub fn write_text<W: Write>(self, out: &mut Out<W>) -> Result<(), Device>
         requires { out.old.failures < 2 ^ 64 - 1 }
         ensures { Writes W.contents out.old out.new result (set_text self) }
@@ -30,7 +30,7 @@ impl CodeSet {
         self.write_names(out)
     }
 
-    /// Writes the names of its codes, with a comma between each two.
+    /// Writes the names of the codes, separated by commas.
     fn write_names<W: Write>(self, out: &mut Out<W>) -> Result<(), Device>
         requires { out.old.failures < 2 ^ 64 - 1 }
         ensures { Writes W.contents out.old out.new result (names_text self) }

@@ -1,4 +1,4 @@
-//! What a pair between brackets speaks of.
+//! The values of the pairs of a control: pam.conf(5).
 
 ghost use Rattle.std.specs.Prelude.{◌≡◌};
 ghost use Rattle.pam_codes.specs.Subject.{subject_of};
@@ -6,13 +6,13 @@ ghost use Rattle.pam_codes.specs.Subject.{subject_of};
 use crate::code::{Code, is_name};
 use crate::error::ControlError;
 
-/// What a pair of a control speaks of.
+/// The value of a pair `value=action` of a control.
 #[derive(Clone, Copy, Debug, PartialEq, Eq)]
 pub(crate) enum Subject {
     Named(Code),
-    /// A value that is read and never used.
+    /// The value `incomplete`, which is read and never used.
     Incomplete,
-    /// Each code that no pair names.
+    /// The value `default`: each code that no pair names.
     Default,
 }
 

@@ -1,12 +1,12 @@
-//! The text of a file: what is left of it without comments and with continued lines joined.
+//! The text of a file, with comments removed and continued lines joined: pam.conf(5).
 
 ghost use Rattle.std.specs.Prelude.{◌≡◌, ◌∷◌, ◌+◌, ◌^◌, ◌≤◌, ◌<◌, [], ℕ, List, length, not, ◌==◌, MatchOption, IfSome, IsTrue, ◌↔◌};
 ghost use Rattle.std.specs.List.{prefix_len};
 ghost use Rattle.std.specs.Iterator.{YieldsFirst, item_count};
 ghost use Rattle.pam_codes.specs.Text.{text_of, past_comment};
 
-/// The text of a file from a place on, as pam.conf(5) reads it. Each byte comes with the number, from 1, of the line of
-/// the file in which it stands; the space for a continuation stands in the line that ends there.
+/// An iterator over the text of a file, as pam.conf(5) reads it. Each byte comes with its line number in the file, from
+/// 1; the space that replaces a continuation is on the line that ends there.
 #[derive(Drop)]
 pub struct Text<'a> {
     rest: &'a [u8],
@@ -15,7 +15,7 @@ pub struct Text<'a> {
 }
 
 impl<'a> Text<'a> {
-    /// The whole text of a file.
+    /// The text of a whole file.
     pub fn of(file: &'a [u8]) -> Self
         requires { length file.now < 2 ^ 32 }
         ensures line { result.line ≡ 1 }
@@ -27,14 +27,14 @@ impl<'a> Text<'a> {
         }
     }
 
-    /// The number of the line in which the rest begins.
+    /// The line number at which the rest of the file begins.
     pub fn line(&self) -> usize
         ensures { result ≡ self.now.line }
     {
         self.line
     }
 
-    /// Whether no byte of the text is left, though a comment may be.
+    /// Whether no text is left. A comment may still be.
     pub fn is_done(&self) -> bool
         ensures { IsTrue result ↔ (text_of self.now.line self.now.rest.now ≡ []) }
     {
@@ -61,7 +61,7 @@ impl<'a> Iterator for Text<'a> {
     }
 }
 
-/// A byte of the text, the bytes of the file behind it, and how many line feeds it took.
+/// A byte of the text, the bytes of the file after it, and the number of line feeds that it takes up.
 #[derive(Clone, Copy)]
 struct Step<'a> {
     byte: u8,
@@ -69,7 +69,7 @@ struct Step<'a> {
     feeds: usize,
 }
 
-/// The first byte of the text that the bytes spell.
+/// The first byte of the text of `bytes`; `None` if the text is empty.
 fn first_step(bytes: &[u8]) -> Option<Step<'_>>
     ensures text { MatchOption result ((line : ℕ) → text_of line bytes.now ≡ [])
         (λ s. (line : ℕ) → text_of line bytes.now ≡ (line, s.byte) ∷ text_of (line + s.feeds) s.behind.now) }
@@ -91,7 +91,7 @@ fn first_step(bytes: &[u8]) -> Option<Step<'_>>
     }
 }
 
-/// What a backslash spells with the bytes behind it: one space where, past a comment, a line feed follows.
+/// The step of a backslash before `behind`: a space if a line feed follows, also after a comment; else the backslash.
 fn backslash_step(behind: &[u8]) -> Step<'_>
     ensures text { (bytes : List ℕ) (line : ℕ) → past_comment bytes ≡ 92 ∷ behind.now
         → text_of line bytes ≡ (line, result.byte) ∷ text_of (line + result.feeds) result.behind.now }
@@ -111,7 +111,7 @@ fn backslash_step(behind: &[u8]) -> Step<'_>
     }
 }
 
-/// What stands behind a line feed, if one comes first.
+/// The bytes after a leading line feed, if there is one.
 fn after_feed(bytes: &[u8]) -> Option<&[u8]>
     ensures value { MatchOption result ((more : List ℕ) → bytes.now ≡ 10 ∷ more → ⊥) (λ r. bytes.now ≡ 10 ∷ r.now) }
     ensures bound { IfSome result (λ r. length r.now < length bytes.now) }
@@ -120,7 +120,7 @@ fn after_feed(bytes: &[u8]) -> Option<&[u8]>
     if *first == b'\n' { Some(rest) } else { None }
 }
 
-/// The bytes from the line feed on where they begin with a comment; else all of them.
+/// Returns `bytes` without a leading comment, from its line feed on.
 fn skip_comment(bytes: &[u8]) -> &[u8]
     ensures value { result.now ≡ past_comment bytes.now }
     ensures bound { length result.now ≤ length bytes.now }
@@ -132,7 +132,7 @@ fn skip_comment(bytes: &[u8]) -> &[u8]
     }
 }
 
-/// How many bytes stand before the first line feed.
+/// The number of bytes before the first line feed.
 fn comment_len(bytes: &[u8]) -> usize
     ensures value { result ≡ prefix_len (λ b. not (b == 10)) bytes.now }
     ensures bound { result ≤ length bytes.now }

@@ -7,7 +7,8 @@ use Rattle.pam_dispatch.specs.declared.entry.Entry.{Entry}
 use Rattle.pam_dispatch.specs.declared.place.Place.{Place}
 use Rattle.pam_dispatch.specs.Decision.{decision_of}
 use Rattle.pam_dispatch.specs.Flat.{IsPlaceOf, modules_of, rest_of}
-use Rattle.pam_dispatch.specs.Runs.{AsksRise, Runs, after_answer, asked_module, asks, ends, outcome_of, state_in}
+use Rattle.pam_dispatch.specs.Runs.{AsksRise, Runs, after_answer, asked_module, asks, ends, next_ask, outcome_of, state_in}
+use Rattle.pam_paths.specs.declared.classes.Classes.{Classes}
 use Rattle.pam_paths.specs.declared.direction.Direction.{Direction}
 use Rattle.pam_paths.specs.declared.direction.Direction.TheVariants.{Forward, Backward}
 use Rattle.pam_paths.specs.declared.frames.Frame.{Frame}
@@ -15,7 +16,7 @@ use Rattle.pam_paths.specs.declared.path.PathStep.{PathStep}
 use Rattle.pam_paths.specs.Classes.{Member}
 use Rattle.pam_paths.specs.Computed.{after_step, listing}
 use Rattle.pam_paths.specs.Directions.{ordered, outset, past}
-use Rattle.pam_paths.specs.Frames.{AreFrames, IsExploring, IsFrame, ahead, ahead_of, coming, offered_at, step_in, under}
+use Rattle.pam_paths.specs.Frames.{AreClasses, AreFrames, IsExploring, IsFrame, ahead, ahead_of, coming, offered_at, step_in, under}
 use Rattle.pam_paths.specs.Listing.{Allowance, IsLawful}
 use Rattle.pam_paths.specs.Paths.{PathValue, StepValue, path_of}
 use Rattle.pam_paths.specs.Steps.{step_seen}
@@ -119,12 +120,14 @@ AreFrames-length allows program low (f ∷ fs) l h =
 
 -- a frame follows another branch
 pub frame_same : (allows : Allowance) (program : List Entry) (low : ℕ) (f g : Frame) → IsFrame allows program low f →
-    g.place ≡ f.place → g.module_number ≡ f.module_number → g.offered ≡ f.offered → g.code < 31 → IsFrame allows program low g
-frame_same allows program low f g is place number offered code = record {
+    g.place ≡ f.place → g.module_number ≡ f.module_number → g.classes ≡ f.classes → g.code < 31 → IsFrame allows program low g
+frame_same allows program low f g is place number classes code = record {
   place = subst (λ (x : Place). IsPlaceOf program x) (sym place) is.place;
   asking = subst (λ (x : Place). asked_module (rest_of program x) ≡ Some g.module_number) (sym place) (is.asking ∙ ap Some (sym number));
   rise = subst (λ (x : Place). AsksRise low (modules_of program) (rest_of program x)) (sym place) is.rise;
-  offered = offered ∙ is.offered ∙ ap (λ (x : Place). offered_at allows (rest_of program x)) (sym place);
+  offered = ap (λ (x : Classes). x.offered) classes ∙ is.offered ∙ ap (λ (x : Place). offered_at allows (rest_of program x)) (sym place);
+  classes = subst (λ (x : Place). AreClasses (next_ask (rest_of program x)) g.classes) (sym place)
+      (subst (AreClasses (next_ask (rest_of program f.place))) (sym classes) is.classes);
   code = code;
 }
 

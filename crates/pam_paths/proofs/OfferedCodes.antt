@@ -1,7 +1,7 @@
 -- The offered codes, found part by part of a control.
-use Rattle.std.proofs.Common.{◌≡◌, ◌≢◌, ℕ, ◌+◌, ◌<◌, ◌≤◌, ◌==◌, ◌&&◌, ◌||◌, Bool, true, false, not, List, [], ◌∷◌, cond, refl, sym, ◌∙◌, ap, subst, inl}
+use Rattle.std.proofs.Common.{◌≡◌, ℕ, ◌+◌, ◌<◌, ◌≤◌, ◌==◌, ◌&&◌, ◌||◌, Bool, true, false, List, [], ◌∷◌, cond, refl, sym, ◌∙◌, ap, subst, inl}
 use Rattle.std.proofs.Common.{inr, arith, length, take, get_or, Option, Some, None}
-use Rattle.std.specs.Prelude.{IsSome, slice_get}
+use Rattle.std.specs.Prelude.{All, IfSome, IsSome, IsTrue, slice_get}
 use Rattle.std.specs.Option.{option_map_or}
 use Rattle.std.specs.List.{list_any}
 use Rattle.std.proofs.lemmas.Bool.{and_from, and_parts, cases_Bool, cond-false, cond-true, eq-eqb, false≢true}
@@ -9,9 +9,11 @@ use Rattle.std.proofs.lemmas.List.{take_all}
 use Rattle.std.proofs.lemmas.List.Folds.{list_any_more, list_any-from_Any}
 use Rattle.pam_codes.specs.declared.action.Action.{Action}
 use Rattle.pam_codes.specs.declared.parts.Part.{Part}
+use Rattle.pam_codes.specs.Code.{all_codes}
 use Rattle.pam_codes.specs.Parts.{IsPart, IsParts}
 use Rattle.pam_codes.specs.Set.{IsCodeSet, codes_where, is_in}
 use Rattle.pam_codes.specs.SetBits.{is_in-codes_where, codes_where-same}
+use Rattle.pam_dispatch.specs.declared.state.Impression.TheVariants.{Negative}
 use Rattle.pam_dispatch.specs.declared.state.State.{State}
 use Rattle.pam_dispatch.specs.declared.step.Outcome.{Outcome}
 use Rattle.pam_dispatch.specs.Alike.{looks_at_code}
@@ -20,12 +22,12 @@ use Rattle.pam_paths.specs.Classes.{class_at, class_of, least, same_outcome}
 use Rattle.pam_paths.specs.Computed.{is_offered}
 use Rattle.pam_paths.specs.Frames.{offered_at}
 use Rattle.pam_paths.specs.Listing.{Allowance}
-use Rattle.pam_paths.specs.Sharing.{is_offered_by, is_shared, past_part, past_parts, shared_code}
+use Rattle.pam_paths.specs.Sharing.{is_offered_by, is_shared, keeps_failure, past_part, past_parts, shared_code}
 use Rattle.pam_paths.proofs.Alike.{class-same, in_class, least_of_class, list_any_back, list_any_from, of_class}
-use Rattle.pam_paths.proofs.Alike.{same_outcome-from, same_outcome-true}
-use Rattle.pam_paths.proofs.OneAction.{alike_codes, one_outcome}
-use Rattle.pam_paths.proofs.Sets.{same_tests}
-use Rattle.pam_paths.proofs.Sharing.{first-in}
+use Rattle.pam_paths.proofs.Alike.{same_outcome-from, same_outcome-self, same_outcome-true}
+use Rattle.pam_paths.proofs.OneAction.{alike_codes, failed_outcome, one_outcome}
+use Rattle.pam_paths.proofs.Sets.{everything, same_tests, where-is_set}
+use Rattle.pam_paths.proofs.Sharing.{Member-is_in, code_low, first-in, one_passes}
 
 first_there : (codes : List ℕ) → 0 < length codes → slice_get codes 0 ≡ Some (get_or codes 0 0)
 first_there [] h = absurd (omega (arith, h))
@@ -80,6 +82,55 @@ module _ (ask : Ask) where
   unfolding past_part
   past-none codes part set e = set ∙ codes_where-same (λ d. is_in d codes) (past_part codes ask part) (λ d low.
       sym (cond-false (is_shared ask d part) (is_offered_by codes ask d) (is_in d codes) (shared-none part d e)))
+
+  -- a class, by any of its codes
+  pub class-whole : (class : List ℕ) (c d : ℕ) → class ≡ class_at ask (outcome_of ask c) → d < 31 → is_in d class ≡ true → class_of ask d ≡ class
+  class-whole class c d is low h =
+      let same = same_outcome-true (outcome_of ask c) (outcome_of ask d) (sym (ap (is_in d) is ∙ in_class_at c d low) ∙ h) in
+      ap (class_at ask) (sym same) ∙ sym is
+
+  module _ (parts : List Part) (i : ℕ) (part : Part) (seen : List ℕ) (l : i < length parts) (at : part ≡ get_or parts i part)
+      (was : seen ≡ codes_where (λ d. list_any (is_shared ask d) (take i parts))) where
+    abbrev before : ℕ → Bool
+    before d = list_any (is_shared ask d) (take i parts)
+
+    any-more : (d : ℕ) → list_any (is_shared ask d) (take (i + 1) parts) ≡ (before d || is_shared ask d part)
+    any-more d = list_any_more (is_shared ask d) parts i part l ∙ ap (λ (p : Part). before d || is_shared ask d p) (sym at)
+
+    -- the codes of the classes that are met, with the class of one part more
+    pub seen-more : (class new : List ℕ) (c : ℕ) → shared_code part ask.state ≡ Some c → class ≡ class_at ask (outcome_of ask c) →
+        new ≡ codes_where (λ d. is_in d seen || is_in d class) → new ≡ codes_where (λ d. list_any (is_shared ask d) (take (i + 1) parts))
+    seen-more class new c e is h = h ∙ codes_where-same (λ d. is_in d seen || is_in d class) (λ d. list_any (is_shared ask d) (take (i + 1) parts)) (λ d low.
+        ap (λ (b : Bool). b || is_in d class) (ap (is_in d) was ∙ is_in-codes_where before d low)
+        ∙ ap (λ (b : Bool). before d || b) (ap (is_in d) is ∙ in_class_at c d low ∙ sym (shared-told part c d e))
+        ∙ sym (any-more d))
+
+    -- or of a part that adds none
+    seen-here : (x : Option ℕ) → shared_code part ask.state ≡ x → IfSome x (λ c. IsTrue (is_in c seen)) → (d : ℕ) → is_shared ask d part ≡ true →
+        before d ≡ true
+    seen-here None e h d t = absurd (false≢true (sym (shared-none part d e) ∙ t))
+    seen-here (Some c) e h d t =
+        let low : c < 31 = code_low seen c (subst IsCodeSet (sym was) (where-is_set before)) (Member-is_in seen c h) in
+        any_shared-same (take i parts) d c (sym (same_outcome-true (outcome_of ask c) (outcome_of ask d) (sym (shared-told part c d e) ∙ t)))
+        ∙ sym (ap (is_in c) was ∙ is_in-codes_where before c low) ∙ h
+
+    kept : (a b : Bool) → (b ≡ true → a ≡ true) → (a || b) ≡ a
+    kept true b h = refl
+    kept false true h = sym (h refl)
+    kept false false h = refl
+
+    any-kept : IfSome (shared_code part ask.state) (λ c. IsTrue (is_in c seen)) → (d : ℕ) →
+        list_any (is_shared ask d) (take (i + 1) parts) ≡ before d
+    any-kept h d = any-more d ∙ kept (before d) (is_shared ask d part) (seen-here (shared_code part ask.state) refl h d)
+
+    pub seen-kept : IfSome (shared_code part ask.state) (λ c. IsTrue (is_in c seen)) → seen ≡ codes_where (λ d. list_any (is_shared ask d) (take (i + 1) parts))
+    seen-kept h = was ∙ codes_where-same before (λ d. list_any (is_shared ask d) (take (i + 1) parts)) (λ d low. sym (any-kept h d))
+
+    pub past-kept : (allowed old : List ℕ) → IfSome (shared_code part ask.state) (λ c. IsTrue (is_in c seen)) →
+        old ≡ codes_where (past_parts allowed ask (take i parts)) → old ≡ codes_where (past_parts allowed ask (take (i + 1) parts))
+    unfolding past_parts
+    past-kept allowed old h is = is ∙ codes_where-same (past_parts allowed ask (take i parts)) (past_parts allowed ask (take (i + 1) parts)) (λ d low.
+        ap (λ (b : Bool). cond b (is_offered_by allowed ask d) (is_in d allowed)) (sym (any-kept h d)))
 
   module _ (allowed : List ℕ) where
     abbrev offered : ℕ → Bool
@@ -228,6 +279,45 @@ module _ (ask : Ask) where
           | inl t ↦ cond-true _ _ _ t
           | inr f ↦ cond-false _ _ _ f ∙ sym (offered-alone allowed d low f)
         ])
+
+    -- a code that is of no class that was met is alone in its own
+    pub class-alone : (seen : List ℕ) (i : ℕ) → length parts ≤ i → seen ≡ codes_where (λ d. list_any (is_shared ask d) (take i parts)) →
+        (d : ℕ) → d < 31 → is_in d seen ≡ false → class_of ask d ≡ d ∷ []
+    unfolding class_at
+    class-alone seen i long was d low none =
+        let f : list_any (is_shared ask d) parts ≡ false =
+        ap (λ (ps : List Part). list_any (is_shared ask d) ps) (sym (take_all i parts long))
+        ∙ sym (ap (is_in d) was ∙ is_in-codes_where (λ x. list_any (is_shared ask x) (take i parts)) d low) ∙ none in
+        let same : ℕ → Bool = λ e. same_outcome (outcome_of ask d) (outcome_of ask e) in
+        sym (one_passes (d ∷ []) d same refl low (same_outcome-self (outcome_of ask d))
+        ∙ codes_where-same (λ e. (e == d) && same e) same (λ e l. same_tests ((e == d) && same e) (same e)
+        (λ h. (and_parts (e == d) (same e) h).1)
+        (λ h. and_from (e == d) (same e) (eq-eqb e d (only_itself d e low l f (same_outcome-true (outcome_of ask d) (outcome_of ask e) h))) h)))
+
+    -- a stack that has failed, where each action keeps that
+    module _ (negative : ask.state.impression ≡ Negative) (keeps : All (λ p. IsTrue (keeps_failure p.action)) parts) where
+      same_for : (d : ℕ) → d < 31 → outcome_of ask d ≡ record { state = ask.state; left = ask.behind }
+      same_for d low =
+          let w = is.each_code d low in
+          let p : Part = w.1 in
+          let part = subst (IsPart ask.control) w.3 (is.each_part w.0 p w.2) in
+          failed_outcome ask p.action d (part.acts d w.4) negative (subst (λ (x : Part). keeps_failure x.action ≡ true) w.3 (keeps w.0 p w.2))
+
+      pub class-every : (d : ℕ) → d < 31 → class_of ask d ≡ all_codes
+      unfolding class_at
+      class-every d low =
+          codes_where-same (λ e. same_outcome (outcome_of ask d) (outcome_of ask e)) (λ e. true)
+          (λ e l. same_outcome-from (outcome_of ask d) (outcome_of ask e) (same_for d low ∙ sym (same_for e l)))
+          ∙ sym everything
+
+      pub past-every : (allowed every new : List ℕ) → every ≡ all_codes →
+          new ≡ codes_where (λ d. cond (is_in d every) ((least every == d) && list_any (λ k. is_in k allowed) every) (is_in d allowed)) →
+          new ≡ codes_where (is_offered_by allowed ask)
+      unfolding is_offered_by
+      past-every allowed every new e h = h ∙ codes_where-same _ (is_offered_by allowed ask) (λ d low.
+          cond-true (is_in d every) ((least every == d) && list_any (λ k. is_in k allowed) every) (is_in d allowed)
+          (ap (is_in d) (e ∙ everything) ∙ is_in-codes_where (λ x. true) d low)
+          ∙ ap (λ (x : List ℕ). (least x == d) && list_any (λ k. is_in k allowed) x) (e ∙ sym (class-every d low)))
 
 -- by the codes that a knowledge allows
 pub offered-by : (allows : Allowance) (r : Runs) (m : ℕ) (allowed offered : List ℕ) → asked_module r ≡ Some m → allowed ≡ codes_where (allows m) →

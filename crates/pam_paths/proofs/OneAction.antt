@@ -1,15 +1,19 @@
 -- What the outcomes of codes say of them, by their actions.
-use Rattle.std.proofs.Common.{◌≡◌, ◌≢◌, ◌⊎◌, ℕ, ◌==◌, ◌&&◌, Bool, true, false, refl, sym, ◌∙◌, ap, inl, inr, Some}
+use Rattle.std.proofs.Common.{◌≡◌, ◌≢◌, ◌⊎◌, ℕ, ◌==◌, ◌&&◌, Bool, true, false, refl, sym, ◌∙◌, ap, subst, inl, inr, Some}
 use Rattle.std.specs.Prelude.{slice_get}
-use Rattle.std.proofs.lemmas.Bool.{cond-false, cond-true, ne_eqb}
+use Rattle.std.proofs.lemmas.Bool.{cond-false, cond-true, false≢true, ne_eqb}
 use Rattle.std.proofs.lemmas.Option.{get_or_from_slice_get}
 use Rattle.pam_codes.specs.declared.action.Action.{Action}
-use Rattle.pam_codes.specs.declared.action.Action.TheVariants.{Ignore}
+use Rattle.pam_codes.specs.declared.action.Action.TheVariants.{Ignore, Ok, Done, Bad, Die, Reset, Jump}
+use Rattle.pam_dispatch.specs.declared.state.Impression.{Impression}
+use Rattle.pam_dispatch.specs.declared.state.Impression.TheVariants.{Negative}
+use Rattle.pam_dispatch.specs.declared.state.State.{State}
 use Rattle.pam_dispatch.specs.declared.step.Outcome.{Outcome}
 use Rattle.pam_dispatch.specs.Alike.{fails, looks_at_code, told_status}
 use Rattle.pam_dispatch.specs.Runs.{Ask, outcome_of}
-use Rattle.pam_dispatch.specs.State.{action_of}
+use Rattle.pam_dispatch.specs.State.{act, action_of, left_of, state_with}
 use Rattle.pam_dispatch.proofs.Retelling.{outcome-retold, outcome-shared, outcomes-differ}
+use Rattle.pam_paths.specs.Sharing.{keeps_failure}
 
 action_at : (ask : Ask) (c : ℕ) (a : Action) → slice_get ask.control c ≡ Some a → action_of ask.control c ≡ a
 action_at ask c a h = get_or_from_slice_get ask.control c a Ignore h
@@ -62,3 +66,27 @@ alike_codes ask a b c d k l h i e =
         ]
       ]
     ]
+
+-- what an action makes of a code
+outcome_by : Action → ℕ → State → State → ℕ → Outcome
+outcome_by a c s entry behind = record { state = act a c s entry behind; left = left_of a c s behind }
+
+failure-kept : (a : Action) (c status : ℕ) (entry : State) (behind : ℕ) → keeps_failure a ≡ true →
+    outcome_by a c (state_with Negative status) entry behind ≡ record { state = state_with Negative status; left = behind }
+unfolding outcome_by
+failure-kept Ignore c status entry behind k = refl
+failure-kept Ok c status entry behind k = refl
+failure-kept Done c status entry behind k = refl
+failure-kept Bad c status entry behind k = refl
+failure-kept Die c status entry behind k = absurd (false≢true k)
+failure-kept Reset c status entry behind k = absurd (false≢true k)
+failure-kept (Jump items) c status entry behind k = absurd (false≢true k)
+
+-- where the stack has failed, a code whose action keeps that leaves the run as it is
+pub failed_outcome : (ask : Ask) (a : Action) (c : ℕ) → slice_get ask.control c ≡ Some a → ask.state.impression ≡ Negative → keeps_failure a ≡ true →
+    outcome_of ask c ≡ record { state = ask.state; left = ask.behind }
+unfolding outcome_of outcome_by
+failed_outcome ask a c h negative k =
+    ap (λ (x : Action). outcome_by x c ask.state ask.entry ask.behind) (action_at ask c a h)
+    ∙ subst (λ (i : Impression). outcome_by a c (state_with i ask.state.status) ask.entry ask.behind
+    ≡ record { state = state_with i ask.state.status; left = ask.behind }) (sym negative) (failure-kept a c ask.state.status ask.entry ask.behind k)

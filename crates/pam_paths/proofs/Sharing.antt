@@ -50,7 +50,7 @@ none-empty [] h = refl
 none-empty (d ∷ codes) h = absurd (let x : ⊥ = cc in x)
 
 -- a member of a set is a code
-code_low : (codes : List ℕ) (c : ℕ) → IsCodeSet codes → Member c codes → c < 31
+pub code_low : (codes : List ℕ) (c : ℕ) → IsCodeSet codes → Member c codes → c < 31
 unfolding all_codes
 code_low codes c set h =
     let k = Member-filter_back (λ d. is_in d codes) (range_with_len 0 31) c (subst (λ (x : List ℕ). Member c x) set h) in

@@ -1,16 +1,18 @@
 -- For proofs alone: what an explorer holds of a listing, the frames of the path that it gave last.
-use Rattle.std.specs.Prelude.{◌≡◌, ℕ, ◌+◌, ◌-◌, ◌<◌, ◌≤◌, if◌then◌else◌, List, [], ◌∷◌, ◌++◌, map, reverse, Option, None, Some, IfSome}
+use Rattle.std.specs.Prelude.{◌≡◌, ℕ, true, false, ◌+◌, ◌-◌, ◌<◌, ◌≤◌, if◌then◌else◌, List, [], ◌∷◌, ◌++◌, map, reverse, Option, None, Some, IfSome}
 use Rattle.std.specs.List.{range_with_len}
-use Rattle.pam_codes.specs.Set.{codes_where}
+use Rattle.pam_codes.specs.Set.{codes_where, is_in}
 use Rattle.pam_conf.specs.declared.stack.TheConstants.{MAX_MODULES}
 use Rattle.pam_dispatch.specs.declared.entry.Entry.{Entry}
 use Rattle.pam_dispatch.specs.declared.place.Place.{Place}
 use Rattle.pam_dispatch.specs.declared.step.Outcome.{Outcome}
 use Rattle.pam_dispatch.specs.Flat.{rest_of, IsPlaceOf, modules_of}
 use Rattle.pam_dispatch.specs.Runs.{Ask, Runs, ends, asks, AsksRise, asked_module, next_ask, outcome_of}
+use Rattle.pam_paths.specs.declared.classes.Classes.{Classes}
 use Rattle.pam_paths.specs.declared.direction.Direction.{Direction}
 use Rattle.pam_paths.specs.declared.direction.Direction.TheVariants.{Forward, Backward}
 use Rattle.pam_paths.specs.declared.frames.Frame.{Frame}
+use Rattle.pam_paths.specs.Classes.{class_of}
 use Rattle.pam_paths.specs.Computed.{after_step, branches, is_offered, listing}
 use Rattle.pam_paths.specs.Directions.{ordered, past}
 use Rattle.pam_paths.specs.Listing.{Allowance}
@@ -53,12 +55,19 @@ part direction allows (asks ask next) (code ∷ codes) =
 abbrev pub offered_at : Allowance → Runs → List ℕ
 offered_at allows runs = codes_where (is_offered allows (next_ask runs))
 
+-- what was worked out of the classes where a module is asked: a code that is of none of them is alone in its class, and
+-- the last of them is a class
+pub record AreClasses (ask : Ask) (classes : Classes) : Type 0 where
+  pub alone : (code : ℕ) → code < 31 → is_in code classes.shared ≡ false → class_of ask code ≡ code ∷ []
+  pub whole : (code : ℕ) → code < 31 → is_in code classes.known ≡ true → class_of ask code ≡ classes.known
+
 -- a frame is at a module of the program; it and those that follow have numbers above low
 pub record IsFrame (allows : Allowance) (program : List Entry) (low : ℕ) (frame : Frame) : Type 0 where
   pub place : IsPlaceOf program frame.place
   pub asking : asked_module (rest_of program frame.place) ≡ Some frame.module_number
   pub rise : AsksRise low (modules_of program) (rest_of program frame.place)
-  pub offered : frame.offered ≡ offered_at allows (rest_of program frame.place)
+  pub offered : frame.classes.offered ≡ offered_at allows (rest_of program frame.place)
+  pub classes : AreClasses (next_ask (rest_of program frame.place)) frame.classes
   pub code : frame.code < 31
 
 unfoldable pub AreFrames : Allowance → List Entry → ℕ → List Frame → Type 0

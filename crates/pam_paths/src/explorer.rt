@@ -79,6 +79,7 @@ fn go_on<K: Knowledge>(
 }
 
 /// The next path in a direction, if one is left.
+#[inline(always)]
 pub(crate) fn next_path<K: Knowledge>(
     program: &Program,
     knowledge: &K,

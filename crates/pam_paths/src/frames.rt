@@ -7,11 +7,11 @@ ghost use Rattle.pam_dispatch.specs.Runs.{AsksRise, after_answer, asked_module, 
 ghost use Rattle.pam_paths.specs.Classes.{class_of};
 ghost use Rattle.pam_paths.specs.Computed.{after_step, listing};
 ghost use Rattle.pam_paths.specs.Directions.{ordered, past};
-ghost use Rattle.pam_paths.specs.Frames.{AreFrames, IsFrame, ahead, ahead_of, offered_at, step_in, under};
+ghost use Rattle.pam_paths.specs.Frames.{AreClasses, AreFrames, IsFrame, ahead, ahead_of, offered_at, step_in, under};
 ghost use Rattle.pam_paths.specs.Listing.{Allowance};
 ghost use Rattle.pam_paths.specs.Steps.{step_seen};
 
-use crate::classes::{class_of, offered_codes};
+use crate::classes::Classes;
 use crate::direction::Direction;
 use crate::knowledge::Knowledge;
 use crate::path::PathStep;
@@ -27,8 +27,7 @@ pub(crate) type Frames = ArrayVec<Frame, MAX_MODULES>;
 pub(crate) struct Frame {
     pub(crate) place: Place,
     pub(crate) module_number: u16,
-    /// The least codes of the classes that have an allowed code.
-    pub(crate) offered: CodeSet,
+    pub(crate) classes: Classes,
     /// The least code of the class that is followed.
     pub(crate) code: Code,
     pub(crate) class: CodeSet,
@@ -39,7 +38,7 @@ impl Default for Frame {
         Frame {
             place: Place::default(),
             module_number: 0,
-            offered: CodeSet::empty(),
+            classes: Classes::default(),
             code: Code::SUCCESS,
             class: CodeSet::empty(),
         }
@@ -71,24 +70,28 @@ impl Frame {
             → IsFrame (K.allows knowledge.now) program.now low result }
         ensures place { result.place ≡ place }
         ensures number { result.module_number ≡ module_number }
-        ensures offered { result.offered ≡ offered_at (K.allows knowledge.now) (rest_of program.now place) }
+        ensures offered { result.classes.offered ≡ offered_at (K.allows knowledge.now) (rest_of program.now place) }
+        ensures classes { AreClasses (next_ask (rest_of program.now place)) result.classes }
     {
         let allowed = knowledge.allowed(module_number);
+        let classes = Classes::at(program, &place, module_number, allowed);
         Frame {
             place,
             module_number: module_number as u16,
-            offered: offered_codes(program, &place, module_number, allowed),
+            classes,
             code: Code::SUCCESS,
             class: CodeSet::empty(),
         }
     }
 
     /// The branch of the class of a code.
+    #[inline(always)]
     pub(crate) fn branch(&self, program: &Program, code: Code, work: &mut Work) -> Branch
         requires place { IsPlaceOf program.now self.now.place }
         requires asking { asked_module (rest_of program.now self.now.place) ≡ Some self.now.module_number }
         requires first { 1 ≤ self.now.module_number }
         requires last { self.now.module_number ≤ modules_of program.now }
+        requires classes { AreClasses (next_ask (rest_of program.now self.now.place)) self.now.classes }
         ensures place { IsPlaceOf program.now result.place }
         ensures code { result.code ≡ code }
         ensures class { result.class ≡ class_of (next_ask (rest_of program.now self.now.place)) code }
@@ -97,12 +100,18 @@ impl Frame {
     {
         Branch {
             code,
-            class: class_of(program, &self.place, usize::from(self.module_number), code),
+            class: self.classes.class_of(
+                program,
+                &self.place,
+                usize::from(self.module_number),
+                code,
+            ),
             place: program.step(&self.place, code, work).place(),
         }
     }
 
     /// The first branch that is ahead of a bound.
+    #[inline(always)]
     pub(crate) fn branch_ahead(
         &self,
         program: &Program,
@@ -114,30 +123,32 @@ impl Frame {
         requires asking { asked_module (rest_of program.now self.now.place) ≡ Some self.now.module_number }
         requires first { 1 ≤ self.now.module_number }
         requires last { self.now.module_number ≤ modules_of program.now }
+        requires classes { AreClasses (next_ask (rest_of program.now self.now.place)) self.now.classes }
         requires bound { bound ≤ 31 }
-        ensures none { (allows : Allowance) → self.now.offered ≡ offered_at allows (rest_of program.now self.now.place)
+        ensures none { (allows : Allowance) → self.now.classes.offered ≡ offered_at allows (rest_of program.now self.now.place)
             → IfNone result (ahead_of direction allows (rest_of program.now self.now.place) bound ≡ []) }
         ensures place { IfSome result (λ b. IsPlaceOf program.now b.place) }
         ensures code { IfSome result (λ b. b.code < 31) }
         ensures rest { IfSome result (λ b. rest_of program.now b.place ≡ after_answer (rest_of program.now self.now.place) b.code) }
-        ensures paths { (allows : Allowance) → self.now.offered ≡ offered_at allows (rest_of program.now self.now.place)
+        ensures paths { (allows : Allowance) → self.now.classes.offered ≡ offered_at allows (rest_of program.now self.now.place)
             → IfSome result (λ b. ahead_of direction allows (rest_of program.now self.now.place) bound
             ≡ map (after_step (record { module_number = self.now.module_number; class = b.class }))
             (ordered direction (listing allows (rest_of program.now b.place)))
             ++ ahead_of direction allows (rest_of program.now self.now.place) (past direction b.code)) }
         ensures work { work.new ≤ work.old + 1 }
     {
-        match direction.first(self.offered, bound) {
+        match direction.first(self.classes.offered, bound) {
             Some(code) => Some(self.branch(program, code, work)),
             None => None,
         }
     }
 
     /// The frame where a branch is followed.
+    #[inline(always)]
     pub(crate) fn following(self, branch: &Branch) -> Frame
         ensures place { result.place ≡ self.place }
         ensures number { result.module_number ≡ self.module_number }
-        ensures offered { result.offered ≡ self.offered }
+        ensures classes { result.classes ≡ self.classes }
         ensures code { result.code ≡ branch.now.code }
         ensures class { result.class ≡ branch.now.class }
     {
@@ -216,6 +227,7 @@ pub(crate) fn descend<K: Knowledge>(
 }
 
 /// The steps of the frames.
+#[inline(always)]
 pub(crate) fn steps_of(frames: &Frames) -> ArrayVec<PathStep, MAX_MODULES>
     ensures { map step_seen result.items ≡ map step_in frames.now.items }
 {

@@ -65,7 +65,7 @@ fn take_turn<K: Knowledge>(
     }
     let turn = Turn {
         frame: frame.following(&branch),
-        offered: frame.offered.contains(code),
+        offered: frame.classes.offered.contains(code),
         place: branch.place,
     };
     if offered {

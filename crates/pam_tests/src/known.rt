@@ -1,4 +1,4 @@
-//! The codes that modules may return, from tables and a returns file.
+//! What tables and a returns file tell of the answers of modules.
 
 use crate::files::put;
 use pam_codes::{Code, CodeSet};
@@ -13,6 +13,8 @@ use std::test::Fail;
 
 const DENY: &[u8] = b"-:ALL:ALL";
 
+const MORNING: &[u8] = b"2024-05-11T07:59";
+
 fn no_tables() -> Tables<'static> {
     Tables {
         groups: None,
@@ -22,7 +24,7 @@ fn no_tables() -> Tables<'static> {
     }
 }
 
-/// Returns an access table that denies every login.
+/// An access table that denies every login.
 fn denying() -> Tables<'static> {
     Tables {
         access: Some(DENY),
@@ -36,36 +38,35 @@ fn stack_of(alloc: Global, kind: Kind, rules: &[u8]) -> Result<Stack, Fail> {
     Ok(resolve(alloc, &files, b"login", kind)?)
 }
 
-/// Returns what is known of the modules of these rules, for the user bob.
-fn known(
-    alloc: Global,
-    kind: Kind,
-    rules: &[u8],
-    tables: &Tables<'_>,
-) -> Result<Result<Known, TableError>, Fail> {
-    let stack = stack_of(alloc, kind, rules)?;
-    let login = Login {
+fn bob() -> Login<'static> {
+    Login {
         user: b"bob",
         service: b"login",
         tty: b"",
         rhost: b"",
-    };
-    Ok(known_answers(alloc, &stack, kind, &login, tables))
+    }
 }
 
-/// Returns the codes that the first two modules of an account stack with these rules may return.
+/// What is known of the modules of these rules, for bob.
+fn known(alloc: Global, kind: Kind, rules: &[u8], tables: &Tables<'_>) -> Result<Known, Fail> {
+    let stack = stack_of(alloc, kind, rules)?;
+    let login = bob();
+    Ok(known_answers(alloc, &stack, kind, &login, tables)?)
+}
+
+/// What an account stack of these rules may answer, by the numbers of its first two modules.
 fn answers(alloc: Global, rules: &[u8], tables: &Tables<'_>) -> Result<(CodeSet, CodeSet), Fail> {
-    let known = known(alloc, Kind::Account, rules, tables)??;
+    let known = known(alloc, Kind::Account, rules, tables)?;
     Ok((known.allowed(1), known.allowed(2)))
 }
 
 fn fault(alloc: Global, rules: &[u8], tables: &Tables<'_>) -> Result<Option<TableError>, Fail> {
-    Ok(known(alloc, Kind::Account, rules, tables)?.err())
-}
-
-fn timed(bytes: &[u8]) -> Result<Option<TimedTable<'_>>, Fail> {
-    let moment = civil(b"2024-05-11T07:59")?;
-    Ok(Some(TimedTable { bytes, moment }))
+    let stack = stack_of(alloc, Kind::Account, rules)?;
+    let login = bob();
+    match known_answers(alloc, &stack, Kind::Account, &login, tables) {
+        Ok(_) => Ok(None),
+        Err(error) => Ok(Some(error)),
+    }
 }
 
 fn at_line(table: Table, fault: TableFault, line: u32) -> Option<TableError> {
@@ -79,10 +80,24 @@ fn denied() -> CodeSet {
 #[test]
 fn an_access_table_tells_its_module_alone(rt: HostRuntime) -> Result<(), Fail> {
     let rules = b"account required /lib/pam_access.so\naccount required pam_unix.so";
-    let told = answers(rt.alloc(), rules, &denying())?;
-    assert_eq!(rt; told, (denied(), CodeSet::all()));
-    let told = answers(rt.alloc(), rules, &no_tables())?;
-    assert_eq!(rt; told, (CodeSet::all(), CodeSet::all()));
+    let tables = Tables {
+        access: Some(DENY),
+        ..no_tables()
+    };
+    let (first, second) = answers(rt.alloc(), rules, &tables)?;
+    assert_eq!(rt; first, denied());
+    assert_eq!(rt; second, CodeSet::all());
+    Ok(())
+}
+
+#[test]
+fn without_tables_nothing_is_known(rt: HostRuntime) -> Result<(), Fail> {
+    let tables = Tables {
+        returns: None,
+        ..no_tables()
+    };
+    let (first, _) = answers(rt.alloc(), b"account required pam_access.so", &tables)?;
+    assert_eq!(rt; first, CodeSet::all());
     Ok(())
 }
 
@@ -100,16 +115,38 @@ fn an_access_table_is_read_with_the_arguments_of_each_module(rt: HostRuntime) ->
 }
 
 #[test]
+fn an_access_table_names_the_groups_that_are_given(rt: HostRuntime) -> Result<(), Fail> {
+    let rules = b"account required pam_access.so";
+    let without_groups = Tables {
+        access: Some(b"-:(wheel):ALL"),
+        ..no_tables()
+    };
+    let (told, _) = answers(rt.alloc(), rules, &without_groups)?;
+    assert_eq!(rt; told, CodeSet::single(Code::SUCCESS));
+    let with_groups = Tables {
+        groups: Some(b"wheel:x:10:bob"),
+        ..without_groups
+    };
+    let (told, _) = answers(rt.alloc(), rules, &with_groups)?;
+    assert_eq!(rt; told, denied());
+    Ok(())
+}
+
+#[test]
 fn a_time_table_tells_accounts_alone(rt: HostRuntime) -> Result<(), Fail> {
+    let moment = civil(MORNING)?;
     let tables = Tables {
-        time: timed(b"*;*;*;!Al0000-2400")?,
+        time: Some(TimedTable {
+            bytes: b"*;*;*;!Al0000-2400",
+            moment,
+        }),
         ..no_tables()
     };
     let rules =
         b"account required pam_time.so\naccount required pam_time.so conffile=/x\nauth required pam_time.so";
     let told = answers(rt.alloc(), rules, &tables)?;
     assert_eq!(rt; told, (denied(), CodeSet::all()));
-    let free = known(rt.alloc(), Kind::Auth, rules, &tables)??;
+    let free = known(rt.alloc(), Kind::Auth, rules, &tables)?;
     assert_eq!(rt; free.allowed(1), CodeSet::all());
     Ok(())
 }
@@ -130,10 +167,14 @@ fn a_returns_file_tells_what_no_table_tells(rt: HostRuntime) -> Result<(), Fail>
 
 #[test]
 fn tables_that_no_module_reads_have_no_fault(rt: HostRuntime) -> Result<(), Fail> {
+    let moment = civil(MORNING)?;
     let tables = Tables {
         groups: Some(b"bad"),
         access: Some(b"bad"),
-        time: timed(b"bad")?,
+        time: Some(TimedTable {
+            bytes: b"bad",
+            moment,
+        }),
         returns: Some(b"b.so success"),
     };
     let found = fault(rt.alloc(), b"account required b.so", &tables)?;
@@ -143,7 +184,7 @@ fn tables_that_no_module_reads_have_no_fault(rt: HostRuntime) -> Result<(), Fail
     Ok(())
 }
 
-/// Asserts the first faults, in stacks whose modules read the time table first or the access table first.
+/// That the first fault is this one, in stacks whose modules read the time table first, or the access table.
 fn is_first(
     rt: &impl Abort,
     alloc: Global,
@@ -160,6 +201,7 @@ fn is_first(
 
 #[test]
 fn groups_come_first_then_tables_by_modules_then_returns(rt: HostRuntime) -> Result<(), Fail> {
+    let moment = civil(MORNING)?;
     let groups = at_line(Table::Group, TableFault::BadGroup, 1);
     let access = at_line(Table::Access, TableFault::MissingField, 1);
     let time = at_line(Table::Time, TableFault::MissingField, 1);
@@ -167,7 +209,10 @@ fn groups_come_first_then_tables_by_modules_then_returns(rt: HostRuntime) -> Res
     let all_bad = Tables {
         groups: Some(b"bad"),
         access: Some(b"bad"),
-        time: timed(b"bad")?,
+        time: Some(TimedTable {
+            bytes: b"bad",
+            moment,
+        }),
         returns: Some(b"bad"),
     };
     is_first(&rt, rt.alloc(), &all_bad, groups, groups)?;
@@ -178,7 +223,7 @@ fn groups_come_first_then_tables_by_modules_then_returns(rt: HostRuntime) -> Res
     is_first(&rt, rt.alloc(), &no_groups, time, access)?;
     let good_tables = Tables {
         access: Some(DENY),
-        time: timed(b"")?,
+        time: None,
         ..no_groups
     };
     is_first(&rt, rt.alloc(), &good_tables, returns, returns)

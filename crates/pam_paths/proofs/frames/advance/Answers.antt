@@ -29,6 +29,10 @@ branch_ahead-requires-clause-last g c =
     let k = popped (g.K.Knowledge.allows c.args.knowledge.now) c.args.program.now _ _ _ c.in-Some.ensures.items c.loop-frame.invariant.frames in
     (frame_number _ _ _ _ k.1).1
 
+pub branch_ahead-requires-clause-classes : goal.branch_ahead-requires-clause-classes
+branch_ahead-requires-clause-classes g c =
+    (popped (g.K.Knowledge.allows c.args.knowledge.now) c.args.program.now _ _ _ c.in-Some.ensures.items c.loop-frame.invariant.frames).1.classes
+
 pub push-requires : goal.push-requires
 push-requires g c =
     let k = popped (g.K.Knowledge.allows c.args.knowledge.now) c.args.program.now _ _ _ c.in-Some.ensures.items c.loop-frame.invariant.frames in
@@ -44,7 +48,7 @@ returns-in-Some-branch_ahead-clause-frames g c =
     let low : c.following.result.code < 31 = omega (arith, f.code, c.in-Some-branch_ahead.ensures.code) in
     subst (λ x. AreFrames allows program 0 x) (sym c.push.ensures.items)
     (pushed allows program c.pop.new.self.items c.following.result k.0
-    (frame_same allows program (length c.pop.new.self.items) c.in-Some.frame c.following.result k.1 f.place f.number f.offered low))
+    (frame_same allows program (length c.pop.new.self.items) c.in-Some.frame c.following.result k.1 f.place f.number f.classes low))
 
 pub returns-in-Some-branch_ahead-clause-rise : goal.returns-in-Some-branch_ahead-clause-rise
 returns-in-Some-branch_ahead-clause-rise g c =

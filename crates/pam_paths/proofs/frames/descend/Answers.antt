@@ -60,7 +60,7 @@ loop-module_number-preserved g c =
     let below = ordered d (listing allows (rest_of program b.place)) in
     record {
       frames = subst (λ x. AreFrames allows program 0 x) (sym c.push.ensures.items)
-          (pushed allows program fs h i.frames (frame_same allows program (length fs) f h is k.place k.number k.offered low));
+          (pushed allows program fs h i.frames (frame_same allows program (length fs) f h is k.place k.number k.classes low));
       place = e.place;
       rise = subst (λ x. AsksRise x (modules_of program) (rest_of program b.place)) (sym c.push.ensures.len)
           (frame_after allows program (length fs) f b.code b.place is e.rest);
@@ -75,6 +75,10 @@ loop-module_number-preserved g c =
           ∙ ap (λ (x : List Frame). under x below ++ ahead d allows program x) (sym c.push.ensures.items);
       work = omega (arith, c.push.ensures.len, c.branch_ahead.ensures.work, i.work);
     }
+
+pub branch_ahead-requires-clause-classes : goal.branch_ahead-requires-clause-classes
+branch_ahead-requires-clause-classes g c =
+    (c.at-frame.ensures.frame (length c.loop-module_number.frames.items) c.loop-module_number.invariant.rise).classes
 
 pub branch_ahead-requires-clause-first : goal.branch_ahead-requires-clause-first
 branch_ahead-requires-clause-first g c =

@@ -1,8 +1,9 @@
-use Rattle.std.proofs.Common.{◌∙◌, ℕ, List, ap, arith}
+use Rattle.std.proofs.Common.{◌∙◌, ℕ, List, ap, arith, subst, sym}
 use Rattle.pam_dispatch.specs.declared.place.Place.{Place}
 use Rattle.pam_dispatch.specs.Flat.{rest_of}
 use Rattle.pam_dispatch.specs.Runs.{next_ask}
 use Rattle.pam_paths.specs.Classes.{class_of}
+use Rattle.pam_paths.specs.Frames.{AreClasses}
 use Rattle.pam_paths.specs.Paths.{StepValue}
 use Rattle.pam_paths.proofs.Branches.{offered_is, ask_number}
 use Rattle.pam_paths.proofs.retrace.take_turn.Goals as goal
@@ -23,5 +24,10 @@ returns-clause-step g c =
 pub returns-clause-offered : goal.returns-clause-offered
 returns-clause-offered g c =
     c.contains.ensures
-    ∙ offered_is (g.K.Knowledge.allows c.args.knowledge.now) (rest_of c.args.program.now c.args.place) c.at-frame.result.offered c.args.code
+    ∙ offered_is (g.K.Knowledge.allows c.args.knowledge.now) (rest_of c.args.program.now c.args.place) c.at-frame.result.classes.offered c.args.code
     c.at-frame.ensures.offered (omega (arith, c.number.ensures))
+
+pub branch-branch-requires-clause-classes : goal.branch-branch-requires-clause-classes
+branch-branch-requires-clause-classes g c =
+    subst (λ (x : Place). AreClasses (next_ask (rest_of c.args.program.now x)) c.at-frame.result.classes) (sym c.at-frame.ensures.place)
+    c.at-frame.ensures.classes

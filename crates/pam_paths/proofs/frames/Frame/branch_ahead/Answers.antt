@@ -11,7 +11,7 @@ pub returns-in-Some-clause-paths : goal.returns-in-Some-clause-paths
 returns-in-Some-clause-paths c allows is =
     let r = rest_of c.args.program.now c.args.self.now.place in
     let d = c.args.direction in
-    let offered = c.args.self.now.offered in
+    let offered = c.args.self.now.classes.offered in
     let b = c.branch-self.ensures in
     let found = c.in-Some.ensures.found in
     let e : c.branch-self.result.code ≡ c.in-Some.code = b.code in
@@ -30,4 +30,4 @@ pub returns-in-None-clause-none : goal.returns-in-None-clause-none
 returns-in-None-clause-none c allows is =
     let r = rest_of c.args.program.now c.args.self.now.place in
     nothing-ahead c.args.direction allows r c.args.bound c.requires.bound
-    (λ k low near. sym (offered_is allows r c.args.self.now.offered k is low) ∙ c.in-None.ensures.none k low near)
+    (λ k low near. sym (offered_is allows r c.args.self.now.classes.offered k is low) ∙ c.in-None.ensures.none k low near)
