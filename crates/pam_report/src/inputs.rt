@@ -256,7 +256,6 @@ pub(crate) fn tables_given(inputs: &Inputs, moment: Option<DateTime>) -> Tables<
     }
 }
 
-/// Returns inputs without tables.
 fn without_tables(files: Files) -> Inputs {
     Inputs {
         files,

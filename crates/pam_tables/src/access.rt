@@ -58,7 +58,6 @@ impl Permission {
     }
 }
 
-/// A line of an access table.
 #[derive(Drop)]
 struct AccessLine<'a> {
     number: u32,
