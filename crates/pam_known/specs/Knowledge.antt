@@ -59,7 +59,7 @@ returns_read (Some bytes) = read_as ReturnsTable (returns_of bytes)
 
 -- ---- the codes of each module
 
--- the code that a table tells, else the codes of a line, else all codes. A fault tells no code: it is the result
+-- the code that a table tells, else the codes of a line, else all codes. A fault tells no code; see `knowledge`
 abbrev pub codes_by : Option (Result ℕ TableError) → Option (List ℕ) → List ℕ
 codes_by (Some (Ok code)) line = code ∷ []
 codes_by (Some (Err e)) line = all_codes

@@ -24,7 +24,6 @@ pub(crate) fn put_step<W: Write>(step: &PathStep, out: &mut Out<W>) -> Result<()
     step.class().write_text(out)
 }
 
-/// Writes the steps of a path.
 fn put_steps<W: Write>(steps: &[PathStep], out: &mut Out<W>) -> Result<(), Device>
     requires { out.old.failures < 2 ^ 64 - 1 }
     ensures { Writes W.contents out.old out.new result (flat_map step_text (map step_seen steps.now)) }

@@ -12,9 +12,10 @@ use pam_codes::{Device, Out};
 use pam_paths::Knowledge;
 use std::io::Write;
 
-/// Writes a line for each of the next paths, at most as many as the limit, and a last line: `end`, or where others follow
-/// `more` and the cursor of the last one. The first of those others is taken from the listing too. No memory is taken.
-/// An error where the writer fails.
+/// Writes a page: a line for each of the next paths, at most `limit`, and a last line. Fails if the writer does.
+///
+/// The last line is `end`, or `more` with the cursor of the last path if other paths follow. The first of those is
+/// taken from the listing too. Allocates nothing.
 pub fn put_page<K: Knowledge, W: Write>(
     listing: &mut Listing<'_, K>,
     limit: u32,
@@ -36,7 +37,7 @@ pub fn put_page<K: Knowledge, W: Write>(
     put_rest(listing, limit - 1, texts, out)
 }
 
-/// Writes what is left of a page that has room for one more line.
+/// Writes the rest of a page that has room for one more path.
 #[tactic(auto, unfolding(crate::specs::Page::text_after))]
 fn put_rest<K: Knowledge, W: Write>(
     listing: &mut Listing<'_, K>,

@@ -1,4 +1,4 @@
-//! The texts of the path whose line was written last.
+//! The kept texts of the path whose line was written last.
 
 ghost use Rattle.std.specs.Prelude.{◌≡◌, ◌++◌, ◌∷◌, ◌-◌, ◌<◌, ◌≤◌, ◌^◌, [], if◌then◌else◌, IfOk, IsTrue, length, map, take};
 ghost use Rattle.pam_codes.specs.Out.{Writes};
@@ -14,14 +14,14 @@ use pam_paths::{Path, PathStep};
 use std::alloc::{AllocError, Global};
 use std::io::Write;
 
-/// How many bytes the longest text of a code takes, a dot with it.
+/// The greatest length of the text of a code, in bytes, with the dot before it.
 const CODE_BYTES: usize = 3;
 
-/// How many bytes the longest text of a step takes: the missing names of a class of 16 codes, or the names of one of
-/// 15, are at most 233 bytes, and `but:`, the number and two signs are before them.
+/// The greatest length of the text of a step, in bytes. The names missing from a class of 16 codes, or the names in one
+/// of 15, are at most 233 bytes, after `but:`, the number and two signs.
 const STEP_BYTES: usize = 242;
 
-/// A step whose texts are kept, and where they end.
+/// A step whose texts are kept, and their ends in the buffers.
 #[derive(Clone, Copy, Debug)]
 struct Mark {
     step: PathStep,
@@ -37,20 +37,20 @@ impl Mark {
     }
 }
 
-/// The texts of the path whose line was written last: what the next path shares with it is copied from here, and not
-/// formed again.
+/// The texts of the path whose line was written last. The next line copies the steps it shares with that path from
+/// here.
 #[derive(Drop)]
 pub struct LineTexts {
     /// The first steps of that path, as many as there was room for.
     marks: Vec<Mark>,
-    /// `.CODE` for each of them.
+    /// `.CODE` for each step.
     cursor: Buffer,
-    /// ` NUMBER=CLASS` for each of them.
+    /// ` NUMBER=CLASS` for each step.
     steps: Buffer,
     ghost texts: { AreTexts marks.items cursor.bytes.items steps.bytes.items },
 }
 
-/// The buffer with the text of the code of a step after its bytes, and whether there was room for it.
+/// Appends the text of a step's code. Returns whether there was room.
 fn with_code(cursor: Buffer, step: &PathStep) -> (Buffer, bool)
     ensures grown { take (length cursor.bytes.items) result.0.bytes.items ≡ cursor.bytes.items }
     ensures ok { IsTrue result.1 → result.0.bytes.items ≡ cursor.bytes.items ++ code_text (step_seen step.now) }
@@ -60,7 +60,7 @@ fn with_code(cursor: Buffer, step: &PathStep) -> (Buffer, bool)
     (out.into_inner(), fits)
 }
 
-/// The buffer with the text of a step after its bytes, and whether there was room for it.
+/// Appends the text of a step. Returns whether there was room.
 fn with_step(steps: Buffer, step: &PathStep) -> (Buffer, bool)
     ensures grown { take (length steps.bytes.items) result.0.bytes.items ≡ steps.bytes.items }
     ensures ok { IsTrue result.1 → result.0.bytes.items ≡ steps.bytes.items ++ step_text (step_seen step.now) }
@@ -83,7 +83,7 @@ fn put_code<W: Write>(step: &PathStep, out: &mut Out<W>) -> Result<(), Device>
     out.put_line(&[Piece::Bytes(b"."), Piece::Number(u64::from(number))])
 }
 
-/// The text of a cursor, of the codes with a dot before each.
+/// Returns the text of a cursor, from the codes with a dot before each.
 fn undotted(codes: &[u8]) -> &[u8]
     ensures { result.now ≡ undotted codes.now }
 {
@@ -96,8 +96,8 @@ fn undotted(codes: &[u8]) -> &[u8]
 impl LineTexts {
     ghost use Rattle.pam_page.specs.Kept.{kept};
 
-    /// No texts, with room for those of any path, so that a page that is written with them takes no memory. An error
-    /// where an allocation fails.
+    /// Returns no texts, with room for those of any path, so that writing a page allocates nothing. Fails if an
+    /// allocation does.
     pub fn new(alloc: Global) -> Result<LineTexts, AllocError>
         ensures { IfOk result (λ texts. kept texts ≡ []) }
     {
@@ -108,7 +108,7 @@ impl LineTexts {
         })
     }
 
-    /// How many of the first steps are those whose texts are kept.
+    /// Counts the leading steps whose texts are kept.
     fn shared(&self, steps: &[PathStep]) -> usize
         ensures within { result ≤ length steps.now }
         ensures same { take result (kept self.now) ≡ take result (map step_seen steps.now) }
@@ -124,7 +124,7 @@ impl LineTexts {
         count
     }
 
-    /// Keeps the texts of the first steps.
+    /// Keeps the texts of the first `count` steps.
     fn cut(self, count: usize) -> LineTexts
         ensures { kept result ≡ take count (kept self) }
     {
@@ -151,7 +151,7 @@ impl LineTexts {
         }
     }
 
-    /// Keeps the texts of one more step, and tells whether there was room for them.
+    /// Appends the texts of a step. Returns whether there was room.
     fn with(self, step: &PathStep) -> (LineTexts, bool)
         ensures { kept result.0 ≡ (if result.1 then kept self ++ step_seen step.now ∷ [] else kept self) }
     {
@@ -192,7 +192,7 @@ impl LineTexts {
         )
     }
 
-    /// Keeps the texts of the first of these steps, as many as there is room for.
+    /// Replaces the kept texts by those of these steps, as many as there is room for.
     pub(crate) fn of_steps(self, steps: &[PathStep]) -> LineTexts
         ensures { kept result ≡ take (length (kept result)) (map step_seen steps.now) }
     {
@@ -209,7 +209,7 @@ impl LineTexts {
         texts
     }
 
-    /// Writes the line of a path whose first steps are those that are kept.
+    /// Writes the line of a path, whose first steps are the kept ones.
     pub(crate) fn put_path<W: Write>(&self, path: &Path, out: &mut Out<W>) -> Result<(), Device>
         requires room { out.old.failures < 2 ^ 64 - 1 }
         requires kept { kept self.now ≡ take (length (kept self.now)) path.now.steps }

@@ -1,4 +1,4 @@
--- What a call that answers writes.
+-- The text that a call writes when it answers.
 use Rattle.std.specs.Prelude.{◌≡◌, ℕ, List, Option, None, Result, Ok, Err}
 use Rattle.pam_codes.specs.Out.{TookAll, TookFront}
 use Rattle.pam_codes.specs.declared.out.Out.{Out}

@@ -15,25 +15,20 @@ use pam_times::MomentError;
 use std::alloc::{AllocError, Global};
 use thiserror::Error;
 
-/// The exit status if there is not one code for each module.
+// The exit statuses of faults.
 const WRONG_COUNT: u8 = 2;
 
-/// The exit status for a bad cursor.
 const BAD_CURSOR: u8 = 2;
 
-/// The exit status for a fault of the configuration.
 const BAD_CONFIGURATION: u8 = 3;
 
-/// The exit status for a fault of a table.
 const BAD_TABLE: u8 = 4;
 
-/// The exit status for a bad moment.
 const BAD_MOMENT: u8 = 4;
 
-/// The exit status for a failed read or write.
+/// For a failed read or write.
 const FAILED: u8 = 5;
 
-/// The exit status for a failed allocation.
 const NO_MEMORY: u8 = 6;
 
 /// Why a request has no answer.
@@ -96,7 +91,6 @@ fn conf_fault_name(kind: FaultKind) -> &'static str
     }
 }
 
-/// Appends the text of a piece.
 fn push_piece(text: &mut Vec<u8>, piece: Piece<'_>) -> Result<(), AllocError>
     ensures { OnOk result (text.new.items ≡ text.old.items ++ piece_text piece.entry) }
 {

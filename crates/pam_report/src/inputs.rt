@@ -14,8 +14,8 @@ use std::path::Path;
 use std::{fs, io};
 use thiserror::Error;
 
-/// The number of bytes read from a file at most: one more than a table or configuration may have, so that a longer file
-/// is noticed.
+/// The most bytes read from a file: one more than a table or configuration file may have, so that a longer file is
+/// noticed.
 const MOST: u64 = 1_048_577;
 
 /// Why an input cannot be read.
@@ -256,7 +256,6 @@ pub(crate) fn tables_given(inputs: &Inputs, moment: Option<DateTime>) -> Tables<
     }
 }
 
-/// Returns inputs without tables.
 fn without_tables(files: Files) -> Inputs {
     Inputs {
         files,

@@ -1,4 +1,4 @@
--- Files whose lines give values to names, of which the first of a name counts: group(5), returns files.
+-- Files of named entries, of which the first of each name counts: group(5), returns files.
 use Rattle.std.specs.Prelude.{ℕ, List, [], ◌∷◌, ◌++◌, if◌then◌else◌, Option, Some, None, Result, Ok, Err}
 use Rattle.std.specs.List.{list_any}
 use Rattle.std.specs.Str.{bytes_eq}

@@ -30,7 +30,7 @@ abbrev pub masked : Address → List ℕ → Result (Option Network) TableFault
 masked (addresses.V4 v) text = option_map_or (λ k. Ok (Some (networks.V4 v k))) (v4_mask_of text) (Err BadMask)
 masked (addresses.V6 v) text = option_map_or (λ k. Ok (Some (networks.V6 v k))) (v6_mask_of text) (Err BadMask)
 
--- the network written as an address, a slash and a mask. A text without an address before a slash is none
+-- the network written as an address, a slash and a mask. A text without an address before a slash is no network
 unfoldable pub network_of : List ℕ → Result (Option Network) TableFault
 network_of text = option_map_or (λ p. option_map_or (λ a. masked a p.1) (address_of p.0) (Ok None)) (cut_at (is_among (codes "/")) text) (Ok None)
 

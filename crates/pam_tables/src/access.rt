@@ -58,7 +58,6 @@ impl Permission {
     }
 }
 
-/// A line of an access table.
 #[derive(Drop)]
 struct AccessLine<'a> {
     number: u32,
@@ -242,7 +241,8 @@ fn read_lines<'a>(
 impl<'a> AccessTable<'a> {
     /// Reads a table, or returns its first fault.
     ///
-    /// A file that is too long comes first, then a NUL byte, then the faults of the lines from the top.
+    /// `TableTooLong` (line 0) comes first, then `NulByte`, then the lines from the top. Within a line `MissingField`
+    /// comes first, then `BadPermission`, then the tokens from the left. A failed allocation is `Memory`, with line 0.
     pub fn read(
         alloc: Global,
         bytes: &'a [u8],

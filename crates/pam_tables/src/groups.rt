@@ -83,7 +83,8 @@ impl Groups {
 
     /// Reads a group file, or returns its first fault. If several lines have the same name, the first counts.
     ///
-    /// A file that is too long comes first, then a NUL byte, then the faults of the lines from the top.
+    /// `TableTooLong` (line 0) comes first, then `NulByte`, then `BadGroup` in the lines from the top. A failed
+    /// allocation is `Memory`, with line 0.
     pub fn read(alloc: Global, bytes: &[u8]) -> Result<Groups, TableError>
         ensures { Gives Table.Group (λ groups. groups) result (groups_of bytes.now) }
     {

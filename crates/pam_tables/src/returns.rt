@@ -93,9 +93,9 @@ impl ReturnTable {
 
     /// Reads a returns file, or returns its first fault.
     ///
-    /// A file that is too long comes first (`TableTooLong`, line 0), then a NUL byte (`NulByte`), then the faults of
-    /// the lines from the top. Within a line, `BadModule` (a slash in the name) comes before `MissingField` (no code)
-    /// and `BadCode` (a word that is no code). A failed allocation is `Memory`, with line 0.
+    /// `TableTooLong` (line 0) comes first, then `NulByte`, then the lines from the top. Within a line `BadModule` (a
+    /// slash in the module name) comes first, then `MissingField` (no code), then `BadCode` (a word that is no code).
+    /// A failed allocation is `Memory`, with line 0.
     pub fn read(alloc: Global, bytes: &[u8]) -> Result<ReturnTable, TableError>
         ensures { Gives Table.Returns (λ table. table) result (returns_of bytes.now) }
     {

@@ -47,7 +47,6 @@ fn files(alloc: Global) -> Result<Files, Fail> {
     Ok(files)
 }
 
-/// Returns the line of a fault.
 fn line(alloc: Global, fault: &Fault) -> Result<Vec<u8>, Fail> {
     let files = files(alloc)?;
     let text = fault_text(alloc, fault, &files)?;

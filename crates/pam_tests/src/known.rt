@@ -1,4 +1,4 @@
-//! What tables and a returns file tell of the answers of modules.
+//! The codes that modules may return, from tables and a returns file.
 
 use crate::files::put;
 use pam_codes::{Code, CodeSet};
@@ -24,7 +24,7 @@ fn no_tables() -> Tables<'static> {
     }
 }
 
-/// An access table that denies every login.
+/// Returns an access table that denies every login.
 fn denying() -> Tables<'static> {
     Tables {
         access: Some(DENY),
@@ -47,14 +47,14 @@ fn bob() -> Login<'static> {
     }
 }
 
-/// What is known of the modules of these rules, for bob.
+/// Returns what is known of the modules of these rules, for the user bob.
 fn known(alloc: Global, kind: Kind, rules: &[u8], tables: &Tables<'_>) -> Result<Known, Fail> {
     let stack = stack_of(alloc, kind, rules)?;
     let login = bob();
     Ok(known_answers(alloc, &stack, kind, &login, tables)?)
 }
 
-/// What an account stack of these rules may answer, by the numbers of its first two modules.
+/// Returns the codes that the first two modules of an account stack with these rules may return.
 fn answers(alloc: Global, rules: &[u8], tables: &Tables<'_>) -> Result<(CodeSet, CodeSet), Fail> {
     let known = known(alloc, Kind::Account, rules, tables)?;
     Ok((known.allowed(1), known.allowed(2)))
@@ -184,7 +184,7 @@ fn tables_that_no_module_reads_have_no_fault(rt: HostRuntime) -> Result<(), Fail
     Ok(())
 }
 
-/// That the first fault is this one, in stacks whose modules read the time table first, or the access table.
+/// Asserts the first faults, in stacks whose modules read the time table first or the access table first.
 fn is_first(
     rt: &impl Abort,
     alloc: Global,

@@ -6,7 +6,6 @@ use std::alloc::Global;
 use std::process::Abort;
 use std::test::Fail;
 
-/// Returns the set of the codes with these names.
 fn set_of(names: &[&[u8]]) -> Option<CodeSet> {
     let mut set = CodeSet::empty();
     for name in names {

@@ -5,7 +5,6 @@ use std::alloc::Global;
 use std::process::Abort;
 use std::test::Fail;
 
-/// Returns the set of these codes.
 fn set_of(codes: &[Code]) -> CodeSet {
     let mut set = CodeSet::empty();
     for code in codes {

@@ -116,9 +116,9 @@ fn first_answer(rules: &[TimeRule], login: &Login<'_>, day: u8, minute: u16) -> 
 impl TimeTable {
     /// Reads a table, or returns its first fault.
     ///
-    /// A file that is too long comes first (`TableTooLong`, line 0), then a NUL byte (`NulByte`), then the faults of
-    /// the lines from the top. Within a line `MissingField` comes first, then the fields from the left. Within a field
-    /// `BadLogic` comes first, then its tokens from the left. A failed allocation is `Memory`, with line 0.
+    /// `TableTooLong` (line 0) comes first, then `NulByte`, then the lines from the top. Within a line `MissingField`
+    /// comes first, then the fields from the left; within a field `BadLogic`, then its tokens from the left. A failed
+    /// allocation is `Memory`, with line 0.
     pub fn read(alloc: Global, bytes: &[u8]) -> Result<TimeTable, TableError>
         ensures { Gives Table.Time (λ table. table) result (rules_of bytes.now) }
     {

@@ -104,7 +104,6 @@ fn write_answer<W: Write>(answer: AccessAnswer, out: &mut Out<W>) -> Result<(), 
     out.finish()
 }
 
-/// Answers `access` for a login.
 fn answer_login<W: Write>(
     alloc: Global,
     login: &Login<'_>,
@@ -133,7 +132,6 @@ pub(super) struct Person<'a> {
     pub rhost: &'a str,
 }
 
-/// Answers `access`.
 pub(super) fn answer_access<W: Write>(
     alloc: Global,
     service: &str,

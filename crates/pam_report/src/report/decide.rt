@@ -42,7 +42,6 @@ fn put_action<W: Write>(action: Action, out: &mut Out<W>) -> Result<(), Device>
     out.put_line(&[action.piece()])
 }
 
-/// Returns the name of a code.
 #[tactic(auto, unfolding(crate::specs::Header::code_name))]
 fn name_of(code: Code) -> &'static [u8]
     ensures { result.now ≡ code_name code }
@@ -213,7 +212,6 @@ fn decide_stack<W: Write>(
     }
 }
 
-/// Answers `decide`.
 pub(super) fn answer_decide<W: Write>(
     alloc: Global,
     service: &str,

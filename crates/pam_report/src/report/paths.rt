@@ -38,7 +38,6 @@ use pam_words::Part;
 use std::alloc::Global;
 use std::io::Write;
 
-/// A page that is requested.
 #[derive(Clone, Copy)]
 pub(super) struct PageRequest<'a> {
     pub service: &'a str,
@@ -192,7 +191,6 @@ fn answer_stack<W: Write>(
     }
 }
 
-/// Answers `paths`.
 pub(super) fn answer_paths<W: Write>(
     alloc: Global,
     request: PageRequest<'_>,

@@ -179,7 +179,6 @@ fn write_stack<W: Write>(
     out.finish()
 }
 
-/// Answers `show`.
 pub(super) fn answer_show<W: Write>(
     alloc: Global,
     service: &str,

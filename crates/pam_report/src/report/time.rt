@@ -86,7 +86,6 @@ fn write_answer<W: Write>(answer: TimeAnswer, out: &mut Out<W>) -> Result<(), De
     out.finish()
 }
 
-/// Answers `time` for a login.
 fn answer_login<W: Write>(
     alloc: Global,
     login: &Login<'_>,
@@ -107,7 +106,6 @@ fn answer_login<W: Write>(
     }
 }
 
-/// Answers `time` at a moment.
 pub(super) fn answer_time<W: Write>(
     alloc: Global,
     service: &str,

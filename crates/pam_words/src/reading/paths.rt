@@ -10,7 +10,6 @@ use crate::reading::{moment, stack, text, value};
 use crate::wanted::{Moment, Part, Task, Usage};
 use clap::ArgMatches;
 
-/// Whether an id has a value.
 fn has(matches: &ArgMatches<'_>, id: &str) -> bool
     ensures { result ≡ has_value id.now (rows_of (found_of matches.now)) }
 {
