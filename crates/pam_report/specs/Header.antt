@@ -1,12 +1,12 @@
--- The first line of an answer, and the names in its other lines.
-use Rattle.std.specs.Prelude.{ℕ, List, ◌∷◌, [], codes, decimal, map, unwrap_or, slice_get}
+-- The first line of an answer, and the places that others name.
+use Rattle.std.specs.Prelude.{ℕ, List, ◌∷◌, [], codes, decimal, map, slice_get}
 use Rattle.std.specs.Option.{option_map_or}
 use Rattle.std.specs.Char.{to_ascii_lowercase}
 use Rattle.std.specs.List.{concat}
-use Rattle.pam_codes.specs.Code.{code_names}
 use Rattle.pam_conf.specs.Files.{Folder}
 use Rattle.pam_conf.specs.declared.rule.Kind.{Kind}
 use Rattle.pam_conf.specs.declared.rule.Kind.TheVariants.{Auth, Account, Password, Session}
+unfoldable pub use Rattle.pam_page.specs.Page.{code_name}
 
 abbrev pub kind_name : Kind → List ℕ
 kind_name Auth = codes "auth"
@@ -14,11 +14,7 @@ kind_name Account = codes "account"
 kind_name Password = codes "password"
 kind_name Session = codes "session"
 
--- the name of a code
-unfoldable pub code_name : ℕ → List ℕ
-code_name code = unwrap_or (slice_get code_names code) []
-
--- `SERVICE KIND N modules`, with the service in lowercase
+-- `SERVICE KIND N modules`, the service in lower case
 unfoldable pub header_text : List ℕ → Kind → ℕ → List ℕ
 header_text service kind modules =
     concat (map to_ascii_lowercase service ∷ codes " " ∷ kind_name kind ∷ codes " " ∷ decimal modules ∷ codes " modules\n" ∷ [])
