@@ -1,4 +1,4 @@
--- The first line of an answer, and the places that others name.
+-- The first line of an answer, and the names in its other lines.
 use Rattle.std.specs.Prelude.{ℕ, List, ◌∷◌, [], codes, decimal, map, slice_get}
 use Rattle.std.specs.Option.{option_map_or}
 use Rattle.std.specs.Char.{to_ascii_lowercase}
@@ -14,7 +14,7 @@ kind_name Account = codes "account"
 kind_name Password = codes "password"
 kind_name Session = codes "session"
 
--- `SERVICE KIND N modules`, the service in lower case
+-- `SERVICE KIND N modules`, with the service in lowercase
 unfoldable pub header_text : List ℕ → Kind → ℕ → List ℕ
 header_text service kind modules =
     concat (map to_ascii_lowercase service ∷ codes " " ∷ kind_name kind ∷ codes " " ∷ decimal modules ∷ codes " modules\n" ∷ [])
