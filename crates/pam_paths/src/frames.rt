@@ -55,6 +55,7 @@ pub(crate) struct Branch {
 
 impl Frame {
     /// The frame of the module asked at a place, before a class is followed.
+    #[inline(always)]
     pub(crate) fn at<K: Knowledge>(
         program: &Program,
         knowledge: &K,
