@@ -3,9 +3,9 @@
 
 For each case the inputs are made anew in a temporary folder, the program is run once to warm up and then N times, and
 the least and the median wall time and the peak memory are printed, with the same for an input twice as large where
-growth is of interest. With --pages it also prints long pages of paths. It needs Python's standard library and, for peak memory, /usr/bin/time. With --decisions it also
-runs that program, which decides one stack many times by the library alone; with --paths that one, which explores stacks
-by the library alone.
+growth is of interest. It needs Python's standard library and, for peak memory, /usr/bin/time. With --pages it also
+lists the paths of stacks in one page; with --decisions it also runs that program, which decides one stack many times by
+the library alone; with --paths that one, which explores stacks by the library alone.
 """
 import argparse
 import os
