@@ -20,6 +20,9 @@ KEYWORDS = {
     b"optional": b"[success=ok new_authtok_reqd=ok default=ignore]",
 }
 WORDS_OF_ACTIONS = [b"ignore", b"bad", b"die", b"ok", b"done", b"reset"]
+BLANKS_BEFORE_A_WORD = re.compile(rb"[ \t\r]*(?=[^ \t\r])")
+PLAIN_WORD = re.compile(rb"[^ \t\r\[][^ \t\r]*")
+BRACKETED_WORD = re.compile(rb"(?s)\[(.*?)(?<!\\)\]")
 SINGLE = "single"
 DIR = "dir"
 
@@ -48,14 +51,12 @@ def words_of(line):
     """The words of a logical line, each as it is written and as its text."""
     words = []
     position = 0
-    while blanks_or_word := re.compile(rb"[ \t\r]*(?=[^ \t\r])").match(line, position):
-        position = blanks_or_word.end()
-        bracketed = re.compile(rb"(?s)\[(.*?)(?<!\\)\]").match(line, position)
-        plain = re.compile(rb"[^ \t\r\[][^ \t\r]*").match(line, position)
-        if bracketed:
-            words.append((bracketed[0], bracketed[1].replace(rb"\]", b"]")))
-        elif plain:
+    while blanks := BLANKS_BEFORE_A_WORD.match(line, position):
+        position = blanks.end()
+        if plain := PLAIN_WORD.match(line, position):
             words.append((plain[0], plain[0]))
+        elif bracketed := BRACKETED_WORD.match(line, position):
+            words.append((bracketed[0], bracketed[1].replace(rb"\]", b"]")))
         else:
             raise LineFault("E8")
         position += len(words[-1][0])
