@@ -104,18 +104,17 @@ def file_size_refused(program):
 
 
 def closed(program):
-    """Streams that are closed from the start count as `/dev/null`."""
-    for words in [*ANSWERED, *REFUSED]:
-        expected = Answer(*plain.answer(words, TREE))
-        expect(words, expected._replace(stdout=b""), program.run_in_shell('exec "$@" >&-', words))
-        silent = expected._replace(stderr=b"")
-        expect(words, silent, program.run_in_shell('exec "$@" 2>&-', words))
-        expect(words, silent, program.run_in_shell('exec "$@" <&- 2>&-', words))
-        expect(words, silent._replace(stdout=b""), program.run_in_shell('exec "$@" <&- >&- 2>&-', words))
-        expect(words, silent, program.run_in_shell('exec "$@" 2>/dev/full', words))
-    for words in ANSWERED:
-        expect(words, Answer(b"", b"", 5), program.run_in_shell('exec "$@" >/dev/full 2>&-', words))
-    return 5 * len(ANSWERED + REFUSED) + len(ANSWERED)
+    """Streams that are closed from the start, alone and together."""
+    for words in ANSWERED + REFUSED:
+        answered = Answer(*plain.answer(words, TREE))
+        unwritten = Answer(b"", V2, 5) if words in ANSWERED else answered
+        for streams, expected in (("<&-", answered), (">&-", unwritten), ("2>&-", answered._replace(stderr=b"")),
+                                  ("<&- >&-", unwritten), ("<&- 2>&-", answered._replace(stderr=b"")),
+                                  ("<&- >&- 2>&-", unwritten._replace(stderr=b"")),
+                                  ("2>/dev/full", answered._replace(stderr=b"")),
+                                  (">/dev/full 2>&-", unwritten._replace(stderr=b""))):
+            expect(words, expected, program.run_in_shell('exec "$@" ' + streams, words))
+    return 8 * len(ANSWERED + REFUSED)
 
 
 # Folders and files
