@@ -132,19 +132,19 @@ class Program:
     def measured(self, limits, words):
         """The answer under limits of the shell, and the most bytes of memory that the run took.
 
-        A child that is forked from here would count this process's own memory too. So a shell starts the program and
-        ends; the program is then a child of this process, which asked for such children."""
-        script = limits + '; "$@" 3>&- & echo $! >&3'
-        reading, writing = os.pipe()
-        shell = os.posix_spawn("/bin/sh", ["/bin/sh", "-c", script, "sh", self.path, *words], os.environ,
-                               file_actions=[(os.POSIX_SPAWN_DUP2, self.out.descriptor, 1),
-                                             (os.POSIX_SPAWN_DUP2, self.err.descriptor, 2),
-                                             (os.POSIX_SPAWN_DUP2, writing, 3)], setsigdef=[signal.SIGPIPE])
+        A child that is forked from here would count this process's own memory too. So a shell leaves the program to this
+        process, which asked for such children, and the program begins once that shell has ended."""
+        os.mkfifo("begin")
+        script = limits + '; { read -r _ <begin; exec "$@"; } & echo $! >process'
+        shell = self.spawn(["/bin/sh", "-c", script, "sh", self.path, *words])
         os.waitpid(shell, 0)
-        os.close(writing)
-        with os.fdopen(reading, "rb") as told_by_shell:
-            process = int(told_by_shell.readline())
+        with open("process", encoding="ascii") as file:
+            process = int(file.read())
+        with open("begin", "w", encoding="ascii") as file:
+            file.write("\n")
         *answer, memory = self.waited(process)
+        os.remove("process")
+        os.remove("begin")
         return Answer(*answer), memory
 
     def check(self, words, tree):
