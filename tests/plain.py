@@ -1,0 +1,268 @@
+"""A slow and plain reading of `docs/SPECIFICATION.md`: from words and files to what the program must say.
+
+`answer` gives standard output, standard error and the status for the words after the program's name, over a tree of
+files: a dictionary from names to bytes, or to a dictionary for a folder. What the parser of the command line prints for
+words that it does not take is its own, so standard error is `None` then. Help and zone rules are not covered.
+"""
+import re
+from itertools import islice
+
+import plain_stacks as stacks
+import plain_tables as tables
+from plain_faults import Fault
+
+OPTIONS = {
+    b"show": b"--dir --conf",
+    b"decide": b"--dir --conf",
+    b"paths": b"--dir --conf --limit --after --before --access --time --group --returns --user --rhost --tty --at "
+              b"--at-unix --zone",
+    b"access": b"--access --user --group --rhost --tty",
+    b"time": b"--time --user --tty --at --at-unix --zone",
+}
+REQUIRED = {b"access": [b"--access", b"--user"], b"time": [b"--time", b"--user"]}
+MOST_ARGUMENTS = {b"show": 2, b"paths": 2, b"time": 1}
+LEAST_ARGUMENTS = {b"show": 2, b"decide": 2, b"paths": 2, b"access": 1, b"time": 1}
+
+
+class WrongWords(Exception):
+    """Words that the command line does not take."""
+
+
+def answer(words, tree):
+    """Standard output, standard error and the status."""
+    words = [word if isinstance(word, bytes) else word.encode() for word in words]
+    try:
+        text, status = Request(words).answer(tree)
+        return text, b"", status
+    except Fault as fault:
+        return b"", fault.line(), fault.status()
+    except WrongWords:
+        return b"", None, 2
+
+
+# Texts
+
+def word_text(text):
+    """A path or argument as it is printed."""
+    if text and not re.search(rb"[ \t\r]", text) and not text.startswith(b"["):
+        return text
+    return b"[" + text.replace(b"]", rb"\]") + b"]"
+
+
+def item_lines(items, indentation):
+    """The lines of `show`."""
+    for item in items:
+        if isinstance(item, stacks.Substack):
+            yield b"%ssub %s:%d %s\n" % (indentation, item.file, item.line, item.target)
+            yield from item_lines(item.items, indentation + b"  ")
+        else:
+            words = [b"%d" % item.number, b"%s:%d" % (item.file, item.line)]
+            words += [b"-"] * item.dashed + [stacks.control_text(item.control)]
+            words += [word_text(text) for text in [item.path] + item.arguments]
+            yield indentation + b" ".join(words) + b"\n"
+
+
+def class_text(codes):
+    """A class of codes as it is printed."""
+    if len(codes) == 31:
+        return b"any"
+    if len(codes) >= 16:
+        return b"but:" + b",".join(code for code in stacks.CODES if code not in codes)
+    return b",".join(codes)
+
+
+def cursor_text(key):
+    """The text of a cursor."""
+    return b".".join(b"%d" % number for number in key) or b"-"
+
+
+# Requests
+
+class Request:
+    """What the words ask for, or their refusal."""
+
+    def __init__(self, words):
+        for word in words:
+            try:
+                word.decode()
+            except UnicodeDecodeError:
+                raise Fault("U1") from None
+        self.command, self.arguments, self.options = parsed(words)
+        self.service = self.arguments[0].lower()
+        if self.command in (b"show", b"decide", b"paths"):
+            if (b"--dir" in self.options) == (b"--conf" in self.options):
+                raise Fault("U2")
+            self.kind = self.arguments[1].lower()
+            if self.kind not in stacks.KINDS:
+                raise Fault("U3")
+        if self.command == b"decide":
+            self.codes = [code.lower() for code in self.arguments[2:]]
+            if not set(self.codes) <= set(stacks.CODES):
+                raise Fault("U4")
+        if self.command in (b"paths", b"time"):
+            self.judge_login_and_moment()
+
+    def judge_login_and_moment(self):
+        given = self.options
+        if (b"--access" in given or b"--time" in given) and b"--user" not in given:
+            raise Fault("U5")
+        both = b"--at" in given and b"--at-unix" in given
+        zone_alone = b"--zone" in given and b"--at-unix" not in given
+        no_number = not re.fullmatch(rb"[0-9]{1,12}", given.get(b"--at-unix", b"0"))
+        missing = b"--time" in given and b"--at" not in given and b"--at-unix" not in given
+        if both or zone_alone or no_number or missing:
+            raise Fault("U6")
+        if b"--after" in given and b"--before" in given:
+            raise Fault("U8")
+
+    def answer(self, tree):
+        """The text on standard output and the status."""
+        files = self.read_source(tree)
+        self.tables = {}
+        for option in (b"--group", b"--access", b"--time", b"--returns"):
+            if option in self.options:
+                self.tables[option] = read(tree, self.options[option])
+        if self.command == b"access":
+            return self.access()
+        if self.command == b"time":
+            granted, line = tables.TimeTable(self.tables[b"--time"]).decide(self.login(), self.moment())
+            return (b"granted\n", 0) if granted else (b"denied line %d\n" % line, 1)
+        items, modules = stacks.resolve(files, self.service, self.kind)
+        header = b"%s %s %d modules\n" % (self.service, self.kind, len(modules))
+        if self.command == b"show":
+            return header + b"".join(item_lines(items, b"")), 0
+        if self.command == b"decide":
+            text, status = self.decide(items, modules)
+            return header + text, status
+        return header + self.page(items, modules), 0
+
+    def read_source(self, tree):
+        """The files of the source, where the command has one."""
+        if b"--dir" in self.options:
+            name = self.options[b"--dir"]
+            folder = tree.get(name.decode())
+            if not isinstance(folder, dict):
+                raise Fault("V1", name)
+            return stacks.Files(stacks.DIR, {name.encode(): data for name, data in folder.items()})
+        if b"--conf" in self.options:
+            return stacks.Files(stacks.SINGLE, {b"pam.conf": read(tree, self.options[b"--conf"])})
+        return None
+
+    def login(self):
+        """The login that the words tell."""
+        return tables.Login(self.service, *(self.options.get(name, b"") for name in (b"--user", b"--tty", b"--rhost")))
+
+    def moment(self):
+        """The moment that the words tell, if any."""
+        if b"--at" in self.options:
+            return tables.civil(self.options[b"--at"])
+        if b"--at-unix" in self.options:
+            return tables.instant(int(self.options[b"--at-unix"]))
+        return None
+
+    def access(self):
+        groups = tables.Groups(self.tables.get(b"--group", b""))
+        table = tables.AccessTable(self.tables[b"--access"], self.arguments[1:])
+        granted, line = table.decide(self.login(), groups)
+        place = b"no line" if line is None else b"line %d" % line
+        return b"%s %s\n" % (b"granted" if granted else b"denied", place), 0 if granted else 1
+
+    def decide(self, items, modules):
+        if len(self.codes) != len(modules):
+            raise Fault("DE1", b"want %d" % len(modules))
+        asked, decision = stacks.run(items, self.codes)
+        text = b""
+        for module, code, state in asked:
+            action = module.control[stacks.CODES.index(code)]
+            action = action if isinstance(action, bytes) else b"jump:%d" % action
+            text += b"%d %s %s %s %s %s\n" % (module.number, word_text(module.path), code, action, *state)
+        return text + b"decision %s\n" % decision, 0 if decision == b"success" else 1
+
+    def known(self, modules):
+        """The codes that each module may answer."""
+        moment = self.moment()
+        has_access, has_time = b"--access" in self.tables, b"--time" in self.tables
+        names = [module.path.rpartition(b"/")[2] for module in modules]
+
+        def needs_access(name, arguments):
+            own = any(argument.startswith(b"accessfile=") for argument in arguments)
+            return name == b"pam_access.so" and has_access and not own
+
+        def needs_time(name, arguments):
+            own = any(argument.startswith(b"conffile=") for argument in arguments)
+            return name == b"pam_time.so" and has_time and not own and self.kind == b"account"
+
+        groups = None
+        if any(needs_access(name, module.arguments) for name, module in zip(names, modules)):
+            groups = tables.Groups(self.tables.get(b"--group", b""))
+        known = [None] * len(modules)
+        for position, (name, module) in enumerate(zip(names, modules)):
+            answers = None
+            if needs_access(name, module.arguments):
+                table = tables.AccessTable(self.tables[b"--access"], module.arguments)
+                answers = table.decide(self.login(), groups)
+            elif needs_time(name, module.arguments):
+                answers = tables.TimeTable(self.tables[b"--time"]).decide(self.login(), moment)
+            if answers is not None:
+                known[position] = {b"success" if answers[0] else b"perm_denied"}
+        returns = tables.returns_of(self.tables.get(b"--returns", b""))
+        return [codes or returns.get(name, set(stacks.CODES)) for codes, name in zip(known, names)]
+
+    def page(self, items, modules):
+        """The lines of `paths` after the header."""
+        allowed = self.known(modules)
+        paths = stacks.listing([(items, stacks.START)], stacks.START, allowed)
+        for option in (b"--after", b"--before"):
+            if option in self.options:
+                cursor = stacks.cursor_of(self.options[option])
+                stacks.judge_cursor(items, cursor)
+        if b"--after" in self.options:
+            paths = (path for path in paths if stacks.key_of(path[0]) > cursor)
+        if b"--before" in self.options:
+            paths = reversed([path for path in paths if stacks.key_of(path[0]) < cursor])
+        limit = int(self.options.get(b"--limit", b"1000"))
+        printed = list(islice(paths, limit + 1))
+        more = len(printed) > limit
+        text = b""
+        for steps, decision in printed[:limit]:
+            text += b"%s %s" % (cursor_text(stacks.key_of(steps)), decision)
+            text += b"".join(b" %d=%s" % (number, class_text(codes)) for number, codes in steps) + b"\n"
+        if not more:
+            return text + b"end %d paths\n" % len(printed)
+        last = cursor_text(stacks.key_of(printed[limit - 1][0]))
+        side = b"before" if b"--before" in self.options else b"after"
+        return text + b"more %d paths %s %s\n" % (limit, side, last)
+
+
+def parsed(words):
+    """The command, its arguments and its options by name; an option has its value after `=` or as the next word."""
+    if not words or words[0] not in OPTIONS:
+        raise WrongWords
+    command, words = words[0], words[1:]
+    arguments, options = [], {}
+    while words:
+        word = words.pop(0)
+        if not word.startswith(b"--"):
+            arguments.append(word)
+            continue
+        name, sign, value = word.partition(b"=")
+        if name not in OPTIONS[command].split() or name in options or not (sign or words):
+            raise WrongWords
+        options[name] = value if sign else words.pop(0)
+    least = LEAST_ARGUMENTS[command]
+    if not least <= len(arguments) <= MOST_ARGUMENTS.get(command, len(arguments)):
+        raise WrongWords
+    if any(name not in options for name in REQUIRED.get(command, [])):
+        raise WrongWords
+    limit = options.get(b"--limit", b"1")
+    if not re.fullmatch(rb"[0-9]{1,7}", limit) or not 1 <= int(limit) <= 1000000:
+        raise WrongWords
+    return command, arguments, options
+
+
+def read(tree, name):
+    """The bytes of a file that the words name."""
+    data = tree.get(name.decode())
+    if not isinstance(data, bytes):
+        raise Fault("V1", name)
+    return data

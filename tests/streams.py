@@ -1,0 +1,262 @@
+"""The program's own streams and files of other kinds: what is closed, full, gone, endless, or no regular file.
+
+Each check is a function of the program; it returns how many runs it made."""
+import fcntl
+import os
+import shutil
+import socket
+
+import plain
+from running import Answer, Difference, agrees, difference
+
+STACK = b"auth [success=1 auth_err=die default=ignore] a.so\n" * 12
+TREE = {"d": {"login": STACK}, "access": b"-:ALL:ALL\n", "time": b"*;*;*;!Al0000-2400\n", "group": b"adm::1:alice\n",
+        "returns": b"a.so success\n"}
+SHOW = ["show", "login", "auth", "--dir", "d"]
+LONG = ["paths", "login", "auth", "--dir", "d", "--limit", "5000"]
+ACCESS = ["access", "login", "--access", "access", "--group", "group", "--user", "alice"]
+TIME = ["time", "login", "--time", "time", "--user", "alice", "--at", "2024-05-06T10:00"]
+ANSWERED = [SHOW, ["decide", "login", "auth", *["success"] * 12, "--dir", "d"], LONG, ACCESS, TIME]
+REFUSED = [["show", "ftp", "auth", "--dir", "d"], ["show", "login", "auth"], ["show", "login"], [*LONG, "--after", "x"],
+           ["show", "login", "auth", "--dir", "gone"]]
+V2 = b"pamcheck: V2 Write\n"
+PIPE = 4096
+
+
+def expect(words, expected, got, tree=None):
+    """Refuses another answer."""
+    if not agrees(expected, got):
+        raise difference(words, TREE if tree is None else tree, expected, got)
+
+
+def cut_short(words, got, taken):
+    """Refuses all but a failed write after a prefix of the answer."""
+    whole = plain.answer(words, TREE)[0]
+    expected = Answer(whole[:len(taken)], V2, 5)
+    expect(words, expected, Answer(taken, got.stderr, got.status))
+
+
+# Standard output and standard error
+
+def full(program):
+    """A device that takes no byte."""
+    with open("/dev/full", "wb") as device:
+        for words in [*ANSWERED, ["--help"]]:
+            expect(words, Answer(b"", V2, 5), program.run(words, stdout=device.fileno()))
+    return len(ANSWERED) + 1
+
+
+def reader_gone(program):
+    """A pipe that nobody reads."""
+    reading, writing = os.pipe()
+    os.close(reading)
+    for words in [*ANSWERED, ["--help"]]:
+        expect(words, Answer(b"", V2, 5), program.run(words, stdout=writing))
+    for words in REFUSED:
+        expected = Answer(*plain.answer(words, TREE))._replace(stderr=b"")
+        expect(words, expected, program.run(words, stderr=writing))
+    os.close(writing)
+    return len(ANSWERED) + 1 + len(REFUSED)
+
+
+def small_pipe():
+    """Both ends of a pipe that holds little."""
+    reading, writing = os.pipe()
+    fcntl.fcntl(writing, fcntl.F_SETPIPE_SZ, PIPE)
+    return reading, writing
+
+
+def reader_goes_away(program):
+    """A pipe whose reader takes a part and goes away; and one that would have to wait for its reader."""
+    reading, writing = small_pipe()
+    process = program.spawn([program.path, *LONG], stdout=writing)
+    os.close(writing)
+    taken = os.read(reading, 100)
+    os.close(reading)
+    cut_short(LONG, program.wait(process), taken)
+    reading, writing = small_pipe()
+    os.set_blocking(writing, False)
+    got = program.run(LONG, stdout=writing)
+    os.close(writing)
+    with os.fdopen(reading, "rb") as left:
+        cut_short(LONG, got, left.read())
+    return 2
+
+
+def slow_reader(program):
+    """A pipe that takes a little at a time gets the whole answer."""
+    reading, writing = small_pipe()
+    process = program.spawn([program.path, *LONG], stdout=writing)
+    os.close(writing)
+    taken = b""
+    while piece := os.read(reading, 1000):
+        taken += piece
+    os.close(reading)
+    expect(LONG, Answer(*plain.answer(LONG, TREE)), program.wait(process)._replace(stdout=taken))
+    return 1
+
+
+def file_size_refused(program):
+    """A file that may not grow past the first block of the shell's limit."""
+    got = program.run_in_shell('trap "" XFSZ; ulimit -f 1; "$@"', LONG)
+    cut_short(LONG, got, got.stdout)
+    return 1
+
+
+def closed(program):
+    """Streams that are closed from the start, alone and together."""
+    for words in ANSWERED + REFUSED:
+        answered = Answer(*plain.answer(words, TREE))
+        unwritten = Answer(b"", V2, 5) if words in ANSWERED else answered
+        for streams, expected in (("<&-", answered), (">&-", unwritten), ("2>&-", answered._replace(stderr=b"")),
+                                  ("<&- >&-", unwritten), ("<&- 2>&-", answered._replace(stderr=b"")),
+                                  ("<&- >&- 2>&-", unwritten._replace(stderr=b"")),
+                                  ("2>/dev/full", answered._replace(stderr=b"")),
+                                  (">/dev/full 2>&-", unwritten._replace(stderr=b""))):
+            expect(words, expected, program.run_in_shell('exec "$@" ' + streams, words))
+    return 8 * len(ANSWERED + REFUSED)
+
+
+# Folders and files
+
+def check_like(program, words, tree):
+    """The answer over what is in the scratch folder, which must be the plain reading's over this tree."""
+    expect(words, Answer(*plain.answer(words, tree)), program.run(words), tree)
+
+
+def make_special(folder):
+    """A folder with one entry of each kind; its regular files, links followed, are returned."""
+    login = b"auth required a.so\nauth include linked\n"
+    os.mkdir(folder)
+    for name, data in (("login", login), ("file", b"auth optional b.so\n")):
+        with open(os.path.join(folder, name), "wb") as file:
+            file.write(data)
+    os.symlink("file", folder + "/linked")
+    os.symlink("loop", folder + "/loop")
+    os.symlink("gone", folder + "/dangling")
+    os.symlink("/dev/zero", folder + "/device")
+    os.symlink(".", folder + "/itself")
+    os.mkdir(folder + "/folder")
+    os.mkfifo(folder + "/fifo")
+    listener = socket.socket(socket.AF_UNIX)
+    listener.bind(folder + "/socket")
+    listener.close()
+    return {"login": login, "file": b"auth optional b.so\n", "linked": b"auth optional b.so\n"}
+
+
+def special_entries(program):
+    """Entries that are no regular files are passed over; services and targets of their names have no file."""
+    tree = {"special": make_special("special")}
+    names = ["login", "loop", "dangling", "device", "itself", "folder", "fifo", "socket"]
+    for name in names:
+        check_like(program, ["show", name, "auth", "--dir", "special"], tree)
+    for name in names[1:]:
+        tree["special"]["asks"] = b"auth substack %s\n" % name.encode()
+        with open("special/asks", "wb") as file:
+            file.write(tree["special"]["asks"])
+        check_like(program, ["show", "asks", "auth", "--dir", "special"], tree)
+    shutil.rmtree("special")
+    return 2 * len(names) - 1
+
+
+def unreadable(program):
+    """A regular file that cannot be read; root reads it all the same."""
+    if os.geteuid() == 0:
+        return 0
+    os.mkdir("shut")
+    with open("shut/login", "wb") as file:
+        file.write(STACK)
+    os.chmod("shut/login", 0)
+    words = ["show", "other", "auth", "--dir", "shut"]
+    expect(words, Answer(b"", b"pamcheck: V1 Read login\n", 5), program.run(words))
+    os.chmod("shut", 0)
+    expect(words, Answer(b"", b"pamcheck: V1 Read shut\n", 5), program.run(words))
+    os.chmod("shut", 0o700)
+    shutil.rmtree("shut")
+    return 2
+
+
+def sources(program):
+    """Sources and tables that are no folder, no file, a loop of links, empty or endless."""
+    os.symlink("ring", "ring")
+    os.symlink("d", "link")
+    os.mkdir("empty")
+    runs = 0
+    for name in ("ring", "access", "gone", "link", "empty", "d/login/x"):
+        tree = {**TREE, "link": TREE["d"], "empty": {}}
+        check_like(program, ["show", "login", "auth", "--dir", name], tree)
+        runs += 1
+    endless = {**TREE, "/dev/zero": b"\0" * 1048577, "/dev/null": b""}
+    base = ["paths", "login", "auth", "--dir", "d", "--user", "alice", "--at", "2024-05-06T10:00", "--limit", "3"]
+    for name in ("ring", "d", "gone", "/dev/zero", "/dev/null"):
+        check_like(program, ["show", "login", "auth", "--conf", name], endless)
+        for option in ("--access", "--group", "--time", "--returns"):
+            check_like(program, [*base, option, name], endless)
+        check_like(program, ["access", "login", "--user", "a", "--access", name], endless)
+        check_like(program, ["access", "login", "--user", "a", "--access", "access", "--group", name], endless)
+        check_like(program, ["time", "login", "--user", "a", "--time", name, "--at", "2024-05-06T10:00"], endless)
+        check_like(program, [*base, "--returns", "gone", "--time", "gone2", "--access", name, "--group", "d"], endless)
+        runs += 9
+    os.remove("ring")
+    os.remove("link")
+    os.rmdir("empty")
+    return runs
+
+
+def names(program):
+    """Names of 255 bytes and of odd characters, and one that is not UTF-8."""
+    longest, wide = "n" * 255, "\u00e9" * 127
+    odd = ["a b", "line\nfeed", "[x", "*", "-", "\\", "."]
+    include = b"auth include %s\nauth substack [%s]\n" % (longest.encode(), wide.encode())
+    tree = {"names": {"login": include, longest: b"auth required a.so\n", wide: b"auth sometimes b.so\n",
+                      **{name: b"auth required [%s]\n" % name.encode() for name in odd[:-1]}}}
+    os.mkdir("names")
+    for name, data in tree["names"].items():
+        with open("names/" + name, "wb") as file:
+            file.write(data)
+    for service in ["login", longest, wide, *odd, "n" * 256, "N" * 255, "N" * 100000]:
+        check_like(program, ["show", service, "auth", "--dir", "names"], tree)
+    with open(b"names/not\xffutf8", "wb"):
+        pass
+    words = ["show", "login", "auth", "--dir", "names"]
+    expect(words, Answer(b"", b"pamcheck: V1 Read names\n", 5), program.run(words), tree)
+    shutil.rmtree("names")
+    return 7 + len(odd)
+
+
+def many_entries(program):
+    """A folder of 10,000 entries."""
+    os.mkdir("many")
+    with open("many/login", "wb") as file:
+        file.write(STACK)
+    for number in range(9999):
+        os.link("many/login", "many/%d" % number)
+    tree = {"many": {"login": STACK, "7777": STACK}}
+    for service in ("login", "7777", "gone"):
+        check_like(program, ["show", service, "auth", "--dir", "many"], tree)
+    shutil.rmtree("many")
+    return 3
+
+
+def open_files_refused(program):
+    """A limit on open files: the whole answer, a file that cannot be read, or a program that does not start."""
+    words = ["show", "login", "auth", "--dir", "d"]
+    whole = Answer(*plain.answer(words, TREE))
+    for most in range(3, 9):
+        got = program.run_in_shell('ulimit -n %d; exec "$@"' % most, words)
+        unread = got.status == 5 and not got.stdout and got.stderr.startswith(b"pamcheck: V1 Read ")
+        if not agrees(whole, got) and not unread and got.status != 127:
+            raise difference(words, TREE, whole, got)
+    if not agrees(whole, got):
+        raise Difference("a folder of one file cannot be read with %d open files" % most)
+    return 6
+
+
+CHECKS = [full, reader_gone, reader_goes_away, slow_reader, file_size_refused, closed]
+FILES = [special_entries, unreadable, sources, names, many_entries, open_files_refused]
+
+
+def run(program, checks):
+    """How many runs these checks made."""
+    program.hold(TREE)
+    return sum(check(program) for check in checks)
