@@ -1,6 +1,6 @@
 """Memory refused: the program under limits in steps from too little to enough.
 
-The limits are one on its data (what it allocates) and one on its address space (that, its stack and its code).
+The limit is one on its data, which is what it allocates.
 
 Under the least limits the system cannot start a program: it is ended by a signal, or the loader of shared libraries ends
 it with the status 127 (126 is the shell's own). From the first limit under which the program says anything itself, each
@@ -13,7 +13,6 @@ from worked import ACCESS, FOLDER, GROUP, MOMENT, RETURNS, STACK, TIME
 
 NOT_STARTED = (-9, -11, 126, 127)
 LINES = [b"", b"pamcheck: E17 Memory\n", b"pamcheck: TE11 Memory\n", b"pamcheck: U7 Memory\n"]
-DATA, ADDRESS_SPACE = "d", "v"
 PAGE = resource.getpagesize() // 1024
 MOST = 1 << 17
 WHOLE_IN_TURN = 6
@@ -42,16 +41,16 @@ ASKED = [
 ]
 
 
-def limited(program, words, limit, kibibytes):
+def limited(program, words, kibibytes):
     """The answer under a limit. The C library is asked to take no more from the system than it needs at once."""
-    return program.run_in_shell('export MALLOC_TOP_PAD_=0; ulimit -%s %d; exec "$@"' % (limit, kibibytes), words)
+    return program.run_in_shell('export MALLOC_TOP_PAD_=0; ulimit -d %d; exec "$@"' % kibibytes, words)
 
 
-def first_start(program, limit):
+def first_start(program):
     """The least limit, in steps of a page, under which the program starts, and the statuses under those below it."""
     statuses = set()
     kibibytes = 0
-    while (status := limited(program, ASKED[0], limit, kibibytes).status) in NOT_STARTED:
+    while (status := limited(program, ASKED[0], kibibytes).status) in NOT_STARTED:
         statuses.add(status)
         kibibytes += PAGE
         if kibibytes > MOST:
@@ -70,16 +69,16 @@ def judge(words, whole, got, kibibytes):
     return False
 
 
-def refused(program, limit):
+def refused(program):
     """How many runs there were, and what is told of the limits."""
     program.hold(TREE)
-    first, statuses = first_start(program, limit)
+    first, statuses = first_start(program)
     runs, enough = 0, first
     for words in ASKED:
         whole = Answer(*plain.answer(words, TREE))
         kibibytes, in_turn = first, 0
         while in_turn < WHOLE_IN_TURN:
-            in_turn = in_turn + 1 if judge(words, whole, limited(program, words, limit, kibibytes), kibibytes) else 0
+            in_turn = in_turn + 1 if judge(words, whole, limited(program, words, kibibytes), kibibytes) else 0
             runs += 1
             kibibytes += PAGE
             if kibibytes > MOST:
