@@ -9,7 +9,8 @@ import plain
 
 Answer = namedtuple("Answer", "stdout stderr status")
 
-SECONDS = 5
+# A run that has not ended by then hangs; how long runs take is measured in benches/.
+SECONDS = 60
 PR_SET_CHILD_SUBREAPER = 36
 
 
