@@ -1,0 +1,5 @@
+pub mod Cutting
+pub mod Runs
+pub mod Sources
+pub mod TextLines
+pub mod TextSteps

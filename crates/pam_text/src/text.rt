@@ -1,0 +1,208 @@
+//! The text of a file, with comments removed and continued lines joined: pam.conf(5).
+
+ghost use Rattle.std.specs.Prelude.{◌≡◌, ◌∷◌, ◌++◌, ◌+◌, ◌^◌, ◌≤◌, ◌<◌, [], ℕ, List, length, not, ◌==◌, MatchOption, IfOk, IfSome, OnOk};
+ghost use Rattle.std.specs.List.{prefix_len};
+ghost use Rattle.pam_text.specs.Text.{text_of, past_comment, is_plain};
+
+use crate::source::Source;
+use std::alloc::AllocError;
+
+/// The remaining text of a file, as pam.conf(5) reads it, line by line.
+#[derive(Drop)]
+pub struct Text<'a> {
+    rest: &'a [u8],
+    line: u32,
+    ghost counted: { line + length rest.now < 2 ^ 32 },
+}
+
+/// A line of a text, without its line feed, and the number, from 1, of the line of the file in which it begins.
+#[derive(Clone, Copy)]
+pub struct Line<'a> {
+    pub number: u32,
+    pub bytes: &'a [u8],
+}
+
+impl<'a> Text<'a> {
+    ghost use Rattle.pam_text.specs.Text.{first_line, after_line, text_lines};
+    ghost use Rattle.pam_text.specs.Left.{text_left, line_from, rest_from};
+
+    /// The whole text of a file.
+    pub fn of(file: Source<'a>) -> Self
+        ensures { text_left result ≡ text_of 1 file.entry.bytes.now }
+    {
+        Text {
+            rest: file.bytes,
+            line: 1,
+        }
+    }
+
+    /// Returns the next line. A line in one piece is a slice of the file; a joined one replaces the contents of `joined`.
+    pub fn next_line<'b>(&mut self, joined: &'b mut Vec<u8>) -> Result<Option<Line<'b>>, AllocError>
+    where
+        'a: 'b,
+        ensures lines { IfOk result (λ l. MatchOption l (text_lines (text_left self.old) ≡ [])
+            (λ line. text_lines (text_left self.old) ≡ (line.number, line.bytes.now) ∷ text_lines (text_left self.new))) }
+        ensures line { IfOk result (λ l. MatchOption l (text_left self.old ≡ []) (λ line. (line.number ≡ self.old.line) × (line.bytes.now ≡ first_line (text_left self.old)))) }
+        ensures rest { OnOk result (text_left self.new ≡ after_line (text_left self.old)) }
+        ensures shorter { IfOk result (λ l. IfSome l (λ _. length self.new.rest.now < length self.old.rest.now)) }
+    {
+        let number = self.line;
+        let (front, after) = self.rest.split_at(plain_len(self.rest));
+        match first_step(after) {
+            None => {
+                self.rest = after;
+                if front.is_empty() {
+                    return Ok(None);
+                }
+                Ok(Some(Line {
+                    number,
+                    bytes: front,
+                }))
+            }
+            Some(step) => {
+                self.rest = step.after;
+                self.line += step.feeds;
+                if step.byte == b'\n' {
+                    return Ok(Some(Line {
+                        number,
+                        bytes: front,
+                    }));
+                }
+                joined.clear();
+                joined.extend_from_slice(front)?;
+                joined.push(step.byte)?;
+                self.join_line(joined)?;
+                Ok(Some(Line {
+                    number,
+                    bytes: joined.as_slice(),
+                }))
+            }
+        }
+    }
+
+    /// Appends the next line to `joined`.
+    fn join_line(&mut self, joined: &mut Vec<u8>) -> Result<(), AllocError>
+        ensures line { OnOk result (joined.new.items ≡ joined.old.items ++ first_line (text_left self.old)) }
+        ensures rest { OnOk result (text_left self.new ≡ after_line (text_left self.old)) }
+        ensures shorter { OnOk result (length self.new.rest.now ≤ length self.old.rest.now) }
+    {
+        while let Some(byte) = self.take_run(joined)? {
+            if byte == b'\n' {
+                return Ok(());
+            }
+            joined.push(byte)?;
+        }
+        Ok(())
+    }
+
+    /// Appends the leading plain bytes to `joined`, and returns the byte of the text that follows them.
+    fn take_run(&mut self, joined: &mut Vec<u8>) -> Result<Option<u8>, AllocError>
+        ensures line { IfOk result (λ b. joined.old.items ++ first_line (text_left self.old) ≡ joined.new.items ++ line_from b (text_left self.new)) }
+        ensures rest { IfOk result (λ b. after_line (text_left self.old) ≡ rest_from b (text_left self.new)) }
+        ensures shorter { IfOk result (λ b. MatchOption b (length self.new.rest.now ≤ length self.old.rest.now) (λ _. length self.new.rest.now < length self.old.rest.now)) }
+    {
+        let (front, after) = self.rest.split_at(plain_len(self.rest));
+        joined.extend_from_slice(front)?;
+        match first_step(after) {
+            None => {
+                self.rest = after;
+                Ok(None)
+            }
+            Some(step) => {
+                self.rest = step.after;
+                self.line += step.feeds;
+                Ok(Some(step.byte))
+            }
+        }
+    }
+}
+
+/// The number of plain bytes before the first line feed, `#` or backslash.
+fn plain_len(bytes: &[u8]) -> usize
+    ensures value { result ≡ prefix_len is_plain bytes.now }
+    ensures bound { result ≤ length bytes.now }
+{
+    bytes
+        .iter()
+        .take_while(|b| !(**b == b'\n' || (**b == b'#' || **b == b'\\')))
+        .count()
+}
+
+/// A byte of the text, the bytes of the file after it, and the number of line feeds that it takes up.
+#[derive(Clone, Copy)]
+struct Step<'a> {
+    byte: u8,
+    after: &'a [u8],
+    feeds: u32,
+}
+
+/// The first byte of the text of `bytes`; `None` if the text is empty.
+fn first_step(bytes: &[u8]) -> Option<Step<'_>>
+    ensures text { MatchOption result ((line : ℕ) → text_of line bytes.now ≡ [])
+        (λ s. (line : ℕ) → text_of line bytes.now ≡ (line, s.byte) ∷ text_of (line + s.feeds) s.after.now) }
+    ensures bound { IfSome result (λ s. (s.feeds + length s.after.now ≤ length bytes.now) × (length s.after.now < length bytes.now)) }
+{
+    let (first, after) = skip_comment(bytes).split_first()?;
+    match *first {
+        b'\n' => Some(Step {
+            byte: b'\n',
+            after,
+            feeds: 1,
+        }),
+        b'\\' => Some(backslash_step(after)),
+        byte => Some(Step {
+            byte,
+            after,
+            feeds: 0,
+        }),
+    }
+}
+
+/// The step of a backslash before `after`: a space if a line feed follows, also after a comment; else the backslash.
+fn backslash_step(after: &[u8]) -> Step<'_>
+    ensures text { (bytes : List ℕ) (line : ℕ) → past_comment bytes ≡ 92 ∷ after.now
+        → text_of line bytes ≡ (line, result.byte) ∷ text_of (line + result.feeds) result.after.now }
+    ensures bound { result.feeds + length result.after.now ≤ length after.now }
+{
+    match after_feed(skip_comment(after)) {
+        Some(joined) => Step {
+            byte: b' ',
+            after: joined,
+            feeds: 1,
+        },
+        None => Step {
+            byte: b'\\',
+            after,
+            feeds: 0,
+        },
+    }
+}
+
+/// The bytes after a leading line feed, if there is one.
+fn after_feed(bytes: &[u8]) -> Option<&[u8]>
+    ensures value { MatchOption result ((more : List ℕ) → bytes.now ≡ 10 ∷ more → ⊥) (λ r. bytes.now ≡ 10 ∷ r.now) }
+    ensures bound { IfSome result (λ r. length r.now < length bytes.now) }
+{
+    let (first, rest) = bytes.split_first()?;
+    if *first == b'\n' { Some(rest) } else { None }
+}
+
+/// Returns `bytes` without a leading comment. The line feed of the comment stays.
+fn skip_comment(bytes: &[u8]) -> &[u8]
+    ensures value { result.now ≡ past_comment bytes.now }
+    ensures bound { length result.now ≤ length bytes.now }
+{
+    if !bytes.is_empty() && bytes[0] == b'#' {
+        bytes.split_at(comment_len(bytes)).1
+    } else {
+        bytes
+    }
+}
+
+/// The number of bytes before the first line feed.
+fn comment_len(bytes: &[u8]) -> usize
+    ensures value { result ≡ prefix_len (λ b. not (b == 10)) bytes.now }
+    ensures bound { result ≤ length bytes.now }
+{
+    bytes.iter().take_while(|b| **b != b'\n').count()
+}
