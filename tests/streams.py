@@ -5,8 +5,10 @@ import fcntl
 import os
 import shutil
 import socket
+import threading
 
 import plain
+from plain_faults import MOST_BYTES
 from running import Answer, Difference, agrees, difference
 
 STACK = b"auth [success=1 auth_err=die default=ignore] a.so\n" * 12
@@ -225,17 +227,62 @@ def names(program):
 
 
 def many_entries(program):
-    """A folder of 10,000 entries."""
+    """A folder of 100,000 entries; a file system may refuse more than 65,000 links to one file."""
     os.mkdir("many")
-    with open("many/login", "wb") as file:
-        file.write(STACK)
-    for number in range(9999):
-        os.link("many/login", "many/%d" % number)
-    tree = {"many": {"login": STACK, "7777": STACK}}
-    for service in ("login", "7777", "gone"):
+    for number in range(100000):
+        name = "many/%d" % number
+        if number % 10000 == 0:
+            with open(name, "wb") as file:
+                file.write(STACK)
+        else:
+            os.link("many/%d" % (number - number % 10000), name)
+    tree = {"many": {"77777": STACK}}
+    for service in ("77777", "gone"):
         check_like(program, ["show", service, "auth", "--dir", "many"], tree)
     shutil.rmtree("many")
-    return 3
+    return 2
+
+
+class Growing:
+    """While it is entered, a file grows by a comment, byte by byte, up to a length."""
+
+    def __init__(self, name, front, most):
+        self.name, self.front, self.most, self.done = name, front, most, threading.Event()
+
+    def grow(self, file):
+        for _ in range(self.most - len(self.front)):
+            if self.done.is_set():
+                return
+            file.write(b"#")
+
+    def __enter__(self):
+        self.file = open(self.name, "wb", buffering=0)
+        self.file.write(self.front)
+        self.thread = threading.Thread(target=self.grow, args=[self.file])
+        self.thread.start()
+
+    def __exit__(self, *_):
+        self.done.set()
+        self.thread.join()
+        self.file.close()
+
+
+def growing(program):
+    """A file that grows while it is read: what was read of it is answered, or that it is too long."""
+    os.mkdir("grows")
+    words = ["show", "login", "auth", "--dir", "grows"]
+    whole = Answer(*plain.answer(words, {"grows": {"login": STACK}}))
+    too_long = Answer(*plain.answer(words, {"grows": {"login": b"#" * (MOST_BYTES + 1)}}))
+    runs = 0
+    for filled, most in ((1000, 10 ** 6), (MOST_BYTES - len(STACK) - 400, MOST_BYTES + 400)):
+        for _ in range(30):
+            with Growing("grows/login", STACK + b"#" * filled, most):
+                got = program.run(words)
+            if not agrees(whole, got) and not (most > MOST_BYTES and agrees(too_long, got)):
+                raise difference(words, TREE, whole, got)
+            runs += 1
+    shutil.rmtree("grows")
+    return runs
 
 
 def open_files_refused(program):
@@ -253,7 +300,7 @@ def open_files_refused(program):
 
 
 CHECKS = [full, reader_gone, reader_goes_away, slow_reader, file_size_refused, closed]
-FILES = [special_entries, unreadable, sources, names, many_entries, open_files_refused]
+FILES = [special_entries, unreadable, sources, names, many_entries, growing, open_files_refused]
 
 
 def run(program, checks):

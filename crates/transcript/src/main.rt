@@ -1,6 +1,6 @@
 //! Runs each line of standard input as words of pamcheck, and writes what a terminal shows: the words, the answer,
 //! the text on standard error after `!`, and the exit status. Words are separated by one space each, so two spaces in
-//! a row enclose an empty word. An empty line has no words.
+//! a row enclose an empty word. An empty line has no words. A line that begins with `#` is a heading, and is copied.
 #![tactic(auto)]
 
 use pam_codes::Out;
@@ -41,7 +41,12 @@ fn main(rt: HostRuntime) -> io::Result<()> {
     let alloc = rt.alloc();
     let mut screen = BufWriter::new(alloc, io::writer(&rt))?;
     for line in BufReader::new(alloc, rt.reader())?.lines(alloc) {
-        show(&rt, alloc, &line?, &mut screen)?;
+        let line = line?;
+        if line.starts_with('#') {
+            writeln!(screen, "{line}")?;
+        } else {
+            show(&rt, alloc, &line, &mut screen)?;
+        }
     }
     screen.flush()
 }
