@@ -1,15 +1,14 @@
 #!/usr/bin/env python3
 """Measures the built program: python3 benches/run.py PROGRAM [--pages] [--decisions PROGRAM] [--paths PROGRAM] [--only WORD] [--runs N]
 
-For each case the inputs are made anew in a temporary folder, the program is run once to warm up and then N times, and
-the least and the median wall time and the peak memory are printed, with the same for an input twice as large where
-growth is of interest. It needs Python's standard library and, for peak memory, /usr/bin/time. With --pages it also
-lists the paths of stacks in one page; with --decisions it also runs that program, which decides one stack many times by
-the library alone; with --paths that one, which explores stacks by the library alone.
+For each case the inputs are made anew in a temporary folder, in three sizes, the program is run once to warm up and then
+N times over each, and the least processor time and the peak memory are printed, the start of the process included. It
+needs Python's standard library and, for peak memory, /usr/bin/time. With --pages it also lists the paths of stacks in one
+page, of three lengths; with --decisions it also runs that program, which decides one stack many times by the library
+alone; with --paths that one, which explores stacks by the library alone.
 """
 import argparse
 import os
-import statistics
 import subprocess
 import tempfile
 import time
@@ -48,10 +47,19 @@ def folder_of(count):
 
 STACK = b"auth required a.so\n"
 DECIDE = ["decide", "login", "auth", "success", "--dir", "d"]
+SIZES = (MIB // 4, MIB // 2, MIB)
 
 
-def sized(line):
-    return [pam_d(login=STACK + repeated(line, size - len(STACK))) for size in (MIB // 2, MIB)]
+def rules(line):
+    """A stack, and this line again and again up to the size."""
+    return lambda size: pam_d(login=STACK + repeated(line, size - len(STACK)))
+
+
+def one_file(size):
+    """A `pam.conf` whose rules are of other services."""
+    def make(folder):
+        put(folder, "pam.conf", b"login auth required a.so\n" + repeated(b"other session required pam_x.so debug\n", size - 25))
+    return make
 
 
 def access_tables(size):
@@ -78,38 +86,60 @@ def time_tables(size):
 
 
 CASES = [
-    # name, words, the makers of inputs (the last one is the stated case)
+    # name, words, the maker of the input of a size, the sizes, and the files of a size's bytes
     ("start-up: one decide of two lines", ["decide", "login", "auth", "success", "auth_err", "--dir", "d"],
-     [pam_d(login=b"auth required a.so\nauth sufficient b.so\n")]),
-    ("1 MiB of comments", DECIDE, sized(b"# nothing to see here\n")),
-    ("1 MiB of one comment", DECIDE, [pam_d(login=STACK + b"#" * (size - len(STACK))) for size in (MIB // 2, MIB)]),
-    ("1 MiB of continuations", DECIDE, [pam_d(login=STACK + b"\\\n" * ((size - len(STACK)) // 2)) for size in (MIB // 2, MIB)]),
-    ("1 MiB of rules of another kind", DECIDE, sized(b"session required pam_x.so debug\n")),
-    ("a folder of 200 files", ["show", "service7", "auth", "--dir", "d"], [folder_of(100), folder_of(200)]),
+     lambda size: pam_d(login=b"auth required a.so\nauth sufficient b.so\n"), (0,), 0),
+    ("1 MiB of comments", DECIDE, rules(b"# nothing to see here\n"), SIZES, 1),
+    ("1 MiB of one comment", DECIDE, lambda size: pam_d(login=STACK + b"#" * (size - len(STACK))), SIZES, 1),
+    ("1 MiB of continuations", DECIDE, lambda size: pam_d(login=STACK + b"\\\n" * ((size - len(STACK)) // 2)), SIZES, 1),
+    ("1 MiB of rules of another kind", DECIDE, rules(b"session required pam_x.so debug\n"), SIZES, 1),
+    ("1 MiB of one rule's arguments", DECIDE, lambda size: pam_d(login=STACK[:-1] + b" debug" * ((size - len(STACK)) // 6)),
+     SIZES, 1),
+    ("a pam.conf of 1 MiB", [*DECIDE[:4], "--conf", "pam.conf"], one_file, SIZES, 1),
+    ("a folder of 200 files", ["show", "service7", "auth", "--dir", "d"], folder_of, (50, 100, 200), 0),
     ("256 includes of a 60 kB file", ["show", "login", "auth", "--dir", "d"],
-     [pam_d(login=b"auth include big\n" * count + STACK, big=repeated(b"session required pam_x.so debug\n", 60000)) for count in (128, 256)]),
-    ("an access table and a group file of 1 MiB each", ["access", "login", "--access", "access", "--group", "group", "--user", "alice", "--rhost", "10.1.2.3"],
-     [access_tables(MIB // 2), access_tables(MIB)]),
+     lambda count: pam_d(login=b"auth include big\n" * count + STACK, big=repeated(b"session required pam_x.so debug\n", 60000)),
+     (64, 128, 256), 0),
+    ("an access table and a group file of 1 MiB each", ["access", "login", "--access", "access", "--group", "group", "--user", "alice",
+                                                        "--rhost", "10.1.2.3"], access_tables, SIZES, 2),
     ("a time table of 1 MiB", ["time", "login", "--time", "time", "--user", "alice", "--tty", "tty1", "--at", "2024-05-06T10:00"],
-     [time_tables(MIB // 2), time_tables(MIB)]),
+     time_tables, SIZES, 1),
 ]
 
 
 def run(command, folder):
-    done = subprocess.run(command, cwd=folder, stdin=subprocess.DEVNULL, stdout=subprocess.DEVNULL, stderr=subprocess.PIPE)
-    if done.returncode not in (0, 1):
-        raise SystemExit("%s: status %d: %s" % (" ".join(command), done.returncode, done.stderr.decode()))
-    return done.stderr
+    """What a run writes on standard error, and the processor seconds that it takes."""
+    process = subprocess.Popen(command, cwd=folder, stdin=subprocess.DEVNULL, stdout=subprocess.DEVNULL, stderr=subprocess.PIPE)
+    said = process.stderr.read()
+    _, status, usage = os.wait4(process.pid, 0)
+    process.returncode = os.waitstatus_to_exitcode(status)
+    if process.returncode not in (0, 1):
+        raise SystemExit("%s: status %d: %s" % (" ".join(command), process.returncode, said.decode()))
+    return said, usage.ru_utime + usage.ru_stime
 
 
 def measure(program, words, folder, runs):
-    times = []
-    for _ in range(runs + 1):
-        begin = time.perf_counter()
-        run([program] + words, folder)
-        times.append(time.perf_counter() - begin)
-    peak = int(run(["/usr/bin/time", "-q", "-f", "%M", program] + words, folder).split()[-1])
-    return min(times[1:]), statistics.median(times[1:]), peak
+    """The least processor seconds of these runs, and the peak memory in megabytes."""
+    least = min(run([program] + words, folder)[1] for _ in range(runs + 1))
+    return least, int(run(["/usr/bin/time", "-q", "-f", "%M", program] + words, folder)[0].split()[-1]) / 1000
+
+
+def measure_cases(program, only, runs):
+    print("| Case | a quarter | half | whole | MiB a second | memory: a quarter | whole |")
+    print("|---|---|---|---|---|---|---|")
+    for name, words, make, sizes, files in CASES:
+        if only not in name:
+            continue
+        rows = []
+        for size in sizes:
+            with tempfile.TemporaryDirectory() as folder:
+                make(size)(folder)
+                rows.append(measure(program, words, folder, runs))
+        (first, first_peak), (least, peak) = rows[0], rows[-1]
+        smaller = ["%.1f ms" % (row[0] * 1000) for row in rows[:-1]] or ["-", "-"]
+        speed = "%.0f" % (files / least) if files else "-"
+        print("| %s | %s | %.1f ms | %s | %s | %.1f MB |" % (
+            name, " | ".join(smaller), least * 1000, speed, "%.1f MB" % first_peak if len(rows) > 1 else "-", peak))
 
 
 def measure_decisions(program):
@@ -163,24 +193,24 @@ def measure_paths(program):
                 begin = time.perf_counter()
                 done = subprocess.run(words, cwd=folder, stdout=subprocess.PIPE, check=True)
                 times.append(time.perf_counter() - begin)
-            peak = int(run(["/usr/bin/time", "-q", "-f", "%M"] + words, folder).split()[-1])
+            peak = int(run(["/usr/bin/time", "-q", "-f", "%M"] + words, folder)[0].split()[-1])
         paths, modules, steps = (int(word) for word in done.stdout.decode().split() if word.isdigit())
         print("| %s | %.2f | %.2f | %.1f | %.1f MB |" % (name, paths / min(times) / 1e6, steps / paths, modules / paths, peak / 1000))
 
 
 def measure_pages(program, runs):
-    print("| Stack | lines | least | median | million lines a second | peak memory | half as many lines, least |")
-    print("|---|---|---|---|---|---|---|")
+    print("| Stack | lines | a quarter | half | whole | million lines a second | memory: a quarter | whole |")
+    print("|---|---|---|---|---|---|---|---|")
     for name, limit, text in STACKS:
         with tempfile.TemporaryDirectory() as folder:
             pam_d(login=text.encode())(folder)
             words = ["paths", "login", "auth", "--dir", "d", "--limit"]
-            half, _, _ = measure(program, words + [str(limit // 2)], folder, runs)
-            least, median, peak = measure(program, words + [str(limit)], folder, runs)
             page = subprocess.run([program] + words + [str(limit)], cwd=folder, stdout=subprocess.PIPE, check=True).stdout
-        count = page.count(b"\n") - 2
-        print("| %s | %d | %.1f ms | %.1f ms | %.2f | %.1f MB | %.1f ms |" % (
-            name, count, least * 1000, median * 1000, count / least / 1e6, peak / 1000, half * 1000))
+            count = page.count(b"\n") - 2
+            rows = [measure(program, words + [str(max(1, count // parts))], folder, runs) for parts in (4, 2, 1)]
+        least, peak = rows[-1]
+        print("| %s | %d | %s | %.2f | %.1f MB | %.1f MB |" % (
+            name, count, " | ".join("%.1f ms" % (row[0] * 1000) for row in rows), count / least / 1e6, rows[0][1], peak))
 
 
 def main():
@@ -193,19 +223,7 @@ def main():
     parser.add_argument("--runs", type=int, default=20)
     args = parser.parse_args()
     program = os.path.abspath(args.program)
-    print("| Case | least | median | peak memory | half the size, least |")
-    print("|---|---|---|---|---|")
-    for name, words, makers in CASES:
-        if args.only not in name:
-            continue
-        rows = []
-        for make in makers:
-            with tempfile.TemporaryDirectory() as folder:
-                make(folder)
-                rows.append(measure(program, words, folder, args.runs))
-        least, median, peak = rows[-1]
-        half = "%.1f ms" % (rows[0][0] * 1000) if len(rows) > 1 else "-"
-        print("| %s | %.1f ms | %.1f ms | %.1f MB | %s |" % (name, least * 1000, median * 1000, peak / 1000, half))
+    measure_cases(program, args.only, args.runs)
     if args.pages:
         measure_pages(program, args.runs)
     if args.decisions:
