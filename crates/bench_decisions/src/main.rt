@@ -1,4 +1,4 @@
-//! Decides one stack many times, for `benches/README.md`: `decisions MODULES TIMES`.
+//! Decides one stack many times, for `benches/README.md`: `bench_decisions MODULES TIMES`.
 #![tactic(auto)]
 
 use pam_codes::Code;
