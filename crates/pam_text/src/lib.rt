@@ -2,12 +2,14 @@
 //! and failures. All other crates build on it.
 #![tactic(auto)]
 
+mod blanks;
 mod cuts;
 mod out;
 mod piece;
 mod source;
 mod text;
 
+pub use blanks::{is_table_blank, is_text_blank};
 pub use cuts::{ByteSet, cut, cut_among};
 pub use out::{Device, Out};
 pub use piece::Piece;
