@@ -175,7 +175,7 @@ impl Control {
         requires { IsControl self.now }
         ensures { Writes W.contents out.old out.new result (mentions default code_names self.now) }
     {
-        for number in 0..31 {
+        for number in 0..CODES as u8 {
             let code = Code::of_number(number);
             write_mention(code, self.action(code), default, out)?;
         }
