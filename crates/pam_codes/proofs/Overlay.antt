@@ -49,11 +49,11 @@ seen_through (Ok ps) p f g h = ap Ok (h ps)
 seen_through (Err e) p f g h = refl
 
 -- one more pair
-pub advance_pairs : (named new_named : List (Option Action)) (default new_default : Option Action) (p : Subject × Action) (tokens : List (List ℕ)) (word : List ℕ) (behind rest : List (List ℕ)) (all : Result (List Action) ControlError)
-    → tokens ≡ word ∷ behind → pairs_of (word ∷ behind) ≡ with_front p (pairs_of rest)
+pub advance_pairs : (named new_named : List (Option Action)) (default new_default : Option Action) (p : Subject × Action) (tokens : List (List ℕ)) (word : List ℕ) (after rest : List (List ℕ)) (all : Result (List Action) ControlError)
+    → tokens ≡ word ∷ after → pairs_of (word ∷ after) ≡ with_front p (pairs_of rest)
     → ((ps : Pairs) → actions_after new_named new_default ps ≡ actions_after named default (p ∷ ps))
     → (pairs_of tokens >>= λ ps. Ok (actions_after named default ps)) ≡ all → (pairs_of rest >>= λ ps. Ok (actions_after new_named new_default ps)) ≡ all
-advance_pairs named new_named default new_default p tokens word behind rest all t w s inv =
+advance_pairs named new_named default new_default p tokens word after rest all t w s inv =
     seen_through (pairs_of rest) p (actions_after new_named new_default) (actions_after named default) s
     ∙ ap (λ (r : Result Pairs ControlError). r >>= λ ps. Ok (actions_after named default ps)) (sym w)
     ∙ ap (λ (ts : List (List ℕ)). pairs_of ts >>= λ ps. Ok (actions_after named default ps)) (sym t)

@@ -19,15 +19,15 @@ count-items_of (ModuleItem m ∷ xs) = ap suc (count-items_of xs)
 count-items_of (SubItem s ∷ xs) = ap suc (count-items_of xs)
 
 -- a module comes after the entries of the items before it
-pub flat_list-module : (level i behind : ℕ) (xs : List Item) (entries : List Entry) (d : Item) (m : Module) → i < length xs → get_or xs i d ≡ ModuleItem m →
-    behind + (i + 1) ≡ length xs →
-    (entries ++ ModuleEntry level m.number m.control behind ∷ []) ++ flat_list level (items_of (drop (i + 1) xs)) ≡ entries ++ flat_list level (items_of (drop i xs))
+pub flat_list-module : (level i after : ℕ) (xs : List Item) (entries : List Entry) (d : Item) (m : Module) → i < length xs → get_or xs i d ≡ ModuleItem m →
+    after + (i + 1) ≡ length xs →
+    (entries ++ ModuleEntry level m.number m.control after ∷ []) ++ flat_list level (items_of (drop (i + 1) xs)) ≡ entries ++ flat_list level (items_of (drop i xs))
 unfolding flat_list
-flat_list-module level i behind xs entries d m h e b =
+flat_list-module level i after xs entries d m h e b =
     let next : i + 1 ≡ suc i = omega arith in
-    let left : length (drop (suc i) xs) ≡ behind = length-drop (suc i) xs ∙ omega (arith, b) in
-    append_assoc entries (ModuleEntry level m.number m.control behind ∷ []) (flat_list level (items_of (drop (i + 1) xs)))
-    ∙ ap (λ (k : ℕ). entries ++ ModuleEntry level m.number m.control behind ∷ flat_list level (items_of (drop k xs))) next
+    let left : length (drop (suc i) xs) ≡ after = length-drop (suc i) xs ∙ omega (arith, b) in
+    append_assoc entries (ModuleEntry level m.number m.control after ∷ []) (flat_list level (items_of (drop (i + 1) xs)))
+    ∙ ap (λ (k : ℕ). entries ++ ModuleEntry level m.number m.control after ∷ flat_list level (items_of (drop k xs))) next
     ∙ ap (λ (k : ℕ). entries ++ ModuleEntry level m.number m.control k ∷ flat_list level (items_of (drop (suc i) xs))) (sym (count-items_of (drop (suc i) xs) ∙ left))
     ∙ ap (λ (x : Items). entries ++ flat_list level x) (sym (items_of-drop_module xs i d m h e))
 
@@ -37,9 +37,9 @@ pub flat_list-sub : (level i : ℕ) (xs : List Item) (entries : List Entry) (d :
 unfolding flat_list
 flat_list-sub level i xs entries d s h e =
     let next : i + 1 ≡ suc i = omega arith in
-    let behind = flat_list level (items_of (drop (i + 1) xs)) in
-    append_assoc (entries ++ Substack level ∷ []) (flat_list (level + 1) s.inner) behind
-    ∙ append_assoc entries (Substack level ∷ []) (flat_list (level + 1) s.inner ++ behind)
+    let after = flat_list level (items_of (drop (i + 1) xs)) in
+    append_assoc (entries ++ Substack level ∷ []) (flat_list (level + 1) s.inner) after
+    ∙ append_assoc entries (Substack level ∷ []) (flat_list (level + 1) s.inner ++ after)
     ∙ ap (λ (k : ℕ). entries ++ Substack level ∷ (flat_list (level + 1) s.inner ++ flat_list level (items_of (drop k xs)))) next
     ∙ ap (λ (x : Items). entries ++ flat_list level x) (sym (items_of-drop_sub xs i d s h e))
 

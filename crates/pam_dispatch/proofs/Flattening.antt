@@ -32,13 +32,13 @@ same_above : (ts : List Entry) (level l1 k1 l2 k2 : ℕ) (es fs : List State) (s
     resume ts l1 k1 es s ≡ resume ts l2 k2 fs s
 unfolding HeadBelow resume ask_at
 same_above [] level l1 k1 l2 k2 es fs s h a b p q t g = refl
-same_above (Module here m control behind ∷ ts) level l1 k1 l2 k2 es fs s h a b p q t g =
-    resume-module here m control behind ts l1 k1 es s (omega arith) (p here h)
-    ∙ ap (λ (x : State). asks (record { module_number = m; control = control; state = s; entry = x; behind = behind })
-    (λ o. resume ts here (behind - o.left) (take (here + 1) es) o.state)) (g here h)
-    ∙ ap (λ (x : List State). asks (record { module_number = m; control = control; state = s; entry = get_or fs here start_state; behind = behind })
-    (λ o. resume ts here (behind - o.left) x o.state)) (t here h)
-    ∙ sym (resume-module here m control behind ts l2 k2 fs s (omega arith) (q here h))
+same_above (Module here m control after ∷ ts) level l1 k1 l2 k2 es fs s h a b p q t g =
+    resume-module here m control after ts l1 k1 es s (omega arith) (p here h)
+    ∙ ap (λ (x : State). asks (record { module_number = m; control = control; state = s; entry = x; behind = after })
+    (λ o. resume ts here (after - o.left) (take (here + 1) es) o.state)) (g here h)
+    ∙ ap (λ (x : List State). asks (record { module_number = m; control = control; state = s; entry = get_or fs here start_state; behind = after })
+    (λ o. resume ts here (after - o.left) x o.state)) (t here h)
+    ∙ sym (resume-module here m control after ts l2 k2 fs s (omega arith) (q here h))
 same_above (Substack here ∷ ts) level l1 k1 l2 k2 es fs s h a b p q t g =
     resume-sub here ts l1 k1 es s (omega arith) (p here h)
     ∙ ap (λ (x : List State). resume ts (here + 1) 0 (x ++ s ∷ []) s) (t here h)

@@ -65,13 +65,13 @@ returns-in-Module-clause-rest c =
     let here = c.level-here.result in
     let m = c.in-Module in
     let h : here ≡ m.level = c.level-here.ensures ∙ ap level_of m.is in
-    let is = sym c.index-program-position.is ∙ m.is ∙ ap (λ (x : ℕ). Module x m.number m.control m.behind) (sym h) in
+    let is = sym c.index-program-position.is ∙ m.is ∙ ap (λ (x : ℕ). Module x m.number m.control m.items_after) (sym h) in
     let stays : here ≡ l.level → 0 < l.skip → ⊥ =
     elim c.else-here-level-2.branch [
       | else-here-level-2-via-then-here-level-2+else-skip-gt0 w ↦ λ e p. omega arith
       | else-here-level-2-via-else-here-level-2 w ↦ λ e p. w.if-here-level-2.false e
     ] in
-    at_module c.args.program.now l.position c.index-program-position.result here m.number m.control m.behind c.loop-position-test.true is l.entered.states c.args.state.now
+    at_module c.args.program.now l.position c.index-program-position.result here m.number m.control m.items_after c.loop-position-test.true is l.entered.states c.args.state.now
     l.depth l.level l.skip c.if-here-level.false stays l.invariant.below ∙ l.invariant.rest
 
 pub returns-clause-place : goal.returns-clause-place

@@ -1,6 +1,6 @@
 use Rattle.std.proofs.Common.{◌∙◌, sym}
 use Rattle.pam_codes.proofs.ControlParts.{text_of_keyword, text_of_list}
-use Rattle.pam_codes.proofs.Writing.{writes-is}
+use Rattle.pam_text.proofs.Writing.{writes-is}
 use Rattle.pam_codes.proofs.control.Control.write_text.Goals as goal
 
 pub returns-in-Some : goal.returns-in-Some

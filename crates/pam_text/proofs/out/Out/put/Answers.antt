@@ -1,6 +1,6 @@
 use Rattle.std.proofs.Common.{ℕ, List, ◌-◌, length, take, drop, arith, length-take, length-drop}
-use Rattle.pam_codes.proofs.Writing.{took-kept, took-more, front-at, fails-taking_none, fails-taking_some}
-use Rattle.pam_codes.proofs.out.Out.put.Goals as goal
+use Rattle.pam_text.proofs.Writing.{took-kept, took-more, front-at, fails-taking_none, fails-taking_some}
+use Rattle.pam_text.proofs.out.Out.put.Goals as goal
 
 pub returns-in-Ok-eq0 : goal.returns-in-Ok-eq0
 returns-in-Ok-eq0 g c =
