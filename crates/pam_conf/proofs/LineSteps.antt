@@ -8,7 +8,7 @@ use Rattle.pam_conf.specs.Words.{Between, words_in, words_or_fault, or_open}
 use Rattle.pam_conf.specs.Rule.{RuleText, rule_of, ◌>>=◌}
 use Rattle.pam_conf.specs.Lines.{line_rule_of, rule_at, at_line, rules_in, onto_rules}
 use Rattle.pam_conf.specs.Wanted.{wants, only_wanted, with_rule}
-use Rattle.pam_conf.specs.Gives.{FailsAs, FailsKind}
+use Rattle.pam_conf.specs.Tells.{FailsAs, KindTells}
 use Rattle.pam_conf.specs.declared.error.FaultKind.{FaultKind}
 use Rattle.pam_conf.specs.declared.error.FaultKind.TheVariants as faults
 use Rattle.pam_conf.specs.declared.error.RuleFault.{RuleFault}
@@ -29,7 +29,7 @@ pub text_line : (form : Form) (l : ℕ) (rest : List ℕ) (n : ℕ) (bytes : Lis
 text_line form l rest n bytes p = rule_at_line form l (text_of l rest) (head_is l rest) ∙ ap (λ (m : ℕ). at_line m (line_rule_of form m (first_line (text_of l rest)))) (sym p.0) ∙ ap (λ (bs : List ℕ). at_line n (line_rule_of form n bs)) (sym p.1)
 
 -- a fault that is the definition's
-pub known_fault : {A : Type 0} (kind : FaultKind) (meant : Result A FaultKind) → meant ≡ Err kind → FailsKind kind meant
+pub known_fault : {A : Type 0} (kind : FaultKind) (meant : Result A FaultKind) → meant ≡ Err kind → KindTells kind meant
 known_fault faults.Memory meant h = tt
 known_fault kind meant h = h
 
@@ -44,7 +44,7 @@ unfolding line_rule_of rule_of
 blank_line form n bytes h = ap (λ (ws : Option (List (List ℕ))). at_line n (or_open ws >>= rule_of form n)) (no_words_in bytes h)
 
 -- a line without words has their fault
-pub no_words : (form : Form) (l : ℕ) (bytes : List ℕ) (kind : FaultKind) → FailsKind kind (words_or_fault bytes) → FailsKind kind (line_rule_of form l bytes)
+pub no_words : (form : Form) (l : ℕ) (bytes : List ℕ) (kind : FaultKind) → KindTells kind (words_or_fault bytes) → KindTells kind (line_rule_of form l bytes)
 unfolding line_rule_of
 no_words form l bytes faults.Memory h = tt
 no_words form l bytes kind h = ap (λ r. r >>= rule_of form l) h

@@ -5,7 +5,8 @@ ghost use Rattle.std.specs.List.{list_all};
 ghost use Rattle.std.specs.Option.{option_map};
 ghost use Rattle.pam_codes.specs.Tokens.{is_blank};
 ghost use Rattle.pam_text.specs.Text.{text_of, lines_of};
-ghost use Rattle.pam_conf.specs.Gives.{Gives, GivesKind};
+ghost use Rattle.pam_text.specs.Gives.{Gives};
+ghost use Rattle.pam_conf.specs.Tells.{FaultTells, KindTells};
 ghost use Rattle.pam_conf.specs.Lines.{at_line, fault_of_source, line_rule_of, rules_in, rules_of};
 ghost use Rattle.pam_conf.specs.Lines.{fault_at as fault_at_line};
 ghost use Rattle.pam_conf.specs.Rule.{RuleText, rule_view};
@@ -21,7 +22,7 @@ use std::alloc::{AllocFailed, Global};
 /// Reads the rules of a file in the order of its lines: pam.conf(5). Fails with the first fault: `FileTooLong` (E16)
 /// comes before `NulByte` (E1), and that before the faults of lines. A failed allocation has line 0.
 pub fn rules(alloc: Global, bytes: &[u8], form: Form) -> Result<Vec<Rule>, RuleFault>
-    ensures { Gives (λ rules. map rule_view rules.items) result (rules_of form bytes.now) }
+    ensures { Gives FaultTells (λ rules. map rule_view rules.items) result (rules_of form bytes.now) }
 {
     wanted_rules(alloc, bytes, form, None)
 }
@@ -34,7 +35,7 @@ pub(crate) fn wanted_rules(
     form: Form,
     wanted: Option<Kind>,
 ) -> Result<Vec<Rule>, RuleFault>
-    ensures { Gives (λ rules. map rule_view rules.items) result (only_wanted wanted (rules_of form bytes.now)) }
+    ensures { Gives FaultTells (λ rules. map rule_view rules.items) result (only_wanted wanted (rules_of form bytes.now)) }
 {
     match Source::of(bytes) {
         Ok(source) => text_rules(alloc, form, source, wanted),
@@ -65,7 +66,7 @@ fn text_rules(
     source: Source<'_>,
     wanted: Option<Kind>,
 ) -> Result<Vec<Rule>, RuleFault>
-    ensures { Gives (λ rules. map rule_view rules.items) result
+    ensures { Gives FaultTells (λ rules. map rule_view rules.items) result
         (only_wanted wanted (rules_in form (lines_of (text_of 1 source.entry.bytes.now)))) }
 {
     let mut text = Text::of(source);
@@ -121,7 +122,7 @@ fn take_rule(
     rules: &mut Vec<Rule>,
 ) -> Result<(), RuleFault>
     ensures { let meant = at_line line.entry.number (line_rule_of form line.entry.number line.entry.bytes.now) in
-        Gives (λ _. map rule_view rules.new.items) result (with_rule wanted (map rule_view rules.old.items) meant) }
+        Gives FaultTells (λ _. map rule_view rules.new.items) result (with_rule wanted (map rule_view rules.old.items) meant) }
 {
     if is_unwanted(form, line.bytes, wanted) {
         return Ok(());
@@ -134,7 +135,7 @@ fn take_rule(
 
 /// The rule of a line, if it has one.
 fn numbered_rule(alloc: Global, form: Form, line: Line<'_>) -> Result<Option<Rule>, RuleFault>
-    ensures { Gives (option_map rule_view) result
+    ensures { Gives FaultTells (option_map rule_view) result
         (at_line line.entry.number (line_rule_of form line.entry.number line.entry.bytes.now)) }
 {
     match read_line(alloc, form, line) {
@@ -145,7 +146,7 @@ fn numbered_rule(alloc: Global, form: Form, line: Line<'_>) -> Result<Option<Rul
 
 /// Like `numbered_rule`, without the line of a fault.
 fn read_line(alloc: Global, form: Form, line: Line<'_>) -> Result<Option<Rule>, FaultKind>
-    ensures { GivesKind (option_map rule_view) result (line_rule_of form line.entry.number line.entry.bytes.now) }
+    ensures { Gives KindTells (option_map rule_view) result (line_rule_of form line.entry.number line.entry.bytes.now) }
 {
     let words = Words::of(line.bytes)?;
     line_rule(alloc, form, line.number as usize, words)

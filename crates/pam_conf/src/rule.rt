@@ -2,7 +2,8 @@
 ghost use Rattle.std.specs.Prelude.{◌≡◌, IfOk, IsOk, IsTrue, List, Ok, Some, map, ℕ};
 ghost use Rattle.std.specs.Char.{to_ascii_lowercase};
 ghost use Rattle.std.specs.Option.{option_map};
-ghost use Rattle.pam_conf.specs.Gives.{GivesKind};
+ghost use Rattle.pam_text.specs.Gives.{Gives};
+ghost use Rattle.pam_conf.specs.Tells.{KindTells};
 ghost use Rattle.pam_conf.specs.Lines.{at_line};
 ghost use Rattle.pam_conf.specs.Rule.{RuleText, body_view, rule_view, kind_named, kind_or_fault_of, dashed_kind_of};
 ghost use Rattle.pam_conf.specs.Rule.{file_name_of, without_folder_of, target_of};
@@ -133,7 +134,7 @@ fn dashed_kind(text: &[u8]) -> Result<(bool, Kind), FaultKind>
 
 /// Returns `name` if a file of the folder can have it: not empty, and without `/`.
 fn file_name(name: Vec<u8>) -> Result<Vec<u8>, FaultKind>
-    ensures { GivesKind (λ n. n.items) result (file_name_of name.items) }
+    ensures { Gives KindTells (λ n. n.items) result (file_name_of name.items) }
 {
     if name.is_empty() || name.contains(&b'/') {
         Err(FaultKind::BadTarget)
@@ -157,7 +158,7 @@ fn without_folder(alloc: Global, text: Vec<u8>) -> Result<Vec<u8>, AllocError>
 /// The target at the start of `words`; further words are ignored.
 #[tactic(auto, unfolding(crate::specs::Rule::target_of))]
 fn target(alloc: Global, form: Form, words: Words<'_>) -> Result<Vec<u8>, FaultKind>
-    ensures { GivesKind (λ t. t.items) result (target_of form (still_to_come words.entry)) }
+    ensures { Gives KindTells (λ t. t.items) result (target_of form (still_to_come words.entry)) }
 {
     match form {
         Form::Single => Err(FaultKind::IncludeInSingleFile),
@@ -173,7 +174,7 @@ fn target(alloc: Global, form: Form, words: Words<'_>) -> Result<Vec<u8>, FaultK
 
 /// The body of a rule that calls a module; `words` begin with its path.
 fn module_body(alloc: Global, control: Control, words: Words<'_>) -> Result<Body, FaultKind>
-    ensures { GivesKind body_view result (module_of control (still_to_come words.entry)) }
+    ensures { Gives KindTells body_view result (module_of control (still_to_come words.entry)) }
 {
     let Some((path, arguments)) = words.split_first() else {
         return Err(FaultKind::MissingField);
@@ -185,7 +186,7 @@ fn module_body(alloc: Global, control: Control, words: Words<'_>) -> Result<Body
 
 /// The body of a rule whose control is neither `include` nor `substack`.
 fn control_body(alloc: Global, control: &[u8], words: Words<'_>) -> Result<Body, FaultKind>
-    ensures { GivesKind body_view result (control_body_of control.now (still_to_come words.entry)) }
+    ensures { Gives KindTells body_view result (control_body_of control.now (still_to_come words.entry)) }
 {
     match Control::read(control) {
         Ok(control) => module_body(alloc, control, words),
@@ -196,7 +197,7 @@ fn control_body(alloc: Global, control: &[u8], words: Words<'_>) -> Result<Body,
 /// The body of a rule: the words after the kind.
 #[tactic(auto, unfolding(crate::specs::Rule::body_of))]
 fn rule_body(alloc: Global, form: Form, words: Words<'_>) -> Result<Body, FaultKind>
-    ensures { GivesKind body_view result (body_of form (still_to_come words.entry)) }
+    ensures { Gives KindTells body_view result (body_of form (still_to_come words.entry)) }
 {
     let Some((control, words)) = words.split_first() else {
         return Err(FaultKind::MissingField);
@@ -222,7 +223,7 @@ fn kind_rule(
     kind: &[u8],
     words: Words<'_>,
 ) -> Result<Rule, FaultKind>
-    ensures { GivesKind rule_view result
+    ensures { Gives KindTells rule_view result
         (kind_rule_of form line (option_map (λ s. s.items) service) kind.now (still_to_come words.entry)) }
 {
     let (dashed, kind) = dashed_kind(kind)?;
@@ -239,7 +240,7 @@ fn kind_rule(
 /// The rule of an `@include`, from its target on.
 #[tactic(auto, unfolding(crate::specs::Rule::include_rule_of))]
 fn include_rule(alloc: Global, form: Form, line: usize, words: Words<'_>) -> Result<Rule, FaultKind>
-    ensures { GivesKind rule_view result (include_rule_of form line (still_to_come words.entry)) }
+    ensures { Gives KindTells rule_view result (include_rule_of form line (still_to_come words.entry)) }
 {
     let name = target(alloc, form, words)?;
     Ok(Rule {
@@ -269,7 +270,7 @@ fn plain_rule(
     mut first: Vec<u8>,
     words: Words<'_>,
 ) -> Result<Rule, FaultKind>
-    ensures { GivesKind rule_view result (plain_rule_of form line first.items (still_to_come words.entry)) }
+    ensures { Gives KindTells rule_view result (plain_rule_of form line first.items (still_to_come words.entry)) }
 {
     match form {
         Form::Dir => kind_rule(alloc, form, line, None, &first, words),
@@ -293,7 +294,7 @@ fn first_rule(
     first: Vec<u8>,
     words: Words<'_>,
 ) -> Result<Rule, FaultKind>
-    ensures { GivesKind rule_view result (first_rule_of form line first.items (still_to_come words.entry)) }
+    ensures { Gives KindTells rule_view result (first_rule_of form line first.items (still_to_come words.entry)) }
 {
     if is_name(b"@include", &first) {
         include_rule(alloc, form, line, words)
@@ -310,7 +311,7 @@ pub(crate) fn line_rule(
     line: usize,
     words: Words<'_>,
 ) -> Result<Option<Rule>, FaultKind>
-    ensures { GivesKind (option_map rule_view) result (rule_of form line (still_to_come words.entry)) }
+    ensures { Gives KindTells (option_map rule_view) result (rule_of form line (still_to_come words.entry)) }
 {
     let Some((first, words)) = words.split_first() else {
         return Ok(None);
