@@ -3,6 +3,7 @@ pub mod FileLemmas
 pub mod LineSteps
 pub mod ResolutionLemmas
 pub mod RoomLemmas
+pub mod RuleSteps
 pub mod Splits
 pub mod StackTree
 pub mod TableLemmas

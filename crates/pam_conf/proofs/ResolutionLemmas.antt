@@ -8,11 +8,12 @@ use Rattle.std.proofs.lemmas.Bool.{false≢true}
 use Rattle.pam_conf.specs.Files.{Folder, position_of}
 use Rattle.pam_conf.specs.ItemsOf.{items_of}
 use Rattle.pam_conf.specs.Progress.{Passes, Refuses, in_file, of_kind}
-use Rattle.pam_conf.specs.Resolution.{StartText, UnlessMemory, stack_from, from_starts, unless_empty, carried, start_read, start_in, resolved}
+use Rattle.pam_conf.specs.Resolution.{StartText, stack_from, from_starts, unless_empty, carried, start_read, start_in, resolved}
 use Rattle.pam_conf.specs.StartOf.{start_text}
 use Rattle.pam_conf.specs.declared.resolution.Start.{Start}
 use Rattle.pam_conf.specs.declared.rule.Form.{Form}
 use Rattle.pam_conf.specs.declared.rule.Form.TheVariants.{Single}
+use Rattle.pam_conf.specs.Tells.{UnlessMemory}
 use Rattle.pam_conf.specs.Rule.{RuleText, rule_view}
 use Rattle.pam_conf.specs.Stack.{Items, End, joined, module_count, depth, IsNumbered}
 use Rattle.pam_conf.specs.Walk.{Walk, carries, is_of_kind, walk, refusal, numbered, rules_at, fault_at, deeper, read_walk}

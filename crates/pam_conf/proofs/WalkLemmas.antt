@@ -11,7 +11,7 @@ use Rattle.std.proofs.lemmas.Bool.{ne_eqb, ltb-true}
 use Rattle.pam_codes.specs.declared.action.Action.{Action}
 use Rattle.pam_conf.specs.Files.{Folder, position_of}
 use Rattle.pam_conf.specs.Progress.{Passes, Refuses, of_kind, in_file}
-use Rattle.pam_conf.specs.Resolution.{UnlessMemory}
+use Rattle.pam_conf.specs.Tells.{UnlessMemory}
 use Rattle.pam_conf.specs.Rule.{RuleText, rule_view, Module, Include, Sub}
 use Rattle.pam_conf.specs.Stack.{Items, End, ThenModule, ThenSub, ModuleText, joined, module_count}
 use Rattle.pam_conf.specs.Walk.{Walk, Event, Deeper, walk, deeper, refusal, numbered, nothing, ◌then◌, followed, fault_at, target_walk, include_walk, sub_walk}

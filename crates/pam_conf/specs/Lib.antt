@@ -1,5 +1,4 @@
 pub mod Files
-pub mod Gives
 pub mod ItemsOf
 pub mod Laws
 pub mod Lines
@@ -11,6 +10,7 @@ pub mod Stack
 pub mod StackCode
 pub mod StartOf
 pub mod SubFalls
+pub mod Tells
 pub mod Walk
 pub mod Wanted
 pub mod Words

@@ -1,23 +1,20 @@
 -- The rules of a file: pam.conf(5), on comments, continued lines and rules.
-use Rattle.std.specs.Prelude.{ℕ, ◌+◌, List, [], ◌∷◌, length, map, take, count_by, position, ◌==◌, nat_lt, if◌then◌else◌, Option, Some, None, Result, Ok, Err}
-use Rattle.std.specs.Option.{option_map, option_map_or}
-use Rattle.pam_codes.specs.Text.{Mark, text_of, lines_of}
-use Rattle.pam_codes.specs.declared.text.Text.{Text}
+use Rattle.std.specs.Prelude.{ℕ, List, [], ◌∷◌, map, Option, Some, None, Result, Ok, Err}
+use Rattle.std.specs.Option.{option_map_or}
+use Rattle.pam_text.specs.Source.{source_fault}
+use Rattle.pam_text.specs.Text.{Mark, text_of, lines_of}
+use Rattle.pam_text.specs.declared.source.SourceFault.{SourceFault}
+use Rattle.pam_text.specs.declared.source.SourceFault.TheVariants.{TooLong, NulByte}
 use Rattle.pam_conf.specs.Words.{words_or_fault}
 use Rattle.pam_conf.specs.Rule.{RuleText, rule_of, ◌>>=◌}
 use Rattle.pam_conf.specs.declared.error.FaultKind.{FaultKind}
 use Rattle.pam_conf.specs.declared.error.FaultKind.TheVariants as faults
 use Rattle.pam_conf.specs.declared.error.RuleFault.{RuleFault}
-use Rattle.pam_conf.specs.declared.lines.TheConstants.{MAX_FILE_BYTES}
 use Rattle.pam_conf.specs.declared.rule.Form.{Form}
 
 -- the rule of the line with this number, if it has one
 unfoldable pub line_rule_of : Form → ℕ → List ℕ → Result (Option RuleText) FaultKind
 line_rule_of form number bytes = words_or_fault bytes >>= rule_of form number
-
--- the text that is not read yet
-abbrev pub text_left : Text → List Mark
-text_left text = text_of text.line text.rest.now
 
 -- the number of a line: that of its first byte
 abbrev pub line_number : List Mark → ℕ
@@ -50,13 +47,11 @@ unfoldable pub rules_in : Form → List (List Mark) → Result (List RuleText) R
 rules_in form [] = Ok []
 rules_in form (line ∷ lines) = onto_rules (rule_at form line) (rules_in form lines)
 
--- the line of the first NUL byte: one more than the number of line feeds before it
-abbrev pub nul_line : List ℕ → Option ℕ
-nul_line bytes = option_map (λ n. 1 + count_by (λ b. b == 10) (take n bytes)) (position (λ b. b == 0) bytes)
+-- the fault of a file as a whole
+abbrev pub fault_of_source : SourceFault → RuleFault
+fault_of_source TooLong = record { kind = faults.FileTooLong; line = 0 }
+fault_of_source (NulByte line) = record { kind = faults.NulByte; line = line }
 
 -- THE RULES OF A FILE, or its first fault
 unfoldable pub rules_of : Form → List ℕ → Result (List RuleText) RuleFault
-rules_of form bytes =
-    if nat_lt MAX_FILE_BYTES (length bytes) then Err record { kind = faults.FileTooLong; line = 0 }
-    else option_map_or (λ line. Err record { kind = faults.NulByte; line = line }) (nul_line bytes)
-    (rules_in form (lines_of (text_of 1 bytes)))
+rules_of form bytes = option_map_or (λ fault. Err (fault_of_source fault)) (source_fault bytes) (rules_in form (lines_of (text_of 1 bytes)))

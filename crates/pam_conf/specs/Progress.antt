@@ -3,7 +3,7 @@ use Rattle.std.specs.Prelude.{◌≡◌, ℕ, ◌+◌, List, ◌++◌, length, m
 use Rattle.std.specs.Global.{Global}
 use Rattle.pam_conf.specs.Files.{Folder}
 use Rattle.pam_conf.specs.Rule.{RuleText, rule_view}
-use Rattle.pam_conf.specs.Resolution.{UnlessMemory}
+use Rattle.pam_conf.specs.Tells.{UnlessMemory}
 use Rattle.pam_conf.specs.Stack.{Items, joined, module_count}
 use Rattle.pam_conf.specs.Walk.{Walk, Event, refusal, numbered, is_of_kind, rules_at, fault_at}
 use Rattle.pam_conf.specs.declared.conf_error.ConfError.{ConfError}

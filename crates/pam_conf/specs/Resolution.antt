@@ -1,5 +1,5 @@
 -- The stack of a service: pam.conf(5), on /etc/pam.d/, /etc/pam.conf and the service `other`.
-use Rattle.std.specs.Prelude.{◌≡◌, ℕ, ◌-◌, Bool, true, List, [], ◌∷◌, map, codes, if◌then◌else◌, Option, Some, None, option_and_then, Result, Ok, Err}
+use Rattle.std.specs.Prelude.{ℕ, ◌-◌, Bool, true, List, [], ◌∷◌, map, codes, if◌then◌else◌, Option, Some, None, option_and_then, Result, Ok, Err}
 use Rattle.std.specs.Char.{to_ascii_lowercase}
 use Rattle.std.specs.List.{list_any}
 use Rattle.std.specs.Option.{option_map, option_map_or}
@@ -8,8 +8,7 @@ use Rattle.pam_conf.specs.Rule.{RuleText}
 use Rattle.pam_conf.specs.Stack.{Items, End}
 use Rattle.pam_conf.specs.Walk.{Walk, walk, refusal, numbered, carries, rules_at}
 use Rattle.pam_conf.specs.declared.conf_error.ConfError.{ConfError}
-use Rattle.pam_conf.specs.declared.error.FaultKind.{FaultKind}
-use Rattle.pam_conf.specs.declared.error.FaultKind.TheVariants.{Memory, NoService}
+use Rattle.pam_conf.specs.declared.error.FaultKind.TheVariants.{NoService}
 use Rattle.pam_conf.specs.declared.error.RuleFault.{RuleFault}
 use Rattle.pam_conf.specs.declared.rule.Form.{Form}
 use Rattle.pam_conf.specs.declared.rule.Form.TheVariants.{Dir, Single}
@@ -65,13 +64,3 @@ from_starts folder kind (Some own) other = unless_empty folder kind other (stack
 -- THE STACK of a service, in lowercase, for a kind; or the first fault
 unfoldable pub resolved : Folder → List ℕ → Kind → Result Items ConfError
 resolved folder service kind = from_starts folder kind (start_of folder (map to_ascii_lowercase service)) (start_of folder (codes "other"))
-
--- what an error implies; a failed allocation has no position, and implies nothing else
-abbrev pub UnlessMemory : ConfError → FaultKind → Type 0 → Type 0
-UnlessMemory error Memory fact = error ≡ record { kind = Memory; at = None; line = 0 }
-UnlessMemory error kind fact = fact
-
--- the view of the result is what the definition says, unless allocation failed
-abbrev pub Resolves : {X Y : Type 0} → (X → Y) → Result X ConfError → Result Y ConfError → Type 0
-Resolves view (Ok x) meant = meant ≡ Ok (view x)
-Resolves view (Err error) meant = UnlessMemory error error.kind (meant ≡ Err error)

@@ -1,5 +1,5 @@
 //! The error of a service without a stack.
-ghost use Rattle.std.specs.Prelude.{◌≡◌};
+ghost use Rattle.std.specs.Prelude.{◌≡◌, None};
 
 use crate::error::FaultKind;
 use std::alloc::{AllocError, AllocFailed};
@@ -16,6 +16,17 @@ pub struct ConfError {
     pub line: usize,
 }
 
+/// The error of a failed allocation.
+fn out_of_memory() -> ConfError
+    ensures { result ≡ record { kind = FaultKind.Memory; at = None; line = 0 } }
+{
+    ConfError {
+        kind: FaultKind::Memory,
+        at: None,
+        line: 0,
+    }
+}
+
 impl From<AllocError> for ConfError {
     ghost use Rattle.std.specs.Prelude.{None};
     ghost use Rattle.pam_conf.specs.declared.error.FaultKind.TheVariants.{Memory};
@@ -23,11 +34,7 @@ impl From<AllocError> for ConfError {
     ghost from_gives = { λ _ e. e ≡ record { kind = Memory; at = None; line = 0 } };
 
     fn from(_: AllocError) -> ConfError {
-        ConfError {
-            kind: FaultKind::Memory,
-            at: None,
-            line: 0,
-        }
+        out_of_memory()
     }
 }
 
@@ -38,10 +45,6 @@ impl<T: Drop> From<AllocFailed<T>> for ConfError {
     ghost from_gives = { λ _ e. e ≡ record { kind = Memory; at = None; line = 0 } };
 
     fn from(_: AllocFailed<T>) -> ConfError {
-        ConfError {
-            kind: FaultKind::Memory,
-            at: None,
-            line: 0,
-        }
+        out_of_memory()
     }
 }

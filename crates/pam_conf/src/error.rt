@@ -81,15 +81,32 @@ pub struct RuleFault {
     pub line: usize,
 }
 
+/// The fault of a failed allocation.
+fn out_of_memory() -> RuleFault
+    ensures { result ≡ record { kind = FaultKind.Memory; line = 0 } }
+{
+    RuleFault {
+        kind: FaultKind::Memory,
+        line: 0,
+    }
+}
+
 impl<T: Drop> From<AllocFailed<T>> for RuleFault {
     ghost use Rattle.pam_conf.specs.declared.error.FaultKind.TheVariants.{Memory};
 
     ghost from_gives = { λ _ e. e ≡ record { kind = Memory; line = 0 } };
 
     fn from(_: AllocFailed<T>) -> RuleFault {
-        RuleFault {
-            kind: FaultKind::Memory,
-            line: 0,
-        }
+        out_of_memory()
+    }
+}
+
+impl From<AllocError> for RuleFault {
+    ghost use Rattle.pam_conf.specs.declared.error.FaultKind.TheVariants.{Memory};
+
+    ghost from_gives = { λ _ e. e ≡ record { kind = Memory; line = 0 } };
+
+    fn from(_: AllocError) -> RuleFault {
+        out_of_memory()
     }
 }

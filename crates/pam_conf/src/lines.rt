@@ -1,27 +1,28 @@
 //! The rules of the lines of a file: pam.conf(5).
-ghost use Rattle.std.specs.Prelude.{◌≡◌, ◌==◌, ◌<◌, ◌≤◌, ◌^◌, ◌∷◌, ◌++◌, [], filter, length, map, position, count_by};
-ghost use Rattle.std.specs.Prelude.{OnOk, IfSome};
+ghost use Rattle.std.specs.Prelude.{◌≡◌, ◌∷◌, ◌++◌, [], filter, map};
+ghost use Rattle.std.specs.Prelude.{OnOk, IsTrue, ℕ, List, Ok};
+ghost use Rattle.std.specs.List.{list_all};
 ghost use Rattle.std.specs.Option.{option_map};
-ghost use Rattle.pam_codes.specs.Text.{text_of, lines_of, first_line, first_marks, behind_line};
-ghost use Rattle.pam_conf.specs.Gives.{Gives, GivesKind};
-ghost use Rattle.pam_conf.specs.Lines.{text_left, line_rule_of, rule_at, rules_in, rules_of};
-ghost use Rattle.pam_conf.specs.Lines.{fault_at as fault_at_line, nul_line as nul_line_of};
-ghost use Rattle.pam_conf.specs.Rule.{rule_view};
-ghost use Rattle.pam_conf.specs.Wanted.{only_wanted, wants};
+ghost use Rattle.pam_codes.specs.Tokens.{is_blank};
+ghost use Rattle.pam_text.specs.Text.{text_of, lines_of};
+ghost use Rattle.pam_text.specs.Gives.{Gives};
+ghost use Rattle.pam_conf.specs.Tells.{FaultTells, KindTells};
+ghost use Rattle.pam_conf.specs.Lines.{at_line, fault_of_source, line_rule_of, rules_in, rules_of};
+ghost use Rattle.pam_conf.specs.Lines.{fault_at as fault_at_line};
+ghost use Rattle.pam_conf.specs.Rule.{RuleText, rule_view};
+ghost use Rattle.pam_conf.specs.Wanted.{with_rule, only_wanted, wants};
 
 use crate::error::{FaultKind, RuleFault};
-use crate::rule::{Form, Kind, Rule, is_wanted, line_rule};
-use crate::words::LineReader;
-use pam_codes::Text;
+use crate::rule::{Form, Kind, Rule, is_unwanted_module, is_wanted, line_rule};
+use crate::words::Words;
+use pam_codes::is_blank_byte;
+use pam_text::{Line, Source, SourceFault, Text};
 use std::alloc::{AllocFailed, Global};
-
-/// The maximum length of a file in bytes; a longer one is `FileTooLong`.
-pub const MAX_FILE_BYTES: usize = 1_048_576;
 
 /// Reads the rules of a file in the order of its lines: pam.conf(5). Fails with the first fault: `FileTooLong` (E16)
 /// comes before `NulByte` (E1), and that before the faults of lines. A failed allocation has line 0.
 pub fn rules(alloc: Global, bytes: &[u8], form: Form) -> Result<Vec<Rule>, RuleFault>
-    ensures { Gives (λ rules. map rule_view rules.items) result (rules_of form bytes.now) }
+    ensures { Gives FaultTells (λ rules. map rule_view rules.items) result (rules_of form bytes.now) }
 {
     wanted_rules(alloc, bytes, form, None)
 }
@@ -34,44 +35,27 @@ pub(crate) fn wanted_rules(
     form: Form,
     wanted: Option<Kind>,
 ) -> Result<Vec<Rule>, RuleFault>
-    ensures { Gives (λ rules. map rule_view rules.items) result (only_wanted wanted (rules_of form bytes.now)) }
+    ensures { Gives FaultTells (λ rules. map rule_view rules.items) result (only_wanted wanted (rules_of form bytes.now)) }
 {
-    if bytes.len() > MAX_FILE_BYTES {
-        return Err(RuleFault {
+    match Source::of(bytes) {
+        Ok(source) => text_rules(alloc, form, source, wanted),
+        Err(fault) => Err(source_fault(fault)),
+    }
+}
+
+/// The fault of a file as a whole.
+fn source_fault(fault: SourceFault) -> RuleFault
+    ensures { result ≡ fault_of_source fault }
+{
+    match fault {
+        SourceFault::TooLong => RuleFault {
             kind: FaultKind::FileTooLong,
             line: 0,
-        });
-    }
-    if let Some(line) = nul_line(bytes) {
-        return Err(RuleFault {
+        },
+        SourceFault::NulByte(line) => RuleFault {
             kind: FaultKind::NulByte,
-            line,
-        });
-    }
-    text_rules(alloc, form, bytes, wanted)
-}
-
-fn nul_place(bytes: &[u8]) -> Option<usize>
-    ensures value { result ≡ position (λ b. b == 0) bytes.now }
-    ensures bound { IfSome result (λ n. n < length bytes.now) }
-{
-    bytes.iter().position(|byte| *byte == 0)
-}
-
-fn line_feeds(bytes: &[u8]) -> usize
-    ensures value { result ≡ count_by (λ b. b == 10) bytes.now }
-    ensures bound { result ≤ length bytes.now }
-{
-    bytes.iter().filter(|byte| **byte == b'\n').count()
-}
-
-/// The line of the first NUL byte.
-fn nul_line(bytes: &[u8]) -> Option<usize>
-    ensures { result ≡ nul_line_of bytes.now }
-{
-    match nul_place(bytes) {
-        Some(place) => Some(1 + line_feeds(&bytes[..place])),
-        None => None,
+            line: line as usize,
+        },
     }
 }
 
@@ -79,19 +63,18 @@ fn nul_line(bytes: &[u8]) -> Option<usize>
 fn text_rules(
     alloc: Global,
     form: Form,
-    bytes: &[u8],
+    source: Source<'_>,
     wanted: Option<Kind>,
 ) -> Result<Vec<Rule>, RuleFault>
-    requires { length bytes.now < 2 ^ 32 }
-    ensures { Gives (λ rules. map rule_view rules.items) result
-        (only_wanted wanted (rules_in form (lines_of (text_of 1 bytes.now)))) }
+    ensures { Gives FaultTells (λ rules. map rule_view rules.items) result
+        (only_wanted wanted (rules_in form (lines_of (text_of 1 source.entry.bytes.now)))) }
 {
-    let mut text = Text::of(bytes);
-    let mut reader = LineReader::new(alloc);
+    let mut text = Text::of(source);
+    let mut joined = Vec::new(alloc);
     let mut rules = Vec::new(alloc);
-    while !text.is_done() {
-        if let Some(rule) = next_rule(alloc, form, &mut reader, &mut text)? {
-            keep(&mut rules, rule, wanted)?;
+    while let Some(line) = text.next_line(&mut joined)? {
+        if !is_blank_line(line.bytes) {
+            take_rule(alloc, form, line, wanted, &mut rules)?;
         }
     }
     Ok(rules)
@@ -108,37 +91,65 @@ fn keep(rules: &mut Vec<Rule>, rule: Rule, wanted: Option<Kind>) -> Result<(), A
     rules.push(rule)
 }
 
-/// Reads the next line of `text`, and returns its rule if it has one.
-fn next_rule(
-    alloc: Global,
-    form: Form,
-    reader: &mut LineReader,
-    text: &mut Text,
-) -> Result<Option<Rule>, RuleFault>
-    ensures rule { Gives (option_map rule_view) result (rule_at form (first_marks (text_left text.old))) }
-    ensures rest { OnOk result (text_left text.new ≡ behind_line (text_left text.old)) }
+fn is_blank_line(bytes: &[u8]) -> bool
+    ensures { result ≡ list_all is_blank bytes.now }
 {
-    let line = text.line();
-    match read_line(alloc, form, reader, text) {
-        Ok(rule) => Ok(rule),
-        Err(kind) => Err(fault_at(line, kind)),
+    bytes.iter().all(|byte| is_blank_byte(*byte))
+}
+
+/// Whether a line certainly has no fault, and a rule that calls a module and is not wanted. Does not allocate.
+fn is_unwanted(form: Form, line: &[u8], wanted: Option<Kind>) -> bool
+    ensures { IsTrue result → (number : ℕ) (rules : List RuleText) →
+        with_rule wanted rules (at_line number (line_rule_of form number line.now)) ≡ Ok rules }
+{
+    match form {
+        Form::Single => false,
+        Form::Dir => match Words::of(line) {
+            Ok(words) => is_unwanted_module(form, words, wanted),
+            Err(_) => false,
+        },
     }
 }
 
-/// Like `next_rule`, without the line of a fault.
-fn read_line(
+/// Appends the rule of a line, if it has one and it is wanted.
+// A function of its own, so that the place for a rule, which is large, is not prepared for each blank line.
+#[inline(never)]
+fn take_rule(
     alloc: Global,
     form: Form,
-    reader: &mut LineReader,
-    text: &mut Text,
-) -> Result<Option<Rule>, FaultKind>
-    ensures rule { GivesKind (option_map rule_view) result
-        (line_rule_of form text.old.line (first_line (text_left text.old))) }
-    ensures rest { OnOk result (text_left text.new ≡ behind_line (text_left text.old)) }
+    line: Line<'_>,
+    wanted: Option<Kind>,
+    rules: &mut Vec<Rule>,
+) -> Result<(), RuleFault>
+    ensures { let meant = at_line line.entry.number (line_rule_of form line.entry.number line.entry.bytes.now) in
+        Gives FaultTells (λ _. map rule_view rules.new.items) result (with_rule wanted (map rule_view rules.old.items) meant) }
 {
-    let line = text.line();
-    reader.read(text)?;
-    line_rule(alloc, form, line, reader.words())
+    if is_unwanted(form, line.bytes, wanted) {
+        return Ok(());
+    }
+    if let Some(rule) = numbered_rule(alloc, form, line)? {
+        keep(rules, rule, wanted)?;
+    }
+    Ok(())
+}
+
+/// The rule of a line, if it has one.
+fn numbered_rule(alloc: Global, form: Form, line: Line<'_>) -> Result<Option<Rule>, RuleFault>
+    ensures { Gives FaultTells (option_map rule_view) result
+        (at_line line.entry.number (line_rule_of form line.entry.number line.entry.bytes.now)) }
+{
+    match read_line(alloc, form, line) {
+        Ok(rule) => Ok(rule),
+        Err(kind) => Err(fault_at(line.number as usize, kind)),
+    }
+}
+
+/// Like `numbered_rule`, without the line of a fault.
+fn read_line(alloc: Global, form: Form, line: Line<'_>) -> Result<Option<Rule>, FaultKind>
+    ensures { Gives KindTells (option_map rule_view) result (line_rule_of form line.entry.number line.entry.bytes.now) }
+{
+    let words = Words::of(line.bytes)?;
+    line_rule(alloc, form, line.number as usize, words)
 }
 
 /// A fault at `line`; a failed allocation has line 0.

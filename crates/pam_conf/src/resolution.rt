@@ -4,8 +4,10 @@ ghost use Rattle.std.specs.Char.{to_ascii_lowercase};
 ghost use Rattle.std.specs.List.{list_any};
 ghost use Rattle.std.specs.Option.{option_map};
 ghost use Rattle.pam_conf.specs.Progress.{IsTable};
-ghost use Rattle.pam_conf.specs.Resolution.{Resolves, carried, from_starts, resolved, stack_from, start_in};
+ghost use Rattle.pam_conf.specs.Resolution.{carried, from_starts, resolved, stack_from, start_in};
 ghost use Rattle.pam_conf.specs.Rule.{rule_view};
+ghost use Rattle.pam_conf.specs.Tells.{ErrorTells};
+ghost use Rattle.pam_text.specs.Gives.{Gives};
 ghost use Rattle.pam_conf.specs.StartOf.{start_text};
 ghost use Rattle.pam_conf.specs.Walk.{carries};
 ghost use Rattle.pam_conf.specs.declared.rule.Form.TheVariants.{Dir, Single};
@@ -90,7 +92,7 @@ fn stack_at(
     requires table { IsTable files.now kind progress.old.table.items }
     requires within { start.file < length files.now.entries }
     ensures table { OnOk result (IsTable files.now kind progress.new.table.items) }
-    ensures stack { Resolves (λ s. s) result (stack_from files.now kind (start_text start.entry)) }
+    ensures stack { Gives ErrorTells (λ s. s) result (stack_from files.now kind (start_text start.entry)) }
 {
     progress.modules = 0;
     progress.follows = 0;
@@ -118,7 +120,7 @@ fn stack_of_starts(
     requires table { IsTable files.now kind progress.old.table.items }
     requires own { IfSome own (λ s. s.file < length files.now.entries) }
     requires other { IfSome other (λ s. s.file < length files.now.entries) }
-    ensures { Resolves (λ s. s) result (from_starts files.now kind (option_map start_text own.entry) (option_map start_text other.entry)) }
+    ensures { Gives ErrorTells (λ s. s) result (from_starts files.now kind (option_map start_text own.entry) (option_map start_text other.entry)) }
 {
     let Some(own) = own else {
         let Some(other) = other else {
@@ -143,7 +145,7 @@ fn folder_stack(
     service: &[u8],
     kind: Kind,
 ) -> Result<Stack, ConfError>
-    ensures { Resolves (λ s. s) result (from_starts files.now kind (start_in Dir files.now service.now) (start_in Dir files.now (codes "other"))) }
+    ensures { Gives ErrorTells (λ s. s) result (from_starts files.now kind (start_in Dir files.now service.now) (start_in Dir files.now (codes "other"))) }
 {
     let mut progress = Progress::new(alloc, files, kind)?;
     let own = folder_start(files, service);
@@ -158,7 +160,7 @@ fn one_file_stack(
     service: &[u8],
     kind: Kind,
 ) -> Result<Stack, ConfError>
-    ensures { Resolves (λ s. s) result (from_starts files.now kind (start_in Single files.now service.now) (start_in Single files.now (codes "other"))) }
+    ensures { Gives ErrorTells (λ s. s) result (from_starts files.now kind (start_in Single files.now service.now) (start_in Single files.now (codes "other"))) }
 {
     let Some(file) = files.find(ONE_FILE) else {
         return Err(no_service());
@@ -175,7 +177,7 @@ fn one_file_stack(
 /// stack, gets the stack of `other`. Fails with the first fault of the walk over the files. If allocation fails, the
 /// error has no file and line 0.
 pub fn resolve(alloc: Global, files: &Files, service: &[u8], kind: Kind) -> Result<Stack, ConfError>
-    ensures { Resolves (λ s. s) result (resolved files.now service.now kind) }
+    ensures { Gives ErrorTells (λ s. s) result (resolved files.now service.now kind) }
 {
     let service = lower_case(alloc, service)?;
     match files.form() {

@@ -1,18 +1,20 @@
 //! The rule of a line: pam.conf(5), "service type control module-path module-arguments".
-ghost use Rattle.std.specs.Prelude.{◌≡◌, IfOk, map};
+ghost use Rattle.std.specs.Prelude.{◌≡◌, IfOk, IsOk, IsTrue, List, Ok, Some, map, ℕ};
 ghost use Rattle.std.specs.Char.{to_ascii_lowercase};
 ghost use Rattle.std.specs.Option.{option_map};
-ghost use Rattle.pam_conf.specs.Gives.{GivesKind};
-ghost use Rattle.pam_conf.specs.Rule.{body_view, rule_view, kind_named, kind_or_fault_of, dashed_kind_of};
+ghost use Rattle.pam_text.specs.Gives.{Gives};
+ghost use Rattle.pam_conf.specs.Tells.{KindTells};
+ghost use Rattle.pam_conf.specs.Lines.{at_line};
+ghost use Rattle.pam_conf.specs.Rule.{RuleText, body_view, rule_view, kind_named, kind_or_fault_of, dashed_kind_of};
 ghost use Rattle.pam_conf.specs.Rule.{file_name_of, without_folder_of, target_of};
 ghost use Rattle.pam_conf.specs.Rule.{module_of, control_body_of, body_of};
 ghost use Rattle.pam_conf.specs.Rule.{kind_rule_of, include_rule_of, plain_rule_of, first_rule_of, rule_of};
 ghost use Rattle.pam_conf.specs.Spot.{still_to_come};
 ghost use Rattle.pam_conf.specs.Walk.{is_of_kind, same_kind};
-ghost use Rattle.pam_conf.specs.Wanted.{wants};
+ghost use Rattle.pam_conf.specs.Wanted.{with_rule, wants};
 
 use crate::error::FaultKind;
-use crate::words::{next_word, word_text, word_texts};
+use crate::words::{Words, word_text};
 use pam_codes::{Control, is_name};
 use std::alloc::{AllocError, Global};
 
@@ -132,7 +134,7 @@ fn dashed_kind(text: &[u8]) -> Result<(bool, Kind), FaultKind>
 
 /// Returns `name` if a file of the folder can have it: not empty, and without `/`.
 fn file_name(name: Vec<u8>) -> Result<Vec<u8>, FaultKind>
-    ensures { GivesKind (λ n. n.items) result (file_name_of name.items) }
+    ensures { Gives KindTells (λ n. n.items) result (file_name_of name.items) }
 {
     if name.is_empty() || name.contains(&b'/') {
         Err(FaultKind::BadTarget)
@@ -155,13 +157,13 @@ fn without_folder(alloc: Global, text: Vec<u8>) -> Result<Vec<u8>, AllocError>
 
 /// The target at the start of `words`; further words are ignored.
 #[tactic(auto, unfolding(crate::specs::Rule::target_of))]
-fn target(alloc: Global, form: Form, words: &[Vec<u8>]) -> Result<Vec<u8>, FaultKind>
-    ensures { GivesKind (λ t. t.items) result (target_of form (still_to_come words.now)) }
+fn target(alloc: Global, form: Form, words: Words<'_>) -> Result<Vec<u8>, FaultKind>
+    ensures { Gives KindTells (λ t. t.items) result (target_of form (still_to_come words.entry)) }
 {
     match form {
         Form::Single => Err(FaultKind::IncludeInSingleFile),
         Form::Dir => {
-            let Some((word, _)) = next_word(words) else {
+            let Some((word, _)) = words.split_first() else {
                 return Err(FaultKind::MissingTarget);
             };
             let name = without_folder(alloc, word_text(alloc, word)?)?;
@@ -171,20 +173,20 @@ fn target(alloc: Global, form: Form, words: &[Vec<u8>]) -> Result<Vec<u8>, Fault
 }
 
 /// The body of a rule that calls a module; `words` begin with its path.
-fn module_body(alloc: Global, control: Control, words: &[Vec<u8>]) -> Result<Body, FaultKind>
-    ensures { GivesKind body_view result (module_of control (still_to_come words.now)) }
+fn module_body(alloc: Global, control: Control, words: Words<'_>) -> Result<Body, FaultKind>
+    ensures { Gives KindTells body_view result (module_of control (still_to_come words.entry)) }
 {
-    let Some((path, arguments)) = next_word(words) else {
+    let Some((path, arguments)) = words.split_first() else {
         return Err(FaultKind::MissingField);
     };
     let path = word_text(alloc, path)?;
-    let arguments = word_texts(alloc, arguments)?;
+    let arguments = arguments.texts(alloc)?;
     Ok(Body::Module(control, path, arguments))
 }
 
 /// The body of a rule whose control is neither `include` nor `substack`.
-fn control_body(alloc: Global, control: &[u8], words: &[Vec<u8>]) -> Result<Body, FaultKind>
-    ensures { GivesKind body_view result (control_body_of control.now (still_to_come words.now)) }
+fn control_body(alloc: Global, control: &[u8], words: Words<'_>) -> Result<Body, FaultKind>
+    ensures { Gives KindTells body_view result (control_body_of control.now (still_to_come words.entry)) }
 {
     match Control::read(control) {
         Ok(control) => module_body(alloc, control, words),
@@ -194,10 +196,10 @@ fn control_body(alloc: Global, control: &[u8], words: &[Vec<u8>]) -> Result<Body
 
 /// The body of a rule: the words after the kind.
 #[tactic(auto, unfolding(crate::specs::Rule::body_of))]
-fn rule_body(alloc: Global, form: Form, words: &[Vec<u8>]) -> Result<Body, FaultKind>
-    ensures { GivesKind body_view result (body_of form (still_to_come words.now)) }
+fn rule_body(alloc: Global, form: Form, words: Words<'_>) -> Result<Body, FaultKind>
+    ensures { Gives KindTells body_view result (body_of form (still_to_come words.entry)) }
 {
-    let Some((control, words)) = next_word(words) else {
+    let Some((control, words)) = words.split_first() else {
         return Err(FaultKind::MissingField);
     };
     if is_name(b"include", control) {
@@ -219,10 +221,10 @@ fn kind_rule(
     line: usize,
     service: Option<Vec<u8>>,
     kind: &[u8],
-    words: &[Vec<u8>],
+    words: Words<'_>,
 ) -> Result<Rule, FaultKind>
-    ensures { GivesKind rule_view result
-        (kind_rule_of form line (option_map (λ s. s.items) service) kind.now (still_to_come words.now)) }
+    ensures { Gives KindTells rule_view result
+        (kind_rule_of form line (option_map (λ s. s.items) service) kind.now (still_to_come words.entry)) }
 {
     let (dashed, kind) = dashed_kind(kind)?;
     let body = rule_body(alloc, form, words)?;
@@ -237,13 +239,8 @@ fn kind_rule(
 
 /// The rule of an `@include`, from its target on.
 #[tactic(auto, unfolding(crate::specs::Rule::include_rule_of))]
-fn include_rule(
-    alloc: Global,
-    form: Form,
-    line: usize,
-    words: &[Vec<u8>],
-) -> Result<Rule, FaultKind>
-    ensures { GivesKind rule_view result (include_rule_of form line (still_to_come words.now)) }
+fn include_rule(alloc: Global, form: Form, line: usize, words: Words<'_>) -> Result<Rule, FaultKind>
+    ensures { Gives KindTells rule_view result (include_rule_of form line (still_to_come words.entry)) }
 {
     let name = target(alloc, form, words)?;
     Ok(Rule {
@@ -271,14 +268,14 @@ fn plain_rule(
     form: Form,
     line: usize,
     mut first: Vec<u8>,
-    words: &[Vec<u8>],
+    words: Words<'_>,
 ) -> Result<Rule, FaultKind>
-    ensures { GivesKind rule_view result (plain_rule_of form line first.items (still_to_come words.now)) }
+    ensures { Gives KindTells rule_view result (plain_rule_of form line first.items (still_to_come words.entry)) }
 {
     match form {
         Form::Dir => kind_rule(alloc, form, line, None, &first, words),
         Form::Single => {
-            let Some((kind, words)) = next_word(words) else {
+            let Some((kind, words)) = words.split_first() else {
                 return Err(FaultKind::MissingField);
             };
             lower(&mut first);
@@ -295,9 +292,9 @@ fn first_rule(
     form: Form,
     line: usize,
     first: Vec<u8>,
-    words: &[Vec<u8>],
+    words: Words<'_>,
 ) -> Result<Rule, FaultKind>
-    ensures { GivesKind rule_view result (first_rule_of form line first.items (still_to_come words.now)) }
+    ensures { Gives KindTells rule_view result (first_rule_of form line first.items (still_to_come words.entry)) }
 {
     if is_name(b"@include", &first) {
         include_rule(alloc, form, line, words)
@@ -312,14 +309,67 @@ pub(crate) fn line_rule(
     alloc: Global,
     form: Form,
     line: usize,
-    words: &[Vec<u8>],
+    words: Words<'_>,
 ) -> Result<Option<Rule>, FaultKind>
-    ensures { GivesKind (option_map rule_view) result (rule_of form line (still_to_come words.now)) }
+    ensures { Gives KindTells (option_map rule_view) result (rule_of form line (still_to_come words.entry)) }
 {
-    let Some((first, words)) = next_word(words) else {
+    let Some((first, words)) = words.split_first() else {
         return Ok(None);
     };
     let first = word_text(alloc, first)?;
     let rule = first_rule(alloc, form, line, first, words)?;
     Ok(Some(rule))
+}
+
+/// Whether the words certainly make a rule that calls a module, has no fault and is not wanted. Does not allocate.
+pub(crate) fn is_unwanted_module(form: Form, words: Words<'_>, wanted: Option<Kind>) -> bool
+    ensures { IsTrue result → (number : ℕ) (rules : List RuleText) →
+        with_rule wanted rules (at_line number (rule_of form number (still_to_come words.entry))) ≡ Ok rules }
+{
+    match form {
+        Form::Single => false,
+        Form::Dir => match wanted {
+            None => false,
+            Some(wanted) => is_module_of_other_kind(wanted, words),
+        },
+    }
+}
+
+/// Like `is_unwanted_module`, in a folder.
+fn is_module_of_other_kind(wanted: Kind, words: Words<'_>) -> bool
+    ensures { IsTrue result → (number : ℕ) (rules : List RuleText) →
+        with_rule (Some wanted) rules (at_line number (rule_of Form.Dir number (still_to_come words.entry))) ≡ Ok rules }
+{
+    let Some((first, words)) = words.split_first() else {
+        return false;
+    };
+    if first.is_empty() || first[0] == b'[' {
+        return false;
+    }
+    if is_name(b"@include", first) {
+        return false;
+    }
+    match dashed_kind(first) {
+        Err(_) => false,
+        Ok((_, kind)) => !is_same(wanted, kind) && calls_module(words),
+    }
+}
+
+/// Whether the words, from a control on, call a module without a fault.
+fn calls_module(words: Words<'_>) -> bool
+    ensures { IsTrue result → IsOk (body_of Form.Dir (still_to_come words.entry)) }
+{
+    let Some((control, words)) = words.split_first() else {
+        return false;
+    };
+    if is_name(b"include", control) || is_name(b"substack", control) {
+        return false;
+    }
+    match Control::read(control) {
+        Err(_) => false,
+        Ok(_) => match words.split_first() {
+            Some(_) => true,
+            None => false,
+        },
+    }
 }

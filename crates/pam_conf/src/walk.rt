@@ -4,8 +4,9 @@ ghost use Rattle.std.specs.Option.{option_map};
 ghost use Rattle.pam_conf.specs.Files.{position_of};
 ghost use Rattle.pam_conf.specs.ItemsOf.{items_of, module_text};
 ghost use Rattle.pam_conf.specs.Progress.{IsTable, Passes, Refuses, in_file, of_kind};
-ghost use Rattle.pam_conf.specs.Resolution.{Resolves, UnlessMemory};
 ghost use Rattle.pam_conf.specs.Rule.{rule_view};
+ghost use Rattle.pam_conf.specs.Tells.{ErrorTells, UnlessMemory};
+ghost use Rattle.pam_text.specs.Gives.{Gives};
 ghost use Rattle.pam_conf.specs.Walk.{carries, counts, deeper, fault_at, followed, include_walk, is_of_kind, rule_walk, rules_at, rules_walk, target_walk, walk};
 ghost use Rattle.pam_conf.specs.Wanted.{only_wanted};
 ghost use Rattle.pam_conf.specs.declared.stack.TheConstants.{MAX_MODULES};
@@ -87,7 +88,7 @@ pub(crate) fn file_rules(
     wanted: Option<Kind>,
 ) -> Result<Vec<Rule>, ConfError>
     requires { file < length files.now.entries }
-    ensures { Resolves (λ rules. map rule_view rules.items) result (in_file file (only_wanted wanted (rules_at files.now file))) }
+    ensures { Gives ErrorTells (λ rules. map rule_view rules.items) result (in_file file (only_wanted wanted (rules_at files.now file))) }
 {
     let bytes = files.bytes(file).unwrap_or(b"");
     wanted_rules(alloc, bytes, files.form(), wanted).map_err(|found| fault_in(file, found))
@@ -172,7 +173,7 @@ impl Walker<'_> {
         requires table { IsTable self.now.files.now self.now.kind table.old.items }
         requires within { file < length self.now.files.now.entries }
         ensures table { IsTable self.now.files.now self.now.kind table.new.items }
-        ensures rules { Resolves (λ rules. map rule_view rules.items) result (in_file file (of_kind self.now.kind (rules_at self.now.files.now file))) }
+        ensures rules { Gives ErrorTells (λ rules. map rule_view rules.items) result (in_file file (of_kind self.now.kind (rules_at self.now.files.now file))) }
     {
         let taken = std::mem::replace(&mut table[file], None);
         if let Some(rules) = taken {

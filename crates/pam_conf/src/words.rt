@@ -1,155 +1,139 @@
 //! The words of a line: pam.conf(5), on brackets in arguments.
-ghost use Rattle.std.specs.Prelude.{◌≡◌, ◌≤◌, ◌<◌, ◌-◌, ◌∷◌, ◌++◌, [], ℕ, List, map, drop, length, slice_index};
-ghost use Rattle.std.specs.Prelude.{IfOk, Ok, OnOk, MatchOption, MatchResult};
-ghost use Rattle.pam_codes.specs.Text.{first_line, behind_line};
-ghost use Rattle.pam_conf.specs.Gives.{FailsKind};
-ghost use Rattle.pam_conf.specs.Lines.{text_left};
-ghost use Rattle.pam_conf.specs.Spot.{all_words, texts, still_to_come};
-ghost use Rattle.pam_conf.specs.Words.{words_or_fault, unescaped, text_of_word};
+ghost use Rattle.std.specs.Prelude.{◌≡◌, ◌≤◌, ◌<◌, ◌-◌, ◌∷◌, ◌++◌, [], ℕ, List, Some, None, Ok, Err, not, map, take, drop};
+ghost use Rattle.std.specs.Prelude.{IfOk, IfSome, MatchOption, MatchResult, IsSome, false, length, slice_index};
+ghost use Rattle.std.specs.List.{prefix_len, onto_first};
+ghost use Rattle.std.specs.Option.{option_map};
+ghost use Rattle.pam_codes.specs.Tokens.{is_blank};
+ghost use Rattle.pam_conf.specs.Words.{Between, Bracket, words_in, words_of, words_or_fault};
+ghost use Rattle.pam_conf.specs.Words.{words_from, unescaped, text_of_word};
 
 use crate::error::FaultKind;
-use pam_codes::{ControlError, Text, is_blank_byte};
+use pam_codes::{ControlError, is_blank_byte};
 use std::alloc::{AllocError, Global};
 
-/// The state of a reader: between words, in a plain word or in brackets.
-#[derive(Clone, Copy)]
-pub(crate) enum Spot {
-    Between,
-    Plain,
-    /// Whether the last byte was a backslash.
-    Bracket(bool),
+/// The number of leading blanks.
+fn blank_len(bytes: &[u8]) -> usize
+    ensures value { result ≡ prefix_len is_blank bytes.now }
+    ensures bound { result ≤ length bytes.now }
+{
+    bytes.iter().take_while(|b| is_blank_byte(**b)).count()
 }
 
-/// Splits lines into words, byte by byte. Reuses the memory of the words of earlier lines.
-#[derive(Drop)]
-pub(crate) struct LineReader {
-    alloc: Global,
-    done: Vec<Vec<u8>>,
-    /// Memory for further words. Its contents do not matter.
-    spare: Vec<Vec<u8>>,
-    /// The bytes of the current word. Between words they do not matter.
-    word: Vec<u8>,
-    spot: Spot,
+/// The number of bytes before the first blank.
+fn plain_len(bytes: &[u8]) -> usize
+    ensures value { result ≡ prefix_len (λ b. not (is_blank b)) bytes.now }
+    ensures bound { result ≤ length bytes.now }
+{
+    bytes.iter().take_while(|b| !is_blank_byte(**b)).count()
 }
 
-impl LineReader {
-    pub(crate) fn new(alloc: Global) -> Self {
-        LineReader {
-            alloc,
-            done: Vec::new(alloc),
-            spare: Vec::new(alloc),
-            word: Vec::new(alloc),
-            spot: Spot::Between,
-        }
-    }
-
-    /// The finished words.
-    pub(crate) fn words(&self) -> &[Vec<u8>]
-        ensures { result.now ≡ self.now.done.items }
-    {
-        self.done.as_slice()
-    }
-
-    /// Begins a line.
-    fn begin(&mut self) -> Result<(), AllocError>
-        ensures { OnOk result ((rest : List ℕ) → all_words self.new rest ≡ words_or_fault rest) }
-    {
-        self.spare.append(&mut self.done)?;
-        self.spot = Spot::Between;
-        Ok(())
-    }
-
-    /// Reads one more byte of the line.
-    fn advance(&mut self, byte: u8) -> Result<(), AllocError>
-        ensures { OnOk result ((rest : List ℕ) → all_words self.new rest ≡ all_words self.old (byte ∷ rest)) }
-    {
-        match self.spot {
-            Spot::Between => self.advance_between(byte),
-            Spot::Plain => self.advance_plain(byte),
-            Spot::Bracket(escaped) => self.advance_bracket(byte, escaped),
-        }
-    }
-
-    fn advance_between(&mut self, byte: u8) -> Result<(), AllocError>
-        requires { self.old.spot ≡ Spot.Between }
-        ensures { OnOk result ((rest : List ℕ) → all_words self.new rest ≡ all_words self.old (byte ∷ rest)) }
-    {
-        if is_blank_byte(byte) {
-            return Ok(());
-        }
-        self.word.clear();
-        self.word.push(byte)?;
-        if byte == b'[' {
-            self.spot = Spot::Bracket(false);
-            return Ok(());
-        }
-        self.spot = Spot::Plain;
-        Ok(())
-    }
-
-    fn advance_plain(&mut self, byte: u8) -> Result<(), AllocError>
-        requires { self.old.spot ≡ Spot.Plain }
-        ensures { OnOk result ((rest : List ℕ) → all_words self.new rest ≡ all_words self.old (byte ∷ rest)) }
-    {
-        if is_blank_byte(byte) {
-            return self.end_word();
-        }
-        self.word.push(byte)?;
-        Ok(())
-    }
-
-    fn advance_bracket(&mut self, byte: u8, escaped: bool) -> Result<(), AllocError>
-        requires { self.old.spot ≡ Spot.Bracket escaped }
-        ensures { OnOk result ((rest : List ℕ) → all_words self.new rest ≡ all_words self.old (byte ∷ rest)) }
-    {
-        self.word.push(byte)?;
+/// The number of bytes up to the closing bracket, this one included; `None` if no bracket closes.
+fn inside_len(inside: &[u8]) -> Option<usize>
+    ensures value { MatchOption result (words_in (Bracket false) inside.now ≡ None)
+        (λ n. option_map (onto_first 91) (words_in (Bracket false) inside.now) ≡ words_from (Some (91 ∷ take n inside.now, drop n inside.now))) }
+    ensures bound { IfSome result (λ n. n ≤ length inside.now) }
+{
+    let mut escaped = false;
+    for index in 0..inside.len() {
+        let byte = inside[index];
         if byte == b']' && !escaped {
-            return self.end_word();
+            return Some(index + 1);
         }
-        self.spot = Spot::Bracket(byte == b'\\');
-        Ok(())
+        escaped = byte == b'\\';
+    }
+    None
+}
+
+/// The length of the leading word, as it is written.
+fn word_len(bytes: &[u8]) -> Result<usize, ControlError>
+    requires something { 0 < length bytes.now }
+    requires word { prefix_len is_blank bytes.now ≡ 0 }
+    ensures value { MatchResult result (λ n. words_of bytes.now ≡ words_from (Some (take n bytes.now, drop n bytes.now)))
+        (λ e. words_or_fault bytes.now ≡ Err (FaultKind.Control e)) }
+    ensures bound { IfOk result (λ n. (0 < n) × (n ≤ length bytes.now)) }
+{
+    if bytes[0] != b'[' {
+        return Ok(plain_len(bytes));
+    }
+    match inside_len(bytes.split_at(1).1) {
+        Some(len) => Ok(len + 1),
+        None => Err(ControlError::OpenBracket),
+    }
+}
+
+/// The first word of a line, as it is written, and the bytes after it; `None` if there is no word.
+fn first_word(line: &[u8]) -> Result<Option<(&[u8], &[u8])>, ControlError>
+    ensures value { MatchResult result (λ o. words_of line.now ≡ words_from (option_map (λ p. (p.0.now, p.1.now)) o))
+        (λ e. words_or_fault line.now ≡ Err (FaultKind.Control e)) }
+    ensures bound { IfOk result (λ o. IfSome o (λ p. length p.1.now < length line.now)) }
+{
+    let rest = line.split_at(blank_len(line)).1;
+    if rest.is_empty() {
+        return Ok(None);
+    }
+    match word_len(rest) {
+        Ok(len) => Ok(Some(rest.split_at(len))),
+        Err(error) => Err(error),
+    }
+}
+
+/// The fault of a line in which a bracket stays open, if there is one.
+fn open_bracket(line: &[u8]) -> Option<ControlError>
+    ensures { MatchOption result (IsSome (words_of line.now)) (λ e. words_or_fault line.now ≡ Err (FaultKind.Control e)) }
+{
+    let mut rest = line;
+    while !rest.is_empty() {
+        match first_word(rest) {
+            Ok(Some((_, after))) => rest = after,
+            Ok(None) => return None,
+            Err(error) => return Some(error),
+        }
+    }
+    None
+}
+
+/// The remaining words of a line in which each bracket is closed.
+#[derive(Clone, Copy)]
+pub(crate) struct Words<'a> {
+    rest: &'a [u8],
+    ghost closed: { IsSome (words_of rest.now) },
+}
+
+impl<'a> Words<'a> {
+    ghost use Rattle.pam_conf.specs.Spot.{still_to_come, texts};
+
+    /// The words of a line, or its fault if a bracket stays open.
+    pub(crate) fn of(line: &'a [u8]) -> Result<Words<'a>, FaultKind>
+        ensures { MatchResult result (λ words. words_or_fault line.now ≡ Ok (still_to_come words)) (λ kind. words_or_fault line.now ≡ Err kind) }
+    {
+        match open_bracket(line) {
+            Some(error) => Err(FaultKind::Control(error)),
+            None => Ok(Words { rest: line }),
+        }
     }
 
-    /// Appends the current word to the finished ones.
-    fn end_word(&mut self) -> Result<(), AllocError>
-        ensures done { OnOk result (texts self.new.done ≡ texts self.old.done ++ self.old.word.items ∷ []) }
-        ensures spot { OnOk result (self.new.spot ≡ Spot.Between) }
+    /// Returns the first word, as it is written, and the words after it.
+    pub(crate) fn split_first(self) -> Option<(&'a [u8], Words<'a>)>
+        ensures value { MatchOption result (still_to_come self.entry ≡ []) (λ p. still_to_come self.entry ≡ p.0.now ∷ still_to_come p.1) }
+        ensures shorter { IfSome result (λ p. length p.1.rest.now < length self.entry.rest.now) }
     {
-        let next = self.spare.pop().unwrap_or(Vec::new(self.alloc));
-        self.done.push(std::mem::replace(&mut self.word, next))?;
-        self.spot = Spot::Between;
-        Ok(())
-    }
-
-    /// Ends the line. Returns an error if a bracket is open.
-    fn finish(&mut self) -> Result<(), FaultKind>
-        ensures { MatchResult result (λ _. all_words self.old [] ≡ Ok (texts self.new.done)) (λ kind. FailsKind kind (all_words self.old [])) }
-    {
-        match self.spot {
-            Spot::Between => Ok(()),
-            Spot::Plain => {
-                self.end_word()?;
-                Ok(())
-            }
-            Spot::Bracket(_) => Err(FaultKind::Control(ControlError::OpenBracket)),
+        match first_word(self.rest) {
+            Ok(Some((word, rest))) => Some((word, Words { rest })),
+            Ok(None) | Err(_) => None,
         }
     }
 
-    /// Reads the next line of `text`, and its line feed.
-    pub(crate) fn read(&mut self, text: &mut Text) -> Result<(), FaultKind>
-        ensures words { MatchResult result
-            (λ _. words_or_fault (first_line (text_left text.old)) ≡ Ok (texts self.new.done))
-            (λ kind. FailsKind kind (words_or_fault (first_line (text_left text.old)))) }
-        ensures rest { OnOk result (text_left text.new ≡ behind_line (text_left text.old)) }
+    /// The texts of the words.
+    pub(crate) fn texts(self, alloc: Global) -> Result<Vec<Vec<u8>>, AllocError>
+        ensures { IfOk result (λ v. texts v ≡ map text_of_word (still_to_come self.entry)) }
     {
-        self.begin()?;
-        while let Some((_, byte)) = text.next() {
-            if byte == b'\n' {
-                return self.finish();
-            }
-            self.advance(byte)?;
+        let mut texts = Vec::new(alloc);
+        let mut words = self;
+        while let Some((word, after)) = words.split_first() {
+            texts.push(word_text(alloc, word)?)?;
+            words = after;
         }
-        self.finish()
+        Ok(texts)
     }
 }
 
@@ -193,24 +177,4 @@ pub(crate) fn word_text(alloc: Global, word: &[u8]) -> Result<Vec<u8>, AllocErro
         unescape(&mut text);
     }
     Ok(text)
-}
-
-/// Returns the first word, as it is written, and the words after it.
-pub(crate) fn next_word(words: &[Vec<u8>]) -> Option<(&[u8], &[Vec<u8>])>
-    ensures { MatchOption result (still_to_come words.now ≡ [])
-        (λ p. still_to_come words.now ≡ p.0.now ∷ still_to_come p.1.now) }
-{
-    let (word, behind) = words.split_first()?;
-    Some((word.as_slice(), behind))
-}
-
-/// The texts of the words.
-pub(crate) fn word_texts(alloc: Global, words: &[Vec<u8>]) -> Result<Vec<Vec<u8>>, AllocError>
-    ensures { IfOk result (λ v. texts v ≡ map text_of_word (still_to_come words.now)) }
-{
-    let mut texts = Vec::with_capacity(alloc, words.len())?;
-    for word in words {
-        texts.push(word_text(alloc, word)?)?;
-    }
-    Ok(texts)
 }
