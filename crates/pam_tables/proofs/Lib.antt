@@ -11,5 +11,4 @@ pub mod OptionSteps
 pub mod PieceSteps
 pub mod ReadSteps
 pub mod ReturnSteps
-pub mod SeparatorSteps
 pub mod TokenSteps

@@ -1,5 +1,6 @@
 -- Faults of the tables of access.conf(5), time.conf(5) and group(5).
 use Rattle.std.specs.Prelude.{◌≡◌, ◌∷◌, [], ℕ, List, Option, Some, None, Result, Ok, Err}
+use Rattle.pam_text.specs.Gives.{Gives as GivesAs}
 use Rattle.pam_tables.specs.declared.error.Table.{Table}
 use Rattle.pam_tables.specs.declared.error.TableError.{TableError}
 use Rattle.pam_tables.specs.declared.error.TableFault.{TableFault}
@@ -18,8 +19,7 @@ FailsIn fault read = read ≡ Err fault
 
 -- a part of a line or its fault, as read says, unless an allocation failed
 abbrev pub GivesPart : {X Y : Type 0} → (X → Y) → Result X TableFault → Result Y TableFault → Type 0
-GivesPart view (Ok x) read = read ≡ Ok (view x)
-GivesPart view (Err fault) read = FailsIn fault read
+GivesPart view result read = GivesAs FailsIn view result read
 
 abbrev pub FailsAt : {Y : Type 0} → TableFault → ℕ → Result Y (TableFault × ℕ) → Type 0
 FailsAt Memory line read = line ≡ 0
@@ -27,8 +27,7 @@ FailsAt fault line read = read ≡ Err (fault, line)
 
 -- a table, or its first fault with its line, as read says, unless an allocation failed
 abbrev pub Gives : {X Y : Type 0} → Table → (X → Y) → Result X TableError → Result Y (TableFault × ℕ) → Type 0
-Gives table view (Ok x) read = read ≡ Ok (view x)
-Gives table view (Err e) read = (e.table ≡ table) × FailsAt e.fault e.line read
+Gives table view result read = GivesAs (λ e r. (e.table ≡ table) × FailsAt e.fault e.line r) view result read
 
 -- ---- line by line
 

@@ -1,17 +1,22 @@
 -- The lines of a table, and the parts of a line: access.conf(5), group(5).
-use Rattle.std.specs.Prelude.{ℕ, ◌+◌, ◌-◌, ◌==◌, ◌||◌, Bool, true, false, List, [], ◌∷◌, length, take, drop, position, count_by, nat_lt, nat_eq, if◌then◌else◌}
-use Rattle.std.specs.Prelude.{Option, Some, Result, Ok, Err}
-use Rattle.std.specs.List.{list_any, list_all, slice_split, prefix_len, suffix_len, ends_with}
+use Rattle.std.specs.Prelude.{ℕ, ◌+◌, ◌-◌, ◌==◌, ◌||◌, Bool, true, false, List, [], ◌∷◌, length, take, drop, nat_eq, if◌then◌else◌, Option, Result, Ok, Err}
+use Rattle.std.specs.List.{list_all, slice_split, prefix_len, suffix_len, ends_with}
 use Rattle.std.specs.Option.{option_map, option_map_or}
+unfoldable pub use Rattle.pam_text.specs.Cut.{is_among}
+pub use Rattle.pam_text.specs.Cut.{cut_at}
+use Rattle.pam_text.specs.Source.{source_fault}
+use Rattle.pam_text.specs.declared.source.SourceFault.{SourceFault}
+use Rattle.pam_text.specs.declared.source.SourceFault.TheVariants as sources
 use Rattle.pam_tables.specs.declared.error.TableFault.{TableFault}
 use Rattle.pam_tables.specs.declared.error.TableFault.TheVariants.{NulByte, TableTooLong}
-use Rattle.pam_tables.specs.declared.lines.TheConstants.{MAX_TABLE_BYTES}
 
--- the fault of the bytes as a whole, with its line: too many bytes, or a NUL byte
-unfoldable pub fault_of_bytes : List ℕ → Option (TableFault × ℕ)
-fault_of_bytes bytes =
-    if nat_lt MAX_TABLE_BYTES (length bytes) then Some (TableTooLong, 0)
-    else option_map (λ i. (NulByte, count_by (λ b. b == 10) (take i bytes) + 1)) (position (λ b. b == 0) bytes)
+-- the fault of the bytes as a whole, with its line
+abbrev pub fault_at_line : SourceFault → TableFault × ℕ
+fault_at_line sources.TooLong = (TableTooLong, 0)
+fault_at_line (sources.NulByte line) = (NulByte, line)
+
+abbrev pub fault_of_bytes : List ℕ → Option (TableFault × ℕ)
+fault_of_bytes bytes = option_map fault_at_line (source_fault bytes)
 
 -- the fault of the bytes as a whole, or else what was read
 abbrev pub checked : {A : Type 0} → List ℕ → Result A (TableFault × ℕ) → Result A (TableFault × ℕ)
@@ -25,10 +30,6 @@ sound bytes = checked bytes (Ok tt)
 abbrev pub has_bytes : List ℕ → Bool
 has_bytes [] = false
 has_bytes (b ∷ bs) = true
-
--- whether a byte is a separator
-unfoldable pub is_among : List ℕ → ℕ → Bool
-is_among separators b = list_any (λ s. s == b) separators
 
 -- a line without a carriage return at its end
 abbrev pub without_return : List ℕ → List ℕ
@@ -65,7 +66,3 @@ trimmed_end text = take (length text - suffix_len is_blank text) text
 
 abbrev pub trimmed : List ℕ → List ℕ
 trimmed text = trimmed_end (trimmed_start text)
-
--- the text before and after the first separator
-abbrev pub cut_at : (ℕ → Bool) → List ℕ → Option (List ℕ × List ℕ)
-cut_at is_separator text = option_map (λ i. (take i text, drop (i + 1) text)) (position is_separator text)

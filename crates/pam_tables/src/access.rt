@@ -1,20 +1,21 @@
 //! Access tables, as in access.conf(5): reading them and deciding logins.
 
-ghost use Rattle.std.specs.Prelude.{◌≡◌, ℕ, IfOk, IfErr, map};
+ghost use Rattle.std.specs.Prelude.{◌≡◌, map};
 ghost use Rattle.std.specs.Option.{option_map};
 ghost use Rattle.pam_tables.specs.Access.{line_view, permission_of, is_passed_over as is_passed_over_of, line_of_fields, fields_of as fields_of_line, access_line, table_of, users_match as users_match_of, origins_match as origins_match_of, answer_with, first_answer, access_answer};
 ghost use Rattle.pam_tables.specs.Error.{Gives, GivesPart, read_lines as read_lines_of};
-ghost use Rattle.pam_tables.specs.Lines.{checked, is_among, lines_from};
+ghost use Rattle.pam_tables.specs.Lines.{checked, lines_from};
 ghost use Rattle.pam_tables.specs.Login.{IsKnown, login_view, origin_view, origin_of};
 ghost use Rattle.pam_tables.specs.Tokens.{user_view, origin_token_view};
 
 use crate::error::{Table, TableError, TableFault};
 use crate::groups::Groups;
-use crate::lines::{Lines, check_bytes, cut, distinct, is_blank_text, trim};
+use crate::lines::{Lines, is_blank_text, source, trim};
 use crate::lists::Parts;
 use crate::login::{Login, Origin};
 use crate::options::AccessOptions;
 use crate::tokens::{OriginToken, UserToken, has_token, read_tokens};
+use pam_text::{ByteSet, cut_among};
 use std::alloc::Global;
 use std::marker::Model;
 
@@ -83,11 +84,11 @@ fn is_passed_over(line: &[u8]) -> bool
 }
 
 #[tactic(auto, unfolding(crate::specs::Access::fields_of))]
-fn cut_fields<'a>(line: &'a [u8], separators: &[u8]) -> Option<Fields<'a>>
-    ensures { option_map (λ f. (f.permission.now, f.users.now, f.origins.now)) result ≡ fields_of_line separators.now line.now }
+fn cut_fields<'a>(line: &'a [u8], separators: &ByteSet<'_>) -> Option<Fields<'a>>
+    ensures { option_map (λ f. (f.permission.now, f.users.now, f.origins.now)) result ≡ fields_of_line separators.now.bytes.now line.now }
 {
-    match cut(line, separators) {
-        Some((permission, rest)) => match cut(rest, separators) {
+    match cut_among(line, separators) {
+        Some((permission, rest)) => match cut_among(rest, separators) {
             Some((users, origins)) => Some(Fields {
                 permission,
                 users,
@@ -104,9 +105,9 @@ fn line_of<'a>(
     alloc: Global,
     number: u32,
     fields: Fields<'a>,
-    separators: &[u8],
+    separators: &ByteSet<'_>,
 ) -> Result<AccessLine<'a>, TableFault>
-    ensures { GivesPart line_view result (line_of_fields separators.now number fields.entry.permission.now fields.entry.users.now fields.entry.origins.now) }
+    ensures { GivesPart line_view result (line_of_fields separators.now.bytes.now number fields.entry.permission.now fields.entry.users.now fields.entry.origins.now) }
 {
     if !has_token(fields.users, separators) {
         return Err(TableFault::MissingField);
@@ -130,10 +131,10 @@ fn read_line<'a>(
     alloc: Global,
     number: u32,
     line: &'a [u8],
-    field_separators: &[u8],
-    list_separators: &[u8],
+    field_separators: &ByteSet<'_>,
+    list_separators: &ByteSet<'_>,
 ) -> Result<Option<AccessLine<'a>>, TableFault>
-    ensures { GivesPart (option_map line_view) result (access_line field_separators.now list_separators.now number line.now) }
+    ensures { GivesPart (option_map line_view) result (access_line field_separators.now.bytes.now list_separators.now.bytes.now number line.now) }
 {
     if is_passed_over(line) {
         return Ok(None);
@@ -203,28 +204,17 @@ impl<'a> Model for AccessTable<'a> {
     ghost view = { λ t. record { lines = map line_view t.lines.items; group_names = t.group_names } };
 }
 
-/// Returns the separators without duplicates.
-fn separators(alloc: Global, bytes: &[u8]) -> Result<Vec<u8>, TableError>
-    ensures same { IfOk result (λ v. (b : ℕ) → is_among v.items b ≡ is_among bytes.now b) }
-    ensures memory { IfErr result (λ e. e ≡ record { table = Table.Access; fault = TableFault.Memory; line = 0 }) }
-{
-    match distinct(alloc, bytes) {
-        Ok(kept) => Ok(kept),
-        Err(_) => Err(TableError::new(Table::Access, TableFault::Memory, 0)),
-    }
-}
-
 fn read_lines<'a>(
     alloc: Global,
     bytes: &'a [u8],
-    field_separators: &[u8],
-    list_separators: &[u8],
+    field_separators: &ByteSet<'_>,
+    list_separators: &ByteSet<'_>,
 ) -> Result<Vec<AccessLine<'a>>, TableError>
-    ensures { Gives Table.Access (λ v. map line_view v.items) result (checked bytes.now (read_lines_of (access_line field_separators.now list_separators.now) (lines_from 1 bytes.now))) }
+    ensures { Gives Table.Access (λ v. map line_view v.items) result (checked bytes.now (read_lines_of (access_line field_separators.now.bytes.now list_separators.now.bytes.now) (lines_from 1 bytes.now))) }
 {
-    check_bytes(Table::Access, bytes)?;
+    let source = source(Table::Access, bytes)?;
     let mut lines = Vec::new(alloc);
-    for (number, text) in Lines::of(bytes) {
+    for (number, text) in Lines::of(source) {
         match read_line(alloc, number, text, field_separators, list_separators) {
             Ok(None) => {}
             Ok(Some(line)) => {
@@ -250,8 +240,8 @@ impl<'a> AccessTable<'a> {
     ) -> Result<AccessTable<'a>, TableError>
         ensures { Gives Table.Access (λ table. table) result (table_of options.now bytes.now) }
     {
-        let field_separators = separators(alloc, options.field_separators)?;
-        let list_separators = separators(alloc, options.list_separators)?;
+        let field_separators = ByteSet::of(options.field_separators);
+        let list_separators = ByteSet::of(options.list_separators);
         let group_names = options.group_names;
         let lines = read_lines(alloc, bytes, &field_separators, &list_separators)?;
         Ok(AccessTable { lines, group_names })

@@ -4,8 +4,8 @@ ghost use Rattle.std.specs.Prelude.{◌≡◌, ◌≤◌, ◌+◌, ◌<◌, ◌^
 ghost use Rattle.std.specs.Option.{option_map};
 ghost use Rattle.pam_tables.specs.Address.{numeral, octet_of, all_four, v4_of, address_of};
 
-use crate::lines::cut;
 use crate::pieces::v6;
+use pam_text::cut;
 
 /// An IPv4 or IPv6 address, as a number.
 #[derive(Clone, Copy, Debug, PartialEq, Eq)]
@@ -60,9 +60,9 @@ fn octets(first: &[u8], second: &[u8], third: &[u8], fourth: &[u8]) -> Option<u3
 pub(crate) fn v4(text: &[u8]) -> Option<u32>
     ensures { result ≡ v4_of text.now }
 {
-    let (first, rest) = cut(text, b".")?;
-    let (second, rest) = cut(rest, b".")?;
-    let (third, fourth) = cut(rest, b".")?;
+    let (first, rest) = cut(text, b'.')?;
+    let (second, rest) = cut(rest, b'.')?;
+    let (third, fourth) = cut(rest, b'.')?;
     octets(first, second, third, fourth)
 }
 

@@ -10,8 +10,9 @@ ghost use Rattle.pam_tables.specs.Named.{with_line};
 ghost use Rattle.std.specs.List.{slice_split};
 
 use crate::error::{Table, TableError, TableFault};
-use crate::lines::{Lines, check_bytes, cut, is_blank_text};
+use crate::lines::{Lines, is_blank_text, source};
 use indexmap::IndexMap;
+use pam_text::cut;
 use std::alloc::Global;
 use std::marker::Model;
 
@@ -43,13 +44,13 @@ fn group_line(line: &[u8]) -> Option<GroupLine<'_>>
     ensures { MatchOption result (group_of_fields (slice_split (is_among (codes ":")) line.now) ≡ Err TableFault.BadGroup)
         (λ g. group_of_fields (slice_split (is_among (codes ":")) line.now) ≡ Ok (g.name.now, members_of g.members.now)) }
 {
-    let (name, rest) = cut(line, b":")?;
-    let (_, rest) = cut(rest, b":")?;
-    let (_, members) = cut(rest, b":")?;
+    let (name, rest) = cut(line, b':')?;
+    let (_, rest) = cut(rest, b':')?;
+    let (_, members) = cut(rest, b':')?;
     if name.is_empty() {
         return None;
     }
-    match cut(members, b":") {
+    match cut(members, b':') {
         Some(_) => None,
         None => Some(GroupLine { name, members }),
     }
@@ -62,7 +63,7 @@ fn has_member(members: &[u8], user: &[u8]) -> bool
         return false;
     }
     let mut rest = members;
-    while let Some((member, behind)) = cut(rest, b",") {
+    while let Some((member, behind)) = cut(rest, b',') {
         if member == user {
             return true;
         }
@@ -88,9 +89,9 @@ impl Groups {
     pub fn read(alloc: Global, bytes: &[u8]) -> Result<Groups, TableError>
         ensures { Gives Table.Group (λ groups. groups) result (groups_of bytes.now) }
     {
-        check_bytes(Table::Group, bytes)?;
+        let source = source(Table::Group, bytes)?;
         let mut groups = Groups::new(alloc);
-        for (number, line) in Lines::of(bytes) {
+        for (number, line) in Lines::of(source) {
             if let Err(fault) = groups.add_line(alloc, line) {
                 return Err(TableError::new(Table::Group, fault, number));
             }

@@ -13,12 +13,14 @@ mod network;
 mod options;
 mod pieces;
 mod returns;
+mod shared;
 mod tokens;
 
 pub use access::{AccessAnswer, AccessTable};
 pub use error::{Table, TableError, TableFault};
 pub use groups::Groups;
-pub use lines::{MAX_TABLE_BYTES, check_bytes, cut};
+pub use lines::MAX_TABLE_BYTES;
 pub use login::{Login, drop_dev};
 pub use options::AccessOptions;
 pub use returns::ReturnTable;
+pub use shared::{check_bytes, cut};

@@ -5,8 +5,8 @@ ghost use Rattle.pam_tables.specs.Network.{ones, v4_mask_of, v6_mask_of, is_in_n
 
 use crate::address::{Address, numeral, v4};
 use crate::error::TableFault;
-use crate::lines::cut;
 use crate::pieces::v6;
+use pam_text::cut;
 
 /// The addresses that agree with `address` in each bit of `mask`.
 #[derive(Clone, Copy, Debug, PartialEq, Eq)]
@@ -91,7 +91,7 @@ impl Network {
     pub(crate) fn read(text: &[u8]) -> Result<Option<Network>, TableFault>
         ensures { result ≡ network_of text.now }
     {
-        let (front, behind) = match cut(text, b"/") {
+        let (front, behind) = match cut(text, b'/') {
             Some(parts) => parts,
             None => return Ok(None),
         };

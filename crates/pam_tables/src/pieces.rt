@@ -5,7 +5,7 @@ ghost use Rattle.std.specs.Option.{option_map};
 ghost use Rattle.pam_tables.specs.Address.{v6_of, double_colon as double_colon_of, around_zeros as around_zeros_of, pieces_of, last_pieces, more_pieces, number_from};
 
 use crate::address::{numeral, v4};
-use crate::lines::cut;
+use pam_text::cut;
 
 /// The leading 16-bit pieces of an IPv6 address: their value as one number, and their count.
 #[derive(Clone, Copy)]
@@ -77,7 +77,7 @@ impl Pieces {
         }
         let mut pieces = self;
         let mut rest = text;
-        while let Some((front, behind)) = cut(rest, b":") {
+        while let Some((front, behind)) = cut(rest, b':') {
             let piece = numeral(16, 4, front)?;
             pieces = pieces.then(piece)?;
             rest = behind;

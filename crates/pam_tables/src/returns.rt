@@ -1,16 +1,18 @@
 //! Returns files: the codes that modules may return.
 
-ghost use Rattle.std.specs.Prelude.{◌≡◌, ◌≢◌, [], IfOk, IfSome, MatchResult, Ok, Err};
+ghost use Rattle.std.specs.Prelude.{◌≡◌, ◌≢◌, [], codes, IfOk, IfSome, MatchResult, Ok, Err};
 ghost use Rattle.std.specs.Option.{option_map};
 ghost use Rattle.pam_tables.specs.Error.{Gives, GivesPart};
 ghost use Rattle.pam_tables.specs.Named.{with_line};
-ghost use Rattle.pam_tables.specs.Returns.{codes_for, codes_of_words, return_at, returns_of, words_of};
+ghost use Rattle.pam_tables.specs.Returns.{codes_for, codes_of_words, return_at, returns_of};
+ghost use Rattle.pam_tables.specs.Tokens.{tokens_of};
 
 use crate::error::{Table, TableError, TableFault};
-use crate::lines::{Lines, check_bytes};
+use crate::lines::{Lines, source};
 use crate::tokens::{Tokens, first_token};
 use indexmap::IndexMap;
 use pam_codes::{Code, CodeSet};
+use pam_text::ByteSet;
 use std::alloc::Global;
 use std::marker::Model;
 
@@ -46,12 +48,12 @@ struct ReturnLine<'a> {
 }
 
 /// Reads the names of one or more codes.
-fn read_codes(text: &[u8]) -> Result<CodeSet, TableFault>
-    ensures value { result ≡ codes_of_words (words_of text.now) }
+fn read_codes(text: &[u8], blanks: &ByteSet<'_>) -> Result<CodeSet, TableFault>
+    ensures value { result ≡ codes_of_words (tokens_of blanks.now.bytes.now text.now) }
     ensures some { IfOk result (λ codes. codes ≢ []) }
 {
     let mut set = CodeSet::empty();
-    for word in Tokens::of(text, BLANKS) {
+    for word in Tokens::of(text, blanks) {
         match Code::from_name(word) {
             Some(code) => set.insert(code),
             None => return Err(TableFault::BadCode),
@@ -64,7 +66,8 @@ fn read_codes(text: &[u8]) -> Result<CodeSet, TableFault>
 }
 
 /// Reads a line. Returns `Ok(None)` for a comment or a blank line.
-fn read_line(line: &[u8]) -> Result<Option<ReturnLine<'_>>, TableFault>
+fn read_line<'a>(line: &'a [u8], blanks: &ByteSet<'_>) -> Result<Option<ReturnLine<'a>>, TableFault>
+    requires { blanks.now.bytes.now ≡ codes " \t" }
     ensures value { MatchResult result (λ said. return_at line.now ≡ Ok (option_map (λ l. (l.name.now, l.codes)) said))
         (λ fault. return_at line.now ≡ Err fault) }
     ensures some { IfOk result (λ said. IfSome said (λ l. l.codes ≢ [])) }
@@ -72,13 +75,13 @@ fn read_line(line: &[u8]) -> Result<Option<ReturnLine<'_>>, TableFault>
     if line.starts_with(b"#") {
         return Ok(None);
     }
-    let Some((name, words)) = first_token(line, BLANKS) else {
+    let Some((name, words)) = first_token(line, blanks) else {
         return Ok(None);
     };
     if name.contains(&b'/') {
         return Err(TableFault::BadModule);
     }
-    let codes = read_codes(words)?;
+    let codes = read_codes(words, blanks)?;
     Ok(Some(ReturnLine { name, codes }))
 }
 
@@ -99,10 +102,11 @@ impl ReturnTable {
     pub fn read(alloc: Global, bytes: &[u8]) -> Result<ReturnTable, TableError>
         ensures { Gives Table.Returns (λ table. table) result (returns_of bytes.now) }
     {
-        check_bytes(Table::Returns, bytes)?;
+        let source = source(Table::Returns, bytes)?;
+        let blanks = ByteSet::of(BLANKS);
         let mut table = ReturnTable::empty(alloc);
-        for (number, line) in Lines::of(bytes) {
-            if let Err(fault) = table.add_line(alloc, line) {
+        for (number, line) in Lines::of(source) {
+            if let Err(fault) = table.add_line(alloc, line, &blanks) {
                 return Err(TableError::new(Table::Returns, fault, number));
             }
         }
@@ -110,10 +114,16 @@ impl ReturnTable {
     }
 
     /// Adds the codes of a line, if its name is new.
-    fn add_line(&mut self, alloc: Global, line: &[u8]) -> Result<(), TableFault>
+    fn add_line(
+        &mut self,
+        alloc: Global,
+        line: &[u8],
+        blanks: &ByteSet<'_>,
+    ) -> Result<(), TableFault>
+        requires { blanks.now.bytes.now ≡ codes " \t" }
         ensures { GivesPart (λ _. self.new) result (with_line self.old (return_at line.now)) }
     {
-        let line = match read_line(line) {
+        let line = match read_line(line, blanks) {
             Ok(Some(line)) => line,
             Ok(None) => return Ok(()),
             Err(fault) => return Err(fault),

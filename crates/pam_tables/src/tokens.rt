@@ -12,49 +12,51 @@ ghost use Rattle.pam_tables.specs.Tokens.{tokens_of, user_token, user_view, user
 use crate::address::Address;
 use crate::error::TableFault;
 use crate::groups::Groups;
-use crate::lines::{is_blank_byte, is_separator, trim_end};
+use crate::lines::{is_blank_byte, trim_end};
 use crate::lists::Mark;
 use crate::login::Origin;
 use crate::network::Network;
 use pam_codes::is_name;
+use pam_text::ByteSet;
 use std::alloc::Global;
 
 /// The length of the leading separators and blanks.
-fn gap_len(text: &[u8], separators: &[u8]) -> usize
-    ensures value { result ≡ prefix_len (λ b. is_among separators.now b || is_blank b) text.now }
+fn gap_len(text: &[u8], separators: &ByteSet<'_>) -> usize
+    ensures value { result ≡ prefix_len (λ b. is_among separators.now.bytes.now b || is_blank b) text.now }
     ensures bound { result ≤ length text.now }
 {
     text.iter()
-        .take_while(|b| is_separator(separators, **b) || is_blank_byte(**b))
+        .take_while(|b| separators.has(**b) || is_blank_byte(**b))
         .count()
 }
 
 /// The length of the text before the first separator.
-fn part_len(text: &[u8], separators: &[u8]) -> usize
-    ensures value { result ≡ prefix_len (λ b. not (is_among separators.now b)) text.now }
+fn part_len(text: &[u8], separators: &ByteSet<'_>) -> usize
+    ensures value { result ≡ prefix_len (λ b. not (is_among separators.now.bytes.now b)) text.now }
     ensures bound { result ≤ length text.now }
 {
-    text.iter()
-        .take_while(|b| !is_separator(separators, **b))
-        .count()
+    text.iter().take_while(|b| !separators.has(**b)).count()
 }
 
 /// Splits off the first token. Returns it and the text after it.
-pub(crate) fn first_token<'a>(text: &'a [u8], separators: &[u8]) -> Option<(&'a [u8], &'a [u8])>
-    ensures { MatchOption result (tokens_of separators.now text.now ≡ [])
-        (λ p. tokens_of separators.now text.now ≡ p.0.now ∷ tokens_of separators.now p.1.now) }
+pub(crate) fn first_token<'a>(
+    text: &'a [u8],
+    separators: &ByteSet<'_>,
+) -> Option<(&'a [u8], &'a [u8])>
+    ensures { MatchOption result (tokens_of separators.now.bytes.now text.now ≡ [])
+        (λ p. tokens_of separators.now.bytes.now text.now ≡ p.0.now ∷ tokens_of separators.now.bytes.now p.1.now) }
 {
     let rest = text.split_at(gap_len(text, separators)).1;
     if rest.is_empty() {
         return None;
     }
-    let (part, behind) = rest.split_at(part_len(rest, separators));
-    Some((trim_end(part), behind))
+    let (part, after) = rest.split_at(part_len(rest, separators));
+    Some((trim_end(part), after))
 }
 
 /// Whether a list has a token.
-pub(crate) fn has_token(text: &[u8], separators: &[u8]) -> bool
-    ensures { result ≡ not (length (tokens_of separators.now text.now) == 0) }
+pub(crate) fn has_token(text: &[u8], separators: &ByteSet<'_>) -> bool
+    ensures { result ≡ not (length (tokens_of separators.now.bytes.now text.now) == 0) }
 {
     match first_token(text, separators) {
         Some(_) => true,
@@ -66,12 +68,12 @@ pub(crate) fn has_token(text: &[u8], separators: &[u8]) -> bool
 #[derive(Drop)]
 pub(crate) struct Tokens<'a, 's> {
     rest: &'a [u8],
-    separators: &'s [u8],
+    separators: &'s ByteSet<'s>,
 }
 
 impl<'a, 's> Tokens<'a, 's> {
-    pub(crate) fn of(rest: &'a [u8], separators: &'s [u8]) -> Self
-        ensures { tokens_of result.separators.now result.rest.now ≡ tokens_of separators.now rest.now }
+    pub(crate) fn of(rest: &'a [u8], separators: &'s ByteSet<'s>) -> Self
+        ensures { tokens_of result.separators.now.bytes.now result.rest.now ≡ tokens_of separators.now.bytes.now rest.now }
     {
         Tokens { rest, separators }
     }
@@ -80,9 +82,9 @@ impl<'a, 's> Tokens<'a, 's> {
 impl<'a, 's> Iterator for Tokens<'a, 's> {
     type Item = &'a [u8];
 
-    ghost next_gives = { YieldsFirstRef (λ s. tokens_of s.separators.now s.rest.now) };
+    ghost next_gives = { YieldsFirstRef (λ s. tokens_of s.separators.now.bytes.now s.rest.now) };
 
-    ghost remaining = { item_count (λ s. tokens_of s.separators.now s.rest.now) };
+    ghost remaining = { item_count (λ s. tokens_of s.separators.now.bytes.now s.rest.now) };
 
     fn next(&mut self) -> Option<&'a [u8]> {
         let (token, rest) = first_token(self.rest, self.separators)?;
@@ -325,7 +327,7 @@ impl<'a> Token<'a> for OriginToken<'a> {
 }
 
 /// Counts the tokens of a list.
-fn token_count(text: &[u8], separators: &[u8]) -> usize {
+fn token_count(text: &[u8], separators: &ByteSet<'_>) -> usize {
     let mut count = 0usize;
     for _token in Tokens::of(text, separators) {
         count = count.saturating_add(1);
@@ -337,9 +339,9 @@ fn token_count(text: &[u8], separators: &[u8]) -> usize {
 pub(crate) fn read_tokens<'a, T: Token<'a>>(
     alloc: Global,
     text: &'a [u8],
-    separators: &[u8],
+    separators: &ByteSet<'_>,
 ) -> Result<Vec<T>, TableFault>
-    ensures { GivesPart (λ v. map T.seen v.items) result (each_token T.meant (tokens_of separators.now text.now)) }
+    ensures { GivesPart (λ v. map T.seen v.items) result (each_token T.meant (tokens_of separators.now.bytes.now text.now)) }
 {
     let mut tokens = Vec::with_capacity(alloc, token_count(text, separators))?;
     for token in Tokens::of(text, separators) {

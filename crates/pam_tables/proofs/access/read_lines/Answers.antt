@@ -8,9 +8,7 @@ pub loop-number-preserved-in-Ok-None : goal.loop-number-preserved-in-Ok-None
 loop-number-preserved-in-Ok-None c = record {
   can = tt;
   finite = tt;
-  same =
-      line_skipped (access_line c.args.field_separators.now c.args.list_separators.now) _ _ _ _ _ c.in-Some.ensures.steps
-      (rw c.in-Ok-None.field-0-is at c.in-Ok-None.ensures) ∙ c.loop-number.invariant.same;
+  same = line_skipped (access_line c.args.field_separators.now.bytes.now c.args.list_separators.now.bytes.now) _ _ _ _ _ c.in-Some.ensures.steps (rw c.in-Ok-None.field-0-is at c.in-Ok-None.ensures) ∙ c.loop-number.invariant.same;
 }
 
 pub loop-number-preserved : goal.loop-number-preserved
@@ -20,21 +18,17 @@ loop-number-preserved c =
     record {
       can = tt;
       finite = tt;
-      same =
-          rw (items, map-append) (line_kept (access_line c.args.field_separators.now c.args.list_separators.now) _ _ _ _ _ c.in-Some.ensures.steps _
-          (rw c.in-Ok-Some.field-0-is at c.in-Ok-Some.ensures) ∙ c.loop-number.invariant.same);
+      same = rw (items, map-append) (line_kept (access_line c.args.field_separators.now.bytes.now c.args.list_separators.now.bytes.now) _ _ _ _ _ c.in-Some.ensures.steps _ (rw c.in-Ok-Some.field-0-is at c.in-Ok-Some.ensures) ∙ c.loop-number.invariant.same);
     }
 
 pub returns-in-Err : goal.returns-in-Err
 returns-in-Err c =
     rw c.new-in-Err.ensures (
       refl,
-      fails_there c.in-Err.fault c.in-Some.number (access_line c.args.field_separators.now c.args.list_separators.now c.in-Some.number c.in-Some.text.now) _
-          (λ h. checked_passes c.args.bytes.now _ _ c.in_ok-check_bytes.ensures.fault ∙ sym c.loop-number.invariant.same
-          ∙ line_refused (access_line c.args.field_separators.now c.args.list_separators.now) _ _ _ _ _ c.in-Some.ensures.steps _ h) c.in-Err.ensures,
+      fails_there c.in-Err.fault c.in-Some.number (access_line c.args.field_separators.now.bytes.now c.args.list_separators.now.bytes.now c.in-Some.number c.in-Some.text.now) _
+          (λ h. checked_passes c.args.bytes.now _ _ c.in_ok-source.ensures.fault ∙ sym c.loop-number.invariant.same
+          ∙ line_refused (access_line c.args.field_separators.now.bytes.now c.args.list_separators.now.bytes.now) _ _ _ _ _ c.in-Some.ensures.steps _ h) c.in-Err.ensures,
     )
 
 pub returns : goal.returns
-returns c =
-    checked_passes c.args.bytes.now _ _ c.in_ok-check_bytes.ensures.fault ∙ sym c.loop-number.invariant.same
-    ∙ lines_done (access_line c.args.field_separators.now c.args.list_separators.now) _ _ c.in-None.ensures.steps.0
+returns c = checked_passes c.args.bytes.now _ _ c.in_ok-source.ensures.fault ∙ sym c.loop-number.invariant.same ∙ lines_done (access_line c.args.field_separators.now.bytes.now c.args.list_separators.now.bytes.now) _ _ c.in-None.ensures.steps.0

@@ -6,18 +6,18 @@ use Rattle.pam_tables.proofs.ReadSteps.{fails_on, fails_there, checked_fails, ch
 use Rattle.pam_tables.proofs.NamedSteps.{none_before, line_added, line_fails, lines_end}
 use Rattle.pam_tables.proofs.groups.Groups.read.Goals as goal
 
-pub returns-in_err-check_bytes : goal.returns-in_err-check_bytes
+pub returns-in_err-source : goal.returns-in_err-source
 unfolding groups_of
-returns-in_err-check_bytes c =
+returns-in_err-source c =
     let p = err_from_is_err_and c.from_residual.result c.from_residual.ensures.1 in
-    rw (p.1, p.2) (c.in_err-check_bytes.ensures.fault.0, fails_on _ _ _ _ (λ h. checked_fails c.args.bytes.now _ _ h) c.in_err-check_bytes.ensures.fault.1)
+    rw (p.1, p.2) (c.in_err-source.ensures.fault.0, fails_on _ _ _ _ (λ h. checked_fails c.args.bytes.now _ _ h) c.in_err-source.ensures.fault.1)
 
 pub loop-number-init : goal.loop-number-init
 loop-number-init c =
     record {
       can = tt;
       finite = tt;
-      same = rw (c.into_iter-number-iterator.ensures.into_iter_gives, c.of-number-items.ensures, c.new-groups.ensures)
+      same = rw (c.into_iter-number-iterator.ensures.into_iter_gives, c.of-number-items.ensures, c.new-groups.ensures, c.in_ok-source.ensures.bytes)
           (none_before _);
     }
 
@@ -27,7 +27,7 @@ returns-in-Err c =
     rw c.new.ensures (
       refl,
       fails_there c.in-Err.fault c.in-Some.number (with_line c.loop-number.groups (group_at c.in-Some.line.now)) _
-          (λ h. checked_passes c.args.bytes.now _ _ c.in_ok-check_bytes.ensures.fault ∙ sym c.loop-number.invariant.same
+          (λ h. checked_passes c.args.bytes.now _ _ c.in_ok-source.ensures.fault ∙ sym c.loop-number.invariant.same
           ∙ line_fails group_at _ _ _ _ _ _ c.in-Some.ensures.steps h) c.in-Err.ensures,
     )
 
@@ -38,5 +38,5 @@ loop-number-preserved c =
 pub returns : goal.returns
 unfolding groups_of
 returns c =
-    checked_passes c.args.bytes.now _ _ c.in_ok-check_bytes.ensures.fault ∙ sym c.loop-number.invariant.same
+    checked_passes c.args.bytes.now _ _ c.in_ok-source.ensures.fault ∙ sym c.loop-number.invariant.same
     ∙ lines_end group_at c.loop-number.groups _ c.in-None.ensures.steps.0

@@ -1,5 +1,5 @@
 use Rattle.pam_tables.proofs.Cutting.{cut_found}
-use Rattle.pam_tables.proofs.lines.cut.Goals as goal
+use Rattle.pam_tables.proofs.shared.cut.Goals as goal
 
 pub returns-clause-value : goal.returns-clause-value
 returns-clause-value c =
