@@ -4,6 +4,7 @@ pub mod CodeDigits
 pub mod CursorTexts
 pub mod Ends
 pub mod FrameLists
+pub mod Fronts
 pub mod Keys
 pub mod KnownCodes
 pub mod LawProofs

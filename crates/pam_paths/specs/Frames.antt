@@ -1,5 +1,6 @@
 -- For proofs alone: the part of a listing that is left, by the frames of the path that an explorer returned last.
-use Rattle.std.specs.Prelude.{◌≡◌, ℕ, true, false, ◌+◌, ◌-◌, ◌<◌, ◌≤◌, if◌then◌else◌, List, [], ◌∷◌, ◌++◌, map, reverse, Option, None, Some, IfSome}
+use Rattle.std.specs.Prelude.{◌≡◌, ℕ, true, false, ◌+◌, ◌-◌, ◌<◌, ◌≤◌, if◌then◌else◌, List, [], ◌∷◌, ◌++◌, length, map, reverse, take}
+use Rattle.std.specs.Prelude.{Option, None, Some, IfSome}
 use Rattle.std.specs.List.{range_with_len}
 use Rattle.pam_codes.specs.Set.{codes_where, is_in}
 use Rattle.pam_conf.specs.declared.stack.TheConstants.{MAX_MODULES}
@@ -30,6 +31,10 @@ ahead_of direction allows (asks ask next) bound = branches_in direction allows a
 -- the step of a frame
 abbrev pub step_in : Frame → StepValue
 step_in frame = record { module_number = frame.module_number; class = frame.class }
+
+-- steps are those of the first frames
+abbrev pub AreFirstSteps : List Frame → List StepValue → Type 0
+AreFirstSteps frames steps = steps ≡ take (length steps) (map step_in frames)
 
 -- the paths, each with the steps of the frames before it
 unfoldable pub under : List Frame → List PathValue → List PathValue

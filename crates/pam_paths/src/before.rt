@@ -1,6 +1,6 @@
 //! The explorer of the paths before a cursor.
 
-ghost use Rattle.std.specs.Prelude.{◌≡◌, ◌+◌, ◌*◌, ◌≤◌, IfOk, MatchResult};
+ghost use Rattle.std.specs.Prelude.{◌≡◌, ◌+◌, ◌*◌, ◌≤◌, ◌∷◌, [], take, IfOk, IfSome, MatchOption, MatchResult};
 ghost use Rattle.std.specs.Iterator.{MakesProgress, YieldsFirst, item_count};
 ghost use Rattle.pam_conf.specs.Stack.{Items};
 ghost use Rattle.pam_dispatch.specs.Flat.{modules_of, runs_of};
@@ -11,7 +11,7 @@ ghost use Rattle.pam_paths.specs.Paths.{path_of, path_through};
 
 use crate::cursor::{Cursor, CursorError};
 use crate::direction::Direction;
-use crate::explorer::{Explorer, next_path};
+use crate::explorer::{Explorer, follow};
 use crate::frames::Frames;
 use crate::knowledge::Knowledge;
 use crate::path::Path;
@@ -27,6 +27,8 @@ pub struct Before<'a, K: Knowledge> {
     knowledge: &'a K,
     /// The modules asked on the path returned last, at first on that of the cursor.
     frames: Frames,
+    /// The path returned last.
+    path: Path,
     work: Work,
 }
 
@@ -35,17 +37,19 @@ impl<'a, K: Knowledge> Model for Before<'a, K> {
     ghost use Rattle.pam_dispatch.specs.Flat.{modules_of};
     ghost use Rattle.pam_paths.specs.declared.direction.Direction.{Direction};
     ghost use Rattle.pam_paths.specs.Exploration.{Exploration};
-    ghost use Rattle.pam_paths.specs.Frames.{IsExploring, coming};
+    ghost use Rattle.pam_paths.specs.Frames.{AreFirstSteps, IsExploring, coming};
 
     ghost Value = { Exploration };
 
     ghost view = { λ b. record {
       coming = coming Direction.Backward (K.allows b.knowledge.now) b.program.now None b.frames.items;
+      path = b.path;
       work = b.work;
       modules = modules_of b.program.now;
     } };
 
-    ghost invariant = { λ b. IsExploring (K.allows b.knowledge.now) b.program.now None b.frames.items };
+    ghost invariant = { λ b. IsExploring (K.allows b.knowledge.now) b.program.now None b.frames.items
+        × AreFirstSteps b.frames.items b.path.steps };
 }
 
 impl<'a, K: Knowledge> Explorer<'a, K> {
@@ -78,6 +82,7 @@ impl<'a, K: Knowledge> Explorer<'a, K> {
                 program,
                 knowledge,
                 frames,
+                path: Path::empty(),
                 work,
             }),
         }
@@ -85,6 +90,32 @@ impl<'a, K: Knowledge> Explorer<'a, K> {
 }
 
 impl<'a, K: Knowledge> Before<'a, K> {
+    /// Follows the next path, as `next` does, and keeps it: `path` gives it. Returns the number of its first steps that
+    /// it shares with the path followed before; `None` if no path is left.
+    pub fn follow(&mut self) -> Option<usize>
+        ensures path { MatchOption result ((self.old.coming ≡ []) × (self.new.coming ≡ [])) (λ _. self.old.coming ≡ self.new.path ∷ self.new.coming) }
+        ensures shared { IfSome result (λ shared. take shared self.new.path.steps ≡ take shared self.old.path.steps) }
+        ensures modules { self.new.modules ≡ self.old.modules }
+        ensures work { self.new.work ≤ self.old.work + 64 * (self.old.modules + 1) }
+    {
+        follow(
+            self.program,
+            self.knowledge,
+            Direction::Backward,
+            None,
+            &mut self.frames,
+            &mut self.path,
+            &mut self.work,
+        )
+    }
+
+    /// The path followed last. It has no steps before the first one is followed, and when none is left.
+    pub fn path(&self) -> &Path
+        ensures { result.now ≡ self.now.path }
+    {
+        &self.path
+    }
+
     /// The number of steps of the program so far.
     pub fn work(&self) -> u64
         ensures { result ≡ self.now.work }
@@ -111,13 +142,9 @@ impl<'a, K: Knowledge> Iterator for Before<'a, K> {
         ensures modules { self.new.modules ≡ self.old.modules }
         ensures work { self.new.work ≤ self.old.work + 64 * (self.old.modules + 1) }
     {
-        next_path(
-            self.program,
-            self.knowledge,
-            Direction::Backward,
-            None,
-            &mut self.frames,
-            &mut self.work,
-        )
+        match self.follow() {
+            Some(_) => Some(self.path.copied()),
+            None => None,
+        }
     }
 }

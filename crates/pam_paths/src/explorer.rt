@@ -1,6 +1,7 @@
 //! The explorer of the paths that allowed answers can follow.
 
-ghost use Rattle.std.specs.Prelude.{◌≡◌, ◌+◌, ◌*◌, ◌≤◌, ◌∷◌, ◌++◌, [], length, None, IfSome, IfNone, IfOk, MatchResult};
+ghost use Rattle.std.specs.Prelude.{◌≡◌, ◌+◌, ◌-◌, ◌*◌, ◌≤◌, ◌∷◌, ◌++◌, [], length, take};
+ghost use Rattle.std.specs.Prelude.{None, IfSome, IfNone, IfOk, MatchOption, MatchResult};
 ghost use Rattle.std.specs.Iterator.{MakesProgress, YieldsFirst, item_count};
 ghost use Rattle.pam_conf.specs.Stack.{Items};
 ghost use Rattle.pam_dispatch.specs.Flat.{IsPlaceOf, modules_of, rest_of, runs_of};
@@ -9,13 +10,13 @@ ghost use Rattle.pam_dispatch.specs.Tree.{runs_of_stack};
 ghost use Rattle.pam_paths.specs.Computed.{listing};
 ghost use Rattle.pam_paths.specs.Cursor.{IsAccepted, IsRefusal};
 ghost use Rattle.pam_paths.specs.Directions.{ordered};
-ghost use Rattle.pam_paths.specs.Frames.{AreFrames, IsExploring, ahead, coming, under};
+ghost use Rattle.pam_paths.specs.Frames.{AreFirstSteps, AreFrames, IsExploring, ahead, coming, under};
 ghost use Rattle.pam_paths.specs.Listing.{IsListing, IsListingAfter};
 ghost use Rattle.pam_paths.specs.Paths.{path_of, path_through};
 
 use crate::cursor::{Cursor, CursorError};
 use crate::direction::Direction;
-use crate::frames::{Frames, advance, descend, steps_of};
+use crate::frames::{Frames, advance, descend, retell};
 use crate::knowledge::Knowledge;
 use crate::path::Path;
 use crate::retrace::retrace;
@@ -32,6 +33,8 @@ pub struct Explorer<'a, K: Knowledge> {
     first: Option<Place>,
     /// The modules asked on the path returned last.
     frames: Frames,
+    /// The path returned last.
+    path: Path,
     work: Work,
 }
 
@@ -39,17 +42,19 @@ impl<'a, K: Knowledge> Model for Explorer<'a, K> {
     ghost use Rattle.pam_dispatch.specs.Flat.{modules_of};
     ghost use Rattle.pam_paths.specs.declared.direction.Direction.{Direction};
     ghost use Rattle.pam_paths.specs.Exploration.{Exploration};
-    ghost use Rattle.pam_paths.specs.Frames.{IsExploring, coming};
+    ghost use Rattle.pam_paths.specs.Frames.{AreFirstSteps, IsExploring, coming};
 
     ghost Value = { Exploration };
 
     ghost view = { λ e. record {
       coming = coming Direction.Forward (K.allows e.knowledge.now) e.program.now e.first e.frames.items;
+      path = e.path;
       work = e.work;
       modules = modules_of e.program.now;
     } };
 
-    ghost invariant = { λ e. IsExploring (K.allows e.knowledge.now) e.program.now e.first e.frames.items };
+    ghost invariant = { λ e. IsExploring (K.allows e.knowledge.now) e.program.now e.first e.frames.items
+        × AreFirstSteps e.frames.items e.path.steps };
 }
 
 /// The place from which the next path continues, after the steps of `frames`.
@@ -67,6 +72,7 @@ fn go_on<K: Knowledge>(
     ensures place { IfSome result (λ p. IsPlaceOf program.now p) }
     ensures frames { AreFrames (K.allows knowledge.now) program.now 0 frames.new.items }
     ensures rise { IfSome result (λ p. AsksRise (length frames.new.items) (modules_of program.now) (rest_of program.now p)) }
+    ensures earlier { take (length frames.new.items - 1) frames.new.items ≡ take (length frames.new.items - 1) frames.old.items }
     ensures paths { IfSome result (λ p. coming direction (K.allows knowledge.now) program.now first frames.old.items
         ≡ under frames.new.items (ordered direction (listing (K.allows knowledge.now) (rest_of program.now p)))
         ++ ahead direction (K.allows knowledge.now) program.now frames.new.items) }
@@ -78,32 +84,48 @@ fn go_on<K: Knowledge>(
     }
 }
 
-/// The next path in `direction`, if there is one.
-#[inline(always)]
-pub(crate) fn next_path<K: Knowledge>(
+/// The number of first steps that stay, of `steps` steps, if only the last of `frames` frames may have changed.
+fn shared_count(steps: usize, frames: usize) -> usize
+    ensures within { result ≤ steps }
+    ensures unchanged { result ≤ frames - 1 }
+{
+    if steps < frames {
+        return steps;
+    }
+    frames.saturating_sub(1)
+}
+
+/// Makes `path` the next path in `direction`. Returns the number of its first steps that it shares with the path before
+/// it; `None` if no path is left, and then `path` has no steps.
+pub(crate) fn follow<K: Knowledge>(
     program: &Program,
     knowledge: &K,
     direction: Direction,
     first: Option<Place>,
     frames: &mut Frames,
+    path: &mut Path,
     work: &mut Work,
-) -> Option<Path>
+) -> Option<usize>
     requires exploring { IsExploring (K.allows knowledge.now) program.now first frames.old.items }
+    requires steps { AreFirstSteps frames.old.items path.old.steps }
     ensures exploring { IsExploring (K.allows knowledge.now) program.now None frames.new.items }
+    ensures steps { AreFirstSteps frames.new.items path.new.steps }
     ensures none { IfNone result (coming direction (K.allows knowledge.now) program.now first frames.old.items ≡ []) }
     ensures stays { IfNone result (coming direction (K.allows knowledge.now) program.now None frames.new.items ≡ []) }
-    ensures path { IfSome result (λ path. coming direction (K.allows knowledge.now) program.now first frames.old.items
-        ≡ path ∷ coming direction (K.allows knowledge.now) program.now None frames.new.items) }
+    ensures path { IfSome result (λ _. coming direction (K.allows knowledge.now) program.now first frames.old.items
+        ≡ path.new ∷ coming direction (K.allows knowledge.now) program.now None frames.new.items) }
+    ensures shared { IfSome result (λ shared. take shared path.new.steps ≡ take shared path.old.steps) }
     ensures work { work.new ≤ work.old + 64 * (modules_of program.now + 1) }
 {
     let Some(place) = go_on(program, knowledge, direction, first, frames, work) else {
+        path.steps.truncate(0);
         return None;
     };
+    let shared = shared_count(path.steps.len(), frames.len());
     let end = descend(program, knowledge, direction, frames, place, work);
-    Some(Path {
-        steps: steps_of(frames),
-        decision: program.decision(&end),
-    })
+    retell(&mut path.steps, frames.as_slice(), shared);
+    path.decision = program.decision(&end).code();
+    Some(shared)
 }
 
 impl<'a, K: Knowledge> Explorer<'a, K> {
@@ -122,6 +144,7 @@ impl<'a, K: Knowledge> Explorer<'a, K> {
             knowledge,
             first: Some(program.first()),
             frames: ArrayVec::new(),
+            path: Path::empty(),
             work: Work::new(),
         }
     }
@@ -158,9 +181,37 @@ impl<'a, K: Knowledge> Explorer<'a, K> {
                 knowledge,
                 first: None,
                 frames,
+                path: Path::empty(),
                 work,
             }),
         }
+    }
+
+    /// Follows the next path, as `next` does, and keeps it: `path` gives it. Returns the number of its first steps that
+    /// it shares with the path followed before; `None` if no path is left.
+    pub fn follow(&mut self) -> Option<usize>
+        ensures path { MatchOption result ((self.old.coming ≡ []) × (self.new.coming ≡ [])) (λ _. self.old.coming ≡ self.new.path ∷ self.new.coming) }
+        ensures shared { IfSome result (λ shared. take shared self.new.path.steps ≡ take shared self.old.path.steps) }
+        ensures modules { self.new.modules ≡ self.old.modules }
+        ensures work { self.new.work ≤ self.old.work + 64 * (self.old.modules + 1) }
+    {
+        let first = self.first.take();
+        follow(
+            self.program,
+            self.knowledge,
+            Direction::Forward,
+            first,
+            &mut self.frames,
+            &mut self.path,
+            &mut self.work,
+        )
+    }
+
+    /// The path followed last. It has no steps before the first one is followed, and when none is left.
+    pub fn path(&self) -> &Path
+        ensures { result.now ≡ self.now.path }
+    {
+        &self.path
     }
 
     /// The number of steps of the program so far.
@@ -189,14 +240,9 @@ impl<'a, K: Knowledge> Iterator for Explorer<'a, K> {
         ensures modules { self.new.modules ≡ self.old.modules }
         ensures work { self.new.work ≤ self.old.work + 64 * (self.old.modules + 1) }
     {
-        let first = self.first.take();
-        next_path(
-            self.program,
-            self.knowledge,
-            Direction::Forward,
-            first,
-            &mut self.frames,
-            &mut self.work,
-        )
+        match self.follow() {
+            Some(_) => Some(self.path.copied()),
+            None => None,
+        }
     }
 }

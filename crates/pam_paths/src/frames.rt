@@ -1,6 +1,6 @@
 //! The frames of an explorer: the modules asked on the path that it returned last.
 
-ghost use Rattle.std.specs.Prelude.{◌≡◌, ◌+◌, ◌<◌, ◌≤◌, ◌++◌, [], ℕ, length, map, None, Some, IfSome, IfNone};
+ghost use Rattle.std.specs.Prelude.{◌≡◌, ◌+◌, ◌-◌, ◌<◌, ◌≤◌, ◌++◌, [], ℕ, length, map, take, None, Some, IfSome, IfNone};
 ghost use Rattle.pam_conf.specs.declared.stack.TheConstants.{MAX_MODULES};
 ghost use Rattle.pam_dispatch.specs.Flat.{IsPlaceOf, modules_of, rest_of};
 ghost use Rattle.pam_dispatch.specs.Runs.{AsksRise, after_answer, asked_module, next_ask};
@@ -176,6 +176,7 @@ pub(crate) fn advance<K: Knowledge>(
     ensures place { IfSome result (λ p. IsPlaceOf program.now p) }
     ensures frames { AreFrames (K.allows knowledge.now) program.now 0 frames.new.items }
     ensures rise { IfSome result (λ p. AsksRise (length frames.new.items) (modules_of program.now) (rest_of program.now p)) }
+    ensures earlier { take (length frames.new.items - 1) frames.new.items ≡ take (length frames.new.items - 1) frames.old.items }
     ensures paths { IfSome result (λ p. ahead direction (K.allows knowledge.now) program.now frames.old.items
         ≡ under frames.new.items (ordered direction (listing (K.allows knowledge.now) (rest_of program.now p)))
         ++ ahead direction (K.allows knowledge.now) program.now frames.new.items) }
@@ -211,6 +212,7 @@ pub(crate) fn descend<K: Knowledge>(
         ++ ahead direction (K.allows knowledge.now) program.now frames.old.items
         ≡ under frames.new.items (ordered direction (listing (K.allows knowledge.now) (rest_of program.now result)))
         ++ ahead direction (K.allows knowledge.now) program.now frames.new.items }
+    ensures earlier { take (length frames.old.items) frames.new.items ≡ frames.old.items }
     ensures work { work.new + length frames.old.items ≤ work.old + length frames.new.items }
 {
     let mut place = from;
@@ -227,17 +229,19 @@ pub(crate) fn descend<K: Knowledge>(
     place
 }
 
-/// The steps of the frames.
-#[inline(always)]
-pub(crate) fn steps_of(frames: &Frames) -> ArrayVec<PathStep, MAX_MODULES>
-    ensures { map step_seen result.items ≡ map step_in frames.now.items }
+/// Makes `steps` the steps of `frames`. The first `shared` of them stay.
+pub(crate) fn retell(steps: &mut ArrayVec<PathStep, MAX_MODULES>, frames: &[Frame], shared: usize)
+    requires few { length frames.now ≤ MAX_MODULES }
+    requires within { shared ≤ length frames.now }
+    requires same { take shared (map step_seen steps.old.items) ≡ take shared (map step_in frames.now) }
+    ensures { map step_seen steps.new.items ≡ map step_in frames.now }
 {
-    let mut steps: ArrayVec<PathStep, MAX_MODULES> = ArrayVec::new();
-    for frame in frames.as_slice() {
+    steps.truncate(shared);
+    let added = &frames[shared..];
+    for frame in added {
         steps.push(PathStep {
             number: frame.module_number,
             class: frame.class,
         });
     }
-    steps
 }

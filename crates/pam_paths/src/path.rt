@@ -7,7 +7,7 @@ ghost use Rattle.pam_paths.specs.Paths.{key};
 use crate::cursor::Cursor;
 use arrayvec::ArrayVec;
 use pam_codes::{Code, CodeSet};
-use pam_dispatch::{Decision, MAX_MODULES};
+use pam_dispatch::MAX_MODULES;
 use std::marker::Model;
 
 /// A module asked on a path, with the class of its answer.
@@ -46,7 +46,7 @@ impl PathStep {
 #[derive(Drop)]
 pub struct Path {
     pub(crate) steps: ArrayVec<PathStep, MAX_MODULES>,
-    pub(crate) decision: Decision,
+    pub(crate) decision: Code,
 }
 
 impl Model for Path {
@@ -61,7 +61,32 @@ impl Model for Path {
 }
 
 impl Path {
+    ghost use Rattle.std.specs.Prelude.{[]};
     ghost use Rattle.pam_paths.specs.Steps.{step_seen};
+
+    /// A path without steps.
+    pub(crate) fn empty() -> Path
+        ensures { result.steps ≡ [] }
+    {
+        Path {
+            steps: ArrayVec::new(),
+            decision: Code::SUCCESS,
+        }
+    }
+
+    /// The same path again.
+    pub(crate) fn copied(&self) -> Path
+        ensures { result ≡ self.now }
+    {
+        let mut steps: ArrayVec<PathStep, MAX_MODULES> = ArrayVec::new();
+        for step in self.steps.as_slice() {
+            steps.push(*step);
+        }
+        Path {
+            steps,
+            decision: self.decision,
+        }
+    }
 
     /// The modules asked, in order.
     pub fn steps(&self) -> &[PathStep]
@@ -74,7 +99,7 @@ impl Path {
     pub fn decision(&self) -> Code
         ensures { result ≡ self.now.decision }
     {
-        self.decision.code()
+        self.decision
     }
 
     /// The cursor of this path: the least codes of its classes.

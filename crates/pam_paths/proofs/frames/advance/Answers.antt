@@ -9,6 +9,7 @@ use Rattle.pam_paths.specs.Computed.{listing}
 use Rattle.pam_paths.specs.Directions.{ordered}
 use Rattle.pam_paths.specs.Frames.{ahead, ahead_of, under, AreFrames}
 use Rattle.pam_paths.proofs.FrameLists.{ahead-next, ahead-none, branch_followed, frame_after, frame_number, frame_room, frame_same, popped, pushed}
+use Rattle.pam_paths.proofs.Fronts.{front_changed, front_popped}
 use Rattle.pam_paths.proofs.frames.advance.Goals as goal
 
 pub branch_ahead-requires-clause-place : goal.branch_ahead-requires-clause-place
@@ -90,6 +91,7 @@ loop-frame-preserved g c =
     let n = c.in_default-branch_ahead.ensures in
     record {
       frames = k.0;
+      earlier = front_popped c.args.frames.now.items c.loop-frame.frames.items _ c.loop-frame.invariant.earlier c.in-Some.ensures.rest;
       same = c.loop-frame.invariant.same
           ∙ ap (λ (x : List Frame). ahead d allows program x) c.in-Some.ensures.items
           ∙ ahead-none d allows program c.pop.new.self.items c.in-Some.frame
@@ -106,3 +108,9 @@ returns-clause-none g c =
     let e : items ≡ [] = nil_from_length items none in
     c.loop-frame.invariant.same
     ∙ ap (λ (x : List Frame). ahead c.args.direction (g.K.Knowledge.allows c.args.knowledge.now) c.args.program.now x) e
+
+pub returns-in-Some-branch_ahead-clause-earlier : goal.returns-in-Some-branch_ahead-clause-earlier
+returns-in-Some-branch_ahead-clause-earlier g c =
+    let items = c.args.frames.now.items in
+    let popped = front_popped items c.loop-frame.frames.items _ c.loop-frame.invariant.earlier c.in-Some.ensures.rest in
+    front_changed items c.pop.new.self.items _ c.following.result popped c.push.ensures.items

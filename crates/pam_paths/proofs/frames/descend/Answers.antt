@@ -7,6 +7,7 @@ use Rattle.pam_paths.specs.Computed.{listing}
 use Rattle.pam_paths.specs.Directions.{ordered}
 use Rattle.pam_paths.specs.Frames.{ahead, ahead_of, under, AreFrames, IsFrame}
 use Rattle.pam_paths.proofs.FrameLists.{ahead-enter, branch_followed, frame_after, frame_number, frame_same, listing-ahead, ordered-some, pushed, rise_after}
+use Rattle.pam_paths.proofs.Fronts.{front_pushed}
 use Rattle.pam_paths.proofs.frames.descend.Goals as goal
 
 pub push-requires : goal.push-requires
@@ -64,6 +65,7 @@ loop-module_number-preserved g c =
       place = e.place;
       rise = subst (λ x. AsksRise x (modules_of program) (rest_of program b.place)) (sym c.push.ensures.len)
           (frame_after allows program (length fs) f b.code b.place is e.rest);
+      earlier = front_pushed c.args.frames.now.items fs _ h i.earlier c.push.ensures.items;
       same = i.same
           ∙ ahead-enter d allows program fs h below (ordered d (listing allows (rest_of program c.loop-module_number.place)))
           (ap (λ (x : Place). ordered d (listing allows (rest_of program x))) (sym c.at-frame.ensures.place)

@@ -1,4 +1,4 @@
-use Rattle.std.proofs.Common.{◌≡◌, ◌+◌, ◌-◌, ◌≤◌, ◌++◌, length}
+use Rattle.std.proofs.Common.{◌≡◌, ◌+◌, ◌-◌, ◌≤◌, ◌++◌, length, take}
 use Rattle.pam_dispatch.specs.Flat.{rest_of, IsPlaceOf, modules_of}
 use Rattle.pam_dispatch.specs.Runs.{AsksRise}
 use Rattle.pam_paths.specs.Computed.{listing}
@@ -14,6 +14,7 @@ invariant-loop-module_number g l =
       frames : AreFrames allows l.program 0 l.frames.items;
       place : IsPlaceOf l.program l.place;
       rise : AsksRise (length l.frames.items) (modules_of l.program) (rest_of l.program l.place);
+      earlier : take (length l.initial.frames.items) l.frames.items ≡ l.initial.frames.items;
       same : under l.initial.frames.items (ordered d (listing allows (rest_of l.program l.initial.place))) ++ ahead d allows l.program l.initial.frames.items
           ≡ under l.frames.items (ordered d (listing allows (rest_of l.program l.place))) ++ ahead d allows l.program l.frames.items;
       work : l.work + length l.initial.frames.items ≤ l.initial.work + length l.frames.items;

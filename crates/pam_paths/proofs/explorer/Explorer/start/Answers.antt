@@ -1,25 +1,31 @@
-use Rattle.std.proofs.Common.{subst, sym, arith}
+use Rattle.std.proofs.Common.{◌∙◌, List, ap, arith, length, map, subst, sym, take}
 use Rattle.pam_dispatch.specs.Flat.{modules_of, runs_of}
 use Rattle.pam_dispatch.specs.Runs.{AsksRise, Runs}
 use Rattle.pam_paths.specs.Computed.{listing}
-use Rattle.pam_paths.specs.Frames.{AreFrames, coming}
+use Rattle.pam_paths.specs.Frames.{AreFrames, coming, step_in}
 use Rattle.pam_paths.specs.Listing.{IsListing}
-use Rattle.pam_paths.specs.Paths.{path_of}
+use Rattle.pam_paths.specs.Paths.{StepValue, path_of}
 use Rattle.pam_paths.proofs.Listings.{listing-is, some_assignment}
 use Rattle.pam_paths.proofs.Trees.{listing-tree}
 use Rattle.pam_paths.proofs.explorer.Explorer.start.Goals as goal
 
 pub invariant_of-result : goal.invariant_of-result
 unfolding AreFrames
-invariant_of-result g c = record {
-  few = omega (arith, c.first.ensures.few);
-  valid = subst (λ x. AreFrames (g.K.Knowledge.allows c.args.knowledge.now) c.args.program.now 0 x) (sym c.new.ensures) tt;
-  start = (
-    c.first.ensures.place,
-    subst (λ (r : Runs). AsksRise 0 (modules_of c.args.program.now) r) (sym c.first.ensures.whole) c.first.ensures.rise,
-    c.new.ensures,
-  );
-}
+invariant_of-result g c =
+    let program = c.args.program.now in
+    let allows = g.K.Knowledge.allows c.args.knowledge.now in
+    let steps = ap (λ (l : List StepValue). take (length l) (map step_in c.new.result.items)) c.empty.ensures in (
+      record {
+        few = omega (arith, c.first.ensures.few);
+        valid = subst (λ x. AreFrames allows program 0 x) (sym c.new.ensures) tt;
+        start = (
+          c.first.ensures.place,
+          subst (λ (r : Runs). AsksRise 0 (modules_of program) r) (sym c.first.ensures.whole) c.first.ensures.rise,
+          c.new.ensures,
+        );
+      },
+      c.empty.ensures ∙ sym steps,
+    )
 
 pub returns-clause-listing : goal.returns-clause-listing
 unfolding coming
