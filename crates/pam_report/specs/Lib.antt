@@ -1,6 +1,8 @@
 pub mod Answer
 pub mod Decide
 pub mod Fault
+pub mod FaultTable
+pub mod FaultViews
 pub mod Header
 pub mod Inputs
 pub mod Leaves

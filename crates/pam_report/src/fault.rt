@@ -1,35 +1,27 @@
 //! Faults: why a request has no answer, with their lines and exit statuses.
 
-ghost use Rattle.std.specs.Prelude.{◌≡◌, ◌++◌, IfOk, OnOk};
-ghost use Rattle.std.specs.Option.{option_map};
+ghost use Rattle.std.specs.Prelude.{◌≡◌, ◌++◌, IfOk, OnOk, option_map};
 ghost use Rattle.pam_codes.specs.Line.{line_text, piece_text};
-ghost use Rattle.pam_report.specs.Fault.{conf_fault, control_fault, cursor_line, fault_line, file_at, input_line, memory_line, moment_fault_name, table_fault_name, table_line, table_name, status_of_fault, status_of_input};
+ghost use Rattle.pam_report.specs.Fault as spec;
+ghost use Rattle.pam_report.specs.Fault.{IsNumbered};
+ghost use Rattle.pam_report.specs.FaultViews.{row_view};
+
+mod table;
 
 use crate::inputs::InputError;
-use pam_codes::{ControlError, Piece};
+use pam_codes::Piece;
 use pam_conf::{ConfError, FaultKind, Files};
 use pam_dispatch::WrongCount;
 use pam_paths::CursorError;
-use pam_tables::{Table, TableError, TableFault};
+use pam_tables::{TableError, TableFault};
 use pam_times::MomentError;
+use pam_words::Usage;
 use std::alloc::{AllocError, Global};
+use table::{
+    Row, conf_row, count_row, cursor_row, input_row, memory_row, moment_row, table_name, table_row,
+    usage_row, write_row,
+};
 use thiserror::Error;
-
-// The exit statuses of faults.
-const WRONG_COUNT: u8 = 2;
-
-const BAD_CURSOR: u8 = 2;
-
-const BAD_CONFIGURATION: u8 = 3;
-
-const BAD_TABLE: u8 = 4;
-
-const BAD_MOMENT: u8 = 4;
-
-/// For a failed read or write.
-const FAILED: u8 = 5;
-
-const NO_MEMORY: u8 = 6;
 
 /// Why a request has no answer.
 #[derive(Clone, Copy, Debug, PartialEq, Eq, Error)]
@@ -57,37 +49,18 @@ pub enum Fault {
     Memory,
 }
 
-fn control_fault_name(error: ControlError) -> &'static str
-    ensures { result.now ≡ control_fault error }
+/// Returns the row of a fault in the table.
+fn row_of(fault: &Fault) -> Row
+    ensures { row_view result ≡ spec.row_of fault.now }
 {
-    match error {
-        ControlError::BadControl => "E4 BadControl",
-        ControlError::BadValue => "E5 BadValue",
-        ControlError::BadAction => "E6 BadAction",
-        ControlError::ZeroJump => "E7 ZeroJump",
-        ControlError::OpenBracket => "E8 OpenBracket",
-    }
-}
-
-#[tactic(auto, unfolding(crate::specs::Fault::conf_fault))]
-fn conf_fault_name(kind: FaultKind) -> &'static str
-    ensures { result.now ≡ conf_fault kind }
-{
-    match kind {
-        FaultKind::NulByte => "E1 NulByte",
-        FaultKind::MissingField => "E2 MissingField",
-        FaultKind::BadKind => "E3 BadKind",
-        FaultKind::Control(error) => control_fault_name(error),
-        FaultKind::MissingTarget => "E9 MissingTarget",
-        FaultKind::BadTarget => "E10 BadTarget",
-        FaultKind::Cycle => "E11 Cycle",
-        FaultKind::TooDeep => "E12 TooDeep",
-        FaultKind::TooManyModules => "E13 TooManyModules",
-        FaultKind::IncludeInSingleFile => "E14 IncludeInSingleFile",
-        FaultKind::NoService => "E15 NoService",
-        FaultKind::FileTooLong => "E16 FileTooLong",
-        FaultKind::Memory => "E17 Memory",
-        FaultKind::TooManyFollowed => "E18 TooManyFollowed",
+    match fault {
+        Fault::Conf(error) => conf_row(error.kind),
+        Fault::Table(error) => table_row(error.fault),
+        Fault::Moment(error) => moment_row(*error),
+        Fault::Count(_) => count_row(),
+        Fault::Cursor(error) => cursor_row(*error),
+        Fault::Device => write_row(),
+        Fault::Memory => memory_row(),
     }
 }
 
@@ -103,102 +76,79 @@ fn push_piece(text: &mut Vec<u8>, piece: Piece<'_>) -> Result<(), AllocError>
     }
 }
 
-/// Concatenates pieces.
-fn joined(alloc: Global, pieces: &[Piece<'_>]) -> Result<Vec<u8>, AllocError>
-    ensures { IfOk result (λ text. text.items ≡ line_text pieces.now) }
+fn push_pieces(text: &mut Vec<u8>, pieces: &[Piece<'_>]) -> Result<(), AllocError>
+    ensures { OnOk result (text.new.items ≡ text.old.items ++ line_text pieces.now) }
+{
+    for piece in pieces {
+        push_piece(text, *piece)?;
+    }
+    Ok(())
+}
+
+/// Returns the line of a row, with the pieces of its place.
+fn line(alloc: Global, row: Row, place: &[Piece<'_>]) -> Result<Vec<u8>, AllocError>
+    ensures { IfOk result (λ text. text.items ≡ spec.line_of (row_view row) (line_text place.now)) }
 {
     let mut text = Vec::new(alloc);
-    for piece in pieces {
-        push_piece(&mut text, *piece)?;
-    }
+    text.extend_from_slice(b"pamcheck: ")?;
+    text.extend_from_slice(row.name.as_bytes())?;
+    push_pieces(&mut text, place)?;
+    text.extend_from_slice(b"\n")?;
     Ok(text)
 }
 
-fn memory_text(alloc: Global) -> Result<Vec<u8>, AllocError>
-    ensures { IfOk result (λ text. text.items ≡ memory_line) }
+/// Returns the line of a row, with a place if there is a file.
+fn line_at(alloc: Global, row: Row, file: Option<&[u8]>, number: u64) -> Result<Vec<u8>, AllocError>
+    ensures { IfOk result (λ text. text.items ≡ spec.line_of (row_view row) (spec.line_place (option_map (λ f. f.now) file.entry) number)) }
 {
-    joined(alloc, &[Piece::Bytes(b"pamcheck: E17 Memory\n")])
-}
-
-#[tactic(auto, unfolding(crate::specs::Fault::table_fault_name))]
-fn table_fault_name(fault: TableFault) -> &'static str
-    ensures { result.now ≡ table_fault_name fault }
-{
-    match fault {
-        TableFault::MissingField => "TE1 MissingField",
-        TableFault::BadPermission => "TE2 BadPermission",
-        TableFault::Netgroup => "TE3 Netgroup",
-        TableFault::UserAtHost => "TE4 UserAtHost",
-        TableFault::BadMask => "TE5 BadMask",
-        TableFault::BadTimes => "TE6 BadTimes",
-        TableFault::TwoWildcards => "TE7 TwoWildcards",
-        TableFault::BadLogic => "TE8 BadLogic",
-        TableFault::BadGroup => "TE9 BadGroup",
-        TableFault::NulByte => "TE10 NulByte",
-        TableFault::Memory => "TE11 Memory",
-        TableFault::TableTooLong => "TE12 TableTooLong",
-        TableFault::BadCode => "TE13 BadCode",
-        TableFault::BadModule => "TE14 BadModule",
-    }
-}
-
-fn table_name(table: Table) -> &'static str
-    ensures { result.now ≡ table_name table }
-{
-    match table {
-        Table::Access => "access",
-        Table::Time => "time",
-        Table::Group => "group",
-        Table::Returns => "returns",
-    }
-}
-
-fn moment_fault_name(error: MomentError) -> &'static str
-    ensures { result.now ≡ moment_fault_name error }
-{
-    match error {
-        MomentError::Range => "M1 Range",
-        MomentError::Rule => "M2 Rule",
-        MomentError::Memory => "M3 Memory",
-        MomentError::Syntax => "M4 Syntax",
-    }
-}
-
-fn table_fault_text(alloc: Global, error: &TableError) -> Result<Vec<u8>, AllocError>
-    ensures { IfOk result (λ text. text.items ≡ table_line error.now.table error.now.fault error.now.line) }
-{
-    if error.fault == TableFault::Memory {
-        return joined(alloc, &[Piece::Bytes(b"pamcheck: TE11 Memory\n")]);
-    }
-    joined(
-        alloc,
-        &[
-            Piece::Bytes(b"pamcheck: "),
-            Piece::Bytes(table_fault_name(error.fault).as_bytes()),
-            Piece::Bytes(b" "),
-            Piece::Bytes(table_name(error.table).as_bytes()),
-            Piece::Bytes(b":"),
-            Piece::Number(u64::from(error.line)),
-            Piece::Bytes(b"\n"),
-        ],
-    )
-}
-
-fn cursor_fault_text(alloc: Global, error: CursorError) -> Result<Vec<u8>, AllocError>
-    ensures { IfOk result (λ text. text.items ≡ cursor_line error) }
-{
-    match error {
-        CursorError::Syntax => joined(alloc, &[Piece::Bytes(b"pamcheck: C1 Syntax\n")]),
-        CursorError::NotLeast(step) => joined(
+    match file {
+        None => line(alloc, row, &[]),
+        Some(file) => line(
             alloc,
+            row,
             &[
-                Piece::Bytes(b"pamcheck: C2 NotLeast step "),
-                Piece::Number(step as u64),
-                Piece::Bytes(b"\n"),
+                Piece::Bytes(b" "),
+                Piece::Bytes(file),
+                Piece::Bytes(b":"),
+                Piece::Number(number),
             ],
         ),
-        CursorError::TooShort => joined(alloc, &[Piece::Bytes(b"pamcheck: C3 TooShort\n")]),
-        CursorError::TooLong => joined(alloc, &[Piece::Bytes(b"pamcheck: C4 TooLong\n")]),
+    }
+}
+
+/// Returns the name of the file of a fault, if it has a place.
+fn conf_file<'a>(files: &'a Files, error: &ConfError) -> Option<&'a [u8]>
+    ensures { option_map (λ name. name.now) result ≡ spec.conf_file files.now error.now.at error.now.kind }
+{
+    if error.kind == FaultKind::Memory {
+        return None;
+    }
+    match error.at {
+        Some(position) => files.name(position),
+        None => None,
+    }
+}
+
+/// Returns the name of the table of a fault, if it has a place.
+fn table_file(error: &TableError) -> Option<&'static [u8]>
+    ensures { option_map (λ name. name.now) result ≡ spec.table_file error.now.table error.now.fault }
+{
+    if error.fault == TableFault::Memory {
+        return None;
+    }
+    Some(table_name(error.table).as_bytes())
+}
+
+fn cursor_line(alloc: Global, row: Row, error: CursorError) -> Result<Vec<u8>, AllocError>
+    ensures { IfOk result (λ text. text.items ≡ spec.line_of (row_view row) (spec.cursor_place error)) }
+{
+    match error {
+        CursorError::NotLeast(step) => line(
+            alloc,
+            row,
+            &[Piece::Bytes(b" step "), Piece::Number(step as u64)],
+        ),
+        CursorError::Syntax | CursorError::TooShort | CursorError::TooLong => line(alloc, row, &[]),
     }
 }
 
@@ -207,122 +157,64 @@ fn cursor_fault_text(alloc: Global, error: CursorError) -> Result<Vec<u8>, Alloc
 /// A failed allocation has no place, and neither has a fault whose position is not in `files`.
 #[tactic(auto, unfolding(crate::specs::Fault::fault_line))]
 pub fn fault_text(alloc: Global, fault: &Fault, files: &Files) -> Result<Vec<u8>, AllocError>
-    ensures { IfOk result (λ text. text.items ≡ fault_line files.now fault.now) }
+    ensures { IfOk result (λ text. text.items ≡ spec.fault_line files.now fault.now) }
 {
+    let row = row_of(fault);
     match fault {
-        Fault::Conf(error) => conf_fault_text(alloc, error, files),
-        Fault::Count(error) => joined(
+        Fault::Conf(error) => line_at(alloc, row, conf_file(files, error), error.line as u64),
+        Fault::Table(error) => line_at(alloc, row, table_file(error), u64::from(error.line)),
+        Fault::Count(error) => line(
             alloc,
-            &[
-                Piece::Bytes(b"pamcheck: DE1 WrongCount want "),
-                Piece::Number(error.modules as u64),
-                Piece::Bytes(b"\n"),
-            ],
+            row,
+            &[Piece::Bytes(b" want "), Piece::Number(error.modules as u64)],
         ),
-        Fault::Table(error) => table_fault_text(alloc, error),
-        Fault::Moment(error) => joined(
-            alloc,
-            &[
-                Piece::Bytes(b"pamcheck: "),
-                Piece::Bytes(moment_fault_name(*error).as_bytes()),
-                Piece::Bytes(b"\n"),
-            ],
-        ),
-        Fault::Cursor(error) => cursor_fault_text(alloc, *error),
-        Fault::Device => joined(alloc, &[Piece::Bytes(b"pamcheck: V2 Write\n")]),
-        Fault::Memory => memory_text(alloc),
-    }
-}
-
-#[tactic(auto, unfolding(crate::specs::Fault::fault_line))]
-fn conf_fault_text(alloc: Global, error: &ConfError, files: &Files) -> Result<Vec<u8>, AllocError>
-    ensures { IfOk result (λ text. text.items ≡ fault_line files.now (Fault.Conf error.now)) }
-{
-    if error.kind == FaultKind::Memory {
-        return memory_text(alloc);
-    }
-    let name = conf_fault_name(error.kind);
-    match file_at(files, error.at) {
-        None => joined(
-            alloc,
-            &[
-                Piece::Bytes(b"pamcheck: "),
-                Piece::Bytes(name.as_bytes()),
-                Piece::Bytes(b"\n"),
-            ],
-        ),
-        Some(file) => joined(
-            alloc,
-            &[
-                Piece::Bytes(b"pamcheck: "),
-                Piece::Bytes(name.as_bytes()),
-                Piece::Bytes(b" "),
-                Piece::Bytes(file),
-                Piece::Bytes(b":"),
-                Piece::Number(error.line as u64),
-                Piece::Bytes(b"\n"),
-            ],
-        ),
-    }
-}
-
-/// Returns the name of the file at a position, if there is one.
-fn file_at(files: &Files, at: Option<usize>) -> Option<&[u8]>
-    ensures { option_map (λ name. name.now) result ≡ file_at files.now at }
-{
-    match at {
-        Some(position) => files.name(position),
-        None => None,
+        Fault::Cursor(error) => cursor_line(alloc, row, *error),
+        Fault::Moment(_) | Fault::Device | Fault::Memory => line(alloc, row, &[]),
     }
 }
 
 /// Returns the exit status of a fault.
 pub fn fault_status(fault: &Fault) -> u8
-    ensures { result ≡ status_of_fault fault.now }
+    ensures { result ≡ spec.status_of_fault fault.now }
 {
-    match fault {
-        Fault::Conf(error) => match error.kind {
-            FaultKind::Memory => NO_MEMORY,
-            _ => BAD_CONFIGURATION,
-        },
-        Fault::Table(error) => match error.fault {
-            TableFault::Memory => NO_MEMORY,
-            _ => BAD_TABLE,
-        },
-        Fault::Moment(error) => match error {
-            MomentError::Memory => NO_MEMORY,
-            _ => BAD_MOMENT,
-        },
-        Fault::Count(_) => WRONG_COUNT,
-        Fault::Cursor(_) => BAD_CURSOR,
-        Fault::Device => FAILED,
-        Fault::Memory => NO_MEMORY,
-    }
+    row_of(fault).status
 }
 
 /// Returns the line of an input that cannot be read.
+#[tactic(auto, unfolding(crate::specs::Fault::input_line))]
 pub(crate) fn input_text(alloc: Global, error: &InputError) -> Result<Vec<u8>, AllocError>
-    ensures { IfOk result (λ text. text.items ≡ input_line error.now) }
+    ensures { IfOk result (λ text. text.items ≡ spec.input_line error.now) }
 {
+    let row = input_row(error);
     match error {
-        InputError::Read(name) => joined(
+        InputError::Read(name) => line(
             alloc,
-            &[
-                Piece::Bytes(b"pamcheck: V1 Read "),
-                Piece::Bytes(name.as_bytes()),
-                Piece::Bytes(b"\n"),
-            ],
+            row,
+            &[Piece::Bytes(b" "), Piece::Bytes(name.as_bytes())],
         ),
-        InputError::Memory => memory_text(alloc),
+        InputError::Memory => line(alloc, row, &[]),
     }
 }
 
 /// Returns the exit status of an input that cannot be read.
 pub(crate) fn input_status(error: &InputError) -> u8
-    ensures { result ≡ status_of_input error.now }
+    ensures { result ≡ spec.status_of_input error.now }
 {
-    match error {
-        InputError::Read(_) => FAILED,
-        InputError::Memory => NO_MEMORY,
-    }
+    input_row(error).status
+}
+
+/// Returns the line of words that are refused. `Help` and `Words` print the text of `clap` instead.
+#[tactic(auto, unfolding(crate::specs::Fault::usage_line))]
+pub fn usage_text(alloc: Global, usage: &Usage) -> Result<Vec<u8>, AllocError>
+    requires { IsNumbered usage.now }
+    ensures { IfOk result (λ text. text.items ≡ spec.usage_line usage.now) }
+{
+    line(alloc, usage_row(usage), &[])
+}
+
+/// Returns the exit status of words that are refused: 0 for help, 2 for wrong words, 6 for a failed allocation.
+pub fn usage_status(usage: &Usage) -> u8
+    ensures { result ≡ spec.status_of_usage usage.now }
+{
+    usage_row(usage).status
 }

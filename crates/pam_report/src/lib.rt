@@ -7,7 +7,7 @@ mod inputs;
 mod program;
 mod report;
 
-pub use fault::{Fault, fault_status, fault_text};
+pub use fault::{Fault, fault_status, fault_text, usage_status, usage_text};
 pub use inputs::Inputs;
 pub use program::{refuse, refuse_without_memory, run};
 pub use report::{Status, answer};

@@ -2,12 +2,14 @@
 
 ghost use Rattle.std.specs.Prelude.{◌-◌, ◌<◌, ◌^◌};
 
-use crate::fault::{Fault, fault_status, fault_text, input_status, input_text};
+use crate::fault::{
+    Fault, fault_status, fault_text, input_status, input_text, usage_status, usage_text,
+};
 use crate::inputs::{Inputs, inputs_of};
 use crate::report::answer;
 use pam_codes::Out;
 use pam_conf::{Files as ConfFiles, Form};
-use pam_words::{Request, Usage, request, usage_status, usage_text};
+use pam_words::{Request, Usage, request};
 use std::alloc::{AllocError, Global};
 use std::io::Write;
 use std::rt::Files;
@@ -35,14 +37,10 @@ pub fn refuse<V: Write>(alloc: Global, usage: &Usage, err: &mut Out<V>) -> u8 {
     match usage {
         Usage::Help(text) | Usage::Words(text) => {
             let _ = write!(err, "{text}");
+            let _ = err.flush();
         }
-        _ => {
-            if let Ok(line) = usage_text(alloc, usage) {
-                let _ = err.write_all(line.as_bytes());
-            }
-        }
+        _ => say(usage_text(alloc, usage), err),
     }
-    let _ = err.flush();
     usage_status(usage)
 }
 

@@ -1,4 +1,3 @@
 pub mod Asked
-pub mod Usage
 pub mod Wanted
 pub mod Words

@@ -1,8 +1,9 @@
 //! The words of the command line.
 
-ghost use Rattle.pam_words.specs.Usage.{IsNumbered};
+ghost use Rattle.pam_report.specs.Fault.{IsNumbered};
 
-use pam_words::{Request, Task, Usage, request, usage_status, usage_text};
+use pam_report::{usage_status, usage_text};
+use pam_words::{Request, Task, Usage, request};
 use std::alloc::{AllocError, Global};
 use std::process::Abort;
 use std::test::Fail;
@@ -105,13 +106,13 @@ fn is_told(
     rt: &impl Abort,
     alloc: Global,
     usage: &Usage,
-    line: &str,
+    line: &[u8],
     status: u8,
 ) -> Result<(), Fail>
     requires { IsNumbered usage.now }
 {
     let text = usage_text(alloc, usage)?;
-    assert_eq!(rt; text.as_str(), line);
+    assert_eq!(rt; text.as_slice(), line);
     assert_eq!(rt; usage_status(usage), status);
     Ok(())
 }
@@ -119,13 +120,13 @@ fn is_told(
 /// A transcript cannot show these refusals.
 #[test]
 fn refusals_where_the_words_are_gathered(rt: HostRuntime) -> Result<(), Fail> {
-    is_told(&rt, rt.alloc(), &Usage::Login, "pamcheck: U5 Login\n", 2)?;
-    is_told(&rt, rt.alloc(), &Usage::Memory, "pamcheck: U7 Memory\n", 6)?;
+    is_told(&rt, rt.alloc(), &Usage::Login, b"pamcheck: U5 Login\n", 2)?;
+    is_told(&rt, rt.alloc(), &Usage::Memory, b"pamcheck: U7 Memory\n", 6)?;
     is_told(
         &rt,
         rt.alloc(),
         &Usage::NotUtf8,
-        "pamcheck: U1 NotUtf8\n",
+        b"pamcheck: U1 NotUtf8\n",
         2,
     )
 }

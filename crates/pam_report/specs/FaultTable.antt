@@ -1,0 +1,120 @@
+-- The table of faults: the number and name of each, and its exit status.
+use Rattle.std.specs.Prelude.{ℕ, List, codes}
+use Rattle.pam_codes.specs.declared.error.ControlError.{ControlError}
+use Rattle.pam_codes.specs.declared.error.ControlError.TheVariants.{BadControl, BadValue, BadAction, ZeroJump, OpenBracket}
+use Rattle.pam_conf.specs.declared.error.FaultKind.{FaultKind}
+use Rattle.pam_conf.specs.declared.error.FaultKind.TheVariants as conf
+use Rattle.pam_paths.specs.declared.cursor.CursorError.{CursorError}
+use Rattle.pam_paths.specs.declared.cursor.CursorError.TheVariants as cursor
+use Rattle.pam_report.specs.declared.inputs.InputError.{InputError}
+use Rattle.pam_report.specs.declared.inputs.InputError.TheVariants as inputs
+use Rattle.pam_tables.specs.declared.error.Table.{Table}
+use Rattle.pam_tables.specs.declared.error.Table.TheVariants.{Access, Time, Group, Returns}
+use Rattle.pam_tables.specs.declared.error.TableFault.{TableFault}
+use Rattle.pam_tables.specs.declared.error.TableFault.TheVariants as table
+use Rattle.pam_times.specs.declared.moments.MomentError.{MomentError}
+use Rattle.pam_times.specs.declared.moments.MomentError.TheVariants as moment
+use Rattle.pam_words.specs.declared.wanted.Usage.{Usage}
+use Rattle.pam_words.specs.declared.wanted.Usage.TheVariants as usage
+
+-- the number and the name, and the exit status
+pub record Row : Type 0 where
+  pub name : List ℕ
+  pub status : ℕ
+
+abbrev pub row : List ℕ → ℕ → Row
+row name status = record { name = name; status = status }
+
+-- ---- the words of the command line. Help is no fault, and neither its name nor that of `Words` is printed
+
+unfoldable pub usage_row : Usage → Row
+usage_row (usage.Help error) = row (codes "Help") 0
+usage_row (usage.Words error) = row (codes "U1 Words") 2
+usage_row usage.NotUtf8 = row (codes "U1 NotUtf8") 2
+usage_row usage.Source = row (codes "U2 Source") 2
+usage_row usage.KindName = row (codes "U3 KindName") 2
+usage_row usage.CodeName = row (codes "U4 CodeName") 2
+usage_row usage.Login = row (codes "U5 Login") 2
+usage_row usage.Moment = row (codes "U6 Moment") 2
+usage_row usage.Memory = row (codes "U7 Memory") 6
+usage_row usage.BothEnds = row (codes "U8 BothEnds") 2
+
+-- ---- the configuration
+
+unfoldable pub control_row : ControlError → Row
+control_row BadControl = row (codes "E4 BadControl") 3
+control_row BadValue = row (codes "E5 BadValue") 3
+control_row BadAction = row (codes "E6 BadAction") 3
+control_row ZeroJump = row (codes "E7 ZeroJump") 3
+control_row OpenBracket = row (codes "E8 OpenBracket") 3
+
+-- also for an allocation that failed outside the calls with a number of their own for it
+abbrev pub memory_row : Row
+memory_row = row (codes "E17 Memory") 6
+
+unfoldable pub conf_row : FaultKind → Row
+conf_row conf.NulByte = row (codes "E1 NulByte") 3
+conf_row conf.MissingField = row (codes "E2 MissingField") 3
+conf_row conf.BadKind = row (codes "E3 BadKind") 3
+conf_row (conf.Control e) = control_row e
+conf_row conf.MissingTarget = row (codes "E9 MissingTarget") 3
+conf_row conf.BadTarget = row (codes "E10 BadTarget") 3
+conf_row conf.Cycle = row (codes "E11 Cycle") 3
+conf_row conf.TooDeep = row (codes "E12 TooDeep") 3
+conf_row conf.TooManyModules = row (codes "E13 TooManyModules") 3
+conf_row conf.IncludeInSingleFile = row (codes "E14 IncludeInSingleFile") 3
+conf_row conf.NoService = row (codes "E15 NoService") 3
+conf_row conf.FileTooLong = row (codes "E16 FileTooLong") 3
+conf_row conf.Memory = memory_row
+conf_row conf.TooManyFollowed = row (codes "E18 TooManyFollowed") 3
+
+-- ---- codes and cursors
+
+abbrev pub count_row : Row
+count_row = row (codes "DE1 WrongCount") 2
+
+abbrev pub cursor_row : CursorError → Row
+cursor_row cursor.Syntax = row (codes "C1 Syntax") 2
+cursor_row (cursor.NotLeast step) = row (codes "C2 NotLeast") 2
+cursor_row cursor.TooShort = row (codes "C3 TooShort") 2
+cursor_row cursor.TooLong = row (codes "C4 TooLong") 2
+
+-- ---- tables and moments
+
+unfoldable pub table_row : TableFault → Row
+table_row table.MissingField = row (codes "TE1 MissingField") 4
+table_row table.BadPermission = row (codes "TE2 BadPermission") 4
+table_row table.Netgroup = row (codes "TE3 Netgroup") 4
+table_row table.UserAtHost = row (codes "TE4 UserAtHost") 4
+table_row table.BadMask = row (codes "TE5 BadMask") 4
+table_row table.BadTimes = row (codes "TE6 BadTimes") 4
+table_row table.TwoWildcards = row (codes "TE7 TwoWildcards") 4
+table_row table.BadLogic = row (codes "TE8 BadLogic") 4
+table_row table.BadGroup = row (codes "TE9 BadGroup") 4
+table_row table.NulByte = row (codes "TE10 NulByte") 4
+table_row table.Memory = row (codes "TE11 Memory") 6
+table_row table.TableTooLong = row (codes "TE12 TableTooLong") 4
+table_row table.BadCode = row (codes "TE13 BadCode") 4
+table_row table.BadModule = row (codes "TE14 BadModule") 4
+
+-- the name of a table, which is its place in a line
+abbrev pub table_name : Table → List ℕ
+table_name Access = codes "access"
+table_name Time = codes "time"
+table_name Group = codes "group"
+table_name Returns = codes "returns"
+
+abbrev pub moment_row : MomentError → Row
+moment_row moment.Range = row (codes "M1 Range") 4
+moment_row moment.Rule = row (codes "M2 Rule") 4
+moment_row moment.Memory = row (codes "M3 Memory") 6
+moment_row moment.Syntax = row (codes "M4 Syntax") 4
+
+-- ---- reads and writes
+
+abbrev pub input_row : InputError → Row
+input_row (inputs.Read name) = row (codes "V1 Read") 5
+input_row inputs.Memory = memory_row
+
+abbrev pub write_row : Row
+write_row = row (codes "V2 Write") 5
