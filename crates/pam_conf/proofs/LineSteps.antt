@@ -7,13 +7,15 @@ use Rattle.pam_codes.specs.Tokens.{is_blank}
 use Rattle.pam_conf.specs.Words.{Between, words_in, words_or_fault, or_open}
 use Rattle.pam_conf.specs.Rule.{RuleText, rule_of, ◌>>=◌}
 use Rattle.pam_conf.specs.Lines.{line_rule_of, rule_at, at_line, rules_in, onto_rules}
+use Rattle.pam_conf.specs.Progress.{only}
 use Rattle.pam_conf.specs.Wanted.{wants, only_wanted, with_rule}
 use Rattle.pam_conf.specs.Tells.{FailsAs, KindTells}
 use Rattle.pam_conf.specs.declared.error.FaultKind.{FaultKind}
 use Rattle.pam_conf.specs.declared.error.FaultKind.TheVariants as faults
 use Rattle.pam_conf.specs.declared.error.RuleFault.{RuleFault}
 use Rattle.pam_conf.specs.declared.rule.Form.{Form}
-use Rattle.pam_conf.specs.declared.rule.Kind.{Kind}
+use Rattle.pam_conf.specs.declared.wanted.Wanted.{Wanted}
+use Rattle.pam_conf.specs.declared.wanted.Wanted.TheVariants.{All, OfKind, OfServices}
 
 -- what a line gives, by its number and its bytes
 pub rule_at_line : (form : Form) (l : ℕ) (ms : List Mark) → HeadIs l ms → rule_at form (first_marks ms) ≡ at_line l (line_rule_of form l (first_line ms))
@@ -83,21 +85,20 @@ no_rules (Ok x) = refl
 no_rules (Err f) = refl
 
 -- the wanted ones among rules that were read, or the first fault
-abbrev pub sifted : Option Kind → Result (List RuleText) RuleFault → Result (List RuleText) RuleFault
-sifted wanted (Ok rules) = Ok (filter (wants wanted) rules)
-sifted wanted (Err f) = Err f
+abbrev pub sifted : Wanted → Result (List RuleText) RuleFault → Result (List RuleText) RuleFault
+sifted wanted rules = only (wants wanted) rules
 
-each_wanted : (rules : List RuleText) → filter (wants None) rules ≡ rules
+each_wanted : (rules : List RuleText) → filter (wants All) rules ≡ rules
 each_wanted [] = refl
 each_wanted (x ∷ rules) = ap (λ xs. x ∷ xs) (each_wanted rules)
 
-pub sifted_wanted : (wanted : Option Kind) (r : Result (List RuleText) RuleFault) → sifted wanted r ≡ only_wanted wanted r
-sifted_wanted None (Ok rules) = ap Ok (each_wanted rules)
-sifted_wanted None (Err f) = refl
-sifted_wanted (Some kind) (Ok rules) = refl
-sifted_wanted (Some kind) (Err f) = refl
+pub sifted_wanted : (wanted : Wanted) (r : Result (List RuleText) RuleFault) → sifted wanted r ≡ only_wanted wanted r
+sifted_wanted All (Ok rules) = ap Ok (each_wanted rules)
+sifted_wanted All (Err f) = refl
+sifted_wanted (OfKind kind) r = refl
+sifted_wanted (OfServices service other) r = refl
 
-module _ (wanted : Option Kind) (form : Form) (front : List RuleText) where
+module _ (wanted : Wanted) (form : Form) (front : List RuleText) where
   -- the wanted rules of a text, behind those that were read before
   abbrev pub read_on : Result (List RuleText) RuleFault → Result (List RuleText) RuleFault
   read_on r = with_rules front (sifted wanted r)
@@ -137,7 +138,7 @@ module _ (wanted : Option Kind) (form : Form) (front : List RuleText) where
   step_taken ms ts (Ok None) rules h e k = let same : front ≡ rules = cc in ap (λ (xs : List RuleText). with_rules xs (sifted wanted (rules_in form (lines_of ts)))) (sym same) ∙ step_nothing ms ts h e
   step_taken ms ts (Ok (Some x)) rules h e k = let same : (front ++ filter (wants wanted) (x ∷ [])) ≡ rules = cc in ap (λ (xs : List RuleText). with_rules xs (sifted wanted (rules_in form (lines_of ts)))) (sym same) ∙ step_rule ms ts x h e
 
-pub taken_fails : (wanted : Option Kind) (front : List RuleText) (f : RuleFault) (r : Result (Option RuleText) RuleFault) → with_rule wanted front r ≡ Err f → r ≡ Err f
+pub taken_fails : (wanted : Wanted) (front : List RuleText) (f : RuleFault) (r : Result (Option RuleText) RuleFault) → with_rule wanted front r ≡ Err f → r ≡ Err f
 taken_fails wanted front f (Err g) h = let same : g ≡ f = cc in ap Err same
 taken_fails wanted front f (Ok None) h = absurd (cc)
 taken_fails wanted front f (Ok (Some x)) h = absurd (cc)

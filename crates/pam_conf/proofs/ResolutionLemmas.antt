@@ -1,15 +1,15 @@
-use Rattle.std.proofs.Common.{◌≡◌, ◌≤◌, ◌<◌, ◌+◌, ◌-◌, ℕ, suc, true, false, List, [], ◌∷◌, map, length, Option, Some, None, Result, Ok, Err, ap, subst, sym}
-use Rattle.std.proofs.Common.{refl, ◌∙◌, arith, append-nil, filter, eqb, codes, option_and_then, drop, get_or, add-one, ◌||◌}
+use Rattle.std.proofs.Common.{◌≡◌, ◌≤◌, ◌<◌, ◌+◌, ◌-◌, ℕ, suc, Bool, true, false, cond, List, [], ◌∷◌, map, length, Option, Some, None, Result, Ok, Err, ap, subst, sym}
+use Rattle.std.proofs.Common.{refl, ◌∙◌, arith, append-nil, Bor, IfSome, filter, eqb, codes, option_and_then, drop, get_or, add-one, ◌||◌}
 use Rattle.std.proofs.Math.Seq.{drop-cons}
 use Rattle.std.specs.Char.{to_ascii_lowercase}
 use Rattle.std.specs.List.{list_any}
 use Rattle.std.specs.Option.{option_map}
-use Rattle.std.proofs.lemmas.Bool.{false≢true}
+use Rattle.std.proofs.lemmas.Bool.{and_parts, false≢true}
 use Rattle.pam_conf.specs.Files.{Folder, position_of}
 use Rattle.pam_conf.specs.ItemsOf.{items_of}
-use Rattle.pam_conf.specs.Progress.{Passes, Refuses, in_file, of_kind}
+use Rattle.pam_conf.specs.Progress.{Passes, Refuses, IsRead, in_file, only}
 use Rattle.pam_conf.specs.Resolution.{StartText, stack_from, from_starts, unless_empty, carried, start_read, start_in, resolved}
-use Rattle.pam_conf.specs.StartOf.{start_text}
+use Rattle.pam_conf.specs.StartOf.{IsReadStart, start_text}
 use Rattle.pam_conf.specs.declared.resolution.Start.{Start}
 use Rattle.pam_conf.specs.declared.rule.Form.{Form}
 use Rattle.pam_conf.specs.declared.rule.Form.TheVariants.{Single}
@@ -24,7 +24,7 @@ use Rattle.pam_conf.specs.declared.rule.Rule.{Rule}
 use Rattle.pam_conf.specs.declared.stack.Item.{Item}
 use Rattle.pam_conf.specs.declared.stack.Item.TheVariants.{Module as ModuleItem, Sub as SubItem}
 use Rattle.pam_conf.specs.declared.trail.TheConstants.{MAX_OPEN_FILES}
-use Rattle.pam_conf.proofs.WalkLemmas.{unless-weaker, module_count-numbered, walk-file}
+use Rattle.pam_conf.proofs.WalkLemmas.{unless-weaker, module_count-numbered, read_walk-only, walk-file}
 use Rattle.pam_conf.proofs.DepthLemmas.{numbered-from, depth-numbered, depth-walk}
 
 module _ (folder : Folder) (kind : Kind) (start : StartText) where
@@ -136,29 +136,102 @@ faulty folder kind service other file e (Ok rules) h s = absurd (cc)
 faulty folder kind service None file e (Err fault) h s = s
 faulty folder kind service (Some other) file e (Err fault) h s = ap (unless_empty folder kind (Some other)) s
 
+-- the rules of pam.conf of two services: a fault of another rule is still one
+pub only-fault : (file : ℕ) (test : RuleText → Bool) (r : Result (List RuleText) RuleFault) (e : ConfError) → in_file file (only test r) ≡ Err e →
+    in_file file r ≡ Err e
+only-fault file test (Ok rules) e h = absurd (cc)
+only-fault file test (Err fault) e h = h
+
 -- a fault of any line of pam.conf is the result
 pub one-file_fault : (folder : Folder) (kind : Kind) (service : List ℕ) (other : Option StartText) (file : ℕ) (e : ConfError) →
-    position_of (codes "pam.conf") folder.entries ≡ Some file → UnlessMemory e e.kind (in_file file (rules_at folder file) ≡ Err e) →
+    position_of (codes "pam.conf") folder.entries ≡ Some file → (test : RuleText → Bool) →
+    UnlessMemory e e.kind (in_file file (only test (rules_at folder file)) ≡ Err e) →
     UnlessMemory e e.kind (from_starts folder kind (start_in Single folder service) other ≡ Err e)
-one-file_fault folder kind service other file e at = unless-weaker e e.kind (λ h.
+one-file_fault folder kind service other file e at test = unless-weaker e e.kind (λ g.
+    let h : in_file file (rules_at folder file) ≡ Err e = only-fault file test (rules_at folder file) e g in
     ap (λ (o : Option ℕ). from_starts folder kind (option_and_then (λ f. start_read f service (rules_at folder f)) o) other) at
     ∙ faulty folder kind service other file e (rules_at folder file) h (start-fault folder kind file (Some service) e h))
 
-pub read-rules : (folder : Folder) (file : ℕ) (r : Result (List RuleText) RuleFault) (rules : List RuleText) → in_file file r ≡ Ok rules → r ≡ Ok rules
-read-rules folder file (Ok all) rules h = let same : all ≡ rules = cc in ap Ok same
-read-rules folder file (Err fault) rules h = absurd (cc)
+-- whether a rule names a service, where only the rules of some services are left
+module _ (service : List ℕ) (test : RuleText → Bool) (all : (r : RuleText) → carries service r ≡ true → test r ≡ true) where
+  uncarried : (r : RuleText) → test r ≡ false → carries service r ≡ false
+  uncarried r e = elim (carries service r) as (λ (t : Bool). carries service r ≡ t → t ≡ false) [
+    | true ↦ λ c. absurd (false≢true (sym e ∙ all r c))
+    | false ↦ λ c. refl
+  ] refl
 
--- the rules of the kind are kept
-pub one-file_kept : (folder : Folder) (kind : Kind) (file : ℕ) (rules kept : List RuleText) → in_file file (rules_at folder file) ≡ Ok rules →
-    kept ≡ filter (is_of_kind kind) rules → of_kind kind (rules_at folder file) ≡ Ok kept
-one-file_kept folder kind file rules kept read same = ap (of_kind kind) (read-rules folder file (rules_at folder file) rules read) ∙ ap Ok (sym same)
+  any-only : (rules : List RuleText) → list_any (carries service) (filter test rules) ≡ list_any (carries service) rules
+  any-only [] = refl
+  any-only (r ∷ rules) = elim (test r) as (λ (t : Bool). test r ≡ t →
+      list_any (carries service) (cond t (r ∷ filter test rules) (filter test rules)) ≡ (carries service r || list_any (carries service) rules)) [
+        | true ↦ λ e. ap (λ b. carries service r || b) (any-only rules)
+        | false ↦ λ e. any-only rules ∙ ap (λ b. b || list_any (carries service) rules) (sym (uncarried r e))
+      ] refl
 
--- the start of a service's rules in pam.conf
-pub one-file_start : (folder : Folder) (service : List ℕ) (file : ℕ) (rules : List RuleText) → position_of (codes "pam.conf") folder.entries ≡ Some file →
-    in_file file (rules_at folder file) ≡ Ok rules → start_in Single folder service ≡ carried (list_any (carries service) rules) file service
-one-file_start folder service file rules at read =
-    ap (λ (o : Option ℕ). option_and_then (λ f. start_read f service (rules_at folder f)) o) at
-    ∙ ap (start_read file service) (read-rules folder file (rules_at folder file) rules read)
+  start-only : (file : ℕ) (r : Result (List RuleText) RuleFault) (rules : List RuleText) → in_file file (only test r) ≡ Ok rules →
+      start_read file service r ≡ carried (list_any (carries service) rules) file service
+  start-only file (Ok read) rules h =
+      let same : filter test read ≡ rules = cc in
+      ap (λ b. carried b file service) (sym (any-only read) ∙ ap (list_any (carries service)) same)
+  start-only file (Err fault) rules h = absurd (cc)
+
+  -- the start of a service's rules in pam.conf
+  pub one-file_start : (folder : Folder) (file : ℕ) (rules : List RuleText) → position_of (codes "pam.conf") folder.entries ≡ Some file →
+      in_file file (only test (rules_at folder file)) ≡ Ok rules → start_in Single folder service ≡ carried (list_any (carries service) rules) file service
+  one-file_start folder file rules at read =
+      ap (λ (o : Option ℕ). option_and_then (λ f. start_read f service (rules_at folder f)) o) at
+      ∙ start-only file (rules_at folder file) rules read
+
+  -- the rules that are left have the walk of the file
+  pub one-file_read : (folder : Folder) (kind : Kind) (file : ℕ) (rules : List Rule) →
+      in_file file (only test (rules_at folder file)) ≡ Ok (map rule_view rules) → IsRead folder kind (Some service) file (Some rules)
+  one-file_read folder kind file rules read d trail =
+      read_walk-only folder kind (Some service) test (λ r c. all r (and_parts (is_of_kind kind r) (carries service r) c).1) d trail file
+      (rules_at folder file) (map rule_view rules) read
+
+named-first : (own other : Bool) → own ≡ true → (own || other) ≡ true
+named-first own other h = rw h refl
+
+named-second : (own other : Bool) → other ≡ true → (own || other) ≡ true
+named-second true other h = refl
+named-second false other h = h
+
+-- the rules of pam.conf that name one of two services, as the code reads them
+module _ (folder : Folder) (file : ℕ) (own other : List ℕ) (rules slice : List Rule) (test : RuleText → Bool)
+    (names : (r : RuleText) → test r ≡ (carries own r || carries other r))
+    (read : in_file file (only test (rules_at folder file)) ≡ Ok (map rule_view rules)) (is : slice ≡ rules) where
+  in_own : (r : RuleText) → carries own r ≡ true → test r ≡ true
+  in_own r h = names r ∙ named-first (carries own r) (carries other r) h
+
+  in_other : (r : RuleText) → carries other r ≡ true → test r ≡ true
+  in_other r h = names r ∙ named-second (carries own r) (carries other r) h
+
+  slice_read : in_file file (only test (rules_at folder file)) ≡ Ok (map rule_view slice)
+  slice_read = read ∙ ap (λ (rs : List Rule). Ok (map rule_view rs)) (sym is)
+
+  pub own-read : (kind : Kind) → IsRead folder kind (Some own) file (Some slice)
+  own-read kind = one-file_read own test in_own folder kind file slice slice_read
+
+  pub other-read : (kind : Kind) → IsRead folder kind (Some other) file (Some slice)
+  other-read kind = one-file_read other test in_other folder kind file slice slice_read
+
+  module _ (at : position_of (codes "pam.conf") folder.entries ≡ Some file) where
+    pub own-start : carried (list_any (carries own) (map rule_view slice)) file own ≡ start_in Single folder own
+    own-start = sym (one-file_start own test in_own folder file (map rule_view slice) at slice_read)
+
+    pub other-start : carried (list_any (carries other) (map rule_view slice)) file other ≡ start_in Single folder other
+    other-start = sym (one-file_start other test in_other folder file (map rule_view slice) at slice_read)
+
+-- a start that holds rules that are read
+pub start-is_read : (folder : Folder) (kind : Kind) (file : ℕ) (o : Option Start) (r : Bor (List Rule)) (b : Bor (List ℕ)) →
+    IfSome o (λ s. (s.file ≡ file) × (s.read ≡ Some r) × (s.service ≡ Some b)) → IsRead folder kind (Some b.now) file (Some r.now) →
+    IfSome o (IsReadStart folder kind)
+start-is_read folder kind file None r b h read = tt
+start-is_read folder kind file (Some s) r b h read = rw (h.0, h.1, h.2) read
+
+pub same-starts : (folder : Folder) (kind : Kind) (own own' other other' : Option StartText) → own ≡ own' → other ≡ other' →
+    from_starts folder kind own other ≡ from_starts folder kind own' other'
+same-starts folder kind own own' other other' e f = rw (e, f) refl
 
 pub resolved-in : (folder : Folder) (kind : Kind) (form : Form) (service lowered : List ℕ) → folder.form ≡ form → lowered ≡ map to_ascii_lowercase service →
     from_starts folder kind (start_in form folder lowered) (start_in form folder (codes "other")) ≡ resolved folder service kind

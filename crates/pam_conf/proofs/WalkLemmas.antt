@@ -1,21 +1,22 @@
 use Rattle.std.proofs.Common.{◌≡◌, ◌<◌, ◌+◌, ◌-◌, ℕ, zero, suc, Bool, true, false, cond, eqb, List, [], ◌∷◌, ◌++◌, map, filter, length, drop, get_or, add-one}
 use Rattle.std.proofs.Common.{vec_len, Option, Some, None, Vec, Result, Ok, Err, IsOkAnd, ap, subst, sym, refl, ◌∙◌, arith, append_assoc, length-append}
 use Rattle.std.specs.Global.{Global}
+use Rattle.std.specs.Option.{option_map_or}
 use Rattle.std.specs.List.{list_any, position_or_len, AllZip}
 use Rattle.std.proofs.lemmas.List.Elements.{same_from_all_zip}
 use Rattle.std.specs.Str.{bytes_eq}
 use Rattle.std.proofs.Math.Dec.{ltb}
 use Rattle.std.proofs.Math.Seq.{drop-cons}
 use Rattle.std.proofs.lemmas.Option.{cond_some}
-use Rattle.std.proofs.lemmas.Bool.{ne_eqb, ltb-true}
+use Rattle.std.proofs.lemmas.Bool.{and_parts, false≢true, ne_eqb, ltb-true}
 use Rattle.pam_codes.specs.declared.action.Action.{Action}
 use Rattle.pam_conf.specs.Files.{Folder, position_of}
-use Rattle.pam_conf.specs.Progress.{Passes, Refuses, of_kind, in_file}
+use Rattle.pam_conf.specs.Progress.{Passes, Refuses, IsRead, of_kind, only, in_file}
 use Rattle.pam_conf.specs.Tells.{UnlessMemory}
 use Rattle.pam_conf.specs.Rule.{RuleText, rule_view, Module, Include, Sub}
 use Rattle.pam_conf.specs.Stack.{Items, End, ThenModule, ThenSub, ModuleText, joined, module_count}
 use Rattle.pam_conf.specs.Walk.{Walk, Event, Deeper, walk, deeper, refusal, numbered, nothing, ◌then◌, followed, fault_at, target_walk, include_walk, sub_walk}
-use Rattle.pam_conf.specs.Walk.{rules_walk, rule_walk, read_walk, file_walk, rules_at, counts, is_of_kind}
+use Rattle.pam_conf.specs.Walk.{rules_walk, rule_walk, read_walk, file_walk, rules_at, counts, carries, is_of_kind}
 use Rattle.pam_conf.specs.declared.conf_error.ConfError.{ConfError}
 use Rattle.pam_conf.specs.declared.error.FaultKind.{FaultKind}
 use Rattle.pam_conf.specs.declared.error.FaultKind.TheVariants.{Memory, Cycle, NoService, TooDeep, TooManyFollowed, TooManyModules}
@@ -179,27 +180,47 @@ module _ (folder : Folder) (kind : Kind) (service : Option (List ℕ)) where
   walk-file zero trail file = refl
   walk-file (suc room) trail file = refl
 
-  -- rules of other kinds do not change the walk
-  rules_walk-of_kind : (d : Deeper) (trail : List ℕ) (file : ℕ) (rules : List RuleText) →
-      rules_walk folder kind service d trail file (filter (is_of_kind kind) rules) ≡ rules_walk folder kind service d trail file rules
-  rules_walk-of_kind d trail file [] = refl
-  rules_walk-of_kind d trail file (r ∷ rules) =
-      elim (is_of_kind kind r) as (λ (t : Bool). is_of_kind kind r ≡ t →
-      rules_walk folder kind service d trail file (cond t (r ∷ filter (is_of_kind kind) rules) (filter (is_of_kind kind) rules))
-      ≡ rule_walk folder kind service d trail file r then rules_walk folder kind service d trail file rules) [
-        | true ↦ λ e. ap (λ w. rule_walk folder kind service d trail file r then w) (rules_walk-of_kind d trail file rules)
-        | false ↦ λ e. rules_walk-of_kind d trail file rules ∙ sym (rw e refl)
-      ] refl
+  -- rules that do not count do not change the walk
+  module _ (test : RuleText → Bool) (all : (r : RuleText) → counts kind service r ≡ true → test r ≡ true) where
+    uncounted : (r : RuleText) → test r ≡ false → counts kind service r ≡ false
+    uncounted r e = elim (counts kind service r) as (λ (t : Bool). counts kind service r ≡ t → t ≡ false) [
+      | true ↦ λ c. absurd (false≢true (sym e ∙ all r c))
+      | false ↦ λ c. refl
+    ] refl
+
+    rules_walk-only : (d : Deeper) (trail : List ℕ) (file : ℕ) (rules : List RuleText) →
+        rules_walk folder kind service d trail file (filter test rules) ≡ rules_walk folder kind service d trail file rules
+    rules_walk-only d trail file [] = refl
+    rules_walk-only d trail file (r ∷ rules) =
+        elim (test r) as (λ (t : Bool). test r ≡ t →
+        rules_walk folder kind service d trail file (cond t (r ∷ filter test rules) (filter test rules))
+        ≡ rule_walk folder kind service d trail file r then rules_walk folder kind service d trail file rules) [
+          | true ↦ λ e. ap (λ w. rule_walk folder kind service d trail file r then w) (rules_walk-only d trail file rules)
+          | false ↦ λ e. rules_walk-only d trail file rules ∙ sym (rw (uncounted r e) refl)
+        ] refl
+
+    pub read_walk-only : (d : Deeper) (trail : List ℕ) (file : ℕ) (r : Result (List RuleText) RuleFault) (rules : List RuleText) →
+        in_file file (only test r) ≡ Ok rules → read_walk folder kind service d trail file r ≡ rules_walk folder kind service d trail file rules
+    read_walk-only d trail file (Ok all) rules e = sym (rules_walk-only d trail file all) ∙ ap (rules_walk folder kind service d trail file) (cc)
+    read_walk-only d trail file (Err fault) rules e = absurd (cc)
 
   read_walk-kept : (d : Deeper) (trail : List ℕ) (file : ℕ) (r : Result (List RuleText) RuleFault) (rules : List RuleText) →
       in_file file (of_kind kind r) ≡ Ok rules → read_walk folder kind service d trail file r ≡ rules_walk folder kind service d trail file rules
-  read_walk-kept d trail file (Ok all) rules e = sym (rules_walk-of_kind d trail file all) ∙ ap (rules_walk folder kind service d trail file) (cc)
-  read_walk-kept d trail file (Err fault) rules e = absurd (cc)
+  read_walk-kept d trail file r rules e =
+      read_walk-only (is_of_kind kind) (λ x c. (and_parts (is_of_kind kind x) (option_map_or (λ name. carries name x) service true) c).0) d trail file r rules e
 
   -- an open file is walked by the rules of the kind
   pub walk-kept : (room : ℕ) (trail : List ℕ) (file : ℕ) (rules : List RuleText) → in_file file (of_kind kind (rules_at folder file)) ≡ Ok rules →
       walk folder kind service room trail file ≡ rules_walk folder kind service (deeper folder kind service room) trail file rules
   walk-kept room trail file rules e = walk-file room trail file ∙ read_walk-kept (deeper folder kind service room) trail file (rules_at folder file) rules e
+
+  -- a file is walked by rules that were read before, if they have its walk
+  pub walk-read : (trail : List ℕ) (file : ℕ) (rules : List Rule) → IsRead folder kind service file (Some rules) →
+      walk folder kind service (MAX_OPEN_FILES - length trail) trail file
+      ≡ rules_walk folder kind service (deeper folder kind service (MAX_OPEN_FILES - length trail)) trail file (map rule_view rules)
+  walk-read trail file rules h =
+      let room = MAX_OPEN_FILES - length trail in
+      walk-file room trail file ∙ h (deeper folder kind service room) trail
 
   -- rules, as the code stores them
   pub file-walked : (m f m' f' : ℕ) (i i' : Items) (trail : List ℕ) (file : ℕ) (rules slice : List Rule) →

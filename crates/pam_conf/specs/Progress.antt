@@ -1,11 +1,11 @@
 -- For proofs alone: the progress of a walk, by its effect on any continuation: pam.conf(5), on include and substack.
-use Rattle.std.specs.Prelude.{◌≡◌, ℕ, ◌+◌, List, ◌++◌, length, map, filter, slice_index_or, Option, Some, None, Result, Ok, Err, Vec}
+use Rattle.std.specs.Prelude.{◌≡◌, ℕ, Bool, ◌+◌, List, ◌++◌, length, map, filter, slice_index_or, Option, Some, None, Result, Ok, Err, Vec}
 use Rattle.std.specs.Global.{Global}
 use Rattle.pam_conf.specs.Files.{Folder}
 use Rattle.pam_conf.specs.Rule.{RuleText, rule_view}
 use Rattle.pam_conf.specs.Tells.{UnlessMemory}
 use Rattle.pam_conf.specs.Stack.{Items, joined, module_count}
-use Rattle.pam_conf.specs.Walk.{Walk, Event, refusal, numbered, is_of_kind, rules_at, fault_at}
+use Rattle.pam_conf.specs.Walk.{Walk, Event, Deeper, refusal, numbered, is_of_kind, read_walk, rules_at, rules_walk, fault_at}
 use Rattle.pam_conf.specs.declared.conf_error.ConfError.{ConfError}
 use Rattle.pam_conf.specs.declared.error.RuleFault.{RuleFault}
 use Rattle.pam_conf.specs.declared.rule.Kind.{Kind}
@@ -21,10 +21,14 @@ pub record Passes (modules follows : ℕ) (items : Items) (w : Walk) (new_module
 abbrev pub Refuses : ℕ → ℕ → Walk → ConfError → Type 0
 Refuses modules follows w error = UnlessMemory error error.kind ((rest : List Event) → refusal modules follows (w.events ++ rest) ≡ Some error)
 
+-- the rules that pass a test
+abbrev pub only : (RuleText → Bool) → Result (List RuleText) RuleFault → Result (List RuleText) RuleFault
+only test (Ok rules) = Ok (filter test rules)
+only test (Err fault) = Err fault
+
 -- the rules of one kind
 abbrev pub of_kind : Kind → Result (List RuleText) RuleFault → Result (List RuleText) RuleFault
-of_kind kind (Ok rules) = Ok (filter (is_of_kind kind) rules)
-of_kind kind (Err fault) = Err fault
+of_kind kind rules = only (is_of_kind kind) rules
 
 -- the result of reading the file at a position
 abbrev pub in_file : {X : Type 0} → ℕ → Result X RuleFault → Result X ConfError
@@ -35,6 +39,12 @@ in_file file (Err fault) = Err (fault_at file fault.line fault.kind)
 abbrev pub IsKept : Folder → Kind → ℕ → Option (Vec Rule Global) → Type 0
 IsKept folder kind file None = Unit {0}
 IsKept folder kind file (Some rules) = of_kind kind (rules_at folder file) ≡ Ok (map rule_view rules.items)
+
+-- the walk of these rules, if any, is that of the whole file
+abbrev pub IsRead : Folder → Kind → Option (List ℕ) → ℕ → Option (List Rule) → Type 0
+IsRead folder kind service file None = Unit {0}
+IsRead folder kind service file (Some rules) = (deeper : Deeper) (trail : List ℕ) →
+    read_walk folder kind service deeper trail file (rules_at folder file) ≡ rules_walk folder kind service deeper trail file (map rule_view rules)
 
 -- a table with the rules stored for each file
 pub record IsTable (folder : Folder) (kind : Kind) (table : List (Option (Vec Rule Global))) : Type 0 where

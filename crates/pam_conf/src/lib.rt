@@ -12,6 +12,7 @@ mod rule;
 mod stack;
 mod trail;
 mod walk;
+mod wanted;
 mod words;
 
 pub use conf_error::ConfError;

@@ -1,6 +1,5 @@
 //! The rules of the lines of a file: pam.conf(5).
-ghost use Rattle.std.specs.Prelude.{◌≡◌, ◌∷◌, ◌++◌, [], filter, map};
-ghost use Rattle.std.specs.Prelude.{OnOk, IsTrue, ℕ, List, Ok};
+ghost use Rattle.std.specs.Prelude.{◌≡◌, ◌∷◌, ◌++◌, [], OnOk, filter, map};
 ghost use Rattle.std.specs.List.{list_all};
 ghost use Rattle.std.specs.Option.{option_map};
 ghost use Rattle.pam_codes.specs.Tokens.{is_blank};
@@ -9,11 +8,12 @@ ghost use Rattle.pam_text.specs.Gives.{Gives};
 ghost use Rattle.pam_conf.specs.Tells.{FaultTells, KindTells};
 ghost use Rattle.pam_conf.specs.Lines.{at_line, fault_of_source, line_rule_of, rules_in, rules_of};
 ghost use Rattle.pam_conf.specs.Lines.{fault_at as fault_at_line};
-ghost use Rattle.pam_conf.specs.Rule.{RuleText, rule_view};
+ghost use Rattle.pam_conf.specs.Rule.{rule_view};
 ghost use Rattle.pam_conf.specs.Wanted.{with_rule, only_wanted, wants};
 
 use crate::error::{FaultKind, RuleFault};
-use crate::rule::{Form, Kind, Rule, is_unwanted_module, is_wanted, line_rule};
+use crate::rule::{Form, Rule, line_rule};
+use crate::wanted::{Wanted, is_unwanted, is_wanted};
 use crate::words::Words;
 use pam_codes::is_blank_byte;
 use pam_text::{Line, Source, SourceFault, Text};
@@ -24,7 +24,7 @@ use std::alloc::{AllocFailed, Global};
 pub fn rules(alloc: Global, bytes: &[u8], form: Form) -> Result<Vec<Rule>, RuleFault>
     ensures { Gives FaultTells (λ rules. map rule_view rules.items) result (rules_of form bytes.now) }
 {
-    wanted_rules(alloc, bytes, form, None)
+    wanted_rules(alloc, bytes, form, Wanted::All)
 }
 
 /// Like `rules`, but returns only the wanted ones. A fault in another rule is still an error.
@@ -33,9 +33,9 @@ pub(crate) fn wanted_rules(
     alloc: Global,
     bytes: &[u8],
     form: Form,
-    wanted: Option<Kind>,
+    wanted: Wanted<'_>,
 ) -> Result<Vec<Rule>, RuleFault>
-    ensures { Gives FaultTells (λ rules. map rule_view rules.items) result (only_wanted wanted (rules_of form bytes.now)) }
+    ensures { Gives FaultTells (λ rules. map rule_view rules.items) result (only_wanted wanted.entry (rules_of form bytes.now)) }
 {
     match Source::of(bytes) {
         Ok(source) => text_rules(alloc, form, source, wanted),
@@ -64,10 +64,10 @@ fn text_rules(
     alloc: Global,
     form: Form,
     source: Source<'_>,
-    wanted: Option<Kind>,
+    wanted: Wanted<'_>,
 ) -> Result<Vec<Rule>, RuleFault>
     ensures { Gives FaultTells (λ rules. map rule_view rules.items) result
-        (only_wanted wanted (rules_in form (lines_of (text_of 1 source.entry.bytes.now)))) }
+        (only_wanted wanted.entry (rules_in form (lines_of (text_of 1 source.entry.bytes.now)))) }
 {
     let mut text = Text::of(source);
     let mut joined = Vec::new(alloc);
@@ -81,9 +81,9 @@ fn text_rules(
 }
 
 /// Appends `rule` if it is wanted.
-fn keep(rules: &mut Vec<Rule>, rule: Rule, wanted: Option<Kind>) -> Result<(), AllocFailed<Rule>>
+fn keep(rules: &mut Vec<Rule>, rule: Rule, wanted: Wanted<'_>) -> Result<(), AllocFailed<Rule>>
     ensures { OnOk result (map rule_view rules.new.items
-        ≡ map rule_view rules.old.items ++ filter (wants wanted) (rule_view rule ∷ [])) }
+        ≡ map rule_view rules.old.items ++ filter (wants wanted.entry) (rule_view rule ∷ [])) }
 {
     if !is_wanted(&rule, wanted) {
         return Ok(());
@@ -97,20 +97,6 @@ fn is_blank_line(bytes: &[u8]) -> bool
     bytes.iter().all(|byte| is_blank_byte(*byte))
 }
 
-/// Whether a line certainly has no fault, and a rule that calls a module and is not wanted. Does not allocate.
-fn is_unwanted(form: Form, line: &[u8], wanted: Option<Kind>) -> bool
-    ensures { IsTrue result → (number : ℕ) (rules : List RuleText) →
-        with_rule wanted rules (at_line number (line_rule_of form number line.now)) ≡ Ok rules }
-{
-    match form {
-        Form::Single => false,
-        Form::Dir => match Words::of(line) {
-            Ok(words) => is_unwanted_module(form, words, wanted),
-            Err(_) => false,
-        },
-    }
-}
-
 /// Appends the rule of a line, if it has one and it is wanted.
 // A function of its own, so that the place for a rule, which is large, is not prepared for each blank line.
 #[inline(never)]
@@ -118,11 +104,11 @@ fn take_rule(
     alloc: Global,
     form: Form,
     line: Line<'_>,
-    wanted: Option<Kind>,
+    wanted: Wanted<'_>,
     rules: &mut Vec<Rule>,
 ) -> Result<(), RuleFault>
     ensures { let meant = at_line line.entry.number (line_rule_of form line.entry.number line.entry.bytes.now) in
-        Gives FaultTells (λ _. map rule_view rules.new.items) result (with_rule wanted (map rule_view rules.old.items) meant) }
+        Gives FaultTells (λ _. map rule_view rules.new.items) result (with_rule wanted.entry (map rule_view rules.old.items) meant) }
 {
     if is_unwanted(form, line.bytes, wanted) {
         return Ok(());

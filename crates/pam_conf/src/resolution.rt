@@ -1,5 +1,5 @@
 //! Resolves the stack of a service: pam.conf(5).
-ghost use Rattle.std.specs.Prelude.{◌≡◌, ◌<◌, IfOk, IfSome, OnOk, codes, length, map};
+ghost use Rattle.std.specs.Prelude.{◌≡◌, ◌<◌, IfOk, IfSome, None, OnOk, Some, codes, length, map};
 ghost use Rattle.std.specs.Char.{to_ascii_lowercase};
 ghost use Rattle.std.specs.List.{list_any};
 ghost use Rattle.std.specs.Option.{option_map};
@@ -8,17 +8,18 @@ ghost use Rattle.pam_conf.specs.Resolution.{carried, from_starts, resolved, stac
 ghost use Rattle.pam_conf.specs.Rule.{rule_view};
 ghost use Rattle.pam_conf.specs.Tells.{ErrorTells};
 ghost use Rattle.pam_text.specs.Gives.{Gives};
-ghost use Rattle.pam_conf.specs.StartOf.{start_text};
+ghost use Rattle.pam_conf.specs.StartOf.{IsReadStart, start_text};
 ghost use Rattle.pam_conf.specs.Walk.{carries};
 ghost use Rattle.pam_conf.specs.declared.rule.Form.TheVariants.{Dir, Single};
 
 use crate::conf_error::ConfError;
 use crate::error::FaultKind;
 use crate::files::Files;
-use crate::rule::{Form, Kind, Rule, lower};
+use crate::rule::{Form, Kind, Rule, has_service, lower};
 use crate::stack::Stack;
 use crate::trail::Trail;
-use crate::walk::{Progress, Walker, file_rules, has_service, kept};
+use crate::walk::{Progress, Walker, file_rules};
+use crate::wanted::Wanted;
 use std::alloc::{AllocError, Global};
 
 /// The name of the file of `Form::Single`.
@@ -32,6 +33,8 @@ const OTHER: &[u8] = b"other";
 struct Start<'a> {
     file: usize,
     service: Option<&'a [u8]>,
+    /// The rules of pam.conf that have been read, those of the service among them.
+    read: Option<&'a [Rule]>,
 }
 
 /// The error if neither the service nor `other` has rules.
@@ -58,23 +61,27 @@ fn lower_case(alloc: Global, text: &[u8]) -> Result<Vec<u8>, AllocError>
 fn folder_start(files: &Files, service: &[u8]) -> Option<Start<'static>>
     ensures start { option_map start_text result ≡ start_in Dir files.now service.now }
     ensures within { IfSome result (λ s. s.file < length files.now.entries) }
+    ensures read { IfSome result (λ s. s.read ≡ None) }
 {
     let file = files.find(service)?;
     Some(Start {
         file,
         service: None,
+        read: None,
     })
 }
 
 /// The start of `service` in pam.conf, if a rule names it.
-fn carried_start<'a>(rules: &[Rule], file: usize, service: &'a [u8]) -> Option<Start<'a>>
-    ensures { option_map start_text result ≡ carried (list_any (carries service.now) (map rule_view rules.now)) file service.now }
+fn carried_start<'a>(rules: &'a [Rule], file: usize, service: &'a [u8]) -> Option<Start<'a>>
+    ensures start { option_map start_text result ≡ carried (list_any (carries service.now) (map rule_view rules.now)) file service.now }
+    ensures read { IfSome result (λ s. (s.file ≡ file) × (s.read ≡ Some rules.entry) × (s.service ≡ Some service.entry)) }
 {
     for rule in rules {
         if has_service(rule, service) {
             return Some(Start {
                 file,
                 service: Some(service),
+                read: Some(rules),
             });
         }
     }
@@ -91,6 +98,7 @@ fn stack_at(
 ) -> Result<Stack, ConfError>
     requires table { IsTable files.now kind progress.old.table.items }
     requires within { start.file < length files.now.entries }
+    requires read { IsReadStart files.now kind start }
     ensures table { OnOk result (IsTable files.now kind progress.new.table.items) }
     ensures stack { Gives ErrorTells (λ s. s) result (stack_from files.now kind (start_text start.entry)) }
 {
@@ -104,7 +112,7 @@ fn stack_at(
     };
     let mut items = Vec::new(alloc);
     let trail = Trail::of(start.file);
-    walker.walk_file(progress, &trail, start.file, &mut items)?;
+    walker.walk_start(progress, &trail, start.file, start.read, &mut items)?;
     Ok(Stack::of(items, progress.modules))
 }
 
@@ -120,6 +128,8 @@ fn stack_of_starts(
     requires table { IsTable files.now kind progress.old.table.items }
     requires own { IfSome own (λ s. s.file < length files.now.entries) }
     requires other { IfSome other (λ s. s.file < length files.now.entries) }
+    requires own_read { IfSome own (IsReadStart files.now kind) }
+    requires other_read { IfSome other (IsReadStart files.now kind) }
     ensures { Gives ErrorTells (λ s. s) result (from_starts files.now kind (option_map start_text own.entry) (option_map start_text other.entry)) }
 {
     let Some(own) = own else {
@@ -165,11 +175,10 @@ fn one_file_stack(
     let Some(file) = files.find(ONE_FILE) else {
         return Err(no_service());
     };
-    let rules = file_rules(alloc, files, file, None)?;
+    let rules = file_rules(alloc, files, file, Wanted::OfServices(service, OTHER))?;
     let own = carried_start(rules.as_slice(), file, service);
     let other = carried_start(rules.as_slice(), file, OTHER);
     let mut progress = Progress::new(alloc, files, kind)?;
-    progress.table[file] = Some(kept(rules, kind));
     stack_of_starts(alloc, files, kind, &mut progress, own, other)
 }
 

@@ -1,17 +1,15 @@
 //! The rule of a line: pam.conf(5), "service type control module-path module-arguments".
-ghost use Rattle.std.specs.Prelude.{◌≡◌, IfOk, IsOk, IsTrue, List, Ok, Some, map, ℕ};
+ghost use Rattle.std.specs.Prelude.{◌≡◌, IfOk, map};
 ghost use Rattle.std.specs.Char.{to_ascii_lowercase};
 ghost use Rattle.std.specs.Option.{option_map};
 ghost use Rattle.pam_text.specs.Gives.{Gives};
 ghost use Rattle.pam_conf.specs.Tells.{KindTells};
-ghost use Rattle.pam_conf.specs.Lines.{at_line};
-ghost use Rattle.pam_conf.specs.Rule.{RuleText, body_view, rule_view, kind_named, kind_or_fault_of, dashed_kind_of};
+ghost use Rattle.pam_conf.specs.Rule.{body_view, rule_view, kind_named, kind_or_fault_of, dashed_kind_of};
 ghost use Rattle.pam_conf.specs.Rule.{file_name_of, without_folder_of, target_of};
 ghost use Rattle.pam_conf.specs.Rule.{module_of, control_body_of, body_of};
 ghost use Rattle.pam_conf.specs.Rule.{kind_rule_of, include_rule_of, plain_rule_of, first_rule_of, rule_of};
 ghost use Rattle.pam_conf.specs.Spot.{still_to_come};
-ghost use Rattle.pam_conf.specs.Walk.{is_of_kind, same_kind};
-ghost use Rattle.pam_conf.specs.Wanted.{with_rule, wants};
+ghost use Rattle.pam_conf.specs.Walk.{carries, is_of_kind, same_kind};
 
 use crate::error::FaultKind;
 use crate::words::{Words, word_text};
@@ -81,7 +79,7 @@ impl Kind {
     }
 }
 
-fn is_same(kind: Kind, other: Kind) -> bool
+pub(crate) fn is_same(kind: Kind, other: Kind) -> bool
     ensures { result ≡ same_kind kind other }
 {
     kind == other
@@ -97,13 +95,13 @@ pub(crate) fn is_of(rule: &Rule, kind: Kind) -> bool
     }
 }
 
-/// Whether `rule` applies to the wanted kind; always true without one.
-pub(crate) fn is_wanted(rule: &Rule, wanted: Option<Kind>) -> bool
-    ensures { result ≡ wants wanted (rule_view rule.now) }
+/// Whether `rule` is one of pam.conf that names `service`.
+pub(crate) fn has_service(rule: &Rule, service: &[u8]) -> bool
+    ensures { result ≡ carries service.now (rule_view rule.now) }
 {
-    match wanted {
-        Some(kind) => is_of(rule, kind),
-        None => true,
+    match &rule.service {
+        Some(own) => service == own.as_slice(),
+        None => false,
     }
 }
 
@@ -119,7 +117,7 @@ fn kind_or_fault(dashed: bool, name: &[u8]) -> Result<(bool, Kind), FaultKind>
 
 /// Whether `text` has the prefix `-`, and the kind after it.
 #[tactic(auto, unfolding(crate::specs::Rule::dashed_kind_of))]
-fn dashed_kind(text: &[u8]) -> Result<(bool, Kind), FaultKind>
+pub(crate) fn dashed_kind(text: &[u8]) -> Result<(bool, Kind), FaultKind>
     ensures { result ≡ dashed_kind_of text.now }
 {
     let Some((first, name)) = text.split_first() else {
@@ -319,57 +317,4 @@ pub(crate) fn line_rule(
     let first = word_text(alloc, first)?;
     let rule = first_rule(alloc, form, line, first, words)?;
     Ok(Some(rule))
-}
-
-/// Whether the words certainly make a rule that calls a module, has no fault and is not wanted. Does not allocate.
-pub(crate) fn is_unwanted_module(form: Form, words: Words<'_>, wanted: Option<Kind>) -> bool
-    ensures { IsTrue result → (number : ℕ) (rules : List RuleText) →
-        with_rule wanted rules (at_line number (rule_of form number (still_to_come words.entry))) ≡ Ok rules }
-{
-    match form {
-        Form::Single => false,
-        Form::Dir => match wanted {
-            None => false,
-            Some(wanted) => is_module_of_other_kind(wanted, words),
-        },
-    }
-}
-
-/// Like `is_unwanted_module`, in a folder.
-fn is_module_of_other_kind(wanted: Kind, words: Words<'_>) -> bool
-    ensures { IsTrue result → (number : ℕ) (rules : List RuleText) →
-        with_rule (Some wanted) rules (at_line number (rule_of Form.Dir number (still_to_come words.entry))) ≡ Ok rules }
-{
-    let Some((first, words)) = words.split_first() else {
-        return false;
-    };
-    if first.is_empty() || first[0] == b'[' {
-        return false;
-    }
-    if is_name(b"@include", first) {
-        return false;
-    }
-    match dashed_kind(first) {
-        Err(_) => false,
-        Ok((_, kind)) => !is_same(wanted, kind) && calls_module(words),
-    }
-}
-
-/// Whether the words, from a control on, call a module without a fault.
-fn calls_module(words: Words<'_>) -> bool
-    ensures { IsTrue result → IsOk (body_of Form.Dir (still_to_come words.entry)) }
-{
-    let Some((control, words)) = words.split_first() else {
-        return false;
-    };
-    if is_name(b"include", control) || is_name(b"substack", control) {
-        return false;
-    }
-    match Control::read(control) {
-        Err(_) => false,
-        Ok(_) => match words.split_first() {
-            Some(_) => true,
-            None => false,
-        },
-    }
 }

@@ -1,13 +1,13 @@
 //! The walk over a service's file and the files that its rules include.
-ghost use Rattle.std.specs.Prelude.{◌≡◌, ◌<◌, ◌≤◌, ◌+◌, ◌-◌, IsOkAnd, MatchResult, IfOk, OnOk, filter, length, map};
+ghost use Rattle.std.specs.Prelude.{◌≡◌, ◌<◌, ◌≤◌, ◌+◌, ◌-◌, IsOkAnd, MatchResult, IfOk, OnOk, length, map};
 ghost use Rattle.std.specs.Option.{option_map};
 ghost use Rattle.pam_conf.specs.Files.{position_of};
 ghost use Rattle.pam_conf.specs.ItemsOf.{items_of, module_text};
-ghost use Rattle.pam_conf.specs.Progress.{IsTable, Passes, Refuses, in_file, of_kind};
+ghost use Rattle.pam_conf.specs.Progress.{IsRead, IsTable, Passes, Refuses, in_file, of_kind};
 ghost use Rattle.pam_conf.specs.Rule.{rule_view};
 ghost use Rattle.pam_conf.specs.Tells.{ErrorTells, UnlessMemory};
 ghost use Rattle.pam_text.specs.Gives.{Gives};
-ghost use Rattle.pam_conf.specs.Walk.{carries, counts, deeper, fault_at, followed, include_walk, is_of_kind, rule_walk, rules_at, rules_walk, target_walk, walk};
+ghost use Rattle.pam_conf.specs.Walk.{counts, deeper, fault_at, followed, include_walk, rule_walk, rules_at, rules_walk, target_walk, walk};
 ghost use Rattle.pam_conf.specs.Wanted.{only_wanted};
 ghost use Rattle.pam_conf.specs.declared.stack.TheConstants.{MAX_MODULES};
 ghost use Rattle.pam_conf.specs.declared.trail.TheConstants.{MAX_OPEN_FILES};
@@ -17,9 +17,10 @@ use crate::conf_error::ConfError;
 use crate::error::{FaultKind, RuleFault};
 use crate::files::Files;
 use crate::lines::wanted_rules;
-use crate::rule::{Body, Kind, Rule, is_of};
+use crate::rule::{Body, Kind, Rule, has_service, is_of};
 use crate::stack::{Item, MAX_MODULES, Module, Sub};
 use crate::trail::Trail;
+use crate::wanted::Wanted;
 use pam_codes::Control;
 use std::alloc::{AllocError, Global};
 
@@ -85,31 +86,13 @@ pub(crate) fn file_rules(
     alloc: Global,
     files: &Files,
     file: usize,
-    wanted: Option<Kind>,
+    wanted: Wanted<'_>,
 ) -> Result<Vec<Rule>, ConfError>
     requires { file < length files.now.entries }
-    ensures { Gives ErrorTells (λ rules. map rule_view rules.items) result (in_file file (only_wanted wanted (rules_at files.now file))) }
+    ensures { Gives ErrorTells (λ rules. map rule_view rules.items) result (in_file file (only_wanted wanted.entry (rules_at files.now file))) }
 {
     let bytes = files.bytes(file).unwrap_or(b"");
     wanted_rules(alloc, bytes, files.form(), wanted).map_err(|found| fault_in(file, found))
-}
-
-/// Whether a rule of pam.conf names `service`.
-pub(crate) fn has_service(rule: &Rule, service: &[u8]) -> bool
-    ensures { result ≡ carries service.now (rule_view rule.now) }
-{
-    match &rule.service {
-        Some(own) => service == own.as_slice(),
-        None => false,
-    }
-}
-
-/// The rules that apply to `kind`.
-pub(crate) fn kept(mut rules: Vec<Rule>, kind: Kind) -> Vec<Rule>
-    ensures { map rule_view result.items ≡ filter (is_of_kind kind) (map rule_view rules.items) }
-{
-    rules.retain(|rule| is_of(rule, kind));
-    rules
 }
 
 /// The module that a rule calls.
@@ -179,12 +162,12 @@ impl Walker<'_> {
         if let Some(rules) = taken {
             return Ok(rules);
         }
-        file_rules(self.alloc, self.files, file, Some(self.kind))
+        file_rules(self.alloc, self.files, file, Wanted::OfKind(self.kind))
     }
 
     /// Walks `file`, the last of `trail`, and appends its items to `items`.
     #[cycle(walk)]
-    pub(crate) fn walk_file(
+    fn walk_file(
         &self,
         progress: &mut Progress,
         trail: &Trail,
@@ -203,6 +186,30 @@ impl Walker<'_> {
         self.walk_rules(progress, trail, file, rules.as_slice(), items)?;
         progress.table[file] = Some(rules);
         Ok(())
+    }
+
+    /// Walks `file`, the last of `trail`, by these rules if they have been read before.
+    pub(crate) fn walk_start(
+        &self,
+        progress: &mut Progress,
+        trail: &Trail,
+        file: usize,
+        read: Option<&[Rule]>,
+        items: &mut Vec<Item>,
+    ) -> Result<(), ConfError>
+        requires table { IsTable self.now.files.now self.now.kind progress.old.table.items }
+        requires within { file < length self.now.files.now.entries }
+        requires read { IsRead self.now.files.now self.now.kind (option_map (λ s. s.now) self.now.service) file (option_map (λ r. r.now) read) }
+        ensures table { OnOk result (IsTable self.now.files.now self.now.kind progress.new.table.items) }
+        ensures walked { let w = walk self.now.files.now self.now.kind (option_map (λ s. s.now) self.now.service) (MAX_OPEN_FILES - length trail.now) trail.now file in
+            MatchResult result
+            (λ _. Passes progress.old.modules progress.old.follows (items_of items.old.items) w progress.new.modules progress.new.follows (items_of items.new.items))
+            (λ e. Refuses progress.old.modules progress.old.follows w e) }
+    {
+        match read {
+            None => self.walk_file(progress, trail, file, items),
+            Some(rules) => self.walk_rules(progress, trail, file, rules, items),
+        }
     }
 
     /// Walks rules of `file`.
