@@ -6,6 +6,7 @@ pub mod Digits
 pub mod GroupSteps
 pub mod LineSteps
 pub mod ListSteps
+pub mod MarkSteps
 pub mod NamedSteps
 pub mod OptionSteps
 pub mod PieceSteps

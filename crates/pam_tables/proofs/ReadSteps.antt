@@ -1,9 +1,9 @@
 -- Numbered lines, read one after another.
-use Rattle.std.proofs.Common.{◌≡◌, ◌∙◌, ◌++◌, ℕ, List, [], ◌∷◌, append_assoc, append-nil, Option, Some, None, Result, Ok, Err, refl, sym, ap}
+use Rattle.std.proofs.Common.{◌≡◌, ◌∙◌, ◌++◌, ℕ, List, [], ◌∷◌, Option, Some, None, Result, Ok, Err, refl, sym, ap}
 use Rattle.std.specs.Option.{option_map_or}
 use Rattle.pam_tables.specs.declared.error.TableFault.{TableFault}
 use Rattle.pam_tables.specs.declared.error.TableFault.TheVariants.{Memory}
-use Rattle.pam_tables.specs.Error.{FailsIn, FailsAt, line_of_fault, read_lines, onto_lines}
+use Rattle.pam_tables.specs.Error.{FailsIn, FailsAt, line_of_fault, read_lines, onto_lines, verdict}
 use Rattle.pam_tables.specs.Lines.{checked, sound, fault_of_bytes}
 
 -- a fault of one reading is that of another
@@ -56,29 +56,33 @@ pub nothing_in_front : {A E : Type 0} (r : Result (List A) E) → in_front [] r 
 nothing_in_front (Ok xs) = refl
 nothing_in_front (Err e) = refl
 
-module _ {A : Type 0} (read : ℕ → List ℕ → Result (Option A) TableFault) (front : List A) (n : ℕ) (line : List ℕ) (all lines : List (ℕ × List ℕ))
+-- ---- lines that are checked alone
+
+-- a line without a fault changes nothing for the others
+passes : {A : Type 0} (n : ℕ) (r : Result (Option A) TableFault) (others : Result (List A) (TableFault × ℕ)) → Ok tt ≡ verdict r →
+    verdict others ≡ verdict (onto_lines n r others)
+passes n (Ok None) others h = refl
+passes n (Ok (Some x)) (Ok xs) h = refl
+passes n (Ok (Some x)) (Err e) h = refl
+passes n (Err fault) others h = absurd (cc)
+
+module _ {A : Type 0} (read : ℕ → List ℕ → Result (Option A) TableFault) (n : ℕ) (line : List ℕ) (all lines : List (ℕ × List ℕ))
     (first : all ≡ (n, line) ∷ lines) where
-  pub line_skipped : read n line ≡ Ok None → in_front front (read_lines read lines) ≡ in_front front (read_lines read all)
+  pub line_passes : Ok tt ≡ verdict (read n line) → verdict (read_lines read lines) ≡ verdict (read_lines read all)
   unfolding read_lines
-  line_skipped h =
-      sym (ap (λ (ls : List (ℕ × List ℕ)). in_front front (read_lines read ls)) first ∙ ap (λ r. in_front front (onto_lines n r (read_lines read lines))) h)
+  line_passes h = passes n (read n line) (read_lines read lines) h ∙ sym (ap (λ (ls : List (ℕ × List ℕ)). verdict (read_lines read ls)) first)
 
-  one_more : (x : A) (r : Result (List A) (TableFault × ℕ)) → in_front (front ++ x ∷ []) r ≡ in_front front (onto_lines n (Ok (Some x)) r)
-  one_more x (Ok xs) = ap Ok (append_assoc front (x ∷ []) xs)
-  one_more x (Err e) = refl
+  fails : (fault : TableFault) (r : Result (Option A) TableFault) (others : Result (List A) (TableFault × ℕ)) → Err fault ≡ verdict r →
+      verdict (onto_lines n r others) ≡ Err (fault, n)
+  fails fault (Ok x) others h = absurd (cc)
+  fails fault (Err f) others h = let same : fault ≡ f = cc in ap (λ (x : TableFault). Err (x, n)) (sym same)
 
-  pub line_kept : (x : A) → read n line ≡ Ok (Some x) → in_front (front ++ x ∷ []) (read_lines read lines) ≡ in_front front (read_lines read all)
+  pub line_fails : (fault : TableFault) → Err fault ≡ verdict (read n line) → verdict (read_lines read all) ≡ Err (fault, n)
   unfolding read_lines
-  line_kept x h =
-      one_more x (read_lines read lines) ∙ sym (ap (λ (ls : List (ℕ × List ℕ)). in_front front (read_lines read ls)) first
-      ∙ ap (λ r. in_front front (onto_lines n r (read_lines read lines))) h)
+  line_fails fault h =
+      ap (λ (ls : List (ℕ × List ℕ)). verdict (read_lines read ls)) first ∙ fails fault (read n line) (read_lines read lines) h
 
-  pub line_refused : (fault : TableFault) → read n line ≡ Err fault → in_front front (read_lines read all) ≡ Err (fault, n)
-  unfolding read_lines
-  line_refused fault h =
-      ap (λ (ls : List (ℕ × List ℕ)). in_front front (read_lines read ls)) first ∙ ap (λ r. in_front front (onto_lines n r (read_lines read lines))) h
-
-pub lines_done : {A : Type 0} (read : ℕ → List ℕ → Result (Option A) TableFault) (front : List A) (all : List (ℕ × List ℕ)) → all ≡ [] →
-    in_front front (read_lines read all) ≡ Ok front
+pub lines_done : {A : Type 0} (read : ℕ → List ℕ → Result (Option A) TableFault) (all : List (ℕ × List ℕ)) → all ≡ [] →
+    verdict (read_lines read all) ≡ Ok tt
 unfolding read_lines
-lines_done read front all e = ap (λ (ls : List (ℕ × List ℕ)). in_front front (read_lines read ls)) e ∙ ap Ok (append-nil front)
+lines_done read all e = ap (λ (ls : List (ℕ × List ℕ)). verdict (read_lines read ls)) e

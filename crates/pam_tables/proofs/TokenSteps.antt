@@ -1,6 +1,6 @@
 -- The first token of a list, and tokens one after another.
-use Rattle.std.proofs.Common.{◌≡◌, ◌∙◌, ◌+◌, ◌-◌, ◌≤◌, ◌||◌, ◌++◌, ℕ, suc, Bool, true, false, not, List, [], ◌∷◌, length, take, drop, map, filter, cond, eqb}
-use Rattle.std.proofs.Common.{reverse, Result, Ok, Err, refl, sym, ap, ap₂, arith, one-add, append_assoc, append-nil}
+use Rattle.std.proofs.Common.{◌≡◌, ◌∙◌, ◌+◌, ◌-◌, ◌≤◌, ◌||◌, ℕ, suc, Bool, true, false, not, List, [], ◌∷◌, length, take, drop, map, filter, cond, eqb}
+use Rattle.std.proofs.Common.{reverse, Result, Ok, Err, refl, sym, ap, ap₂, arith, one-add}
 use Rattle.std.specs.List.{slice_split, onto_first, prefix_len, suffix_len}
 use Rattle.std.proofs.lemmas.List.{length-reverse, reverse-append}
 use Rattle.std.proofs.lemmas.List.Folds.{prefix_len-append}
@@ -9,7 +9,10 @@ use Rattle.pam_tables.specs.Lines.{has_bytes, is_among, is_blank, trimmed, trimm
 use Rattle.pam_tables.specs.Tokens.{tokens_of, each_token, with_token}
 use Rattle.pam_tables.specs.declared.error.TableFault.{TableFault}
 use Rattle.pam_tables.proofs.Cutting.{split_parts}
-use Rattle.pam_tables.proofs.ReadSteps.{in_front}
+use Rattle.pam_tables.specs.Error.{verdict}
+use Rattle.pam_tables.specs.Lists.{matches_behind}
+use Rattle.pam_tables.specs.declared.lists.Mark.{Mark}
+use Rattle.pam_tables.specs.declared.lists.Parts.{Parts}
 
 abbrev tokens_in : List (List ℕ) → List (List ℕ)
 tokens_in parts = filter has_bytes (map trimmed parts)
@@ -145,24 +148,67 @@ token_first s (b ∷ bs) part behind h z e f =
 
 -- ---- tokens one after another
 
-one_in_front : {A : Type 0} (front : List A) (x : A) (r : Result (List A) TableFault) → in_front (front ++ x ∷ []) r ≡ in_front front (with_token (Ok x) r)
-one_in_front front x (Ok xs) = ap Ok (append_assoc front (x ∷ []) xs)
-one_in_front front x (Err fault) = refl
+passes : {A : Type 0} (r : Result A TableFault) (others : Result (List A) TableFault) → Ok tt ≡ verdict r → verdict others ≡ verdict (with_token r others)
+passes (Ok x) (Ok xs) h = refl
+passes (Ok x) (Err fault) h = refl
+passes (Err fault) others h = absurd (cc)
 
-pub token_read : {A : Type 0} (read : List ℕ → Result A TableFault) (front : List A) (x : A) (token : List ℕ) (all tokens : List (List ℕ)) →
-    all ≡ token ∷ tokens → read token ≡ Ok x → in_front (front ++ x ∷ []) (each_token read tokens) ≡ in_front front (each_token read all)
-unfolding each_token
-token_read read front x token all tokens e h =
-    one_in_front front x (each_token read tokens) ∙ sym (ap (λ (ts : List (List ℕ)). in_front front (each_token read ts)) e
-    ∙ ap (λ r. in_front front (with_token r (each_token read tokens))) h)
+fails : {A : Type 0} (fault : TableFault) (r : Result A TableFault) (others : Result (List A) TableFault) → Err fault ≡ verdict r →
+    Err fault ≡ verdict (with_token r others)
+fails fault (Ok x) others h = absurd (cc)
+fails fault (Err f) others h = h
 
-pub token_fails : {A : Type 0} (read : List ℕ → Result A TableFault) (front : List A) (fault : TableFault) (token : List ℕ) (all tokens : List (List ℕ)) →
-    all ≡ token ∷ tokens → read token ≡ Err fault → in_front front (each_token read all) ≡ Err fault
-unfolding each_token
-token_fails read front fault token all tokens e h =
-    ap (λ (ts : List (List ℕ)). in_front front (each_token read ts)) e ∙ ap (λ r. in_front front (with_token r (each_token read tokens))) h
+-- a token and others, all without a fault
+record Read {A : Type 0} (r : Result A TableFault) (others : Result (List A) TableFault) (all : List A) : Type 0 where
+  pub first : A
+  pub rest : List A
+  pub token : r ≡ Ok first
+  pub tokens : others ≡ Ok rest
+  pub are : all ≡ first ∷ rest
 
-pub tokens_end : {A : Type 0} (read : List ℕ → Result A TableFault) (front : List A) (all : List (List ℕ)) → all ≡ [] →
-    in_front front (each_token read all) ≡ Ok front
-unfolding each_token
-tokens_end read front all e = ap (λ (ts : List (List ℕ)). in_front front (each_token read ts)) e ∙ ap Ok (append-nil front)
+all_read : {A : Type 0} (r : Result A TableFault) (others : Result (List A) TableFault) (all : List A) → with_token r others ≡ Ok all → Read r others all
+all_read (Ok x) (Ok xs) all h = record { first = x; rest = xs; token = refl; tokens = refl; are = cc }
+all_read (Ok x) (Err fault) all h = absurd (cc)
+all_read (Err fault) others all h = absurd (cc)
+
+-- the meanings of the remaining tokens, after which the list has this answer
+pub record Left {A : Type 0} (read : List ℕ → Result A TableFault) (mark : A → Mark) (parts : Parts) (tokens : List (List ℕ)) (answer : Bool) : Type 0 where
+  pub rest : List A
+  pub are : each_token read tokens ≡ Ok rest
+  pub same : answer ≡ matches_behind parts (map mark rest)
+
+module _ {A : Type 0} (read : List ℕ → Result A TableFault) where
+  pub no_token : (all : List (List ℕ)) → all ≡ [] → Ok tt ≡ verdict (each_token read all)
+  unfolding each_token
+  no_token all e = sym (ap (λ (ts : List (List ℕ)). verdict (each_token read ts)) e)
+
+  pub last_token : (mark : A → Mark) (parts : Parts) (all : List (List ℕ)) (answer : Bool) → all ≡ [] → Left read mark parts all answer →
+      matches_behind parts [] ≡ answer
+  unfolding each_token
+  last_token mark parts all answer e left =
+      let none : Ok [] ≡ Ok left.rest = sym (ap (each_token read) e) ∙ left.are in
+      let empty : left.rest ≡ [] = cc in
+      sym (left.same ∙ ap (λ (ms : List A). matches_behind parts (map mark ms)) empty)
+
+  module _ (token : List ℕ) (all tokens : List (List ℕ)) (first : all ≡ token ∷ tokens) where
+    pub token_passes : Ok tt ≡ verdict (read token) → verdict (each_token read tokens) ≡ verdict (each_token read all)
+    unfolding each_token
+    token_passes h =
+        passes (read token) (each_token read tokens) h ∙ sym (ap (λ (ts : List (List ℕ)). verdict (each_token read ts)) first)
+
+    pub token_fails : (fault : TableFault) → Err fault ≡ verdict (read token) → Err fault ≡ verdict (each_token read all)
+    unfolding each_token
+    token_fails fault h =
+        fails fault (read token) (each_token read tokens) h ∙ sym (ap (λ (ts : List (List ℕ)). verdict (each_token read ts)) first)
+
+    pub token_marked : (mark : A → Mark) (parts new : Parts) (m : Mark) (answer : Bool) → ((x : A) → read token ≡ Ok x → m ≡ mark x) →
+        ((ms : List Mark) → matches_behind new ms ≡ matches_behind parts (m ∷ ms)) → Left read mark parts all answer → Left read mark new tokens answer
+    unfolding each_token
+    token_marked mark parts new m answer marked then left =
+        let seen = all_read (read token) (each_token read tokens) left.rest (sym (ap (each_token read) first) ∙ left.are) in
+        record {
+          rest = seen.rest;
+          are = seen.tokens;
+          same = left.same ∙ ap (λ (ms : List A). matches_behind parts (map mark ms)) seen.are
+              ∙ ap (λ (x : Mark). matches_behind parts (x ∷ map mark seen.rest)) (sym (marked seen.first seen.token)) ∙ sym (then (map mark seen.rest));
+        }

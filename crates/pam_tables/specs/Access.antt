@@ -9,13 +9,12 @@ use Rattle.pam_tables.specs.Lines.{checked, cut_at, is_among, is_blank_line, lin
 use Rattle.pam_tables.specs.Lists.{list_matches}
 use Rattle.pam_tables.specs.Login.{LoginText, OriginText, origin_of}
 use Rattle.pam_tables.specs.Options.{Options}
-use Rattle.pam_tables.specs.Tokens.{UserPattern, OriginPattern, tokens_of, each_token, user_token, user_mark, user_view, origin_token, origin_mark}
-use Rattle.pam_tables.specs.Tokens.{origin_token_view}
+use Rattle.pam_tables.specs.Tokens.{UserPattern, OriginPattern, tokens_of, each_token, user_token, user_mark, origin_token, origin_mark}
 use Rattle.pam_tables.specs.declared.access.AccessAnswer.{AccessAnswer}
 use Rattle.pam_tables.specs.declared.access.AccessAnswer.TheVariants.{Granted, Denied}
-use Rattle.pam_tables.specs.declared.access.AccessLine.{AccessLine}
 use Rattle.pam_tables.specs.declared.access.Permission.{Permission}
 use Rattle.pam_tables.specs.declared.access.Permission.TheVariants.{Grant, Deny}
+use Rattle.pam_tables.specs.declared.lists.Mark.{Mark}
 use Rattle.pam_tables.specs.declared.error.TableFault.{TableFault}
 use Rattle.pam_tables.specs.declared.error.TableFault.TheVariants.{MissingField, BadPermission}
 
@@ -30,9 +29,6 @@ pub record LineText : Type 0 where
 pub record TableText : Type 0 where
   pub lines : List LineText
   pub group_names : Bool
-
-abbrev pub line_view : AccessLine → LineText
-line_view l = record { number = l.number; permission = l.permission; users = map user_view l.users.items; origins = map origin_token_view l.origins.items }
 
 -- ---- what a table's bytes spell
 
@@ -79,6 +75,15 @@ access_line field_separators list_separators number line =
     if is_passed_over line then Ok None
     else some_line (option_map_or (λ f. line_of_fields list_separators number f.0 f.1 f.2) (fields_of field_separators line) (Err MissingField))
 
+-- the lines of bytes, or the first fault
+abbrev pub lines_of : List ℕ → List ℕ → List ℕ → Result (List LineText) (TableFault × ℕ)
+lines_of field_separators list_separators bytes = read_lines (access_line field_separators list_separators) (lines_from 1 bytes)
+
+-- the lines, where none has a fault
+abbrev pub table_lines : Result (List LineText) (TableFault × ℕ) → List LineText
+table_lines (Ok lines) = lines
+table_lines (Err e) = []
+
 abbrev pub table_with : Bool → Result (List LineText) (TableFault × ℕ) → Result TableText (TableFault × ℕ)
 table_with group_names (Ok lines) = Ok (record { lines = lines; group_names = group_names })
 table_with group_names (Err e) = Err e
@@ -86,7 +91,7 @@ table_with group_names (Err e) = Err e
 -- THE TABLE of bytes and options, or its first fault
 unfoldable pub table_of : Options → List ℕ → Result TableText (TableFault × ℕ)
 table_of options bytes =
-    checked bytes (table_with options.group_names (read_lines (access_line options.field_separators options.list_separators) (lines_from 1 bytes)))
+    checked bytes (table_with options.group_names (lines_of options.field_separators options.list_separators bytes))
 
 -- ---- what a table decides
 
@@ -102,6 +107,12 @@ line_matches groups by_name user origin line = users_match groups by_name user l
 abbrev pub answer_with : Permission → ℕ → AccessAnswer
 answer_with Grant number = Granted (Some number)
 answer_with Deny number = Denied number
+
+-- the permission of an entry that matches a user and an origin, which marks the tokens of origins
+abbrev pub permission_for : List Group → Bool → List ℕ → (OriginPattern → Mark) → Option LineText → Option Permission
+permission_for groups by_name user marked None = None
+permission_for groups by_name user marked (Some line) =
+    if users_match groups by_name user line.users && list_matches (map marked line.origins) then Some line.permission else None
 
 -- the first line whose users and origins both match decides; if no line matches, the login is granted
 abbrev pub first_answer : List Group → Bool → List ℕ → OriginText → List LineText → AccessAnswer

@@ -16,11 +16,9 @@ use Rattle.pam_tables.specs.declared.error.TableFault.{TableFault}
 use Rattle.pam_tables.specs.declared.error.TableFault.TheVariants.{Netgroup, UserAtHost}
 use Rattle.pam_tables.specs.declared.lists.Mark.{Mark}
 use Rattle.pam_tables.specs.declared.lists.Mark.TheVariants.{Except, Match, Miss}
+use Rattle.pam_tables.specs.declared.login.Origin.{Origin}
+use Rattle.pam_tables.specs.declared.login.Origin.TheVariants as places
 use Rattle.pam_tables.specs.declared.network.Network.{Network}
-use Rattle.pam_tables.specs.declared.tokens.UserToken.{UserToken}
-use Rattle.pam_tables.specs.declared.tokens.UserToken.TheVariants as users
-use Rattle.pam_tables.specs.declared.tokens.OriginToken.{OriginToken}
-use Rattle.pam_tables.specs.declared.tokens.OriginToken.TheVariants as origins
 
 -- the texts between separators, without blanks at either end. Empty ones are dropped
 unfoldable pub tokens_of : List ℕ → List ℕ → List (List ℕ)
@@ -34,12 +32,6 @@ pub data UserPattern : Type 0 where
   AnyUser : UserPattern
   GroupOnly : List ℕ → UserPattern
   UserName : List ℕ → UserPattern
-
-abbrev pub user_view : UserToken → UserPattern
-user_view users.Except = UsersExcept
-user_view users.All = AnyUser
-user_view (users.Group name) = GroupOnly name.now
-user_view (users.Name name) = UserName name.now
 
 -- the name in parentheses, which is not empty
 abbrev pub group_name : List ℕ → Option (List ℕ)
@@ -79,16 +71,6 @@ pub data OriginPattern : Type 0 where
   HostNetwork : Network → OriginPattern
   HostAddress : Address → List ℕ → OriginPattern
   OriginName : List ℕ → OriginPattern
-
-abbrev pub origin_token_view : OriginToken → OriginPattern
-origin_token_view origins.Except = OriginsExcept
-origin_token_view origins.All = AnyOrigin
-origin_token_view origins.Local = LocalOrigin
-origin_token_view (origins.Suffix text) = HostSuffix text.now
-origin_token_view (origins.Prefix text) = HostPrefix text.now
-origin_token_view (origins.Network network) = HostNetwork network
-origin_token_view (origins.Address address text) = HostAddress address text.now
-origin_token_view (origins.Name text) = OriginName text.now
 
 abbrev pub plain_origin : List ℕ → OriginPattern
 plain_origin token =
@@ -144,6 +126,11 @@ place_mark place _ = Miss
 unfoldable pub origin_mark : OriginText → OriginPattern → Mark
 origin_mark (Remote host) token = host_mark host (address_of host) token
 origin_mark (Local place) token = place_mark place token
+
+-- how a token matches an origin with its address
+abbrev pub known_mark : Origin → OriginPattern → Mark
+known_mark (places.Remote host address) token = host_mark host.now address token
+known_mark (places.Local place) token = place_mark place.now token
 
 -- ---- all tokens of a list
 

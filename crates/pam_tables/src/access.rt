@@ -1,21 +1,21 @@
-//! Access tables, as in access.conf(5): reading them and deciding logins.
+//! Access tables, as in access.conf(5): checking them and deciding logins.
 
-ghost use Rattle.std.specs.Prelude.{◌≡◌, map};
+ghost use Rattle.std.specs.Prelude.{◌≡◌, ℕ, Ok, Option, IfOk, IfErr};
 ghost use Rattle.std.specs.Option.{option_map};
-ghost use Rattle.pam_tables.specs.Access.{line_view, permission_of, is_passed_over as is_passed_over_of, line_of_fields, fields_of as fields_of_line, access_line, table_of, users_match as users_match_of, origins_match as origins_match_of, answer_with, first_answer, access_answer};
-ghost use Rattle.pam_tables.specs.Error.{Gives, GivesPart, read_lines as read_lines_of};
-ghost use Rattle.pam_tables.specs.Lines.{checked, lines_from};
-ghost use Rattle.pam_tables.specs.Login.{IsKnown, login_view, origin_view, origin_of};
-ghost use Rattle.pam_tables.specs.Tokens.{user_view, origin_token_view};
+ghost use Rattle.pam_tables.specs.Access.{LineText, permission_of, is_passed_over as is_passed_over_of, line_of_fields, fields_of as fields_of_line};
+ghost use Rattle.pam_tables.specs.Access.{access_line, lines_of, table_of, permission_for, answer_with, access_answer};
+ghost use Rattle.pam_tables.specs.Error.{Gives, verdict};
+ghost use Rattle.pam_tables.specs.Login.{login_view};
+ghost use Rattle.pam_tables.specs.Tokens.{known_mark};
 
 use crate::error::{Table, TableError, TableFault};
 use crate::groups::Groups;
 use crate::lines::{Lines, is_blank_text, source, trim};
-use crate::lists::Parts;
 use crate::login::{Login, Origin};
 use crate::options::AccessOptions;
-use crate::tokens::{OriginToken, UserToken, has_token, read_tokens};
-use pam_text::{ByteSet, cut_among};
+use crate::tokens::{check_tokens, has_token, list_matches};
+use crate::users::UserMatcher;
+use pam_text::{ByteSet, Source, cut_among};
 use std::alloc::Global;
 use std::marker::Model;
 
@@ -59,14 +59,6 @@ impl Permission {
     }
 }
 
-#[derive(Drop)]
-struct AccessLine<'a> {
-    number: u32,
-    permission: Permission,
-    users: Vec<UserToken<'a>>,
-    origins: Vec<OriginToken<'a>>,
-}
-
 /// The three fields of a line, not yet split into tokens.
 #[derive(Clone, Copy)]
 struct Fields<'a> {
@@ -100,14 +92,29 @@ fn cut_fields<'a>(line: &'a [u8], separators: &ByteSet<'_>) -> Option<Fields<'a>
     }
 }
 
-/// Reads a line from its three fields.
-fn line_of<'a>(
-    alloc: Global,
-    number: u32,
-    fields: Fields<'a>,
-    separators: &ByteSet<'_>,
-) -> Result<AccessLine<'a>, TableFault>
-    ensures { GivesPart line_view result (line_of_fields separators.now.bytes.now number fields.entry.permission.now fields.entry.users.now fields.entry.origins.now) }
+/// The bytes that separate fields, and those that separate tokens.
+#[derive(Drop)]
+struct Separators<'s> {
+    fields: ByteSet<'s>,
+    tokens: ByteSet<'s>,
+}
+
+impl<'s> Separators<'s> {
+    fn of(fields: &'s [u8], tokens: &'s [u8]) -> Self
+        ensures fields { result.fields.bytes.now ≡ fields.now }
+        ensures tokens { result.tokens.bytes.now ≡ tokens.now }
+    {
+        Separators {
+            fields: ByteSet::of(fields),
+            tokens: ByteSet::of(tokens),
+        }
+    }
+}
+
+/// Checks a line of three fields.
+fn check_fields(fields: Fields<'_>, separators: &ByteSet<'_>) -> Result<(), TableFault>
+    ensures { (number : ℕ) → result
+        ≡ verdict (line_of_fields separators.now.bytes.now number fields.entry.permission.now fields.entry.users.now fields.entry.origins.now) }
 {
     if !has_token(fields.users, separators) {
         return Err(TableFault::MissingField);
@@ -115,117 +122,92 @@ fn line_of<'a>(
     if !has_token(fields.origins, separators) {
         return Err(TableFault::MissingField);
     }
-    let permission = Permission::read(trim(fields.permission))?;
-    let users = read_tokens(alloc, fields.users, separators)?;
-    let origins = read_tokens(alloc, fields.origins, separators)?;
-    Ok(AccessLine {
-        number,
-        permission,
-        users,
-        origins,
-    })
+    Permission::read(trim(fields.permission))?;
+    check_tokens::<UserMatcher<'_>>(fields.users, separators)?;
+    check_tokens::<Origin<'_>>(fields.origins, separators)
 }
 
-/// Reads a line. Returns `Ok(None)` for a comment or a blank line.
-fn read_line<'a>(
-    alloc: Global,
-    number: u32,
-    line: &'a [u8],
-    field_separators: &ByteSet<'_>,
-    list_separators: &ByteSet<'_>,
-) -> Result<Option<AccessLine<'a>>, TableFault>
-    ensures { GivesPart (option_map line_view) result (access_line field_separators.now.bytes.now list_separators.now.bytes.now number line.now) }
+fn check_line(line: &[u8], separators: &Separators<'_>) -> Result<(), TableFault>
+    ensures { (number : ℕ) → result ≡ verdict (access_line separators.now.fields.bytes.now separators.now.tokens.bytes.now number line.now) }
 {
     if is_passed_over(line) {
-        return Ok(None);
+        return Ok(());
     }
-    match cut_fields(line, field_separators) {
-        Some(parts) => match line_of(alloc, number, parts, list_separators) {
-            Ok(line) => Ok(Some(line)),
-            Err(fault) => Err(fault),
-        },
+    match cut_fields(line, &separators.fields) {
+        Some(fields) => check_fields(fields, &separators.tokens),
         None => Err(TableFault::MissingField),
     }
 }
 
-fn users_match(users: &[UserToken<'_>], user: &[u8], groups: &Groups, by_name: bool) -> bool
-    ensures { result ≡ users_match_of groups.now by_name user.now (map user_view users.now) }
+fn check_lines(source: Source<'_>, separators: &Separators<'_>) -> Result<(), TableError>
+    ensures { Gives Table.Access (λ done. done) result
+        (verdict (lines_of separators.now.fields.bytes.now separators.now.tokens.bytes.now source.entry.bytes.now)) }
 {
-    let mut parts = Parts::new();
-    for token in users {
-        parts = parts.then(token.mark(user, groups, by_name));
-    }
-    parts.matches()
-}
-
-fn origins_match(origins: &[OriginToken<'_>], origin: &Origin<'_>) -> bool
-    requires { IsKnown origin.now }
-    ensures { result ≡ origins_match_of (origin_view origin.now) (map origin_token_view origins.now) }
-{
-    let mut parts = Parts::new();
-    for token in origins {
-        parts = parts.then(token.mark(origin));
-    }
-    parts.matches()
-}
-
-/// Returns the answer of the first line that matches.
-fn first_match(
-    lines: &[AccessLine<'_>],
-    by_name: bool,
-    user: &[u8],
-    origin: &Origin<'_>,
-    groups: &Groups,
-) -> AccessAnswer
-    requires { IsKnown origin.now }
-    ensures { result ≡ first_answer groups.now by_name user.now (origin_view origin.now) (map line_view lines.now) }
-{
-    for line in lines {
-        if users_match(&line.users, user, groups, by_name) && origins_match(&line.origins, origin) {
-            return line.permission.answer(line.number);
+    for (number, line) in Lines::of(source) {
+        if let Err(fault) = check_line(line, separators) {
+            return Err(TableError::new(Table::Access, fault, number));
         }
     }
-    AccessAnswer::Granted(None)
+    Ok(())
+}
+
+/// Returns the permission of a line that matches. If the line has a fault, the answer means nothing.
+fn matching(
+    line: &[u8],
+    separators: &Separators<'_>,
+    users: &UserMatcher<'_>,
+    origin: &Origin<'_>,
+) -> Option<Permission>
+    ensures { (number : ℕ) (entry : Option LineText) → access_line separators.now.fields.bytes.now separators.now.tokens.bytes.now number line.now ≡ Ok entry
+        → result ≡ permission_for users.now.groups.now users.now.by_name users.now.user.now (known_mark origin.now) entry }
+{
+    if is_passed_over(line) {
+        return None;
+    }
+    let fields = cut_fields(line, &separators.fields)?;
+    if !list_matches(users, fields.users, &separators.tokens) {
+        return None;
+    }
+    if !list_matches(origin, fields.origins, &separators.tokens) {
+        return None;
+    }
+    Permission::read(trim(fields.permission)).ok()
 }
 
 /// An access table of pam_access(8), as in access.conf(5). Borrows the bytes it was read from.
+///
+/// Its lines are checked when it is read, and their tokens are matched while they are read again.
 #[derive(Drop)]
 pub struct AccessTable<'a> {
-    lines: Vec<AccessLine<'a>>,
+    source: Source<'a>,
+    field_separators: Vec<u8>,
+    list_separators: Vec<u8>,
     group_names: bool,
 }
 
 impl<'a> Model for AccessTable<'a> {
-    ghost use Rattle.std.specs.Prelude.{map};
-    ghost use Rattle.pam_tables.specs.Access.{TableText, line_view};
+    ghost use Rattle.std.specs.Prelude.{◌≡◌, Ok};
+    ghost use Rattle.pam_tables.specs.Access.{TableText, lines_of, table_lines};
+    ghost use Rattle.pam_tables.specs.Error.{verdict};
 
     ghost Value = { TableText };
 
-    ghost view = { λ t. record { lines = map line_view t.lines.items; group_names = t.group_names } };
+    ghost view = { λ t. record {
+      lines = table_lines (lines_of t.field_separators.items t.list_separators.items t.source.bytes.now);
+      group_names = t.group_names;
+    } };
+
+    ghost invariant = { λ t. verdict (lines_of t.field_separators.items t.list_separators.items t.source.bytes.now) ≡ Ok tt };
 }
 
-fn read_lines<'a>(
-    alloc: Global,
-    bytes: &'a [u8],
-    field_separators: &ByteSet<'_>,
-    list_separators: &ByteSet<'_>,
-) -> Result<Vec<AccessLine<'a>>, TableError>
-    ensures { Gives Table.Access (λ v. map line_view v.items) result (checked bytes.now (read_lines_of (access_line field_separators.now.bytes.now list_separators.now.bytes.now) (lines_from 1 bytes.now))) }
+fn copy(alloc: Global, bytes: &[u8]) -> Result<Vec<u8>, TableError>
+    ensures bytes { IfOk result (λ v. v.items ≡ bytes.now) }
+    ensures memory { IfErr result (λ e. e ≡ record { table = Table.Access; fault = TableFault.Memory; line = 0 }) }
 {
-    let source = source(Table::Access, bytes)?;
-    let mut lines = Vec::new(alloc);
-    for (number, text) in Lines::of(source) {
-        match read_line(alloc, number, text, field_separators, list_separators) {
-            Ok(None) => {}
-            Ok(Some(line)) => {
-                if lines.push(line).is_err() {
-                    return Err(TableError::new(Table::Access, TableFault::Memory, number));
-                }
-            }
-            Err(fault) => return Err(TableError::new(Table::Access, fault, number)),
-        }
+    match Vec::from_slice(alloc, bytes) {
+        Ok(copied) => Ok(copied),
+        Err(_) => Err(TableError::new(Table::Access, TableFault::Memory, 0)),
     }
-    Ok(lines)
 }
 
 impl<'a> AccessTable<'a> {
@@ -240,19 +222,36 @@ impl<'a> AccessTable<'a> {
     ) -> Result<AccessTable<'a>, TableError>
         ensures { Gives Table.Access (λ table. table) result (table_of options.now bytes.now) }
     {
-        let field_separators = ByteSet::of(options.field_separators);
-        let list_separators = ByteSet::of(options.list_separators);
+        let source = source(Table::Access, bytes)?;
+        let separators = Separators::of(options.field_separators, options.list_separators);
+        check_lines(source, &separators)?;
+        let field_separators = copy(alloc, options.field_separators)?;
+        let list_separators = copy(alloc, options.list_separators)?;
         let group_names = options.group_names;
-        let lines = read_lines(alloc, bytes, &field_separators, &list_separators)?;
-        Ok(AccessTable { lines, group_names })
+        Ok(AccessTable {
+            source,
+            field_separators,
+            list_separators,
+            group_names,
+        })
     }
 
     /// Returns the table's answer for a login. Allocates nothing.
-    #[tactic(auto, unfolding(crate::specs::Access::access_answer))]
     pub fn decide(&self, login: &Login<'_>, groups: &Groups) -> AccessAnswer
         ensures { result ≡ access_answer self.now (login_view login.now) groups.now }
     {
         let origin = Origin::of(login);
-        first_match(&self.lines, self.group_names, login.user, &origin, groups)
+        let users = UserMatcher {
+            user: login.user,
+            groups,
+            by_name: self.group_names,
+        };
+        let separators = Separators::of(&self.field_separators, &self.list_separators);
+        for (number, line) in Lines::of(self.source) {
+            if let Some(permission) = matching(line, &separators, &users, &origin) {
+                return permission.answer(number);
+            }
+        }
+        AccessAnswer::Granted(None)
     }
 }

@@ -11,10 +11,12 @@ mod lists;
 mod login;
 mod network;
 mod options;
+mod origins;
 mod pieces;
 mod returns;
 mod shared;
 mod tokens;
+mod users;
 
 pub use access::{AccessAnswer, AccessTable};
 pub use error::{Table, TableError, TableFault};
