@@ -1,65 +1,92 @@
--- The text of a run, module by module, and the answer it is a part of.
-use Rattle.std.proofs.Common.{◌≡◌, ℕ, ◌-◌, ◌<◌, ◌≤◌, ◌==◌, List, ◌++◌, Option, Some, None, Ok, length, get_or, arith, sym, ◌∙◌, ap, subst, append_assoc, append-nil}
+-- The trace of a run, module by module, and the answer that it is a part of.
+use Rattle.std.proofs.Common.{◌≡◌, ℕ, ◌-◌, ◌<◌, ◌≤◌, ◌==◌, List, [], ◌∷◌, ◌++◌, Option, Some, None, Ok, length, map, get_or}
+use Rattle.std.proofs.Common.{arith, sym, ◌∙◌, ap, subst, append_assoc, append-nil}
 use Rattle.std.proofs.lemmas.Bool.{cond-true, eq-eqb}
-use Rattle.std.proofs.lemmas.List.{get_or_default}
-use Rattle.std.proofs.lemmas.Option.{get_or_from_slice_get}
-use Rattle.std.specs.Prelude.{slice_get}
+use Rattle.std.proofs.lemmas.List.{get_or_default, map-append}
 use Rattle.pam_codes.specs.declared.action.Action.{Action}
-use Rattle.pam_codes.specs.declared.action.Action.TheVariants.{Ignore}
 use Rattle.pam_conf.specs.Stack.{Items, module_count}
 use Rattle.pam_conf.specs.declared.rule.Kind.{Kind}
 use Rattle.pam_dispatch.specs.declared.entry.Entry.{Entry}
 use Rattle.pam_dispatch.specs.declared.place.Place.{Place}
 use Rattle.pam_dispatch.specs.declared.state.State.{State}
 use Rattle.pam_dispatch.specs.declared.step.Outcome.{Outcome}
+use Rattle.pam_dispatch.specs.Decision.{decision_of}
 use Rattle.pam_dispatch.specs.Flat.{modules_of, rest_of, runs_of}
-use Rattle.pam_dispatch.specs.Runs.{Ask, AsksRise, Assignment, Runs, after_answer, answers_of, asked_by, asked_module, next_ask, outcome_in, outcome_of}
+use Rattle.pam_dispatch.specs.Runs.{Ask, AsksRise, Assignment, Runs, after_answer, answers_of, asked_by, asked_module as number_asked}
+use Rattle.pam_dispatch.specs.Runs.{final_state, next_ask, outcome_of}
 use Rattle.pam_dispatch.specs.State.{action_of, start_state}
 use Rattle.pam_dispatch.specs.Tree.{asked, decided, runs_of_stack}
-use Rattle.pam_dispatch.proofs.Asking.{AsksRise-step, asked_by-end, asked_by-step, number-next_ask, outcome_in-next_ask}
+use Rattle.pam_dispatch.proofs.Asking.{AsksRise-step, asked_by-end, asked_by-step, number-next_ask}
 use Rattle.pam_dispatch.proofs.Numbering.{AsksRise-lower}
-use Rattle.pam_dispatch.proofs.OpenRuns.{asked_by-runs_of_stack}
+use Rattle.pam_dispatch.proofs.OpenRuns.{asked_by-runs_of_stack, decision_of-runs_of_stack}
 use Rattle.pam_report.specs.Answer.{decided_by, status_of_decision}
-use Rattle.pam_report.specs.Decide.{asked_text, decide_text, decision_text, outcome_text, path_at, path_text, trace_text}
+use Rattle.pam_report.specs.Decide.{AskedModule, asked_module, asked_modules, decide_text, decision_text, path_at, trace_text}
 use Rattle.pam_report.specs.Header.{header_text}
+use Rattle.pam_report.specs.Report.{Report}
+use Rattle.pam_report.specs.declared.report.Status.{Status}
 
--- the line of a module, from its parts
-line-is : (items : Items) (ask : Ask) (number code : ℕ) (path : List ℕ) (action : Action) (state : State) →
-    ask.module_number ≡ number → path ≡ path_at number items → action ≡ action_of ask.control code →
-    state ≡ (outcome_of ask code).state →
-    path_text number path ++ outcome_text code action state ≡ asked_text items ask code
-unfolding asked_text
-line-is items ask number code path action state n p a s =
-    ap (λ (x : List ℕ). path_text number x ++ outcome_text code action state) p
-    ∙ ap (λ (x : Action). path_text number (path_at number items) ++ outcome_text code x state) a
-    ∙ ap (λ (x : State). path_text number (path_at number items) ++ outcome_text code (action_of ask.control code) x) s
-    ∙ ap (λ (x : ℕ). path_text x (path_at x items) ++ outcome_text code (action_of ask.control code) (outcome_of ask code).state) (sym n)
+abbrev pub module_of : ℕ → List ℕ → ℕ → Action → State → AskedModule
+module_of number path code action state = record { number = number; path = path; code = code; action = action; state = state }
+
+-- a module that is asked, from its number and its code
+abbrev asked_at : Items → Ask → ℕ → ℕ → AskedModule
+asked_at items ask number code = record {
+  number = number;
+  path = path_at number items;
+  code = code;
+  action = action_of ask.control code;
+  state = (outcome_of ask code).state;
+}
 
 module _ (items : Items) (answers : Assignment) where
-  -- the text of a run that asks a module
-  trace-asks : (runs : Runs) (number : ℕ) → asked_module runs ≡ Some number →
-      trace_text items answers (asked_by runs answers)
-      ≡ asked_text items (next_ask runs) (answers number) ++ trace_text items answers (asked_by (after_answer runs (answers number)) answers)
-  unfolding trace_text
-  trace-asks runs number asks =
-      ap (λ (x : List Ask). trace_text items answers x) (asked_by-step answers runs number asks)
-      ∙ ap (λ (n : ℕ). asked_text items (next_ask runs) (answers n) ++ trace_text items answers (asked_by (after_answer runs (answers number)) answers)) (number-next_ask runs number asks)
+  -- a module that is asked, from its parts
+  pub asked-is : (ask : Ask) (number code : ℕ) (path : List ℕ) (action : Action) (state : State) →
+      ask.module_number ≡ number → answers number ≡ code → path ≡ path_at number items → action ≡ action_of ask.control code →
+      state ≡ (outcome_of ask code).state → module_of number path code action state ≡ asked_module items answers ask
+  unfolding asked_module
+  asked-is ask number code path action state n c p a s =
+      ap (λ (x : List ℕ). module_of number x code action state) p
+      ∙ ap (λ (y : Action). module_of number (path_at number items) code y state) a
+      ∙ ap (λ (z : State). module_of number (path_at number items) code (action_of ask.control code) z) s
+      ∙ ap (λ (k : ℕ). asked_at items ask number k) (sym c)
+      ∙ ap (λ (m : ℕ). asked_at items ask m (answers m)) (sym n)
 
-  -- at the end, the text so far is the whole text
-  pub trace-ends : (whole text : List ℕ) (runs : Runs) (number : Option ℕ) → text ++ trace_text items answers (asked_by runs answers) ≡ whole →
-      number ≡ asked_module runs → number ≡ None → text ≡ whole
-  unfolding trace_text
-  trace-ends whole text runs number so_far told none =
-      sym (append-nil text)
-      ∙ sym (ap (λ (x : List Ask). text ++ trace_text items answers x) (asked_by-end answers runs (sym told ∙ none)))
-      ∙ so_far
+  -- the modules of a run that asks one
+  asked-step : (runs : Runs) (number : ℕ) → number_asked runs ≡ Some number →
+      asked_modules items answers (asked_by runs answers)
+      ≡ asked_module items answers (next_ask runs) ∷ asked_modules items answers (asked_by (after_answer runs (answers number)) answers)
+  asked-step runs number asks = ap (λ (x : List Ask). asked_modules items answers x) (asked_by-step answers runs number asks)
+
+  -- at the end, the modules so far are all modules
+  pub asked-ends : (whole so_far : List AskedModule) (runs : Runs) → so_far ++ asked_modules items answers (asked_by runs answers) ≡ whole →
+      number_asked runs ≡ None → so_far ≡ whole
+  asked-ends whole so_far runs before none =
+      sym (append-nil so_far)
+      ∙ sym (ap (λ (x : List Ask). so_far ++ asked_modules items answers x) (asked_by-end answers runs none))
+      ∙ before
+
+  -- the modules so far go on with the one that is asked
+  pub asked-goes_on : {A : Type 0} (view : A → AskedModule) (xs ys : List A) (x : A) (runs next : Runs) (number code : ℕ) (whole : List AskedModule) →
+      map view xs ++ asked_modules items answers (asked_by runs answers) ≡ whole →
+      ys ≡ xs ++ x ∷ [] → number_asked runs ≡ Some number → answers number ≡ code → next ≡ after_answer runs code →
+      view x ≡ asked_module items answers (next_ask runs) →
+      map view ys ++ asked_modules items answers (asked_by next answers) ≡ whole
+  asked-goes_on view xs ys x runs next number code whole before pushed asks is follows same =
+      let rest = λ (r : Runs). asked_modules items answers (asked_by r answers) in
+      ap (λ l. map view l ++ rest next) pushed
+      ∙ ap (λ l. l ++ rest next) (map-append view xs (x ∷ []))
+      ∙ append_assoc (map view xs) (view x ∷ []) (rest next)
+      ∙ ap (λ m. map view xs ++ m ∷ rest next) same
+      ∙ ap (λ (r : Runs). map view xs ++ asked_module items answers (next_ask runs) ∷ rest r) follows
+      ∙ ap (λ (k : ℕ). map view xs ++ asked_module items answers (next_ask runs) ∷ rest (after_answer runs k)) (sym is)
+      ∙ ap (λ l. map view xs ++ l) (sym (asked-step runs number asks))
+      ∙ before
 
 -- a step from a place that asks the module of a number
-module _ (program : List Entry) (place : Place) (module_number : Option ℕ) (number : ℕ)
-    (rise : AsksRise 0 (modules_of program) (rest_of program place))
-    (told : module_number ≡ asked_module (rest_of program place)) (is : module_number ≡ Some number) where
+module _ (program : List Entry) (place : Place) (number : ℕ)
+    (rise : AsksRise 0 (modules_of program) (rest_of program place)) (is : number_asked (rest_of program place) ≡ Some number) where
   range : (0 < number) × (number ≤ modules_of program) × ((code : ℕ) → AsksRise number (modules_of program) (after_answer (rest_of program place) code))
-  range = AsksRise-step 0 _ _ number rise (sym told ∙ is)
+  range = AsksRise-step 0 _ _ number rise is
 
   pub from_one : 1 ≤ number
   from_one = omega (arith, range.0)
@@ -67,52 +94,53 @@ module _ (program : List Entry) (place : Place) (module_number : Option ℕ) (nu
   pub to_last : number ≤ modules_of program
   to_last = range.1
 
-  module _ (next : Place) (code : ℕ) (follows : rest_of program next ≡ after_answer (rest_of program place) code) where
-    pub rises_on : AsksRise 0 (modules_of program) (rest_of program next)
-    rises_on =
-        subst (λ (r : Runs). AsksRise 0 (modules_of program) r) (sym follows)
-        (AsksRise-lower 0 number _ _ (omega arith) (range.2 code))
+  pub rises_on : (next : Place) (code : ℕ) → rest_of program next ≡ after_answer (rest_of program place) code →
+      AsksRise 0 (modules_of program) (rest_of program next)
+  rises_on next code follows =
+      subst (λ (r : Runs). AsksRise 0 (modules_of program) r) (sym follows)
+      (AsksRise-lower 0 number _ _ (omega arith) (range.2 code))
 
-    -- the text so far goes on with the line of the module
-    pub trace-goes_on : (items : Items) (codes : List ℕ) → length codes ≡ modules_of program → (whole text : List ℕ) →
-        text ++ trace_text items (answers_of codes) (asked_by (rest_of program place) (answers_of codes)) ≡ whole →
-        (path : List ℕ) (control : List Action) (action : Action) (outcome : Outcome) →
-        code ≡ get_or codes (number - 1) code → path ≡ path_at number items →
-        (asked_module (rest_of program place) ≡ Some number → (next_ask (rest_of program place)).control ≡ control) →
-        slice_get control code ≡ Some action → outcome_in (rest_of program place) code ≡ outcome →
-        text ++ (path_text number path ++ outcome_text code action outcome.state)
-        ++ trace_text items (answers_of codes) (asked_by (rest_of program next) (answers_of codes)) ≡ whole
-    trace-goes_on items codes each whole text so_far path control action outcome read path_is control_is action_is outcome_is =
-        let asks = sym told ∙ is in
-        let answers = answers_of codes in
-        let runs = rest_of program place in
-        let answer : answers number ≡ code =
-        get_or_default codes (number - 1) 0 code (omega (arith, range.0, range.1, each)) ∙ sym read in
-        let line = line-is items (next_ask runs) number code path action outcome.state (number-next_ask runs number asks) path_is
-        (sym (get_or_from_slice_get control code action Ignore action_is) ∙ sym (ap (λ (x : List Action). action_of x code) (control_is asks)))
-        (ap (λ (o : Outcome). o.state) (sym outcome_is ∙ outcome_in-next_ask runs number code asks)) in
-        append_assoc text (path_text number path ++ outcome_text code action outcome.state) (trace_text items answers (asked_by (rest_of program next) answers))
-        ∙ ap (λ (x : List ℕ). text ++ (x ++ trace_text items answers (asked_by (rest_of program next) answers))) line
-        ∙ ap (λ (r : Runs). text ++ (asked_text items (next_ask runs) code ++ trace_text items answers (asked_by r answers))) follows
-        ∙ sym (ap (λ (k : ℕ). text ++ (asked_text items (next_ask runs) k ++ trace_text items answers (asked_by (after_answer runs k) answers))) answer)
-        ∙ sym (ap (λ (x : List ℕ). text ++ x) (trace-asks items answers runs number asks))
-        ∙ so_far
+  -- the code in the list is the answer
+  pub answer_read : (codes : List ℕ) (code : ℕ) → length codes ≡ modules_of program → code ≡ get_or codes (number - 1) code → answers_of codes number ≡ code
+  answer_read codes code each read = get_or_default codes (number - 1) 0 code (omega (arith, range.0, range.1, each)) ∙ sym read
 
 -- the text of an answer, from its parts
-pub decide_text-is : (service : List ℕ) (kind : Kind) (items : Items) (answered : List ℕ) (program : List Entry) (modules decision : ℕ) →
-    modules ≡ module_count items → runs_of program ≡ runs_of_stack items → decision ≡ decided items (answers_of answered) →
-    header_text service kind modules ++ trace_text items (answers_of answered) (asked_by (runs_of program) (answers_of answered)) ++ decision_text decision
-    ≡ decide_text service kind items answered
+decide_text-is : (service : List ℕ) (kind : Kind) (items : Items) (answered : List ℕ) (runs : Runs) (modules decision : ℕ) (trace : List AskedModule) →
+    modules ≡ module_count items → runs ≡ runs_of_stack items → trace ≡ asked_modules items (answers_of answered) (asked_by runs (answers_of answered)) →
+    decision ≡ decided items (answers_of answered) →
+    header_text service kind modules ++ trace_text trace ++ decision_text decision ≡ decide_text service kind items answered
 unfolding decide_text
-decide_text-is service kind items answered program modules decision m r d =
+decide_text-is service kind items answered runs modules decision trace m r t d =
     let answers = answers_of answered in
-    ap (λ (n : ℕ). header_text service kind n ++ trace_text items answers (asked_by (runs_of program) answers) ++ decision_text decision) m
-    ∙ ap (λ (x : Runs). header_text service kind (module_count items) ++ trace_text items answers (asked_by x answers) ++ decision_text decision) r
-    ∙ ap (λ (x : List Ask). header_text service kind (module_count items) ++ trace_text items answers x ++ decision_text decision) (asked_by-runs_of_stack items answers)
-    ∙ ap (λ (n : ℕ). header_text service kind (module_count items) ++ trace_text items answers (asked items start_state start_state answers) ++ decision_text n) d
+    let asks = ap (λ (x : Runs). asked_by x answers) r ∙ asked_by-runs_of_stack items answers in
+    let all = t ∙ ap (λ (x : List Ask). asked_modules items answers x) asks in
+    ap (λ (n : ℕ). header_text service kind n ++ trace_text trace ++ decision_text decision) m
+    ∙ ap (λ (x : List AskedModule). header_text service kind (module_count items) ++ trace_text x ++ decision_text decision) all
+    ∙ ap (λ (n : ℕ). header_text service kind (module_count items) ++ trace_text (asked_modules items answers (asked items start_state start_state answers)) ++ decision_text n) d
+
+-- the decision of a run is that of the stack
+decision-is : (items : Items) (answers : Assignment) (runs : Runs) (decision : ℕ) → runs ≡ runs_of_stack items →
+    decision ≡ decision_of (final_state runs answers) → decision ≡ decided items answers
+decision-is items answers runs decision r d = d ∙ ap (λ (x : Runs). decision_of (final_state x answers)) r ∙ decision_of-runs_of_stack items answers
 
 -- if there is a code for each module, the answer is that text
-pub decided_by-is : (service : List ℕ) (kind : Kind) (items : Items) (answered : List ℕ) → length answered ≡ module_count items →
+decided_by-is : (service : List ℕ) (kind : Kind) (items : Items) (answered : List ℕ) → length answered ≡ module_count items →
     decided_by service kind answered items
     ≡ Ok (record { text = decide_text service kind items answered; status = status_of_decision (decided items (answers_of answered)) })
 decided_by-is service kind items answered e = cond-true (length answered == module_count items) _ _ (eq-eqb _ _ e)
+
+abbrev report : List ℕ → Status → Report
+report text status = record { text = text; status = status }
+
+-- what is written is the answer
+pub answer-is : (service : List ℕ) (kind : Kind) (items : Items) (answered : List ℕ) (runs : Runs) (modules decision : ℕ) (trace : List AskedModule)
+    (status : Status) → length answered ≡ modules → modules ≡ module_count items → runs ≡ runs_of_stack items →
+    trace ≡ asked_modules items (answers_of answered) (asked_by runs (answers_of answered)) →
+    decision ≡ decision_of (final_state runs (answers_of answered)) → status ≡ status_of_decision decision →
+    decided_by service kind answered items
+    ≡ Ok (record { text = header_text service kind modules ++ trace_text trace ++ decision_text decision; status = status })
+answer-is service kind items answered runs modules decision trace status each m r t d s =
+    let decides = decision-is items (answers_of answered) runs decision r d in
+    decided_by-is service kind items answered (each ∙ m)
+    ∙ ap (λ (x : Status). Ok (report (decide_text service kind items answered) x)) (sym (ap status_of_decision decides) ∙ sym s)
+    ∙ ap (λ (x : List ℕ). Ok (report x status)) (sym (decide_text-is service kind items answered runs modules decision trace m r t decides))

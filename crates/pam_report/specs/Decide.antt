@@ -1,6 +1,6 @@
 -- The text of `decide`: the modules that a run asks, as in pam.conf(5), and the decision.
-use Rattle.std.specs.Prelude.{ℕ, List, ◌∷◌, [], ◌++◌, codes, decimal}
-use Rattle.std.specs.List.{concat}
+use Rattle.std.specs.Prelude.{ℕ, List, ◌∷◌, [], ◌++◌, codes, decimal, map}
+use Rattle.std.specs.List.{concat, flat_map}
 use Rattle.std.specs.Option.{option_map_or}
 use Rattle.pam_codes.specs.declared.action.Action.{Action}
 use Rattle.pam_codes.specs.declared.action.Action.TheVariants.{Jump}
@@ -46,16 +46,36 @@ state_text s = concat (codes " " ∷ impression_name s.impression ∷ codes " " 
 unfoldable pub outcome_text : ℕ → Action → State → List ℕ
 outcome_text code action s = code_text code ++ action_text action ++ state_text s
 
--- the line of a module that is asked and returns a code
-unfoldable pub asked_text : Items → Ask → ℕ → List ℕ
-asked_text items ask code =
-    path_text ask.module_number (path_at ask.module_number items)
-    ++ outcome_text code (action_of ask.control code) (outcome_of ask code).state
+-- a module that is asked: its number and path, the code that it returns, the action for the code, and the state after it
+pub record AskedModule : Type 0 where
+  pub number : ℕ
+  pub path : List ℕ
+  pub code : ℕ
+  pub action : Action
+  pub state : State
 
--- the lines of the modules that are asked, in order
-unfoldable pub trace_text : Items → Assignment → List Ask → List ℕ
-trace_text items answers [] = []
-trace_text items answers (ask ∷ asks) = asked_text items ask (answers ask.module_number) ++ trace_text items answers asks
+unfoldable pub asked_module : Items → Assignment → Ask → AskedModule
+asked_module items answers ask =
+    let code = answers ask.module_number in
+    record {
+      number = ask.module_number;
+      path = path_at ask.module_number items;
+      code = code;
+      action = action_of ask.control code;
+      state = (outcome_of ask code).state;
+    }
+
+-- the modules of a run, in order
+abbrev pub asked_modules : Items → Assignment → List Ask → List AskedModule
+asked_modules items answers asks = map (asked_module items answers) asks
+
+-- `NUMBER PATH CODE ACTION IMPRESSION STATUS`
+unfoldable pub asked_text : AskedModule → List ℕ
+asked_text m = path_text m.number m.path ++ outcome_text m.code m.action m.state
+
+-- the trace of a run: a line for each module that is asked
+abbrev pub trace_text : List AskedModule → List ℕ
+trace_text modules = flat_map asked_text modules
 
 -- `decision CODE`
 unfoldable pub decision_text : ℕ → List ℕ
@@ -65,5 +85,5 @@ decision_text code = concat (codes "decision " ∷ code_name code ∷ codes "\n"
 unfoldable pub decide_text : List ℕ → Kind → Items → List ℕ → List ℕ
 decide_text service kind items answered =
     header_text service kind (module_count items)
-    ++ trace_text items (answers_of answered) (asked items start_state start_state (answers_of answered))
+    ++ trace_text (asked_modules items (answers_of answered) (asked items start_state start_state (answers_of answered)))
     ++ decision_text (decided items (answers_of answered))

@@ -12,4 +12,5 @@ pub mod Paths
 pub mod Report
 pub mod Show
 pub mod Tables
+pub mod TraceViews
 pub mod WordText

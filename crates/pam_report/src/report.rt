@@ -10,6 +10,7 @@ mod header;
 mod paths;
 mod show;
 mod time;
+mod trace;
 mod word;
 
 use crate::fault::Fault;

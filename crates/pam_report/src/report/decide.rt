@@ -1,23 +1,23 @@
 //! The `decide` command: the modules that a run asks, and the decision.
 
-ghost use Rattle.std.specs.Prelude.{◌≡◌, ◌-◌, ◌<◌, ◌^◌, ◌++◌, length};
+ghost use Rattle.std.specs.Prelude.{◌≡◌, ◌-◌, ◌<◌, ◌^◌, ◌++◌, map};
 ghost use Rattle.pam_codes.specs.Out.{Writes};
 ghost use Rattle.pam_conf.specs.Resolution.{resolved};
-ghost use Rattle.pam_dispatch.specs.Flat.{modules_of, runs_of};
-ghost use Rattle.pam_dispatch.specs.Runs.{answers_of, asked_by};
-ghost use Rattle.pam_dispatch.specs.Tree.{decided, runs_of_stack};
 ghost use Rattle.pam_report.specs.Answer.{decided_by, status_of_decision, with_stack};
 ghost use Rattle.pam_report.specs.Leaves.{Leaves};
-ghost use Rattle.pam_report.specs.Decide.{action_text, code_text, decide_text, decision_text, impression_name, outcome_text, path_at, path_text, state_text, trace_text};
-ghost use Rattle.pam_report.specs.Header.{code_name};
+ghost use Rattle.pam_report.specs.Decide.{action_text, asked_text, code_text, decision_text, impression_name};
+ghost use Rattle.pam_report.specs.Decide.{outcome_text, path_text, state_text, trace_text};
+ghost use Rattle.pam_report.specs.Header.{code_name, header_text};
+ghost use Rattle.pam_report.specs.TraceViews.{asked_view};
 
 use super::Status;
 use super::header::put_header;
+use super::trace::{AskedModule, Trace};
 use super::word::put_word;
 use crate::fault::Fault;
 use pam_codes::{Action, Code, Device, Out, Piece};
 use pam_conf::{Files, Kind, Stack, resolve};
-use pam_dispatch::{Decision, Impression, Program, State, Work};
+use pam_dispatch::{Decision, Impression, Program, State, WrongCount};
 use std::alloc::Global;
 use std::io::Write;
 
@@ -92,17 +92,6 @@ fn put_outcome<W: Write>(
     put_state(state, out)
 }
 
-/// Returns the path of a module, by number.
-#[tactic(auto, unfolding(crate::specs::Decide::path_at))]
-fn path_at(stack: &Stack, number: usize) -> &[u8]
-    ensures { result.now ≡ path_at number stack.now }
-{
-    match stack.module(number) {
-        Some(module) => module.path.as_slice(),
-        None => b"",
-    }
-}
-
 /// Writes `NUMBER PATH`.
 fn put_path<W: Write>(number: usize, path: &[u8], out: &mut Out<W>) -> Result<(), Device>
     requires { out.old.failures < 2 ^ 64 - 1 }
@@ -113,41 +102,21 @@ fn put_path<W: Write>(number: usize, path: &[u8], out: &mut Out<W>) -> Result<()
 }
 
 /// Writes the line of a module that is asked.
-fn put_asked<W: Write>(
-    number: usize,
-    path: &[u8],
-    code: Code,
-    action: Action,
-    state: State,
-    out: &mut Out<W>,
-) -> Result<(), Device>
+fn put_asked<W: Write>(module: &AskedModule, out: &mut Out<W>) -> Result<(), Device>
     requires { out.old.failures < 2 ^ 64 - 1 }
-    ensures { Writes W.contents out.old out.new result (path_text number path.now ++ outcome_text code action state) }
+    ensures { Writes W.contents out.old out.new result (asked_text (asked_view module.now)) }
 {
-    put_path(number, path, out)?;
-    put_outcome(code, action, state, out)
+    put_path(module.number, &module.path, out)?;
+    put_outcome(module.code, module.action, module.state, out)
 }
 
-/// Runs the stack, and writes the line of each module that is asked.
-fn put_trace<W: Write>(
-    stack: &Stack,
-    program: &Program,
-    codes: &[Code],
-    out: &mut Out<W>,
-) -> Result<(), Device>
-    requires room { out.old.failures < 2 ^ 64 - 1 }
-    requires each { length codes.now ≡ modules_of program.now }
-    ensures { Writes W.contents out.old out.new result (trace_text stack.now (answers_of codes.now) (asked_by (runs_of program.now) (answers_of codes.now))) }
+/// Writes the lines of the modules that are asked.
+fn put_trace<W: Write>(asked: &[AskedModule], out: &mut Out<W>) -> Result<(), Device>
+    requires { out.old.failures < 2 ^ 64 - 1 }
+    ensures { Writes W.contents out.old out.new result (trace_text (map asked_view asked.now)) }
 {
-    let mut work = Work::new();
-    let mut place = program.first();
-    while let Some(number) = place.module() {
-        let code = codes[number - 1];
-        let step = program.step(&place, code, &mut work);
-        let action = program.control(number).action(code);
-        let state = step.outcome().state;
-        put_asked(number, path_at(stack, number), code, action, state, out)?;
-        place = step.place();
+    for module in asked {
+        put_asked(module, out)?;
     }
     Ok(())
 }
@@ -164,25 +133,20 @@ fn put_decision<W: Write>(decision: Decision, out: &mut Out<W>) -> Result<(), De
     ])
 }
 
-/// Writes the answer, from the program and the decision of the stack.
-fn write_run<W: Write>(
+fn write_trace<W: Write>(
     service: &str,
     kind: Kind,
-    stack: &Stack,
-    program: &Program,
-    codes: &[Code],
-    decision: Decision,
+    modules: usize,
+    trace: &Trace,
     out: &mut Out<W>,
 ) -> Result<(), Device>
-    requires room { out.old.failures < 2 ^ 64 - 1 }
-    requires each { length codes.now ≡ modules_of program.now }
-    requires stack { runs_of program.now ≡ runs_of_stack stack.now }
-    requires decision { decision ≡ decided stack.now (answers_of codes.now) }
-    ensures { Writes W.contents out.old out.new result (decide_text service.now kind stack.now codes.now) }
+    requires { out.old.failures < 2 ^ 64 - 1 }
+    ensures { Writes W.contents out.old out.new result
+        (header_text service.now kind modules ++ trace_text (map asked_view trace.now.asked.items) ++ decision_text trace.now.decision) }
 {
-    put_header(service, kind, stack.modules(), out)?;
-    put_trace(stack, program, codes, out)?;
-    put_decision(decision, out)?;
+    put_header(service, kind, modules, out)?;
+    put_trace(&trace.asked, out)?;
+    put_decision(trace.decision, out)?;
     out.finish()
 }
 
@@ -202,12 +166,16 @@ fn decide_stack<W: Write>(
         Ok(program) => program,
         Err(_) => return Err(Fault::Memory),
     };
-    let decision = match program.decide(codes) {
-        Ok(decision) => decision,
-        Err(error) => return Err(Fault::Count(error)),
+    let modules = program.modules();
+    if codes.len() != modules {
+        return Err(Fault::Count(WrongCount { modules }));
+    }
+    let trace = match Trace::of(alloc, stack, &program, codes) {
+        Ok(trace) => trace,
+        Err(_) => return Err(Fault::Memory),
     };
-    match write_run(service, kind, stack, &program, codes, decision, out) {
-        Ok(()) => Ok(status_of(decision)),
+    match write_trace(service, kind, modules, &trace, out) {
+        Ok(()) => Ok(status_of(trace.decision)),
         Err(Device) => Err(Fault::Device),
     }
 }

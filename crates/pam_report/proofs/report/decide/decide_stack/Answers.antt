@@ -1,7 +1,19 @@
-use Rattle.std.proofs.Common.{◌∙◌}
-use Rattle.pam_report.proofs.TraceSteps.{decided_by-is}
+use Rattle.std.proofs.Common.{◌≡◌, ◌∙◌, arith, length, refl}
+use Rattle.pam_report.proofs.TraceSteps.{answer-is}
 use Rattle.pam_report.proofs.report.decide.decide_stack.Goals as goal
 
 pub returns : goal.returns
 returns g c =
-    (_, decided_by-is c.args.service.now c.args.kind c.args.stack.now c.args.codes.now (c.in-Ok-decide.ensures.count ∙ c.in-Ok.ensures.modules), c.in-Err-write_run.ensures)
+    let same = c.modules-modules.ensures.count ∙ c.in-Ok.ensures.modules in
+    let each : length c.args.codes.now ≡ c.modules-modules.result = omega (arith, c.if-codes-modules.false) in
+    let answer = answer-is c.args.service.now c.args.kind c.args.stack.now c.args.codes.now _ _ _ _ _ each same
+    c.in-Ok.ensures.runs c.in-Ok-of.ensures.asked c.in-Ok-of.ensures.decision refl in
+    (_, answer, c.in-Err-write_trace.ensures)
+
+pub returns-in-Ok-write_trace : goal.returns-in-Ok-write_trace
+returns-in-Ok-write_trace g c =
+    let same = c.modules-modules.ensures.count ∙ c.in-Ok.ensures.modules in
+    let each : length c.args.codes.now ≡ c.modules-modules.result = omega (arith, c.if-codes-modules.false) in
+    let answer = answer-is c.args.service.now c.args.kind c.args.stack.now c.args.codes.now _ _ _ _ _ each same
+    c.in-Ok.ensures.runs c.in-Ok-of.ensures.asked c.in-Ok-of.ensures.decision c.status_of.ensures in
+    (_, answer, c.in-Ok-write_trace.ensures)
