@@ -1,28 +1,14 @@
 -- A login, and where it comes from: access.conf(5), pam_access(8).
-use Rattle.std.specs.Prelude.{◌≡◌, ℕ, List, length, take, drop, codes, ◌==◌, not, if◌then◌else◌}
-use Rattle.std.specs.Str.{bytes_eq}
+use Rattle.std.specs.Prelude.{◌≡◌, ℕ, List, length, ◌==◌, not, if◌then◌else◌}
 use Rattle.pam_tables.specs.Address.{address_of}
-use Rattle.pam_tables.specs.declared.login.Login.{Login}
 use Rattle.pam_tables.specs.declared.login.Origin.{Origin}
 use Rattle.pam_tables.specs.declared.login.Origin.TheVariants as origins
-
-pub record LoginText : Type 0 where
-  pub user : List ℕ
-  pub service : List ℕ
-  pub tty : List ℕ
-  pub rhost : List ℕ
-
-abbrev pub login_view : Login → LoginText
-login_view l = record { user = l.user.now; service = l.service.now; tty = l.tty.now; rhost = l.rhost.now }
+unfoldable pub use Rattle.pam_times.specs.Login.{LoginText, login_view, without_dev}
 
 -- the origin of a login: a remote host, or a local place
 pub data OriginText : Type 0 where
   Remote : List ℕ → OriginText
   Local : List ℕ → OriginText
-
--- a terminal without one `/dev/` prefix
-abbrev pub without_dev : List ℕ → List ℕ
-without_dev tty = if bytes_eq (take 5 tty) (codes "/dev/") then drop 5 tty else tty
 
 -- the remote host if there is one, else the terminal if there is one, else the service
 unfoldable pub origin_of : LoginText → OriginText

@@ -1,5 +1,5 @@
 //! Access tables (access.conf(5)), group files (group(5)) and returns files, which say what modules may return.
-//! Time tables are in `pam_times`, with the same faults and the same limit of size.
+//! It offers what `pam_times` holds of time tables and moments.
 #![tactic(auto)]
 
 mod access;
@@ -22,7 +22,7 @@ pub use access::{AccessAnswer, AccessTable};
 pub use error::{Table, TableError, TableFault};
 pub use groups::Groups;
 pub use lines::MAX_TABLE_BYTES;
-pub use login::{Login, drop_dev};
 pub use options::AccessOptions;
+pub use pam_times::{Login, MomentError, TimeAnswer, TimeError, TimeFault, TimeTable, civil, moment};
 pub use returns::ReturnTable;
 pub use shared::{check_bytes, cut};

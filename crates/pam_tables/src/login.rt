@@ -1,18 +1,10 @@
-//! Logins and their origins, as in access.conf(5).
+//! Where a login comes from, as in access.conf(5).
 
 ghost use Rattle.std.specs.Prelude.{◌≡◌};
-ghost use Rattle.pam_tables.specs.Login.{login_view, origin_of, origin_view, without_dev, IsKnown};
+ghost use Rattle.pam_tables.specs.Login.{login_view, origin_of, origin_view, IsKnown};
 
 use crate::address::Address;
-
-/// A login: the user, the service, the terminal and the remote host. An empty terminal or host means there is none.
-#[derive(Clone, Copy, Debug)]
-pub struct Login<'a> {
-    pub user: &'a [u8],
-    pub service: &'a [u8],
-    pub tty: &'a [u8],
-    pub rhost: &'a [u8],
-}
+use pam_times::{Login, drop_dev};
 
 /// The origin of a login.
 #[derive(Clone, Copy)]
@@ -21,16 +13,6 @@ pub(crate) enum Origin<'a> {
     Remote(&'a [u8], Option<Address>),
     /// A terminal without `/dev/`, or a service.
     Local(&'a [u8]),
-}
-
-/// Removes one `/dev/` prefix from the name of a terminal.
-pub fn drop_dev(tty: &[u8]) -> &[u8]
-    ensures { result.now ≡ without_dev tty.now }
-{
-    match tty.strip_prefix(b"/dev/") {
-        Some(name) => name,
-        None => tty,
-    }
 }
 
 impl<'a> Origin<'a> {

@@ -16,6 +16,6 @@ mod times;
 mod week_time;
 
 pub use error::{TimeError, TimeFault};
-pub use login::Login;
+pub use login::{Login, drop_dev};
 pub use moments::{MomentError, civil, moment};
 pub use times::{TimeAnswer, TimeTable};
