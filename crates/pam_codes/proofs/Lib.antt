@@ -13,7 +13,6 @@ pub mod SameActions
 pub mod SetAlgebra
 pub mod SetNames
 pub mod Tables
-pub mod TextLines
 pub mod TextSteps
 pub mod TokensOf
 pub mod Writing

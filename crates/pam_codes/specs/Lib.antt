@@ -10,5 +10,4 @@ pub mod Set
 pub mod SetBits
 pub mod SetText
 pub mod Subject
-pub mod Text
 pub mod Tokens

@@ -1,10 +1,12 @@
 //! The control of a rule: its text, and its action for each return code.
 
-ghost use Rattle.std.specs.Prelude.{◌≡◌, ◌<◌, ◌≤◌, ◌+◌, ◌-◌, ◌^◌, Ok, Err, false, ◌∷◌, [], All, List, Option, Some, None, MatchResult, IfOk, OnOk, MatchOption, map, get_or, length, unwrap_or, slice_get, slice_index_or, IfSome};
+ghost use Rattle.std.specs.Prelude.{◌≡◌, ◌<◌, ◌≤◌, ◌∷◌, [], All, IfOk, IfSome, MatchOption, MatchResult, Err, None, Some};
+ghost use Rattle.std.specs.Prelude.{false, length, map, slice_get, slice_index_or, unwrap_or};
 ghost use Rattle.std.specs.Option.{option_map};
 ghost use Rattle.pam_codes.specs.Action.{IsAction};
 ghost use Rattle.pam_codes.specs.Code.{all_codes, code_names};
-ghost use Rattle.pam_codes.specs.Control.{IsControl, control_of, bracket_actions, keyword_pairs, actions_of, pairs_of, closing_at, granting_pairs, token_actions, with_front, equals_sign as equals_sign_of};
+ghost use Rattle.pam_codes.specs.Control.{IsControl, actions_of, bracket_actions, closing_at, control_of, equals_sign as equals_sign_of};
+ghost use Rattle.pam_codes.specs.Control.{granting_pairs, keyword_pairs, pairs_of, token_actions, with_front};
 ghost use Rattle.pam_codes.specs.ControlText.{control_text, default_of, keyword_of, list_text, mention, mentions, same_actions};
 ghost use Rattle.pam_text.specs.Out.{Writes};
 ghost use Rattle.pam_codes.specs.Tokens.{tokens_of};

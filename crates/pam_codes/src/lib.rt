@@ -1,4 +1,4 @@
-//! Return codes, actions and controls of PAM rules: pam.conf(5). Also the text of a file without its comments.
+//! Return codes, actions and controls of PAM rules: pam.conf(5).
 #![tactic(auto)]
 
 mod action;
@@ -10,7 +10,6 @@ mod parts;
 mod set;
 mod set_text;
 mod subject;
-mod text;
 mod tokens;
 
 pub use action::Action;
@@ -20,5 +19,4 @@ pub use error::ControlError;
 pub use pam_text::{Device, Out, Piece};
 pub use parts::{Part, Parts};
 pub use set::CodeSet;
-pub use text::Text;
 pub use tokens::is_blank_byte;

@@ -105,7 +105,8 @@ module _ (entries program : List Entry) (positions : List ℕ) {parts : List (Li
 
       pub found_no_substack : (level : ℕ) → e ≡ Substack level → ⊥
       found_no_substack level substack =
-          let no : Module module_there.level number (get_or (controls_in entries) (number - 1) []) module_there.after ≡ Substack level = sym found_module ∙ substack in
+          let no : Module module_there.level number (get_or (controls_in entries) (number - 1) []) module_there.after ≡ Substack level =
+          sym found_module ∙ substack in
           cc
 
       pub found_control : (level m : ℕ) (control : List Action) (after : ℕ) → e ≡ Module level m control after → control ≡ control_at program number

@@ -1,5 +1,6 @@
 -- The flat list of a tree of items.
-use Rattle.std.proofs.Common.{◌≡◌, ℕ, ◌+◌, ◌<◌, ◌≤◌, List, [], ◌∷◌, ◌++◌, zero, suc, refl, sym, ◌∙◌, ap, arith, drop, length, length-drop, get_or, append_assoc, append-nil, drop_of_length-le}
+use Rattle.std.proofs.Common.{◌≡◌, ℕ, ◌+◌, ◌<◌, ◌≤◌, List, [], ◌∷◌, ◌++◌, zero, suc, refl, sym, ◌∙◌, ap, arith, drop, length, length-drop, get_or}
+use Rattle.std.proofs.Common.{append_assoc, append-nil, drop_of_length-le}
 use Rattle.std.proofs.Math.Seq.{drop-nil}
 use Rattle.pam_conf.specs.declared.stack.Module.{Module}
 use Rattle.pam_conf.specs.declared.stack.Item.{Item}
@@ -21,19 +22,22 @@ count-items_of (SubItem s ∷ xs) = ap suc (count-items_of xs)
 -- a module comes after the entries of the items before it
 pub flat_list-module : (level i after : ℕ) (xs : List Item) (entries : List Entry) (d : Item) (m : Module) → i < length xs → get_or xs i d ≡ ModuleItem m →
     after + (i + 1) ≡ length xs →
-    (entries ++ ModuleEntry level m.number m.control after ∷ []) ++ flat_list level (items_of (drop (i + 1) xs)) ≡ entries ++ flat_list level (items_of (drop i xs))
+    (entries ++ ModuleEntry level m.number m.control after ∷ []) ++ flat_list level (items_of (drop (i + 1) xs)) ≡ entries ++ flat_list level
+    (items_of (drop i xs))
 unfolding flat_list
 flat_list-module level i after xs entries d m h e b =
     let next : i + 1 ≡ suc i = omega arith in
     let left : length (drop (suc i) xs) ≡ after = length-drop (suc i) xs ∙ omega (arith, b) in
     append_assoc entries (ModuleEntry level m.number m.control after ∷ []) (flat_list level (items_of (drop (i + 1) xs)))
     ∙ ap (λ (k : ℕ). entries ++ ModuleEntry level m.number m.control after ∷ flat_list level (items_of (drop k xs))) next
-    ∙ ap (λ (k : ℕ). entries ++ ModuleEntry level m.number m.control k ∷ flat_list level (items_of (drop (suc i) xs))) (sym (count-items_of (drop (suc i) xs) ∙ left))
+    ∙ ap (λ (k : ℕ). entries ++ ModuleEntry level m.number m.control k ∷ flat_list level (items_of (drop (suc i) xs)))
+    (sym (count-items_of (drop (suc i) xs) ∙ left))
     ∙ ap (λ (x : Items). entries ++ flat_list level x) (sym (items_of-drop_module xs i d m h e))
 
 -- a substack and its entries come after the entries of the items before it
 pub flat_list-sub : (level i : ℕ) (xs : List Item) (entries : List Entry) (d : Item) (s : SubList) → i < length xs → get_or xs i d ≡ SubItem s →
-    ((entries ++ Substack level ∷ []) ++ flat_list (level + 1) s.inner) ++ flat_list level (items_of (drop (i + 1) xs)) ≡ entries ++ flat_list level (items_of (drop i xs))
+    ((entries ++ Substack level ∷ []) ++ flat_list (level + 1) s.inner) ++ flat_list level (items_of (drop (i + 1) xs)) ≡ entries ++ flat_list level
+    (items_of (drop i xs))
 unfolding flat_list
 flat_list-sub level i xs entries d s h e =
     let next : i + 1 ≡ suc i = omega arith in

@@ -27,7 +27,9 @@ AsksRise-resume (Module here m control after ∷ rest) before high level skip es
     (λ j. (
       omega (arith, n.0),
       omega (arith, n.0, h),
-      λ o. AsksRise-lower m (before + 1) high _ (omega (arith, n.0)) (AsksRise-resume rest (before + 1) high here (after - o.left) _ o.state n.1 (omega (arith, h))),
+      λ o.
+          AsksRise-lower m (before + 1) high _ (omega (arith, n.0))
+          (AsksRise-resume rest (before + 1) high here (after - o.left) _ o.state n.1 (omega (arith, h))),
     )))
 AsksRise-resume (Substack here ∷ rest) before high level skip es s n h =
     cond_both (ltb level here) (resume rest level skip es s) _ (λ r. AsksRise before high r)
@@ -74,8 +76,12 @@ pub at_positions_from : (ts : List Entry) (before numbered index : ℕ) → IsNu
     × ModuleAt ts position (numbered + index + 1) (get_or (controls_in ts) index [])
 unfolding IsNumbered positions_from controls_in
 at_positions_from [] before numbered index n h = absurd (omega (arith, h))
-at_positions_from (Module level number control after ∷ rest) before numbered zero n h =
-    (0, omega arith, record { level = level; after = after; within = omega arith; is = λ past. ap (λ (x : ℕ). Module level x control after) (omega (arith, n.0)) })
+at_positions_from (Module level number control after ∷ rest) before numbered zero n h = (
+  0,
+  omega arith,
+  record
+      { level = level; after = after; within = omega arith; is = λ past. ap (λ (x : ℕ). Module level x control after) (omega (arith, n.0)) },
+)
 at_positions_from (Module level number control after ∷ rest) before numbered (suc index) n h =
     let deeper = at_positions_from rest (before + 1) (numbered + 1) index n.1 (omega (arith, h)) in
     let same : (numbered + 1) + index + 1 ≡ numbered + suc index + 1 = omega arith in (

@@ -1,5 +1,6 @@
 -- Places, and the runs from them on.
-use Rattle.std.proofs.Common.{◌≡◌, ℕ, ◌+◌, ◌-◌, ◌<◌, ◌&&◌, List, [], ◌∷◌, ◌++◌, eqb, ltb, refl, sym, ◌∙◌, ap, subst, inl, inr, arith, take, drop, length, get_or, Option}
+use Rattle.std.proofs.Common.{◌≡◌, ℕ, ◌+◌, ◌-◌, ◌<◌, ◌&&◌, List, [], ◌∷◌, ◌++◌, eqb, ltb, refl, sym, ◌∙◌, ap, subst, inl, inr, arith, take, drop}
+use Rattle.std.proofs.Common.{length, get_or, Option}
 use Rattle.std.specs.Prelude.{IsSome}
 use Rattle.std.proofs.lemmas.Bool.{cases_lt, cond_both, false≢true}
 use Rattle.std.proofs.lemmas.List.{drop_all}
@@ -10,7 +11,7 @@ use Rattle.pam_dispatch.specs.declared.entry.Entry.{Entry}
 use Rattle.pam_dispatch.specs.declared.entry.Entry.TheVariants.{Module, Substack}
 use Rattle.pam_dispatch.specs.State.{start_state, act, left_of, action_of}
 use Rattle.pam_dispatch.specs.declared.step.Outcome.{Outcome}
-use Rattle.pam_dispatch.specs.Runs.{outcome_of, Runs, asked_module, state_in, after_answer, outcome_in}
+use Rattle.pam_dispatch.specs.Runs.{Ask, outcome_of, Runs, asked_module, state_in, after_answer, outcome_in}
 use Rattle.pam_dispatch.specs.Flat.{resume, IsAt, IsPlaceOf, rest_of}
 use Rattle.pam_dispatch.proofs.Resume.{resume-module, ask_at, asked_module-ask_at, at_place, at_module-asks}
 
@@ -29,14 +30,18 @@ state_in-resume (Module here m control after ∷ rest) level skip es s =
 state_in-resume (Substack here ∷ rest) level skip es s =
     cond_both (ltb level here) (resume rest level skip es s) _ (λ r. state_in r ≡ s)
     (λ k. state_in-resume rest level skip es s)
-    (λ k. cond_both (eqb here level && ltb 0 skip) (resume rest level (skip - 1) es s) (resume rest (here + 1) 0 (take (here + 1) es ++ s ∷ []) s) (λ r. state_in r ≡ s)
+    (λ k.
+    cond_both (eqb here level && ltb 0 skip) (resume rest level (skip - 1) es s) (resume rest (here + 1) 0 (take (here + 1) es ++ s ∷ []) s)
+    (λ r. state_in r ≡ s)
     (λ j. state_in-resume rest level (skip - 1) es s) (λ j. state_in-resume rest (here + 1) 0 _ s))
 
 asked-resume : (ts : List Entry) (depth : ℕ) (n : Option ℕ) (es : List State) (s : State) → IsAt ts depth n → n ≡ asked_module (resume ts depth 0 es s)
 unfolding resume
 asked-resume [] depth n es s h = h
 asked-resume (Module here m control after ∷ rest) depth n es s h =
-    h.1 ∙ sym (asked_module-ask_at here m control after rest es s) ∙ sym (ap asked_module (resume-module here m control after rest depth 0 es s (omega (arith, h.0)) (λ e l. omega arith)))
+    h.1
+    ∙ sym (asked_module-ask_at here m control after rest es s)
+    ∙ sym (ap asked_module (resume-module here m control after rest depth 0 es s (omega (arith, h.0)) (λ e l. omega arith)))
 asked-resume (Substack here ∷ rest) depth n es s h = absurd h
 
 module _ (program : List Entry) (place : Place) (valid : IsPlaceOf program place) where
@@ -71,7 +76,8 @@ module _ (program : List Entry) (place : Place) (valid : IsPlaceOf program place
     unfolding IsPlaceOf
     place_depth =
         let P : List Entry → Type 0 = λ ts. IsAt ts place.depth place.module_number in
-        let k : P (Module l m control after ∷ drop (place.position + 1) program) = subst P (at_place program place.position d (Module l m control after) within is) valid in
+        let k : P (Module l m control after ∷ drop (place.position + 1) program) =
+        subst P (at_place program place.position d (Module l m control after) within is) valid in
         k.0
 
     pub place_asks : rest_of program place ≡ ask_at l m control after (drop (place.position + 1) program) place.entered.states place.state
@@ -85,13 +91,22 @@ module _ (program : List Entry) (place : Place) (valid : IsPlaceOf program place
         (entry_is : entry ≡ get_or place.entered.states l start_state)
         (left_is : left ≡ left_of action code place.state after)
         (state_is : state ≡ act action code place.state entry after) where
-      outcome_is : record { state = state; left = left } ≡ outcome_of (record { module_number = m; control = control; state = place.state; entry = get_or place.entered.states l start_state; behind = after }) code
+      abbrev asked : Ask
+      asked = record {
+        module_number = m;
+        control = control;
+        state = place.state;
+        entry = get_or place.entered.states l start_state;
+        behind = after;
+      }
+
+      outcome_is : record { state = state; left = left } ≡ outcome_of asked code
       unfolding outcome_of
       outcome_is =
           ap (λ (x : ℕ). outcome state x) left_is
           ∙ ap (λ (x : State). outcome x (left_of action code place.state after)) state_is
           ∙ ap (λ (x : State). outcome (act action code place.state x after) (left_of action code place.state after)) entry_is
-          ∙ sym (ap (λ (a : Action). outcome (act a code place.state (get_or place.entered.states l start_state) after) (left_of a code place.state after)) action_is)
+          ∙ sym (ap (λ (a : Action). outcome (act a code place.state asked.entry after) (left_of a code place.state after)) action_is)
 
       pub answer_rest : resume (drop (place.position + 1) program) l (after - left) (take place.depth place.entered.states) state
           ≡ after_answer (rest_of program place) code

@@ -1,5 +1,6 @@
 -- The flat list of a stack is a program's, with the stack's modules and controls.
-use Rattle.std.proofs.Common.{◌≡◌, ℕ, ◌+◌, ◌-◌, ◌≤◌, List, [], ◌∷◌, ◌++◌, Option, Some, None, IsSome, IfSome, All, eqb, suc, refl, ◌∙◌, ap, subst, arith, length, get_or}
+use Rattle.std.proofs.Common.{◌≡◌, ℕ, ◌+◌, ◌-◌, ◌≤◌, List, [], ◌∷◌, ◌++◌, Option, Some, None, IsSome, IfSome, All, eqb, suc, refl, ◌∙◌, ap, subst}
+use Rattle.std.proofs.Common.{arith, length, get_or}
 use Rattle.std.proofs.lemmas.Bool.{cond_both, eqb-true}
 use Rattle.std.proofs.lemmas.List.{length-append, get_or-append_right, get_or_append_left}
 use Rattle.std.proofs.lemmas.List.Elements.{All-append, All-cons, All-nil}
@@ -25,7 +26,8 @@ shallow-flat_list level (ThenModule m rest) h =
     All-cons IsShallow (Module level m.number m.control (count rest)) (flat_list level rest) (omega (arith, h, depth-pos rest)) (shallow-flat_list level rest h)
 shallow-flat_list level (ThenSub sub inner rest) h =
     All-cons IsShallow (Substack level) (flat_list (level + 1) inner ++ flat_list level rest) (omega (arith, h, depth-pos inner))
-    (All-append IsShallow (flat_list (level + 1) inner) (flat_list level rest) (shallow-flat_list (level + 1) inner (omega (arith, h))) (shallow-flat_list level rest (omega (arith, h))))
+    (All-append IsShallow (flat_list (level + 1) inner) (flat_list level rest) (shallow-flat_list (level + 1) inner (omega (arith, h)))
+    (shallow-flat_list level rest (omega (arith, h))))
 
 -- CONTROLS
 
@@ -126,7 +128,8 @@ control-module_at first number (ThenSub sub inner rest) h =
     ∙ ap (λ (i : ℕ). get_or (controls_of rest) i []) after ∙ is)
     (control-module_at (first + module_count inner) number rest parts.1))
 
-pub control_at-flat_list : (items : Items) (number : ℕ) → IsNumberedFrom 1 items → IfSome (module_at number items) (λ m. control_at (flat_list 0 items) number ≡ m.control)
+pub control_at-flat_list : (items : Items) (number : ℕ) → IsNumberedFrom 1 items
+    → IfSome (module_at number items) (λ m. control_at (flat_list 0 items) number ≡ m.control)
 control_at-flat_list items number h =
     if_both (module_at number items) (HasControl (controls_of items) (number - 1)) (λ m. control_at (flat_list 0 items) number ≡ m.control)
     (λ some m is. ap (λ (cs : List (List Action)). get_or cs (number - 1) []) (controls_in-flat_list 0 items) ∙ is)
@@ -134,7 +137,8 @@ control_at-flat_list items number h =
 
 -- A STACK'S PROGRAM
 
-pub program-flat_list : (items : Items) (positions : List ℕ) (parts : List (List Part)) → module_count items ≤ MAX_MODULES → depth items ≤ 16 → IsNumberedFrom 1 items →
+pub program-flat_list : (items : Items) (positions : List ℕ) (parts : List (List Part)) → module_count items ≤ MAX_MODULES → depth items ≤ 16
+    → IsNumberedFrom 1 items →
     positions ≡ positions_from 0 (flat_list 0 items) → AllZip IsParts (controls_in (flat_list 0 items)) parts →
     IsProgram (flat_list 0 items) positions parts
 program-flat_list items positions parts few shallow numbered found divided =
@@ -149,6 +153,7 @@ program-flat_list items positions parts few shallow numbered found divided =
     }
 
 -- the flat list, appended to an empty list
-pub whole_list : (items list : Items) (front entries : List Entry) → front ≡ [] → list ≡ items → entries ≡ front ++ flat_list 0 list → entries ≡ flat_list 0 items
+pub whole_list : (items list : Items) (front entries : List Entry) → front ≡ [] → list ≡ items → entries ≡ front ++ flat_list 0 list
+    → entries ≡ flat_list 0 items
 whole_list items list front entries f l e =
     e ∙ ap (λ (x : List Entry). x ++ flat_list 0 list) f ∙ ap (flat_list 0) l

@@ -15,6 +15,9 @@ line_text-take xs i d h =
     ∙ ap (λ l. line_text (take i xs) ++ l) (append-nil (piece_text (get_or xs i d)))
 
 -- the pieces before the i-th, that piece and the others
-pub line_text-at : (xs : List Piece) (i : ℕ) (d : Piece) → i < length xs → (line_text (take i xs) ++ piece_text (get_or xs i d)) ++ line_text (drop (i + 1) xs) ≡ line_text xs
+pub line_text-at : (xs : List Piece) (i : ℕ) (d : Piece) → i < length xs
+    → (line_text (take i xs) ++ piece_text (get_or xs i d)) ++ line_text (drop (i + 1) xs) ≡ line_text xs
 line_text-at xs i d h =
-    ap (λ l. l ++ line_text (drop (i + 1) xs)) (sym (line_text-take xs i d h)) ∙ sym (line_text-append (take (i + 1) xs) (drop (i + 1) xs)) ∙ ap line_text (take-append-drop (i + 1) xs)
+    ap (λ l. l ++ line_text (drop (i + 1) xs)) (sym (line_text-take xs i d h))
+    ∙ sym (line_text-append (take (i + 1) xs) (drop (i + 1) xs))
+    ∙ ap line_text (take-append-drop (i + 1) xs)

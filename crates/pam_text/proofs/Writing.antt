@@ -1,7 +1,8 @@
 -- How the effects of calls that write combine. A function that writes `a ++ b ++ c` by three calls needs, at the call
 -- that fails, `err-then` or `err-then-more` over `all-then` of the calls before it, and for a last call without `?`
 -- `writes-then`.
-use Rattle.std.proofs.Common.{◌≡◌, ℕ, ◌+◌, ◌-◌, ◌<◌, ◌≤◌, List, [], ◌++◌, length, take, drop, ◌==◌, ◌&&◌, not, if◌then◌else◌, ◌∷◌, refl, sym, ap, subst, ◌∙◌, arith, length-append, append_assoc, append-nil, Option, Some, None, Result, Ok, Err}
+use Rattle.std.proofs.Common.{◌≡◌, ℕ, ◌+◌, ◌-◌, ◌<◌, ◌≤◌, List, [], ◌++◌, length, take, drop, ◌==◌, ◌&&◌, not, if◌then◌else◌, ◌∷◌, refl, sym, ap}
+use Rattle.std.proofs.Common.{subst, ◌∙◌, arith, length-append, append_assoc, append-nil, Option, Some, None, Result, Ok, Err}
 use Rattle.std.proofs.lemmas.List.{take-append-drop}
 use Rattle.std.proofs.KnownBytes.{Appends-trans, Appends-nil}
 use lib.Seq.{take-add, take-take}
@@ -88,7 +89,8 @@ module _ {W : Type 0} {contents : W → Option (List ℕ)} where
   }
 
   -- the call that ends a function
-  pub writes-then : {old mid : Out W} {a : List ℕ} (new : Out W) (b : List ℕ) (r : Result (Unit {0}) Device) → TookAll contents old mid a → Writes contents mid new r b → Writes contents old new r (a ++ b)
+  pub writes-then : {old mid : Out W} {a : List ℕ} (new : Out W) (b : List ℕ) (r : Result (Unit {0}) Device) → TookAll contents old mid a
+      → Writes contents mid new r b → Writes contents old new r (a ++ b)
   writes-then new b (Ok x) s t = all-then s t
   writes-then new b (Err x) s t = front-then s t
 
@@ -98,10 +100,12 @@ module _ {W : Type 0} {contents : W → Option (List ℕ)} where
   err-front (Err x) e s = s
 
   -- the call that failed after all of a text, before the rest of it
-  pub err-then : {old mid new : Out W} {a b : List ℕ} (r : Result (Unit {0}) Device) → IsErr r → TookAll contents old mid a → TookFront contents mid new b → Writes contents old new r (a ++ b)
+  pub err-then : {old mid new : Out W} {a b : List ℕ} (r : Result (Unit {0}) Device) → IsErr r → TookAll contents old mid a
+      → TookFront contents mid new b → Writes contents old new r (a ++ b)
   err-then r e s t = err-front r e (front-then s t)
 
-  pub err-then-more : {old mid new : Out W} {a b : List ℕ} (r : Result (Unit {0}) Device) (more : List ℕ) → IsErr r → TookAll contents old mid a → TookFront contents mid new b → Writes contents old new r (a ++ b ++ more)
+  pub err-then-more : {old mid new : Out W} {a b : List ℕ} (r : Result (Unit {0}) Device) (more : List ℕ) → IsErr r → TookAll contents old mid a
+      → TookFront contents mid new b → Writes contents old new r (a ++ b ++ more)
   err-then-more r more e s t = err-front r e (front-longer more (front-then s t))
 
   -- the same text, written another way
@@ -111,5 +115,6 @@ module _ {W : Type 0} {contents : W → Option (List ℕ)} where
   pub front-is : {old new : Out W} {a b : List ℕ} → TookFront contents old new a → a ≡ b → TookFront contents old new b
   front-is {old} {new} s e = subst (λ l. TookFront contents old new l) e s
 
-pub writes-is : {W : Type 0} (contents : W → Option (List ℕ)) (old new : Out W) (a b : List ℕ) (r : Result (Unit {0}) Device) → Writes contents old new r a → a ≡ b → Writes contents old new r b
+pub writes-is : {W : Type 0} (contents : W → Option (List ℕ)) (old new : Out W) (a b : List ℕ) (r : Result (Unit {0}) Device)
+    → Writes contents old new r a → a ≡ b → Writes contents old new r b
 writes-is contents old new a b r s e = subst (λ l. Writes contents old new r l) e s

@@ -22,9 +22,12 @@ loop-written-preserved g c =
     let e = c.in-Ok.ensures in
     let most = length-take {A = ℕ} in
     let left = length-drop {A = ℕ} in
-    let none = fails-taking_some c.in-Ok.count (take (length c.args.bytes.now - c.loop-written.written) (drop c.loop-written.written c.args.bytes.now)) c.in-Ok.count-test.1 in
+    let none =
+    fails-taking_some c.in-Ok.count (take (length c.args.bytes.now - c.loop-written.written) (drop c.loop-written.written c.args.bytes.now))
+    c.in-Ok.count-test.1 in
     record {
       within = omega (arith, e.bound, most, left);
-      took = took-more _ _ _ (omega (arith, e.bound, most, left)) c.loop-written.invariant.took (record { held = e.bytes; counted = omega (arith, e.taken, e.bound, most, left) });
+      took = took-more _ _ _ (omega (arith, e.bound, most, left)) c.loop-written.invariant.took
+          (record { held = e.bytes; counted = omega (arith, e.taken, e.bound, most, left) });
       as_before = omega (arith, rw none at e.failures, c.loop-written.invariant.as_before);
     }
