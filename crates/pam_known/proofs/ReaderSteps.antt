@@ -15,7 +15,7 @@ use Rattle.pam_known.specs.declared.error.KnownError.{KnownError}
 use Rattle.pam_times.specs.Times.{answer_of}
 use Rattle.pam_times.specs.declared.times.TimeAnswer.{TimeAnswer}
 use Rattle.pam_times.specs.declared.times.TimeAnswer.TheVariants as times
-use Rattle.pam_known.specs.Answers.{access_code, access_read, access_told, name_of_path, result_map, table_answer, time_code, time_read, time_told, timed_login}
+use Rattle.pam_known.specs.Answers.{access_code, access_read, access_told, name_of_path, result_map, table_answer, time_code, time_read, time_told}
 use Rattle.pam_known.specs.Knowledge.{codes_by, line_at, told_at}
 use Rattle.pam_known.specs.Tables.{TablesText, TimedText}
 
@@ -73,7 +73,7 @@ unfolding table_answer access_told time_told
 code_small kind login tables groups m code e =
     either_small (access_told login groups m.arguments) (time_told login) (access_read tables m) (time_read kind tables m) code
     (λ bytes is. told_small (λ table. access_code (access_answer table login groups)) _ code (λ table. access_small (access_answer table login groups)) is)
-    (λ timed is. told_small (λ rules. time_code (answer_of rules (timed_login login) timed.moment)) _ code (λ rules. time_small (answer_of rules (timed_login login) timed.moment)) is)
+    (λ timed is. told_small (λ rules. time_code (answer_of rules login timed.moment)) _ code (λ rules. time_small (answer_of rules login timed.moment)) is)
     e
 
 pub code_small_at : (kind : Kind) (login : LoginText) (tables : TablesText) (groups : List Group) (items : Items) (number code : ℕ) →

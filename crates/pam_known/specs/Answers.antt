@@ -18,7 +18,6 @@ use Rattle.pam_tables.specs.declared.error.Table.{Table}
 use Rattle.pam_tables.specs.declared.error.Table.TheVariants.{Access}
 use Rattle.pam_tables.specs.declared.error.TableFault.{TableFault}
 use Rattle.pam_tables.specs.declared.error.TableFault.TheVariants as tables
-use Rattle.pam_times.specs.Login.{LoginText as TimedLogin}
 use Rattle.pam_times.specs.Reading.{rules_of}
 use Rattle.pam_times.specs.Times.{answer_of}
 use Rattle.pam_times.specs.declared.error.TimeError.{TimeError}
@@ -102,13 +101,9 @@ unfoldable pub access_told : LoginText → List Group → List (List ℕ) → Li
 access_told login groups arguments bytes =
     result_map (λ table. access_code (access_answer table login groups)) (read_as Access (table_of (options_of arguments) bytes))
 
--- the login as a time table sees it, without the remote host
-abbrev pub timed_login : LoginText → TimedLogin
-timed_login l = record { user = l.user; service = l.service; tty = l.tty }
-
 -- the code that a time table tells
 unfoldable pub time_told : LoginText → TimedText → Result ℕ KnownError
-time_told login timed = result_map (λ rules. time_code (answer_of rules (timed_login login) timed.moment)) (read_times (rules_of timed.bytes))
+time_told login timed = result_map (λ rules. time_code (answer_of rules login timed.moment)) (read_times (rules_of timed.bytes))
 
 -- THE CODE of a module that reads a table, or the table's fault; none for other modules
 unfoldable pub table_answer : Kind → LoginText → TablesText → List Group → ModuleText → Option (Result ℕ KnownError)
