@@ -1,7 +1,7 @@
 //! The words of a line: pam.conf(5), on brackets in arguments.
-ghost use Rattle.std.specs.Prelude.{◌≡◌, ◌≤◌, ◌<◌, ◌-◌, ◌∷◌, ◌++◌, [], ℕ, List, Some, None, Ok, Err, not, map, take, drop};
+ghost use Rattle.std.specs.Prelude.{◌≡◌, ◌==◌, ◌≤◌, ◌<◌, ◌-◌, ◌∷◌, ◌++◌, [], ℕ, List, Some, None, Ok, Err, not, map, take, drop};
 ghost use Rattle.std.specs.Prelude.{IfOk, IfSome, MatchOption, MatchResult, IsSome, false, length, slice_index};
-ghost use Rattle.std.specs.List.{prefix_len, onto_first};
+ghost use Rattle.std.specs.List.{list_any, prefix_len, onto_first};
 ghost use Rattle.std.specs.Option.{option_map};
 ghost use Rattle.pam_codes.specs.Tokens.{is_blank};
 ghost use Rattle.pam_conf.specs.Words.{Between, Bracket, words_in, words_of, words_or_fault};
@@ -77,10 +77,19 @@ fn first_word(line: &[u8]) -> Result<Option<(&[u8], &[u8])>, ControlError>
     }
 }
 
+fn has_bracket(line: &[u8]) -> bool
+    ensures { result ≡ list_any (λ b. b == 91) line.now }
+{
+    line.contains(&b'[')
+}
+
 /// The fault of a line in which a bracket stays open, if there is one.
 fn open_bracket(line: &[u8]) -> Option<ControlError>
     ensures { MatchOption result (IsSome (words_of line.now)) (λ e. words_or_fault line.now ≡ Err (FaultKind.Control e)) }
 {
+    if !has_bracket(line) {
+        return None;
+    }
     let mut rest = line;
     while !rest.is_empty() {
         match first_word(rest) {
