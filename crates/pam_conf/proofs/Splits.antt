@@ -4,7 +4,7 @@ use Rattle.std.specs.Option.{option_map}
 use Rattle.std.specs.List.{onto_first}
 use Rattle.std.proofs.lemmas.Bool.{and_parts, eqb-true, eqb-false, ne_eqb}
 use Rattle.pam_codes.specs.Tokens.{is_blank}
-use Rattle.pam_conf.specs.Words.{Place, Between, Plain, Bracket, words_in, words_of, is_inside, has_no_blank, EndsWord, at_end, at_blank, IsSplit, nothing}
+use Rattle.pam_conf.specs.Words.{State, Between, Plain, Bracket, words_in, words_of, is_inside, has_no_blank, EndsWord, at_end, at_blank, IsSplit, nothing}
 use Rattle.pam_conf.specs.Words.{blank, bracketed, plain}
 
 -- FROM THE SPLIT TO THE WORDS
@@ -67,7 +67,7 @@ is_words (plain b bs rest ws n h ends s) =
 -- FROM THE WORDS TO THE SPLIT
 
 -- the meaning of the words of the rest of a line
-abbrev Means : Place → List ℕ → List (List ℕ) → Type 0
+abbrev Means : State → List ℕ → List (List ℕ) → Type 0
 Means Between line ws = IsSplit line ws
 Means Plain line [] = ⊥
 Means Plain line (w ∷ ws) = (tail : List ℕ) × (line ≡ w ++ tail) × (has_no_blank w ≡ true) × EndsWord tail × IsSplit tail ws
@@ -114,7 +114,7 @@ closes b e bs ws h rest =
     let parts = and_parts (eqb b 93) (not e) h in
     ([], bs, refl, ap (λ c. c ∷ bs) (eqb-true b 93 parts.0), parts.1, rest)
 
-means : (p : Place) (line : List ℕ) (ws : List (List ℕ)) → words_in p line ≡ Some ws → Means p line ws
+means : (p : State) (line : List ℕ) (ws : List (List ℕ)) → words_in p line ≡ Some ws → Means p line ws
 unfolding words_in
 means Between [] ws h = let none : [] ≡ ws = cc in subst (λ vs. IsSplit [] vs) none nothing
 means Plain [] ws h = let one : ([] ∷ []) ≡ ws = cc in subst (λ vs. Means Plain [] vs) one ([], refl, refl, at_end, nothing)

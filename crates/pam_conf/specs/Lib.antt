@@ -1,11 +1,12 @@
 pub mod Files
+pub mod FirstWord
 pub mod ItemsOf
 pub mod Laws
 pub mod Lines
 pub mod Progress
+pub mod Remaining
 pub mod Resolution
 pub mod Rule
-pub mod Spot
 pub mod Stack
 pub mod StackCode
 pub mod StartOf

@@ -170,7 +170,8 @@ fn one_file_stack(
     service: &[u8],
     kind: Kind,
 ) -> Result<Stack, ConfError>
-    ensures { Gives ErrorTells (λ s. s) result (from_starts files.now kind (start_in Single files.now service.now) (start_in Single files.now (codes "other"))) }
+    ensures { Gives ErrorTells (λ s. s) result (from_starts files.now kind (start_in Single files.now service.now)
+        (start_in Single files.now (codes "other"))) }
 {
     let Some(file) = files.find(ONE_FILE) else {
         return Err(no_service());

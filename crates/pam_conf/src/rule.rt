@@ -8,7 +8,7 @@ ghost use Rattle.pam_conf.specs.Rule.{body_view, rule_view, kind_named, kind_or_
 ghost use Rattle.pam_conf.specs.Rule.{file_name_of, without_folder_of, target_of};
 ghost use Rattle.pam_conf.specs.Rule.{module_of, control_body_of, body_of};
 ghost use Rattle.pam_conf.specs.Rule.{kind_rule_of, include_rule_of, plain_rule_of, first_rule_of, rule_of};
-ghost use Rattle.pam_conf.specs.Spot.{still_to_come};
+ghost use Rattle.pam_conf.specs.Remaining.{words_to_come};
 ghost use Rattle.pam_conf.specs.Walk.{carries, is_of_kind, same_kind};
 
 use crate::error::FaultKind;
@@ -156,7 +156,7 @@ fn without_folder(alloc: Global, text: Vec<u8>) -> Result<Vec<u8>, AllocError>
 /// The target at the start of `words`; further words are ignored.
 #[tactic(auto, unfolding(crate::specs::Rule::target_of))]
 fn target(alloc: Global, form: Form, words: Words<'_>) -> Result<Vec<u8>, FaultKind>
-    ensures { Gives KindTells (λ t. t.items) result (target_of form (still_to_come words.entry)) }
+    ensures { Gives KindTells (λ t. t.items) result (target_of form (words_to_come words.entry)) }
 {
     match form {
         Form::Single => Err(FaultKind::IncludeInSingleFile),
@@ -172,7 +172,7 @@ fn target(alloc: Global, form: Form, words: Words<'_>) -> Result<Vec<u8>, FaultK
 
 /// The body of a rule that calls a module; `words` begin with its path.
 fn module_body(alloc: Global, control: Control, words: Words<'_>) -> Result<Body, FaultKind>
-    ensures { Gives KindTells body_view result (module_of control (still_to_come words.entry)) }
+    ensures { Gives KindTells body_view result (module_of control (words_to_come words.entry)) }
 {
     let Some((path, arguments)) = words.split_first() else {
         return Err(FaultKind::MissingField);
@@ -184,7 +184,7 @@ fn module_body(alloc: Global, control: Control, words: Words<'_>) -> Result<Body
 
 /// The body of a rule whose control is neither `include` nor `substack`.
 fn control_body(alloc: Global, control: &[u8], words: Words<'_>) -> Result<Body, FaultKind>
-    ensures { Gives KindTells body_view result (control_body_of control.now (still_to_come words.entry)) }
+    ensures { Gives KindTells body_view result (control_body_of control.now (words_to_come words.entry)) }
 {
     match Control::read(control) {
         Ok(control) => module_body(alloc, control, words),
@@ -195,7 +195,7 @@ fn control_body(alloc: Global, control: &[u8], words: Words<'_>) -> Result<Body,
 /// The body of a rule: the words after the kind.
 #[tactic(auto, unfolding(crate::specs::Rule::body_of))]
 fn rule_body(alloc: Global, form: Form, words: Words<'_>) -> Result<Body, FaultKind>
-    ensures { Gives KindTells body_view result (body_of form (still_to_come words.entry)) }
+    ensures { Gives KindTells body_view result (body_of form (words_to_come words.entry)) }
 {
     let Some((control, words)) = words.split_first() else {
         return Err(FaultKind::MissingField);
@@ -222,7 +222,7 @@ fn kind_rule(
     words: Words<'_>,
 ) -> Result<Rule, FaultKind>
     ensures { Gives KindTells rule_view result
-        (kind_rule_of form line (option_map (λ s. s.items) service) kind.now (still_to_come words.entry)) }
+        (kind_rule_of form line (option_map (λ s. s.items) service) kind.now (words_to_come words.entry)) }
 {
     let (dashed, kind) = dashed_kind(kind)?;
     let body = rule_body(alloc, form, words)?;
@@ -238,7 +238,7 @@ fn kind_rule(
 /// The rule of an `@include`, from its target on.
 #[tactic(auto, unfolding(crate::specs::Rule::include_rule_of))]
 fn include_rule(alloc: Global, form: Form, line: usize, words: Words<'_>) -> Result<Rule, FaultKind>
-    ensures { Gives KindTells rule_view result (include_rule_of form line (still_to_come words.entry)) }
+    ensures { Gives KindTells rule_view result (include_rule_of form line (words_to_come words.entry)) }
 {
     let name = target(alloc, form, words)?;
     Ok(Rule {
@@ -268,7 +268,7 @@ fn plain_rule(
     mut first: Vec<u8>,
     words: Words<'_>,
 ) -> Result<Rule, FaultKind>
-    ensures { Gives KindTells rule_view result (plain_rule_of form line first.items (still_to_come words.entry)) }
+    ensures { Gives KindTells rule_view result (plain_rule_of form line first.items (words_to_come words.entry)) }
 {
     match form {
         Form::Dir => kind_rule(alloc, form, line, None, &first, words),
@@ -292,7 +292,7 @@ fn first_rule(
     first: Vec<u8>,
     words: Words<'_>,
 ) -> Result<Rule, FaultKind>
-    ensures { Gives KindTells rule_view result (first_rule_of form line first.items (still_to_come words.entry)) }
+    ensures { Gives KindTells rule_view result (first_rule_of form line first.items (words_to_come words.entry)) }
 {
     if is_name(b"@include", &first) {
         include_rule(alloc, form, line, words)
@@ -309,7 +309,7 @@ pub(crate) fn line_rule(
     line: usize,
     words: Words<'_>,
 ) -> Result<Option<Rule>, FaultKind>
-    ensures { Gives KindTells (option_map rule_view) result (rule_of form line (still_to_come words.entry)) }
+    ensures { Gives KindTells (option_map rule_view) result (rule_of form line (words_to_come words.entry)) }
 {
     let Some((first, words)) = words.split_first() else {
         return Ok(None);

@@ -89,7 +89,8 @@ impl Model for Stack {
 
     ghost view = { λ s. items_of s.items.items };
 
-    ghost invariant = { λ s. (s.modules ≡ module_count (items_of s.items.items)) × (module_count (items_of s.items.items) ≤ MAX_MODULES) × (depth (items_of s.items.items) ≤ MAX_OPEN_FILES) × IsNumbered (items_of s.items.items) };
+    ghost invariant = { λ s. (s.modules ≡ module_count (items_of s.items.items)) × (module_count (items_of s.items.items) ≤ MAX_MODULES)
+        × (depth (items_of s.items.items) ≤ MAX_OPEN_FILES) × IsNumbered (items_of s.items.items) };
 }
 
 impl Stack {

@@ -177,9 +177,11 @@ impl Walker<'_> {
         requires table { IsTable self.now.files.now self.now.kind progress.old.table.items }
         requires within { file < length self.now.files.now.entries }
         ensures table { OnOk result (IsTable self.now.files.now self.now.kind progress.new.table.items) }
-        ensures walked { let w = walk self.now.files.now self.now.kind (option_map (λ s. s.now) self.now.service) (MAX_OPEN_FILES - length trail.now) trail.now file in
+        ensures walked { let w = walk self.now.files.now self.now.kind (option_map (λ s. s.now) self.now.service)
+            (MAX_OPEN_FILES - length trail.now) trail.now file in
             MatchResult result
-            (λ _. Passes progress.old.modules progress.old.follows (items_of items.old.items) w progress.new.modules progress.new.follows (items_of items.new.items))
+            (λ _. Passes progress.old.modules progress.old.follows (items_of items.old.items) w progress.new.modules progress.new.follows
+            (items_of items.new.items))
             (λ e. Refuses progress.old.modules progress.old.follows w e) }
     {
         let rules = self.take_rules(&mut progress.table, file)?;
@@ -201,9 +203,11 @@ impl Walker<'_> {
         requires within { file < length self.now.files.now.entries }
         requires read { IsRead self.now.files.now self.now.kind (option_map (λ s. s.now) self.now.service) file (option_map (λ r. r.now) read) }
         ensures table { OnOk result (IsTable self.now.files.now self.now.kind progress.new.table.items) }
-        ensures walked { let w = walk self.now.files.now self.now.kind (option_map (λ s. s.now) self.now.service) (MAX_OPEN_FILES - length trail.now) trail.now file in
+        ensures walked { let w = walk self.now.files.now self.now.kind (option_map (λ s. s.now) self.now.service)
+            (MAX_OPEN_FILES - length trail.now) trail.now file in
             MatchResult result
-            (λ _. Passes progress.old.modules progress.old.follows (items_of items.old.items) w progress.new.modules progress.new.follows (items_of items.new.items))
+            (λ _. Passes progress.old.modules progress.old.follows (items_of items.old.items) w progress.new.modules progress.new.follows
+            (items_of items.new.items))
             (λ e. Refuses progress.old.modules progress.old.follows w e) }
     {
         match read {
@@ -225,9 +229,11 @@ impl Walker<'_> {
         requires table { IsTable self.now.files.now self.now.kind progress.old.table.items }
         ensures table { OnOk result (IsTable self.now.files.now self.now.kind progress.new.table.items) }
         ensures walked { let service = option_map (λ s. s.now) self.now.service in
-            let w = rules_walk self.now.files.now self.now.kind service (deeper self.now.files.now self.now.kind service (MAX_OPEN_FILES - length trail.now)) trail.now file (map rule_view rules.now) in
+            let w = rules_walk self.now.files.now self.now.kind service (deeper self.now.files.now self.now.kind service
+            (MAX_OPEN_FILES - length trail.now)) trail.now file (map rule_view rules.now) in
             MatchResult result
-            (λ _. Passes progress.old.modules progress.old.follows (items_of items.old.items) w progress.new.modules progress.new.follows (items_of items.new.items))
+            (λ _. Passes progress.old.modules progress.old.follows (items_of items.old.items) w progress.new.modules progress.new.follows
+            (items_of items.new.items))
             (λ e. Refuses progress.old.modules progress.old.follows w e) }
     {
         for rule in rules {
@@ -249,9 +255,11 @@ impl Walker<'_> {
         requires table { IsTable self.now.files.now self.now.kind progress.old.table.items }
         ensures table { OnOk result (IsTable self.now.files.now self.now.kind progress.new.table.items) }
         ensures walked { let service = option_map (λ s. s.now) self.now.service in
-            let w = rule_walk self.now.files.now self.now.kind service (deeper self.now.files.now self.now.kind service (MAX_OPEN_FILES - length trail.now)) trail.now file (rule_view rule.now) in
+            let w = rule_walk self.now.files.now self.now.kind service (deeper self.now.files.now self.now.kind service
+            (MAX_OPEN_FILES - length trail.now)) trail.now file (rule_view rule.now) in
             MatchResult result
-            (λ _. Passes progress.old.modules progress.old.follows (items_of items.old.items) w progress.new.modules progress.new.follows (items_of items.new.items))
+            (λ _. Passes progress.old.modules progress.old.follows (items_of items.old.items) w progress.new.modules progress.new.follows
+            (items_of items.new.items))
             (λ e. Refuses progress.old.modules progress.old.follows w e) }
     {
         if !self.counts(rule) {
@@ -308,9 +316,12 @@ impl Walker<'_> {
     ) -> Result<usize, ConfError>
         requires table { IsTable self.now.files.now self.now.kind progress.old.table.items }
         ensures table { OnOk result (IsTable self.now.files.now self.now.kind progress.new.table.items) }
-        ensures walked { let found = target_walk (deeper self.now.files.now self.now.kind (option_map (λ s. s.now) self.now.service) (MAX_OPEN_FILES - length trail.now)) trail.now (position_of target.now self.now.files.now.entries) in
+        ensures walked { let found = target_walk (deeper self.now.files.now self.now.kind (option_map (λ s. s.now) self.now.service)
+            (MAX_OPEN_FILES - length trail.now)) trail.now (position_of target.now self.now.files.now.entries) in
             MatchResult result
-            (λ position. IsOkAnd found (λ t. (t.0 ≡ position) × Passes progress.old.modules progress.old.follows (items_of items.old.items) (followed file line t.1) progress.new.modules progress.new.follows (items_of items.new.items)))
+            (λ position. IsOkAnd found (λ t. (t.0 ≡ position)
+            × Passes progress.old.modules progress.old.follows (items_of items.old.items)
+            (followed file line t.1) progress.new.modules progress.new.follows (items_of items.new.items)))
             (λ e. Refuses progress.old.modules progress.old.follows (include_walk file line found) e) }
     {
         let Some(position) = self.files.find(target) else {

@@ -2,7 +2,7 @@
 ghost use Rattle.std.specs.Prelude.{◌≡◌, IsOk, IsTrue, List, Ok, ℕ};
 ghost use Rattle.pam_conf.specs.Lines.{at_line, line_rule_of};
 ghost use Rattle.pam_conf.specs.Rule.{RuleText, body_of, rule_of, rule_view};
-ghost use Rattle.pam_conf.specs.Spot.{still_to_come};
+ghost use Rattle.pam_conf.specs.Remaining.{words_to_come};
 ghost use Rattle.pam_conf.specs.Wanted.{wants, with_rule};
 ghost use Rattle.pam_conf.specs.Words.{text_of_word};
 
@@ -47,7 +47,7 @@ pub(crate) fn is_unwanted(form: Form, line: &[u8], wanted: Wanted<'_>) -> bool
 /// Like `is_unwanted`, for the words of a line.
 fn has_unwanted_module(form: Form, words: Words<'_>, wanted: Wanted<'_>) -> bool
     ensures { IsTrue result → (number : ℕ) (rules : List RuleText) →
-        with_rule wanted.entry rules (at_line number (rule_of form number (still_to_come words.entry))) ≡ Ok rules }
+        with_rule wanted.entry rules (at_line number (rule_of form number (words_to_come words.entry))) ≡ Ok rules }
 {
     match form {
         Form::Dir => match wanted {
@@ -64,7 +64,7 @@ fn has_unwanted_module(form: Form, words: Words<'_>, wanted: Wanted<'_>) -> bool
 /// Whether the words, in a folder, certainly call a module for another kind.
 fn has_other_kind(words: Words<'_>, wanted: Kind) -> bool
     ensures { IsTrue result → (number : ℕ) (rules : List RuleText) →
-        with_rule (Wanted.OfKind wanted) rules (at_line number (rule_of Form.Dir number (still_to_come words.entry))) ≡ Ok rules }
+        with_rule (Wanted.OfKind wanted) rules (at_line number (rule_of Form.Dir number (words_to_come words.entry))) ≡ Ok rules }
 {
     let Some((first, words)) = words.split_first() else {
         return false;
@@ -81,7 +81,7 @@ fn has_other_kind(words: Words<'_>, wanted: Kind) -> bool
 /// Whether the words, in pam.conf, certainly call a module for a service that is neither of these two.
 fn has_other_service(words: Words<'_>, service: &[u8], other: &[u8]) -> bool
     ensures { IsTrue result → (number : ℕ) (rules : List RuleText) →
-        with_rule (Wanted.OfServices service.entry other.entry) rules (at_line number (rule_of Form.Single number (still_to_come words.entry))) ≡ Ok rules }
+        with_rule (Wanted.OfServices service.entry other.entry) rules (at_line number (rule_of Form.Single number (words_to_come words.entry))) ≡ Ok rules }
 {
     let Some((first, words)) = words.split_first() else {
         return false;
@@ -113,7 +113,7 @@ fn is_plain(word: &[u8]) -> bool
 
 /// Whether the words, from a control on, call a module without a fault.
 fn calls_module(words: Words<'_>) -> bool
-    ensures { IsTrue result → (form : Form) → IsOk (body_of form (still_to_come words.entry)) }
+    ensures { IsTrue result → (form : Form) → IsOk (body_of form (words_to_come words.entry)) }
 {
     let Some((control, words)) = words.split_first() else {
         return false;

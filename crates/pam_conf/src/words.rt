@@ -1,11 +1,12 @@
 //! The words of a line: pam.conf(5), on brackets in arguments.
-ghost use Rattle.std.specs.Prelude.{◌≡◌, ◌≤◌, ◌<◌, ◌-◌, ◌∷◌, ◌++◌, [], ℕ, List, Some, None, Ok, Err, not, map, take, drop};
+ghost use Rattle.std.specs.Prelude.{◌≡◌, ◌==◌, ◌≤◌, ◌<◌, ◌-◌, ◌∷◌, ◌++◌, [], ℕ, List, Some, None, Ok, Err, not, map, take, drop};
 ghost use Rattle.std.specs.Prelude.{IfOk, IfSome, MatchOption, MatchResult, IsSome, false, length, slice_index};
-ghost use Rattle.std.specs.List.{prefix_len, onto_first};
+ghost use Rattle.std.specs.List.{list_any, prefix_len, onto_first};
 ghost use Rattle.std.specs.Option.{option_map};
 ghost use Rattle.pam_codes.specs.Tokens.{is_blank};
 ghost use Rattle.pam_conf.specs.Words.{Between, Bracket, words_in, words_of, words_or_fault};
-ghost use Rattle.pam_conf.specs.Words.{words_from, unescaped, text_of_word};
+ghost use Rattle.pam_conf.specs.FirstWord.{words_from};
+ghost use Rattle.pam_conf.specs.Words.{unescaped, text_of_word};
 
 use crate::error::FaultKind;
 use pam_codes::{ControlError, is_blank_byte};
@@ -77,10 +78,19 @@ fn first_word(line: &[u8]) -> Result<Option<(&[u8], &[u8])>, ControlError>
     }
 }
 
+fn has_bracket(line: &[u8]) -> bool
+    ensures { result ≡ list_any (λ b. b == 91) line.now }
+{
+    line.contains(&b'[')
+}
+
 /// The fault of a line in which a bracket stays open, if there is one.
 fn open_bracket(line: &[u8]) -> Option<ControlError>
     ensures { MatchOption result (IsSome (words_of line.now)) (λ e. words_or_fault line.now ≡ Err (FaultKind.Control e)) }
 {
+    if !has_bracket(line) {
+        return None;
+    }
     let mut rest = line;
     while !rest.is_empty() {
         match first_word(rest) {
@@ -100,11 +110,11 @@ pub(crate) struct Words<'a> {
 }
 
 impl<'a> Words<'a> {
-    ghost use Rattle.pam_conf.specs.Spot.{still_to_come, texts};
+    ghost use Rattle.pam_conf.specs.Remaining.{words_to_come, texts};
 
     /// The words of a line, or its fault if a bracket stays open.
     pub(crate) fn of(line: &'a [u8]) -> Result<Words<'a>, FaultKind>
-        ensures { MatchResult result (λ words. words_or_fault line.now ≡ Ok (still_to_come words)) (λ kind. words_or_fault line.now ≡ Err kind) }
+        ensures { MatchResult result (λ words. words_or_fault line.now ≡ Ok (words_to_come words)) (λ kind. words_or_fault line.now ≡ Err kind) }
     {
         match open_bracket(line) {
             Some(error) => Err(FaultKind::Control(error)),
@@ -114,7 +124,7 @@ impl<'a> Words<'a> {
 
     /// Returns the first word, as it is written, and the words after it.
     pub(crate) fn split_first(self) -> Option<(&'a [u8], Words<'a>)>
-        ensures value { MatchOption result (still_to_come self.entry ≡ []) (λ p. still_to_come self.entry ≡ p.0.now ∷ still_to_come p.1) }
+        ensures value { MatchOption result (words_to_come self.entry ≡ []) (λ p. words_to_come self.entry ≡ p.0.now ∷ words_to_come p.1) }
         ensures shorter { IfSome result (λ p. length p.1.rest.now < length self.entry.rest.now) }
     {
         match first_word(self.rest) {
@@ -125,7 +135,7 @@ impl<'a> Words<'a> {
 
     /// The texts of the words.
     pub(crate) fn texts(self, alloc: Global) -> Result<Vec<Vec<u8>>, AllocError>
-        ensures { IfOk result (λ v. texts v ≡ map text_of_word (still_to_come self.entry)) }
+        ensures { IfOk result (λ v. texts v ≡ map text_of_word (words_to_come self.entry)) }
     {
         let mut texts = Vec::new(alloc);
         let mut words = self;

@@ -18,12 +18,14 @@ returns-in_err-rules c =
 pub stack_of_starts-requires-clause-own_read : goal.stack_of_starts-requires-clause-own_read
 stack_of_starts-requires-clause-own_read c =
     lemmas.start-is_read c.args.files.now c.args.kind c.in-Some.file _ _ _ c.carried_start-own.ensures.read
-    (lemmas.own-read c.args.files.now c.in-Some.file c.args.service.now (codes "other") _ _ _ (λ r. refl) c.in_ok-rules.ensures c.as_slice.ensures.value c.args.kind)
+    (lemmas.own-read c.args.files.now c.in-Some.file c.args.service.now (codes "other") _ _ _
+    (λ r. refl) c.in_ok-rules.ensures c.as_slice.ensures.value c.args.kind)
 
 pub stack_of_starts-requires-clause-other_read : goal.stack_of_starts-requires-clause-other_read
 stack_of_starts-requires-clause-other_read c =
     lemmas.start-is_read c.args.files.now c.args.kind c.in-Some.file _ _ _ c.carried_start-other.ensures.read
-    (lemmas.other-read c.args.files.now c.in-Some.file c.args.service.now (codes "other") _ _ _ (λ r. refl) c.in_ok-rules.ensures c.as_slice-2.ensures.value c.args.kind)
+    (lemmas.other-read c.args.files.now c.in-Some.file c.args.service.now (codes "other") _ _ _
+    (λ r. refl) c.in_ok-rules.ensures c.as_slice-2.ensures.value c.args.kind)
 
 pub returns : goal.returns
 returns c =
@@ -31,6 +33,8 @@ returns c =
     let at = sym c.in-Some.ensures in
     subst (λ (meant : Result Items ConfError). Gives ErrorTells (λ s. s) c.stack_of_starts.result meant)
     (lemmas.same-starts folder c.args.kind _ _ _ _
-    (c.carried_start-own.ensures.start ∙ lemmas.own-start folder c.in-Some.file c.args.service.now (codes "other") _ _ _ (λ r. refl) c.in_ok-rules.ensures c.as_slice.ensures.value at)
-    (c.carried_start-other.ensures.start ∙ lemmas.other-start folder c.in-Some.file c.args.service.now (codes "other") _ _ _ (λ r. refl) c.in_ok-rules.ensures c.as_slice-2.ensures.value at))
+    (c.carried_start-own.ensures.start ∙ lemmas.own-start folder c.in-Some.file c.args.service.now (codes "other") _ _ _
+    (λ r. refl) c.in_ok-rules.ensures c.as_slice.ensures.value at)
+    (c.carried_start-other.ensures.start ∙ lemmas.other-start folder c.in-Some.file c.args.service.now (codes "other") _ _ _
+    (λ r. refl) c.in_ok-rules.ensures c.as_slice-2.ensures.value at))
     c.stack_of_starts.ensures

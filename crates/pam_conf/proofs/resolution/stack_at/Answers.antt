@@ -8,7 +8,8 @@ use Rattle.pam_conf.proofs.resolution.stack_at.Goals as goal
 pub returns-in_err-walk_start-clause-stack : goal.returns-in_err-walk_start-clause-stack
 returns-in_err-walk_start-clause-stack c =
     let p = err_from_is_err_and c.from_residual.result c.from_residual.ensures.1 in
-    rw (p.1, p.2) (lemmas.stack-refused c.args.files.now c.args.kind (start_text c.args.start) c.of-trail.result c.of-trail.ensures c.in_err-walk_start.field-0.0
+    rw (p.1, p.2) (lemmas.stack-refused c.args.files.now c.args.kind (start_text c.args.start) c.of-trail.result c.of-trail.ensures
+    c.in_err-walk_start.field-0.0
     c.in_err-walk_start.ensures.walked)
 
 pub of-requires-clause-counted : goal.of-requires-clause-counted

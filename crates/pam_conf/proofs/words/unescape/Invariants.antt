@@ -4,7 +4,7 @@ use Rattle.pam_conf.proofs.words.unescape.Given as goal
 
 abbrev pub invariant-loop-read : goal.invariant-loop-read
 invariant-loop-read l = record {
-  behind : l.kept ≤ l.read;
+  shorter : l.kept ≤ l.read;
   within : l.read ≤ length l.word.items;
   same : take l.kept l.word.items ++ unescaped (drop l.read l.word.items) ≡ unescaped l.initial.word.items;
 }

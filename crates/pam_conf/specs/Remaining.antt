@@ -1,7 +1,7 @@
 -- For proofs alone: the remaining words of a line, part of which is read: pam.conf(5), on brackets in arguments.
 use Rattle.std.specs.Prelude.{ℕ, List, map, Vec}
 use Rattle.std.specs.Global.{Global}
-use Rattle.pam_conf.specs.Words.{words_left}
+use Rattle.pam_conf.specs.FirstWord.{words_left}
 use Rattle.pam_conf.specs.declared.words.Words.{Words}
 
 -- words without their layout in memory
@@ -9,5 +9,5 @@ abbrev pub texts : Vec (Vec ℕ Global) Global → List (List ℕ)
 texts words = map (λ w. w.items) words.items
 
 -- the words that are not read yet
-abbrev pub still_to_come : Words → List (List ℕ)
-still_to_come words = words_left words.rest.now
+abbrev pub words_to_come : Words → List (List ℕ)
+words_to_come words = words_left words.rest.now
