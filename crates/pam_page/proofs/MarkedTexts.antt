@@ -3,8 +3,8 @@ use Rattle.std.proofs.Common.{◌≡◌, ℕ, ◌+◌, ◌-◌, ◌<◌, ◌≤�
 use Rattle.std.proofs.Common.{Some, None, slice_get, length-drop, codes, decimal, append_assoc, append-nil, length-append}
 use Rattle.std.specs.List.{flat_map}
 use Rattle.std.proofs.lemmas.Grind.{flat_map-append}
-use Rattle.std.proofs.lemmas.List.{get_or-drop, length-map, map-append, take-append-drop, take-append-le, take-map, take-take}
-use Rattle.std.proofs.lemmas.List.{take_all, take_at, take_more, take_rest}
+use Rattle.std.proofs.lemmas.List.{get_or-drop, map-append, take-append-drop, take-append-le, take-map, take-take}
+use Rattle.std.proofs.lemmas.List.{length-take, take_all, take_at, take_more, take_rest}
 use Rattle.std.proofs.lemmas.Option.{slice_get-get_or, slice_get_within}
 use Rattle.pam_page.proofs.FlatTexts.{flat_map-push, flat_map-seen}
 use Rattle.pam_page.specs.Marks.{AreTexts, IsEnd, code_text, codes_of, marked, steps_of, undotted}
@@ -89,6 +89,9 @@ cut_none marks dotted text n items shown codes_left steps_left whole is_items is
     let last = sym (is_last ∙ ap (λ (l : List Mark). slice_get l (length l - 1)) (is_shown ∙ is_items)) in
     rw (is_codes, is_steps, is_items) (texts_none marks dotted text whole n last)
 
+pub no_texts : (marks : List Mark) (dotted text : List ℕ) → marks ≡ [] → dotted ≡ [] → text ≡ [] → AreTexts marks dotted text
+no_texts marks dotted text m d t = rw (m, d, t) (record { cursor = refl; steps = refl; ends = λ i mark e. cc })
+
 -- ---- one more mark
 
 data Place {A : Type 0} (xs : List A) (y : A) (i : ℕ) (x : A) : Type 0 where
@@ -156,6 +159,18 @@ added_more steps shared i step before within inside is_step e =
     ap (λ (l : List StepValue). l ++ step_seen step ∷ []) e ∙ sym (map_more step_seen steps (shared + i) step at here)
     ∙ ap (λ (k : ℕ). take k (map step_seen steps)) count
 
+-- the kept steps that a path shares with the one before it
+pub kept_shared : (kept before steps : List StepValue) (shared : ℕ) → kept ≡ take (length kept) before
+    → take shared steps ≡ take shared before → take shared kept ≡ take (length (take shared kept)) steps
+kept_shared kept before steps shared first same =
+    let front = take shared kept in
+    let count = length-take shared kept in
+    let cut = λ (l : List StepValue). take (length front) l in
+    sym (take_all (length front) front (omega arith)) ∙ take-take (length front) shared kept (omega (arith, count))
+    ∙ ap cut first ∙ take-take (length front) (length kept) before (omega (arith, count))
+    ∙ sym (take-take (length front) shared before (omega (arith, count))) ∙ ap cut (sym same)
+    ∙ take-take (length front) shared steps (omega (arith, count))
+
 -- ---- the line
 
 dotted_rest : (steps : List StepValue) → flat_map code_text steps ≡ flat_map (λ (code : ℕ). codes "." ++ decimal code) (key_of steps)
@@ -168,17 +183,24 @@ unfolding key_of code_text
 undotted-is [] = refl
 undotted-is (step ∷ steps) = ap (λ (l : List ℕ). decimal (least step.class) ++ l) (dotted_rest steps)
 
-regrouped : (a b c d e : List ℕ) → a ++ (b ++ (c ++ (d ++ (e ++ [])))) ≡ ((a ++ (b ++ (c ++ []))) ++ d) ++ e
+-- a blank and the name of a decision after the codes
+cursor_line : (steps : List StepValue) (after name : List ℕ) → 1 ≤ length steps
+    → undotted ((flat_map code_text steps ++ after) ++ name) ≡ cursor_text (key_of steps) ++ (after ++ name)
+unfolding key_of code_text
+cursor_line [] after name some = absurd (omega (arith, some))
+cursor_line (step ∷ steps) after name some =
+    append_assoc (decimal (least step.class) ++ flat_map code_text steps) after name
+    ∙ ap (λ (l : List ℕ). l ++ (after ++ name)) (undotted-is (step ∷ steps))
+
+regrouped : (a b c d e : List ℕ) → (a ++ (b ++ c)) ++ (d ++ e) ≡ ((a ++ (b ++ (c ++ []))) ++ d) ++ e
 regrouped a b c d e = simp (append_assoc, append-nil)
 
-pub kept_line : (path : PathValue) (marks : List Mark) (dotted text cursor name shown : List ℕ) → AreTexts marks dotted text
-    → map marked marks ≡ take (length (map marked marks)) path.steps → length path.steps ≤ length marks
-    → cursor ≡ undotted dotted → name ≡ code_name path.decision → shown ≡ text
-    → cursor ++ (codes " " ++ (name ++ (shown ++ (codes "\n" ++ [])))) ≡ path_line path
+pub kept_line : (path : PathValue) (cursor shown text : List ℕ) → 1 ≤ length path.steps
+    → cursor ≡ (flat_map code_text path.steps ++ codes " ") ++ code_name path.decision → shown ≡ undotted cursor
+    → text ≡ flat_map step_text path.steps ++ codes "\n" → shown ++ text ≡ path_line path
 unfolding path_line
-kept_line path marks dotted text cursor name shown whole front long is_cursor is_name is_shown =
-    let all : map marked marks ≡ path.steps = front ∙ take_all (length (map marked marks)) path.steps (omega (arith, long, length-map marks marked)) in
-    let key_text : cursor ≡ cursor_text (key path) =
-    is_cursor ∙ ap undotted (whole.cursor ∙ ap (flat_map code_text) all) ∙ undotted-is path.steps in
-    let texts : shown ≡ flat_map step_text path.steps = is_shown ∙ whole.steps ∙ ap (flat_map step_text) all in
-    rw (key_text, is_name, texts) (regrouped (cursor_text (key path)) (codes " ") (code_name path.decision) (flat_map step_text path.steps) (codes "\n"))
+kept_line path cursor shown text some is_cursor is_shown is_text =
+    let name = code_name path.decision in
+    let steps = flat_map step_text path.steps in
+    let begun = is_shown ∙ ap undotted is_cursor ∙ cursor_line path.steps (codes " ") name some in
+    rw (begun, is_text) (regrouped (cursor_text (key path)) (codes " ") name steps (codes "\n"))

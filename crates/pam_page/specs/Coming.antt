@@ -9,6 +9,11 @@ abbrev pub coming : {K : Type 0} → Listing K → List PathValue
 coming (Forward explorer) = explorer.coming
 coming (Backward before) = before.coming
 
+-- the path followed last
+abbrev pub followed : {K : Type 0} → Listing K → PathValue
+followed (Forward explorer) = explorer.path
+followed (Backward before) = before.path
+
 -- the option that, with the last cursor of a page, lists the next page
 abbrev pub side : {K : Type 0} → Listing K → List ℕ
 side (Forward explorer) = codes "after"

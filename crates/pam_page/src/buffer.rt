@@ -1,6 +1,6 @@
 //! A byte buffer of fixed capacity.
 
-ghost use Rattle.std.specs.Prelude.{◌≡◌, [], length, take, IfOk};
+ghost use Rattle.std.specs.Prelude.{◌≡◌, ◌++◌, [], if◌then◌else◌, length, take, IfOk};
 
 use std::alloc::{AllocError, Global};
 use std::io;
@@ -20,6 +20,19 @@ impl Buffer {
         Ok(Buffer { bytes })
     }
 
+    /// A buffer without room, for which nothing is allocated.
+    pub(crate) fn empty(alloc: Global) -> Buffer
+        ensures { result.bytes.items ≡ [] }
+    {
+        Buffer {
+            bytes: Vec::new(alloc),
+        }
+    }
+
+    pub(crate) fn allocator(&self) -> Global {
+        *self.bytes.allocator()
+    }
+
     pub(crate) fn as_slice(&self) -> &[u8]
         ensures { result.now ≡ self.now.bytes.items }
     {
@@ -30,6 +43,17 @@ impl Buffer {
         ensures { result ≡ length self.now.bytes.items }
     {
         self.bytes.len()
+    }
+
+    /// Appends `bytes` if there is room for all of them. Returns whether there was.
+    #[inline]
+    pub(crate) fn append(&mut self, bytes: &[u8]) -> bool
+        ensures { self.new.bytes.items ≡ (if result then self.old.bytes.items ++ bytes.now else self.old.bytes.items) }
+    {
+        if self.bytes.capacity().saturating_sub(self.bytes.len()) < bytes.len() {
+            return false;
+        }
+        self.bytes.extend_from_slice(bytes).is_ok()
     }
 
     /// Keeps the first `count` bytes.

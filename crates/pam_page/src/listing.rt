@@ -1,7 +1,7 @@
 //! The paths that a page is taken from, in either direction.
 
-ghost use Rattle.std.specs.Prelude.{◌≡◌, ◌∷◌, [], MatchOption};
-ghost use Rattle.pam_page.specs.Coming.{coming, side};
+ghost use Rattle.std.specs.Prelude.{◌≡◌, ◌∷◌, [], IfSome, MatchOption, take};
+ghost use Rattle.pam_page.specs.Coming.{coming, followed, side};
 
 use pam_paths::{Before, Explorer, Knowledge, Path};
 
@@ -15,14 +15,26 @@ pub enum Listing<'a, K: Knowledge> {
 }
 
 impl<K: Knowledge> Listing<'_, K> {
-    /// Returns the next path, if one is left.
-    pub(crate) fn next_path(&mut self) -> Option<Path>
-        ensures path { MatchOption result (coming self.old ≡ []) (λ path. coming self.old ≡ path ∷ coming self.new) }
+    /// Follows the next path. Returns the number of its first steps that it shares with the path followed before; `None`
+    /// if no path is left.
+    pub(crate) fn follow(&mut self) -> Option<usize>
+        ensures path { MatchOption result (coming self.old ≡ []) (λ _. coming self.old ≡ followed self.new ∷ coming self.new) }
+        ensures shared { IfSome result (λ shared. take shared (followed self.new).steps ≡ take shared (followed self.old).steps) }
         ensures side { side self.new ≡ side self.old }
     {
         match self {
-            Listing::Forward(explorer) => explorer.next(),
-            Listing::Backward(before) => before.next(),
+            Listing::Forward(explorer) => explorer.follow(),
+            Listing::Backward(before) => before.follow(),
+        }
+    }
+
+    /// The path followed last.
+    pub(crate) fn path(&self) -> &Path
+        ensures { result.now ≡ followed self.now }
+    {
+        match self {
+            Listing::Forward(explorer) => explorer.path(),
+            Listing::Backward(before) => before.path(),
         }
     }
 

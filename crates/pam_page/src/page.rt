@@ -1,8 +1,8 @@
 //! A page of the paths through a stack.
 
-ghost use Rattle.std.specs.Prelude.{◌≡◌, ◌-◌, ◌<◌, ◌≤◌, ◌^◌};
+ghost use Rattle.std.specs.Prelude.{◌≡◌, ◌-◌, ◌<◌, ◌≤◌, ◌^◌, length, take};
 ghost use Rattle.pam_codes.specs.Out.{Writes};
-ghost use Rattle.pam_page.specs.Coming.{coming, side};
+ghost use Rattle.pam_page.specs.Coming.{coming, followed, side};
 ghost use Rattle.pam_page.specs.Page.{first_page, page_text, text_after};
 
 use crate::line::{put_end, put_more};
@@ -27,14 +27,16 @@ pub fn put_page<K: Knowledge, W: Write>(
     ensures { Writes W.contents out.old out.new result (page_text (side listing.old) (first_page limit (coming listing.old))) }
 {
     let mut texts = texts;
+    texts.cut(0);
     for count in 0..limit - 1 {
-        let Some(path) = listing.next_path() else {
+        let Some(shared) = listing.follow() else {
             return put_end(listing.side(), u64::from(count), out);
         };
-        texts = texts.of_steps(path.steps());
-        texts.put_path(&path, out)?;
+        let path = listing.path();
+        texts.replace(path.steps(), shared);
+        texts.put_path(path, out)?;
     }
-    put_rest(listing, limit - 1, texts, out)
+    put_rest(listing, limit - 1, &mut texts, out)
 }
 
 /// Writes the rest of a page that has room for one more path.
@@ -42,19 +44,23 @@ pub fn put_page<K: Knowledge, W: Write>(
 fn put_rest<K: Knowledge, W: Write>(
     listing: &mut Listing<'_, K>,
     count: u32,
-    texts: LineTexts,
+    texts: &mut LineTexts,
     out: &mut Out<W>,
 ) -> Result<(), Device>
+    requires kept { texts.old ≡ take (length texts.old) (followed listing.old).steps }
     requires few { count < 2 ^ 32 - 1 }
     requires room { out.old.failures < 2 ^ 64 - 1 }
     ensures { Writes W.contents out.old out.new result (text_after (side listing.old) count (first_page 1 (coming listing.old))) }
 {
-    let Some(path) = listing.next_path() else {
+    let Some(shared) = listing.follow() else {
         return put_end(listing.side(), u64::from(count), out);
     };
-    texts.of_steps(path.steps()).put_path(&path, out)?;
-    match listing.next_path() {
+    let path = listing.path();
+    texts.replace(path.steps(), shared);
+    texts.put_path(path, out)?;
+    let cursor = path.cursor();
+    match listing.follow() {
         None => put_end(listing.side(), u64::from(count + 1), out),
-        Some(_) => put_more(listing.side(), u64::from(count + 1), &path.cursor(), out),
+        Some(_) => put_more(listing.side(), u64::from(count + 1), &cursor, out),
     }
 }

@@ -1,18 +1,22 @@
 //! The kept texts of the path whose line was written last.
 
-ghost use Rattle.std.specs.Prelude.{◌≡◌, ◌++◌, ◌∷◌, ◌-◌, ◌<◌, ◌≤◌, ◌^◌, [], if◌then◌else◌, IfOk, IsTrue, length, map, take};
+ghost use Rattle.std.specs.List.{flat_map};
+ghost use Rattle.std.specs.Prelude.{◌≡◌, ◌++◌, ◌∷◌, ◌-◌, ◌<◌, ◌≤◌, ◌^◌, [], if◌then◌else◌, IfOk, IsTrue, codes, length, map, take};
 ghost use Rattle.pam_codes.specs.Out.{Writes};
-ghost use Rattle.pam_page.specs.Marks.{AreTexts, code_text, marked, undotted};
-ghost use Rattle.pam_page.specs.Page.{path_line, step_text};
+ghost use Rattle.pam_page.specs.Marks.{code_text, undotted};
+ghost use Rattle.pam_page.specs.Page.{code_name, path_line, step_text};
 ghost use Rattle.pam_paths.specs.Steps.{step_seen};
 
 use crate::buffer::Buffer;
 use crate::line::{put_path, put_step};
-use pam_codes::{Device, Out, Piece};
+use itoa::Buffer as Digits;
+use pam_codes::{Code, Device, Out};
 use pam_dispatch::MAX_MODULES;
 use pam_paths::{Path, PathStep};
 use std::alloc::{AllocError, Global};
 use std::io::Write;
+use std::marker::Model;
+use std::mem;
 
 /// The greatest length of the text of a code, in bytes, with the dot before it.
 const CODE_BYTES: usize = 3;
@@ -29,14 +33,6 @@ struct Mark {
     steps_end: usize,
 }
 
-impl Mark {
-    fn is_of(&self, step: &PathStep) -> bool
-        ensures { IsTrue result → marked self.now ≡ step_seen step.now }
-    {
-        self.step.number() == step.number() && self.step.class() == step.class()
-    }
-}
-
 /// The texts of the path whose line was written last. The next line copies the steps it shares with that path from
 /// here.
 #[derive(Drop)]
@@ -47,40 +43,80 @@ pub struct LineTexts {
     cursor: Buffer,
     /// ` NUMBER=CLASS` for each step.
     steps: Buffer,
-    ghost texts: { AreTexts marks.items cursor.bytes.items steps.bytes.items },
 }
 
-/// Appends the text of a step's code. Returns whether there was room.
-fn with_code(cursor: Buffer, step: &PathStep) -> (Buffer, bool)
-    ensures grown { take (length cursor.bytes.items) result.0.bytes.items ≡ cursor.bytes.items }
-    ensures ok { IsTrue result.1 → result.0.bytes.items ≡ cursor.bytes.items ++ code_text (step_seen step.now) }
-{
-    let mut out = Out::new(cursor);
-    let fits = put_code(step, &mut out).is_ok();
-    (out.into_inner(), fits)
+/// Seen as the steps whose texts are kept.
+impl Model for LineTexts {
+    ghost use Rattle.std.specs.Prelude.{List, map};
+    ghost use Rattle.pam_page.specs.Marks.{AreTexts, marked};
+    ghost use Rattle.pam_paths.specs.Paths.{StepValue};
+
+    ghost Value = { List StepValue };
+
+    ghost view = { λ t. map marked t.marks.items };
+
+    ghost invariant = { λ t. AreTexts t.marks.items t.cursor.bytes.items t.steps.bytes.items };
 }
 
-/// Appends the text of a step. Returns whether there was room.
-fn with_step(steps: Buffer, step: &PathStep) -> (Buffer, bool)
-    ensures grown { take (length steps.bytes.items) result.0.bytes.items ≡ steps.bytes.items }
-    ensures ok { IsTrue result.1 → result.0.bytes.items ≡ steps.bytes.items ++ step_text (step_seen step.now) }
-{
-    let mut out = Out::new(steps);
-    let fits = put_step(step, &mut out).is_ok();
-    (out.into_inner(), fits)
-}
-
-/// Writes `.CODE`, the least code of the class of a step.
+/// Appends `.CODE`, the least code of the class of a step. Returns whether there was room.
 #[tactic(auto, unfolding(crate::specs::Marks::code_text))]
-fn put_code<W: Write>(step: &PathStep, out: &mut Out<W>) -> Result<(), Device>
-    requires { out.old.failures < 2 ^ 64 - 1 }
-    ensures { Writes W.contents out.old out.new result (code_text (step_seen step.now)) }
+fn append_code(cursor: &mut Buffer, step: &PathStep) -> bool
+    ensures { IsTrue result → cursor.new.bytes.items ≡ cursor.old.bytes.items ++ code_text (step_seen step.now) }
 {
     let number = match step.class().least() {
         Some(code) => code.number(),
         None => 0,
     };
-    out.put_line(&[Piece::Bytes(b"."), Piece::Number(u64::from(number))])
+    let mut digits = Digits::new();
+    cursor.append(b".") && cursor.append(digits.format(number).as_bytes())
+}
+
+/// Appends the text of a step. Returns whether there was room.
+fn append_step(steps: &mut Buffer, step: &PathStep) -> bool
+    ensures { IsTrue result → steps.new.bytes.items ≡ steps.old.bytes.items ++ step_text (step_seen step.now) }
+{
+    let empty = Buffer::empty(steps.allocator());
+    let mut out = Out::new(mem::replace(steps, empty));
+    let fits = put_step(step, &mut out).is_ok();
+    *steps = out.into_inner();
+    fits
+}
+
+/// Appends a blank and the name of a decision. Returns whether there was room.
+fn append_decision(cursor: &mut Buffer, decision: Code) -> bool
+    ensures kept { take (length cursor.old.bytes.items) cursor.new.bytes.items ≡ cursor.old.bytes.items }
+    ensures ok { IsTrue result → cursor.new.bytes.items ≡ (cursor.old.bytes.items ++ codes " ") ++ code_name decision }
+{
+    cursor.append(b" ") && cursor.append(decision.name().as_bytes())
+}
+
+/// Writes the line of a path by the texts of its steps. Leaves further bytes after them, so that the line is two copies.
+fn put_texts<W: Write>(
+    cursor: &mut Buffer,
+    steps: &mut Buffer,
+    path: &Path,
+    out: &mut Out<W>,
+) -> Result<(), Device>
+    requires room { out.old.failures < 2 ^ 64 - 1 }
+    requires some { 1 ≤ length path.now.steps }
+    requires cursor { cursor.old.bytes.items ≡ flat_map code_text path.now.steps }
+    requires steps { steps.old.bytes.items ≡ flat_map step_text path.now.steps }
+    ensures cursor { take (length cursor.old.bytes.items) cursor.new.bytes.items ≡ cursor.old.bytes.items }
+    ensures steps { take (length steps.old.bytes.items) steps.new.bytes.items ≡ steps.old.bytes.items }
+    ensures written { Writes W.contents out.old out.new result (path_line path.now) }
+{
+    if !append_decision(cursor, path.decision()) || !steps.append(b"\n") {
+        return put_path(path, out);
+    }
+    out.put(undotted(cursor.as_slice()))?;
+    out.put(steps.as_slice())
+}
+
+/// Appends a mark if there is room. Returns whether there was.
+fn push_mark(marks: &mut Vec<Mark>, mark: Mark) -> bool
+    ensures { marks.new.items ≡ (if result then marks.old.items ++ mark ∷ [] else marks.old.items) }
+{
+    marks.len() < marks.capacity() && marks.push(mark).is_ok()
 }
 
 /// Returns the text of a cursor, from the codes with a dot before each.
@@ -94,12 +130,10 @@ fn undotted(codes: &[u8]) -> &[u8]
 }
 
 impl LineTexts {
-    ghost use Rattle.pam_page.specs.Kept.{kept};
-
     /// Returns no texts, with room for those of any path, so that writing a page allocates nothing. Fails if an
     /// allocation does.
     pub fn new(alloc: Global) -> Result<LineTexts, AllocError>
-        ensures { IfOk result (λ texts. kept texts ≡ []) }
+        ensures { IfOk result (λ texts. texts ≡ []) }
     {
         Ok(LineTexts {
             marks: Vec::with_capacity(alloc, MAX_MODULES)?,
@@ -108,122 +142,71 @@ impl LineTexts {
         })
     }
 
-    /// Counts the leading steps whose texts are kept.
-    fn shared(&self, steps: &[PathStep]) -> usize
-        ensures within { result ≤ length steps.now }
-        ensures same { take result (kept self.now) ≡ take result (map step_seen steps.now) }
-    {
-        let marks = self.marks.as_slice();
-        let mut count = 0;
-        for mark in marks {
-            if count == steps.len() || !mark.is_of(&steps[count]) {
-                return count;
-            }
-            count += 1;
-        }
-        count
-    }
-
     /// Keeps the texts of the first `count` steps.
-    fn cut(self, count: usize) -> LineTexts
-        ensures { kept result ≡ take count (kept self) }
+    pub(crate) fn cut(&mut self, count: usize)
+        ensures { self.new ≡ take count self.old }
     {
-        let LineTexts {
-            mut marks,
-            mut cursor,
-            mut steps,
-        } = self;
-        marks.truncate(count);
-        match marks.last() {
-            Some(mark) => {
-                cursor.truncate(mark.cursor_end);
-                steps.truncate(mark.steps_end);
-            }
-            None => {
-                cursor.truncate(0);
-                steps.truncate(0);
-            }
-        }
-        LineTexts {
-            marks,
-            cursor,
-            steps,
-        }
+        self.marks.truncate(count);
+        let Some(mark) = self.marks.last() else {
+            self.cursor.truncate(0);
+            self.steps.truncate(0);
+            return;
+        };
+        self.cursor.truncate(mark.cursor_end);
+        self.steps.truncate(mark.steps_end);
     }
 
-    /// Appends the texts of a step. Returns whether there was room.
-    fn with(self, step: &PathStep) -> (LineTexts, bool)
-        ensures { kept result.0 ≡ (if result.1 then kept self ++ step_seen step.now ∷ [] else kept self) }
+    /// Appends the texts of a step. Returns whether there was room; if not, no texts are kept.
+    fn append(&mut self, step: &PathStep) -> bool
+        ensures { self.new ≡ (if result then self.old ++ step_seen step.now ∷ [] else []) }
     {
-        let LineTexts {
-            mut marks,
-            cursor,
-            steps,
-        } = self;
-        let (cursor_start, steps_start) = (cursor.len(), steps.len());
-        let (mut cursor, code_fits) = with_code(cursor, step);
-        let (mut steps, step_fits) = with_step(steps, step);
-        if code_fits && step_fits && marks.len() < marks.capacity() {
+        if append_code(&mut self.cursor, step) && append_step(&mut self.steps, step) {
             let mark = Mark {
                 step: *step,
-                cursor_end: cursor.len(),
-                steps_end: steps.len(),
+                cursor_end: self.cursor.len(),
+                steps_end: self.steps.len(),
             };
-            if marks.push(mark).is_ok() {
-                return (
-                    LineTexts {
-                        marks,
-                        cursor,
-                        steps,
-                    },
-                    true,
-                );
+            if push_mark(&mut self.marks, mark) {
+                return true;
             }
         }
-        cursor.truncate(cursor_start);
-        steps.truncate(steps_start);
-        (
-            LineTexts {
-                marks,
-                cursor,
-                steps,
-            },
-            false,
-        )
+        self.marks.clear();
+        self.cursor.truncate(0);
+        self.steps.truncate(0);
+        false
     }
 
-    /// Replaces the kept texts by those of these steps, as many as there is room for.
-    pub(crate) fn of_steps(self, steps: &[PathStep]) -> LineTexts
-        ensures { kept result ≡ take (length (kept result)) (map step_seen steps.now) }
+    /// Replaces the kept texts by those of these steps, as many as there is room for. The first `shared` of the kept
+    /// steps are the first of these.
+    pub(crate) fn replace(&mut self, steps: &[PathStep], shared: usize)
+        requires { take shared self.old ≡ take (length (take shared self.old)) (map step_seen steps.now) }
+        ensures { self.new ≡ take (length self.new) (map step_seen steps.now) }
     {
-        let shared = self.shared(steps);
-        let mut texts = self.cut(shared);
-        let added = &steps[shared..];
+        self.cut(shared);
+        let kept = self.marks.len();
+        let added = &steps[kept..];
         for step in added {
-            let (longer, fits) = texts.with(step);
-            texts = longer;
-            if !fits {
-                return texts;
+            if !self.append(step) {
+                return;
             }
         }
-        texts
     }
 
     /// Writes the line of a path, whose first steps are the kept ones.
-    pub(crate) fn put_path<W: Write>(&self, path: &Path, out: &mut Out<W>) -> Result<(), Device>
+    pub(crate) fn put_path<W: Write>(&mut self, path: &Path, out: &mut Out<W>) -> Result<(), Device>
         requires room { out.old.failures < 2 ^ 64 - 1 }
-        requires kept { kept self.now ≡ take (length (kept self.now)) path.now.steps }
-        ensures { Writes W.contents out.old out.new result (path_line path.now) }
+        requires kept { self.old ≡ take (length self.old) path.now.steps }
+        ensures kept { self.new ≡ self.old }
+        ensures written { Writes W.contents out.old out.new result (path_line path.now) }
     {
-        if self.marks.len() < path.steps().len() {
+        let count = path.steps().len();
+        if count == 0 || self.marks.len() < count {
             return put_path(path, out);
         }
-        out.put_line(&[
-            Piece::Bytes(undotted(self.cursor.as_slice())),
-            Piece::Bytes(b" "),
-            Piece::Bytes(path.decision().name().as_bytes()),
-            Piece::Bytes(self.steps.as_slice()),
-            Piece::Bytes(b"\n"),
-        ])
+        let (cursor_end, steps_end) = (self.cursor.len(), self.steps.len());
+        let result = put_texts(&mut self.cursor, &mut self.steps, path, out);
+        self.cursor.truncate(cursor_end);
+        self.steps.truncate(steps_end);
+        result
     }
 }

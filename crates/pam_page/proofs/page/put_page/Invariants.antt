@@ -2,7 +2,7 @@
 use Rattle.std.proofs.Common.{◌≡◌, ◌≤◌, take, drop, length}
 use Rattle.std.specs.List.{flat_map}
 use Rattle.pam_codes.specs.Out.{TookAll}
-use Rattle.pam_page.specs.Coming.{coming, side}
+use Rattle.pam_page.specs.Coming.{coming, followed, side}
 use Rattle.pam_page.specs.Page.{path_line}
 use Rattle.pam_page.proofs.page.put_page.Given as goal
 
@@ -11,5 +11,6 @@ invariant-loop-count g l = record {
   written : TookAll g.W.Write.contents l.initial.out l.out (flat_map path_line (take l.count (coming l.fn.listing)));
   left : coming l.listing ≡ drop l.count (coming l.fn.listing);
   side : side l.listing ≡ side l.fn.listing;
+  kept : l.texts ≡ take (length l.texts) (followed l.listing).steps;
   within : l.count ≤ length (coming l.fn.listing);
 }
