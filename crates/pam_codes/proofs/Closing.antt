@@ -1,3 +1,4 @@
+-- The index of the first unescaped closing bracket, byte by byte.
 use Rattle.std.proofs.Common.{◌≡◌, ◌<◌, ◌≤◌, ◌+◌, ◌&&◌, ℕ, Bool, true, false, not, List, ◌∷◌, length, get_or, drop, Option, Some, None, cond, eqb}
 use Rattle.std.proofs.Common.{ap, ◌∙◌, sym, refl, arith, add-one}
 use Rattle.std.specs.Option.{option_map}

@@ -1,3 +1,4 @@
+-- The pairs that are read one by one, laid over each other: the last pair of a code counts, and the first default.
 use Rattle.std.proofs.Common.{◌≡◌, ◌<◌, ◌≤◌, ℕ, Bool, true, false, List, [], ◌∷◌, length, get_or, slice_set, Option, Some, None, unwrap_or, Result}
 use Rattle.std.proofs.Common.{Ok, Err, map, cond, eqb, ap, ◌∙◌, sym, refl, arith, get_or-set_same, get_or-set_other, replicate, zero, suc}
 use Rattle.std.specs.List.{range_with_len}

@@ -1,3 +1,4 @@
+-- The results of reading one pair of a control, for each of its faults.
 use Rattle.std.proofs.Common.{◌≡◌, ℕ, List, [], ◌∷◌, Ok, Err, refl}
 use Rattle.pam_codes.specs.declared.action.Action.{Action}
 use Rattle.pam_codes.specs.declared.subject.Subject.{Subject}

@@ -1,3 +1,4 @@
+-- The position of a name in the table of names.
 use Rattle.std.proofs.Common.{◌≡◌, ◌<◌, ◌↔◌, ℕ, Bool, true, false, IsTrue, List, [], length, get_or, Some, None, cond, ap, ◌∙◌, sym, refl, arith}
 use Rattle.std.proofs.Common.{map, nat_lt, position, slice_get}
 use Rattle.std.specs.Char.{to_ascii_lowercase}

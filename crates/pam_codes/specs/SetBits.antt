@@ -1,4 +1,4 @@
--- The bits of a set of return codes, and the codes of bits (pam.conf(5), the values between brackets).
+-- For proofs alone: the bits of a set of return codes, and the codes of bits. Contracts see a set as the list of its codes.
 use Rattle.std.proofs.Common.{◌≡◌, ◌≢◌, ◌<◌, ◌≤◌, ◌+◌, ◌^◌, ◌==◌, ℕ, zero, suc, Bool, true, false, List, ◌∷◌, cond, eqb, map, filter, subst, ap, ◌∙◌}
 use Rattle.std.proofs.Common.{sym, refl, arith, eq-eqb}
 use Rattle.std.specs.List.{range_with_len}

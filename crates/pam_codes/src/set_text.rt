@@ -9,7 +9,7 @@ use pam_text::{Device, Out, Piece};
 use std::io::Write;
 
 /// The size of the largest set that is written by its own codes; a larger one is written by the missing codes.
-const MOST_NAMED: usize = 15;
+const MAX_NAMED: usize = 15;
 
 impl CodeSet {
     /// Writes the names in order, comma-separated: for 16 to 30 codes `but:` and the missing ones, for all 31 `any`.
@@ -20,7 +20,7 @@ impl CodeSet {
         if count == CODES {
             return out.put(b"any");
         }
-        if count > MOST_NAMED {
+        if count > MAX_NAMED {
             out.put(b"but:")?;
             return CodeSet::all().without(self).write_names(out);
         }

@@ -8,7 +8,7 @@ use Rattle.pam_codes.specs.Parts.{IsParts}
 use Rattle.pam_dispatch.specs.declared.entry.Entry.{Entry}
 use Rattle.pam_dispatch.specs.declared.entry.Entry.TheVariants.{Module, Substack}
 use Rattle.pam_dispatch.specs.Flat.{controls_in}
-use Rattle.pam_dispatch.proofs.Resume.{at_place}
+use Rattle.pam_dispatch.proofs.Resume.{at_index}
 
 -- the parts of the entries from a place on complete those that are there
 abbrev pub AreCompleted : List Entry → List (List Part) → ℕ → Type 0
@@ -21,12 +21,12 @@ module _ (ts : List Entry) (at : ℕ) (parts : List (List Part)) (now : AreCompl
   parts-module past level number control after new within is divided more rest =
       rw append_assoc (now (new ∷ more)
       (subst (λ (x : List Entry). AllZip IsParts (controls_in x) (new ∷ more))
-      (sym (at_place ts at past (Module level number control after) within is)) (divided, rest)))
+      (sym (at_index ts at past (Module level number control after) within is)) (divided, rest)))
 
   pub parts-substack : (past : Entry) (level : ℕ) → at < length ts → get_or ts at past ≡ Substack level → AreCompleted ts parts (at + 1)
   unfolding controls_in
   parts-substack past level within is more rest =
-      now more (subst (λ (x : List Entry). AllZip IsParts (controls_in x) more) (sym (at_place ts at past (Substack level) within is)) rest)
+      now more (subst (λ (x : List Entry). AllZip IsParts (controls_in x) more) (sym (at_index ts at past (Substack level) within is)) rest)
 
   pub parts-end : length ts ≤ at → AllZip IsParts (controls_in ts) parts
   unfolding controls_in

@@ -13,7 +13,7 @@ use Rattle.pam_dispatch.specs.State.{start_state, act, left_of, action_of}
 use Rattle.pam_dispatch.specs.declared.step.Outcome.{Outcome}
 use Rattle.pam_dispatch.specs.Runs.{Ask, outcome_of, Runs, asked_module, state_in, after_answer, outcome_in}
 use Rattle.pam_dispatch.specs.Flat.{resume, IsAt, IsPlaceOf, rest_of}
-use Rattle.pam_dispatch.proofs.Resume.{resume-module, ask_at, asked_module-ask_at, at_place, at_module-asks}
+use Rattle.pam_dispatch.proofs.Resume.{resume-module, ask_at, asked_module-ask_at, at_index, at_module-asks}
 
 abbrev outcome : State → ℕ → Outcome
 outcome s l = record { state = s; left = l }
@@ -68,7 +68,7 @@ module _ (program : List Entry) (place : Place) (valid : IsPlaceOf program place
   pub place_no_substack : (d : Entry) (l : ℕ) → place.position < length program → get_or program place.position d ≡ Substack l → ⊥
   unfolding IsPlaceOf
   place_no_substack d l within is =
-      subst (λ ts. IsAt ts place.depth place.module_number) (at_place program place.position d (Substack l) within is) valid
+      subst (λ ts. IsAt ts place.depth place.module_number) (at_index program place.position d (Substack l) within is) valid
 
   module _ (d : Entry) (l m : ℕ) (control : List Action) (after : ℕ) (within : place.position < length program)
       (is : get_or program place.position d ≡ Module l m control after) where
@@ -77,7 +77,7 @@ module _ (program : List Entry) (place : Place) (valid : IsPlaceOf program place
     place_depth =
         let P : List Entry → Type 0 = λ ts. IsAt ts place.depth place.module_number in
         let k : P (Module l m control after ∷ drop (place.position + 1) program) =
-        subst P (at_place program place.position d (Module l m control after) within is) valid in
+        subst P (at_index program place.position d (Module l m control after) within is) valid in
         k.0
 
     pub place_asks : rest_of program place ≡ ask_at l m control after (drop (place.position + 1) program) place.entered.states place.state

@@ -81,18 +81,18 @@ ask_at-take here m control after rest d es s h =
 
 -- the same, at a place of a list
 module _ (program : List Entry) (at : ℕ) (d e : Entry) (within : at < length program) (is : get_or program at d ≡ e) where
-  pub at_place : drop at program ≡ e ∷ drop (at + 1) program
-  at_place = rw (add-one, drop-cons program at d) (ap (λ (x : Entry). x ∷ drop (suc at) program) is)
+  pub at_index : drop at program ≡ e ∷ drop (at + 1) program
+  at_index = rw (add-one, drop-cons program at d) (ap (λ (x : Entry). x ∷ drop (suc at) program) is)
 
-  pub at_place-deeper : (level skip : ℕ) (es : List State) (s : State) → level < level_of e →
+  pub at_index-deeper : (level skip : ℕ) (es : List State) (s : State) → level < level_of e →
       resume (drop (at + 1) program) level skip es s ≡ resume (drop at program) level skip es s
-  at_place-deeper level skip es s h =
-      sym (ap (λ (x : List Entry). resume x level skip es s) at_place ∙ resume-deeper e (drop (at + 1) program) level skip es s h)
+  at_index-deeper level skip es s h =
+      sym (ap (λ (x : List Entry). resume x level skip es s) at_index ∙ resume-deeper e (drop (at + 1) program) level skip es s h)
 
-  pub at_place-item : (level skip : ℕ) (es : List State) (s : State) → level_of e ≡ level → 0 < skip →
+  pub at_index-item : (level skip : ℕ) (es : List State) (s : State) → level_of e ≡ level → 0 < skip →
       resume (drop (at + 1) program) level (skip - 1) es s ≡ resume (drop at program) level skip es s
-  at_place-item level skip es s l h =
-      sym (ap (λ (x : List Entry). resume x level skip es s) at_place ∙ resume-item e (drop (at + 1) program) level skip es s l h)
+  at_index-item level skip es s l h =
+      sym (ap (λ (x : List Entry). resume x level skip es s) at_index ∙ resume-item e (drop (at + 1) program) level skip es s l h)
 
 taken : (here : ℕ) (held : List State) (s : State) → here + 1 < length held →
     take (here + 2) (slice_set held (here + 1) s) ≡ take (here + 1) held ++ s ∷ []
@@ -107,7 +107,7 @@ module _ (program : List Entry) (at : ℕ) (d : Entry) (here : ℕ) (within : at
       let e1 : take (here + 2) (slice_set held (here + 1) s) ≡ take (here + 1) held ++ s ∷ [] = taken here held s fits in
       let e2 : take (here + 1) (take depth held) ≡ take (here + 1) held = take-take (here + 1) depth held (omega arith) in
       ap (λ (x : List State). resume (drop (at + 1) program) (here + 1) 0 x s) (e1 ∙ ap (λ (x : List State). x ++ s ∷ []) (sym e2))
-      ∙ sym (ap (λ (x : List Entry). resume x level skip (take depth held) s) (at_place program at d (Substack here) within is)
+      ∙ sym (ap (λ (x : List Entry). resume x level skip (take depth held) s) (at_index program at d (Substack here) within is)
       ∙ resume-sub here (drop (at + 1) program) level skip (take depth held) s low stays)
 
 module _ (program : List Entry) (at : ℕ) (d : Entry) (here m : ℕ) (control : List Action) (after : ℕ) (within : at < length program)
@@ -115,7 +115,7 @@ module _ (program : List Entry) (at : ℕ) (d : Entry) (here m : ℕ) (control :
   pub at_module-asks : (depth level skip : ℕ) → here ≤ level → (here ≡ level → 0 < skip → ⊥) → here < depth →
       resume (drop at program) level skip (take depth held) s ≡ ask_at here m control after (drop (at + 1) program) held s
   at_module-asks depth level skip low stays deep =
-      ap (λ (x : List Entry). resume x level skip (take depth held) s) (at_place program at d (Module here m control after) within is)
+      ap (λ (x : List Entry). resume x level skip (take depth held) s) (at_index program at d (Module here m control after) within is)
       ∙ resume-module here m control after (drop (at + 1) program) level skip (take depth held) s low stays
       ∙ ask_at-take here m control after (drop (at + 1) program) depth held s (omega arith)
 

@@ -1,5 +1,6 @@
 pub mod Cutting
 pub mod Pieces
+pub mod Prefixes
 pub mod Runs
 pub mod Sources
 pub mod TextLines

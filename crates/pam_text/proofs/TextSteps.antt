@@ -1,3 +1,4 @@
+-- The text of a file, byte by byte: what each byte of the file adds to it.
 use Rattle.std.proofs.Common.{◌≡◌, ◌+◌, ℕ, Bool, true, false, not, List, [], ◌∷◌, length, get_or, drop, cond, eqb, ap, ◌∙◌, sym, refl, arith, one-add}
 use Rattle.std.specs.List.{prefix_len}
 use Rattle.std.proofs.lemmas.Bool.{eqb-true}

@@ -9,7 +9,7 @@ mod piece;
 mod source;
 mod text;
 
-pub use blanks::{is_table_blank, is_text_blank};
+pub use blanks::{is_table_blank, is_text_blank, text_blank_len};
 pub use cuts::{ByteSet, cut, cut_among};
 pub use out::{Device, Out};
 pub use piece::Piece;

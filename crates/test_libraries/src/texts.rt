@@ -35,7 +35,11 @@ fn expect_lines(
     let mut joined = Vec::new(alloc);
     for (number, bytes) in lines {
         let line = text.next_line(&mut joined)?;
-        assert_eq!(rt; line.map(|l| (l.number, l.bytes)), Some((*number, *bytes)), "{file:?}");
+        assert_eq!(rt;
+            line.map(|l| (l.number, l.bytes)),
+            Some((*number, *bytes)),
+            "{file:?}"
+        );
     }
     assert!(rt; text.next_line(&mut joined)?.is_none(), "{file:?}");
     Ok(())

@@ -3,7 +3,7 @@ use Rattle.std.proofs.lemmas.List.{drop_all, length-set}
 use Rattle.pam_dispatch.specs.declared.state.State.{State}
 use Rattle.pam_dispatch.specs.declared.entry.Entry.TheVariants.{Module, Substack}
 use Rattle.pam_dispatch.specs.Flat.{resume, rest_of, IsPlaceOf, IsShallow, level_of}
-use Rattle.pam_dispatch.proofs.Resume.{at_place, at_place-deeper, at_place-item, at_substack, at_module}
+use Rattle.pam_dispatch.proofs.Resume.{at_index, at_index-deeper, at_index-item, at_substack, at_module}
 use Rattle.pam_dispatch.proofs.settle.settle.Goals as goal
 use Rattle.pam_dispatch.proofs.settle.settle.Goals.{else-here-level-2-via-then-here-level-2+else-skip-gt0, else-here-level-2-via-else-here-level-2}
 
@@ -12,7 +12,7 @@ loop-position-preserved-then-here-level c =
     let l = c.loop-position in
     let e = l.invariant.rest in
     record {
-      rest = at_place-deeper c.args.program.now l.position c.index-program-position.result c.index-program-position.result c.loop-position-test.true
+      rest = at_index-deeper c.args.program.now l.position c.index-program-position.result c.index-program-position.result c.loop-position-test.true
           (sym c.index-program-position.is) l.level l.skip _ c.args.state.now (omega (arith, c.level-here.ensures))
           ∙ e;
       below = l.invariant.below;
@@ -24,7 +24,7 @@ pub loop-position-preserved-then-skip-gt0 : goal.loop-position-preserved-then-sk
 loop-position-preserved-then-skip-gt0 c =
     let l = c.loop-position in
     record {
-      rest = at_place-item c.args.program.now l.position c.index-program-position.result c.index-program-position.result c.loop-position-test.true
+      rest = at_index-item c.args.program.now l.position c.index-program-position.result c.index-program-position.result c.loop-position-test.true
           (sym c.index-program-position.is) l.level l.skip _ c.args.state.now (omega (arith, c.level-here.ensures)) c.if-skip-gt0.true
           ∙ l.invariant.rest;
       below = l.invariant.below;
@@ -60,7 +60,7 @@ unfolding IsPlaceOf
 returns-in-Module-clause-place c =
     let here = c.level-here.result in
     let h : here ≡ c.in-Module.level = c.level-here.ensures ∙ ap level_of c.in-Module.is in
-    rw (at_place c.args.program.now c.loop-position.position c.index-program-position.result _ c.loop-position-test.true
+    rw (at_index c.args.program.now c.loop-position.position c.index-program-position.result _ c.loop-position-test.true
     (sym c.index-program-position.is ∙ c.in-Module.is))
     (ap (λ x. x + 1) h, refl)
 
