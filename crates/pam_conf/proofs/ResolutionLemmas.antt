@@ -15,13 +15,14 @@ use Rattle.pam_conf.specs.declared.resolution.Start.{Start}
 use Rattle.pam_conf.specs.declared.rule.Form.{Form}
 use Rattle.pam_conf.specs.declared.rule.Form.TheVariants.{Single}
 use Rattle.pam_conf.specs.Tells.{UnlessMemory}
-use Rattle.pam_conf.specs.Rule.{RuleText, rule_view}
+use Rattle.pam_conf.specs.Kept.{kept_view}
+use Rattle.pam_conf.specs.Rule.{RuleText}
 use Rattle.pam_conf.specs.Stack.{Items, End, joined, module_count, depth, IsNumbered}
 use Rattle.pam_conf.specs.Walk.{Walk, carries, is_of_kind, walk, refusal, numbered, rules_at, fault_at, deeper, read_walk}
 use Rattle.pam_conf.specs.declared.conf_error.ConfError.{ConfError}
 use Rattle.pam_conf.specs.declared.error.RuleFault.{RuleFault}
 use Rattle.pam_conf.specs.declared.rule.Kind.{Kind}
-use Rattle.pam_conf.specs.declared.rule.Rule.{Rule}
+use Rattle.pam_conf.specs.declared.kept.KeptRule.{KeptRule}
 use Rattle.pam_conf.specs.declared.stack.Item.{Item}
 use Rattle.pam_conf.specs.declared.stack.Item.TheVariants.{Module as ModuleItem, Sub as SubItem}
 use Rattle.pam_conf.specs.declared.trail.TheConstants.{MAX_OPEN_FILES}
@@ -113,20 +114,20 @@ start-fault folder kind file service e h =
 
 -- the rules that are left, in the search for a service
 
-any-more : (service : List ℕ) (rules : List Rule) (k : ℕ) (r : Rule) → k < length rules → r ≡ get_or rules k r →
-    list_any (carries service) (map rule_view (drop k rules)) ≡ (carries service (rule_view r) || list_any (carries service)
-    (map rule_view (drop (k + 1) rules)))
+any-more : (service : List ℕ) (rules : List KeptRule) (k : ℕ) (r : KeptRule) → k < length rules → r ≡ get_or rules k r →
+    list_any (carries service) (map kept_view (drop k rules)) ≡ (carries service (kept_view r) || list_any (carries service)
+    (map kept_view (drop (k + 1) rules)))
 any-more service rules k r within is =
-    let next : drop k rules ≡ r ∷ drop (k + 1) rules = rw add-one (drop-cons rules k r within ∙ ap (λ (x : Rule). x ∷ drop (suc k) rules) (sym is)) in
-    ap (λ (rs : List Rule). list_any (carries service) (map rule_view rs)) next
+    let next : drop k rules ≡ r ∷ drop (k + 1) rules = rw add-one (drop-cons rules k r within ∙ ap (λ (x : KeptRule). x ∷ drop (suc k) rules) (sym is)) in
+    ap (λ (rs : List KeptRule). list_any (carries service) (map kept_view rs)) next
 
-pub any-skip : (service : List ℕ) (rules : List Rule) (k : ℕ) (r : Rule) → k < length rules → r ≡ get_or rules k r → carries service (rule_view r) ≡ false →
-    list_any (carries service) (map rule_view (drop k rules)) ≡ list_any (carries service) (map rule_view (drop (k + 1) rules))
-any-skip service rules k r within is h = any-more service rules k r within is ∙ ap (λ b. b || list_any (carries service) (map rule_view (drop (k + 1) rules))) h
+pub any-skip : (service : List ℕ) (rules : List KeptRule) (k : ℕ) (r : KeptRule) → k < length rules → r ≡ get_or rules k r → carries service (kept_view r) ≡ false →
+    list_any (carries service) (map kept_view (drop k rules)) ≡ list_any (carries service) (map kept_view (drop (k + 1) rules))
+any-skip service rules k r within is h = any-more service rules k r within is ∙ ap (λ b. b || list_any (carries service) (map kept_view (drop (k + 1) rules))) h
 
-pub any-here : (service : List ℕ) (rules : List Rule) (k : ℕ) (r : Rule) → k < length rules → r ≡ get_or rules k r → carries service (rule_view r) ≡ true →
-    list_any (carries service) (map rule_view (drop k rules)) ≡ true
-any-here service rules k r within is h = any-more service rules k r within is ∙ ap (λ b. b || list_any (carries service) (map rule_view (drop (k + 1) rules))) h
+pub any-here : (service : List ℕ) (rules : List KeptRule) (k : ℕ) (r : KeptRule) → k < length rules → r ≡ get_or rules k r → carries service (kept_view r) ≡ true →
+    list_any (carries service) (map kept_view (drop k rules)) ≡ true
+any-here service rules k r within is h = any-more service rules k r within is ∙ ap (λ b. b || list_any (carries service) (map kept_view (drop (k + 1) rules))) h
 
 -- PAM.CONF
 
@@ -184,11 +185,11 @@ module _ (service : List ℕ) (test : RuleText → Bool) (all : (r : RuleText) �
       ∙ start-only file (rules_at folder file) rules read
 
   -- the rules that are left have the walk of the file
-  pub one-file_read : (folder : Folder) (kind : Kind) (file : ℕ) (rules : List Rule) →
-      in_file file (only test (rules_at folder file)) ≡ Ok (map rule_view rules) → IsRead folder kind (Some service) file (Some rules)
+  pub one-file_read : (folder : Folder) (kind : Kind) (file : ℕ) (rules : List KeptRule) →
+      in_file file (only test (rules_at folder file)) ≡ Ok (map kept_view rules) → IsRead folder kind (Some service) file (Some rules)
   one-file_read folder kind file rules read d trail =
       read_walk-only folder kind (Some service) test (λ r c. all r (and_parts (is_of_kind kind r) (carries service r) c).1) d trail file
-      (rules_at folder file) (map rule_view rules) read
+      (rules_at folder file) (map kept_view rules) read
 
 named-first : (own other : Bool) → own ≡ true → (own || other) ≡ true
 named-first own other h = rw h refl
@@ -198,17 +199,17 @@ named-second true other h = refl
 named-second false other h = h
 
 -- the rules of pam.conf that name one of two services, as the code reads them
-module _ (folder : Folder) (file : ℕ) (own other : List ℕ) (rules slice : List Rule) (test : RuleText → Bool)
+module _ (folder : Folder) (file : ℕ) (own other : List ℕ) (rules slice : List KeptRule) (test : RuleText → Bool)
     (names : (r : RuleText) → test r ≡ (carries own r || carries other r))
-    (read : in_file file (only test (rules_at folder file)) ≡ Ok (map rule_view rules)) (is : slice ≡ rules) where
+    (read : in_file file (only test (rules_at folder file)) ≡ Ok (map kept_view rules)) (is : slice ≡ rules) where
   in_own : (r : RuleText) → carries own r ≡ true → test r ≡ true
   in_own r h = names r ∙ named-first (carries own r) (carries other r) h
 
   in_other : (r : RuleText) → carries other r ≡ true → test r ≡ true
   in_other r h = names r ∙ named-second (carries own r) (carries other r) h
 
-  slice_read : in_file file (only test (rules_at folder file)) ≡ Ok (map rule_view slice)
-  slice_read = read ∙ ap (λ (rs : List Rule). Ok (map rule_view rs)) (sym is)
+  slice_read : in_file file (only test (rules_at folder file)) ≡ Ok (map kept_view slice)
+  slice_read = read ∙ ap (λ (rs : List KeptRule). Ok (map kept_view rs)) (sym is)
 
   pub own-read : (kind : Kind) → IsRead folder kind (Some own) file (Some slice)
   own-read kind = one-file_read own test in_own folder kind file slice slice_read
@@ -217,14 +218,14 @@ module _ (folder : Folder) (file : ℕ) (own other : List ℕ) (rules slice : Li
   other-read kind = one-file_read other test in_other folder kind file slice slice_read
 
   module _ (at : position_of (codes "pam.conf") folder.entries ≡ Some file) where
-    pub own-start : carried (list_any (carries own) (map rule_view slice)) file own ≡ start_in Single folder own
-    own-start = sym (one-file_start own test in_own folder file (map rule_view slice) at slice_read)
+    pub own-start : carried (list_any (carries own) (map kept_view slice)) file own ≡ start_in Single folder own
+    own-start = sym (one-file_start own test in_own folder file (map kept_view slice) at slice_read)
 
-    pub other-start : carried (list_any (carries other) (map rule_view slice)) file other ≡ start_in Single folder other
-    other-start = sym (one-file_start other test in_other folder file (map rule_view slice) at slice_read)
+    pub other-start : carried (list_any (carries other) (map kept_view slice)) file other ≡ start_in Single folder other
+    other-start = sym (one-file_start other test in_other folder file (map kept_view slice) at slice_read)
 
 -- a start that holds rules that are read
-pub start-is_read : (folder : Folder) (kind : Kind) (file : ℕ) (o : Option Start) (r : Bor (List Rule)) (b : Bor (List ℕ)) →
+pub start-is_read : (folder : Folder) (kind : Kind) (file : ℕ) (o : Option Start) (r : Bor (List KeptRule)) (b : Bor (List ℕ)) →
     IfSome o (λ s. (s.file ≡ file) × (s.read ≡ Some r) × (s.service ≡ Some b)) → IsRead folder kind (Some b.now) file (Some r.now) →
     IfSome o (IsReadStart folder kind)
 start-is_read folder kind file None r b h read = tt

@@ -6,10 +6,10 @@ use Rattle.std.proofs.Math.ListN.{length-set}
 use Rattle.pam_conf.specs.Files.{Folder}
 use Rattle.pam_conf.specs.Progress.{IsTable, IsKept}
 use Rattle.pam_conf.specs.declared.rule.Kind.{Kind}
-use Rattle.pam_conf.specs.declared.rule.Rule.{Rule}
+use Rattle.pam_conf.specs.declared.kept.KeptRule.{KeptRule}
 
 abbrev pub Table : Type 0
-Table = List (Option (Vec Rule Global))
+Table = List (Option (Vec KeptRule Global))
 
 -- no file was read
 abbrev pub IsUnread : Table → Type 0
@@ -31,7 +31,7 @@ table_unread folder kind table full none = record {
 }
 
 -- storing the rules of a file keeps the table valid
-pub table-set : (folder : Folder) (kind : Kind) (table : Table) (file : ℕ) (rules : Option (Vec Rule Global)) → file < length table →
+pub table-set : (folder : Folder) (kind : Kind) (table : Table) (file : ℕ) (rules : Option (Vec KeptRule Global)) → file < length table →
     IsTable folder kind table → IsKept folder kind file rules → IsTable folder kind (set table file rules)
 table-set folder kind table file rules within is kept = record {
   full = length-set table file rules ∙ is.full;

@@ -1,9 +1,7 @@
 use Rattle.std.proofs.Common.{◌≡◌, ◌<◌, ◌+◌, ◌-◌, ℕ, zero, suc, Bool, true, false, cond, eqb, List, [], ◌∷◌, ◌++◌, map, filter, length, drop, get_or, add-one}
-use Rattle.std.proofs.Common.{vec_len, Option, Some, None, Vec, Result, Ok, Err, IsOkAnd, ap, subst, sym, refl, ◌∙◌, arith, append_assoc, length-append}
-use Rattle.std.specs.Global.{Global}
+use Rattle.std.proofs.Common.{Option, Some, None, Result, Ok, Err, IsOkAnd, ap, subst, sym, refl, ◌∙◌, arith, append_assoc, length-append}
 use Rattle.std.specs.Option.{option_map_or}
-use Rattle.std.specs.List.{list_any, position_or_len, AllZip}
-use Rattle.std.proofs.lemmas.List.Elements.{same_from_all_zip}
+use Rattle.std.specs.List.{list_any, position_or_len}
 use Rattle.std.specs.Str.{bytes_eq}
 use Rattle.std.proofs.Math.Dec.{ltb}
 use Rattle.std.proofs.Math.Seq.{drop-cons}
@@ -13,8 +11,9 @@ use Rattle.pam_codes.specs.declared.action.Action.{Action}
 use Rattle.pam_conf.specs.Files.{Folder, position_of}
 use Rattle.pam_conf.specs.Progress.{Passes, Refuses, IsRead, of_kind, only, in_file}
 use Rattle.pam_conf.specs.Tells.{UnlessMemory}
-use Rattle.pam_conf.specs.Rule.{RuleText, rule_view, Module, Include, Sub}
-use Rattle.pam_conf.specs.Stack.{Items, End, ThenModule, ThenSub, ModuleText, joined, module_count}
+use Rattle.pam_conf.specs.Kept.{kept_view}
+use Rattle.pam_conf.specs.Rule.{RuleText, Module, Include, Sub}
+use Rattle.pam_conf.specs.Stack.{Items, End, ThenModule, ThenSub, joined, module_count}
 use Rattle.pam_conf.specs.Walk.{Walk, Event, Deeper, walk, deeper, refusal, numbered, nothing, ◌then◌, followed, fault_at, target_walk, include_walk, sub_walk}
 use Rattle.pam_conf.specs.Walk.{rules_walk, rule_walk, read_walk, file_walk, rules_at, counts, carries, is_of_kind}
 use Rattle.pam_conf.specs.declared.conf_error.ConfError.{ConfError}
@@ -22,7 +21,7 @@ use Rattle.pam_conf.specs.declared.error.FaultKind.{FaultKind}
 use Rattle.pam_conf.specs.declared.error.FaultKind.TheVariants.{Memory, Cycle, NoService, TooDeep, TooManyFollowed, TooManyModules}
 use Rattle.pam_conf.specs.declared.error.RuleFault.{RuleFault}
 use Rattle.pam_conf.specs.declared.rule.Kind.{Kind}
-use Rattle.pam_conf.specs.declared.rule.Rule.{Rule}
+use Rattle.pam_conf.specs.declared.kept.KeptRule.{KeptRule}
 use Rattle.pam_conf.specs.declared.stack.TheConstants.{MAX_MODULES}
 use Rattle.pam_conf.specs.declared.trail.TheConstants.{MAX_OPEN_FILES}
 use Rattle.pam_conf.specs.declared.walk.TheConstants.{MAX_FOLLOWS}
@@ -215,31 +214,31 @@ module _ (folder : Folder) (kind : Kind) (service : Option (List ℕ)) where
   walk-kept room trail file rules e = walk-file room trail file ∙ read_walk-kept (deeper folder kind service room) trail file (rules_at folder file) rules e
 
   -- a file is walked by rules that were read before, if they have its walk
-  pub walk-read : (trail : List ℕ) (file : ℕ) (rules : List Rule) → IsRead folder kind service file (Some rules) →
+  pub walk-read : (trail : List ℕ) (file : ℕ) (rules : List KeptRule) → IsRead folder kind service file (Some rules) →
       walk folder kind service (MAX_OPEN_FILES - length trail) trail file
-      ≡ rules_walk folder kind service (deeper folder kind service (MAX_OPEN_FILES - length trail)) trail file (map rule_view rules)
+      ≡ rules_walk folder kind service (deeper folder kind service (MAX_OPEN_FILES - length trail)) trail file (map kept_view rules)
   walk-read trail file rules h =
       let room = MAX_OPEN_FILES - length trail in
       walk-file room trail file ∙ h (deeper folder kind service room) trail
 
   -- rules, as the code stores them
-  pub file-walked : (m f m' f' : ℕ) (i i' : Items) (trail : List ℕ) (file : ℕ) (rules slice : List Rule) →
-      in_file file (of_kind kind (rules_at folder file)) ≡ Ok (map rule_view rules) → slice ≡ rules →
-      Passes m f i (rules_walk folder kind service (deeper folder kind service (MAX_OPEN_FILES - length trail)) trail file (map rule_view slice)) m' f' i' →
+  pub file-walked : (m f m' f' : ℕ) (i i' : Items) (trail : List ℕ) (file : ℕ) (rules slice : List KeptRule) →
+      in_file file (of_kind kind (rules_at folder file)) ≡ Ok (map kept_view rules) → slice ≡ rules →
+      Passes m f i (rules_walk folder kind service (deeper folder kind service (MAX_OPEN_FILES - length trail)) trail file (map kept_view slice)) m' f' i' →
       Passes m f i (walk folder kind service (MAX_OPEN_FILES - length trail) trail file) m' f' i'
   file-walked m f m' f' i i' trail file rules slice read same p =
-      rw (walk-kept (MAX_OPEN_FILES - length trail) trail file (map rule_view rules) read)
-      (subst (λ (rs : List Rule). Passes m f i (rules_walk folder kind service (deeper folder kind service (MAX_OPEN_FILES - length trail)) trail file
-      (map rule_view rs)) m' f' i') same p)
+      rw (walk-kept (MAX_OPEN_FILES - length trail) trail file (map kept_view rules) read)
+      (subst (λ (rs : List KeptRule). Passes m f i (rules_walk folder kind service (deeper folder kind service (MAX_OPEN_FILES - length trail)) trail file
+      (map kept_view rs)) m' f' i') same p)
 
-  pub file-rules_refused : (m f : ℕ) (trail : List ℕ) (file : ℕ) (rules slice : List Rule) (e : ConfError) →
-      in_file file (of_kind kind (rules_at folder file)) ≡ Ok (map rule_view rules) → slice ≡ rules →
-      Refuses m f (rules_walk folder kind service (deeper folder kind service (MAX_OPEN_FILES - length trail)) trail file (map rule_view slice)) e →
+  pub file-rules_refused : (m f : ℕ) (trail : List ℕ) (file : ℕ) (rules slice : List KeptRule) (e : ConfError) →
+      in_file file (of_kind kind (rules_at folder file)) ≡ Ok (map kept_view rules) → slice ≡ rules →
+      Refuses m f (rules_walk folder kind service (deeper folder kind service (MAX_OPEN_FILES - length trail)) trail file (map kept_view slice)) e →
       Refuses m f (walk folder kind service (MAX_OPEN_FILES - length trail) trail file) e
   file-rules_refused m f trail file rules slice e read same r =
-      rw (walk-kept (MAX_OPEN_FILES - length trail) trail file (map rule_view rules) read)
-      (subst (λ (rs : List Rule). Refuses m f (rules_walk folder kind service (deeper folder kind service (MAX_OPEN_FILES - length trail)) trail file
-      (map rule_view rs)) e) same r)
+      rw (walk-kept (MAX_OPEN_FILES - length trail) trail file (map kept_view rules) read)
+      (subst (λ (rs : List KeptRule). Refuses m f (rules_walk folder kind service (deeper folder kind service (MAX_OPEN_FILES - length trail)) trail file
+      (map kept_view rs)) e) same r)
 
   read_refused : (m f : ℕ) (d : Deeper) (trail : List ℕ) (file : ℕ) (r : Result (List RuleText) RuleFault) (e : ConfError) →
       in_file file (of_kind kind r) ≡ Err e → (rest : List Event) → refusal m f ((read_walk folder kind service d trail file r).events ++ rest) ≡ Some e
@@ -255,9 +254,9 @@ module _ (folder : Folder) (kind : Kind) (service : Option (List ℕ)) where
       ∙ read_refused m f (deeper folder kind service room) trail file (rules_at folder file) e h rest)
 
 -- the walk of rules, as the code stores them, in an open file
-abbrev pub walk_of : Folder → Kind → Option (List ℕ) → List ℕ → ℕ → List Rule → Walk
+abbrev pub walk_of : Folder → Kind → Option (List ℕ) → List ℕ → ℕ → List KeptRule → Walk
 walk_of folder kind service trail file rules =
-    rules_walk folder kind service (deeper folder kind service (MAX_OPEN_FILES - length trail)) trail file (map rule_view rules)
+    rules_walk folder kind service (deeper folder kind service (MAX_OPEN_FILES - length trail)) trail file (map kept_view rules)
 
 -- RULES
 
@@ -339,12 +338,12 @@ module _ (folder : Folder) (kind : Kind) (service : Option (List ℕ)) (d : Deep
     rule-sub_refused m f target e body h = rw (own, body) (sub-refused m f file r.line (target_walk d trail (position_of target folder.entries)) e h)
 
 -- the rules that are left: the next one, and those after it
-pub walk-more : (folder : Folder) (kind : Kind) (service : Option (List ℕ)) (trail : List ℕ) (file : ℕ) (rules : List Rule) (k : ℕ) (r : Rule) →
+pub walk-more : (folder : Folder) (kind : Kind) (service : Option (List ℕ)) (trail : List ℕ) (file : ℕ) (rules : List KeptRule) (k : ℕ) (r : KeptRule) →
     k < length rules → r ≡ get_or rules k r →
     walk_of folder kind service trail file (drop k rules) ≡ rule_walk folder kind service (deeper folder kind service (MAX_OPEN_FILES - length trail)) trail
-    file (rule_view r) then walk_of folder kind service trail file (drop (k + 1) rules)
+    file (kept_view r) then walk_of folder kind service trail file (drop (k + 1) rules)
 walk-more folder kind service trail file rules k r within is =
-    let next : drop k rules ≡ r ∷ drop (k + 1) rules = rw add-one (drop-cons rules k r within ∙ ap (λ (x : Rule). x ∷ drop (suc k) rules) (sym is)) in
+    let next : drop k rules ≡ r ∷ drop (k + 1) rules = rw add-one (drop-cons rules k r within ∙ ap (λ (x : KeptRule). x ∷ drop (suc k) rules) (sym is)) in
     ap (walk_of folder kind service trail file) next
 
 position_found : (n len p : ℕ) → cond (ltb n len) (Some n) None ≡ Some p → p < len
@@ -359,20 +358,3 @@ pub kept-read : (kind : Kind) (file : ℕ) (r : Result (List RuleText) RuleFault
     of_kind kind r ≡ Ok rules
 kept-read kind file (Ok all) rules e = let same : filter (is_of_kind kind) all ≡ rules = cc in ap Ok same
 kept-read kind file (Err fault) rules e = absurd (cc)
-
-pub same-bytes : (xs ys : List ℕ) → AllZip (λ a b. b ≡ a) xs ys → ys ≡ xs
-same-bytes xs ys zip = same_from_all_zip (λ a b. b ≡ a) xs ys zip (λ x y r. r)
-
-pub same-texts : (xs ys : List (Vec ℕ Global)) → AllZip (λ v w. AllZip (λ a b. b ≡ a) v.items w.items × (vec_len w ≡ vec_len v)) xs ys →
-    map (λ v. v.items) ys ≡ map (λ v. v.items) xs
-same-texts [] [] zip = refl
-same-texts [] (y ∷ ys) zip = absurd zip
-same-texts (x ∷ xs) [] zip = absurd zip
-same-texts (x ∷ xs) (y ∷ ys) zip = ap (λ b. b ∷ map (λ v. v.items) ys) (same-bytes x.items y.items zip.0.0) ∙ ap (λ bs. x.items ∷ bs) (same-texts xs ys zip.1)
-
-pub same-module : (number : ℕ) (dashed : Bool) (control : List Action) (path path' : List ℕ) (arguments arguments' : List (List ℕ)) (file line : ℕ) →
-    path' ≡ path → arguments' ≡ arguments →
-    ◌≡◌ {A =
-    ModuleText} (record { number = number; dashed = dashed; control = control; path = path'; arguments = arguments'; file = file; line = line })
-    (record { number = number; dashed = dashed; control = control; path = path; arguments = arguments; file = file; line = line })
-same-module number dashed control path path' arguments arguments' file line p a = rw (p, a) refl

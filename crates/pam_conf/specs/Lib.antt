@@ -1,6 +1,7 @@
 pub mod Files
 pub mod FirstWord
 pub mod ItemsOf
+pub mod Kept
 pub mod Laws
 pub mod Lines
 pub mod Progress

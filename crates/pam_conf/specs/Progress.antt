@@ -2,14 +2,15 @@
 use Rattle.std.specs.Prelude.{◌≡◌, ℕ, Bool, ◌+◌, List, ◌++◌, length, map, filter, slice_index_or, Option, Some, None, Result, Ok, Err, Vec}
 use Rattle.std.specs.Global.{Global}
 use Rattle.pam_conf.specs.Files.{Folder}
-use Rattle.pam_conf.specs.Rule.{RuleText, rule_view}
+use Rattle.pam_conf.specs.Kept.{kept_view}
+use Rattle.pam_conf.specs.Rule.{RuleText}
 use Rattle.pam_conf.specs.Tells.{UnlessMemory}
 use Rattle.pam_conf.specs.Stack.{Items, joined, module_count}
 use Rattle.pam_conf.specs.Walk.{Walk, Event, Deeper, refusal, numbered, is_of_kind, read_walk, rules_at, rules_walk, fault_at}
 use Rattle.pam_conf.specs.declared.conf_error.ConfError.{ConfError}
 use Rattle.pam_conf.specs.declared.error.RuleFault.{RuleFault}
 use Rattle.pam_conf.specs.declared.rule.Kind.{Kind}
-use Rattle.pam_conf.specs.declared.rule.Rule.{Rule}
+use Rattle.pam_conf.specs.declared.kept.KeptRule.{KeptRule}
 
 -- the walk leads from these numbers of modules and follows, and these items, to the new ones
 pub record Passes (modules follows : ℕ) (items : Items) (w : Walk) (new_modules new_follows : ℕ) (new_items : Items) : Type 0 where
@@ -36,17 +37,17 @@ in_file file (Ok x) = Ok x
 in_file file (Err fault) = Err (fault_at file fault.line fault.kind)
 
 -- the rules stored for a file, if any, are its rules of the kind
-abbrev pub IsKept : Folder → Kind → ℕ → Option (Vec Rule Global) → Type 0
+abbrev pub IsKept : Folder → Kind → ℕ → Option (Vec KeptRule Global) → Type 0
 IsKept folder kind file None = Unit {0}
-IsKept folder kind file (Some rules) = of_kind kind (rules_at folder file) ≡ Ok (map rule_view rules.items)
+IsKept folder kind file (Some rules) = of_kind kind (rules_at folder file) ≡ Ok (map kept_view rules.items)
 
 -- the walk of these rules, if any, is that of the whole file
-abbrev pub IsRead : Folder → Kind → Option (List ℕ) → ℕ → Option (List Rule) → Type 0
+abbrev pub IsRead : Folder → Kind → Option (List ℕ) → ℕ → Option (List KeptRule) → Type 0
 IsRead folder kind service file None = Unit {0}
 IsRead folder kind service file (Some rules) = (deeper : Deeper) (trail : List ℕ) →
-    read_walk folder kind service deeper trail file (rules_at folder file) ≡ rules_walk folder kind service deeper trail file (map rule_view rules)
+    read_walk folder kind service deeper trail file (rules_at folder file) ≡ rules_walk folder kind service deeper trail file (map kept_view rules)
 
 -- a table with the rules stored for each file
-pub record IsTable (folder : Folder) (kind : Kind) (table : List (Option (Vec Rule Global))) : Type 0 where
+pub record IsTable (folder : Folder) (kind : Kind) (table : List (Option (Vec KeptRule Global))) : Type 0 where
   pub full : length table ≡ length folder.entries
   pub kept : (file : ℕ) → IsKept folder kind file (slice_index_or table file None)

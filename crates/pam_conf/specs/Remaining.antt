@@ -2,6 +2,7 @@
 use Rattle.std.specs.Prelude.{ℕ, List, map, Vec}
 use Rattle.std.specs.Global.{Global}
 use Rattle.pam_conf.specs.FirstWord.{words_left}
+use Rattle.pam_conf.specs.declared.words.OwnedWords.{OwnedWords}
 use Rattle.pam_conf.specs.declared.words.Words.{Words}
 
 -- words without their layout in memory
@@ -11,3 +12,6 @@ texts words = map (λ w. w.items) words.items
 -- the words that are not read yet
 abbrev pub words_to_come : Words → List (List ℕ)
 words_to_come words = words_left words.rest.now
+
+abbrev pub owned_words : OwnedWords → List (List ℕ)
+owned_words words = words_left words.bytes.items

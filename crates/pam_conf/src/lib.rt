@@ -5,6 +5,7 @@
 mod conf_error;
 mod error;
 mod files;
+mod kept;
 pub mod laws;
 mod lines;
 mod resolution;

@@ -6,12 +6,14 @@ ghost use Rattle.pam_codes.specs.Tokens.{is_blank};
 ghost use Rattle.pam_text.specs.Text.{text_of, lines_of};
 ghost use Rattle.pam_text.specs.Gives.{Gives};
 ghost use Rattle.pam_conf.specs.Tells.{FaultTells, KindTells};
+ghost use Rattle.pam_conf.specs.Kept.{kept_view};
 ghost use Rattle.pam_conf.specs.Lines.{at_line, fault_of_source, line_rule_of, rules_in, rules_of};
 ghost use Rattle.pam_conf.specs.Lines.{fault_at as fault_at_line};
 ghost use Rattle.pam_conf.specs.Rule.{rule_view};
 ghost use Rattle.pam_conf.specs.Wanted.{with_rule, only_wanted, wants};
 
 use crate::error::{FaultKind, RuleFault};
+use crate::kept::{KeptRule, whole_rules};
 use crate::rule::{Form, Rule, line_rule};
 use crate::wanted::{Wanted, is_unwanted, is_wanted};
 use crate::words::Words;
@@ -24,18 +26,19 @@ use std::alloc::{AllocFailed, Global};
 pub fn rules(alloc: Global, bytes: &[u8], form: Form) -> Result<Vec<Rule>, RuleFault>
     ensures { Gives FaultTells (λ rules. map rule_view rules.items) result (rules_of form bytes.now) }
 {
-    wanted_rules(alloc, bytes, form, Wanted::All)
+    let kept = wanted_rules(alloc, bytes, form, Wanted::All)?;
+    Ok(whole_rules(alloc, kept)?)
 }
 
-/// Like `rules`, but returns only the wanted ones. A fault in another rule is still an error.
+/// Like `rules`, but returns only the wanted ones, as a walk keeps them. A fault in another rule is still an error.
 #[tactic(auto, unfolding(crate::specs::Lines::rules_of))]
 pub(crate) fn wanted_rules(
     alloc: Global,
     bytes: &[u8],
     form: Form,
     wanted: Wanted<'_>,
-) -> Result<Vec<Rule>, RuleFault>
-    ensures { Gives FaultTells (λ rules. map rule_view rules.items) result (only_wanted wanted.entry (rules_of form bytes.now)) }
+) -> Result<Vec<KeptRule>, RuleFault>
+    ensures { Gives FaultTells (λ rules. map kept_view rules.items) result (only_wanted wanted.entry (rules_of form bytes.now)) }
 {
     match Source::of(bytes) {
         Ok(source) => text_rules(alloc, form, source, wanted),
@@ -65,8 +68,8 @@ fn text_rules(
     form: Form,
     source: Source<'_>,
     wanted: Wanted<'_>,
-) -> Result<Vec<Rule>, RuleFault>
-    ensures { Gives FaultTells (λ rules. map rule_view rules.items) result
+) -> Result<Vec<KeptRule>, RuleFault>
+    ensures { Gives FaultTells (λ rules. map kept_view rules.items) result
         (only_wanted wanted.entry (rules_in form (lines_of (text_of 1 source.entry.bytes.now)))) }
 {
     let mut text = Text::of(source);
@@ -81,9 +84,13 @@ fn text_rules(
 }
 
 /// Appends `rule` if it is wanted.
-fn keep(rules: &mut Vec<Rule>, rule: Rule, wanted: Wanted<'_>) -> Result<(), AllocFailed<Rule>>
-    ensures { OnOk result (map rule_view rules.new.items
-        ≡ map rule_view rules.old.items ++ filter (wants wanted.entry) (rule_view rule ∷ [])) }
+fn keep(
+    rules: &mut Vec<KeptRule>,
+    rule: KeptRule,
+    wanted: Wanted<'_>,
+) -> Result<(), AllocFailed<KeptRule>>
+    ensures { OnOk result (map kept_view rules.new.items
+        ≡ map kept_view rules.old.items ++ filter (wants wanted.entry) (kept_view rule ∷ [])) }
 {
     if !is_wanted(&rule, wanted) {
         return Ok(());
@@ -105,10 +112,10 @@ fn take_rule(
     form: Form,
     line: Line<'_>,
     wanted: Wanted<'_>,
-    rules: &mut Vec<Rule>,
+    rules: &mut Vec<KeptRule>,
 ) -> Result<(), RuleFault>
     ensures { let meant = at_line line.entry.number (line_rule_of form line.entry.number line.entry.bytes.now) in
-        Gives FaultTells (λ _. map rule_view rules.new.items) result (with_rule wanted.entry (map rule_view rules.old.items) meant) }
+        Gives FaultTells (λ _. map kept_view rules.new.items) result (with_rule wanted.entry (map kept_view rules.old.items) meant) }
 {
     if is_unwanted(form, line.bytes, wanted) {
         return Ok(());
@@ -120,8 +127,8 @@ fn take_rule(
 }
 
 /// The rule of a line, if it has one.
-fn numbered_rule(alloc: Global, form: Form, line: Line<'_>) -> Result<Option<Rule>, RuleFault>
-    ensures { Gives FaultTells (option_map rule_view) result
+fn numbered_rule(alloc: Global, form: Form, line: Line<'_>) -> Result<Option<KeptRule>, RuleFault>
+    ensures { Gives FaultTells (option_map kept_view) result
         (at_line line.entry.number (line_rule_of form line.entry.number line.entry.bytes.now)) }
 {
     match read_line(alloc, form, line) {
@@ -131,8 +138,8 @@ fn numbered_rule(alloc: Global, form: Form, line: Line<'_>) -> Result<Option<Rul
 }
 
 /// Like `numbered_rule`, without the line of a fault.
-fn read_line(alloc: Global, form: Form, line: Line<'_>) -> Result<Option<Rule>, FaultKind>
-    ensures { Gives KindTells (option_map rule_view) result (line_rule_of form line.entry.number line.entry.bytes.now) }
+fn read_line(alloc: Global, form: Form, line: Line<'_>) -> Result<Option<KeptRule>, FaultKind>
+    ensures { Gives KindTells (option_map kept_view) result (line_rule_of form line.entry.number line.entry.bytes.now) }
 {
     let words = Words::of(line.bytes)?;
     line_rule(alloc, form, line.number as usize, words)

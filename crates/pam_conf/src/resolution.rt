@@ -5,7 +5,7 @@ ghost use Rattle.std.specs.List.{list_any};
 ghost use Rattle.std.specs.Option.{option_map};
 ghost use Rattle.pam_conf.specs.Progress.{IsTable};
 ghost use Rattle.pam_conf.specs.Resolution.{carried, from_starts, resolved, stack_from, start_in};
-ghost use Rattle.pam_conf.specs.Rule.{rule_view};
+ghost use Rattle.pam_conf.specs.Kept.{kept_view};
 ghost use Rattle.pam_conf.specs.Tells.{ErrorTells};
 ghost use Rattle.pam_text.specs.Gives.{Gives};
 ghost use Rattle.pam_conf.specs.StartOf.{IsReadStart, start_text};
@@ -15,7 +15,8 @@ ghost use Rattle.pam_conf.specs.declared.rule.Form.TheVariants.{Dir, Single};
 use crate::conf_error::ConfError;
 use crate::error::FaultKind;
 use crate::files::Files;
-use crate::rule::{Form, Kind, Rule, has_service, lower};
+use crate::kept::{KeptRule, has_service};
+use crate::rule::{Form, Kind, lower};
 use crate::stack::Stack;
 use crate::trail::Trail;
 use crate::walk::{Progress, Walker, file_rules};
@@ -34,7 +35,7 @@ struct Start<'a> {
     file: usize,
     service: Option<&'a [u8]>,
     /// The rules of pam.conf that have been read, those of the service among them.
-    read: Option<&'a [Rule]>,
+    read: Option<&'a [KeptRule]>,
 }
 
 /// The error if neither the service nor `other` has rules.
@@ -72,8 +73,8 @@ fn folder_start(files: &Files, service: &[u8]) -> Option<Start<'static>>
 }
 
 /// The start of `service` in pam.conf, if a rule names it.
-fn carried_start<'a>(rules: &'a [Rule], file: usize, service: &'a [u8]) -> Option<Start<'a>>
-    ensures start { option_map start_text result ≡ carried (list_any (carries service.now) (map rule_view rules.now)) file service.now }
+fn carried_start<'a>(rules: &'a [KeptRule], file: usize, service: &'a [u8]) -> Option<Start<'a>>
+    ensures start { option_map start_text result ≡ carried (list_any (carries service.now) (map kept_view rules.now)) file service.now }
     ensures read { IfSome result (λ s. (s.file ≡ file) × (s.read ≡ Some rules.entry) × (s.service ≡ Some service.entry)) }
 {
     for rule in rules {

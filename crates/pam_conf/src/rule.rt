@@ -4,15 +4,17 @@ ghost use Rattle.std.specs.Char.{to_ascii_lowercase};
 ghost use Rattle.std.specs.Option.{option_map};
 ghost use Rattle.pam_text.specs.Gives.{Gives};
 ghost use Rattle.pam_conf.specs.Tells.{KindTells};
-ghost use Rattle.pam_conf.specs.Rule.{body_view, rule_view, kind_named, kind_or_fault_of, dashed_kind_of};
+ghost use Rattle.pam_conf.specs.Rule.{kind_named, kind_or_fault_of, dashed_kind_of};
 ghost use Rattle.pam_conf.specs.Rule.{file_name_of, without_folder_of, target_of};
 ghost use Rattle.pam_conf.specs.Rule.{module_of, control_body_of, body_of};
 ghost use Rattle.pam_conf.specs.Rule.{kind_rule_of, include_rule_of, plain_rule_of, first_rule_of, rule_of};
+ghost use Rattle.pam_conf.specs.Kept.{kept_body, kept_view};
 ghost use Rattle.pam_conf.specs.Remaining.{words_to_come};
-ghost use Rattle.pam_conf.specs.Walk.{carries, is_of_kind, same_kind};
+ghost use Rattle.pam_conf.specs.Walk.{same_kind};
 
 use crate::error::FaultKind;
-use crate::words::{Words, word_text};
+use crate::kept::{KeptBody, KeptRule};
+use crate::words::{OwnedWords, Words, word_text};
 use pam_codes::{Control, is_name};
 use std::alloc::{AllocError, Global};
 
@@ -85,26 +87,6 @@ pub(crate) fn is_same(kind: Kind, other: Kind) -> bool
     kind == other
 }
 
-/// Whether `rule` applies to `kind`.
-pub(crate) fn is_of(rule: &Rule, kind: Kind) -> bool
-    ensures { result ≡ is_of_kind kind (rule_view rule.now) }
-{
-    match rule.kind {
-        Some(own) => is_same(kind, own),
-        None => true,
-    }
-}
-
-/// Whether `rule` is one of pam.conf that names `service`.
-pub(crate) fn has_service(rule: &Rule, service: &[u8]) -> bool
-    ensures { result ≡ carries service.now (rule_view rule.now) }
-{
-    match &rule.service {
-        Some(own) => service == own.as_slice(),
-        None => false,
-    }
-}
-
 /// The kind with this name, together with `dashed`.
 fn kind_or_fault(dashed: bool, name: &[u8]) -> Result<(bool, Kind), FaultKind>
     ensures { result ≡ kind_or_fault_of dashed name.now }
@@ -171,20 +153,18 @@ fn target(alloc: Global, form: Form, words: Words<'_>) -> Result<Vec<u8>, FaultK
 }
 
 /// The body of a rule that calls a module; `words` begin with its path.
-fn module_body(alloc: Global, control: Control, words: Words<'_>) -> Result<Body, FaultKind>
-    ensures { Gives KindTells body_view result (module_of control (words_to_come words.entry)) }
+fn module_body(alloc: Global, control: Control, words: Words<'_>) -> Result<KeptBody, FaultKind>
+    ensures { Gives KindTells kept_body result (module_of control (words_to_come words.entry)) }
 {
-    let Some((path, arguments)) = words.split_first() else {
+    if words.split_first().is_none() {
         return Err(FaultKind::MissingField);
-    };
-    let path = word_text(alloc, path)?;
-    let arguments = arguments.texts(alloc)?;
-    Ok(Body::Module(control, path, arguments))
+    }
+    Ok(KeptBody::Module(control, OwnedWords::of(alloc, words)?))
 }
 
 /// The body of a rule whose control is neither `include` nor `substack`.
-fn control_body(alloc: Global, control: &[u8], words: Words<'_>) -> Result<Body, FaultKind>
-    ensures { Gives KindTells body_view result (control_body_of control.now (words_to_come words.entry)) }
+fn control_body(alloc: Global, control: &[u8], words: Words<'_>) -> Result<KeptBody, FaultKind>
+    ensures { Gives KindTells kept_body result (control_body_of control.now (words_to_come words.entry)) }
 {
     match Control::read(control) {
         Ok(control) => module_body(alloc, control, words),
@@ -194,19 +174,19 @@ fn control_body(alloc: Global, control: &[u8], words: Words<'_>) -> Result<Body,
 
 /// The body of a rule: the words after the kind.
 #[tactic(auto, unfolding(crate::specs::Rule::body_of))]
-fn rule_body(alloc: Global, form: Form, words: Words<'_>) -> Result<Body, FaultKind>
-    ensures { Gives KindTells body_view result (body_of form (words_to_come words.entry)) }
+fn rule_body(alloc: Global, form: Form, words: Words<'_>) -> Result<KeptBody, FaultKind>
+    ensures { Gives KindTells kept_body result (body_of form (words_to_come words.entry)) }
 {
     let Some((control, words)) = words.split_first() else {
         return Err(FaultKind::MissingField);
     };
     if is_name(b"include", control) {
         let name = target(alloc, form, words)?;
-        return Ok(Body::Include(name));
+        return Ok(KeptBody::Include(name));
     }
     if is_name(b"substack", control) {
         let name = target(alloc, form, words)?;
-        return Ok(Body::Sub(name));
+        return Ok(KeptBody::Sub(name));
     }
     control_body(alloc, control, words)
 }
@@ -220,13 +200,13 @@ fn kind_rule(
     service: Option<Vec<u8>>,
     kind: &[u8],
     words: Words<'_>,
-) -> Result<Rule, FaultKind>
-    ensures { Gives KindTells rule_view result
+) -> Result<KeptRule, FaultKind>
+    ensures { Gives KindTells kept_view result
         (kind_rule_of form line (option_map (λ s. s.items) service) kind.now (words_to_come words.entry)) }
 {
     let (dashed, kind) = dashed_kind(kind)?;
     let body = rule_body(alloc, form, words)?;
-    Ok(Rule {
+    Ok(KeptRule {
         line,
         service,
         kind: Some(kind),
@@ -237,16 +217,21 @@ fn kind_rule(
 
 /// The rule of an `@include`, from its target on.
 #[tactic(auto, unfolding(crate::specs::Rule::include_rule_of))]
-fn include_rule(alloc: Global, form: Form, line: usize, words: Words<'_>) -> Result<Rule, FaultKind>
-    ensures { Gives KindTells rule_view result (include_rule_of form line (words_to_come words.entry)) }
+fn include_rule(
+    alloc: Global,
+    form: Form,
+    line: usize,
+    words: Words<'_>,
+) -> Result<KeptRule, FaultKind>
+    ensures { Gives KindTells kept_view result (include_rule_of form line (words_to_come words.entry)) }
 {
     let name = target(alloc, form, words)?;
-    Ok(Rule {
+    Ok(KeptRule {
         line,
         service: None,
         kind: None,
         dashed: false,
-        body: Body::Include(name),
+        body: KeptBody::Include(name),
     })
 }
 
@@ -267,8 +252,8 @@ fn plain_rule(
     line: usize,
     mut first: Vec<u8>,
     words: Words<'_>,
-) -> Result<Rule, FaultKind>
-    ensures { Gives KindTells rule_view result (plain_rule_of form line first.items (words_to_come words.entry)) }
+) -> Result<KeptRule, FaultKind>
+    ensures { Gives KindTells kept_view result (plain_rule_of form line first.items (words_to_come words.entry)) }
 {
     match form {
         Form::Dir => kind_rule(alloc, form, line, None, &first, words),
@@ -291,8 +276,8 @@ fn first_rule(
     line: usize,
     first: Vec<u8>,
     words: Words<'_>,
-) -> Result<Rule, FaultKind>
-    ensures { Gives KindTells rule_view result (first_rule_of form line first.items (words_to_come words.entry)) }
+) -> Result<KeptRule, FaultKind>
+    ensures { Gives KindTells kept_view result (first_rule_of form line first.items (words_to_come words.entry)) }
 {
     if is_name(b"@include", &first) {
         include_rule(alloc, form, line, words)
@@ -308,8 +293,8 @@ pub(crate) fn line_rule(
     form: Form,
     line: usize,
     words: Words<'_>,
-) -> Result<Option<Rule>, FaultKind>
-    ensures { Gives KindTells (option_map rule_view) result (rule_of form line (words_to_come words.entry)) }
+) -> Result<Option<KeptRule>, FaultKind>
+    ensures { Gives KindTells (option_map kept_view) result (rule_of form line (words_to_come words.entry)) }
 {
     let Some((first, words)) = words.split_first() else {
         return Ok(None);

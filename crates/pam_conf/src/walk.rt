@@ -4,7 +4,8 @@ ghost use Rattle.std.specs.Option.{option_map};
 ghost use Rattle.pam_conf.specs.Files.{position_of};
 ghost use Rattle.pam_conf.specs.ItemsOf.{items_of, module_text};
 ghost use Rattle.pam_conf.specs.Progress.{IsRead, IsTable, Passes, Refuses, in_file, of_kind};
-ghost use Rattle.pam_conf.specs.Rule.{rule_view};
+ghost use Rattle.pam_conf.specs.Kept.{arguments_of, kept_view, path_of};
+ghost use Rattle.pam_conf.specs.Remaining.{owned_words};
 ghost use Rattle.pam_conf.specs.Tells.{ErrorTells, UnlessMemory};
 ghost use Rattle.pam_text.specs.Gives.{Gives};
 ghost use Rattle.pam_conf.specs.Walk.{counts, deeper, fault_at, followed, include_walk, rule_walk, rules_at, rules_walk, target_walk, walk};
@@ -16,11 +17,13 @@ ghost use Rattle.pam_conf.specs.declared.walk.TheConstants.{MAX_FOLLOWS};
 use crate::conf_error::ConfError;
 use crate::error::{FaultKind, RuleFault};
 use crate::files::Files;
+use crate::kept::{KeptBody, KeptRule, has_service, is_of, path_and_arguments};
 use crate::lines::wanted_rules;
-use crate::rule::{Body, Kind, Rule, has_service, is_of};
+use crate::rule::Kind;
 use crate::stack::{Item, MAX_MODULES, Module, Sub};
 use crate::trail::Trail;
 use crate::wanted::Wanted;
+use crate::words::OwnedWords;
 use pam_codes::Control;
 use std::alloc::{AllocError, Global};
 
@@ -31,7 +34,7 @@ pub const MAX_FOLLOWS: usize = 256;
 #[derive(Drop)]
 pub(crate) struct Progress {
     /// The rules of the kind of each file that was read and is not open, by position in `Files`.
-    pub table: Vec<Option<Vec<Rule>>>,
+    pub table: Vec<Option<Vec<KeptRule>>>,
     pub modules: usize,
     pub follows: usize,
     ghost few_modules: { modules ≤ MAX_MODULES },
@@ -87,9 +90,9 @@ pub(crate) fn file_rules(
     files: &Files,
     file: usize,
     wanted: Wanted<'_>,
-) -> Result<Vec<Rule>, ConfError>
+) -> Result<Vec<KeptRule>, ConfError>
     requires { file < length files.now.entries }
-    ensures { Gives ErrorTells (λ rules. map rule_view rules.items) result (in_file file (only_wanted wanted.entry (rules_at files.now file))) }
+    ensures { Gives ErrorTells (λ rules. map kept_view rules.items) result (in_file file (only_wanted wanted.entry (rules_at files.now file))) }
 {
     let bytes = files.bytes(file).unwrap_or(b"");
     wanted_rules(alloc, bytes, files.form(), wanted).map_err(|found| fault_in(file, found))
@@ -100,27 +103,28 @@ fn module_of(
     alloc: Global,
     number: usize,
     file: usize,
-    rule: &Rule,
+    rule: &KeptRule,
     control: &Control,
-    path: &[u8],
-    arguments: &[Vec<u8>],
+    words: &OwnedWords,
 ) -> Result<Module, AllocError>
-    ensures { IfOk result (λ m. module_text m ≡ record {
-      number = number;
-      dashed = rule.now.dashed;
-      control = control.now;
-      path = path.now;
-      arguments = map (λ a. a.items) arguments.now;
-      file = file;
-      line = rule.now.line;
-    }) }
+    ensures { let spelled = owned_words words.now in
+        IfOk result (λ m. module_text m ≡ record {
+          number = number;
+          dashed = rule.now.dashed;
+          control = control.now;
+          path = path_of spelled;
+          arguments = arguments_of spelled;
+          file = file;
+          line = rule.now.line;
+        }) }
 {
+    let (path, arguments) = path_and_arguments(alloc, words.words())?;
     Ok(Module {
         number,
         dashed: rule.dashed,
         control: *control,
-        path: path.to_vec(alloc)?,
-        arguments: arguments.to_vec(alloc)?,
+        path,
+        arguments,
         file,
         line: rule.line,
     })
@@ -137,8 +141,8 @@ pub(crate) struct Walker<'a> {
 
 impl Walker<'_> {
     /// Whether `rule` applies to the kind, and in pam.conf to the service.
-    fn counts(&self, rule: &Rule) -> bool
-        ensures { result ≡ counts self.now.kind (option_map (λ s. s.now) self.now.service) (rule_view rule.now) }
+    fn counts(&self, rule: &KeptRule) -> bool
+        ensures { result ≡ counts self.now.kind (option_map (λ s. s.now) self.now.service) (kept_view rule.now) }
     {
         let is_carried = match self.service {
             Some(service) => has_service(rule, service),
@@ -150,13 +154,13 @@ impl Walker<'_> {
     /// Takes the rules of a file out of the table, or reads them.
     fn take_rules(
         &self,
-        table: &mut Vec<Option<Vec<Rule>>>,
+        table: &mut Vec<Option<Vec<KeptRule>>>,
         file: usize,
-    ) -> Result<Vec<Rule>, ConfError>
+    ) -> Result<Vec<KeptRule>, ConfError>
         requires table { IsTable self.now.files.now self.now.kind table.old.items }
         requires within { file < length self.now.files.now.entries }
         ensures table { IsTable self.now.files.now self.now.kind table.new.items }
-        ensures rules { Gives ErrorTells (λ rules. map rule_view rules.items) result (in_file file (of_kind self.now.kind (rules_at self.now.files.now file))) }
+        ensures rules { Gives ErrorTells (λ rules. map kept_view rules.items) result (in_file file (of_kind self.now.kind (rules_at self.now.files.now file))) }
     {
         let taken = std::mem::replace(&mut table[file], None);
         if let Some(rules) = taken {
@@ -196,7 +200,7 @@ impl Walker<'_> {
         progress: &mut Progress,
         trail: &Trail,
         file: usize,
-        read: Option<&[Rule]>,
+        read: Option<&[KeptRule]>,
         items: &mut Vec<Item>,
     ) -> Result<(), ConfError>
         requires table { IsTable self.now.files.now self.now.kind progress.old.table.items }
@@ -223,14 +227,14 @@ impl Walker<'_> {
         progress: &mut Progress,
         trail: &Trail,
         file: usize,
-        rules: &[Rule],
+        rules: &[KeptRule],
         items: &mut Vec<Item>,
     ) -> Result<(), ConfError>
         requires table { IsTable self.now.files.now self.now.kind progress.old.table.items }
         ensures table { OnOk result (IsTable self.now.files.now self.now.kind progress.new.table.items) }
         ensures walked { let service = option_map (λ s. s.now) self.now.service in
             let w = rules_walk self.now.files.now self.now.kind service (deeper self.now.files.now self.now.kind service
-            (MAX_OPEN_FILES - length trail.now)) trail.now file (map rule_view rules.now) in
+            (MAX_OPEN_FILES - length trail.now)) trail.now file (map kept_view rules.now) in
             MatchResult result
             (λ _. Passes progress.old.modules progress.old.follows (items_of items.old.items) w progress.new.modules progress.new.follows
             (items_of items.new.items))
@@ -249,14 +253,14 @@ impl Walker<'_> {
         progress: &mut Progress,
         trail: &Trail,
         file: usize,
-        rule: &Rule,
+        rule: &KeptRule,
         items: &mut Vec<Item>,
     ) -> Result<(), ConfError>
         requires table { IsTable self.now.files.now self.now.kind progress.old.table.items }
         ensures table { OnOk result (IsTable self.now.files.now self.now.kind progress.new.table.items) }
         ensures walked { let service = option_map (λ s. s.now) self.now.service in
             let w = rule_walk self.now.files.now self.now.kind service (deeper self.now.files.now self.now.kind service
-            (MAX_OPEN_FILES - length trail.now)) trail.now file (rule_view rule.now) in
+            (MAX_OPEN_FILES - length trail.now)) trail.now file (kept_view rule.now) in
             MatchResult result
             (λ _. Passes progress.old.modules progress.old.follows (items_of items.old.items) w progress.new.modules progress.new.follows
             (items_of items.new.items))
@@ -267,21 +271,21 @@ impl Walker<'_> {
         }
         let line = rule.line;
         match &rule.body {
-            Body::Module(control, path, arguments) => {
+            KeptBody::Module(control, words) => {
                 if progress.modules == MAX_MODULES {
                     return Err(fault(file, line, FaultKind::TooManyModules));
                 }
                 let number = progress.modules + 1;
-                let module = module_of(self.alloc, number, file, rule, control, path, arguments)?;
+                let module = module_of(self.alloc, number, file, rule, control, words)?;
                 items.push(Item::Module(module))?;
                 progress.modules = number;
                 Ok(())
             }
-            Body::Include(target) => {
+            KeptBody::Include(target) => {
                 self.follow(progress, trail, file, line, target.as_slice(), items)?;
                 Ok(())
             }
-            Body::Sub(target) => {
+            KeptBody::Sub(target) => {
                 let mut inner = Vec::new(self.alloc);
                 let target = self.follow(
                     progress,

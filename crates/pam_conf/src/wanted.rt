@@ -1,12 +1,14 @@
 //! The rules that a reader of a file keeps: pam.conf(5), on `service` and `type`.
 ghost use Rattle.std.specs.Prelude.{◌≡◌, IsOk, IsTrue, List, Ok, ℕ};
+ghost use Rattle.pam_conf.specs.Kept.{kept_view};
 ghost use Rattle.pam_conf.specs.Lines.{at_line, line_rule_of};
-ghost use Rattle.pam_conf.specs.Rule.{RuleText, body_of, rule_of, rule_view};
+ghost use Rattle.pam_conf.specs.Rule.{RuleText, body_of, rule_of};
 ghost use Rattle.pam_conf.specs.Remaining.{words_to_come};
 ghost use Rattle.pam_conf.specs.Wanted.{wants, with_rule};
 ghost use Rattle.pam_conf.specs.Words.{text_of_word};
 
-use crate::rule::{Form, Kind, Rule, dashed_kind, has_service, is_of, is_same};
+use crate::kept::{KeptRule, has_service, is_of};
+use crate::rule::{Form, Kind, dashed_kind, is_same};
 use crate::words::Words;
 use pam_codes::{Control, is_name};
 
@@ -21,8 +23,8 @@ pub(crate) enum Wanted<'a> {
 }
 
 /// Whether `rule` is wanted.
-pub(crate) fn is_wanted(rule: &Rule, wanted: Wanted<'_>) -> bool
-    ensures { result ≡ wants wanted.entry (rule_view rule.now) }
+pub(crate) fn is_wanted(rule: &KeptRule, wanted: Wanted<'_>) -> bool
+    ensures { result ≡ wants wanted.entry (kept_view rule.now) }
 {
     match wanted {
         Wanted::All => true,

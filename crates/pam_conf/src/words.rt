@@ -147,6 +147,33 @@ impl<'a> Words<'a> {
     }
 }
 
+/// A copy of the remaining words of a line.
+#[derive(Drop)]
+pub(crate) struct OwnedWords {
+    bytes: Vec<u8>,
+    ghost closed: { IsSome (words_of bytes.items) },
+}
+
+impl OwnedWords {
+    ghost use Rattle.pam_conf.specs.Remaining.{owned_words, words_to_come};
+
+    /// Copies words, as they are written.
+    pub(crate) fn of(alloc: Global, words: Words<'_>) -> Result<OwnedWords, AllocError>
+        ensures { IfOk result (λ owned. owned_words owned ≡ words_to_come words.entry) }
+    {
+        let bytes = Vec::from_slice(alloc, words.rest)?;
+        Ok(OwnedWords { bytes })
+    }
+
+    pub(crate) fn words(&self) -> Words<'_>
+        ensures { words_to_come result ≡ owned_words self.now }
+    {
+        Words {
+            rest: self.bytes.as_slice(),
+        }
+    }
+}
+
 /// The number of bytes that spell the first byte of a text between brackets: two at `\]`.
 fn spelling_len(inside: &[u8]) -> usize
     requires { 0 < length inside.now }

@@ -2,7 +2,7 @@ use Rattle.std.proofs.Common.{map, sym, ap, ◌∙◌, arith}
 use Rattle.std.specs.List.{list_any}
 use Rattle.std.proofs.lemmas.List.{drop_all}
 use Rattle.pam_conf.specs.Resolution.{carried}
-use Rattle.pam_conf.specs.Rule.{rule_view}
+use Rattle.pam_conf.specs.Kept.{kept_view}
 use Rattle.pam_conf.specs.Walk.{carries}
 use Rattle.pam_conf.proofs.ResolutionLemmas.{any-here, any-skip}
 use Rattle.pam_conf.proofs.resolution.carried_start.Goals as goal
@@ -21,4 +21,4 @@ loop-rule-preserved c =
 pub returns-clause-start : goal.returns-clause-start
 returns-clause-start c =
     ap (λ b. carried b c.args.file c.args.service.now) (sym (c.loop-rule.invariant
-    ∙ ap (λ rs. list_any (carries c.args.service.now) (map rule_view rs)) (drop_all c.loop-rule.rule-index c.args.rules.now (omega arith))))
+    ∙ ap (λ rs. list_any (carries c.args.service.now) (map kept_view rs)) (drop_all c.loop-rule.rule-index c.args.rules.now (omega arith))))

@@ -1,10 +1,11 @@
-use Rattle.std.proofs.Common.{◌≡◌, ◌+◌, ◌-◌, ◌∷◌, [], ℕ, map, List, Option, Some, Bor, length, drop, ap, sym, ◌∙◌, refl, arith, length-append}
+use Rattle.std.proofs.Common.{◌≡◌, ◌+◌, ◌-◌, ◌∷◌, [], ℕ, List, Option, Some, Bor, length, drop, ap, sym, ◌∙◌, refl, arith, length-append}
 use Rattle.std.specs.Option.{option_map}
 use Rattle.std.proofs.lemmas.List.{drop_all}
 use Rattle.std.proofs.lemmas.Result.{err_from_is_err_and}
 use Rattle.pam_conf.specs.Files.{position_of}
 use Rattle.pam_conf.specs.ItemsOf.{items_of}
-use Rattle.pam_conf.specs.Rule.{rule_view, body_view, Include, Sub}
+use Rattle.pam_conf.specs.Kept.{kept_view, kept_body}
+use Rattle.pam_conf.specs.Rule.{Include, Sub}
 use Rattle.pam_conf.specs.Stack.{ModuleText, joined, ThenModule, End}
 use Rattle.pam_conf.specs.Walk.{deeper, rule_walk, rules_at}
 use Rattle.pam_conf.specs.declared.trail.TheConstants.{MAX_OPEN_FILES}
@@ -103,14 +104,14 @@ walk_file-returns-clause-walked t c =
 pub walk_rule-returns-then-not-counts-clause-walked : goal.walk_rule-returns-then-not-counts-clause-walked
 walk_rule-returns-then-not-counts-clause-walked t c =
     lemmas.rule-passed c.args.self.now.files.now c.args.self.now.kind (service_of c.args.self.now.service) _ c.args.trail.now c.args.file
-    (rule_view c.args.rule.now) c.args.progress.now.modules c.args.progress.now.follows (items_of c.args.items.now.items)
+    (kept_view c.args.rule.now) c.args.progress.now.modules c.args.progress.now.follows (items_of c.args.items.now.items)
     (sym c.counts.ensures ∙ c.if-not-counts.true)
 
 pub walk_rule-returns-then-progress-eq-MAX_MODULES-clause-walked : goal.walk_rule-returns-then-progress-eq-MAX_MODULES-clause-walked
 walk_rule-returns-then-progress-eq-MAX_MODULES-clause-walked t c =
     lemmas.rule-full c.args.self.now.files.now c.args.self.now.kind (service_of c.args.self.now.service) _ c.args.trail.now c.args.file
-    (rule_view c.args.rule.now) (sym c.counts.ensures ∙ c.if-not-counts.false) c.args.progress.now.modules c.args.progress.now.follows _ _ _ c.fault.result
-    (ap body_view c.in-Module.is) c.if-progress-eq-MAX_MODULES.true c.fault.ensures
+    (kept_view c.args.rule.now) (sym c.counts.ensures ∙ c.if-not-counts.false) c.args.progress.now.modules c.args.progress.now.follows _ _ _ c.fault.result
+    (ap kept_body c.in-Module.is) c.if-progress-eq-MAX_MODULES.true c.fault.ensures
 
 pub walk_rule-follow-requires : goal.walk_rule-follow-requires
 walk_rule-follow-requires t c = (omega arith, c.requires.table)
@@ -119,8 +120,8 @@ pub walk_rule-returns-in_err-follow-in-Include-clause-walked : goal.walk_rule-re
 walk_rule-returns-in_err-follow-in-Include-clause-walked t c =
     let p = err_from_is_err_and c.from_residual-in_err-follow-in-Include.result c.from_residual-in_err-follow-in-Include.ensures.1 in
     rw (p.1, p.2) (lemmas.rule-include_refused c.args.self.now.files.now c.args.self.now.kind (service_of c.args.self.now.service) _ c.args.trail.now
-    c.args.file (rule_view c.args.rule.now) (sym c.counts.ensures ∙ c.if-not-counts.false) c.args.progress.now.modules c.args.progress.now.follows
-    c.as_slice.result.now c.in_err-follow-in-Include.field-0.0 (ap body_view c.in-Include.is ∙ ap Include (sym c.as_slice.ensures.value))
+    c.args.file (kept_view c.args.rule.now) (sym c.counts.ensures ∙ c.if-not-counts.false) c.args.progress.now.modules c.args.progress.now.follows
+    c.as_slice.result.now c.in_err-follow-in-Include.field-0.0 (ap kept_body c.in-Include.is ∙ ap Include (sym c.as_slice.ensures.value))
     c.in_err-follow-in-Include.ensures.walked)
 
 pub walk_rule-follow-requires-in-Sub : goal.walk_rule-follow-requires-in-Sub
@@ -130,27 +131,26 @@ pub walk_rule-returns-in_err-target-in-Sub-clause-walked : goal.walk_rule-return
 walk_rule-returns-in_err-target-in-Sub-clause-walked t c =
     let p = err_from_is_err_and c.from_residual-in_err-target-in-Sub.result c.from_residual-in_err-target-in-Sub.ensures.1 in
     rw (p.1, p.2) (lemmas.rule-sub_refused c.args.self.now.files.now c.args.self.now.kind (service_of c.args.self.now.service) _ c.args.trail.now c.args.file
-    (rule_view c.args.rule.now) (sym c.counts.ensures ∙ c.if-not-counts.false) c.args.progress.now.modules c.args.progress.now.follows
-    c.as_slice-in-Sub.result.now c.in_err-target-in-Sub.field-0.0 (ap body_view c.in-Sub.is ∙ ap Sub (sym c.as_slice-in-Sub.ensures.value))
+    (kept_view c.args.rule.now) (sym c.counts.ensures ∙ c.if-not-counts.false) c.args.progress.now.modules c.args.progress.now.follows
+    c.as_slice-in-Sub.result.now c.in_err-target-in-Sub.field-0.0 (ap kept_body c.in-Sub.is ∙ ap Sub (sym c.as_slice-in-Sub.ensures.value))
     c.in_err-target-in-Sub.ensures.walked)
 
 pub walk_rule-returns-in_ok-push-in-Module-clause-walked : goal.walk_rule-returns-in_ok-push-in-Module-clause-walked
 walk_rule-returns-in_ok-push-in-Module-clause-walked t c =
     lemmas.rule-module c.args.self.now.files.now c.args.self.now.kind (service_of c.args.self.now.service) _ c.args.trail.now c.args.file
-    (rule_view c.args.rule.now) (sym c.counts.ensures ∙ c.if-not-counts.false) c.args.progress.now.modules c.args.progress.now.follows
-    (items_of c.args.items.now.items) (items_of c.push.new.self.items) c.in-Module.control c.in-Module.path.items
-    (map (λ a. a.items) c.in-Module.arguments.items) (ap body_view c.in-Module.is) c.if-progress-eq-MAX_MODULES.false
+    (kept_view c.args.rule.now) (sym c.counts.ensures ∙ c.if-not-counts.false) c.args.progress.now.modules c.args.progress.now.follows
+    (items_of c.args.items.now.items) (items_of c.push.new.self.items) c.in-Module.control _ _ (ap kept_body c.in-Module.is) c.if-progress-eq-MAX_MODULES.false
     (ap items_of c.in_ok-push-in-Module.ensures.items ∙ items_of-push_module c.args.items.now.items _
     ∙ ap (λ (m : ModuleText). joined (items_of c.args.items.now.items) (ThenModule m End))
-    (c.in_ok-module-in-Module.ensures ∙ lemmas.same-module _ _ _ _ _ _ _ _ _ c.deref.ensures.value (ap (map (λ a. a.items)) c.deref-in-Module.ensures.value)))
+    c.in_ok-module-in-Module.ensures)
 
 pub walk_rule-returns-in_ok-push-in-Sub-clause-walked : goal.walk_rule-returns-in_ok-push-in-Sub-clause-walked
 walk_rule-returns-in_ok-push-in-Sub-clause-walked t c =
     lemmas.rule-sub c.args.self.now.files.now c.args.self.now.kind (service_of c.args.self.now.service) _ c.args.trail.now c.args.file
-    (rule_view c.args.rule.now) (sym c.counts.ensures ∙ c.if-not-counts.false) c.args.progress.now.modules c.args.progress.now.follows
+    (kept_view c.args.rule.now) (sym c.counts.ensures ∙ c.if-not-counts.false) c.args.progress.now.modules c.args.progress.now.follows
     c.follow-in-Sub.new.progress.modules c.follow-in-Sub.new.progress.follows (items_of c.args.items.now.items) (items_of c.push-in-Sub.new.self.items)
     (items_of c.new-inner.result.items) (items_of c.follow-in-Sub.new.items.items) c.as_slice-in-Sub.result.now c.in_ok-target-in-Sub.target
-    (ap body_view c.in-Sub.is ∙ ap Sub (sym c.as_slice-in-Sub.ensures.value)) (ap items_of c.new-inner.ensures.items) c.in_ok-target-in-Sub.ensures.walked
+    (ap kept_body c.in-Sub.is ∙ ap Sub (sym c.as_slice-in-Sub.ensures.value)) (ap items_of c.new-inner.ensures.items) c.in_ok-target-in-Sub.ensures.walked
     (ap items_of c.in_ok-push-in-Sub.ensures.items ∙ items_of-push_sub c.args.items.now.items _)
 
 -- THE RULES OF A FILE
@@ -173,7 +173,7 @@ walk_rules-returns-in_err-walk_rule-clause-walked t c =
     (lemmas.walk_of c.args.self.now.files.now c.args.self.now.kind (service_of c.args.self.now.service) c.args.trail.now c.args.file
     (drop c.loop-rule.rule-index c.args.rules.now)) (rule_walk c.args.self.now.files.now c.args.self.now.kind (service_of c.args.self.now.service)
     (deeper c.args.self.now.files.now c.args.self.now.kind (service_of c.args.self.now.service) (MAX_OPEN_FILES - length c.args.trail.now)) c.args.trail.now
-    c.args.file (rule_view c.rule-item.result)) (lemmas.walk_of c.args.self.now.files.now c.args.self.now.kind (service_of c.args.self.now.service)
+    c.args.file (kept_view c.rule-item.result)) (lemmas.walk_of c.args.self.now.files.now c.args.self.now.kind (service_of c.args.self.now.service)
     c.args.trail.now c.args.file (drop (c.loop-rule.rule-index + 1) c.args.rules.now)) c.in_err-walk_rule.field-0.0 c.loop-rule.invariant.leads
     (lemmas.walk-more c.args.self.now.files.now c.args.self.now.kind (service_of c.args.self.now.service) c.args.trail.now c.args.file c.args.rules.now
     c.loop-rule.rule-index c.rule-item.result (omega arith) c.rule-item.is) c.in_err-walk_rule.ensures.walked)
