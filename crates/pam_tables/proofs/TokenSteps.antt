@@ -120,7 +120,7 @@ kept b bs h =
     let size : length (b ∷ bs) - suffix_len is_blank (b ∷ bs) ≡ suc (length bs - suffix_len is_blank (b ∷ bs)) = omega arith in
     ap (λ n. has_bytes (take n (b ∷ bs))) size
 
-neither : (a b : Bool) → (a || b) ≡ false → (a ≡ false) × (b ≡ false)
+pub neither : (a b : Bool) → (a || b) ≡ false → (a ≡ false) × (b ≡ false)
 neither true b h = absurd (cc)
 neither false b h = (refl, h)
 
@@ -148,7 +148,7 @@ token_first s (b ∷ bs) part behind h z e f =
 
 -- ---- tokens one after another
 
-passes : {A : Type 0} (r : Result A TableFault) (others : Result (List A) TableFault) → Ok tt ≡ verdict r → verdict others ≡ verdict (with_token r others)
+pub passes : {A : Type 0} (r : Result A TableFault) (others : Result (List A) TableFault) → Ok tt ≡ verdict r → verdict others ≡ verdict (with_token r others)
 passes (Ok x) (Ok xs) h = refl
 passes (Ok x) (Err fault) h = refl
 passes (Err fault) others h = absurd (cc)

@@ -14,7 +14,7 @@ use crate::lines::{Lines, is_blank_text, source, trim};
 use crate::login::{Login, Origin};
 use crate::options::AccessOptions;
 use crate::tokens::{check_tokens, has_token, list_matches};
-use crate::users::UserMatcher;
+use crate::users::{UserMatcher, check_users};
 use pam_text::{ByteSet, Source, cut_among};
 use std::alloc::Global;
 use std::marker::Model;
@@ -123,7 +123,7 @@ fn check_fields(fields: Fields<'_>, separators: &ByteSet<'_>) -> Result<(), Tabl
         return Err(TableFault::MissingField);
     }
     Permission::read(trim(fields.permission))?;
-    check_tokens::<UserMatcher<'_>>(fields.users, separators)?;
+    check_users(fields.users, separators)?;
     check_tokens::<Origin<'_>>(fields.origins, separators)
 }
 

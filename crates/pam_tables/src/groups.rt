@@ -123,6 +123,9 @@ impl Groups {
     pub fn lists(&self, group: &[u8], user: &[u8]) -> bool
         ensures { result ≡ lists_user self.now group.now user.now }
     {
+        if self.members.is_empty() {
+            return false;
+        }
         match self.members.get(group) {
             Some(members) => has_member(members, user),
             None => false,

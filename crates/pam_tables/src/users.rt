@@ -6,13 +6,14 @@ ghost use Rattle.std.specs.Option.{option_map};
 ghost use Rattle.pam_codes.specs.Code.{same_name};
 ghost use Rattle.pam_tables.specs.Error.{verdict};
 ghost use Rattle.pam_tables.specs.Groups.{lists_user};
-ghost use Rattle.pam_tables.specs.Tokens.{group_name as group_name_of, plain_user, user_mark, user_token, UserPattern};
+ghost use Rattle.pam_tables.specs.Tokens.{group_name as group_name_of, each_token, plain_user, tokens_of, user_mark, user_token, UserPattern};
 
 use crate::error::TableFault;
 use crate::groups::Groups;
 use crate::lists::Mark;
-use crate::tokens::Matcher;
+use crate::tokens::{Matcher, check_tokens};
 use pam_codes::is_name;
+use pam_text::ByteSet;
 
 /// A user, with the groups that may list the user. A plain name may be a group if `by_name`.
 #[derive(Clone, Copy)]
@@ -37,6 +38,17 @@ fn has_at(token: &[u8]) -> bool
     ensures { result ≡ list_any (λ b. b == 64) token.now }
 {
     token.contains(&b'@')
+}
+
+/// Checks a list of users. Only a token with an `@` can have a fault.
+pub(crate) fn check_users(text: &[u8], separators: &ByteSet<'_>) -> Result<(), TableFault>
+    ensures { result ≡ verdict (each_token user_token (tokens_of separators.now.bytes.now text.now)) }
+{
+    if has_at(text) {
+        check_tokens::<UserMatcher<'_>>(text, separators)
+    } else {
+        Ok(())
+    }
 }
 
 impl<'a> UserMatcher<'a> {
