@@ -182,7 +182,8 @@ lines_fail : (r : Result (List LineText) (TableFault × ℕ)) (e : TableFault ×
 lines_fail (Ok lines) e h = absurd (cc)
 lines_fail (Err f) e h = let same : f ≡ e = cc in ap Err same
 
-module _ (o : Options) (fs ls bytes : List ℕ) (group_names : Bool) (view : record { field_separators = fs; list_separators = ls; group_names = group_names } ≡ o)
+module _ (o : Options) (fs ls bytes : List ℕ) (group_names : Bool)
+    (view : record { field_separators = fs; list_separators = ls; group_names = group_names } ≡ o)
     (whole : sound bytes ≡ Ok tt) where
   given : table_of o bytes ≡ table_with group_names (lines_of fs ls bytes)
   unfolding table_of

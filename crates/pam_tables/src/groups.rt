@@ -64,11 +64,11 @@ fn has_member(members: &[u8], user: &[u8]) -> bool
         return false;
     }
     let mut rest = members;
-    while let Some((member, behind)) = cut(rest, b',') {
+    while let Some((member, after)) = cut(rest, b',') {
         if member == user {
             return true;
         }
-        rest = behind;
+        rest = after;
     }
     rest == user
 }

@@ -103,16 +103,16 @@ impl Network {
     pub(crate) fn read(text: &[u8]) -> Result<Option<Network>, TableFault>
         ensures { result ≡ network_of text.now }
     {
-        let (front, behind) = match cut(text, b'/') {
+        let (front, after) = match cut(text, b'/') {
             Some(parts) => parts,
             None => return Ok(None),
         };
         match Address::read(front) {
-            Some(Address::V4(address)) => match v4_mask(behind) {
+            Some(Address::V4(address)) => match v4_mask(after) {
                 Some(mask) => Ok(Some(Network::V4 { address, mask })),
                 None => Err(TableFault::BadMask),
             },
-            Some(Address::V6(address)) => match v6_mask(behind) {
+            Some(Address::V6(address)) => match v6_mask(after) {
                 Some(mask) => Ok(Some(Network::V6 { address, mask })),
                 None => Err(TableFault::BadMask),
             },

@@ -53,14 +53,16 @@ pub(crate) fn check_users(text: &[u8], separators: &ByteSet<'_>) -> Result<(), T
 
 impl<'a> UserMatcher<'a> {
     fn is_named(&self, name: &[u8]) -> bool
-        ensures { result ≡ (same_name name.now self.now.user.now || (self.now.by_name && lists_user self.now.groups.now name.now self.now.user.now)) }
+        ensures { let m = self.now in
+            result ≡ (same_name name.now m.user.now || (m.by_name && lists_user m.groups.now name.now m.user.now)) }
     {
         is_name(name, self.user) || (self.by_name && self.groups.lists(name, self.user))
     }
 
     /// Matches a token that is no name in parentheses.
     fn plain_mark(&self, token: &[u8]) -> Mark
-        ensures { (pattern : UserPattern) → plain_user token.now ≡ Ok pattern → result ≡ user_mark self.now.groups.now self.now.by_name self.now.user.now pattern }
+        ensures { let m = self.now in (pattern : UserPattern) → plain_user token.now ≡ Ok pattern
+            → result ≡ user_mark m.groups.now m.by_name m.user.now pattern }
     {
         if is_name(b"EXCEPT", token) {
             Mark::Except
@@ -100,7 +102,8 @@ impl<'a> Matcher for UserMatcher<'a> {
     }
 
     fn mark(&self, token: &[u8]) -> Mark
-        ensures { (pattern : UserPattern) → user_token token.now ≡ Ok pattern → result ≡ user_mark self.now.groups.now self.now.by_name self.now.user.now pattern }
+        ensures { let m = self.now in (pattern : UserPattern) → user_token token.now ≡ Ok pattern
+            → result ≡ user_mark m.groups.now m.by_name m.user.now pattern }
     {
         match group_name(token) {
             Some(name) => Mark::of(self.groups.lists(name, self.user)),
