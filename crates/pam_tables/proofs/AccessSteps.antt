@@ -182,7 +182,8 @@ lines_fail : (r : Result (List LineText) (TableFault × ℕ)) (e : TableFault ×
 lines_fail (Ok lines) e h = absurd (cc)
 lines_fail (Err f) e h = let same : f ≡ e = cc in ap Err same
 
-module _ (o : Options) (fs ls bytes : List ℕ) (group_names : Bool) (view : record { field_separators = fs; list_separators = ls; group_names = group_names } ≡ o)
+module _ (o : Options) (fs ls bytes : List ℕ) (group_names : Bool)
+    (view : record { field_separators = fs; list_separators = ls; group_names = group_names } ≡ o)
     (whole : sound bytes ≡ Ok tt) where
   given : table_of o bytes ≡ table_with group_names (lines_of fs ls bytes)
   unfolding table_of
@@ -272,6 +273,21 @@ module _ (groups : List Group) (by_name : Bool) (user : List ℕ) (origin : Orig
       let empty : left.rest ≡ [] = cc in
       sym (left.same ∙ ap decided empty)
 
+-- the marks by an address that is known
+pub known_marks : (o : Origin) → IsKnown o → known_mark o ≡ origin_mark (origin_view o)
+unfolding origin_mark
+known_marks o h = λ i token. known o h token i
+  where
+    known : (o : Origin) → IsKnown o → (token : OriginPattern) → known_mark o token ≡ origin_mark (origin_view o) token
+    known (places.Remote host address) k token = ap (λ (a : Option Address). host_mark host.now a token) k
+    known (places.Local place) k token = refl
+
+-- the permission by an address that is known
+pub chosen_by : (groups : List Group) (by_name : Bool) (user : List ℕ) (o : Origin) → IsKnown o → (entry : Option LineText) (p : Option Permission) →
+    p ≡ permission_for groups by_name user (known_mark o) entry → p ≡ permission_for groups by_name user (origin_mark (origin_view o)) entry
+chosen_by groups by_name user o k entry p h =
+    h ∙ ap (λ (marked : OriginPattern → Mark). permission_for groups by_name user marked entry) (known_marks o k)
+
 -- the number of a line is that with which it was read
 number_kept : (n : ℕ) (t : Bool) (r : Result Permission TableFault) (us : Result (List UserPattern) TableFault) (os : Result (List OriginPattern) TableFault)
     (line : LineText) → (if t then line_of n r us os else Err MissingField) ≡ Ok line → line.number ≡ n
@@ -300,12 +316,3 @@ entry_number fs ls n text entry h = go (is_passed_over text) (fields_of fs text)
     go true fields (Some l) k = absurd (cc)
     go false None e k = absurd (cc)
     go false (Some f) e k = some _ (λ l g. number_kept n (has_tokens ls f.1 && has_tokens ls f.2) _ _ _ l g) e k
-
--- the marks by an address that is known
-pub known_marks : (o : Origin) → IsKnown o → known_mark o ≡ origin_mark (origin_view o)
-unfolding origin_mark
-known_marks o h = λ i token. known o h token i
-  where
-    known : (o : Origin) → IsKnown o → (token : OriginPattern) → known_mark o token ≡ origin_mark (origin_view o) token
-    known (places.Remote host address) k token = ap (λ (a : Option Address). host_mark host.now a token) k
-    known (places.Local place) k token = refl

@@ -12,13 +12,13 @@ use Rattle.pam_tables.specs.Network.{ones, bit, bits_agree}
 
 -- ---- ones at the highest places
 
-ones_behind : (n p : ℕ) → number_from 2 n (replicate p 1) + 1 ≡ (n + 1) * 2 ^ p
-ones_behind n zero = omega arith
-ones_behind n (suc p) = rw pow-suc (omega (arith, ones_behind (n * 2 + 1) p))
+ones_after : (n p : ℕ) → number_from 2 n (replicate p 1) + 1 ≡ (n + 1) * 2 ^ p
+ones_after n zero = omega arith
+ones_after n (suc p) = rw pow-suc (omega (arith, ones_after (n * 2 + 1) p))
 
-zeros_behind : (n q : ℕ) → number_from 2 n (replicate q 0) ≡ n * 2 ^ q
-zeros_behind n zero = omega arith
-zeros_behind n (suc q) = rw pow-suc (omega (arith, zeros_behind (n * 2 + 0) q))
+zeros_after : (n q : ℕ) → number_from 2 n (replicate q 0) ≡ n * 2 ^ q
+zeros_after n zero = omega arith
+zeros_after n (suc q) = rw pow-suc (omega (arith, zeros_after (n * 2 + 0) q))
 
 number_from-append : (base n : ℕ) (xs ys : List ℕ) → number_from base n (xs ++ ys) ≡ number_from base (number_from base n xs) ys
 number_from-append base n [] ys = refl
@@ -29,11 +29,11 @@ unfolding ones
 ones_is w p h =
     let q : ℕ = w - p in
     let a : ℕ = number_from 2 0 (replicate p 1) in
-    let all : a + 1 ≡ 2 ^ p = omega (arith, ones_behind 0 p) in
+    let all : a + 1 ≡ 2 ^ p = omega (arith, ones_after 0 p) in
     let sum : w ≡ p + q = omega arith in
     let powers : 2 ^ w ≡ 2 ^ p * 2 ^ q = ap (λ n. 2 ^ n) sum ∙ pow-add 2 p q in
     let product : (a + 1) * 2 ^ q ≡ 2 ^ p * 2 ^ q = ap (λ n. n * 2 ^ q) all in
-    number_from-append 2 0 (replicate p 1) (replicate q 0) ∙ zeros_behind a q ∙ omega arith
+    number_from-append 2 0 (replicate p 1) (replicate q 0) ∙ zeros_after a q ∙ omega arith
 
 -- ---- two numbers under a mask
 

@@ -1,18 +1,11 @@
 -- A text cut at its first separator, and at each of them.
-use Rattle.std.proofs.Common.{◌≡◌, ◌∙◌, ◌+◌, ◌<◌, ◌≤◌, ◌&&◌, ℕ, Bool, true, false, not, List, [], ◌∷◌, length, take, drop, cond, nat_lt, position, Option, Some}
-use Rattle.std.proofs.Common.{None, refl, sym, ap, arith, ap₂}
+use Rattle.std.proofs.Common.{◌≡◌, ◌∙◌, ◌+◌, ◌<◌, ◌≤◌, ◌&&◌, ℕ, Bool, true, false, not, List, [], ◌∷◌, length, take, drop, cond, nat_lt, Option, Some}
+use Rattle.std.proofs.Common.{None, refl, sym, ap, arith}
 use Rattle.std.specs.List.{slice_split, onto_first, position_or_len, list_all}
-use Rattle.std.specs.Option.{option_map, option_map_or}
+use Rattle.std.specs.Option.{option_map_or}
 use Rattle.std.proofs.lemmas.Bool.{ltb-true, ltb-false}
-use Rattle.std.proofs.lemmas.List.{drop-drop}
 use Rattle.std.proofs.lemmas.List.Splits.{slice_split_first}
 use Rattle.pam_tables.specs.Lines.{cut_at}
-
-pub cut_found : (p : ℕ → Bool) (text a rest r : List ℕ) (i : ℕ) → Some i ≡ position p text → a ≡ take i text → rest ≡ drop i text → r ≡ drop 1 rest →
-    Some (a, r) ≡ cut_at p text
-cut_found p text a rest r i e f g h =
-    let back : r ≡ drop (i + 1) text = h ∙ ap (drop 1) g ∙ drop-drop 1 i text in
-    ap₂ (λ x y. Some (x, y)) f back ∙ ap (λ (o : Option ℕ). option_map (λ j. (take j text, drop (j + 1) text)) o) e
 
 -- the parts of a text that has a separator
 pub split_found : (p : ℕ → Bool) (text a r : List ℕ) → Some (a, r) ≡ cut_at p text → slice_split p text ≡ a ∷ slice_split p r

@@ -1,6 +1,7 @@
 pub mod AccessSteps
 pub mod Addresses
 pub mod BitSteps
+pub mod CleanSteps
 pub mod Cutting
 pub mod Digits
 pub mod GroupSteps

@@ -10,45 +10,45 @@ use Rattle.pam_tables.specs.Address.{double_colon, more_pieces, number_from, num
 use Rattle.pam_tables.proofs.Cutting.{split_found, split_none, split_parts}
 
 -- a cut of the text after the first n bytes, as a cut of the whole text
-abbrev pub behind : ℕ → List ℕ → Option (List ℕ × List ℕ) → Option (List ℕ × List ℕ)
-behind n text o = option_map (λ q. (take n text ++ q.0, q.1)) o
+abbrev pub after : ℕ → List ℕ → Option (List ℕ × List ℕ) → Option (List ℕ × List ℕ)
+after n text o = option_map (λ q. (take n text ++ q.0, q.1)) o
 
-pub behind_start : (text : List ℕ) (o : Option (List ℕ × List ℕ)) → behind 0 text o ≡ o
-behind_start text None = refl
-behind_start text (Some x) = refl
+pub after_start : (text : List ℕ) (o : Option (List ℕ × List ℕ)) → after 0 text o ≡ o
+after_start text None = refl
+after_start text (Some x) = refl
 
-behind_more : (n : ℕ) (text : List ℕ) (b : ℕ) (o : Option (List ℕ × List ℕ)) → take (n + 1) text ≡ take n text ++ b ∷ [] →
-    behind (n + 1) text o ≡ behind n text (option_map (λ q. (b ∷ q.0, q.1)) o)
-behind_more n text b None h = refl
-behind_more n text b (Some x) h = ap (λ (s : List ℕ). Some (s, x.1)) (ap (λ (s : List ℕ). s ++ x.0) h ∙ append_assoc (take n text) (b ∷ []) x.0)
+after_more : (n : ℕ) (text : List ℕ) (b : ℕ) (o : Option (List ℕ × List ℕ)) → take (n + 1) text ≡ take n text ++ b ∷ [] →
+    after (n + 1) text o ≡ after n text (option_map (λ q. (b ∷ q.0, q.1)) o)
+after_more n text b None h = refl
+after_more n text b (Some x) h = ap (λ (s : List ℕ). Some (s, x.1)) (ap (λ (s : List ℕ). s ++ x.0) h ∙ append_assoc (take n text) (b ∷ []) x.0)
 
 pub colon_miss : (n : ℕ) (text : List ℕ) → n < length text → starts_with nat_eq (drop n text) (codes "::") ≡ false →
-    behind (n + 1) text (double_colon (drop (n + 1) text)) ≡ behind n text (double_colon (drop n text))
+    after (n + 1) text (double_colon (drop (n + 1) text)) ≡ after n text (double_colon (drop n text))
 unfolding double_colon
 colon_miss n text h e =
     let b : ℕ = get_or text n 0 in
     let d : drop n text ≡ b ∷ drop (n + 1) text = drop_more text n 0 h in
     let f : starts_with nat_eq (b ∷ drop (n + 1) text) (codes "::") ≡ false = rw d at e in
-    behind_more n text b (double_colon (drop (n + 1) text)) (take_more text n 0 h)
-    ∙ sym (ap (λ (s : List ℕ). behind n text (double_colon s)) d ∙ ap
-    (λ (t : Bool). behind n text (cond t (Some ([], drop 2 (b ∷ drop (n + 1) text))) (option_map (λ q. (b ∷ q.0, q.1)) (double_colon (drop (n + 1) text)))))
+    after_more n text b (double_colon (drop (n + 1) text)) (take_more text n 0 h)
+    ∙ sym (ap (λ (s : List ℕ). after n text (double_colon s)) d ∙ ap
+    (λ (t : Bool). after n text (cond t (Some ([], drop 2 (b ∷ drop (n + 1) text))) (option_map (λ q. (b ∷ q.0, q.1)) (double_colon (drop (n + 1) text)))))
     f)
 
 pub colon_found : (n : ℕ) (text front rest r : List ℕ) → n < length text → front ≡ take n text → rest ≡ drop n text →
-    starts_with nat_eq rest (codes "::") ≡ true → r ≡ drop 2 rest → Some (front, r) ≡ behind n text (double_colon (drop n text))
+    starts_with nat_eq rest (codes "::") ≡ true → r ≡ drop 2 rest → Some (front, r) ≡ after n text (double_colon (drop n text))
 unfolding double_colon
 colon_found n text front rest r h p q e g =
     let b : ℕ = get_or text n 0 in
     let d : drop n text ≡ b ∷ drop (n + 1) text = drop_more text n 0 h in
     let f : starts_with nat_eq (b ∷ drop (n + 1) text) (codes "::") ≡ true = rw (q, d) at e in
-    sym (ap (λ (s : List ℕ). behind n text (double_colon s)) d ∙ ap
-    (λ (t : Bool). behind n text (cond t (Some ([], drop 2 (b ∷ drop (n + 1) text))) (option_map (λ q. (b ∷ q.0, q.1)) (double_colon (drop (n + 1) text)))))
+    sym (ap (λ (s : List ℕ). after n text (double_colon s)) d ∙ ap
+    (λ (t : Bool). after n text (cond t (Some ([], drop 2 (b ∷ drop (n + 1) text))) (option_map (λ q. (b ∷ q.0, q.1)) (double_colon (drop (n + 1) text)))))
     f
     ∙ ap₂ (λ x y. Some (x, y)) (append-nil (take n text) ∙ sym p) (sym (g ∙ ap (drop 2) (q ∙ d))))
 
-pub colon_end : (n : ℕ) (text : List ℕ) → length text ≤ n → None ≡ behind n text (double_colon (drop n text))
+pub colon_end : (n : ℕ) (text : List ℕ) → length text ≤ n → None ≡ after n text (double_colon (drop n text))
 unfolding double_colon
-colon_end n text h = sym (ap (λ (s : List ℕ). behind n text (double_colon s)) (drop_all n text h))
+colon_end n text h = sym (ap (λ (s : List ℕ). after n text (double_colon s)) (drop_all n text h))
 
 -- ---- zeros
 

@@ -10,7 +10,7 @@ use Rattle.pam_tables.specs.Tokens.{tokens_of, each_token, with_token}
 use Rattle.pam_tables.specs.declared.error.TableFault.{TableFault}
 use Rattle.pam_tables.proofs.Cutting.{split_parts}
 use Rattle.pam_tables.specs.Error.{verdict}
-use Rattle.pam_tables.specs.Lists.{matches_behind}
+use Rattle.pam_tables.specs.Lists.{matches_after}
 use Rattle.pam_tables.specs.declared.lists.Mark.{Mark}
 use Rattle.pam_tables.specs.declared.lists.Parts.{Parts}
 
@@ -51,10 +51,10 @@ gap_skipped s (b ∷ bs) =
     ] refl
 
 -- no byte right after the longest passing prefix passes
-pub none_behind : (p : ℕ → Bool) (bs : List ℕ) → prefix_len p (drop (prefix_len p bs) bs) ≡ 0
-none_behind p [] = refl
-none_behind p (b ∷ bs) = elim (p b) as (λ (t : Bool). p b ≡ t → prefix_len p (drop (cond t (1 + prefix_len p bs) 0) (b ∷ bs)) ≡ 0) [
-  | true ↦ λ e. rw one-add (none_behind p bs)
+pub none_after : (p : ℕ → Bool) (bs : List ℕ) → prefix_len p (drop (prefix_len p bs) bs) ≡ 0
+none_after p [] = refl
+none_after p (b ∷ bs) = elim (p b) as (λ (t : Bool). p b ≡ t → prefix_len p (drop (cond t (1 + prefix_len p bs) 0) (b ∷ bs)) ≡ 0) [
+  | true ↦ λ e. rw one-add (none_after p bs)
   | false ↦ λ e. ap (λ (t : Bool). cond t (1 + prefix_len p bs) 0) e
 ] refl
 
@@ -120,7 +120,7 @@ kept b bs h =
     let size : length (b ∷ bs) - suffix_len is_blank (b ∷ bs) ≡ suc (length bs - suffix_len is_blank (b ∷ bs)) = omega arith in
     ap (λ n. has_bytes (take n (b ∷ bs))) size
 
-neither : (a b : Bool) → (a || b) ≡ false → (a ≡ false) × (b ≡ false)
+pub neither : (a b : Bool) → (a || b) ≡ false → (a ≡ false) × (b ≡ false)
 neither true b h = absurd (cc)
 neither false b h = (refl, h)
 
@@ -129,11 +129,11 @@ no_gap true n h = absurd (omega arith)
 no_gap false n h = refl
 
 -- a token ends at the first separator
-pub token_first : (s rest part behind : List ℕ) → (length rest ≡ 0 → ⊥) → prefix_len (is_gap s) rest ≡ 0 → part ≡ take (prefix_len (in_part s) rest) rest →
-    behind ≡ drop (prefix_len (in_part s) rest) rest → tokens_of s rest ≡ trimmed_end part ∷ tokens_of s behind
+pub token_first : (s rest part after : List ℕ) → (length rest ≡ 0 → ⊥) → prefix_len (is_gap s) rest ≡ 0 → part ≡ take (prefix_len (in_part s) rest) rest →
+    after ≡ drop (prefix_len (in_part s) rest) rest → tokens_of s rest ≡ trimmed_end part ∷ tokens_of s after
 unfolding tokens_of
-token_first s [] part behind h z e f = absurd (h refl)
-token_first s (b ∷ bs) part behind h z e f =
+token_first s [] part after h z e f = absurd (h refl)
+token_first s (b ∷ bs) part after h z e f =
     let tests = neither (is_among s b) (is_blank b) (no_gap (is_gap s b) (prefix_len (is_gap s) bs) z) in
     let q : List ℕ = take (prefix_len (in_part s) bs) bs in
     let more : prefix_len (in_part s) (b ∷ bs) ≡ suc (prefix_len (in_part s) bs) = ap (λ (t : Bool). cond (not t) (1 + prefix_len (in_part s) bs) 0) tests.0
@@ -148,7 +148,7 @@ token_first s (b ∷ bs) part behind h z e f =
 
 -- ---- tokens one after another
 
-passes : {A : Type 0} (r : Result A TableFault) (others : Result (List A) TableFault) → Ok tt ≡ verdict r → verdict others ≡ verdict (with_token r others)
+pub passes : {A : Type 0} (r : Result A TableFault) (others : Result (List A) TableFault) → Ok tt ≡ verdict r → verdict others ≡ verdict (with_token r others)
 passes (Ok x) (Ok xs) h = refl
 passes (Ok x) (Err fault) h = refl
 passes (Err fault) others h = absurd (cc)
@@ -175,7 +175,7 @@ all_read (Err fault) others all h = absurd (cc)
 pub record Left {A : Type 0} (read : List ℕ → Result A TableFault) (mark : A → Mark) (parts : Parts) (tokens : List (List ℕ)) (answer : Bool) : Type 0 where
   pub rest : List A
   pub are : each_token read tokens ≡ Ok rest
-  pub same : answer ≡ matches_behind parts (map mark rest)
+  pub same : answer ≡ matches_after parts (map mark rest)
 
 module _ {A : Type 0} (read : List ℕ → Result A TableFault) where
   pub no_token : (all : List (List ℕ)) → all ≡ [] → Ok tt ≡ verdict (each_token read all)
@@ -183,12 +183,12 @@ module _ {A : Type 0} (read : List ℕ → Result A TableFault) where
   no_token all e = sym (ap (λ (ts : List (List ℕ)). verdict (each_token read ts)) e)
 
   pub last_token : (mark : A → Mark) (parts : Parts) (all : List (List ℕ)) (answer : Bool) → all ≡ [] → Left read mark parts all answer →
-      matches_behind parts [] ≡ answer
+      matches_after parts [] ≡ answer
   unfolding each_token
   last_token mark parts all answer e left =
       let none : Ok [] ≡ Ok left.rest = sym (ap (each_token read) e) ∙ left.are in
       let empty : left.rest ≡ [] = cc in
-      sym (left.same ∙ ap (λ (ms : List A). matches_behind parts (map mark ms)) empty)
+      sym (left.same ∙ ap (λ (ms : List A). matches_after parts (map mark ms)) empty)
 
   module _ (token : List ℕ) (all tokens : List (List ℕ)) (first : all ≡ token ∷ tokens) where
     pub token_passes : Ok tt ≡ verdict (read token) → verdict (each_token read tokens) ≡ verdict (each_token read all)
@@ -202,13 +202,13 @@ module _ {A : Type 0} (read : List ℕ → Result A TableFault) where
         fails fault (read token) (each_token read tokens) h ∙ sym (ap (λ (ts : List (List ℕ)). verdict (each_token read ts)) first)
 
     pub token_marked : (mark : A → Mark) (parts new : Parts) (m : Mark) (answer : Bool) → ((x : A) → read token ≡ Ok x → m ≡ mark x) →
-        ((ms : List Mark) → matches_behind new ms ≡ matches_behind parts (m ∷ ms)) → Left read mark parts all answer → Left read mark new tokens answer
+        ((ms : List Mark) → matches_after new ms ≡ matches_after parts (m ∷ ms)) → Left read mark parts all answer → Left read mark new tokens answer
     unfolding each_token
     token_marked mark parts new m answer marked then left =
         let seen = all_read (read token) (each_token read tokens) left.rest (sym (ap (each_token read) first) ∙ left.are) in
         record {
           rest = seen.rest;
           are = seen.tokens;
-          same = left.same ∙ ap (λ (ms : List A). matches_behind parts (map mark ms)) seen.are
-              ∙ ap (λ (x : Mark). matches_behind parts (x ∷ map mark seen.rest)) (sym (marked seen.first seen.token)) ∙ sym (then (map mark seen.rest));
+          same = left.same ∙ ap (λ (ms : List A). matches_after parts (map mark ms)) seen.are
+              ∙ ap (λ (x : Mark). matches_after parts (x ∷ map mark seen.rest)) (sym (marked seen.first seen.token)) ∙ sym (then (map mark seen.rest));
         }

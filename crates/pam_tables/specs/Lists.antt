@@ -37,5 +37,5 @@ odd_with is_odd holds (part ∷ parts) =
     if holds || part_holds part then odd_after (not is_odd) (prefix_len part_holds parts) else is_odd
 
 -- whether the list matches, if these are the remaining tokens
-unfoldable pub matches_behind : Parts → List Mark → Bool
-matches_behind parts rest = if parts.is_decided then parts.is_odd else odd_with parts.is_odd parts.holds (slice_split is_except rest)
+unfoldable pub matches_after : Parts → List Mark → Bool
+matches_after parts rest = if parts.is_decided then parts.is_odd else odd_with parts.is_odd parts.holds (slice_split is_except rest)

@@ -15,7 +15,7 @@ use crate::login::Origin;
 use pam_times::Login;
 use crate::options::AccessOptions;
 use crate::tokens::{check_tokens, has_token, list_matches};
-use crate::users::UserMatcher;
+use crate::users::{UserMatcher, check_users};
 use pam_text::{ByteSet, Source, cut_among};
 use std::alloc::Global;
 use std::marker::Model;
@@ -124,7 +124,7 @@ fn check_fields(fields: Fields<'_>, separators: &ByteSet<'_>) -> Result<(), Tabl
         return Err(TableFault::MissingField);
     }
     Permission::read(trim(fields.permission))?;
-    check_tokens::<UserMatcher<'_>>(fields.users, separators)?;
+    check_users(fields.users, separators)?;
     check_tokens::<Origin<'_>>(fields.origins, separators)
 }
 

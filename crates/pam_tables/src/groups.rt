@@ -10,7 +10,8 @@ ghost use Rattle.pam_tables.specs.Named.{with_line};
 ghost use Rattle.std.specs.List.{slice_split};
 
 use crate::error::{Table, TableError, TableFault};
-use crate::lines::{Lines, is_blank_text, source};
+use crate::lines::is_blank_text;
+use crate::named::{Entries, read_entries};
 use indexmap::IndexMap;
 use pam_text::cut;
 use std::alloc::Global;
@@ -63,11 +64,11 @@ fn has_member(members: &[u8], user: &[u8]) -> bool
         return false;
     }
     let mut rest = members;
-    while let Some((member, behind)) = cut(rest, b',') {
+    while let Some((member, after)) = cut(rest, b',') {
         if member == user {
             return true;
         }
-        rest = behind;
+        rest = after;
     }
     rest == user
 }
@@ -89,17 +90,33 @@ impl Groups {
     pub fn read(alloc: Global, bytes: &[u8]) -> Result<Groups, TableError>
         ensures { Gives Table.Group (λ groups. groups) result (groups_of bytes.now) }
     {
-        let source = source(Table::Group, bytes)?;
-        let mut groups = Groups::new(alloc);
-        for (number, line) in Lines::of(source) {
-            if let Err(fault) = groups.add_line(alloc, line) {
-                return Err(TableError::new(Table::Group, fault, number));
-            }
-        }
-        Ok(groups)
+        read_entries(alloc, Table::Group, bytes, Groups::new(alloc))
     }
 
-    /// Adds the group of a line, if its name is new.
+    /// Whether the group named exactly `group` lists the user.
+    pub fn lists(&self, group: &[u8], user: &[u8]) -> bool
+        ensures { result ≡ lists_user self.now group.now user.now }
+    {
+        if self.members.is_empty() {
+            return false;
+        }
+        match self.members.get(group) {
+            Some(members) => has_member(members, user),
+            None => false,
+        }
+    }
+}
+
+impl Entries for Groups {
+    ghost use Rattle.std.specs.Prelude.{ℕ, List};
+    ghost use Rattle.pam_tables.specs.Groups.{group_at};
+
+    ghost Value = { List (List ℕ) };
+
+    ghost meant = { group_at };
+
+    ghost entries = { λ groups. groups };
+
     fn add_line(&mut self, alloc: Global, line: &[u8]) -> Result<(), TableFault>
         ensures { GivesPart (λ _. self.new) result (with_line self.old (group_at line.now)) }
     {
@@ -117,15 +134,5 @@ impl Groups {
         let members = Vec::from_slice(alloc, group.members)?;
         self.members.insert(name, members)?;
         Ok(())
-    }
-
-    /// Whether the group named exactly `group` lists the user.
-    pub fn lists(&self, group: &[u8], user: &[u8]) -> bool
-        ensures { result ≡ lists_user self.now group.now user.now }
-    {
-        match self.members.get(group) {
-            Some(members) => has_member(members, user),
-            None => false,
-        }
     }
 }

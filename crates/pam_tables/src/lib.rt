@@ -9,6 +9,7 @@ mod groups;
 mod lines;
 mod lists;
 mod login;
+mod named;
 mod network;
 mod options;
 mod origins;

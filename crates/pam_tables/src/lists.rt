@@ -2,7 +2,7 @@
 
 ghost use Rattle.std.specs.Prelude.{◌≡◌, ◌∷◌, [], List};
 ghost use Rattle.pam_tables.specs.declared.lists.Mark.{Mark as MarkOf};
-ghost use Rattle.pam_tables.specs.Lists.{list_matches, mark_of, matches_behind};
+ghost use Rattle.pam_tables.specs.Lists.{list_matches, mark_of, matches_after};
 
 /// What a token means for the list it is in.
 #[derive(Clone, Copy, Debug, PartialEq, Eq)]
@@ -35,7 +35,7 @@ pub(crate) struct Parts {
 
 impl Parts {
     pub(crate) fn new() -> Parts
-        ensures { (rest : List MarkOf) → matches_behind result rest ≡ list_matches rest }
+        ensures { (rest : List MarkOf) → matches_after result rest ≡ list_matches rest }
     {
         Parts {
             is_odd: false,
@@ -46,7 +46,7 @@ impl Parts {
 
     /// Returns the state after one more token.
     pub(crate) fn then(self, mark: Mark) -> Parts
-        ensures { (rest : List MarkOf) → matches_behind result rest ≡ matches_behind self (mark ∷ rest) }
+        ensures { (rest : List MarkOf) → matches_after result rest ≡ matches_after self (mark ∷ rest) }
     {
         if self.is_decided {
             return self;
@@ -67,7 +67,7 @@ impl Parts {
 
     /// Whether the list matches, if it ends here.
     pub(crate) fn matches(self) -> bool
-        ensures { result ≡ matches_behind self [] }
+        ensures { result ≡ matches_after self [] }
     {
         if self.is_decided {
             self.is_odd

@@ -1,6 +1,7 @@
 //! Networks: an address and a mask.
 
-ghost use Rattle.std.specs.Prelude.{◌≡◌, ◌≤◌, ◌-◌, ◌^◌};
+ghost use Rattle.std.specs.Prelude.{◌≡◌, ◌≤◌, ◌-◌, ◌^◌, IsSome, IsTrue};
+ghost use Rattle.pam_tables.specs.Error.{verdict};
 ghost use Rattle.pam_tables.specs.Network.{ones, v4_mask_of, v6_mask_of, is_in_network, network_of, bits_agree};
 
 use crate::address::{Address, numeral, v4};
@@ -83,6 +84,17 @@ fn v6_agree(first: u128, second: u128, mask: u128) -> bool
     first & mask == second & mask
 }
 
+/// Whether a text is a mask of both families: a number of bits up to 32.
+fn is_any_mask(text: &[u8]) -> bool
+    ensures v4 { IsTrue result → IsSome (v4_mask_of text.now) }
+    ensures v6 { IsTrue result → IsSome (v6_mask_of text.now) }
+{
+    match numeral(10, 3, text) {
+        Some(count) => count <= 32,
+        None => false,
+    }
+}
+
 impl Network {
     /// Parses an address, a slash and a mask.
     ///
@@ -91,20 +103,38 @@ impl Network {
     pub(crate) fn read(text: &[u8]) -> Result<Option<Network>, TableFault>
         ensures { result ≡ network_of text.now }
     {
-        let (front, behind) = match cut(text, b'/') {
+        let (front, after) = match cut(text, b'/') {
             Some(parts) => parts,
             None => return Ok(None),
         };
         match Address::read(front) {
-            Some(Address::V4(address)) => match v4_mask(behind) {
+            Some(Address::V4(address)) => match v4_mask(after) {
                 Some(mask) => Ok(Some(Network::V4 { address, mask })),
                 None => Err(TableFault::BadMask),
             },
-            Some(Address::V6(address)) => match v6_mask(behind) {
+            Some(Address::V6(address)) => match v6_mask(after) {
                 Some(mask) => Ok(Some(Network::V6 { address, mask })),
                 None => Err(TableFault::BadMask),
             },
             None => Ok(None),
+        }
+    }
+
+    /// Returns the fault that reading the text as a network would return.
+    #[tactic(auto, unfolding(crate::specs::Network::network_of))]
+    pub(crate) fn check(text: &[u8]) -> Result<(), TableFault>
+        ensures { result ≡ verdict (network_of text.now) }
+    {
+        let (_, mask) = match cut(text, b'/') {
+            Some(parts) => parts,
+            None => return Ok(()),
+        };
+        if is_any_mask(mask) {
+            return Ok(());
+        }
+        match Network::read(text) {
+            Ok(_) => Ok(()),
+            Err(fault) => Err(fault),
         }
     }
 

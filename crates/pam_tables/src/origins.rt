@@ -146,10 +146,7 @@ impl<'a> Matcher for Origin<'a> {
         if token.starts_with(b"@") {
             return Err(TableFault::Netgroup);
         }
-        match Network::read(token) {
-            Ok(_) => Ok(()),
-            Err(fault) => Err(fault),
-        }
+        Network::check(token)
     }
 
     fn mark(&self, token: &[u8]) -> Mark

@@ -2,7 +2,8 @@
 
 ghost use Rattle.std.specs.Prelude.{◌≡◌, ◌≤◌, ◌+◌, ◌<◌, ◌*◌, ◌^◌, ◌∷◌, [], Some, true, false, replicate};
 ghost use Rattle.std.specs.Option.{option_map};
-ghost use Rattle.pam_tables.specs.Address.{v6_of, double_colon as double_colon_of, around_zeros as around_zeros_of, pieces_of, last_pieces, more_pieces, number_from};
+ghost use Rattle.pam_tables.specs.Address.{v6_of, double_colon as double_colon_of, around_zeros as around_zeros_of};
+ghost use Rattle.pam_tables.specs.Address.{pieces_of, last_pieces, more_pieces, number_from};
 
 use crate::address::{numeral, v4};
 use pam_text::cut;
@@ -77,10 +78,10 @@ impl Pieces {
         }
         let mut pieces = self;
         let mut rest = text;
-        while let Some((front, behind)) = cut(rest, b':') {
+        while let Some((front, after)) = cut(rest, b':') {
             let piece = numeral(16, 4, front)?;
             pieces = pieces.then(piece)?;
-            rest = behind;
+            rest = after;
         }
         pieces.then_last(rest, ends_in_v4)
     }
@@ -104,9 +105,9 @@ fn double_colon(text: &[u8]) -> Option<(&[u8], &[u8])>
     ensures { option_map (λ p. (p.0.now, p.1.now)) result ≡ double_colon_of text.now }
 {
     for place in 0..text.len() {
-        let (front, behind) = text.split_at(place);
-        if behind.starts_with(b"::") {
-            return Some((front, behind.split_at(2).1));
+        let (front, after) = text.split_at(place);
+        if after.starts_with(b"::") {
+            return Some((front, after.split_at(2).1));
         }
     }
     None
@@ -117,11 +118,11 @@ fn around_zeros(front: &[u8], back: &[u8]) -> Option<u128>
     ensures { result ≡ around_zeros_of (pieces_of false front.now) (pieces_of true back.now) }
 {
     let front = Pieces::none().then_text(front, false)?;
-    let behind = Pieces::none().then_text(back, true)?;
-    if front.count + behind.count >= 8 {
+    let after = Pieces::none().then_text(back, true)?;
+    if front.count + after.count >= 8 {
         return None;
     }
-    let zeros = front.then_zeros(8 - (front.count + behind.count));
+    let zeros = front.then_zeros(8 - (front.count + after.count));
     let pieces = zeros.then_text(back, true)?;
     Some(pieces.number)
 }

@@ -8,7 +8,7 @@ ghost use Rattle.pam_tables.specs.Returns.{codes_for, codes_of_words, return_at,
 ghost use Rattle.pam_tables.specs.Tokens.{tokens_of};
 
 use crate::error::{Table, TableError, TableFault};
-use crate::lines::{Lines, source};
+use crate::named::{Entries, read_entries};
 use crate::tokens::{Tokens, first_token};
 use indexmap::IndexMap;
 use pam_codes::{Code, CodeSet};
@@ -102,15 +102,11 @@ impl ReturnTable {
     pub fn read(alloc: Global, bytes: &[u8]) -> Result<ReturnTable, TableError>
         ensures { Gives Table.Returns (λ table. table) result (returns_of bytes.now) }
     {
-        let source = source(Table::Returns, bytes)?;
-        let blanks = ByteSet::of(BLANKS);
-        let mut table = ReturnTable::empty(alloc);
-        for (number, line) in Lines::of(source) {
-            if let Err(fault) = table.add_line(alloc, line, &blanks) {
-                return Err(TableError::new(Table::Returns, fault, number));
-            }
-        }
-        Ok(table)
+        let none = ReturnReader {
+            table: ReturnTable::empty(alloc),
+            blanks: ByteSet::of(BLANKS),
+        };
+        Ok(read_entries(alloc, Table::Returns, bytes, none)?.table)
     }
 
     /// Adds the codes of a line, if its name is new.
@@ -142,5 +138,30 @@ impl ReturnTable {
         ensures some { IfSome result (λ codes. codes ≢ []) }
     {
         self.codes.get(name).copied()
+    }
+}
+
+/// A table to which lines are added.
+#[derive(Drop)]
+struct ReturnReader<'s> {
+    table: ReturnTable,
+    blanks: ByteSet<'s>,
+    ghost blank: { blanks.bytes.now ≡ codes " \t" },
+}
+
+impl<'s> Entries for ReturnReader<'s> {
+    ghost use Rattle.std.specs.Prelude.{ℕ, List};
+    ghost use Rattle.pam_tables.specs.Returns.{return_at};
+
+    ghost Value = { List ℕ };
+
+    ghost meant = { return_at };
+
+    ghost entries = { λ reader. reader.table };
+
+    fn add_line(&mut self, alloc: Global, line: &[u8]) -> Result<(), TableFault>
+        ensures { GivesPart (λ _. self.new.table) result (with_line self.old.table (return_at line.now)) }
+    {
+        self.table.add_line(alloc, line, &self.blanks)
     }
 }

@@ -6,13 +6,14 @@ ghost use Rattle.std.specs.Option.{option_map};
 ghost use Rattle.pam_codes.specs.Code.{same_name};
 ghost use Rattle.pam_tables.specs.Error.{verdict};
 ghost use Rattle.pam_tables.specs.Groups.{lists_user};
-ghost use Rattle.pam_tables.specs.Tokens.{group_name as group_name_of, plain_user, user_mark, user_token, UserPattern};
+ghost use Rattle.pam_tables.specs.Tokens.{group_name as group_name_of, each_token, plain_user, tokens_of, user_mark, user_token, UserPattern};
 
 use crate::error::TableFault;
 use crate::groups::Groups;
 use crate::lists::Mark;
-use crate::tokens::Matcher;
+use crate::tokens::{Matcher, check_tokens};
 use pam_codes::is_name;
+use pam_text::ByteSet;
 
 /// A user, with the groups that may list the user. A plain name may be a group if `by_name`.
 #[derive(Clone, Copy)]
@@ -39,16 +40,29 @@ fn has_at(token: &[u8]) -> bool
     token.contains(&b'@')
 }
 
+/// Checks a list of users. Only a token with an `@` can have a fault.
+pub(crate) fn check_users(text: &[u8], separators: &ByteSet<'_>) -> Result<(), TableFault>
+    ensures { result ≡ verdict (each_token user_token (tokens_of separators.now.bytes.now text.now)) }
+{
+    if has_at(text) {
+        check_tokens::<UserMatcher<'_>>(text, separators)
+    } else {
+        Ok(())
+    }
+}
+
 impl<'a> UserMatcher<'a> {
     fn is_named(&self, name: &[u8]) -> bool
-        ensures { result ≡ (same_name name.now self.now.user.now || (self.now.by_name && lists_user self.now.groups.now name.now self.now.user.now)) }
+        ensures { let m = self.now in
+            result ≡ (same_name name.now m.user.now || (m.by_name && lists_user m.groups.now name.now m.user.now)) }
     {
         is_name(name, self.user) || (self.by_name && self.groups.lists(name, self.user))
     }
 
     /// Matches a token that is no name in parentheses.
     fn plain_mark(&self, token: &[u8]) -> Mark
-        ensures { (pattern : UserPattern) → plain_user token.now ≡ Ok pattern → result ≡ user_mark self.now.groups.now self.now.by_name self.now.user.now pattern }
+        ensures { let m = self.now in (pattern : UserPattern) → plain_user token.now ≡ Ok pattern
+            → result ≡ user_mark m.groups.now m.by_name m.user.now pattern }
     {
         if is_name(b"EXCEPT", token) {
             Mark::Except
@@ -88,7 +102,8 @@ impl<'a> Matcher for UserMatcher<'a> {
     }
 
     fn mark(&self, token: &[u8]) -> Mark
-        ensures { (pattern : UserPattern) → user_token token.now ≡ Ok pattern → result ≡ user_mark self.now.groups.now self.now.by_name self.now.user.now pattern }
+        ensures { let m = self.now in (pattern : UserPattern) → user_token token.now ≡ Ok pattern
+            → result ≡ user_mark m.groups.now m.by_name m.user.now pattern }
     {
         match group_name(token) {
             Some(name) => Mark::of(self.groups.lists(name, self.user)),

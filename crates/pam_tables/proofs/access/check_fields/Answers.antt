@@ -17,15 +17,15 @@ returns-in_err-read c = λ n.
     rw (p.1, p.2) (bad_permission _ n _ _ _ (sym c.has_token.ensures ∙ c.if-not-has_token.false)
     (sym c.has_token-2.ensures ∙ c.if-not-has_token-2.false) _ (c.in_err-read.ensures ∙ ap permission_of c.trim.ensures))
 
-pub returns-in_err-check_tokens : goal.returns-in_err-check_tokens
-returns-in_err-check_tokens c = λ n.
-    let p = err_from_is_err_and c.from_residual-in_err-check_tokens.result c.from_residual-in_err-check_tokens.ensures.1 in
+pub returns-in_err-check_users : goal.returns-in_err-check_users
+returns-in_err-check_users c = λ n.
+    let p = err_from_is_err_and c.from_residual-in_err-check_users.result c.from_residual-in_err-check_users.ensures.1 in
     rw (p.1, p.2) (bad_users _ n _ _ _ (sym c.has_token.ensures ∙ c.if-not-has_token.false)
     (sym c.has_token-2.ensures ∙ c.if-not-has_token-2.false) _ (c.in_ok-read.ensures ∙ ap permission_of c.trim.ensures) _
-    (sym c.in_err-check_tokens.was ∙ c.check_tokens.ensures))
+    (sym c.in_err-check_users.was ∙ c.check_users.ensures))
 
 pub returns : goal.returns
 returns c = λ n.
-    c.check_tokens-2.ensures ∙ good_users _ n _ _ _ (sym c.has_token.ensures ∙ c.if-not-has_token.false)
+    c.check_tokens.ensures ∙ good_users _ n _ _ _ (sym c.has_token.ensures ∙ c.if-not-has_token.false)
     (sym c.has_token-2.ensures ∙ c.if-not-has_token-2.false) _ (c.in_ok-read.ensures ∙ ap permission_of c.trim.ensures)
-    (sym c.in_ok-check_tokens.was ∙ c.check_tokens.ensures)
+    (sym c.in_ok-check_users.was ∙ c.check_users.ensures)

@@ -1,5 +1,4 @@
-use Rattle.std.proofs.Common.{◌∙◌}
-use Rattle.std.proofs.Common.{ap}
+use Rattle.std.proofs.Common.{◌∙◌, ap}
 use Rattle.pam_tables.specs.Tokens.{place_mark}
 use Rattle.pam_tables.proofs.MarkSteps.{network_is, plain_origin_is, no_fault}
 use Rattle.pam_tables.proofs.origins.place_mark.Goals as goal

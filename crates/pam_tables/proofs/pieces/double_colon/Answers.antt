@@ -1,10 +1,10 @@
 use Rattle.std.proofs.Common.{◌∙◌, sym}
 use Rattle.pam_tables.specs.Address.{double_colon}
-use Rattle.pam_tables.proofs.PieceSteps.{behind_start, colon_found, colon_miss, colon_end}
+use Rattle.pam_tables.proofs.PieceSteps.{after_start, colon_found, colon_miss, colon_end}
 use Rattle.pam_tables.proofs.pieces.double_colon.Goals as goal
 
 pub loop-place-init : goal.loop-place-init
-loop-place-init c = behind_start c.args.text.now (double_colon c.args.text.now)
+loop-place-init c = after_start c.args.text.now (double_colon c.args.text.now)
 
 pub returns-then-starts_with : goal.returns-then-starts_with
 returns-then-starts_with c =

@@ -9,5 +9,6 @@ invariant-loop-word l = record {
   can : (goal.iterator-loop-word).can_next l.word-iterator;
   finite : (goal.iterator-loop-word).is_finite l.word-iterator;
   order : IsCodeSet l.set;
-  same : codes_with l.set (tokens_of l.word-iterator.separators.now.bytes.now l.word-iterator.rest.now) ≡ codes_with [] (tokens_of l.fn.blanks.bytes.now l.text);
+  same : codes_with l.set (tokens_of l.word-iterator.separators.now.bytes.now l.word-iterator.rest.now)
+      ≡ codes_with [] (tokens_of l.fn.blanks.bytes.now l.text);
 }

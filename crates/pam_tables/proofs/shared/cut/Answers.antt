@@ -1,4 +1,4 @@
-use Rattle.pam_tables.proofs.Cutting.{cut_found}
+use Rattle.pam_text.proofs.Cutting.{cut_found}
 use Rattle.pam_tables.proofs.shared.cut.Goals as goal
 
 pub returns-clause-value : goal.returns-clause-value

@@ -17,7 +17,9 @@ pub loop-token-preserved : goal.loop-token-preserved
 loop-token-preserved g c = record {
   can = tt;
   finite = tt;
-  left = λ meanings h. token_marked g.M.Matcher.meant _ _ _ c.in-Some.ensures.steps _ _ _ _ _ c.mark.ensures c.then-parts.ensures (c.loop-token.invariant.left meanings h);
+  left = λ meanings h.
+      token_marked g.M.Matcher.meant _ _ _ c.in-Some.ensures.steps _ _ _ _ _ c.mark.ensures c.then-parts.ensures
+      (c.loop-token.invariant.left meanings h);
 }
 
 pub returns : goal.returns

@@ -1,9 +1,7 @@
 use Rattle.std.proofs.Common.{◌∙◌, refl, ap}
-use Rattle.pam_tables.specs.Access.{access_line, access_answer, lines_of, permission_for, table_lines}
+use Rattle.pam_tables.specs.Access.{access_answer, lines_of, table_lines}
 use Rattle.pam_tables.specs.Login.{origin_view}
-use Rattle.pam_tables.specs.Tokens.{OriginPattern}
-use Rattle.pam_tables.specs.declared.lists.Mark.{Mark}
-use Rattle.pam_tables.proofs.AccessSteps.{entry_number, known_marks, line_found, line_misses, lines_are, no_line_left}
+use Rattle.pam_tables.proofs.AccessSteps.{chosen_by, entry_number, line_found, line_misses, lines_are, no_line_left}
 use Rattle.pam_tables.proofs.access.AccessTable.decide.Goals as goal
 
 pub loop-number-init : goal.loop-number-init
@@ -30,36 +28,24 @@ loop-number-init c =
 
 pub returns-in-Some-matching : goal.returns-in-Some-matching
 returns-in-Some-matching c =
-    let s = c.of-separators.result in
-    let line = access_line s.fields.bytes.now s.tokens.bytes.now in
-    let groups = c.args.groups.now in
-    let user = c.args.login.now.user.now in
-    let names = c.self.inside.group_names in
     let n = c.in-Some.number in
-    c.answer.ensures ∙ line_found groups names user (origin_view c.of-origin.result) line n _ _ _ c.in-Some.ensures.steps _ c.in-Some-matching.permission
-    (λ entry h. c.in-Some-matching.ensures n entry h
-    ∙ ap (λ (m : OriginPattern → Mark). permission_for groups names user m entry) (known_marks c.of-origin.result c.of-origin.ensures.known))
-    (λ entry h. entry_number s.fields.bytes.now s.tokens.bytes.now n _ entry h) c.loop-number.invariant.left
+    let groups = c.args.groups.now in
+    let origin = c.of-origin.result in
+    c.answer.ensures ∙ line_found groups _ _ (origin_view origin) _ n _ _ _ c.in-Some.ensures.steps _ c.in-Some-matching.permission
+    (λ entry h. chosen_by groups _ _ origin c.of-origin.ensures.known entry _ (c.in-Some-matching.ensures n entry h))
+    (λ entry h. entry_number _ _ n _ entry h) c.loop-number.invariant.left
 
 pub loop-number-preserved : goal.loop-number-preserved
-loop-number-preserved c =
-    let s = c.of-separators.result in
-    let line = access_line s.fields.bytes.now s.tokens.bytes.now in
-    let groups = c.args.groups.now in
-    let user = c.args.login.now.user.now in
-    let names = c.self.inside.group_names in
-    let n = c.in-Some.number in
-    record {
-      can = tt;
-      finite = tt;
-      left = line_misses groups names user (origin_view c.of-origin.result) line n _ _ _ c.in-Some.ensures.steps _
-          (λ entry h. c.in_default.ensures n entry h
-          ∙ ap (λ (m : OriginPattern → Mark). permission_for groups names user m entry) (known_marks c.of-origin.result c.of-origin.ensures.known))
-          c.loop-number.invariant.left;
-    }
+loop-number-preserved c = record {
+  can = tt;
+  finite = tt;
+  left =
+      let groups = c.args.groups.now in
+      let origin = c.of-origin.result in
+      line_misses groups _ _ (origin_view origin) _ c.in-Some.number _ _ _ c.in-Some.ensures.steps _
+      (λ entry h. chosen_by groups _ _ origin c.of-origin.ensures.known entry _ (c.in_default.ensures c.in-Some.number entry h))
+      c.loop-number.invariant.left;
+}
 
 pub returns : goal.returns
-returns c =
-    let s = c.of-separators.result in
-    no_line_left c.args.groups.now c.self.inside.group_names c.args.login.now.user.now (origin_view c.of-origin.result)
-    (access_line s.fields.bytes.now s.tokens.bytes.now) _ _ c.in-None.ensures.steps.0 c.loop-number.invariant.left
+returns c = no_line_left c.args.groups.now _ _ (origin_view c.of-origin.result) _ _ _ c.in-None.ensures.steps.0 c.loop-number.invariant.left

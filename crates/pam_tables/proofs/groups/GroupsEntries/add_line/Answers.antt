@@ -2,7 +2,7 @@ use Rattle.std.proofs.Common.{◌≡◌, ◌∙◌, sym, ap, true, false}
 use Rattle.pam_tables.specs.Groups.{members_of}
 use Rattle.pam_tables.proofs.GroupSteps.{blank_line, bad_line, group_line}
 use Rattle.pam_tables.proofs.NamedSteps.{known_name, name_known, name_new, added_last, has_name}
-use Rattle.pam_tables.proofs.groups.Groups.add_line.Goals as goal
+use Rattle.pam_tables.proofs.groups.GroupsEntries.add_line.Goals as goal
 
 pub returns-then-is_blank_text : goal.returns-then-is_blank_text
 returns-then-is_blank_text c = blank_line c.args.self.now c.args.line.now (sym c.is_blank_text.ensures ∙ c.if-is_blank_text.true)
