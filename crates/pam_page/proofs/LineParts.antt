@@ -1,8 +1,10 @@
 -- The texts of a line, part by part.
-use Rattle.std.proofs.Common.{◌≡◌, ℕ, List, [], ◌∷◌, ◌++◌, Some, Option, codes, decimal, refl, sym, ap, unwrap_or, slice_get}
+use Rattle.std.proofs.Common.{◌≡◌, ℕ, List, [], ◌∷◌, ◌++◌, Some, Option, codes, decimal, refl, sym, subst, ap}
+use Rattle.std.proofs.Common.{unwrap_or, slice_get, arith, length}
+use Rattle.std.proofs.lemmas.Option.{get_or_from_slice_get}
 use Rattle.std.specs.List.{concat, flat_map}
 use Rattle.pam_codes.specs.Code.{code_names}
-use Rattle.pam_codes.specs.SetText.{set_text}
+use Rattle.pam_codes.specs.SetText.{names_text, set_text}
 use Rattle.pam_page.specs.Page.{code_name, path_line, step_text}
 use Rattle.pam_paths.specs.CursorText.{cursor_text}
 use Rattle.pam_paths.specs.Paths.{PathValue, StepValue, key}
@@ -20,3 +22,17 @@ pub path_line-is : (path : PathValue) (cursor name : List ℕ) (steps : List Ste
     → cursor_text cursor ++ concat (codes " " ∷ name ∷ []) ++ flat_map step_text steps ++ codes "\n" ≡ path_line path
 unfolding path_line
 path_line-is path cursor name steps e f g = rw (e, f, g) refl
+
+-- the text of a class of one code, and of the class of all codes
+pub set_text-one : (class : List ℕ) (code : ℕ) (name : List ℕ) → length class ≡ 1 → Some code ≡ slice_get class 0 → slice_get code_names code ≡ Some name
+    → name ≡ set_text class
+unfolding set_text names_text
+set_text-one [] code name count first found = absurd (omega (arith, count))
+set_text-one (c ∷ []) code name count first found =
+    let same : code ≡ c = cc in
+    sym (get_or_from_slice_get code_names c name [] (subst (λ (k : ℕ). slice_get code_names k ≡ Some name) same found))
+set_text-one (c ∷ d ∷ cs) code name count first found = absurd (omega (arith, count))
+
+pub set_text-all : (class : List ℕ) → length class ≡ 31 → codes "any" ≡ set_text class
+unfolding set_text
+set_text-all class count = rw count refl

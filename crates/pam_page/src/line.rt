@@ -12,7 +12,7 @@ use std::io::Write;
 
 /// Writes ` NUMBER=CLASS`.
 #[tactic(auto, unfolding(crate::specs::Page::step_text))]
-pub(crate) fn put_step<W: Write>(step: &PathStep, out: &mut Out<W>) -> Result<(), Device>
+fn put_step<W: Write>(step: &PathStep, out: &mut Out<W>) -> Result<(), Device>
     requires { out.old.failures < 2 ^ 64 - 1 }
     ensures { Writes W.contents out.old out.new result (step_text (step_seen step.now)) }
 {

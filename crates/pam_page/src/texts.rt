@@ -1,16 +1,17 @@
 //! The kept texts of the path whose line was written last.
 
-ghost use Rattle.std.specs.List.{flat_map};
-ghost use Rattle.std.specs.Prelude.{◌≡◌, ◌++◌, ◌∷◌, ◌-◌, ◌<◌, ◌≤◌, ◌^◌, [], if◌then◌else◌, IfOk, IsTrue, codes, length, map, take};
+ghost use Rattle.std.specs.List.{concat, flat_map};
+ghost use Rattle.std.specs.Prelude.{◌≡◌, ◌++◌, ◌∷◌, ◌-◌, ◌<◌, ◌≤◌, ◌^◌, [], if◌then◌else◌, IfOk, IsTrue, codes, decimal, length, map, take};
 ghost use Rattle.pam_codes.specs.Out.{Writes};
+ghost use Rattle.pam_codes.specs.SetText.{set_text};
 ghost use Rattle.pam_page.specs.Marks.{code_text, undotted};
 ghost use Rattle.pam_page.specs.Page.{code_name, path_line, step_text};
 ghost use Rattle.pam_paths.specs.Steps.{step_seen};
 
 use crate::buffer::Buffer;
-use crate::line::{put_path, put_step};
+use crate::line::put_path;
 use itoa::Buffer as Digits;
-use pam_codes::{Code, Device, Out};
+use pam_codes::{CODES, Code, CodeSet, Device, Out};
 use pam_dispatch::MAX_MODULES;
 use pam_paths::{Path, PathStep};
 use std::alloc::{AllocError, Global};
@@ -71,15 +72,48 @@ fn append_code(cursor: &mut Buffer, step: &PathStep) -> bool
     cursor.append(b".") && cursor.append(digits.format(number).as_bytes())
 }
 
+/// Appends the text of a class by a writer. Returns whether there was room.
+#[inline(never)]
+fn append_set(steps: &mut Buffer, class: CodeSet) -> bool
+    ensures { IsTrue result → steps.new.bytes.items ≡ steps.old.bytes.items ++ set_text class }
+{
+    let empty = Buffer::empty(steps.allocator());
+    let mut out = Out::new(mem::replace(steps, empty));
+    let fits = class.write_text(&mut out).is_ok();
+    *steps = out.into_inner();
+    fits
+}
+
+/// Appends the text of a class. Returns whether there was room. The commonest classes need no writer.
+fn append_class(steps: &mut Buffer, class: CodeSet) -> bool
+    ensures { IsTrue result → steps.new.bytes.items ≡ steps.old.bytes.items ++ set_text class }
+{
+    match class.len() {
+        1 => match class.least() {
+            Some(code) => steps.append(code.name().as_bytes()),
+            None => unreachable!(),
+        },
+        CODES => steps.append(b"any"),
+        _ => append_set(steps, class),
+    }
+}
+
+/// Appends ` NUMBER=`. Returns whether there was room.
+fn append_number(steps: &mut Buffer, number: usize) -> bool
+    ensures { IsTrue result → steps.new.bytes.items ≡ steps.old.bytes.items ++ concat (codes " " ∷ decimal number ∷ codes "=" ∷ []) }
+{
+    let mut digits = Digits::new();
+    if !steps.append(b" ") || !steps.append(digits.format(number).as_bytes()) {
+        return false;
+    }
+    steps.append(b"=")
+}
+
 /// Appends the text of a step. Returns whether there was room.
 fn append_step(steps: &mut Buffer, step: &PathStep) -> bool
     ensures { IsTrue result → steps.new.bytes.items ≡ steps.old.bytes.items ++ step_text (step_seen step.now) }
 {
-    let empty = Buffer::empty(steps.allocator());
-    let mut out = Out::new(mem::replace(steps, empty));
-    let fits = put_step(step, &mut out).is_ok();
-    *steps = out.into_inner();
-    fits
+    append_number(steps, step.number()) && append_class(steps, step.class())
 }
 
 /// Appends a blank and the name of a decision. Returns whether there was room.

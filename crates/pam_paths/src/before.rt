@@ -54,6 +54,7 @@ impl<'a, K: Knowledge> Model for Before<'a, K> {
 
 impl<'a, K: Knowledge> Explorer<'a, K> {
     /// Explores the paths before `cursor`, last first. Accepts and refuses cursors like `after`.
+    #[inline(never)]
     pub fn before(
         program: &'a Program,
         knowledge: &'a K,

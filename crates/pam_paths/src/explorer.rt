@@ -130,6 +130,7 @@ pub(crate) fn follow<K: Knowledge>(
 
 impl<'a, K: Knowledge> Explorer<'a, K> {
     /// Explores all paths that allowed answers can follow.
+    #[inline(never)]
     pub fn start(program: &'a Program, knowledge: &'a K) -> Explorer<'a, K>
         ensures listing { IsListing (K.allows knowledge.now) (modules_of program.now) (path_of (runs_of program.now)) result.coming }
 
@@ -152,6 +153,7 @@ impl<'a, K: Knowledge> Explorer<'a, K> {
     /// Explores the paths after `cursor`, whose own path need not be allowed. Returns `NotLeast` at the first step
     /// whose code is not the least of its class, `TooShort` if a module is still asked at the end of the cursor, and
     /// `TooLong` if codes are left at the end of the run.
+    #[inline(never)]
     pub fn after(
         program: &'a Program,
         knowledge: &'a K,

@@ -47,6 +47,7 @@ pub(super) struct PageRequest<'a> {
 }
 
 /// Returns the paths after a cursor.
+#[inline(never)]
 fn paths_after<'a>(
     program: &'a Program,
     known: &'a Known,
@@ -68,6 +69,7 @@ fn paths_after<'a>(
 }
 
 /// Returns the paths before a cursor, the last one first.
+#[inline(never)]
 fn paths_before<'a>(
     program: &'a Program,
     known: &'a Known,
@@ -89,6 +91,7 @@ fn paths_before<'a>(
 }
 
 /// Returns the part of the listing that a page is taken from.
+#[inline(never)]
 fn listing_of<'a>(
     program: &'a Program,
     known: &'a Known,

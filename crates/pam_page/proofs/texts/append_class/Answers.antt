@@ -1,0 +1,17 @@
+use Rattle.std.proofs.Common.{◌∙◌, ◌++◌, Bool, List, ap, codes, cond, sym, ℕ}
+use Rattle.pam_page.proofs.LineParts.{set_text-all, set_text-one}
+use Rattle.pam_page.proofs.texts.append_class.Goals as goal
+
+pub returns-in-Some : goal.returns-in-Some
+returns-in-Some c ok =
+    let steps = c.args.steps.now.bytes.items in
+    let name = c.as_bytes.result.now in
+    let count = sym c.len.ensures.count ∙ c.in-1.is in
+    c.append.ensures ∙ ap (λ (fits : Bool). cond fits (steps ++ name) steps) ok
+    ∙ ap (λ (l : List ℕ). steps ++ l) (c.as_bytes.ensures.value ∙ set_text-one _ _ _ count c.in-Some.ensures.first c.name.ensures)
+
+pub returns-in-31 : goal.returns-in-31
+returns-in-31 c ok =
+    let steps = c.args.steps.now.bytes.items in
+    c.append-in-31.ensures ∙ ap (λ (fits : Bool). cond fits (steps ++ codes "any") steps) ok
+    ∙ ap (λ (l : List ℕ). steps ++ l) (set_text-all _ (sym c.len.ensures.count ∙ c.in-31.is))
