@@ -19,8 +19,10 @@ use Rattle.pam_tables.specs.declared.access.AccessAnswer.TheVariants as access
 use Rattle.pam_tables.specs.declared.error.Table.{Table}
 use Rattle.pam_tables.specs.declared.error.Table.TheVariants as tables
 use Rattle.pam_tables.specs.declared.error.TableFault.{TableFault}
+use Rattle.pam_times.specs.Login.{LoginText as TimedLogin}
 use Rattle.pam_times.specs.Reading.{rules_of}
 use Rattle.pam_times.specs.Times.{Rule, answer_of as time_answer_of}
+use Rattle.pam_times.specs.declared.error.TimeError.{TimeError}
 use Rattle.pam_times.specs.declared.moments.MomentError.{MomentError}
 use Rattle.pam_times.specs.declared.times.TimeAnswer.{TimeAnswer}
 use Rattle.pam_times.specs.declared.times.TimeAnswer.TheVariants as times
@@ -28,7 +30,7 @@ use Rattle.pam_words.specs.declared.wanted.Task.{Task}
 use Rattle.pam_words.specs.declared.wanted.Task.TheVariants.{Show, Decide, Access, Time, Paths}
 use Rattle.pam_report.specs.Decide.{decide_text}
 use Rattle.pam_report.specs.Inputs.{bytes_given, groups_given}
-use Rattle.pam_report.specs.Leaves.{IsTableFault, Leaves, LeavesSome}
+use Rattle.pam_report.specs.Leaves.{IsTableFault, IsTimeFault, Leaves, LeavesSome}
 use Rattle.pam_report.specs.Moments.{IsGivenMoment, IsMoment}
 use Rattle.pam_report.specs.Paths.{IsPage}
 use Rattle.pam_report.specs.Report.{Answer, Report}
@@ -92,12 +94,12 @@ time_status (times.Denied line) = Refusal
 abbrev pub time_report : TimeAnswer → Report
 time_report found = record { text = time_text found; status = time_status found }
 
-abbrev pub with_rules : LoginText → DateTime → Result (List Rule) (TableFault × ℕ) → Answer
-with_rules login moment (Err e) = Err (table_fault tables.Time e)
+abbrev pub with_rules : TimedLogin → DateTime → Result (List Rule) TimeError → Answer
+with_rules login moment (Err e) = Err (faults.Time e)
 with_rules login moment (Ok rules) = Ok (time_report (time_answer_of rules login moment))
 
 -- a fault of the moment comes before those of the table
-abbrev pub timed : LoginText → List ℕ → Result DateTime MomentError → Answer
+abbrev pub timed : TimedLogin → List ℕ → Result DateTime MomentError → Answer
 timed login bytes (Err e) = Err (faults.Moment e)
 timed login bytes (Ok moment) = with_rules login moment (rules_of bytes)
 
@@ -106,6 +108,10 @@ timed login bytes (Ok moment) = with_rules login moment (rules_of bytes)
 -- a login to a service, which is lowercased
 abbrev pub login_to : List ℕ → List ℕ → List ℕ → List ℕ → LoginText
 login_to service user tty rhost = record { user = user; service = map to_ascii_lowercase service; tty = tty; rhost = rhost }
+
+-- the same, as a time table sees it
+abbrev pub timed_login_to : List ℕ → List ℕ → List ℕ → TimedLogin
+timed_login_to service user tty = record { user = user; service = map to_ascii_lowercase service; tty = tty }
 
 -- THE ANSWER to a task for a service, from these inputs, and what the call writes
 abbrev pub Answers : {W : Type 0} → (W → Option (List ℕ)) → Out W → Out W → Result Status Fault → List ℕ → Task → Inputs → Type 0
@@ -117,7 +123,7 @@ Answers contents old new result service (Access table groups user rhost tty argu
     Leaves contents old new result (looked_up (login_to service user.now tty.now rhost.now) (map (λ a. a.items) arguments.items) inputs)
 Answers contents old new result service (Time table user tty moment) inputs =
     (at : Result DateTime MomentError) × IsMoment moment at
-    × Leaves contents old new result (timed (login_to service user.now tty.now []) (bytes_given inputs.time) at)
+    × Leaves contents old new result (timed (timed_login_to service user.now tty.now) (bytes_given inputs.time) at)
 Answers contents old new result service (Paths source kind limit part user rhost tty access time groups returns moment) inputs =
     (at : Option (Result DateTime MomentError)) × IsGivenMoment moment at
     × LeavesSome contents old new result
@@ -127,6 +133,7 @@ Answers contents old new result service (Paths source kind limit part user rhost
 -- what is looked up is the answer, or its fault, unless an allocation failed
 abbrev pub FindsFault : Fault → Answer → Type 0
 FindsFault (faults.Table e) answer = IsTableFault (λ given. answer ≡ given) e e.fault
+FindsFault (faults.Time e) answer = IsTimeFault (λ given. answer ≡ given) e e.fault
 FindsFault _ answer = ⊥
 
 abbrev pub FindsAccess : Result AccessAnswer Fault → Answer → Type 0

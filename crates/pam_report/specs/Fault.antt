@@ -20,6 +20,8 @@ use Rattle.pam_tables.specs.declared.error.Table.{Table}
 use Rattle.pam_tables.specs.declared.error.Table.TheVariants.{Access, Time, Group, Returns}
 use Rattle.pam_tables.specs.declared.error.TableFault.{TableFault}
 use Rattle.pam_tables.specs.declared.error.TableFault.TheVariants as table
+use Rattle.pam_times.specs.declared.error.TimeFault.{TimeFault}
+use Rattle.pam_times.specs.declared.error.TimeFault.TheVariants as time
 use Rattle.pam_times.specs.declared.moments.MomentError.{MomentError}
 use Rattle.pam_times.specs.declared.moments.MomentError.TheVariants.{Range, Rule, Syntax}
 use Rattle.pam_times.specs.declared.moments.MomentError.TheVariants as moment
@@ -73,6 +75,16 @@ table_fault_name table.TableTooLong = codes "TE12 TableTooLong"
 table_fault_name table.BadCode = codes "TE13 BadCode"
 table_fault_name table.BadModule = codes "TE14 BadModule"
 
+unfoldable pub time_fault_name : TimeFault → List ℕ
+time_fault_name time.MissingField = codes "TE1 MissingField"
+time_fault_name time.Netgroup = codes "TE3 Netgroup"
+time_fault_name time.BadTimes = codes "TE6 BadTimes"
+time_fault_name time.TwoWildcards = codes "TE7 TwoWildcards"
+time_fault_name time.BadLogic = codes "TE8 BadLogic"
+time_fault_name time.NulByte = codes "TE10 NulByte"
+time_fault_name time.Memory = codes "TE11 Memory"
+time_fault_name time.TooLong = codes "TE12 TableTooLong"
+
 abbrev pub table_name : Table → List ℕ
 table_name Access = codes "access"
 table_name Time = codes "time"
@@ -93,6 +105,10 @@ table_line t table.Memory line = codes "pamcheck: TE11 Memory\n"
 table_line t fault line =
     concat (codes "pamcheck: " ∷ table_fault_name fault ∷ codes " " ∷ table_name t ∷ codes ":" ∷ decimal line ∷ codes "\n" ∷ [])
 
+abbrev pub time_line : TimeFault → ℕ → List ℕ
+time_line time.Memory line = codes "pamcheck: TE11 Memory\n"
+time_line fault line = concat (codes "pamcheck: " ∷ time_fault_name fault ∷ codes " time:" ∷ decimal line ∷ codes "\n" ∷ [])
+
 abbrev pub moment_fault_name : MomentError → List ℕ
 moment_fault_name Range = codes "M1 Range"
 moment_fault_name Rule = codes "M2 Rule"
@@ -111,6 +127,7 @@ unfoldable pub fault_line : Folder → Fault → List ℕ
 fault_line files (Conf e) = conf_line files e e.kind
 fault_line files (Count e) = concat (codes "pamcheck: DE1 WrongCount want " ∷ decimal e.modules ∷ codes "\n" ∷ [])
 fault_line files (faults.Table e) = table_line e.table e.fault e.line
+fault_line files (faults.Time e) = time_line e.fault e.line
 fault_line files (faults.Moment e) = concat (codes "pamcheck: " ∷ moment_fault_name e ∷ codes "\n" ∷ [])
 fault_line files (Cursor e) = cursor_line e
 fault_line files Device = codes "pamcheck: V2 Write\n"
@@ -130,6 +147,10 @@ abbrev pub table_status : TableFault → ℕ
 table_status table.Memory = 6
 table_status _ = 4
 
+abbrev pub time_status : TimeFault → ℕ
+time_status time.Memory = 6
+time_status _ = 4
+
 abbrev pub moment_status : MomentError → ℕ
 moment_status moment.Memory = 6
 moment_status _ = 4
@@ -137,6 +158,7 @@ moment_status _ = 4
 abbrev pub status_of_fault : Fault → ℕ
 status_of_fault (Conf e) = conf_status e.kind
 status_of_fault (faults.Table e) = table_status e.fault
+status_of_fault (faults.Time e) = time_status e.fault
 status_of_fault (faults.Moment e) = moment_status e
 status_of_fault (Count e) = 2
 status_of_fault (Cursor e) = 2

@@ -14,13 +14,15 @@ use Rattle.pam_paths.specs.Paths.{PathValue, path_through}
 use Rattle.pam_paths.specs.declared.cursor.CursorError.{CursorError}
 use Rattle.pam_paths.specs.declared.cursor.CursorError.TheVariants.{Syntax, NotLeast, TooShort, TooLong}
 use Rattle.pam_tables.specs.Login.{LoginText}
-use Rattle.pam_tables.specs.declared.error.TableError.{TableError}
+use Rattle.pam_known.specs.declared.error.KnownError.{KnownError}
+use Rattle.pam_known.specs.declared.error.KnownError.TheVariants as known
 use Rattle.pam_times.specs.declared.moments.MomentError.{MomentError}
 use Rattle.pam_words.specs.declared.wanted.Part.{Part}
 use Rattle.pam_words.specs.declared.wanted.Part.TheVariants.{Whole, After, Before}
 use Rattle.pam_report.specs.Header.{header_text}
 use Rattle.pam_report.specs.Inputs.{tables_given}
 use Rattle.pam_report.specs.Report.{Answer, Report}
+use Rattle.pam_report.specs.declared.fault.Fault.{Fault}
 use Rattle.pam_report.specs.declared.fault.Fault.TheVariants as faults
 use Rattle.pam_report.specs.declared.inputs.Inputs.{Inputs}
 use Rattle.pam_report.specs.declared.report.Status.TheVariants.{Success}
@@ -68,8 +70,13 @@ abbrev pub IsPageOf : PageRequest → Items → Allowance → Answer → Type 0
 IsPageOf request items allows answer =
     (given : Result (List PathValue) CursorError) × IsPart allows items request.part given × (answer ≡ paged request (module_count items) given)
 
-abbrev pub IsKnownPage : PageRequest → Items → Result (ℕ → List ℕ) TableError → Answer → Type 0
-IsKnownPage request items (Err e) answer = answer ≡ Err (faults.Table e)
+-- the fault of a file that a login is looked up in
+abbrev pub known_fault : KnownError → Fault
+known_fault (known.Table e) = faults.Table e
+known_fault (known.Time e) = faults.Time e
+
+abbrev pub IsKnownPage : PageRequest → Items → Result (ℕ → List ℕ) KnownError → Answer → Type 0
+IsKnownPage request items (Err e) answer = answer ≡ Err (known_fault e)
 IsKnownPage request items (Ok allowed) answer = IsPageOf request items (allows_codes allowed) answer
 
 abbrev pub IsPageAt : PageRequest → LoginText → Inputs → Items → Option DateTime → Answer → Type 0

@@ -3,7 +3,8 @@
 ghost use Rattle.std.specs.Prelude.{◌≡◌, ◌++◌, IfOk, OnOk};
 ghost use Rattle.std.specs.Option.{option_map};
 ghost use Rattle.pam_codes.specs.Line.{line_text, piece_text};
-ghost use Rattle.pam_report.specs.Fault.{conf_fault, control_fault, cursor_line, fault_line, file_at, input_line, memory_line, moment_fault_name, table_fault_name, table_line, table_name, status_of_fault, status_of_input};
+ghost use Rattle.pam_report.specs.Fault.{conf_fault, control_fault, cursor_line, fault_line, file_at, input_line, memory_line, moment_fault_name, status_of_fault, status_of_input};
+ghost use Rattle.pam_report.specs.Fault.{table_fault_name, table_line, table_name, time_fault_name, time_line};
 
 use crate::inputs::InputError;
 use pam_codes::{ControlError, Piece};
@@ -11,7 +12,7 @@ use pam_conf::{ConfError, FaultKind, Files};
 use pam_dispatch::WrongCount;
 use pam_paths::CursorError;
 use pam_tables::{Table, TableError, TableFault};
-use pam_times::MomentError;
+use pam_times::{MomentError, TimeError, TimeFault};
 use std::alloc::{AllocError, Global};
 use thiserror::Error;
 
@@ -37,9 +38,12 @@ pub enum Fault {
     /// A fault of the configuration.
     #[error(transparent)]
     Conf(ConfError),
-    /// A fault of a table.
+    /// A fault of a table that is no time table.
     #[error(transparent)]
     Table(TableError),
+    /// A fault of a time table.
+    #[error(transparent)]
+    Time(TimeError),
     /// The moment is invalid.
     #[error(transparent)]
     Moment(MomentError),
@@ -184,6 +188,40 @@ fn table_fault_text(alloc: Global, error: &TableError) -> Result<Vec<u8>, AllocE
     )
 }
 
+#[tactic(auto, unfolding(crate::specs::Fault::time_fault_name))]
+fn time_fault_name(fault: TimeFault) -> &'static str
+    ensures { result.now ≡ time_fault_name fault }
+{
+    match fault {
+        TimeFault::MissingField => "TE1 MissingField",
+        TimeFault::Netgroup => "TE3 Netgroup",
+        TimeFault::BadTimes => "TE6 BadTimes",
+        TimeFault::TwoWildcards => "TE7 TwoWildcards",
+        TimeFault::BadLogic => "TE8 BadLogic",
+        TimeFault::NulByte => "TE10 NulByte",
+        TimeFault::Memory => "TE11 Memory",
+        TimeFault::TooLong => "TE12 TableTooLong",
+    }
+}
+
+fn time_fault_text(alloc: Global, error: &TimeError) -> Result<Vec<u8>, AllocError>
+    ensures { IfOk result (λ text. text.items ≡ time_line error.now.fault error.now.line) }
+{
+    if error.fault == TimeFault::Memory {
+        return joined(alloc, &[Piece::Bytes(b"pamcheck: TE11 Memory\n")]);
+    }
+    joined(
+        alloc,
+        &[
+            Piece::Bytes(b"pamcheck: "),
+            Piece::Bytes(time_fault_name(error.fault).as_bytes()),
+            Piece::Bytes(b" time:"),
+            Piece::Number(u64::from(error.line)),
+            Piece::Bytes(b"\n"),
+        ],
+    )
+}
+
 fn cursor_fault_text(alloc: Global, error: CursorError) -> Result<Vec<u8>, AllocError>
     ensures { IfOk result (λ text. text.items ≡ cursor_line error) }
 {
@@ -220,6 +258,7 @@ pub fn fault_text(alloc: Global, fault: &Fault, files: &Files) -> Result<Vec<u8>
             ],
         ),
         Fault::Table(error) => table_fault_text(alloc, error),
+        Fault::Time(error) => time_fault_text(alloc, error),
         Fault::Moment(error) => joined(
             alloc,
             &[
@@ -287,6 +326,10 @@ pub fn fault_status(fault: &Fault) -> u8
         },
         Fault::Table(error) => match error.fault {
             TableFault::Memory => NO_MEMORY,
+            _ => BAD_TABLE,
+        },
+        Fault::Time(error) => match error.fault {
+            TimeFault::Memory => NO_MEMORY,
             _ => BAD_TABLE,
         },
         Fault::Moment(error) => match error {

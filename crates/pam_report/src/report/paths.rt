@@ -29,7 +29,7 @@ use jiff::civil::DateTime;
 use pam_codes::{Device, Out};
 use pam_conf::{Kind, Stack, resolve};
 use pam_dispatch::Program;
-use pam_known::known_answers;
+use pam_known::{KnownError, known_answers};
 use pam_page::{LineTexts, Listing, put_page};
 use pam_paths::{Cursor, CursorError, Explorer, Known};
 use pam_tables::Login;
@@ -167,7 +167,8 @@ fn answer_at<W: Write>(
     let tables = tables_given(inputs, moment);
     match known_answers(alloc, stack, request.kind, login, &tables) {
         Ok(known) => answer_known(alloc, request, stack, &known, out),
-        Err(error) => Err(Fault::Table(error)),
+        Err(KnownError::Table(error)) => Err(Fault::Table(error)),
+        Err(KnownError::Time(error)) => Err(Fault::Time(error)),
     }
 }
 

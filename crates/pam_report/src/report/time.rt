@@ -1,14 +1,14 @@
 //! The `time` command: the line of a time table that denies.
 
-ghost use Rattle.std.specs.Prelude.{◌≡◌, ◌-◌, ◌<◌, ◌^◌, Ok, Result, []};
+ghost use Rattle.std.specs.Prelude.{◌≡◌, ◌-◌, ◌<◌, ◌^◌, Ok, Result};
 ghost use Rattle.jiff.specs.Types.{DateTime as CivilTime};
 ghost use Rattle.pam_codes.specs.Out.{Writes};
-ghost use Rattle.pam_tables.specs.Login.{login_view};
-ghost use Rattle.pam_report.specs.Answer.{FindsTime, login_to, time_status, timed, with_rules};
+ghost use Rattle.pam_report.specs.Answer.{FindsTime, time_status, timed, timed_login_to, with_rules};
 ghost use Rattle.pam_report.specs.Leaves.{Leaves};
 ghost use Rattle.pam_report.specs.Moments.{IsGivenMoment, IsMoment};
 ghost use Rattle.pam_report.specs.Inputs.{bytes_given};
 ghost use Rattle.pam_report.specs.Tables.{time_text};
+ghost use Rattle.pam_times.specs.Login.{login_view};
 ghost use Rattle.pam_times.specs.Reading.{rules_of};
 
 use super::Status;
@@ -17,8 +17,7 @@ use crate::fault::Fault;
 use crate::inputs::{Inputs, bytes_given};
 use jiff::civil::DateTime;
 use pam_codes::{Device, Out};
-use pam_tables::Login;
-use pam_times::{MomentError, TimeAnswer, TimeTable, civil, moment};
+use pam_times::{Login, MomentError, TimeAnswer, TimeTable, civil, moment};
 use pam_words::Moment;
 use std::alloc::Global;
 use std::io::Write;
@@ -74,7 +73,7 @@ fn look_up(
 {
     match TimeTable::read(alloc, bytes) {
         Ok(table) => Ok(table.decide(login, moment)),
-        Err(error) => Err(Fault::Table(error)),
+        Err(error) => Err(Fault::Time(error)),
     }
 }
 
@@ -116,7 +115,7 @@ pub(super) fn answer_time<W: Write>(
     out: &mut Out<W>,
 ) -> Result<Status, Fault>
     requires { out.old.failures < 2 ^ 64 - 1 }
-    ensures { Leaves W.contents out.old out.new result (timed (login_to service.now user.now tty.now []) (bytes_given inputs.now.time) moment) }
+    ensures { Leaves W.contents out.old out.new result (timed (timed_login_to service.now user.now tty.now) (bytes_given inputs.now.time) moment) }
 {
     let moment = match moment {
         Ok(moment) => moment,
@@ -130,7 +129,6 @@ pub(super) fn answer_time<W: Write>(
         user: user.as_bytes(),
         service: &service,
         tty: tty.as_bytes(),
-        rhost: b"",
     };
     answer_login(alloc, &login, &moment, bytes_given(&inputs.time), out)
 }
