@@ -3,7 +3,8 @@ use Rattle.std.proofs.Common.{◌≡◌, ◌∙◌, ℕ, Bool, true, false, List
 use Rattle.pam_times.specs.Checks.{checked, first_fault, line_checked, list_checked, sign_checked, token_checked}
 use Rattle.pam_times.specs.Entry.{entry_of}
 use Rattle.pam_times.specs.Logic.{ItemOf, SignText, Not, Join, Token, items_from, items_of, items_or_fault, onto_items, place_after, signs_of}
-use Rattle.pam_times.specs.Reading.{FieldTexts, each, each_of, entry_or_fault, fields_of, is_blank_text, name_of, names_of, onto_list, rule_from, rule_of, rule_of_fields}
+use Rattle.pam_times.specs.Reading.{FieldTexts, each, each_of, entry_or_fault, fields_of, is_blank_text, name_of, names_of, onto_list, rule_from}
+use Rattle.pam_times.specs.Reading.{rule_of, rule_of_fields}
 use Rattle.pam_times.specs.Reading.{times_of, with_meaning}
 use Rattle.pam_times.specs.Times.{NameList, TimeList}
 use Rattle.pam_times.specs.declared.error.TimeFault.{TimeFault}

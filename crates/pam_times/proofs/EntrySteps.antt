@@ -68,25 +68,25 @@ one_letter days [] n h = absurd (n refl)
 one_letter days (a ∷ []) n h = refl
 one_letter days (a ∷ b ∷ rest) n h = absurd (omega arith)
 
-two_letters : (rest name behind : List ℕ) → 2 ≤ length rest → name ≡ take 2 rest → behind ≡ drop 2 rest →
-    mentions rest ≡ onto (named_days name) (mentions behind)
-two_letters [] name behind h e f = absurd (omega arith)
-two_letters (a ∷ []) name behind h e f = absurd (omega arith)
-two_letters (a ∷ b ∷ rest) name behind h e f = rw (e, f) refl
+two_letters : (rest name after : List ℕ) → 2 ≤ length rest → name ≡ take 2 rest → after ≡ drop 2 rest →
+    mentions rest ≡ onto (named_days name) (mentions after)
+two_letters [] name after h e f = absurd (omega arith)
+two_letters (a ∷ []) name after h e f = absurd (omega arith)
+two_letters (a ∷ b ∷ rest) name after h e f = rw (e, f) refl
 
 next_run : (days : List Bool) (r : DayRun) (o : Option (List DayRun)) → option_map (flips days) (onto (Some r) o) ≡ option_map (flips (toggled days r)) o
 next_run days r None = refl
 next_run days r (Some rs) = refl
 
-pub named : (days more : List Bool) (rest name behind : List ℕ) (r : DayRun) → 2 ≤ length rest → name ≡ take 2 rest → behind ≡ drop 2 rest →
-    Some r ≡ named_days name → more ≡ toggled days r → option_map (flips more) (mentions behind) ≡ option_map (flips days) (mentions rest)
-named days more rest name behind r h e f g i =
-    sym (ap (λ (o : Option (List DayRun)). option_map (flips days) o) (two_letters rest name behind h e f)
-    ∙ ap (λ (o : Option DayRun). option_map (flips days) (onto o (mentions behind))) (sym g) ∙ next_run days r (mentions behind)
-    ∙ ap (λ (ds : List Bool). option_map (flips ds) (mentions behind)) (sym i))
+pub named : (days more : List Bool) (rest name after : List ℕ) (r : DayRun) → 2 ≤ length rest → name ≡ take 2 rest → after ≡ drop 2 rest →
+    Some r ≡ named_days name → more ≡ toggled days r → option_map (flips more) (mentions after) ≡ option_map (flips days) (mentions rest)
+named days more rest name after r h e f g i =
+    sym (ap (λ (o : Option (List DayRun)). option_map (flips days) o) (two_letters rest name after h e f)
+    ∙ ap (λ (o : Option DayRun). option_map (flips days) (onto o (mentions after))) (sym g) ∙ next_run days r (mentions after)
+    ∙ ap (λ (ds : List Bool). option_map (flips ds) (mentions after)) (sym i))
 
-pub unnamed : (days : List Bool) (rest name behind : List ℕ) → 2 ≤ length rest → name ≡ take 2 rest → behind ≡ drop 2 rest → None ≡ named_days name →
+pub unnamed : (days : List Bool) (rest name after : List ℕ) → 2 ≤ length rest → name ≡ take 2 rest → after ≡ drop 2 rest → None ≡ named_days name →
     option_map (flips days) (mentions rest) ≡ None
-unnamed days rest name behind h e f g =
-    ap (λ (o : Option (List DayRun)). option_map (flips days) o) (two_letters rest name behind h e f)
-    ∙ ap (λ (o : Option DayRun). option_map (flips days) (onto o (mentions behind))) (sym g)
+unnamed days rest name after h e f g =
+    ap (λ (o : Option (List DayRun)). option_map (flips days) o) (two_letters rest name after h e f)
+    ∙ ap (λ (o : Option DayRun). option_map (flips days) (onto o (mentions after))) (sym g)

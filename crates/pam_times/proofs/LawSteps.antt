@@ -41,7 +41,8 @@ after_not : (joint : Joint) (signs : List SignText) (o : Option Items) → OrNon
 after_not joint signs None h = tt
 after_not joint signs (Some items) h = after_not_items joint signs items h
 
-after_joint_items : (joint : Joint) (signs : List SignText) (items : Items) → From (places.Item joint) signs items → From places.Joint (Join joint ∷ signs) items
+after_joint_items : (joint : Joint) (signs : List SignText) (items : Items) → From (places.Item joint) signs items →
+    From places.Joint (Join joint ∷ signs) items
 after_joint_items joint signs [] h = absurd h
 after_joint_items joint signs (item ∷ items) h =
     ap (λ (ss : List SignText). Join joint ∷ ss) h.1 ∙ ap (λ (j : Joint). Join j ∷ written_item item.1 item.2 (written_after items)) (sym h.0)
@@ -82,7 +83,8 @@ from_first : (signs : List SignText) (items : Items) → From (places.Item First
 from_first signs [] h = h
 from_first signs (item ∷ items) h = h
 
-written_of : (signs : List SignText) (o : Option Items) (items : Items) → OrNone (places.Item First) signs o → items_or_fault o ≡ Ok items → IsWritten signs items
+written_of : (signs : List SignText) (o : Option Items) (items : Items) → OrNone (places.Item First) signs o → items_or_fault o ≡ Ok items →
+    IsWritten signs items
 written_of signs None items h e = absurd (cc)
 written_of signs (Some list) items h e =
     let same : list ≡ items = cc in

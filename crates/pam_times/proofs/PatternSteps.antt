@@ -13,8 +13,8 @@ use Rattle.pam_times.specs.Pattern.{is_star, matches, is_framed, Means, MeansAt}
 pub framed : (name text front rest back : List ℕ) (i : ℕ) (b : Bool) → Some i ≡ position is_star name → front ≡ take i name → rest ≡ drop i name →
     back ≡ drop 1 rest → b ≡ is_framed front back text → b ≡ matches name text
 framed name text front rest back i b e f g h k =
-    let behind : back ≡ drop (i + 1) name = h ∙ ap (drop 1) g ∙ drop-drop 1 i name in
-    k ∙ ap₂ (λ x y. is_framed x y text) f behind ∙ ap (λ (o : Option ℕ).
+    let after : back ≡ drop (i + 1) name = h ∙ ap (drop 1) g ∙ drop-drop 1 i name in
+    k ∙ ap₂ (λ x y. is_framed x y text) f after ∙ ap (λ (o : Option ℕ).
     option_map_or (λ j. is_framed (take j name) (drop (j + 1) name) text) o (bytes_eq name text)) e
 
 both : (a b : Bool) → (a && b) ≡ true → (a ≡ true) × (b ≡ true)

@@ -1,5 +1,6 @@
 -- Lines that have a rule, one after another in a text.
-use Rattle.std.proofs.Common.{◌≡◌, ◌∙◌, ◌++◌, ◌+◌, ◌<◌, ◌≤◌, ◌&&◌, ◌==◌, ℕ, suc, get_or, Bool, true, false, List, [], ◌∷◌, length, take, drop, cond, nat_le, Option, Some, None}
+use Rattle.std.proofs.Common.{◌≡◌, ◌∙◌, ◌++◌, ◌+◌, ◌<◌, ◌≤◌, ◌&&◌, ◌==◌, ℕ, suc, get_or, Bool, true, false, List, [], ◌∷◌, length, take, drop}
+use Rattle.std.proofs.Common.{cond, nat_le, Option, Some, None}
 use Rattle.std.proofs.Common.{Result, Ok, Err, refl, sym, ap, ap₂, arith, length-append}
 use Rattle.std.proofs.Math.Seq.{drop-cons, drop-length}
 use Rattle.std.proofs.lemmas.List.{take-append-le, drop-append-le, drop_all, take_all}
@@ -91,7 +92,8 @@ module _ (number : ℕ) (more : List ℕ) (rule : Rule) (is : rule_of number mor
   unfolding are_rules
   are_added text [] h = ap (λ (bs : List ℕ). are_rules (bs ++ more) (added [])) (no_bytes text h) ∙ only_sound
   are_added text (l ∷ ls) h =
-      all_three (nat_le l.len (length (text ++ more))) (has_rule (rule_of l.number (take l.len (text ++ more)))) (are_rules (drop l.len (text ++ more)) (added ls))
+      all_three (nat_le l.len (length (text ++ more))) (has_rule (rule_of l.number (take l.len (text ++ more))))
+      (are_rules (drop l.len (text ++ more)) (added ls))
       (longer l.len text more (fits text l ls h))
       (ap (λ (bs : List ℕ). has_rule (rule_of l.number bs)) (take-append-le l.len text more (fits text l ls h)) ∙ has text l ls h)
       (ap (λ (bs : List ℕ). are_rules bs (added ls)) (drop-append-le l.len text more (fits text l ls h))

@@ -1,5 +1,6 @@
 -- The moment of a decision of pam_time(8): `YYYY-MM-DDTHH:MM`, or with `:SS`, or an instant in a time zone.
-use Rattle.std.specs.Prelude.{◌≡◌, ◌+◌, ◌-◌, ◌*◌, ◌==◌, ◌&&◌, ℕ, ◌<◌, ℤ, ◌+ℤ◌, ◌*ℤ◌, Bool, List, Option, Some, None, pos, length, nat_le, slice_index, if◌then◌else◌}
+use Rattle.std.specs.Prelude.{◌≡◌, ◌+◌, ◌-◌, ◌*◌, ◌==◌, ◌&&◌, ℕ, ◌<◌, ℤ, ◌+ℤ◌, ◌*ℤ◌, Bool, List, Option, Some, None, pos, length, nat_le}
+use Rattle.std.specs.Prelude.{slice_index, if◌then◌else◌}
 use Rattle.std.specs.Char.{is_ascii_digit}
 use Rattle.jiff.specs.Placed.{IsPosixZone}
 use Rattle.jiff.specs.Types.{DateTime, TimeZone}

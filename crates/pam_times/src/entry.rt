@@ -33,7 +33,13 @@ impl DayRun {
 fn named_days(name: &[u8]) -> Option<DayRun>
     ensures { result ≡ named_days name.now }
 {
-    if is_name(name, b"mo") {
+    if is_name(name, b"al") {
+        Some(DayRun::new(0, 6))
+    } else if is_name(name, b"wk") {
+        Some(DayRun::new(0, 4))
+    } else if is_name(name, b"wd") {
+        Some(DayRun::new(5, 6))
+    } else if is_name(name, b"mo") {
         Some(DayRun::new(0, 0))
     } else if is_name(name, b"tu") {
         Some(DayRun::new(1, 1))
@@ -47,12 +53,6 @@ fn named_days(name: &[u8]) -> Option<DayRun>
         Some(DayRun::new(5, 5))
     } else if is_name(name, b"su") {
         Some(DayRun::new(6, 6))
-    } else if is_name(name, b"wk") {
-        Some(DayRun::new(0, 4))
-    } else if is_name(name, b"wd") {
-        Some(DayRun::new(5, 6))
-    } else if is_name(name, b"al") {
-        Some(DayRun::new(0, 6))
     } else {
         None
     }
@@ -80,9 +80,9 @@ fn days(text: &[u8]) -> Option<[bool; 7]>
     let mut days = [false; 7];
     let mut rest = text;
     while !rest.is_empty() {
-        let (name, behind) = rest.split_at_checked(2)?;
+        let (name, after) = rest.split_at_checked(2)?;
         days = toggled(days, named_days(name)?);
-        rest = behind;
+        rest = after;
     }
     Some(days)
 }
