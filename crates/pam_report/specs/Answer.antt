@@ -1,5 +1,5 @@
 -- The answer to a request: the text and the status that its inputs imply, and what a call writes.
-use Rattle.std.specs.Prelude.{◌≡◌, ℕ, ℤ, List, [], map, IsSome, Option, None, Result, Ok, Err, ◌==◌, if◌then◌else◌, length}
+use Rattle.std.specs.Prelude.{◌≡◌, ℕ, ℤ, List, [], map, IsSome, Option, None, Result, Ok, Err, ◌==◌, if◌then◌else◌, length, unwrap_or}
 use Rattle.std.specs.Char.{to_ascii_lowercase}
 use Rattle.pam_codes.specs.declared.out.Out.{Out}
 use Rattle.pam_conf.specs.Files.{Folder}
@@ -24,10 +24,11 @@ use Rattle.pam_times.specs.Times.{Rule, answer_of as time_answer_of}
 use Rattle.pam_times.specs.declared.moments.MomentError.{MomentError}
 use Rattle.pam_times.specs.declared.times.TimeAnswer.{TimeAnswer}
 use Rattle.pam_times.specs.declared.times.TimeAnswer.TheVariants as times
+use Rattle.pam_words.specs.declared.wanted.Login.{Login}
 use Rattle.pam_words.specs.declared.wanted.Task.{Task}
 use Rattle.pam_words.specs.declared.wanted.Task.TheVariants.{Show, Decide, Access, Time, Paths}
 use Rattle.pam_report.specs.Decide.{decide_text}
-use Rattle.pam_report.specs.Inputs.{bytes_given, groups_given}
+use Rattle.pam_report.specs.Inputs.{access_given, files_given, group_file, groups_in, no_files, time_given}
 use Rattle.pam_report.specs.Leaves.{IsTableFault, Leaves, LeavesSome}
 use Rattle.pam_report.specs.Moments.{IsGivenMoment, IsMoment}
 use Rattle.pam_report.specs.Paths.{IsPage}
@@ -81,7 +82,7 @@ with_groups login options bytes (Err e) = Err (table_fault tables.Group e)
 with_groups login options bytes (Ok groups) = with_table login groups (table_of options bytes)
 
 abbrev pub looked_up : LoginText → List (List ℕ) → Inputs → Answer
-looked_up login arguments inputs = with_groups login (options_of arguments) (bytes_given inputs.access) (groups_given inputs.groups)
+looked_up login arguments inputs = with_groups login (options_of arguments) (access_given inputs) (groups_in (group_file inputs))
 
 -- ---- time tables
 
@@ -103,26 +104,34 @@ timed login bytes (Ok moment) = with_rules login moment (rules_of bytes)
 
 -- ---- the answer to a request
 
+-- a login to a service in lowercase
+abbrev pub login_in : List ℕ → Login → LoginText
+login_in service login = record { user = login.user.now; service = service; tty = login.tty.now; rhost = login.rhost.now }
+
 -- a login to a service, which is lowercased
-abbrev pub login_to : List ℕ → List ℕ → List ℕ → List ℕ → LoginText
-login_to service user tty rhost = record { user = user; service = map to_ascii_lowercase service; tty = tty; rhost = rhost }
+abbrev pub login_at : List ℕ → Login → LoginText
+login_at service login = login_in (map to_ascii_lowercase service) login
+
+-- the answer to a task for a service, from these files and the tables of these inputs, and what the call writes
+abbrev pub AnswersFrom : {W : Type 0} → (W → Option (List ℕ)) → Out W → Out W → Result Status Fault → List ℕ → Task → Folder → Inputs → Type 0
+AnswersFrom contents old new result service (Show source kind) files inputs =
+    Leaves contents old new result (with_stack (resolved files service kind) (shown service kind files))
+AnswersFrom contents old new result service (Decide source kind answered) files inputs =
+    Leaves contents old new result (with_stack (resolved files service kind) (decided_by service kind answered.items))
+AnswersFrom contents old new result service (Access table groups login arguments) files inputs =
+    Leaves contents old new result (looked_up (login_at service login) (map (λ a. a.items) arguments.items) inputs)
+AnswersFrom contents old new result service (Time table login moment) files inputs =
+    (at : Result DateTime MomentError) × IsMoment moment at
+    × Leaves contents old new result (timed (login_at service login) (time_given inputs) at)
+AnswersFrom contents old new result service (Paths source kind limit part login access time groups returns moment) files inputs =
+    (at : Option (Result DateTime MomentError)) × IsGivenMoment moment at
+    × LeavesSome contents old new result
+    (IsPage (record { service = service; kind = kind; limit = limit; part = part }) (login_at service login) inputs at (resolved files service kind))
 
 -- THE ANSWER to a task for a service, from these inputs, and what the call writes
 abbrev pub Answers : {W : Type 0} → (W → Option (List ℕ)) → Out W → Out W → Result Status Fault → List ℕ → Task → Inputs → Type 0
-Answers contents old new result service (Show source kind) inputs =
-    Leaves contents old new result (with_stack (resolved inputs.files service kind) (shown service kind inputs.files))
-Answers contents old new result service (Decide source kind answered) inputs =
-    Leaves contents old new result (with_stack (resolved inputs.files service kind) (decided_by service kind answered.items))
-Answers contents old new result service (Access table groups user rhost tty arguments) inputs =
-    Leaves contents old new result (looked_up (login_to service user.now tty.now rhost.now) (map (λ a. a.items) arguments.items) inputs)
-Answers contents old new result service (Time table user tty moment) inputs =
-    (at : Result DateTime MomentError) × IsMoment moment at
-    × Leaves contents old new result (timed (login_to service user.now tty.now []) (bytes_given inputs.time) at)
-Answers contents old new result service (Paths source kind limit part user rhost tty access time groups returns moment) inputs =
-    (at : Option (Result DateTime MomentError)) × IsGivenMoment moment at
-    × LeavesSome contents old new result
-    (IsPage (record { service = service; kind = kind; limit = limit; part = part }) (login_to service user.now tty.now rhost.now) inputs at
-    (resolved inputs.files service kind))
+Answers contents old new result service task inputs =
+    AnswersFrom contents old new result service task (unwrap_or (files_given inputs) no_files) inputs
 
 -- what is looked up is the answer, or its fault, unless an allocation failed
 abbrev pub FindsFault : Fault → Answer → Type 0

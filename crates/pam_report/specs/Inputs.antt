@@ -3,44 +3,60 @@ use Rattle.std.specs.Prelude.{ℕ, List, [], Option, Some, None, Result, Ok, Vec
 use Rattle.std.specs.Bool.{beq}
 use Rattle.std.specs.Global.{Global}
 use Rattle.jiff.specs.Types.{DateTime}
+use Rattle.pam_conf.specs.Files.{Folder}
+use Rattle.pam_conf.specs.declared.rule.Form.TheVariants.{Dir}
 use Rattle.pam_known.specs.Tables.{TablesText, TimedText}
 use Rattle.pam_tables.specs.Groups.{Group, groups_of}
 use Rattle.pam_tables.specs.declared.error.TableFault.{TableFault}
 use Rattle.pam_words.specs.declared.wanted.Task.{Task}
 use Rattle.pam_words.specs.declared.wanted.Task.TheVariants.{Show, Decide, Access, Time, Paths}
 use Rattle.pam_report.specs.declared.inputs.Inputs.{Inputs}
-use Rattle.pam_report.specs.declared.inputs.TableSet.{TableSet}
+use Rattle.pam_report.specs.declared.inputs.Inputs.TheVariants as inputs
 
-abbrev pub bytes_given : Option (Vec ℕ Global) → List ℕ
-bytes_given None = []
-bytes_given (Some bytes) = bytes.items
+-- the configuration, unless these are the inputs of `access` or `time`
+abbrev pub files_given : Inputs → Option Folder
+files_given (inputs.Stack files) = Some files
+files_given (inputs.Paths files groups access time returns) = Some files
+files_given (inputs.Access table groups) = None
+files_given (inputs.Time table) = None
+
+-- no files
+abbrev pub no_files : Folder
+no_files = record { form = Dir; entries = [] }
+
+-- the access table of `access`, and its group file
+abbrev pub access_given : Inputs → List ℕ
+access_given (inputs.Access table groups) = table.items
+access_given _ = []
+
+abbrev pub group_file : Inputs → Option (List ℕ)
+group_file (inputs.Access table groups) = option_map (λ b. b.items) groups
+group_file _ = None
 
 -- the groups of a file, which are none without a file
-abbrev pub groups_given : Option (Vec ℕ Global) → Result (List Group) (TableFault × ℕ)
-groups_given None = Ok []
-groups_given (Some bytes) = groups_of bytes.items
+abbrev pub groups_in : Option (List ℕ) → Result (List Group) (TableFault × ℕ)
+groups_in None = Ok []
+groups_in (Some bytes) = groups_of bytes
 
--- ---- tables named and tables given
+-- the time table of `time`
+abbrev pub time_given : Inputs → List ℕ
+time_given (inputs.Time table) = table.items
+time_given _ = []
 
-abbrev pub no_tables : TableSet
-no_tables = record { groups = false; access = false; time = false; returns = false }
+-- ---- inputs that fit
 
--- the tables that a task names
-abbrev pub tables_named : Task → TableSet
-tables_named (Show source kind) = no_tables
-tables_named (Decide source kind answered) = no_tables
-tables_named (Access table groups user rhost tty arguments) = record { groups = is_some groups; access = true; time = false; returns = false }
-tables_named (Time table user tty moment) = record { groups = false; access = false; time = true; returns = false }
-tables_named (Paths source kind limit part user rhost tty access time groups returns moment) =
-    record { groups = is_some groups; access = is_some access; time = is_some time; returns = is_some returns }
-
--- exactly the tables that a task names are given
+-- the contents of exactly the files that a task names are given
 abbrev pub fits_task : Task → Inputs → Bool
-fits_task task inputs =
-    beq (is_some inputs.groups) (tables_named task).groups
-    && (beq (is_some inputs.access) (tables_named task).access
-    && (beq (is_some inputs.time) (tables_named task).time
-    && beq (is_some inputs.returns) (tables_named task).returns))
+fits_task (Show source kind) (inputs.Stack files) = true
+fits_task (Decide source kind answered) (inputs.Stack files) = true
+fits_task (Access name groups_named login arguments) (inputs.Access table groups) = beq (is_some groups) (is_some groups_named)
+fits_task (Time name login moment) (inputs.Time table) = true
+fits_task (Paths source kind limit part login access_named time_named groups_named returns_named moment) (inputs.Paths files groups access time returns) =
+    beq (is_some groups) (is_some groups_named)
+    && (beq (is_some access) (is_some access_named)
+    && (beq (is_some time) (is_some time_named)
+    && beq (is_some returns) (is_some returns_named)))
+fits_task _ _ = false
 
 -- ---- the tables that tell the codes of modules
 
@@ -50,10 +66,15 @@ timed (Some bytes) (Some moment) = Some (record { bytes = bytes.items; moment = 
 timed (Some bytes) None = None
 timed None moment = None
 
+abbrev pub no_tables : TablesText
+no_tables = record { groups = None; access = None; time = None; returns = None }
+
+-- the tables of `paths`
 abbrev pub tables_given : Inputs → Option DateTime → TablesText
-tables_given inputs moment = record {
-  groups = option_map (λ b. b.items) inputs.groups;
-  access = option_map (λ b. b.items) inputs.access;
-  time = timed inputs.time moment;
-  returns = option_map (λ b. b.items) inputs.returns;
+tables_given (inputs.Paths files groups access time returns) moment = record {
+  groups = option_map (λ b. b.items) groups;
+  access = option_map (λ b. b.items) access;
+  time = timed time moment;
+  returns = option_map (λ b. b.items) returns;
 }
+tables_given _ moment = no_tables

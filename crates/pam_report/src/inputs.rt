@@ -1,8 +1,8 @@
 //! The files that a request names, read into memory.
 
 ghost use Rattle.std.specs.Prelude.{◌≡◌, option_map};
-ghost use Rattle.pam_report.specs.Inputs.{bytes_given, tables_given, tables_named};
-ghost use Rattle.pam_known.specs.Tables.{tables_view};
+ghost use Rattle.pam_report.specs.Inputs.{tables_given as tables_in, timed as timed_text};
+ghost use Rattle.pam_known.specs.Tables.{tables_view, timed_view};
 
 use jiff::civil::DateTime;
 use pam_conf::{Files, Form};
@@ -145,85 +145,107 @@ fn source_files<R: std::rt::Files + AllocGlobal + Clone + Drop>(
     }
 }
 
-/// The contents of the files that a request names: the configuration and the tables.
+/// The contents of the files that a request names. A group file, or a table of `paths`, that is not named is `None`.
 #[derive(Drop)]
-pub struct Inputs {
-    pub files: Files,
-    pub groups: Option<Vec<u8>>,
-    pub access: Option<Vec<u8>>,
-    pub time: Option<Vec<u8>>,
-    pub returns: Option<Vec<u8>>,
-}
-
-const NO_TABLES: TableSet = TableSet {
-    groups: false,
-    access: false,
-    time: false,
-    returns: false,
-};
-
-/// Which tables a request names.
-#[derive(Clone, Copy)]
-struct TableSet {
-    groups: bool,
-    access: bool,
-    time: bool,
-    returns: bool,
+pub enum Inputs {
+    /// For `show` and `decide`.
+    Stack(Files),
+    Access {
+        table: Vec<u8>,
+        groups: Option<Vec<u8>>,
+    },
+    Time {
+        table: Vec<u8>,
+    },
+    Paths {
+        files: Files,
+        groups: Option<Vec<u8>>,
+        access: Option<Vec<u8>>,
+        time: Option<Vec<u8>>,
+        returns: Option<Vec<u8>>,
+    },
 }
 
 impl Inputs {
-    ghost use Rattle.std.specs.Prelude.{◌≡◌};
-    ghost use Rattle.pam_report.specs.Inputs.{fits_task};
+    ghost use Rattle.std.specs.Prelude.{◌≡◌, option_map};
+    ghost use Rattle.pam_report.specs.Inputs.{access_given, files_given, fits_task, group_file, time_given};
 
-    /// Whether exactly the tables that the request names are given.
+    /// Whether these are the contents of exactly the files that the request names.
     pub fn fits(&self, request: &Request<'_>) -> bool
         ensures { result ≡ fits_task request.now.task self.now }
     {
-        let named = tables_named(&request.task);
-        self.groups.is_some() == named.groups
-            && self.access.is_some() == named.access
-            && self.time.is_some() == named.time
-            && self.returns.is_some() == named.returns
+        match (self, &request.task) {
+            (Inputs::Stack(_), Task::Show { .. }) => true,
+            (Inputs::Stack(_), Task::Decide { .. }) => true,
+            (Inputs::Access { groups, .. }, Task::Access { groups: named, .. }) => {
+                groups.is_some() == named.is_some()
+            }
+            (Inputs::Time { .. }, Task::Time { .. }) => true,
+            (
+                Inputs::Paths {
+                    groups,
+                    access,
+                    time,
+                    returns,
+                    ..
+                },
+                Task::Paths {
+                    groups: groups_named,
+                    access: access_named,
+                    time: time_named,
+                    returns: returns_named,
+                    ..
+                },
+            ) => {
+                groups.is_some() == groups_named.is_some()
+                    && access.is_some() == access_named.is_some()
+                    && time.is_some() == time_named.is_some()
+                    && returns.is_some() == returns_named.is_some()
+            }
+            _ => false,
+        }
     }
-}
 
-fn tables_named(task: &Task<'_>) -> TableSet
-    ensures { result ≡ tables_named task.now }
-{
-    match task {
-        Task::Show { .. } => NO_TABLES,
-        Task::Decide { .. } => NO_TABLES,
-        Task::Access { groups, .. } => TableSet {
-            groups: groups.is_some(),
-            access: true,
-            ..NO_TABLES
-        },
-        Task::Time { .. } => TableSet {
-            time: true,
-            ..NO_TABLES
-        },
-        Task::Paths {
-            access,
-            time,
-            groups,
-            returns,
-            ..
-        } => TableSet {
-            groups: groups.is_some(),
-            access: access.is_some(),
-            time: time.is_some(),
-            returns: returns.is_some(),
-        },
+    /// Returns the configuration, unless these are the inputs of `access` or `time`.
+    pub(crate) fn files(&self) -> Option<&Files>
+        ensures { option_map (λ f. f.now) result ≡ files_given self.now }
+    {
+        match self {
+            Inputs::Stack(files) => Some(files),
+            Inputs::Paths { files, .. } => Some(files),
+            Inputs::Access { .. } => None,
+            Inputs::Time { .. } => None,
+        }
     }
-}
 
-/// Returns the contents of a table, which are empty if it is not given.
-pub(crate) fn bytes_given(bytes: &Option<Vec<u8>>) -> &[u8]
-    ensures { result.now ≡ bytes_given bytes.now }
-{
-    match bytes {
-        Some(bytes) => bytes.as_slice(),
-        None => b"",
+    /// Returns the access table of `access`, which is empty for other commands.
+    pub(crate) fn access_table(&self) -> &[u8]
+        ensures { result.now ≡ access_given self.now }
+    {
+        match self {
+            Inputs::Access { table, .. } => table.as_slice(),
+            _ => b"",
+        }
+    }
+
+    /// Returns the group file of `access`, if there is one.
+    pub(crate) fn groups(&self) -> Option<&[u8]>
+        ensures { option_map (λ b. b.now) result ≡ group_file self.now }
+    {
+        match self {
+            Inputs::Access { groups, .. } => slice_given(groups),
+            _ => None,
+        }
+    }
+
+    /// Returns the time table of `time`, which is empty for other commands.
+    pub(crate) fn time_table(&self) -> &[u8]
+        ensures { result.now ≡ time_given self.now }
+    {
+        match self {
+            Inputs::Time { table } => table.as_slice(),
+            _ => b"",
+        }
     }
 }
 
@@ -236,59 +258,44 @@ fn slice_given(bytes: &Option<Vec<u8>>) -> Option<&[u8]>
     }
 }
 
-/// Returns the tables that tell the codes of modules at a moment. Without a moment there is no time table.
-pub(crate) fn tables_given(inputs: &Inputs, moment: Option<DateTime>) -> Tables<'_>
-    ensures { tables_view result ≡ tables_given inputs.now moment }
+/// Returns a time table with the moment. Without a moment there is no time table.
+fn timed(bytes: &Option<Vec<u8>>, moment: Option<DateTime>) -> Option<TimedTable<'_>>
+    ensures { option_map timed_view result ≡ timed_text bytes.now moment }
 {
-    let time = match (&inputs.time, moment) {
+    match (bytes, moment) {
         (Some(bytes), Some(moment)) => Some(TimedTable {
             bytes: bytes.as_slice(),
             moment,
         }),
         (Some(_bytes), None) => None,
         (None, _moment) => None,
-    };
-    Tables {
-        groups: slice_given(&inputs.groups),
-        access: slice_given(&inputs.access),
-        time,
-        returns: slice_given(&inputs.returns),
     }
 }
 
-fn without_tables(files: Files) -> Inputs {
-    Inputs {
-        files,
-        groups: None,
-        access: None,
-        time: None,
-        returns: None,
+/// Returns the tables of `paths`, which tell the codes of modules at a moment.
+pub(crate) fn tables_given(inputs: &Inputs, moment: Option<DateTime>) -> Tables<'_>
+    ensures { tables_view result ≡ tables_in inputs.now moment }
+{
+    match inputs {
+        Inputs::Paths {
+            groups,
+            access,
+            time,
+            returns,
+            ..
+        } => Tables {
+            groups: slice_given(groups),
+            access: slice_given(access),
+            time: timed(time, moment),
+            returns: slice_given(returns),
+        },
+        _ => Tables {
+            groups: None,
+            access: None,
+            time: None,
+            returns: None,
+        },
     }
-}
-
-/// Reads the group file, if one is named, then the access table.
-fn access_inputs<R: std::rt::Files>(
-    rt: &R,
-    alloc: Global,
-    table: &str,
-    groups: Option<&str>,
-) -> Result<Inputs, InputError> {
-    let mut inputs = without_tables(Files::new(alloc, Form::Dir));
-    if let Some(name) = groups {
-        inputs.groups = Some(named_file(rt, alloc, name)?);
-    }
-    inputs.access = Some(named_file(rt, alloc, table)?);
-    Ok(inputs)
-}
-
-fn time_inputs<R: std::rt::Files>(
-    rt: &R,
-    alloc: Global,
-    table: &str,
-) -> Result<Inputs, InputError> {
-    let mut inputs = without_tables(Files::new(alloc, Form::Dir));
-    inputs.time = Some(named_file(rt, alloc, table)?);
-    Ok(inputs)
 }
 
 /// Reads a file, if one is named.
@@ -303,27 +310,16 @@ fn optional_file<R: std::rt::Files>(
     }
 }
 
-/// The names of the files given to `paths`.
-#[derive(Clone, Copy)]
-struct TableNames<'a> {
-    groups: Option<&'a str>,
-    access: Option<&'a str>,
-    time: Option<&'a str>,
-    returns: Option<&'a str>,
-}
-
-fn paths_inputs<R: std::rt::Files + AllocGlobal + Clone + Drop>(
+/// Reads the group file, if one is named, then the access table.
+fn access_inputs<R: std::rt::Files>(
     rt: &R,
     alloc: Global,
-    source: Source<'_>,
-    names: TableNames<'_>,
+    table: &str,
+    groups: Option<&str>,
 ) -> Result<Inputs, InputError> {
-    let mut inputs = without_tables(source_files(rt, alloc, source)?);
-    inputs.groups = optional_file(rt, alloc, names.groups)?;
-    inputs.access = optional_file(rt, alloc, names.access)?;
-    inputs.time = optional_file(rt, alloc, names.time)?;
-    inputs.returns = optional_file(rt, alloc, names.returns)?;
-    Ok(inputs)
+    let groups = optional_file(rt, alloc, groups)?;
+    let table = named_file(rt, alloc, table)?;
+    Ok(Inputs::Access { table, groups })
 }
 
 /// Reads the files of a request: the configuration, then the group file, the access table, the time table and the
@@ -335,10 +331,12 @@ pub(crate) fn inputs_of<R: std::rt::Files + AllocGlobal + Clone + Drop>(
 ) -> Result<Inputs, InputError> {
     match &request.task {
         Task::Show { source, .. } | Task::Decide { source, .. } => {
-            Ok(without_tables(source_files(rt, alloc, *source)?))
+            Ok(Inputs::Stack(source_files(rt, alloc, *source)?))
         }
         Task::Access { table, groups, .. } => access_inputs(rt, alloc, table, *groups),
-        Task::Time { table, .. } => time_inputs(rt, alloc, table),
+        Task::Time { table, .. } => Ok(Inputs::Time {
+            table: named_file(rt, alloc, table)?,
+        }),
         Task::Paths {
             source,
             access,
@@ -346,14 +344,12 @@ pub(crate) fn inputs_of<R: std::rt::Files + AllocGlobal + Clone + Drop>(
             groups,
             returns,
             ..
-        } => {
-            let names = TableNames {
-                groups: *groups,
-                access: *access,
-                time: *time,
-                returns: *returns,
-            };
-            paths_inputs(rt, alloc, *source, names)
-        }
+        } => Ok(Inputs::Paths {
+            files: source_files(rt, alloc, *source)?,
+            groups: optional_file(rt, alloc, *groups)?,
+            access: optional_file(rt, alloc, *access)?,
+            time: optional_file(rt, alloc, *time)?,
+            returns: optional_file(rt, alloc, *returns)?,
+        }),
     }
 }

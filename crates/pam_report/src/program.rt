@@ -46,12 +46,7 @@ pub fn refuse<V: Write>(alloc: Global, usage: &Usage, err: &mut Out<V>) -> u8 {
 
 /// Reports an allocation that failed before any words were read, and returns the exit status.
 pub fn refuse_without_memory<V: Write>(alloc: Global, err: &mut Out<V>) -> u8 {
-    refuse_by(
-        alloc,
-        &Fault::Memory,
-        &ConfFiles::new(alloc, Form::Dir),
-        err,
-    )
+    refuse_by(alloc, &Fault::Memory, None, err)
 }
 
 /// Reads the files that a request names, and answers it.
@@ -84,7 +79,7 @@ fn report<W: Write, V: Write>(
 {
     match answer(alloc, request, inputs, out) {
         Ok(status) => status.number(),
-        Err(fault) => refuse_by(alloc, &fault, &inputs.files, err),
+        Err(fault) => refuse_by(alloc, &fault, inputs.files(), err),
     }
 }
 
@@ -100,18 +95,22 @@ fn help<W: Write, V: Write>(
     };
     match written {
         Ok(()) => 0,
-        Err(_) => refuse_by(
-            alloc,
-            &Fault::Device,
-            &ConfFiles::new(alloc, Form::Dir),
-            err,
-        ),
+        Err(_) => refuse_by(alloc, &Fault::Device, None, err),
     }
 }
 
-/// Reports a fault on standard error, and returns its exit status.
-fn refuse_by<V: Write>(alloc: Global, fault: &Fault, files: &ConfFiles, err: &mut Out<V>) -> u8 {
-    say(fault_text(alloc, fault, files), err);
+/// Reports a fault on standard error, and returns its exit status. A fault of the configuration has its place in `files`.
+fn refuse_by<V: Write>(
+    alloc: Global,
+    fault: &Fault,
+    files: Option<&ConfFiles>,
+    err: &mut Out<V>,
+) -> u8 {
+    let line = match files {
+        Some(files) => fault_text(alloc, fault, files),
+        None => fault_text(alloc, fault, &ConfFiles::new(alloc, Form::Dir)),
+    };
+    say(line, err);
     fault_status(fault)
 }
 

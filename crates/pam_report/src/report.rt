@@ -1,12 +1,13 @@
 //! Answers. Each is computed first, which finds all faults, and then written, which allocates nothing.
 
 ghost use Rattle.std.specs.Prelude.{◌≡◌, ◌-◌, ◌<◌, ◌^◌};
-ghost use Rattle.pam_report.specs.Answer.{Answers};
+ghost use Rattle.pam_report.specs.Answer.{Answers, AnswersFrom};
 ghost use Rattle.pam_report.specs.Report.{status_number};
 
 mod access;
 mod decide;
 mod header;
+mod login;
 mod paths;
 mod show;
 mod time;
@@ -15,9 +16,10 @@ mod word;
 
 use crate::fault::Fault;
 use crate::inputs::Inputs;
-use access::{Person, answer_access};
+use access::answer_access;
 use decide::answer_decide;
 use pam_codes::Out;
+use pam_conf::{Files, Form};
 use pam_words::{Request, Task};
 use paths::{PageRequest, answer_paths};
 use show::answer_show;
@@ -48,8 +50,8 @@ impl Status {
 
 /// Answers a request: writes the text and flushes once, at its end.
 ///
-/// All faults but a failed write are found before the first byte is written. Uses the tables of `inputs`, which are
-/// those that the request names if it fits; see `Inputs::fits`. `access` and `time` take a missing one as empty.
+/// All faults but a failed write are found before the first byte is written. Inputs of another command have no files and
+/// no tables that this one uses; see `Inputs::fits`.
 pub fn answer<W: Write>(
     alloc: Global,
     request: &Request<'_>,
@@ -59,50 +61,54 @@ pub fn answer<W: Write>(
     requires { out.old.failures < 2 ^ 64 - 1 }
     ensures { Answers W.contents out.old out.new result request.now.service.now request.now.task inputs.now }
 {
+    match inputs.files() {
+        Some(files) => answer_from(alloc, request, files, inputs, out),
+        None => answer_from(alloc, request, &Files::new(alloc, Form::Dir), inputs, out),
+    }
+}
+
+/// Answers a request from these files and the tables of `inputs`.
+fn answer_from<W: Write>(
+    alloc: Global,
+    request: &Request<'_>,
+    files: &Files,
+    inputs: &Inputs,
+    out: &mut Out<W>,
+) -> Result<Status, Fault>
+    requires { out.old.failures < 2 ^ 64 - 1 }
+    ensures { AnswersFrom W.contents out.old out.new result request.now.service.now request.now.task files.now inputs.now }
+{
     let service = request.service;
     match &request.task {
-        Task::Show { kind, .. } => answer_show(alloc, service, *kind, &inputs.files, out),
+        Task::Show { kind, .. } => answer_show(alloc, service, *kind, files, out),
         Task::Decide { kind, codes, .. } => {
-            answer_decide(alloc, service, *kind, codes, &inputs.files, out)
+            answer_decide(alloc, service, *kind, codes, files, out)
         }
         Task::Access {
-            user,
-            rhost,
-            tty,
+            login,
             arguments,
             ..
-        } => {
-            let person = Person { user, tty, rhost };
-            answer_access(alloc, service, person, arguments, inputs, out)
-        }
-        Task::Time {
-            user,
-            tty,
-            moment,
-            ..
-        } => {
+        } => { answer_access(alloc, service, *login, arguments, inputs, out) }
+        Task::Time { login, moment, .. } => {
             let moment = moment_of(*moment);
-            answer_time(alloc, service, user, tty, moment, inputs, out)
+            answer_time(alloc, service, *login, moment, inputs, out)
         }
         Task::Paths {
             kind,
             limit,
             part,
-            user,
-            rhost,
-            tty,
+            login,
             moment,
             ..
         } => {
-            let request = PageRequest {
+            let page = PageRequest {
                 service,
                 kind: *kind,
                 limit: *limit,
                 part: *part,
             };
-            let person = Person { user, tty, rhost };
             let moment = given_moment(*moment);
-            answer_paths(alloc, request, person, moment, inputs, out)
+            answer_paths(alloc, &page, *login, moment, files, inputs, out)
         }
     }
 }

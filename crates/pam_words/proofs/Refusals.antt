@@ -5,13 +5,13 @@ use Rattle.clap.specs.Words.{Row, Text, HasKind, IsAmong, Kinds, kind_of}
 use Rattle.clap.specs.declared.Error.{Error}
 use Rattle.clap.specs.declared.error.ErrorKind.{ErrorKind}
 use Rattle.clap.specs.declared.error.ErrorKind.TheVariants.{OutOfMemory}
-use Rattle.pam_words.specs.Asked.{Asked, Refusal, asked_of}
+use Rattle.pam_words.specs.Request.{Refusal, RequestText, request_of}
 use Rattle.pam_words.specs.Wanted.{Answers, IsRead, IsRefusal, IsRefusalOf, Reads, RefusesBy}
 use Rattle.pam_words.specs.declared.wanted.Request.{Request}
 use Rattle.pam_words.specs.declared.wanted.Usage.{Usage}
 use Rattle.pam_words.specs.declared.wanted.Usage.TheVariants as usage
 
-pub answers-clean : (kinds : Kinds) (asked : Result Asked Refusal) (r : Result Request Usage) → Answers asked r → kinds ≡ [] → RefusesBy kinds r
+pub answers-clean : (kinds : Kinds) (asked : Result RequestText Refusal) (r : Result Request Usage) → Answers asked r → kinds ≡ [] → RefusesBy kinds r
 answers-clean kinds asked (Ok request) h e = e
 answers-clean kinds asked (Err usage.Source) h e = e
 answers-clean kinds asked (Err usage.KindName) h e = e
@@ -24,7 +24,7 @@ answers-clean kinds asked (Err (usage.Help error)) h e = absurd h
 answers-clean kinds asked (Err (usage.Words error)) h e = absurd h
 answers-clean kinds asked (Err usage.NotUtf8) h e = absurd h
 
-pub answers-reads : (asked : Result Asked Refusal) (r : Result Request Usage) → Answers asked r → Reads asked r
+pub answers-reads : (asked : Result RequestText Refusal) (r : Result Request Usage) → Answers asked r → Reads asked r
 answers-reads asked (Ok request) h = h
 answers-reads asked (Err usage.Source) h = h
 answers-reads asked (Err usage.KindName) h = h
@@ -54,7 +54,7 @@ refused-by kinds error usage.Login h k = absurd h
 refused-by kinds error usage.Moment h k = absurd h
 refused-by kinds error usage.BothEnds h k = absurd h
 
-pub answers-read : (asked : Result Asked Refusal) (r : Result Request Usage) → Answers asked r → IsRead r
+pub answers-read : (asked : Result RequestText Refusal) (r : Result Request Usage) → Answers asked r → IsRead r
 answers-read asked (Ok request) h = tt
 answers-read asked (Err usage.Source) h = tt
 answers-read asked (Err usage.KindName) h = tt
@@ -81,7 +81,7 @@ refused-read error usage.Moment h m = absurd h
 refused-read error usage.BothEnds h m = absurd h
 
 pub refused-reads : (o : Option (Text × List Row)) (error : Error) (u : Usage) → IsRefusalOf error u
-    → MatchOption o (IsRefusal (Err u)) (λ p. Reads (asked_of p.0 p.1) (Err u))
+    → MatchOption o (IsRefusal (Err u)) (λ p. Reads (request_of p.0 p.1) (Err u))
 refused-reads None error usage.Memory h = tt
 refused-reads None error (usage.Help e) h = tt
 refused-reads None error (usage.Words e) h = tt

@@ -1,3 +1,3 @@
-pub mod Asked
+pub mod Request
 pub mod Wanted
 pub mod Words

@@ -4,10 +4,11 @@ use Rattle.std.specs.Option.{option_copied}
 use Rattle.clap.specs.Words.{IsAmong, Kinds, kind_of}
 use Rattle.clap.specs.declared.Error.{Error}
 use Rattle.clap.specs.declared.error.ErrorKind.TheVariants.{DisplayHelp, OutOfMemory}
-use Rattle.pam_words.specs.Asked.{Asked, Place, Refusal, Span, When, Wish}
-use Rattle.pam_words.specs.Asked as asked
+use Rattle.pam_words.specs.Request.{LoginText, MomentText, PartText, Refusal, RequestText, SourceText, TaskText}
+use Rattle.pam_words.specs.Request as spec
 use Rattle.pam_words.specs.declared.wanted.Source.{Source}
 use Rattle.pam_words.specs.declared.wanted.Source.TheVariants.{Dir, Conf}
+use Rattle.pam_words.specs.declared.wanted.Login.{Login}
 use Rattle.pam_words.specs.declared.wanted.Moment.{Moment}
 use Rattle.pam_words.specs.declared.wanted.Moment.TheVariants.{Civil, Instant}
 use Rattle.pam_words.specs.declared.wanted.Part.{Part}
@@ -20,75 +21,73 @@ use Rattle.pam_words.specs.declared.wanted.Usage.TheVariants as usage
 
 -- ---- a request as its texts
 
-abbrev pub shown_place : Source → Place
-shown_place (Dir name) = asked.dir name.now
-shown_place (Conf name) = asked.conf name.now
+abbrev pub source_view : Source → SourceText
+source_view (Dir name) = spec.dir name.now
+source_view (Conf name) = spec.conf name.now
 
-abbrev pub shown_when : Moment → When
-shown_when (Civil text) = asked.civil text.now
-shown_when (Instant seconds zone) = asked.instant seconds zone.now
+abbrev pub moment_view : Moment → MomentText
+moment_view (Civil text) = spec.civil text.now
+moment_view (Instant seconds zone) = spec.instant seconds zone.now
 
-abbrev pub shown_part : Part → Span
-shown_part Whole = asked.whole
-shown_part (After cursor) = asked.after cursor.now
-shown_part (Before cursor) = asked.before cursor.now
+abbrev pub part_view : Part → PartText
+part_view Whole = spec.whole
+part_view (After cursor) = spec.after cursor.now
+part_view (Before cursor) = spec.before cursor.now
 
-abbrev pub shown_wish : Task → Wish
-shown_wish (Show source kind) = asked.show (shown_place source) kind
-shown_wish (Decide source kind codes) = asked.decide (shown_place source) kind codes.items
-shown_wish (Access table groups user rhost tty arguments) = asked.access (record {
+abbrev pub login_view : Login → LoginText
+login_view login = record { user = login.user.now; rhost = login.rhost.now; tty = login.tty.now }
+
+abbrev pub task_view : Task → TaskText
+task_view (Show source kind) = spec.show (source_view source) kind
+task_view (Decide source kind codes) = spec.decide (source_view source) kind codes.items
+task_view (Access table groups login arguments) = spec.access (record {
   table = table.now;
   groups = option_copied groups;
-  user = user.now;
-  rhost = rhost.now;
-  tty = tty.now;
+  login = login_view login;
   arguments = map (λ a. a.items) arguments.items;
 })
-shown_wish (Time table user tty moment) = asked.time (record {
+task_view (Time table login moment) = spec.time (record {
   table = table.now;
-  user = user.now;
-  tty = tty.now;
-  moment = shown_when moment;
+  login = login_view login;
+  moment = moment_view moment;
 })
-shown_wish (Paths source kind limit part user rhost tty access time groups returns moment) = asked.paths (record {
-  place = shown_place source;
+task_view (Paths source kind limit part login access time groups returns moment) = spec.paths (record {
+  source = source_view source;
   kind = kind;
   limit = limit;
-  part = shown_part part;
-  user = user.now;
-  rhost = rhost.now;
-  tty = tty.now;
+  part = part_view part;
+  login = login_view login;
   access = option_copied access;
   time = option_copied time;
   groups = option_copied groups;
   returns = option_copied returns;
-  moment = option_map shown_when moment;
+  moment = option_map moment_view moment;
 })
 
-abbrev pub shown : Request → Asked
-shown request = record { service = request.service.now; wish = shown_wish request.task }
+abbrev pub request_view : Request → RequestText
+request_view request = record { service = request.service.now; task = task_view request.task }
 
 -- ---- results, if `clap` accepts the words
 
 -- the result is the value or its refusal, unless an allocation failed
 abbrev pub Gives : {A B : Type 0} → (A → B) → Result B Refusal → Result A Usage → Type 0
 Gives view value (Ok x) = value ≡ Ok (view x)
-Gives view value (Err usage.Source) = value ≡ Err asked.source
-Gives view value (Err usage.KindName) = value ≡ Err asked.kind_name
-Gives view value (Err usage.CodeName) = value ≡ Err asked.code_name
-Gives view value (Err usage.Login) = value ≡ Err asked.login
-Gives view value (Err usage.Moment) = value ≡ Err asked.moment
-Gives view value (Err usage.BothEnds) = value ≡ Err asked.both_ends
+Gives view value (Err usage.Source) = value ≡ Err spec.source
+Gives view value (Err usage.KindName) = value ≡ Err spec.kind_name
+Gives view value (Err usage.CodeName) = value ≡ Err spec.code_name
+Gives view value (Err usage.Login) = value ≡ Err spec.login
+Gives view value (Err usage.Moment) = value ≡ Err spec.moment
+Gives view value (Err usage.BothEnds) = value ≡ Err spec.both_ends
 Gives view value (Err usage.Memory) = ⊤
 Gives view value (Err (usage.Help error)) = ⊥
 Gives view value (Err (usage.Words error)) = ⊥
 Gives view value (Err usage.NotUtf8) = ⊥
 
-abbrev pub AsksFor : Result Wish Refusal → Result Task Usage → Type 0
-AsksFor = Gives shown_wish
+abbrev pub GivesTask : Result TaskText Refusal → Result Task Usage → Type 0
+GivesTask = Gives task_view
 
-abbrev pub Answers : Result Asked Refusal → Result Request Usage → Type 0
-Answers = Gives shown
+abbrev pub Answers : Result RequestText Refusal → Result Request Usage → Type 0
+Answers = Gives request_view
 
 -- ---- results, if `clap` may refuse the words
 
@@ -107,7 +106,7 @@ IsRead (Err usage.NotUtf8) = ⊥
 IsRead _ = ⊤
 
 -- the result is the request or its refusal, unless `clap` refused the words
-abbrev pub Reads : Result Asked Refusal → Result Request Usage → Type 0
+abbrev pub Reads : Result RequestText Refusal → Result Request Usage → Type 0
 Reads asked (Err (usage.Help error)) = ⊤
 Reads asked (Err (usage.Words error)) = ⊤
 Reads asked (Err other) = Answers asked (Err other)

@@ -1,7 +1,7 @@
 //! The greatest number of paths in a page, set by `--limit`.
 
 ghost use Rattle.std.specs.Prelude.{◌≡◌};
-ghost use Rattle.pam_words.specs.Asked.{limit_in as limit_in_text};
+ghost use Rattle.pam_words.specs.Request.{limit_in as limit_in_text};
 ghost use Rattle.pam_words.specs.Words.{limit_parser as parser_of_limits};
 
 use clap::builder::ValueParser;

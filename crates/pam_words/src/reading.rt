@@ -5,13 +5,16 @@ ghost use Rattle.std.specs.Char.{is_ascii_digit};
 ghost use Rattle.std.specs.List.{list_all};
 ghost use Rattle.std.specs.Option.{option_copied};
 ghost use Rattle.clap.specs.Words.{found_of, rows_of, first_of, all_of, takes, fault_of, subcommand_of};
-ghost use Rattle.pam_words.specs.Asked.{access_wish, asked_of, code_named as code_of_name, codes_named as codes_of_names, codes_of_rows, decide_wish, instant_of, kind_of_rows, place_of, seconds_of, show_wish, stack_of, text_of, texts_of, time_wish, when_of, wish_of};
-ghost use Rattle.pam_words.specs.Wanted.{Answers, AsksFor, Gives, IsRead, IsRefusal, IsRefusalOf, Reads, RefusesBy, shown_place, shown_when};
+ghost use Rattle.pam_words.specs.Request.{access_task, decide_task, request_of, show_task, stack_of, task_of, time_task};
+ghost use Rattle.pam_words.specs.Request.{code_named as code_of_name, codes_named as codes_of_names, codes_of_rows};
+ghost use Rattle.pam_words.specs.Request.{instant_of, kind_of_rows, login_of, moment_of, seconds_of, source_of, text_of, texts_of};
+ghost use Rattle.pam_words.specs.Wanted.{Answers, Gives, GivesTask, IsRead, IsRefusal, IsRefusalOf, Reads, RefusesBy};
+ghost use Rattle.pam_words.specs.Wanted.{login_view, moment_view, source_view};
 ghost use Rattle.pam_words.specs.Words.{pamcheck_app};
 
 mod paths;
 
-use crate::wanted::{Moment, Request, Source, Task, Usage};
+use crate::wanted::{Login, Moment, Request, Source, Task, Usage};
 use crate::words::pamcheck_command;
 use clap::error::ErrorKind;
 use clap::{ArgMatches, Error};
@@ -43,7 +46,7 @@ fn values<'m, 'a>(matches: &'m ArgMatches<'a>, id: &str) -> Option<&'m [&'a str]
 
 /// Returns the source, if exactly one is given.
 fn source<'a>(matches: &ArgMatches<'a>) -> Option<Source<'a>>
-    ensures { option_map shown_place result ≡ place_of (rows_of (found_of matches.now)) }
+    ensures { option_map source_view result ≡ source_of (rows_of (found_of matches.now)) }
 {
     match (value(matches, "dir"), value(matches, "conf")) {
         (Some(dir), None) => Some(Source::Dir(dir)),
@@ -59,7 +62,7 @@ fn kind(matches: &ArgMatches<'_>) -> Option<Kind>
     Kind::from_name(text(matches, "kind").as_bytes())
 }
 
-#[tactic(auto, unfolding(crate::specs::Asked::code_named))]
+#[tactic(auto, unfolding(crate::specs::Request::code_named))]
 fn code_named(name: &str) -> Option<Code>
     ensures { result ≡ code_of_name name.now }
 {
@@ -106,7 +109,7 @@ fn is_digits(text: &str) -> bool
 }
 
 fn instant<'a>(digits: &str, zone: Option<&'a str>) -> Option<Moment<'a>>
-    ensures { option_map shown_when result ≡ instant_of digits.now (option_copied zone.entry) }
+    ensures { option_map moment_view result ≡ instant_of digits.now (option_copied zone.entry) }
 {
     let Some(seconds) = seconds(digits) else {
         return None;
@@ -119,7 +122,7 @@ fn instant<'a>(digits: &str, zone: Option<&'a str>) -> Option<Moment<'a>>
 
 /// Returns the moment, if exactly one is given.
 fn moment<'a>(matches: &ArgMatches<'a>) -> Option<Moment<'a>>
-    ensures { option_map shown_when result ≡ when_of (rows_of (found_of matches.now)) }
+    ensures { option_map moment_view result ≡ moment_of (rows_of (found_of matches.now)) }
 {
     let zone = value(matches, "zone");
     match (value(matches, "at"), value(matches, "at-unix")) {
@@ -130,6 +133,16 @@ fn moment<'a>(matches: &ArgMatches<'a>) -> Option<Moment<'a>>
         (None, Some(digits)) => instant(digits, zone),
         (Some(_text), Some(_digits)) => None,
         (None, None) => None,
+    }
+}
+
+fn login<'a>(matches: &ArgMatches<'a>) -> Login<'a>
+    ensures { login_view result ≡ login_of (rows_of (found_of matches.now)) }
+{
+    Login {
+        user: text(matches, "user"),
+        rhost: text(matches, "rhost"),
+        tty: text(matches, "tty"),
     }
 }
 
@@ -155,7 +168,7 @@ fn arguments(alloc: Global, matches: &ArgMatches<'_>) -> Result<Vec<Vec<u8>>, Al
 
 /// Reads the source and the kind.
 fn stack<'a>(matches: &ArgMatches<'a>) -> Result<(Source<'a>, Kind), Usage>
-    ensures { Gives (λ p. (shown_place p.0, p.1)) (stack_of (rows_of (found_of matches.now))) result }
+    ensures { Gives (λ p. (source_view p.0, p.1)) (stack_of (rows_of (found_of matches.now))) result }
 {
     let Some(source) = source(matches) else {
         return Err(Usage::Source);
@@ -167,14 +180,14 @@ fn stack<'a>(matches: &ArgMatches<'a>) -> Result<(Source<'a>, Kind), Usage>
 }
 
 fn show<'a>(matches: &ArgMatches<'a>) -> Result<Task<'a>, Usage>
-    ensures { AsksFor (show_wish (rows_of (found_of matches.now))) result }
+    ensures { GivesTask (show_task (rows_of (found_of matches.now))) result }
 {
     let (source, kind) = stack(matches)?;
     Ok(Task::Show { source, kind })
 }
 
 fn decide<'a>(alloc: Global, matches: &ArgMatches<'a>) -> Result<Task<'a>, Usage>
-    ensures { AsksFor (decide_wish (rows_of (found_of matches.now))) result }
+    ensures { GivesTask (decide_task (rows_of (found_of matches.now))) result }
 {
     let (source, kind) = stack(matches)?;
     match codes(alloc, matches) {
@@ -189,15 +202,13 @@ fn decide<'a>(alloc: Global, matches: &ArgMatches<'a>) -> Result<Task<'a>, Usage
 }
 
 fn access<'a>(alloc: Global, matches: &ArgMatches<'a>) -> Result<Task<'a>, Usage>
-    ensures { AsksFor (access_wish (rows_of (found_of matches.now))) result }
+    ensures { GivesTask (access_task (rows_of (found_of matches.now))) result }
 {
     match arguments(alloc, matches) {
         Ok(arguments) => Ok(Task::Access {
             table: text(matches, "access"),
             groups: value(matches, "group"),
-            user: text(matches, "user"),
-            rhost: text(matches, "rhost"),
-            tty: text(matches, "tty"),
+            login: login(matches),
             arguments,
         }),
         Err(_) => Err(Usage::Memory),
@@ -205,21 +216,23 @@ fn access<'a>(alloc: Global, matches: &ArgMatches<'a>) -> Result<Task<'a>, Usage
 }
 
 fn time<'a>(matches: &ArgMatches<'a>) -> Result<Task<'a>, Usage>
-    ensures { AsksFor (time_wish (rows_of (found_of matches.now))) result }
+    ensures { GivesTask (time_task (rows_of (found_of matches.now))) result }
 {
     let Some(moment) = moment(matches) else {
         return Err(Usage::Moment);
     };
     Ok(Task::Time {
         table: text(matches, "time"),
-        user: text(matches, "user"),
-        tty: text(matches, "tty"),
+        login: Login {
+            rhost: "",
+            ..login(matches)
+        },
         moment,
     })
 }
 
 fn task<'a>(alloc: Global, command: &str, matches: &ArgMatches<'a>) -> Result<Task<'a>, Usage>
-    ensures { AsksFor (wish_of command.now (rows_of (found_of matches.now))) result }
+    ensures { GivesTask (task_of command.now (rows_of (found_of matches.now))) result }
 {
     if command == "show" {
         show(matches)
@@ -236,7 +249,7 @@ fn task<'a>(alloc: Global, command: &str, matches: &ArgMatches<'a>) -> Result<Ta
 
 /// Reads the request of a command from its values.
 fn read<'a>(alloc: Global, command: &str, matches: &ArgMatches<'a>) -> Result<Request<'a>, Usage>
-    ensures { Answers (asked_of command.now (rows_of (found_of matches.now))) result }
+    ensures { Answers (request_of command.now (rows_of (found_of matches.now))) result }
 {
     let task = task(alloc, command, matches)?;
     Ok(Request {
@@ -258,7 +271,7 @@ fn refused(error: Error) -> Usage
 
 /// Reads the words of the command line, the first of which is the name of the program. Borrows them.
 pub fn request<'a, S: AsStr>(alloc: Global, words: &'a [S]) -> Result<Request<'a>, Usage>
-    ensures reads { MatchOption (subcommand_of pamcheck_app (map S.text words.entry.now)) (IsRefusal result) (λ p. Reads (asked_of p.0 p.1) result) }
+    ensures reads { MatchOption (subcommand_of pamcheck_app (map S.text words.entry.now)) (IsRefusal result) (λ p. Reads (request_of p.0 p.1) result) }
     ensures taken { takes pamcheck_app (map S.text words.entry.now) ≡ true → IsRead result }
     ensures refused { RefusesBy (fault_of pamcheck_app (map S.text words.entry.now)) result }
 {

@@ -4,7 +4,7 @@ use pam_codes::Code;
 use pam_conf::Kind;
 use thiserror::Error;
 
-/// The place of the configuration.
+/// The source of the configuration.
 #[derive(Clone, Copy, Debug)]
 pub enum Source<'a> {
     /// A folder with a file for each service, as `/etc/pam.d`.
@@ -22,6 +22,14 @@ pub enum Moment<'a> {
     Instant { seconds: i64, zone: &'a str },
 }
 
+/// A login. A remote host or terminal that is not given is empty, and so is the user in `paths` without a table.
+#[derive(Clone, Copy, Debug)]
+pub struct Login<'a> {
+    pub user: &'a str,
+    pub rhost: &'a str,
+    pub tty: &'a str,
+}
+
 /// The part of a listing that a page is taken from.
 #[derive(Clone, Copy, Debug)]
 pub enum Part<'a> {
@@ -33,7 +41,7 @@ pub enum Part<'a> {
     Before(&'a str),
 }
 
-/// A command for a service. A user, remote host or terminal that is not given is empty.
+/// A command for a service.
 #[derive(Debug, Drop)]
 pub enum Task<'a> {
     /// Lists the stack.
@@ -51,16 +59,13 @@ pub enum Task<'a> {
     Access {
         table: &'a str,
         groups: Option<&'a str>,
-        user: &'a str,
-        rhost: &'a str,
-        tty: &'a str,
+        login: Login<'a>,
         arguments: Vec<Vec<u8>>,
     },
-    /// Looks up a login in a time table.
+    /// Looks up a login, without a remote host, in a time table.
     Time {
         table: &'a str,
-        user: &'a str,
-        tty: &'a str,
+        login: Login<'a>,
         moment: Moment<'a>,
     },
     /// Lists one page of the paths through the stack.
@@ -69,9 +74,7 @@ pub enum Task<'a> {
         kind: Kind,
         limit: u32,
         part: Part<'a>,
-        user: &'a str,
-        rhost: &'a str,
-        tty: &'a str,
+        login: Login<'a>,
         access: Option<&'a str>,
         time: Option<&'a str>,
         groups: Option<&'a str>,

@@ -91,25 +91,30 @@ static TIME: Command = Command {
     status: 1,
 };
 
-fn bytes(alloc: Global, text: Option<&[u8]>) -> Result<Option<Vec<u8>>, Fail> {
-    match text {
-        Some(text) => Ok(Some(text.to_vec(alloc)?)),
-        None => Ok(None),
-    }
-}
-
 fn inputs(alloc: Global, command: &Command) -> Result<Inputs, Fail> {
-    let mut inputs = Inputs {
-        files: Files::new(alloc, Form::Dir),
+    if let Some(table) = command.access {
+        let table = table.to_vec(alloc)?;
+        return Ok(Inputs::Access {
+            table,
+            groups: None,
+        });
+    }
+    if let Some(table) = command.time {
+        let table = table.to_vec(alloc)?;
+        return Ok(Inputs::Time { table });
+    }
+    let mut files = Files::new(alloc, Form::Dir);
+    put(alloc, &mut files, b"login", command.login)?;
+    if command.words[1] != "paths" {
+        return Ok(Inputs::Stack(files));
+    }
+    Ok(Inputs::Paths {
+        files,
         groups: None,
         access: None,
         time: None,
         returns: None,
-    };
-    put(alloc, &mut inputs.files, b"login", command.login)?;
-    inputs.access = bytes(alloc, command.access)?;
-    inputs.time = bytes(alloc, command.time)?;
-    Ok(inputs)
+    })
 }
 
 fn asked(alloc: Global, words: &'static [&'static str]) -> Result<Request<'static>, Fail> {

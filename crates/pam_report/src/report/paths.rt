@@ -13,7 +13,7 @@ ghost use Rattle.pam_page.specs.Page.{first_page, page_text};
 ghost use Rattle.pam_paths.specs.Known.{may_answer};
 ghost use Rattle.pam_paths.specs.Listing.{Allowance, IsListingAfter, IsListingBefore};
 ghost use Rattle.pam_paths.specs.Paths.{path_through};
-ghost use Rattle.pam_report.specs.Answer.{login_to};
+ghost use Rattle.pam_report.specs.Answer.{login_at};
 ghost use Rattle.pam_report.specs.Header.{header_text};
 ghost use Rattle.pam_report.specs.Leaves.{LeavesSome};
 ghost use Rattle.pam_report.specs.PageView.{page_view};
@@ -21,20 +21,20 @@ ghost use Rattle.pam_report.specs.Paths.{IsPage, IsPageAt, IsPageOf, IsPart, IsS
 ghost use Rattle.pam_tables.specs.Login.{login_view};
 
 use super::Status;
-use super::access::{Person, lowered};
 use super::header::put_header;
+use super::login::{login_to, lowered};
 use crate::fault::Fault;
 use crate::inputs::{Inputs, tables_given};
 use jiff::civil::DateTime;
 use pam_codes::{Device, Out};
-use pam_conf::{Kind, Stack, resolve};
+use pam_conf::{Files, Kind, Stack, resolve};
 use pam_dispatch::Program;
 use pam_known::known_answers;
 use pam_page::{LineTexts, Listing, put_page};
 use pam_paths::{Cursor, CursorError, Explorer, Known};
-use pam_tables::Login;
+use pam_tables::Login as TableLogin;
 use pam_times::MomentError;
-use pam_words::Part;
+use pam_words::{Login, Part};
 use std::alloc::Global;
 use std::io::Write;
 
@@ -158,7 +158,7 @@ fn answer_known<W: Write>(
 fn answer_at<W: Write>(
     alloc: Global,
     request: &PageRequest<'_>,
-    login: &Login<'_>,
+    login: &TableLogin<'_>,
     inputs: &Inputs,
     stack: &Stack,
     moment: Option<DateTime>,
@@ -178,7 +178,7 @@ fn answer_at<W: Write>(
 fn answer_stack<W: Write>(
     alloc: Global,
     request: &PageRequest<'_>,
-    login: &Login<'_>,
+    login: &TableLogin<'_>,
     inputs: &Inputs,
     stack: &Stack,
     moment: Option<Result<DateTime, MomentError>>,
@@ -196,35 +196,27 @@ fn answer_stack<W: Write>(
 
 pub(super) fn answer_paths<W: Write>(
     alloc: Global,
-    request: PageRequest<'_>,
-    person: Person<'_>,
+    request: &PageRequest<'_>,
+    login: Login<'_>,
     moment: Option<Result<DateTime, MomentError>>,
+    files: &Files,
     inputs: &Inputs,
     out: &mut Out<W>,
 ) -> Result<Status, Fault>
     requires { out.old.failures < 2 ^ 64 - 1 }
-    ensures { LeavesSome W.contents out.old out.new result (IsPage (page_view request.entry)
-        (login_to request.entry.service.now person.entry.user.now person.entry.tty.now person.entry.rhost.now) inputs.now moment
-        (resolved inputs.now.files request.entry.service.now request.entry.kind)) }
+    ensures { let page = page_view request.now in
+        let stack = resolved files.now page.service page.kind in
+        LeavesSome W.contents out.old out.new result (IsPage page (login_at page.service login.entry) inputs.now moment stack) }
 {
-    let stack = match resolve(
-        alloc,
-        &inputs.files,
-        request.service.as_bytes(),
-        request.kind,
-    ) {
+    let stack = match resolve(alloc, files, request.service.as_bytes(), request.kind) {
         Ok(stack) => stack,
         Err(error) => return Err(Fault::Conf(error)),
     };
-    let service = match lowered(alloc, request.service) {
-        Ok(service) => service,
-        Err(_) => return Err(Fault::Memory),
-    };
-    let login = Login {
-        user: person.user.as_bytes(),
-        service: &service,
-        tty: person.tty.as_bytes(),
-        rhost: person.rhost.as_bytes(),
-    };
-    answer_stack(alloc, &request, &login, inputs, &stack, moment, out)
+    match lowered(alloc, request.service) {
+        Ok(service) => {
+            let login = login_to(&service, login);
+            answer_stack(alloc, request, &login, inputs, &stack, moment, out)
+        }
+        Err(_) => Err(Fault::Memory),
+    }
 }

@@ -1,25 +1,26 @@
 //! The `time` command: the line of a time table that denies.
 
-ghost use Rattle.std.specs.Prelude.{◌≡◌, ◌-◌, ◌<◌, ◌^◌, Ok, Result, []};
+ghost use Rattle.std.specs.Prelude.{◌≡◌, ◌-◌, ◌<◌, ◌^◌, Ok, Result};
 ghost use Rattle.jiff.specs.Types.{DateTime as CivilTime};
 ghost use Rattle.pam_codes.specs.Out.{Writes};
 ghost use Rattle.pam_tables.specs.Login.{login_view};
-ghost use Rattle.pam_report.specs.Answer.{FindsTime, login_to, time_status, timed, with_rules};
+ghost use Rattle.pam_report.specs.Answer.{FindsTime, login_at, time_status, timed, with_rules};
 ghost use Rattle.pam_report.specs.Leaves.{Leaves};
 ghost use Rattle.pam_report.specs.Moments.{IsGivenMoment, IsMoment};
-ghost use Rattle.pam_report.specs.Inputs.{bytes_given};
+ghost use Rattle.pam_report.specs.Inputs.{time_given};
 ghost use Rattle.pam_report.specs.Tables.{time_text};
 ghost use Rattle.pam_times.specs.Reading.{rules_of};
 
 use super::Status;
-use super::access::{lowered, put_denied};
+use super::access::put_denied;
+use super::login::{login_to, lowered};
 use crate::fault::Fault;
-use crate::inputs::{Inputs, bytes_given};
+use crate::inputs::Inputs;
 use jiff::civil::DateTime;
 use pam_codes::{Device, Out};
-use pam_tables::Login;
+use pam_tables::Login as TableLogin;
 use pam_times::{MomentError, TimeAnswer, TimeTable, civil, moment};
-use pam_words::Moment;
+use pam_words::{Login, Moment};
 use std::alloc::Global;
 use std::io::Write;
 
@@ -66,7 +67,7 @@ pub(super) fn given_moment(moment: Option<Moment<'_>>) -> Option<Result<DateTime
 /// Looks up a login at a moment in the time table.
 fn look_up(
     alloc: Global,
-    login: &Login<'_>,
+    login: &TableLogin<'_>,
     moment: &DateTime,
     bytes: &[u8],
 ) -> Result<TimeAnswer, Fault>
@@ -88,7 +89,7 @@ fn write_answer<W: Write>(answer: TimeAnswer, out: &mut Out<W>) -> Result<(), De
 
 fn answer_login<W: Write>(
     alloc: Global,
-    login: &Login<'_>,
+    login: &TableLogin<'_>,
     moment: &DateTime,
     bytes: &[u8],
     out: &mut Out<W>,
@@ -109,28 +110,26 @@ fn answer_login<W: Write>(
 pub(super) fn answer_time<W: Write>(
     alloc: Global,
     service: &str,
-    user: &str,
-    tty: &str,
+    login: Login<'_>,
     moment: Result<DateTime, MomentError>,
     inputs: &Inputs,
     out: &mut Out<W>,
 ) -> Result<Status, Fault>
     requires { out.old.failures < 2 ^ 64 - 1 }
-    ensures { Leaves W.contents out.old out.new result (timed (login_to service.now user.now tty.now []) (bytes_given inputs.now.time) moment) }
+    ensures { Leaves W.contents out.old out.new result (timed (login_at service.now login.entry) (time_given inputs.now) moment) }
 {
     let moment = match moment {
         Ok(moment) => moment,
         Err(error) => return Err(Fault::Moment(error)),
     };
-    let service = match lowered(alloc, service) {
-        Ok(service) => service,
-        Err(_) => return Err(Fault::Memory),
-    };
-    let login = Login {
-        user: user.as_bytes(),
-        service: &service,
-        tty: tty.as_bytes(),
-        rhost: b"",
-    };
-    answer_login(alloc, &login, &moment, bytes_given(&inputs.time), out)
+    match lowered(alloc, service) {
+        Ok(service) => answer_login(
+            alloc,
+            &login_to(&service, login),
+            &moment,
+            inputs.time_table(),
+            out,
+        ),
+        Err(_) => Err(Fault::Memory),
+    }
 }

@@ -2,11 +2,12 @@
 
 ghost use Rattle.std.specs.Prelude.{◌≡◌, codes, option_map};
 ghost use Rattle.clap.specs.Words.{found_of, rows_of};
-ghost use Rattle.pam_words.specs.Asked.{has as has_value, lacks_user as lacks_user_in, limit_of, moment_if_needed as moment_if_needed_in, needs_moment as needs_moment_in, part_of, paths_wish};
-ghost use Rattle.pam_words.specs.Wanted.{AsksFor, Gives, shown_part, shown_when};
+ghost use Rattle.pam_words.specs.Request.{has as has_value, lacks_user as lacks_user_in, limit_of};
+ghost use Rattle.pam_words.specs.Request.{moment_if_needed as moment_if_needed_in, needs_moment as needs_moment_in, part_of, paths_task};
+ghost use Rattle.pam_words.specs.Wanted.{Gives, GivesTask, moment_view, part_view};
 
 use crate::limit::{DEFAULT_LIMIT, limit_in};
-use crate::reading::{moment, stack, text, value};
+use crate::reading::{login, moment, stack, value};
 use crate::wanted::{Moment, Part, Task, Usage};
 use clap::ArgMatches;
 
@@ -27,7 +28,7 @@ fn limit(matches: &ArgMatches<'_>) -> u32
 
 /// Returns the part of the listing, or `None` if both `--after` and `--before` are given.
 fn part<'a>(matches: &ArgMatches<'a>) -> Option<Part<'a>>
-    ensures { option_map shown_part result ≡ part_of (rows_of (found_of matches.now)) }
+    ensures { option_map part_view result ≡ part_of (rows_of (found_of matches.now)) }
 {
     match (value(matches, "after"), value(matches, "before")) {
         (None, None) => Some(Part::Whole),
@@ -53,7 +54,7 @@ fn needs_moment(matches: &ArgMatches<'_>) -> bool
 
 /// Returns the moment, if one is needed.
 fn moment_if_needed<'a>(matches: &ArgMatches<'a>) -> Result<Option<Moment<'a>>, Usage>
-    ensures { Gives (λ m. option_map shown_when m) (moment_if_needed_in (rows_of (found_of matches.now))) result }
+    ensures { Gives (λ m. option_map moment_view m) (moment_if_needed_in (rows_of (found_of matches.now))) result }
 {
     if !needs_moment(matches) {
         return Ok(None);
@@ -65,7 +66,7 @@ fn moment_if_needed<'a>(matches: &ArgMatches<'a>) -> Result<Option<Moment<'a>>, 
 }
 
 pub(crate) fn paths<'a>(matches: &ArgMatches<'a>) -> Result<Task<'a>, Usage>
-    ensures { AsksFor (paths_wish (rows_of (found_of matches.now))) result }
+    ensures { GivesTask (paths_task (rows_of (found_of matches.now))) result }
 {
     let (source, kind) = stack(matches)?;
     if lacks_user(matches) {
@@ -80,9 +81,7 @@ pub(crate) fn paths<'a>(matches: &ArgMatches<'a>) -> Result<Task<'a>, Usage>
         kind,
         limit: limit(matches),
         part,
-        user: text(matches, "user"),
-        rhost: text(matches, "rhost"),
-        tty: text(matches, "tty"),
+        login: login(matches),
         access: value(matches, "access"),
         time: value(matches, "time"),
         groups: value(matches, "group"),

@@ -1,7 +1,7 @@
 use Rattle.std.proofs.Common.{◌≡◌, subst, ap, ◌∙◌, sym, map}
 use Rattle.clap.specs.Words.{App, HasKind, app_of, is_simple, is_simple_and_free, subcommand_of, fault_of, takes}
 use Rattle.std.specs.Prelude.{MatchOption}
-use Rattle.pam_words.specs.Asked.{asked_of}
+use Rattle.pam_words.specs.Request.{request_of}
 use Rattle.pam_words.specs.Wanted.{IsRefusal, Reads}
 use Rattle.pam_words.specs.Words.{pamcheck_app}
 use Rattle.pam_words.proofs.Refusals.{answers-clean, answers-read, answers-reads, refused-by, refused-read, refused-reads}
@@ -36,7 +36,7 @@ returns-clause-reads g c =
     let o = subcommand_of pamcheck_app words in
     let name = c.in-Some.ensures.name ∙ name-is m ∙ ap name_in rows in
     let inner = c.in-Some.ensures.rows ∙ ap rows_in rows in
-    subst (λ q. MatchOption q (IsRefusal c.read.result) (λ p. Reads (asked_of p.0 p.1) c.read.result)) (sym (both-are o _ _ name inner))
+    subst (λ q. MatchOption q (IsRefusal c.read.result) (λ p. Reads (request_of p.0 p.1) c.read.result)) (sym (both-are o _ _ name inner))
     (answers-reads _ c.read.result c.read.ensures)
 
 pub returns-clause-refused : goal.returns-clause-refused

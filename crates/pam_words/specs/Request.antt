@@ -13,58 +13,58 @@ use Rattle.clap.specs.ValueTests.{accepts}
 use Rattle.clap.specs.Words.{Row, Text, all_of, first_of}
 use Rattle.pam_words.specs.Words.{limit_parser}
 
-pub data Place : Type 0 where
-  dir : Text → Place
-  conf : Text → Place
+pub data SourceText : Type 0 where
+  dir : Text → SourceText
+  conf : Text → SourceText
 
-pub data When : Type 0 where
-  civil : Text → When
-  instant : ℤ → Text → When
+pub data MomentText : Type 0 where
+  civil : Text → MomentText
+  instant : ℤ → Text → MomentText
 
 -- the part of a listing that a page is taken from
-pub data Span : Type 0 where
-  whole : Span
-  after : Text → Span
-  before : Text → Span
+pub data PartText : Type 0 where
+  whole : PartText
+  after : Text → PartText
+  before : Text → PartText
 
-pub record AccessWish : Type 0 where
+pub record LoginText : Type 0 where
+  pub user : Text
+  pub rhost : Text
+  pub tty : Text
+
+pub record AccessTask : Type 0 where
   pub table : Text
   pub groups : Option Text
-  pub user : Text
-  pub rhost : Text
-  pub tty : Text
+  pub login : LoginText
   pub arguments : List Text
 
-pub record TimeWish : Type 0 where
+pub record TimeTask : Type 0 where
   pub table : Text
-  pub user : Text
-  pub tty : Text
-  pub moment : When
+  pub login : LoginText
+  pub moment : MomentText
 
-pub record PathsWish : Type 0 where
-  pub place : Place
+pub record PathsTask : Type 0 where
+  pub source : SourceText
   pub kind : Kind
   pub limit : ℕ
-  pub part : Span
-  pub user : Text
-  pub rhost : Text
-  pub tty : Text
+  pub part : PartText
+  pub login : LoginText
   pub access : Option Text
   pub time : Option Text
   pub groups : Option Text
   pub returns : Option Text
-  pub moment : Option When
+  pub moment : Option MomentText
 
-pub data Wish : Type 0 where
-  show : Place → Kind → Wish
-  decide : Place → Kind → List ℕ → Wish
-  access : AccessWish → Wish
-  time : TimeWish → Wish
-  paths : PathsWish → Wish
+pub data TaskText : Type 0 where
+  show : SourceText → Kind → TaskText
+  decide : SourceText → Kind → List ℕ → TaskText
+  access : AccessTask → TaskText
+  time : TimeTask → TaskText
+  paths : PathsTask → TaskText
 
-pub record Asked : Type 0 where
+pub record RequestText : Type 0 where
   pub service : Text
-  pub wish : Wish
+  pub task : TaskText
 
 -- U2 to U6, and U8
 pub data Refusal : Type 0 where
@@ -90,14 +90,14 @@ abbrev pub has : Text → List Row → Bool
 has id rows = is_some (first_of id rows)
 
 -- the source: `--dir` or `--conf`, exactly one
-abbrev pub one_place : Option Text → Option Text → Option Place
-one_place (Some name) None = Some (dir name)
-one_place None (Some name) = Some (conf name)
-one_place (Some name) (Some other) = None
-one_place None None = None
+abbrev pub one_source : Option Text → Option Text → Option SourceText
+one_source (Some name) None = Some (dir name)
+one_source None (Some name) = Some (conf name)
+one_source (Some name) (Some other) = None
+one_source None None = None
 
-abbrev pub place_of : List Row → Option Place
-place_of rows = one_place (first_of (codes "dir") rows) (first_of (codes "conf") rows)
+abbrev pub source_of : List Row → Option SourceText
+source_of rows = one_source (first_of (codes "dir") rows) (first_of (codes "conf") rows)
 
 abbrev pub kind_of_rows : List Row → Option Kind
 kind_of_rows rows = kind_named (text_of (codes "kind") rows)
@@ -124,20 +124,27 @@ seconds_of text =
     if nat_lt 0 (length text) && nat_le (length text) 12 && list_all is_ascii_digit text
     then Some (pos (digits_value 10 text)) else None
 
-abbrev pub instant_of : Text → Option Text → Option When
+abbrev pub instant_of : Text → Option Text → Option MomentText
 instant_of digits zone = option_map (λ seconds. instant seconds (unwrap_or zone (codes "UTC0"))) (seconds_of digits)
 
 -- `--at` alone, or `--at-unix` with or without `--zone`
-abbrev pub one_when : Option Text → Option Text → Option Text → Option When
-one_when (Some text) None None = Some (civil text)
-one_when (Some text) None (Some rule) = None
-one_when None (Some digits) rule = instant_of digits rule
-one_when (Some text) (Some digits) rule = None
-one_when None None rule = None
+abbrev pub one_moment : Option Text → Option Text → Option Text → Option MomentText
+one_moment (Some text) None None = Some (civil text)
+one_moment (Some text) None (Some rule) = None
+one_moment None (Some digits) rule = instant_of digits rule
+one_moment (Some text) (Some digits) rule = None
+one_moment None None rule = None
 
-abbrev pub when_of : List Row → Option When
-when_of rows =
-    one_when (first_of (codes "at") rows) (first_of (codes "at-unix") rows) (first_of (codes "zone") rows)
+abbrev pub moment_of : List Row → Option MomentText
+moment_of rows =
+    one_moment (first_of (codes "at") rows) (first_of (codes "at-unix") rows) (first_of (codes "zone") rows)
+
+abbrev pub login_of : List Row → LoginText
+login_of rows = record {
+  user = text_of (codes "user") rows;
+  rhost = text_of (codes "rhost") rows;
+  tty = text_of (codes "tty") rows;
+}
 
 -- the limit if `--limit` is not given
 abbrev pub default_limit : ℕ
@@ -152,13 +159,13 @@ abbrev pub limit_of : List Row → ℕ
 limit_of rows = unwrap_or (option_and_then limit_in (first_of (codes "limit") rows)) default_limit
 
 -- at most one of `--after` and `--before`
-abbrev pub one_part : Option Text → Option Text → Option Span
+abbrev pub one_part : Option Text → Option Text → Option PartText
 one_part None None = Some whole
 one_part (Some cursor) None = Some (after cursor)
 one_part None (Some cursor) = Some (before cursor)
 one_part (Some cursor) (Some other) = None
 
-abbrev pub part_of : List Row → Option Span
+abbrev pub part_of : List Row → Option PartText
 part_of rows = one_part (first_of (codes "after") rows) (first_of (codes "before") rows)
 
 -- an access or time table is given, and no user
@@ -182,81 +189,76 @@ abbrev pub ◌>>=◌ : {A B : Type 0} → Result A Refusal → (A → Result B R
 (Err refusal) >>= next = Err refusal
 
 -- the source, then KIND
-abbrev pub stack_of : List Row → Result (Place × Kind) Refusal
+abbrev pub stack_of : List Row → Result (SourceText × Kind) Refusal
 stack_of rows =
-    or_refuse (place_of rows) source (λ place.
+    or_refuse (source_of rows) source (λ from.
     or_refuse (kind_of_rows rows) kind_name (λ kind.
-    Ok (place, kind)))
+    Ok (from, kind)))
 
 -- `show SERVICE KIND`
-abbrev pub show_wish : List Row → Result Wish Refusal
-show_wish rows = stack_of rows >>= λ stack. Ok (show stack.0 stack.1)
+abbrev pub show_task : List Row → Result TaskText Refusal
+show_task rows = stack_of rows >>= λ stack. Ok (show stack.0 stack.1)
 
 -- `decide SERVICE KIND [CODE]...`
-abbrev pub decide_wish : List Row → Result Wish Refusal
-decide_wish rows =
+abbrev pub decide_task : List Row → Result TaskText Refusal
+decide_task rows =
     stack_of rows >>= λ stack.
     or_refuse (codes_of_rows rows) code_name (λ codes.
     Ok (decide stack.0 stack.1 codes))
 
 -- the moment, if one is needed
-abbrev pub moment_if_needed : List Row → Result (Option When) Refusal
+abbrev pub moment_if_needed : List Row → Result (Option MomentText) Refusal
 moment_if_needed rows =
-    if needs_moment rows then or_refuse (when_of rows) moment (λ when. Ok (Some when)) else Ok None
+    if needs_moment rows then or_refuse (moment_of rows) moment (λ at. Ok (Some at)) else Ok None
 
 -- `paths SERVICE KIND`
-abbrev pub paths_wish : List Row → Result Wish Refusal
-paths_wish rows =
+abbrev pub paths_task : List Row → Result TaskText Refusal
+paths_task rows =
     stack_of rows >>= λ stack.
     if lacks_user rows then Err login else
-    moment_if_needed rows >>= λ when.
+    moment_if_needed rows >>= λ at.
     or_refuse (part_of rows) both_ends (λ part.
     Ok (paths (record {
-      place = stack.0;
+      source = stack.0;
       kind = stack.1;
       limit = limit_of rows;
       part = part;
-      user = text_of (codes "user") rows;
-      rhost = text_of (codes "rhost") rows;
-      tty = text_of (codes "tty") rows;
+      login = login_of rows;
       access = first_of (codes "access") rows;
       time = first_of (codes "time") rows;
       groups = first_of (codes "group") rows;
       returns = first_of (codes "returns") rows;
-      moment = when;
+      moment = at;
     })))
 
 -- `access SERVICE [ARGUMENT]...`
-abbrev pub access_wish : List Row → Result Wish Refusal
-access_wish rows = Ok (access (record {
+abbrev pub access_task : List Row → Result TaskText Refusal
+access_task rows = Ok (access (record {
   table = text_of (codes "access") rows;
   groups = first_of (codes "group") rows;
-  user = text_of (codes "user") rows;
-  rhost = text_of (codes "rhost") rows;
-  tty = text_of (codes "tty") rows;
+  login = login_of rows;
   arguments = texts_of (codes "argument") rows;
 }))
 
 -- `time SERVICE`
-abbrev pub time_wish : List Row → Result Wish Refusal
-time_wish rows =
-    or_refuse (when_of rows) moment (λ when.
+abbrev pub time_task : List Row → Result TaskText Refusal
+time_task rows =
+    or_refuse (moment_of rows) moment (λ at.
     Ok (time (record {
       table = text_of (codes "time") rows;
-      user = text_of (codes "user") rows;
-      tty = text_of (codes "tty") rows;
-      moment = when;
+      login = record (login_of rows) { rhost = [] };
+      moment = at;
     })))
 
-abbrev pub wish_of : Text → List Row → Result Wish Refusal
-wish_of command rows =
-    if bytes_eq command (codes "show") then show_wish rows
-    else if bytes_eq command (codes "decide") then decide_wish rows
-    else if bytes_eq command (codes "paths") then paths_wish rows
-    else if bytes_eq command (codes "access") then access_wish rows
-    else time_wish rows
+abbrev pub task_of : Text → List Row → Result TaskText Refusal
+task_of command rows =
+    if bytes_eq command (codes "show") then show_task rows
+    else if bytes_eq command (codes "decide") then decide_task rows
+    else if bytes_eq command (codes "paths") then paths_task rows
+    else if bytes_eq command (codes "access") then access_task rows
+    else time_task rows
 
 -- THE REQUEST of a command, or its first refusal
-abbrev pub asked_of : Text → List Row → Result Asked Refusal
-asked_of command rows =
-    wish_of command rows >>= λ wish. Ok (record { service = text_of (codes "service") rows; wish = wish })
+abbrev pub request_of : Text → List Row → Result RequestText Refusal
+request_of command rows =
+    task_of command rows >>= λ task. Ok (record { service = text_of (codes "service") rows; task = task })
