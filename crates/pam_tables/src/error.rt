@@ -10,7 +10,6 @@ use thiserror::Error;
 #[derive(Clone, Copy, Debug, PartialEq, Eq)]
 pub enum Table {
     Access,
-    Time,
     Group,
     Returns,
 }
@@ -28,12 +27,6 @@ pub enum TableFault {
     UserAtHost,
     #[error("the mask of a network is neither a number of bits nor an address of its family")]
     BadMask,
-    #[error("no days and range of times")]
-    BadTimes,
-    #[error("more than one * in a token")]
-    TwoWildcards,
-    #[error("no list of tokens with &, | and !")]
-    BadLogic,
     #[error("no name, password, number and members of a group")]
     BadGroup,
     #[error("a NUL byte")]

@@ -15,7 +15,6 @@ mod options;
 mod origins;
 mod pieces;
 mod returns;
-mod shared;
 mod tokens;
 mod users;
 
@@ -26,4 +25,3 @@ pub use lines::MAX_TABLE_BYTES;
 pub use options::AccessOptions;
 pub use pam_times::{Login, MomentError, TimeAnswer, TimeError, TimeFault, TimeTable, civil, moment};
 pub use returns::ReturnTable;
-pub use shared::{check_bytes, cut};
