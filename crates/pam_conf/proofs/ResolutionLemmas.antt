@@ -121,11 +121,13 @@ any-more service rules k r within is =
     let next : drop k rules ≡ r ∷ drop (k + 1) rules = rw add-one (drop-cons rules k r within ∙ ap (λ (x : KeptRule). x ∷ drop (suc k) rules) (sym is)) in
     ap (λ (rs : List KeptRule). list_any (carries service) (map kept_view rs)) next
 
-pub any-skip : (service : List ℕ) (rules : List KeptRule) (k : ℕ) (r : KeptRule) → k < length rules → r ≡ get_or rules k r → carries service (kept_view r) ≡ false →
+pub any-skip : (service : List ℕ) (rules : List KeptRule) (k : ℕ) (r : KeptRule) → k < length rules → r ≡ get_or rules k r →
+    carries service (kept_view r) ≡ false →
     list_any (carries service) (map kept_view (drop k rules)) ≡ list_any (carries service) (map kept_view (drop (k + 1) rules))
 any-skip service rules k r within is h = any-more service rules k r within is ∙ ap (λ b. b || list_any (carries service) (map kept_view (drop (k + 1) rules))) h
 
-pub any-here : (service : List ℕ) (rules : List KeptRule) (k : ℕ) (r : KeptRule) → k < length rules → r ≡ get_or rules k r → carries service (kept_view r) ≡ true →
+pub any-here : (service : List ℕ) (rules : List KeptRule) (k : ℕ) (r : KeptRule) → k < length rules → r ≡ get_or rules k r →
+    carries service (kept_view r) ≡ true →
     list_any (carries service) (map kept_view (drop k rules)) ≡ true
 any-here service rules k r within is h = any-more service rules k r within is ∙ ap (λ b. b || list_any (carries service) (map kept_view (drop (k + 1) rules))) h
 

@@ -1,3 +1,4 @@
+pub mod Calls
 pub mod Files
 pub mod FirstWord
 pub mod ItemsOf

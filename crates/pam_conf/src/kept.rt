@@ -1,20 +1,17 @@
-//! Rules as a walk keeps them: a module's words are copied in one piece, and cut when it is met.
+//! Rules as a walk keeps them: small, with the words of a call in one piece, which is cut when the module is met.
 ghost use Rattle.std.specs.Prelude.{◌≡◌, IfOk, map};
-ghost use Rattle.pam_conf.specs.Kept.{arguments_of, kept_body, kept_view, path_of};
-ghost use Rattle.pam_conf.specs.Remaining.{texts, words_to_come};
+ghost use Rattle.pam_conf.specs.Kept.{kept_body, kept_view};
 ghost use Rattle.pam_conf.specs.Rule.{body_view, rule_view};
 ghost use Rattle.pam_conf.specs.Walk.{carries, is_of_kind};
 
+use crate::call::Call;
 use crate::rule::{Body, Kind, Rule, is_same};
-use crate::words::{OwnedWords, Words, word_text};
-use pam_codes::Control;
 use std::alloc::{AllocError, Global};
 
 /// What a rule does: like `Body`.
 #[derive(Drop)]
 pub(crate) enum KeptBody {
-    /// Calls a module: the control, and the words of its path and arguments.
-    Module(Control, OwnedWords),
+    Module(Call),
     Include(Vec<u8>),
     Sub(Vec<u8>),
 }
@@ -49,26 +46,12 @@ pub(crate) fn has_service(rule: &KeptRule, service: &[u8]) -> bool
     }
 }
 
-/// The path and arguments that words spell.
-pub(crate) fn path_and_arguments(
-    alloc: Global,
-    words: Words<'_>,
-) -> Result<(Vec<u8>, Vec<Vec<u8>>), AllocError>
-    ensures path { IfOk result (λ p. p.0.items ≡ path_of (words_to_come words.entry)) }
-    ensures arguments { IfOk result (λ p. texts p.1 ≡ arguments_of (words_to_come words.entry)) }
-{
-    match words.split_first() {
-        Some((path, arguments)) => Ok((word_text(alloc, path)?, arguments.texts(alloc)?)),
-        None => Ok((Vec::new(alloc), Vec::new(alloc))),
-    }
-}
-
 fn whole_body(alloc: Global, body: KeptBody) -> Result<Body, AllocError>
     ensures { IfOk result (λ b. body_view b ≡ kept_body body) }
 {
     match body {
-        KeptBody::Module(control, words) => {
-            let (path, arguments) = path_and_arguments(alloc, words.words())?;
+        KeptBody::Module(call) => {
+            let (control, path, arguments) = call.parts(alloc)?;
             Ok(Body::Module(control, path, arguments))
         }
         KeptBody::Include(target) => Ok(Body::Include(target)),

@@ -2,6 +2,7 @@
 //! and substacks of its rules.
 #![tactic(auto)]
 
+mod call;
 mod conf_error;
 mod error;
 mod files;

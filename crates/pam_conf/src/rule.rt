@@ -1,20 +1,21 @@
 //! The rule of a line: pam.conf(5), "service type control module-path module-arguments".
-ghost use Rattle.std.specs.Prelude.{◌≡◌, IfOk, map};
+ghost use Rattle.std.specs.Prelude.{◌≡◌, ◌∷◌, IfOk, map};
 ghost use Rattle.std.specs.Char.{to_ascii_lowercase};
 ghost use Rattle.std.specs.Option.{option_map};
 ghost use Rattle.pam_text.specs.Gives.{Gives};
 ghost use Rattle.pam_conf.specs.Tells.{KindTells};
 ghost use Rattle.pam_conf.specs.Rule.{kind_named, kind_or_fault_of, dashed_kind_of};
 ghost use Rattle.pam_conf.specs.Rule.{file_name_of, without_folder_of, target_of};
-ghost use Rattle.pam_conf.specs.Rule.{module_of, control_body_of, body_of};
+ghost use Rattle.pam_conf.specs.Rule.{control_body_of, body_of};
 ghost use Rattle.pam_conf.specs.Rule.{kind_rule_of, include_rule_of, plain_rule_of, first_rule_of, rule_of};
 ghost use Rattle.pam_conf.specs.Kept.{kept_body, kept_view};
 ghost use Rattle.pam_conf.specs.Remaining.{words_to_come};
 ghost use Rattle.pam_conf.specs.Walk.{same_kind};
 
+use crate::call::Call;
 use crate::error::FaultKind;
 use crate::kept::{KeptBody, KeptRule};
-use crate::words::{OwnedWords, Words, word_text};
+use crate::words::{Words, word_text};
 use pam_codes::{Control, is_name};
 use std::alloc::{AllocError, Global};
 
@@ -152,24 +153,23 @@ fn target(alloc: Global, form: Form, words: Words<'_>) -> Result<Vec<u8>, FaultK
     }
 }
 
-/// The body of a rule that calls a module; `words` begin with its path.
-fn module_body(alloc: Global, control: Control, words: Words<'_>) -> Result<KeptBody, FaultKind>
-    ensures { Gives KindTells kept_body result (module_of control (words_to_come words.entry)) }
+/// The body of a rule whose control is neither `include` nor `substack`; `words` are `control` and `rest`.
+fn control_body(
+    alloc: Global,
+    words: Words<'_>,
+    control: &[u8],
+    rest: Words<'_>,
+) -> Result<KeptBody, FaultKind>
+    requires { words_to_come words ≡ control.now ∷ words_to_come rest }
+    ensures { Gives KindTells kept_body result (control_body_of control.now (words_to_come rest.entry)) }
 {
-    if words.split_first().is_none() {
+    if let Err(error) = Control::read(control) {
+        return Err(FaultKind::Control(error));
+    }
+    if rest.split_first().is_none() {
         return Err(FaultKind::MissingField);
     }
-    Ok(KeptBody::Module(control, OwnedWords::of(alloc, words)?))
-}
-
-/// The body of a rule whose control is neither `include` nor `substack`.
-fn control_body(alloc: Global, control: &[u8], words: Words<'_>) -> Result<KeptBody, FaultKind>
-    ensures { Gives KindTells kept_body result (control_body_of control.now (words_to_come words.entry)) }
-{
-    match Control::read(control) {
-        Ok(control) => module_body(alloc, control, words),
-        Err(error) => Err(FaultKind::Control(error)),
-    }
+    Ok(KeptBody::Module(Call::of(alloc, words)?))
 }
 
 /// The body of a rule: the words after the kind.
@@ -177,18 +177,18 @@ fn control_body(alloc: Global, control: &[u8], words: Words<'_>) -> Result<KeptB
 fn rule_body(alloc: Global, form: Form, words: Words<'_>) -> Result<KeptBody, FaultKind>
     ensures { Gives KindTells kept_body result (body_of form (words_to_come words.entry)) }
 {
-    let Some((control, words)) = words.split_first() else {
+    let Some((control, rest)) = words.split_first() else {
         return Err(FaultKind::MissingField);
     };
     if is_name(b"include", control) {
-        let name = target(alloc, form, words)?;
+        let name = target(alloc, form, rest)?;
         return Ok(KeptBody::Include(name));
     }
     if is_name(b"substack", control) {
-        let name = target(alloc, form, words)?;
+        let name = target(alloc, form, rest)?;
         return Ok(KeptBody::Sub(name));
     }
-    control_body(alloc, control, words)
+    control_body(alloc, words, control, rest)
 }
 
 /// The rule of a line, from its kind on.

@@ -4,8 +4,8 @@ ghost use Rattle.std.specs.Option.{option_map};
 ghost use Rattle.pam_conf.specs.Files.{position_of};
 ghost use Rattle.pam_conf.specs.ItemsOf.{items_of, module_text};
 ghost use Rattle.pam_conf.specs.Progress.{IsRead, IsTable, Passes, Refuses, in_file, of_kind};
-ghost use Rattle.pam_conf.specs.Kept.{arguments_of, kept_view, path_of};
-ghost use Rattle.pam_conf.specs.Remaining.{owned_words};
+ghost use Rattle.pam_conf.specs.Calls.{arguments_in, control_in, path_in};
+ghost use Rattle.pam_conf.specs.Kept.{call_words, kept_view};
 ghost use Rattle.pam_conf.specs.Tells.{ErrorTells, UnlessMemory};
 ghost use Rattle.pam_text.specs.Gives.{Gives};
 ghost use Rattle.pam_conf.specs.Walk.{counts, deeper, fault_at, followed, include_walk, rule_walk, rules_at, rules_walk, target_walk, walk};
@@ -14,17 +14,16 @@ ghost use Rattle.pam_conf.specs.declared.stack.TheConstants.{MAX_MODULES};
 ghost use Rattle.pam_conf.specs.declared.trail.TheConstants.{MAX_OPEN_FILES};
 ghost use Rattle.pam_conf.specs.declared.walk.TheConstants.{MAX_FOLLOWS};
 
+use crate::call::Call;
 use crate::conf_error::ConfError;
 use crate::error::{FaultKind, RuleFault};
 use crate::files::Files;
-use crate::kept::{KeptBody, KeptRule, has_service, is_of, path_and_arguments};
+use crate::kept::{KeptBody, KeptRule, has_service, is_of};
 use crate::lines::wanted_rules;
 use crate::rule::Kind;
 use crate::stack::{Item, MAX_MODULES, Module, Sub};
 use crate::trail::Trail;
 use crate::wanted::Wanted;
-use crate::words::OwnedWords;
-use pam_codes::Control;
 use std::alloc::{AllocError, Global};
 
 /// The maximum number of includes and substacks that a walk follows; one more is `TooManyFollowed`.
@@ -104,25 +103,24 @@ fn module_of(
     number: usize,
     file: usize,
     rule: &KeptRule,
-    control: &Control,
-    words: &OwnedWords,
+    call: &Call,
 ) -> Result<Module, AllocError>
-    ensures { let spelled = owned_words words.now in
+    ensures { let words = call_words call.now in
         IfOk result (λ m. module_text m ≡ record {
           number = number;
           dashed = rule.now.dashed;
-          control = control.now;
-          path = path_of spelled;
-          arguments = arguments_of spelled;
+          control = control_in words;
+          path = path_in words;
+          arguments = arguments_in words;
           file = file;
           line = rule.now.line;
         }) }
 {
-    let (path, arguments) = path_and_arguments(alloc, words.words())?;
+    let (control, path, arguments) = call.parts(alloc)?;
     Ok(Module {
         number,
         dashed: rule.dashed,
-        control: *control,
+        control,
         path,
         arguments,
         file,
@@ -271,12 +269,12 @@ impl Walker<'_> {
         }
         let line = rule.line;
         match &rule.body {
-            KeptBody::Module(control, words) => {
+            KeptBody::Module(call) => {
                 if progress.modules == MAX_MODULES {
                     return Err(fault(file, line, FaultKind::TooManyModules));
                 }
                 let number = progress.modules + 1;
-                let module = module_of(self.alloc, number, file, rule, control, words)?;
+                let module = module_of(self.alloc, number, file, rule, call)?;
                 items.push(Item::Module(module))?;
                 progress.modules = number;
                 Ok(())

@@ -139,7 +139,7 @@ pub walk_rule-returns-in_ok-push-in-Module-clause-walked : goal.walk_rule-return
 walk_rule-returns-in_ok-push-in-Module-clause-walked t c =
     lemmas.rule-module c.args.self.now.files.now c.args.self.now.kind (service_of c.args.self.now.service) _ c.args.trail.now c.args.file
     (kept_view c.args.rule.now) (sym c.counts.ensures ∙ c.if-not-counts.false) c.args.progress.now.modules c.args.progress.now.follows
-    (items_of c.args.items.now.items) (items_of c.push.new.self.items) c.in-Module.control _ _ (ap kept_body c.in-Module.is) c.if-progress-eq-MAX_MODULES.false
+    (items_of c.args.items.now.items) (items_of c.push.new.self.items) _ _ _ (ap kept_body c.in-Module.is) c.if-progress-eq-MAX_MODULES.false
     (ap items_of c.in_ok-push-in-Module.ensures.items ∙ items_of-push_module c.args.items.now.items _
     ∙ ap (λ (m : ModuleText). joined (items_of c.args.items.now.items) (ThenModule m End))
     c.in_ok-module-in-Module.ensures)
