@@ -186,22 +186,10 @@ abbrev pub value_from : (List ℕ → Bool) → Bool → Option Items → Option
 value_from f value None = None
 value_from f value (Some items) = Some (folded_items f value items)
 
-differ_false : (b : Bool) → differ false b ≡ b
-differ_false true = refl
-differ_false false = refl
-
-differ_true : (b : Bool) → differ true b ≡ not b
-differ_true true = refl
-differ_true false = refl
-
-module _ (f : List ℕ → Bool) (value : Bool) (joint : Joint) (t : List ℕ) where
-  plain : (o : Option Items) → value_from f value (onto_items joint false t o) ≡ value_from f (join joint value (f t)) o
-  plain None = refl
-  plain (Some items) = ap (λ (b : Bool). Some (folded_items f (join joint value b) items)) (differ_false (f t))
-
-  inverted : (o : Option Items) → value_from f value (onto_items joint true t o) ≡ value_from f (join joint value (not (f t))) o
-  inverted None = refl
-  inverted (Some items) = ap (λ (b : Bool). Some (folded_items f (join joint value b) items)) (differ_true (f t))
+one_item : (f : List ℕ → Bool) (value is_inverted : Bool) (joint : Joint) (t : List ℕ) (o : Option Items) →
+    value_from f value (onto_items joint is_inverted t o) ≡ value_from f (join joint value (differ is_inverted (f t))) o
+one_item f value is_inverted joint t None = refl
+one_item f value is_inverted joint t (Some items) = refl
 
 module _ (f : List ℕ → Bool) (value : Bool) (next : Place) (rest : List SignText) where
   pub value_step : (place : Place) (sign : SignText) → place_after place sign ≡ Some next →
@@ -216,12 +204,12 @@ module _ (f : List ℕ → Bool) (value : Bool) (next : Place) (rest : List Sign
   value_step (places.Item joint) (Join other) h = absurd (cc)
   value_step (places.Item joint) (Token t) h =
       let same : places.Joint ≡ next = cc in
-      plain f value joint t _ ∙ ap (λ (p : Place). value_from f (join joint value (f t)) (items_from p rest)) same
+      one_item f value false joint t _ ∙ ap (λ (p : Place). value_from f (join joint value (differ false (f t))) (items_from p rest)) same
   value_step (places.Token joint) Not h = absurd (cc)
   value_step (places.Token joint) (Join other) h = absurd (cc)
   value_step (places.Token joint) (Token t) h =
       let same : places.Joint ≡ next = cc in
-      inverted f value joint t _ ∙ ap (λ (p : Place). value_from f (join joint value (not (f t))) (items_from p rest)) same
+      one_item f value true joint t _ ∙ ap (λ (p : Place). value_from f (join joint value (differ true (f t))) (items_from p rest)) same
 
 none_some : (b : Bool) → ◌≡◌ {A = Option Bool} None (Some b) → ⊥
 none_some b h = absurd (cc)

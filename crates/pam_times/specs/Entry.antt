@@ -31,16 +31,16 @@ covers r day = nat_le r.first day && nat_le day r.last
 -- the names of days, in either case
 unfoldable pub named_days : List ℕ → Option DayRun
 named_days name =
-    if same_name name (codes "al") then Some (run 0 6)
-    else if same_name name (codes "wk") then Some (run 0 4)
-    else if same_name name (codes "wd") then Some (run 5 6)
-    else if same_name name (codes "mo") then Some (run 0 0)
+    if same_name name (codes "mo") then Some (run 0 0)
     else if same_name name (codes "tu") then Some (run 1 1)
     else if same_name name (codes "we") then Some (run 2 2)
     else if same_name name (codes "th") then Some (run 3 3)
     else if same_name name (codes "fr") then Some (run 4 4)
     else if same_name name (codes "sa") then Some (run 5 5)
     else if same_name name (codes "su") then Some (run 6 6)
+    else if same_name name (codes "wk") then Some (run 0 4)
+    else if same_name name (codes "wd") then Some (run 5 6)
+    else if same_name name (codes "al") then Some (run 0 6)
     else None
 
 abbrev pub onto : {A : Type 0} → Option A → Option (List A) → Option (List A)

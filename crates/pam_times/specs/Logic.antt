@@ -120,6 +120,6 @@ place_after _ _ = None
 
 -- the value up to a sign at a place, from the value before it
 abbrev pub value_after : (List ℕ → Bool) → Bool → Place → SignText → Bool
-value_after f value (places.Item joint) (Token t) = join joint value (f t)
-value_after f value (places.Token joint) (Token t) = join joint value (not (f t))
+value_after f value (places.Item joint) (Token t) = join joint value (differ false (f t))
+value_after f value (places.Token joint) (Token t) = join joint value (differ true (f t))
 value_after f value _ _ = value

@@ -33,13 +33,7 @@ impl DayRun {
 fn named_days(name: &[u8]) -> Option<DayRun>
     ensures { result ≡ named_days name.now }
 {
-    if is_name(name, b"al") {
-        Some(DayRun::new(0, 6))
-    } else if is_name(name, b"wk") {
-        Some(DayRun::new(0, 4))
-    } else if is_name(name, b"wd") {
-        Some(DayRun::new(5, 6))
-    } else if is_name(name, b"mo") {
+    if is_name(name, b"mo") {
         Some(DayRun::new(0, 0))
     } else if is_name(name, b"tu") {
         Some(DayRun::new(1, 1))
@@ -53,6 +47,12 @@ fn named_days(name: &[u8]) -> Option<DayRun>
         Some(DayRun::new(5, 5))
     } else if is_name(name, b"su") {
         Some(DayRun::new(6, 6))
+    } else if is_name(name, b"wk") {
+        Some(DayRun::new(0, 4))
+    } else if is_name(name, b"wd") {
+        Some(DayRun::new(5, 6))
+    } else if is_name(name, b"al") {
+        Some(DayRun::new(0, 6))
     } else {
         None
     }

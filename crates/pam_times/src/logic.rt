@@ -4,6 +4,7 @@ ghost use Rattle.std.specs.Prelude.{◌≡◌, ◌∷◌, ◌≤◌, [], length,
 ghost use Rattle.std.specs.Iterator.{YieldsFirstBy, item_count};
 ghost use Rattle.std.specs.List.{prefix_len};
 ghost use Rattle.pam_codes.specs.Tokens.{is_blank};
+ghost use Rattle.pam_times.specs.Entry.{differ};
 ghost use Rattle.pam_times.specs.Fact.{meets};
 ghost use Rattle.pam_times.specs.Logic.{join, list_value, is_token_byte, signs_of, sign_view, place_after, value_after, items_of};
 
@@ -20,14 +21,15 @@ pub(crate) enum Joint {
 }
 
 impl Joint {
-    /// Returns the value of a list up to an item, given its value before the item and the value of the item.
-    fn join(self, before: bool, value: bool) -> bool
-        ensures { result ≡ join self before value }
+    /// Returns the value of a list up to an item, given its value before the item. The item is evaluated only if it
+    /// can change that value.
+    fn join(self, before: bool, is_inverted: bool, token: &[u8], fact: &Fact<'_>) -> bool
+        ensures { result ≡ join self before (differ is_inverted (meets fact.now token.now)) }
     {
         match self {
-            Joint::And => before && value,
-            Joint::First => before || value,
-            Joint::Or => before || value,
+            Joint::And => before && is_inverted != fact.meets(token),
+            Joint::First => before || is_inverted != fact.meets(token),
+            Joint::Or => before || is_inverted != fact.meets(token),
         }
     }
 }
@@ -150,8 +152,8 @@ fn value_after(value: bool, place: Place, sign: Sign<'_>, fact: &Fact<'_>) -> bo
 {
     match sign {
         Sign::Token(token) => match place {
-            Place::Item(joint) => joint.join(value, fact.meets(token)),
-            Place::Token(joint) => joint.join(value, !fact.meets(token)),
+            Place::Item(joint) => joint.join(value, false, token, fact),
+            Place::Token(joint) => joint.join(value, true, token, fact),
             Place::Joint => value,
         },
         Sign::Not => value,
