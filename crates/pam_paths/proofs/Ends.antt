@@ -1,12 +1,17 @@
 -- How a cursor is accepted or refused, and the paths after and before it.
-use Rattle.std.proofs.Common.{◌≡◌, ◌≢◌, ℕ, ◌<◌, List, All, sym, ◌∙◌, subst, Option, Some, None}
-use Rattle.std.specs.Prelude.{IfSome}
+use Rattle.std.proofs.Common.{◌≡◌, ◌≢◌, ℕ, ◌<◌, ◌≤◌, List, All, sym, ◌∙◌, subst, Option, Some, None, Result, Ok, Err}
+use Rattle.std.specs.Prelude.{IfSome, MatchResult, OnOk}
+use Rattle.pam_conf.specs.declared.stack.TheConstants.{MAX_MODULES}
+use Rattle.pam_dispatch.specs.Flat.{modules_of}
+use Rattle.pam_dispatch.specs.declared.entry.Entry.{Entry}
 use Rattle.pam_dispatch.specs.Runs.{AsksRise, Runs}
 use Rattle.pam_paths.specs.declared.cursor.CursorError.{CursorError}
+use Rattle.pam_paths.specs.declared.direction.Direction.{Direction}
 use Rattle.pam_paths.specs.declared.direction.Direction.TheVariants.{Forward, Backward}
-use Rattle.pam_paths.specs.Cursor.{IsRefusal, Standing, HasStanding, accepted, standing_told}
+use Rattle.pam_paths.specs.declared.frames.Frame.{Frame}
+use Rattle.pam_paths.specs.Cursor.{IsAccepted, IsRefusal, Standing, HasStanding, accepted, standing_told}
 use Rattle.pam_paths.specs.Computed.{listing}
-use Rattle.pam_paths.specs.Frames.{part}
+use Rattle.pam_paths.specs.Frames.{AreFrames, IsExploring, part}
 use Rattle.pam_paths.specs.Listing.{Allowance, IsLawful, IsListingAfter, IsListingBefore}
 use Rattle.pam_paths.specs.Paths.{PathValue, path_of}
 use Rattle.pam_paths.specs.Retrace.{standing_of}
@@ -57,3 +62,31 @@ module _ (n : ℕ) (runs : Runs) (codes k : List ℕ) (same : codes ≡ k) (rise
 
     pub before_at : paths ≡ part Backward allows runs codes → IsListingBefore allows n (path_of runs) k paths
     before_at e = subst (λ (x : List ℕ). IsListingBefore allows n (path_of runs) x paths) same (listing_before allows n runs codes paths rise lawful is e)
+
+-- THE SAME, OF A CALL THAT MAY REFUSE THE CURSOR
+
+pub exploring_on : (r : Result (Unit {0}) CursorError) (allows : Allowance) (program : List Entry) (frames : List Frame) → modules_of program ≤ MAX_MODULES
+    → OnOk r (AreFrames allows program 0 frames) → OnOk r (IsExploring allows program None frames)
+exploring_on (Ok x) allows program frames few valid = record { few = few; valid = valid; start = tt }
+exploring_on (Err e) allows program frames few valid = tt
+
+module _ (n : ℕ) (runs : Runs) (codes k : List ℕ) (same : codes ≡ k) (rise : AsksRise 0 n runs) where
+  abbrev Stands : Result (Unit {0}) CursorError → Type 0
+  Stands r = MatchResult r (λ _. standing_of runs codes ≡ accepted) (λ e. standing_told e ≡ Some (standing_of runs codes))
+
+  pub standing_on : (r : Result (Unit {0}) CursorError) → All (λ code. code < 31) codes → Stands r
+      → MatchResult r (λ _. IsAccepted n (path_of runs) k) (IsRefusal n (path_of runs) k)
+  standing_on (Ok x) ok h = accepted_at n runs codes k same rise ok h
+  standing_on (Err e) ok h = refused_at n runs codes k same rise e ok h
+
+  module _ (allows : Allowance) (paths : Direction → List PathValue) (lawful : IsLawful allows n) where
+    abbrev Lists : Result (Unit {0}) CursorError → Type 0
+    Lists r = OnOk r ((direction : Direction) → paths direction ≡ part direction allows runs codes)
+
+    pub after_on : (r : Result (Unit {0}) CursorError) → Stands r → Lists r → OnOk r (IsListingAfter allows n (path_of runs) k (paths Forward))
+    after_on (Ok x) h lists = after_at n runs codes k same rise allows (paths Forward) lawful h (lists Forward)
+    after_on (Err e) h lists = tt
+
+    pub before_on : (r : Result (Unit {0}) CursorError) → Stands r → Lists r → OnOk r (IsListingBefore allows n (path_of runs) k (paths Backward))
+    before_on (Ok x) h lists = before_at n runs codes k same rise allows (paths Backward) lawful h (lists Backward)
+    before_on (Err e) h lists = tt

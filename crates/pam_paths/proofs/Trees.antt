@@ -1,5 +1,6 @@
 -- From the open run of a stack to its tree.
-use Rattle.std.proofs.Common.{◌≡◌, ℕ, List, ◌∷◌, ◌++◌, map, sym, ◌∙◌, ap}
+use Rattle.std.proofs.Common.{◌≡◌, ℕ, List, ◌∷◌, ◌++◌, map, sym, ◌∙◌, ap, Result, Ok, Err}
+use Rattle.std.specs.Prelude.{MatchResult}
 use Rattle.pam_conf.specs.Stack.{Items}
 use Rattle.pam_dispatch.specs.Decision.{decision_of}
 use Rattle.pam_dispatch.specs.Runs.{Ask, Assignment, Runs, final_state}
@@ -63,7 +64,7 @@ module _ (n : ℕ) (runs : Runs) (items : Items) (is : runs ≡ runs_of_stack it
   steps-tree : (answers : Assignment) → (path_of runs answers).steps ≡ (path_through items answers).steps
   steps-tree answers = ap (λ (p : PathValue). p.steps) (path_of-tree runs items is answers)
 
-  pub accepted-tree : (codes : List ℕ) → IsAccepted n (path_of runs) codes → IsAccepted n (path_through items) codes
+  accepted-tree : (codes : List ℕ) → IsAccepted n (path_of runs) codes → IsAccepted n (path_through items) codes
   accepted-tree codes h = (h.0, h.1, h.2 ∙ key-tree h.0)
 
   not_least-tree : (codes : List ℕ) (place : ℕ) → IsNotLeast n (path_of runs) codes place → IsNotLeast n (path_through items) codes place
@@ -88,8 +89,14 @@ module _ (n : ℕ) (runs : Runs) (items : Items) (is : runs ≡ runs_of_stack it
   too_long-tree : (codes : List ℕ) → IsTooLong n (path_of runs) codes → IsTooLong n (path_through items) codes
   too_long-tree codes h = (h.0, h.1, h.2, h.3, h.4 ∙ ap (λ (k : List ℕ). k ++ h.2 ∷ h.3) (key-tree h.0))
 
-  pub refusal-tree : (codes : List ℕ) (error : CursorError) → IsRefusal n (path_of runs) codes error → IsRefusal n (path_through items) codes error
+  refusal-tree : (codes : List ℕ) (error : CursorError) → IsRefusal n (path_of runs) codes error → IsRefusal n (path_through items) codes error
   refusal-tree codes Syntax h = h
   refusal-tree codes (NotLeast place) h = (not_least-tree codes place h.0, h.1)
   refusal-tree codes TooShort h = (too_short-tree codes h.0, h.1)
   refusal-tree codes TooLong h = (too_long-tree codes h.0, h.1)
+
+  pub standing-tree : (codes : List ℕ) (r : Result (Unit {0}) CursorError)
+      → MatchResult r (λ _. IsAccepted n (path_of runs) codes) (IsRefusal n (path_of runs) codes)
+      → MatchResult r (λ _. IsAccepted n (path_through items) codes) (IsRefusal n (path_through items) codes)
+  standing-tree codes (Ok x) h = accepted-tree codes h
+  standing-tree codes (Err e) h = refusal-tree codes e h

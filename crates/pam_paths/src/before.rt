@@ -11,11 +11,10 @@ ghost use Rattle.pam_paths.specs.Paths.{path_of, path_through};
 
 use crate::cursor::{Cursor, CursorError};
 use crate::direction::Direction;
-use crate::explorer::{Explorer, follow};
+use crate::explorer::{Explorer, follow, frames_at};
 use crate::frames::Frames;
 use crate::knowledge::Knowledge;
 use crate::path::Path;
-use crate::retrace::retrace;
 use arrayvec::ArrayVec;
 use pam_dispatch::{Program, Work};
 use std::marker::Model;
@@ -77,7 +76,7 @@ impl<'a, K: Knowledge> Explorer<'a, K> {
     {
         let mut frames = ArrayVec::new();
         let mut work = Work::new();
-        match retrace(program, knowledge, cursor.codes(), &mut frames, &mut work) {
+        match frames_at(program, knowledge, cursor, &mut frames, &mut work) {
             Err(refusal) => Err(refusal),
             Ok(()) => Ok(Before {
                 program,

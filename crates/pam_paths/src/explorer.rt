@@ -1,17 +1,18 @@
 //! The explorer of the paths that allowed answers can follow.
 
 ghost use Rattle.std.specs.Prelude.{◌≡◌, ◌+◌, ◌-◌, ◌*◌, ◌≤◌, ◌∷◌, ◌++◌, [], length, take};
-ghost use Rattle.std.specs.Prelude.{None, IfSome, IfNone, IfOk, MatchOption, MatchResult};
+ghost use Rattle.std.specs.Prelude.{None, IfSome, IfNone, IfOk, MatchOption, MatchResult, OnOk};
 ghost use Rattle.std.specs.Iterator.{MakesProgress, YieldsFirst, item_count};
 ghost use Rattle.pam_conf.specs.Stack.{Items};
 ghost use Rattle.pam_dispatch.specs.Flat.{IsPlaceOf, modules_of, rest_of, runs_of};
 ghost use Rattle.pam_dispatch.specs.Runs.{AsksRise};
 ghost use Rattle.pam_dispatch.specs.Tree.{runs_of_stack};
+ghost use Rattle.pam_paths.specs.declared.direction.Direction.{Direction};
 ghost use Rattle.pam_paths.specs.Computed.{listing};
 ghost use Rattle.pam_paths.specs.Cursor.{IsAccepted, IsRefusal};
 ghost use Rattle.pam_paths.specs.Directions.{ordered};
 ghost use Rattle.pam_paths.specs.Frames.{AreFirstSteps, AreFrames, IsExploring, ahead, coming, under};
-ghost use Rattle.pam_paths.specs.Listing.{IsListing, IsListingAfter};
+ghost use Rattle.pam_paths.specs.Listing.{IsListing, IsListingAfter, IsListingBefore};
 ghost use Rattle.pam_paths.specs.Paths.{path_of, path_through};
 
 use crate::cursor::{Cursor, CursorError};
@@ -128,6 +129,31 @@ pub(crate) fn follow<K: Knowledge>(
     Some(shared)
 }
 
+/// Pushes the frames from which the paths after `cursor` follow, and those before it. Refuses it like `after`.
+pub(crate) fn frames_at<K: Knowledge>(
+    program: &Program,
+    knowledge: &K,
+    cursor: &Cursor,
+    frames: &mut Frames,
+    work: &mut Work,
+) -> Result<(), CursorError>
+    requires none { frames.old.items ≡ [] }
+    ensures standing { MatchResult result
+        (λ _. IsAccepted (modules_of program.now) (path_of (runs_of program.now)) cursor.now)
+        (IsRefusal (modules_of program.now) (path_of (runs_of program.now)) cursor.now) }
+    ensures tree { (items : Items) → runs_of program.now ≡ runs_of_stack items → MatchResult result
+        (λ _. IsAccepted (modules_of program.now) (path_through items) cursor.now)
+        (IsRefusal (modules_of program.now) (path_through items) cursor.now) }
+    ensures exploring { OnOk result (IsExploring (K.allows knowledge.now) program.now None frames.new.items) }
+    ensures after { OnOk result (IsListingAfter (K.allows knowledge.now) (modules_of program.now) (path_of (runs_of program.now))
+        cursor.now (coming Direction.Forward (K.allows knowledge.now) program.now None frames.new.items)) }
+    ensures before { OnOk result (IsListingBefore (K.allows knowledge.now) (modules_of program.now) (path_of (runs_of program.now))
+        cursor.now (coming Direction.Backward (K.allows knowledge.now) program.now None frames.new.items)) }
+    ensures work { work.new ≤ work.old + 64 * (modules_of program.now + 1) }
+{
+    retrace(program, knowledge, cursor.codes(), frames, work)
+}
+
 impl<'a, K: Knowledge> Explorer<'a, K> {
     /// Explores all paths that allowed answers can follow.
     #[inline(never)]
@@ -176,7 +202,7 @@ impl<'a, K: Knowledge> Explorer<'a, K> {
     {
         let mut frames = ArrayVec::new();
         let mut work = Work::new();
-        match retrace(program, knowledge, cursor.codes(), &mut frames, &mut work) {
+        match frames_at(program, knowledge, cursor, &mut frames, &mut work) {
             Err(refusal) => Err(refusal),
             Ok(()) => Ok(Explorer {
                 program,

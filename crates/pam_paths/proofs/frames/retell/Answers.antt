@@ -1,4 +1,4 @@
-use Rattle.std.proofs.Common.{◌∙◌, ◌+◌, ℕ, add-zero, ap, map, sym, take}
+use Rattle.std.proofs.Common.{◌∙◌, ℕ, add-zero, ap, map, sym, take}
 use Rattle.std.proofs.lemmas.List.{take-map}
 use Rattle.pam_paths.specs.Frames.{step_in}
 use Rattle.pam_paths.specs.Steps.{step_seen}
