@@ -11,7 +11,7 @@ ghost use Rattle.pam_known.specs.Knowledge.{Agree};
 ghost use Rattle.pam_page.specs.Coming.{coming, side};
 ghost use Rattle.pam_page.specs.Page.{first_page, page_text};
 ghost use Rattle.pam_paths.specs.Known.{may_answer};
-ghost use Rattle.pam_paths.specs.Listing.{Allowance, IsListing, IsListingAfter, IsListingBefore};
+ghost use Rattle.pam_paths.specs.Listing.{Allowance, IsListingAfter, IsListingBefore};
 ghost use Rattle.pam_paths.specs.Paths.{path_through};
 ghost use Rattle.pam_report.specs.Answer.{login_at};
 ghost use Rattle.pam_report.specs.Header.{header_text};
@@ -44,16 +44,6 @@ pub(super) struct PageRequest<'a> {
     pub kind: Kind,
     pub limit: u32,
     pub part: Part<'a>,
-}
-
-/// Returns all paths.
-#[inline(never)]
-fn paths_whole<'a>(program: &'a Program, known: &'a Known) -> Listing<'a, Known>
-    ensures part { (items : Items) → runs_of program.now ≡ runs_of_stack items → modules_of program.now ≡ module_count items
-        → IsListing (may_answer known.now) (module_count items) (path_through items) (coming result) }
-    ensures side { side result ≡ codes "after" }
-{
-    Listing::Forward(Explorer::start(program, known))
 }
 
 /// Returns the paths after a cursor.
@@ -112,7 +102,7 @@ fn listing_of<'a>(
     ensures side { IfOk result (λ l. side l ≡ side_of part.entry) }
 {
     match part {
-        Part::Whole => Ok(paths_whole(program, known)),
+        Part::Whole => Ok(Listing::Forward(Explorer::start(program, known))),
         Part::After(text) => paths_after(program, known, text),
         Part::Before(text) => paths_before(program, known, text),
     }
