@@ -3,8 +3,7 @@ use Rattle.std.specs.Prelude.{◌≡◌, ℕ, List, length, ◌==◌, not, if◌
 use Rattle.pam_tables.specs.Address.{address_of}
 use Rattle.pam_tables.specs.declared.login.Origin.{Origin}
 use Rattle.pam_tables.specs.declared.login.Origin.TheVariants as origins
-pub use Rattle.pam_times.specs.Login.{LoginText}
-unfoldable pub use Rattle.pam_times.specs.Login.{login_view, without_dev}
+pub use Rattle.pam_times.specs.Login.{LoginText, login_view, without_dev}
 
 -- the origin of a login: a remote host, or a local place
 pub data OriginText : Type 0 where
