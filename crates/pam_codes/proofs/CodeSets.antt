@@ -1,5 +1,7 @@
 -- The bits of a set, and its codes.
-use Rattle.std.proofs.Common.{◌≡◌, ◌≢◌, ◌<◌, ◌≤◌, ◌+◌, ◌*◌, ◌/◌, ◌%◌, ◌^◌, ◌||◌, ◌==◌, ℕ, zero, suc, Bool, true, false, List, [], ◌∷◌, length, slice_get, Some, None, cond, if◌then◌else◌, nat_lt, eqb, filter, All, subst, ap, ◌∙◌, sym, refl, arith, count_ones, bit_and, bit_or, eq-eqb}
+use Rattle.std.proofs.Common.{◌≡◌, ◌≢◌, ◌<◌, ◌≤◌, ◌+◌, ◌*◌, ◌/◌, ◌%◌, ◌^◌, ◌||◌, ◌==◌, ℕ, zero, suc, Bool, true, false, List, [], ◌∷◌, length}
+use Rattle.std.proofs.Common.{slice_get, Some, None, cond, if◌then◌else◌, nat_lt, eqb, filter, All, subst, ap, ◌∙◌, sym, refl, arith, count_ones}
+use Rattle.std.proofs.Common.{bit_and, bit_or, eq-eqb}
 use Rattle.std.specs.List.{range_with_len}
 use Rattle.std.specs.List.Sorted.{IsStrictlyIncreasing}
 use Rattle.std.specs.Int.{bit_at, w32, trailing_zeros}
@@ -50,26 +52,34 @@ is_in-codes_of_bits bits code h = ap (λ (n : ℕ). eqb n 1) (shr_and_one bits c
 
 -- one more bit
 set_bit : (bits n code : ℕ) → n < 31 → eqb (bit_at (bit_or bits ((1 * 2 ^ n) % 2 ^ 32)) code) 1 ≡ (eqb code n || eqb (bit_at bits code) 1)
-set_bit bits n code h = elim (eqb code n) as (λ (t : Bool). eqb code n ≡ t → eqb (bit_at (bit_or bits ((1 * 2 ^ n) % 2 ^ 32)) code) 1 ≡ (t || eqb (bit_at bits code) 1)) [
-  | true ↦ λ e. let same : code ≡ n = eqb-true code n e in rw same (rw (bit_at_set_same w32 bits n (omega arith)) refl)
-  | false ↦ λ e. let other : code ≢ n = eqb-false code n e in ap (λ (m : ℕ). eqb m 1) (bit_at_set_other w32 bits n (omega arith) code other)
-] refl
+set_bit bits n code h =
+    elim (eqb code n) as (λ (t : Bool). eqb code n ≡ t → eqb (bit_at (bit_or bits ((1 * 2 ^ n) % 2 ^ 32)) code) 1 ≡ (t || eqb (bit_at bits code) 1)) [
+      | true ↦ λ e. let same : code ≡ n = eqb-true code n e in rw same (rw (bit_at_set_same w32 bits n (omega arith)) refl)
+      | false ↦ λ e. let other : code ≢ n = eqb-false code n e in ap (λ (m : ℕ). eqb m 1) (bit_at_set_other w32 bits n (omega arith) code other)
+    ] refl
 
 pub codes_of_bits-set : (bits n : ℕ) → n < 31 → codes_of_bits (bit_or bits ((1 * 2 ^ n) % 2 ^ 32)) ≡ codes_where (λ c. c == n || is_in c (codes_of_bits bits))
 unfolding codes_of_bits
-codes_of_bits-set bits n h = codes_where-same _ _ (λ code low. set_bit bits n code h ∙ ap (λ (t : Bool). eqb code n || t) (sym (is_in-codes_where (λ c. bit_at bits c == 1) code low)))
+codes_of_bits-set bits n h =
+    codes_where-same _ _
+    (λ code low. set_bit bits n code h ∙ ap (λ (t : Bool). eqb code n || t) (sym (is_in-codes_where (λ c. bit_at bits c == 1) code low)))
 
 -- one bit
 none_in_run : (n a k : ℕ) → n < a → filter (λ c. c == n) (range_with_len a k) ≡ []
 none_in_run n a zero h = refl
-none_in_run n a (suc k) h = ap (λ (t : Bool). cond t (a ∷ filter (λ c. c == n) (range_with_len (a + 1) k)) (filter (λ c. c == n) (range_with_len (a + 1) k))) (eqb-other a n (omega arith)) ∙ none_in_run n (a + 1) k (omega arith)
+none_in_run n a (suc k) h =
+    ap (λ (t : Bool). cond t (a ∷ filter (λ c. c == n) (range_with_len (a + 1) k)) (filter (λ c. c == n) (range_with_len (a + 1) k)))
+    (eqb-other a n (omega arith))
+    ∙ none_in_run n (a + 1) k (omega arith)
 
 one_in_run : (n a k : ℕ) → a ≤ n → n < a + k → filter (λ c. c == n) (range_with_len a k) ≡ n ∷ []
 one_in_run n a zero low high = absurd (omega arith)
-one_in_run n a (suc k) low high = elim (eqb a n) as (λ (t : Bool). eqb a n ≡ t → cond t (a ∷ filter (λ c. c == n) (range_with_len (a + 1) k)) (filter (λ c. c == n) (range_with_len (a + 1) k)) ≡ n ∷ []) [
-  | true ↦ λ e. let same : a ≡ n = eqb-true a n e in ap (λ (xs : List ℕ). a ∷ xs) (none_in_run n (a + 1) k (omega arith)) ∙ ap (λ (m : ℕ). m ∷ []) same
-  | false ↦ λ e. let other : a ≢ n = eqb-false a n e in one_in_run n (a + 1) k (omega arith) (omega arith)
-] refl
+one_in_run n a (suc k) low high =
+    elim (eqb a n) as (λ (t : Bool).
+    eqb a n ≡ t → cond t (a ∷ filter (λ c. c == n) (range_with_len (a + 1) k)) (filter (λ c. c == n) (range_with_len (a + 1) k)) ≡ n ∷ []) [
+      | true ↦ λ e. let same : a ≡ n = eqb-true a n e in ap (λ (xs : List ℕ). a ∷ xs) (none_in_run n (a + 1) k (omega arith)) ∙ ap (λ (m : ℕ). m ∷ []) same
+      | false ↦ λ e. let other : a ≢ n = eqb-false a n e in one_in_run n (a + 1) k (omega arith) (omega arith)
+    ] refl
 
 power_bit : (n code : ℕ) → eqb (bit_at (2 ^ n) code) 1 ≡ eqb code n
 power_bit n code = elim (eqb code n) as (λ (t : Bool). eqb code n ≡ t → eqb (bit_at (2 ^ n) code) 1 ≡ t) [
@@ -82,12 +92,15 @@ unfolding codes_of_bits all_codes
 codes_of_bits-one n h = rw (one_shl n 32 (omega arith)) (codes_where-same _ _ (λ code low. power_bit n code) ∙ one_in_run n 0 31 (omega arith) (omega arith))
 
 -- the lowest bit
-first_in_run : (test : ℕ → Bool) (n a k : ℕ) → a ≤ n → n < a + k → test n ≡ true → ((i : ℕ) → i < n → test i ≡ false) → slice_get (filter test (range_with_len a k)) 0 ≡ Some n
+first_in_run : (test : ℕ → Bool) (n a k : ℕ) → a ≤ n → n < a + k → test n ≡ true → ((i : ℕ) → i < n → test i ≡ false)
+    → slice_get (filter test (range_with_len a k)) 0 ≡ Some n
 first_in_run test n a zero low high here before = absurd (omega arith)
-first_in_run test n a (suc k) low high here before = elim (eqb a n) as (λ (t : Bool). eqb a n ≡ t → slice_get (cond (test a) (a ∷ filter test (range_with_len (a + 1) k)) (filter test (range_with_len (a + 1) k))) 0 ≡ Some n) [
-  | true ↦ λ e. let same : a ≡ n = eqb-true a n e in rw (ap test same ∙ here) (ap Some same)
-  | false ↦ λ e. let other : a ≢ n = eqb-false a n e in rw (before a (omega arith)) (first_in_run test n (a + 1) k (omega arith) (omega arith) here before)
-] refl
+first_in_run test n a (suc k) low high here before =
+    elim (eqb a n) as (λ (t : Bool).
+    eqb a n ≡ t → slice_get (cond (test a) (a ∷ filter test (range_with_len (a + 1) k)) (filter test (range_with_len (a + 1) k))) 0 ≡ Some n) [
+      | true ↦ λ e. let same : a ≡ n = eqb-true a n e in rw (ap test same ∙ here) (ap Some same)
+      | false ↦ λ e. let other : a ≢ n = eqb-false a n e in rw (before a (omega arith)) (first_in_run test n (a + 1) k (omega arith) (omega arith) here before)
+    ] refl
 
 below_top : (n bit : ℕ) → n < 32 → bit ≡ 1 → (31 ≤ n → bit ≡ 0) → n < 31
 below_top n bit h set past = grind arith
@@ -104,8 +117,11 @@ first_of_bits bits some small =
     first_in_run (λ c. bit_at bits c == 1) (trailing_zeros w32 bits) 0 31 (omega arith) (lowest_below bits some small) (eq-eqb _ 1 low.1)
     (λ i h. ap (λ (n : ℕ). eqb n 1) (low.2 i h))
 
-pub least_code : (bits : ℕ) → (bits ≡ 0 → ⊥) → bits < 2 ^ 31 → (if nat_lt (trailing_zeros w32 bits) 31 then Some (trailing_zeros w32 bits) else None) ≡ slice_get (codes_of_bits bits) 0
-least_code bits some small = ap (λ (t : Bool). if t then Some (trailing_zeros w32 bits) else None) (lt-ltb _ _ (lowest_below bits some small)) ∙ sym (first_of_bits bits some small)
+pub least_code : (bits : ℕ) → (bits ≡ 0 → ⊥) → bits < 2 ^ 31
+    → (if nat_lt (trailing_zeros w32 bits) 31 then Some (trailing_zeros w32 bits) else None) ≡ slice_get (codes_of_bits bits) 0
+least_code bits some small =
+    ap (λ (t : Bool). if t then Some (trailing_zeros w32 bits) else None) (lt-ltb _ _ (lowest_below bits some small))
+    ∙ sym (first_of_bits bits some small)
 
 -- the number of bits
 pub count_of_bits : (bits : ℕ) → bits < 2 ^ 31 → count_ones bits ≡ length (codes_of_bits bits)
@@ -126,7 +142,9 @@ all_codes-rising k h =
 
 all_codes-within : All (λ code. code < 31) all_codes
 unfolding all_codes
-all_codes-within = All-from_get_or (λ code. code < 31) (range_with_len 0 31) 0 (λ k h. let inside : k < 31 = omega (arith, length-range_with_len 0 31) in omega (arith, get_or-range_with_len 0 31 k 0 inside))
+all_codes-within =
+    All-from_get_or (λ code. code < 31) (range_with_len 0 31) 0
+    (λ k h. let inside : k < 31 = omega (arith, length-range_with_len 0 31) in omega (arith, get_or-range_with_len 0 31 k 0 inside))
 
 -- the codes that pass a test are a set
 pub codes_where-is_set : (test : ℕ → Bool) → IsCodeSet (codes_where test)

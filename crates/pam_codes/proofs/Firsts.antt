@@ -1,5 +1,6 @@
 -- The first code of a set, and the others.
-use Rattle.std.proofs.Common.{◌≡◌, ◌<◌, ◌≤◌, ◌+◌, ◌&&◌, ℕ, zero, suc, Bool, true, false, List, [], ◌∷◌, not, cond, drop, filter, length, slice_get, slice_index, Option, Some, None, eq-eqb, refl, sym, ◌∙◌, ap, inl, inr, arith}
+use Rattle.std.proofs.Common.{◌≡◌, ◌<◌, ◌≤◌, ◌+◌, ◌&&◌, ℕ, zero, suc, Bool, true, false, List, [], ◌∷◌, not, cond, drop, filter, length, slice_get}
+use Rattle.std.proofs.Common.{slice_index, Option, Some, None, eq-eqb, refl, sym, ◌∙◌, ap, inl, inr, arith}
 use Rattle.std.specs.List.{range_with_len}
 use Rattle.std.proofs.lemmas.Bool.{cases_eq, cond_both}
 use Rattle.pam_codes.specs.Code.{all_codes}

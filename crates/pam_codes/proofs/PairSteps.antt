@@ -18,19 +18,23 @@ pub no_sign : (word : List ℕ) (rest : List (List ℕ)) (s : Subject) → subje
 unfolding pairs_of
 no_sign word rest s h e = rw (e, h) refl
 
-pub bad_sign : (word sign : List ℕ) (rest behind : List (List ℕ)) (s : Subject) (f : ControlError) → subject_of word ≡ Ok s → rest ≡ sign ∷ behind → equals_sign sign ≡ Err f → pairs_of (word ∷ rest) ≡ Err f
+pub bad_sign : (word sign : List ℕ) (rest after : List (List ℕ)) (s : Subject) (f : ControlError) → subject_of word ≡ Ok s → rest ≡ sign ∷ after
+    → equals_sign sign ≡ Err f → pairs_of (word ∷ rest) ≡ Err f
 unfolding pairs_of
 bad_sign word sign rest [] s f h e n = rw (e, h, n) refl
 bad_sign word sign rest (c ∷ more) s f h e n = rw (e, h, n) refl
 
-pub no_action : (word sign : List ℕ) (rest behind : List (List ℕ)) (s : Subject) → subject_of word ≡ Ok s → rest ≡ sign ∷ behind → equals_sign sign ≡ Ok tt → behind ≡ [] → pairs_of (word ∷ rest) ≡ Err BadAction
+pub no_action : (word sign : List ℕ) (rest after : List (List ℕ)) (s : Subject) → subject_of word ≡ Ok s → rest ≡ sign ∷ after
+    → equals_sign sign ≡ Ok tt → after ≡ [] → pairs_of (word ∷ rest) ≡ Err BadAction
 unfolding pairs_of
-no_action word sign rest behind s h e n m = rw (e, m, h, n) refl
+no_action word sign rest after s h e n m = rw (e, m, h, n) refl
 
-pub bad_action : (word sign name : List ℕ) (rest behind last : List (List ℕ)) (s : Subject) (f : ControlError) → subject_of word ≡ Ok s → rest ≡ sign ∷ behind → equals_sign sign ≡ Ok tt → behind ≡ name ∷ last → action_named name ≡ Err f → pairs_of (word ∷ rest) ≡ Err f
+pub bad_action : (word sign name : List ℕ) (rest after last : List (List ℕ)) (s : Subject) (f : ControlError) → subject_of word ≡ Ok s
+    → rest ≡ sign ∷ after → equals_sign sign ≡ Ok tt → after ≡ name ∷ last → action_named name ≡ Err f → pairs_of (word ∷ rest) ≡ Err f
 unfolding pairs_of
-bad_action word sign name rest behind last s f h e n m a = rw (e, m, h, n, a) refl
+bad_action word sign name rest after last s f h e n m a = rw (e, m, h, n, a) refl
 
-pub whole_pair : (word sign name : List ℕ) (rest behind last : List (List ℕ)) (s : Subject) (x : Action) → subject_of word ≡ Ok s → rest ≡ sign ∷ behind → equals_sign sign ≡ Ok tt → behind ≡ name ∷ last → action_named name ≡ Ok x → pairs_of (word ∷ rest) ≡ with_front (s, x) (pairs_of last)
+pub whole_pair : (word sign name : List ℕ) (rest after last : List (List ℕ)) (s : Subject) (x : Action) → subject_of word ≡ Ok s → rest ≡ sign ∷ after
+    → equals_sign sign ≡ Ok tt → after ≡ name ∷ last → action_named name ≡ Ok x → pairs_of (word ∷ rest) ≡ with_front (s, x) (pairs_of last)
 unfolding pairs_of
-whole_pair word sign name rest behind last s x h e n m a = rw (e, m, h, n, a) refl
+whole_pair word sign name rest after last s x h e n m a = rw (e, m, h, n, a) refl

@@ -1,10 +1,13 @@
 -- The bits of sets built from others, and the first and the last code of a part of a set.
-use Rattle.std.proofs.Common.{◌≡◌, ◌<◌, ◌≤◌, ◌+◌, ◌-◌, ◌*◌, ◌/◌, ◌%◌, ◌^◌, ◌||◌, ◌&&◌, ℕ, zero, suc, Bool, true, false, List, min, max, not, eqb, ltb, cond, slice_get, Option, Some, None, IsTrue, IfSome, IfNone, add-one, refl, sym, ◌∙◌, ap, inl, inr, arith, bit_and, bit_or}
+use Rattle.std.proofs.Common.{◌≡◌, ◌<◌, ◌≤◌, ◌+◌, ◌-◌, ◌*◌, ◌/◌, ◌%◌, ◌^◌, ◌||◌, ◌&&◌, ℕ, zero, suc, Bool, true, false, List, min, max, not, eqb}
+use Rattle.std.proofs.Common.{ltb, cond, slice_get, Option, Some, None, IsTrue, IfSome, IfNone, add-one, refl, sym, ◌∙◌, ap, inl, inr, arith}
+use Rattle.std.proofs.Common.{bit_and, bit_or}
 use Rattle.std.specs.Int.{bit_at, bit_not, trailing_zeros, w32}
 use Rattle.std.proofs.Math.Nat.{div-eq_of_lt-le, pow-suc, pow-le-pow_right}
 use Rattle.std.proofs.lemmas.Bool.{and_from, and_parts, cases_lt, false≢true, le-ltb, lt-ltb, ltb-false, ltb-true, not-true}
 use Rattle.std.proofs.lemmas.Nat.{and_le_l, pow_below}
-use Rattle.std.proofs.lemmas.Nat.Bits.{bit_at-lt, bit_at-trailing_zeros, bit_at-zero, bit_at_above, bit_at_and, bit_at_or, bit_at_not, bit_at_ones, bit_at_ones_above}
+use Rattle.std.proofs.lemmas.Nat.Bits.{bit_at-lt, bit_at-trailing_zeros, bit_at-zero, bit_at_above, bit_at_and, bit_at_or, bit_at_not, bit_at_ones}
+use Rattle.std.proofs.lemmas.Nat.Bits.{bit_at_ones_above}
 use Rattle.pam_codes.specs.Set.{codes_where, is_in}
 use Rattle.pam_codes.specs.SetBits.{codes_of_bits, codes_where-same, is_in-codes_where}
 use Rattle.pam_codes.proofs.CodeSets.{lowest_below}

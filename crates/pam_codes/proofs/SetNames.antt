@@ -1,16 +1,17 @@
 -- The names of a set's codes, written one by one.
-use Rattle.std.proofs.Common.{◌≡◌, ℕ, ◌<◌, ◌≤◌, ◌==◌, ◌&&◌, Bool, true, not, List, [], ◌∷◌, ◌++◌, drop, length, ltb, map, codes, slice_get, Option, Some, None, eq-eqb, refl, sym, ◌∙◌, ap, arith, append_assoc, append-nil}
+use Rattle.std.proofs.Common.{◌≡◌, ℕ, ◌<◌, ◌≤◌, ◌==◌, ◌&&◌, Bool, true, not, List, [], ◌∷◌, ◌++◌, drop, length, ltb, map, codes, slice_get, Option}
+use Rattle.std.proofs.Common.{Some, None, eq-eqb, refl, sym, ◌∙◌, ap, arith, append_assoc, append-nil}
 use Rattle.std.specs.List.{join_with_byte}
 use Rattle.std.proofs.lemmas.Bool.{cond-false, cond-true, le-ltb, lt-ltb, ne_eqb}
 use Rattle.std.proofs.lemmas.Option.{get_or_from_slice_get}
-use Rattle.pam_codes.specs.declared.out.Out.{Out}
+use Rattle.pam_text.specs.declared.out.Out.{Out}
 use Rattle.pam_codes.specs.Code.{all_codes, code_names}
-use Rattle.pam_codes.specs.Out.{TookAll, TookFront}
+use Rattle.pam_text.specs.Out.{TookAll, TookFront}
 use Rattle.pam_codes.specs.Set.{codes_where, is_in, IsCodeSet}
 use Rattle.pam_codes.specs.SetBits.{codes_where-same, is_in-codes_where}
 use Rattle.pam_codes.specs.SetText.{name_of, names_text, set_text}
 use Rattle.pam_codes.proofs.Firsts.{first_and_rest, none_first, rest_of_set}
-use Rattle.pam_codes.proofs.Writing.{all-is, all-none, all-then, front-is, front-longer, front-then}
+use Rattle.pam_text.proofs.Writing.{all-is, all-none, all-then, front-is, front-longer, front-then}
 
 -- the names of codes, each after a comma, but the first after another separator
 abbrev pub names_after : List ℕ → List ℕ → List ℕ

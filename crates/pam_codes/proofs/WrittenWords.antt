@@ -1,5 +1,6 @@
 -- The words of a written control are the tokens that are read.
-use Rattle.std.proofs.Common.{◌≡◌, ◌<◌, ◌≤◌, ◌+◌, ◌-◌, ◌*◌, ◌/◌, ◌%◌, ◌^◌, ◌∙◌, ◌&&◌, ◌||◌, ◌==◌, ℕ, Bool, true, false, not, List, [], ◌∷◌, ◌++◌, length, cond, eqb, map, Ok, ap, refl, arith, decimal}
+use Rattle.std.proofs.Common.{◌≡◌, ◌<◌, ◌≤◌, ◌+◌, ◌-◌, ◌*◌, ◌/◌, ◌%◌, ◌^◌, ◌∙◌, ◌&&◌, ◌||◌, ◌==◌, ℕ, Bool, true, false, not, List, [], ◌∷◌, ◌++◌}
+use Rattle.std.proofs.Common.{length, cond, eqb, map, Ok, ap, refl, arith, decimal}
 use Rattle.std.specs.List.{onto_first, list_all}
 use Rattle.std.specs.Char.{is_ascii_digit, to_ascii_lowercase}
 use Rattle.std.specs.Str.{bytes_eq}
@@ -30,7 +31,8 @@ pub record IsWord (word : List ℕ) : Type 0 where
   pub bytes : list_all is_written word ≡ true
 
 -- a leading word is a token, if no word continues after it
-tokens_of-front : (word rest : List ℕ) → 0 < length word → list_all is_written word ≡ true → begins_word rest ≡ false → tokens_of (word ++ rest) ≡ word ∷ tokens_of rest
+tokens_of-front : (word rest : List ℕ) → 0 < length word → list_all is_written word ≡ true → begins_word rest ≡ false
+    → tokens_of (word ++ rest) ≡ word ∷ tokens_of rest
 tokens_of-front [] rest n h e = absurd (omega arith)
 tokens_of-front (b ∷ []) rest n h e =
     let here : is_word_byte b ≡ true = (and_parts (is_word_byte b) (is_plain b) (and_parts (is_written b) true h).0).0 in
@@ -44,11 +46,13 @@ tokens_of-front (b ∷ c ∷ word) rest n h e =
     ∙ ap (onto_first b) (tokens_of-front (c ∷ word) rest (omega arith) parts.1 e)
 
 -- a leading pair is read
-pub pair_read : (name word rest : List ℕ) (s : Subject) (a : Action) → IsWord name → IsWord word → subject_of name ≡ Ok s → action_named word ≡ Ok a → begins_word rest ≡ false → pairs_of (tokens_of (name ++ 61 ∷ (word ++ rest))) ≡ with_front (s, a) (pairs_of (tokens_of rest))
+pub pair_read : (name word rest : List ℕ) (s : Subject) (a : Action) → IsWord name → IsWord word → subject_of name ≡ Ok s → action_named word ≡ Ok a
+    → begins_word rest ≡ false → pairs_of (tokens_of (name ++ 61 ∷ (word ++ rest))) ≡ with_front (s, a) (pairs_of (tokens_of rest))
 pair_read name word rest s a n w hs ha e =
     let tokens : tokens_of (name ++ 61 ∷ (word ++ rest)) ≡ name ∷ (61 ∷ []) ∷ word ∷ tokens_of rest =
     tokens_of-front name (61 ∷ (word ++ rest)) n.some n.bytes refl
-    ∙ ap (λ (ts : List (List ℕ)). name ∷ ts) (tokens_of-equals (word ++ rest) ∙ ap (λ (ts : List (List ℕ)). (61 ∷ []) ∷ ts) (tokens_of-front word rest w.some w.bytes e)) in
+    ∙ ap (λ (ts : List (List ℕ)). name ∷ ts)
+    (tokens_of-equals (word ++ rest) ∙ ap (λ (ts : List (List ℕ)). (61 ∷ []) ∷ ts) (tokens_of-front word rest w.some w.bytes e)) in
     ap pairs_of tokens ∙ whole_pair name (61 ∷ []) word _ _ (tokens_of rest) s a hs refl refl refl ha
 
 -- DIGITS
@@ -83,7 +87,9 @@ length-push (b ∷ ds) d = omega arith
 spells_more : (n : ℕ) (ds : List ℕ) → 10 ≤ n → Spells (n / 10) ds → Spells n (ds ++ ((48 + n % 10) ∷ []))
 spells_more n ds h s = record {
   digits_only = AreDigits-push ds (48 + n % 10) s.digits_only (record { low = omega arith; high = omega arith });
-  value = last_digit n (decimal_value ds) (decimal_value (ds ++ ((48 + n % 10) ∷ []))) s.value (fold-append (λ n d. 10 * n + (d - 48)) 0 ds ((48 + n % 10) ∷ []));
+  value =
+      last_digit n (decimal_value ds) (decimal_value (ds ++ ((48 + n % 10) ∷ []))) s.value
+      (fold-append (λ n d. 10 * n + (d - 48)) 0 ds ((48 + n % 10) ∷ []));
   some = length-push ds (48 + n % 10);
 }
 
@@ -93,7 +99,16 @@ decimal-spells n h = decimal_by_steps Spells spells_one spells_more n h
 written_digit : (b : ℕ) → IsDigit b → is_written b ≡ true
 written_digit b h =
     let low = h.low in let high = h.high in
-    rw (eqb-other b 32 (omega arith), eqb-other b 9 (omega arith), eqb-other b 13 (omega arith), eqb-other b 61 (omega arith), eqb-other b 93 (omega arith), eqb-other b 92 (omega arith)) refl
+    rw (
+      eqb-other b 32 (omega arith),
+      eqb-other b 9 (omega arith),
+      eqb-other b 13 (omega arith),
+      eqb-other b 61 (omega arith),
+      eqb-other b 93
+          (omega arith),
+      eqb-other b 92 (omega arith),
+    )
+    refl
 
 written_digits : (ds : List ℕ) → AreDigits ds → list_all is_written ds ≡ true
 written_digits [] h = refl
@@ -111,7 +126,8 @@ lower_digit letter b h d =
     let high = d.high in
     rw (lt-ltb b 65 (omega arith)) (eqb-other letter b (omega arith))
 
-other_name : (letter : ℕ) (letters digits : List ℕ) → 97 ≤ letter → 0 < length digits → AreDigits digits → bytes_eq (letter ∷ letters) (map to_ascii_lowercase digits) ≡ false
+other_name : (letter : ℕ) (letters digits : List ℕ) → 97 ≤ letter → 0 < length digits → AreDigits digits
+    → bytes_eq (letter ∷ letters) (map to_ascii_lowercase digits) ≡ false
 other_name letter letters [] h n d = absurd (omega arith)
 other_name letter letters (b ∷ digits) h n d = ap (λ (t : Bool). t && bytes_eq letters (map to_ascii_lowercase digits)) (lower_digit letter b h d.0)
 
@@ -122,9 +138,23 @@ jump_text digits d n h = rw (lt-ltb 0 (length digits) n, lt-ltb (length digits) 
 jump_read : (items : ℕ) (digits : List ℕ) → Spells items digits → length digits < 10 → 0 < items → action_named digits ≡ Ok (Jump items)
 unfolding action_named
 jump_read items digits s few some =
-    let other : (letter : ℕ) (letters : List ℕ) → 97 ≤ letter → bytes_eq (letter ∷ letters) (map to_ascii_lowercase digits) ≡ false = λ letter letters h. other_name letter letters digits h s.some s.digits_only in
+    let other : (letter : ℕ) (letters : List ℕ) → 97 ≤ letter → bytes_eq (letter ∷ letters) (map to_ascii_lowercase digits) ≡ false =
+    λ letter letters h. other_name letter letters digits h s.some s.digits_only in
     let value = s.value in
-    rw (other 105 (103 ∷ 110 ∷ 111 ∷ 114 ∷ 101 ∷ []) (omega arith), other 98 (97 ∷ 100 ∷ []) (omega arith), other 100 (105 ∷ 101 ∷ []) (omega arith), other 111 (107 ∷ []) (omega arith), other 100 (111 ∷ 110 ∷ 101 ∷ []) (omega arith), other 114 (101 ∷ 115 ∷ 101 ∷ 116 ∷ []) (omega arith), jump_text digits s.digits_only s.some few, value, eqb-other items 0 (omega arith)) refl
+    rw (
+      other 105 (103 ∷ 110 ∷ 111 ∷ 114 ∷ 101 ∷ []) (omega arith),
+      other 98 (97 ∷ 100 ∷ []) (omega arith),
+      other 100 (105 ∷ 101 ∷ [])
+          (omega arith),
+      other 111 (107 ∷ []) (omega arith),
+      other 100 (111 ∷ 110 ∷ 101 ∷ []) (omega arith),
+      other 114 (101 ∷ 115 ∷ 101 ∷ 116 ∷ [])
+          (omega arith),
+      jump_text digits s.digits_only s.some few,
+      value,
+      eqb-other items 0 (omega arith),
+    )
+    refl
 
 -- the text of an action is read as the action
 pub action_read : (a : Action) → IsAction a → action_named (action_text a) ≡ Ok a

@@ -1,5 +1,6 @@
 -- The control of a rule (pam.conf(5), "control": the keywords, and "[value1=action1 value2=action2 ...]").
-use Rattle.std.specs.Prelude.{◌≡◌, ℕ, ◌+◌, Bool, false, not, List, [], ◌∷◌, length, take, map, find, codes, ◌==◌, ◌&&◌, nat_lt, if◌then◌else◌, Option, Some, None, unwrap_or, Result, Ok, Err, All}
+use Rattle.std.specs.Prelude.{◌≡◌, ℕ, ◌+◌, ◌==◌, ◌&&◌, nat_lt, Bool, false, not, if◌then◌else◌, codes}
+use Rattle.std.specs.Prelude.{List, [], ◌∷◌, length, take, map, find, All, Option, Some, None, unwrap_or, Result, Ok, Err}
 use Rattle.std.specs.Option.{option_map, option_map_or}
 use Rattle.std.specs.Str.{bytes_eq}
 use Rattle.pam_codes.specs.declared.action.Action.{Action}
@@ -9,7 +10,8 @@ use Rattle.pam_codes.specs.declared.subject.Subject.TheVariants.{Named, Incomple
 use Rattle.pam_codes.specs.declared.error.ControlError.{ControlError}
 use Rattle.pam_codes.specs.declared.error.ControlError.TheVariants.{BadControl, BadAction, OpenBracket}
 use Rattle.pam_codes.specs.Action.{IsAction, action_named}
-use Rattle.pam_codes.specs.Code.{all_codes, same_name}
+use Rattle.pam_codes.specs.Code.{all_codes, ignored, new_authtok_reqd, same_name, success}
+use Rattle.pam_codes.specs.declared.code.TheConstants.{CODES}
 use Rattle.pam_codes.specs.Subject.{subject_of}
 use Rattle.pam_codes.specs.Tokens.{tokens_of}
 
@@ -20,7 +22,7 @@ abbrev pub ◌>>=◌ : {A B : Type 0} → Result A ControlError → (A → Resul
 
 -- an action for each of the 31 codes
 pub record IsControl (actions : List Action) : Type 0 where
-  pub one_each : length actions ≡ 31
+  pub one_each : length actions ≡ CODES
   pub each_action : All IsAction actions
 
 -- PAIRS
@@ -56,15 +58,15 @@ actions_of ps = map (action_of ps) all_codes
 -- each keyword, and its equivalent pairs
 unfoldable pub keywords : List (List ℕ × Pairs)
 keywords =
-    (codes "required", (Named 0, Accept) ∷ (Named 12, Accept) ∷ (Named 25, Ignore) ∷ (Default, Bad) ∷ [])
-    ∷ (codes "requisite", (Named 0, Accept) ∷ (Named 12, Accept) ∷ (Named 25, Ignore) ∷ (Default, Die) ∷ [])
-    ∷ (codes "sufficient", (Named 0, Done) ∷ (Named 12, Done) ∷ (Default, Ignore) ∷ [])
-    ∷ (codes "optional", (Named 0, Accept) ∷ (Named 12, Accept) ∷ (Default, Ignore) ∷ [])
+    (codes "required", (Named success, Accept) ∷ (Named new_authtok_reqd, Accept) ∷ (Named ignored, Ignore) ∷ (Default, Bad) ∷ [])
+    ∷ (codes "requisite", (Named success, Accept) ∷ (Named new_authtok_reqd, Accept) ∷ (Named ignored, Ignore) ∷ (Default, Die) ∷ [])
+    ∷ (codes "sufficient", (Named success, Done) ∷ (Named new_authtok_reqd, Done) ∷ (Default, Ignore) ∷ [])
+    ∷ (codes "optional", (Named success, Accept) ∷ (Named new_authtok_reqd, Accept) ∷ (Default, Ignore) ∷ [])
     ∷ []
 
 -- `granted` for success and new_authtok_reqd, ignore for ignore, and `other` for the other codes
 abbrev pub granting_pairs : Action → Action → Pairs
-granting_pairs granted other = (Named 0, granted) ∷ (Named 12, granted) ∷ (Named 25, Ignore) ∷ (Default, other) ∷ []
+granting_pairs granted other = (Named success, granted) ∷ (Named new_authtok_reqd, granted) ∷ (Named ignored, Ignore) ∷ (Default, other) ∷ []
 
 -- the pairs of a word, if it is a keyword
 unfoldable pub keyword_pairs : List ℕ → Option Pairs

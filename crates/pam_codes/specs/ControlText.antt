@@ -6,7 +6,7 @@ use Rattle.std.specs.Option.{option_map}
 use Rattle.pam_codes.specs.declared.action.Action.{Action}
 use Rattle.pam_codes.specs.declared.action.Action.TheVariants.{Bad}
 use Rattle.pam_codes.specs.Action.{same_action, action_text}
-use Rattle.pam_codes.specs.Code.{code_names}
+use Rattle.pam_codes.specs.Code.{code_names, conv_again}
 use Rattle.pam_codes.specs.Control.{actions_of, keywords}
 
 abbrev pub same_actions : List Action → List Action → Bool
@@ -18,7 +18,7 @@ keyword_of actions = option_map (λ k. k.0) (find (λ k. same_actions (actions_o
 
 -- the action to write as `default`: that of the last code, `conv_again`
 abbrev pub default_of : List Action → Action
-default_of actions = slice_index_or actions 30 Bad
+default_of actions = slice_index_or actions conv_again Bad
 
 -- the pair of a code and a space, unless its action is the default
 abbrev pub mention : Action → List ℕ → Action → List ℕ

@@ -1,13 +1,3 @@
--- The text of a line written in pieces.
-use Rattle.std.specs.Prelude.{ℕ, List, [], ◌∷◌, ◌++◌, decimal}
-use Rattle.pam_codes.specs.declared.line.Piece.{Piece}
-use Rattle.pam_codes.specs.declared.line.Piece.TheVariants.{Bytes, Number}
-
--- bytes as they are, and a number in decimal
-abbrev pub piece_text : Piece → List ℕ
-piece_text (Bytes bytes) = bytes.now
-piece_text (Number n) = decimal n
-
-abbrev pub line_text : List Piece → List ℕ
-line_text [] = []
-line_text (piece ∷ pieces) = piece_text piece ++ line_text pieces
+-- The text of a line that is written in pieces: the definitions of `pam_text`.
+pub use Rattle.pam_text.specs.Piece.{piece_text, line_text}
+pub use Rattle.pam_text.specs.declared.piece.Piece.{Piece}

@@ -1,5 +1,6 @@
 -- The bits of a set of return codes, and the codes of bits (pam.conf(5), the values between brackets).
-use Rattle.std.proofs.Common.{◌≡◌, ◌≢◌, ◌<◌, ◌≤◌, ◌+◌, ◌^◌, ◌==◌, ℕ, zero, suc, Bool, true, false, List, ◌∷◌, cond, eqb, map, filter, subst, ap, ◌∙◌, sym, refl, arith, eq-eqb}
+use Rattle.std.proofs.Common.{◌≡◌, ◌≢◌, ◌<◌, ◌≤◌, ◌+◌, ◌^◌, ◌==◌, ℕ, zero, suc, Bool, true, false, List, ◌∷◌, cond, eqb, map, filter, subst, ap, ◌∙◌}
+use Rattle.std.proofs.Common.{sym, refl, arith, eq-eqb}
 use Rattle.std.specs.List.{range_with_len}
 use Rattle.std.specs.Int.{bit_at}
 use Rattle.std.specs.Simd.Lanes.{mask_l}
@@ -37,15 +38,19 @@ in_run_before test a (suc n) code h =
 in_run : (test : ℕ → Bool) (a n code : ℕ) → a ≤ code → code < a + n → is_in code (filter test (range_with_len a n)) ≡ test code
 in_run test a zero code low high = absurd (omega arith)
 in_run test a (suc n) code low high =
-    elim (eqb a code) as (λ (t : Bool). eqb a code ≡ t → is_in code (cond (test a) (a ∷ filter test (range_with_len (a + 1) n)) (filter test (range_with_len (a + 1) n))) ≡ test code) [
+    elim (eqb a code) as (λ (t : Bool).
+    eqb a code ≡ t
+    → is_in code (cond (test a) (a ∷ filter test (range_with_len (a + 1) n)) (filter test (range_with_len (a + 1) n))) ≡ test code) [
       | true ↦ λ e. let same : a ≡ code = eqb-true a code e in
-          elim (test a) as (λ (t : Bool). test a ≡ t → is_in code (cond t (a ∷ filter test (range_with_len (a + 1) n)) (filter test (range_with_len (a + 1) n))) ≡ test code) [
+          elim (test a) as (λ (t : Bool).
+          test a ≡ t → is_in code (cond t (a ∷ filter test (range_with_len (a + 1) n)) (filter test (range_with_len (a + 1) n))) ≡ test code) [
             | true ↦ λ p. rw e (sym p ∙ ap test same)
             | false ↦ λ p. in_run_before test (a + 1) n code (omega arith) ∙ sym p ∙ ap test same
           ] refl
       | false ↦ λ e. let other : a ≢ code = eqb-false a code e in
           let rest : is_in code (filter test (range_with_len (a + 1) n)) ≡ test code = in_run test (a + 1) n code (omega arith) (omega arith) in
-          elim (test a) as (λ (t : Bool). is_in code (cond t (a ∷ filter test (range_with_len (a + 1) n)) (filter test (range_with_len (a + 1) n))) ≡ test code) [
+          elim (test a) as (λ (t : Bool).
+          is_in code (cond t (a ∷ filter test (range_with_len (a + 1) n)) (filter test (range_with_len (a + 1) n))) ≡ test code) [
             | true ↦ rw e rest
             | false ↦ rest
           ]
@@ -56,7 +61,8 @@ pub is_in-codes_where : (test : ℕ → Bool) (code : ℕ) → code < 31 → is_
 unfolding all_codes
 is_in-codes_where test code h = in_run test 0 31 code (omega arith) (omega arith)
 
-pub filter_run : (p q : ℕ → Bool) (a n : ℕ) → ((code : ℕ) → a ≤ code → code < a + n → p code ≡ q code) → filter p (range_with_len a n) ≡ filter q (range_with_len a n)
+pub filter_run : (p q : ℕ → Bool) (a n : ℕ) → ((code : ℕ) → a ≤ code → code < a + n → p code ≡ q code)
+    → filter p (range_with_len a n) ≡ filter q (range_with_len a n)
 filter_run p q a zero h = refl
 filter_run p q a (suc n) h =
     ap (λ (t : Bool). cond t (a ∷ filter p (range_with_len (a + 1) n)) (filter p (range_with_len (a + 1) n))) (h a (omega arith) (omega arith))
@@ -77,7 +83,8 @@ pub bits_of_codes-codes_of_bits : (bits : ℕ) → bits < 2 ^ 31 → bits_of_cod
 unfolding bits_of_codes codes_of_bits all_codes
 bits_of_codes-codes_of_bits bits small =
     let test : ℕ → Bool = λ code. is_in code (codes_where (λ c. bit_at bits c == 1)) in
-    let few : mask_l (map test (range_with_len 0 31)) < 2 ^ 31 = subst (λ n. mask_l (map test (range_with_len 0 31)) < 2 ^ n) (length-map-range_with_len test 0 31) (mask_l-lt (map test (range_with_len 0 31))) in
+    let few : mask_l (map test (range_with_len 0 31)) < 2 ^ 31 =
+    subst (λ n. mask_l (map test (range_with_len 0 31)) < 2 ^ n) (length-map-range_with_len test 0 31) (mask_l-lt (map test (range_with_len 0 31))) in
     same_from_bits_below 31 (mask_l (map test (range_with_len 0 31))) bits few small
     (λ i h. bit_mask_l (map test (range_with_len 0 31)) i
     ∙ ap (λ (t : Bool). cond t 1 0) (get_or-map-range_with_len test 0 31 i i false h (omega arith) ∙ is_in-codes_where (λ c. bit_at bits c == 1) i h)

@@ -4,11 +4,11 @@ ghost use Rattle.std.specs.Prelude.{◌≡◌, ◌≤◌, IsTrue, IfOk};
 ghost use Rattle.std.specs.List.{list_all};
 ghost use Rattle.std.specs.Char.{is_ascii_digit};
 ghost use Rattle.pam_codes.specs.Action.{IsAction, action_named, action_text, decimal_value, is_jump_text, same_action};
-ghost use Rattle.pam_codes.specs.Line.{piece_text};
+ghost use Rattle.pam_text.specs.Piece.{piece_text};
 
 use crate::code::is_name;
 use crate::error::ControlError;
-use crate::line::Piece;
+use pam_text::Piece;
 
 /// What the return code of a module does to the run of its list: the actions of pam.conf(5).
 #[derive(Clone, Copy, Debug, PartialEq, Eq)]

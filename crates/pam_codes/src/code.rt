@@ -23,12 +23,13 @@ pub struct Code {
 
 impl Model for Code {
     ghost use Rattle.std.specs.Prelude.{ℕ, ◌<◌};
+    ghost use Rattle.pam_codes.specs.declared.code.TheConstants.{CODES};
 
     ghost Value = { ℕ };
 
     ghost view = { λ c. c.number };
 
-    ghost invariant = { λ c. c.number < 31 };
+    ghost invariant = { λ c. c.number < CODES };
 
     ghost inverse = { λ n. record { number = n } };
 }
@@ -51,18 +52,18 @@ impl Code {
 
     /// The code with this number, if there is one.
     pub fn new(number: u8) -> Option<Code>
-        ensures { result ≡ (if nat_lt number 31 then Some number else None) }
+        ensures { result ≡ (if nat_lt number CODES then Some number else None) }
     {
-        if number < 31 {
+        if usize::from(number) < CODES {
             Some(Code { number })
         } else {
             None
         }
     }
 
-    /// The code with this number, which is below 31.
+    /// The code with this number, which is below `CODES`.
     pub(crate) fn of_number(number: u8) -> Code
-        requires { number < 31 }
+        requires { number < CODES }
         ensures { result ≡ number }
     {
         Code { number }
@@ -71,7 +72,7 @@ impl Code {
     /// The number, from 0 to 30.
     pub fn number(self) -> u8
         ensures value { result ≡ self }
-        ensures range { result < 31 }
+        ensures range { result < CODES }
     {
         self.number
     }
@@ -129,7 +130,7 @@ impl Code {
     pub fn from_name(name: &[u8]) -> Option<Code>
         ensures { result ≡ position (λ n. same_name n name.now) code_names }
     {
-        for number in 0..31 {
+        for number in 0..CODES as u8 {
             let code = Code { number };
             if code.name().as_bytes().eq_ignore_ascii_case(name) {
                 return Some(code);

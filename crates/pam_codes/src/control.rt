@@ -1,21 +1,22 @@
 //! The control of a rule: its text, and its action for each return code.
 
-ghost use Rattle.std.specs.Prelude.{◌≡◌, ◌<◌, ◌≤◌, ◌+◌, ◌-◌, ◌^◌, Ok, Err, false, ◌∷◌, [], All, List, Option, Some, None, MatchResult, IfOk, OnOk, MatchOption, map, get_or, length, unwrap_or, slice_get, slice_index_or, IfSome};
+ghost use Rattle.std.specs.Prelude.{◌≡◌, ◌<◌, ◌≤◌, ◌∷◌, [], All, IfOk, IfSome, MatchOption, MatchResult, Err, None, Some};
+ghost use Rattle.std.specs.Prelude.{false, length, map, slice_get, slice_index_or, unwrap_or};
 ghost use Rattle.std.specs.Option.{option_map};
 ghost use Rattle.pam_codes.specs.Action.{IsAction};
 ghost use Rattle.pam_codes.specs.Code.{all_codes, code_names};
-ghost use Rattle.pam_codes.specs.Control.{IsControl, control_of, bracket_actions, keyword_pairs, actions_of, pairs_of, closing_at, granting_pairs, token_actions, with_front, equals_sign as equals_sign_of};
+ghost use Rattle.pam_codes.specs.Control.{IsControl, actions_of, bracket_actions, closing_at, control_of, equals_sign as equals_sign_of};
+ghost use Rattle.pam_codes.specs.Control.{granting_pairs, keyword_pairs, pairs_of, token_actions, with_front};
 ghost use Rattle.pam_codes.specs.ControlText.{control_text, default_of, keyword_of, list_text, mention, mentions, same_actions};
-ghost use Rattle.pam_codes.specs.Out.{Writes};
+ghost use Rattle.pam_text.specs.Out.{Writes};
 ghost use Rattle.pam_codes.specs.Tokens.{tokens_of};
 
 use crate::action::Action;
 use crate::code::{CODES, Code, is_name};
 use crate::error::ControlError;
-use crate::line::Piece;
-use crate::out::{Device, Out};
 use crate::subject::Subject;
 use crate::tokens::Tokens;
+use pam_text::{Device, Out, Piece};
 use std::io::Write;
 use std::marker::Model;
 
@@ -173,11 +174,10 @@ impl Control {
 
     /// Writes a pair for each code whose action is not `default`.
     fn write_mentions<W: Write>(&self, default: Action, out: &mut Out<W>) -> Result<(), Device>
-        requires room { out.old.failures < 2 ^ 64 - 1 }
-        requires control { IsControl self.now }
+        requires { IsControl self.now }
         ensures { Writes W.contents out.old out.new result (mentions default code_names self.now) }
     {
-        for number in 0..31 {
+        for number in 0..CODES as u8 {
             let code = Code::of_number(number);
             write_mention(code, self.action(code), default, out)?;
         }
@@ -186,7 +186,6 @@ impl Control {
 
     /// Writes the pairs in brackets.
     fn write_list<W: Write>(&self, out: &mut Out<W>) -> Result<(), Device>
-        requires { out.old.failures < 2 ^ 64 - 1 }
         ensures { Writes W.contents out.old out.new result (list_text self.now) }
     {
         let default = self.default_action();
@@ -202,7 +201,6 @@ impl Control {
     /// Writes the keyword with these actions. If there is none, writes in brackets a pair for each code whose action is
     /// not that of the last code, and then the default.
     pub fn write_text<W: Write>(&self, out: &mut Out<W>) -> Result<(), Device>
-        requires { out.old.failures < 2 ^ 64 - 1 }
         ensures { Writes W.contents out.old out.new result (control_text self.now) }
     {
         match self.keyword_name() {
@@ -219,7 +217,6 @@ fn write_mention<W: Write>(
     default: Action,
     out: &mut Out<W>,
 ) -> Result<(), Device>
-    requires { out.old.failures < 2 ^ 64 - 1 }
     ensures { Writes W.contents out.old out.new result (mention default (slice_index_or code_names code []) action) }
 {
     if action.is_same(default) {

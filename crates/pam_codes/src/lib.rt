@@ -1,5 +1,4 @@
-//! Return codes, actions and controls of PAM rules: pam.conf(5). Also the text of a file without its comments, and a
-//! writer that counts bytes and failures.
+//! Return codes, actions and controls of PAM rules: pam.conf(5). Also the text of a file without its comments.
 #![tactic(auto)]
 
 mod action;
@@ -7,8 +6,6 @@ mod code;
 mod control;
 mod error;
 pub mod laws;
-mod line;
-mod out;
 mod parts;
 mod set;
 mod set_text;
@@ -20,8 +17,7 @@ pub use action::Action;
 pub use code::{CODES, Code, is_name};
 pub use control::Control;
 pub use error::ControlError;
-pub use line::Piece;
-pub use out::{Device, Out};
+pub use pam_text::{Device, Out, Piece};
 pub use parts::{Part, Parts};
 pub use set::CodeSet;
 pub use text::Text;

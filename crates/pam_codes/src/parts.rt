@@ -63,7 +63,7 @@ impl Control {
         ensures { result ≡ codes_where (λ c. same_action (slice_index_or self.now c Ignore) action) }
     {
         let mut codes = CodeSet::empty();
-        for number in 0..31 {
+        for number in 0..CODES as u8 {
             let code = Code::of_number(number);
             if self.action(code).is_same(action) {
                 codes.insert(code);

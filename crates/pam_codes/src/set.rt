@@ -1,6 +1,7 @@
 //! Sets of return codes.
 
-ghost use Rattle.std.specs.Prelude.{◌≡◌, ◌↔◌, ◌∷◌, [], ◌==◌, ◌||◌, ◌&&◌, ◌<◌, ◌≤◌, ◌-◌, ◌^◌, ℕ, IfNone, IfSome, IsTrue, false, length, min, not, slice_get};
+ghost use Rattle.std.specs.Prelude.{◌≡◌, ◌↔◌, ◌==◌, ◌||◌, ◌&&◌, ◌<◌, ◌≤◌, ◌-◌, ◌^◌, ℕ, false, min, not};
+ghost use Rattle.std.specs.Prelude.{◌∷◌, [], IfNone, IfSome, IsTrue, length, slice_get};
 ghost use Rattle.pam_codes.specs.Code.{all_codes};
 ghost use Rattle.pam_codes.specs.Set.{codes_where, is_in, IsCodeSet};
 
@@ -16,13 +17,14 @@ pub struct CodeSet {
 impl Model for CodeSet {
     ghost use Rattle.std.specs.Prelude.{ℕ, List, ◌<◌, ◌^◌};
     ghost use Rattle.std.proofs.Common.{ap};
+    ghost use Rattle.pam_codes.specs.declared.code.TheConstants.{CODES};
     ghost use Rattle.pam_codes.specs.SetBits.{codes_of_bits, bits_of_codes, bits_of_codes-codes_of_bits};
 
     ghost Value = { List ℕ };
 
     ghost view = { λ s. codes_of_bits s.bits };
 
-    ghost invariant = { λ s. s.bits < 2 ^ 31 };
+    ghost invariant = { λ s. s.bits < 2 ^ CODES };
 
     ghost inverse = { λ codes. record { bits = bits_of_codes codes } };
 
@@ -37,7 +39,7 @@ impl CodeSet {
         CodeSet { bits: 0 }
     }
 
-    /// The set of all 31 codes.
+    /// The set of all codes.
     pub fn all() -> CodeSet
         ensures { result ≡ all_codes }
     {

@@ -1,13 +1,11 @@
 //! The text of a set of codes.
 
-ghost use Rattle.std.specs.Prelude.{◌-◌, ◌<◌, ◌^◌};
-ghost use Rattle.pam_codes.specs.Out.{Writes};
+ghost use Rattle.pam_text.specs.Out.{Writes};
 ghost use Rattle.pam_codes.specs.SetText.{names_text, set_text};
 
 use crate::code::CODES;
-use crate::line::Piece;
-use crate::out::{Device, Out};
 use crate::set::CodeSet;
+use pam_text::{Device, Out, Piece};
 use std::io::Write;
 
 /// The size of the largest set that is written by its own codes; a larger one is written by the missing codes.
@@ -16,7 +14,6 @@ const MOST_NAMED: usize = 15;
 impl CodeSet {
     /// Writes the names in order, comma-separated: for 16 to 30 codes `but:` and the missing ones, for all 31 `any`.
     pub fn write_text<W: Write>(self, out: &mut Out<W>) -> Result<(), Device>
-        requires { out.old.failures < 2 ^ 64 - 1 }
         ensures { Writes W.contents out.old out.new result (set_text self) }
     {
         let count = self.len();
@@ -32,7 +29,6 @@ impl CodeSet {
 
     /// Writes the names of the codes, separated by commas.
     fn write_names<W: Write>(self, out: &mut Out<W>) -> Result<(), Device>
-        requires { out.old.failures < 2 ^ 64 - 1 }
         ensures { Writes W.contents out.old out.new result (names_text self) }
     {
         let mut separator = b"".as_slice();

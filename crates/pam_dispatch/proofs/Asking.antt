@@ -2,7 +2,8 @@
 -- module that `Place::module` names, and stops at `None` visits those of `asked_by` in order.
 use Rattle.std.proofs.Common.{◌≡◌, ℕ, ◌<◌, ◌≤◌, List, [], ◌∷◌, Option, Some, None, length, arith, refl, sym, ◌∙◌, ap, subst}
 use Rattle.std.specs.Prelude.{IfSome, IsSome}
-use Rattle.pam_dispatch.specs.Runs.{Ask, Assignment, AsksRise, Runs, ends, asks, after_answer, asked_by, asked_module, final_state, next_ask, outcome_in, outcome_of, state_in}
+use Rattle.pam_dispatch.specs.Runs.{Ask, Assignment, AsksRise, Runs, ends, asks, after_answer, asked_by, asked_module, final_state, next_ask}
+use Rattle.pam_dispatch.specs.Runs.{outcome_in, outcome_of, state_in}
 
 -- the number in an option, or 0
 abbrev number_in : Option ℕ → ℕ

@@ -32,11 +32,11 @@ length-positions entries program positions p is =
     ap (λ (x : List ℕ). length x) p.found ∙ length-positions_from 0 entries ∙ ap (λ (ts : List Entry). modules_of ts) is
 
 -- a module of a program has the control of its number
-pub control_at-module : (program : List Entry) (position : ℕ) (past : Entry) (level number : ℕ) (control : List Action) (behind : ℕ) →
-    IsNumbered 0 program → position < length program → get_or program position past ≡ Module level number control behind →
+pub control_at-module : (program : List Entry) (position : ℕ) (past : Entry) (level number : ℕ) (control : List Action) (after : ℕ) →
+    IsNumbered 0 program → position < length program → get_or program position past ≡ Module level number control after →
     control_at program number ≡ control
-control_at-module program position past level number control behind n within is =
-    let found = control_in-module program 0 position past level number control behind n within is in
+control_at-module program position past level number control after n within is =
+    let found = control_in-module program 0 position past level number control after n within is in
     let same : number - 1 ≡ found.0 = omega (arith, found.1) in
     ap (λ (x : ℕ). get_or (controls_in program) x []) same ∙ found.2
 
@@ -47,11 +47,11 @@ at_entry : (program : List Entry) (place : Place) (number : ℕ) → IsNumbered 
 unfolding ask_at
 at_entry program place number numbered valid asked within (Substack level) is =
     absurd (place_no_substack program place valid (Substack 0) level within is)
-at_entry program place number numbered valid asked within (Module level m control behind) is =
-    let asks = place_asks program place valid (Substack 0) level m control behind within is in
+at_entry program place number numbered valid asked within (Module level m control after) is =
+    let asks = place_asks program place valid (Substack 0) level m control after within is in
     let same : m ≡ number = sym (ap (λ (r : Runs). (next_ask r).module_number) asks) ∙ number-next_ask (rest_of program place) number asked in
     ap (λ (r : Runs). (next_ask r).control) asks
-    ∙ sym (control_at-module program place.position (Substack 0) level m control behind numbered within is)
+    ∙ sym (control_at-module program place.position (Substack 0) level m control after numbered within is)
     ∙ ap (λ (x : ℕ). control_at program x) same
 
 -- how a module of a program is asked, by its number
@@ -100,21 +100,22 @@ module _ (entries program : List Entry) (positions : List ℕ) {parts : List (Li
 
     module _ (e : Entry) (there : e ≡ get_or entries position e) where
       -- the entry that was found is the module of the number
-      found_module : e ≡ Module module_there.level number (get_or (controls_in entries) (number - 1) []) module_there.behind
+      found_module : e ≡ Module module_there.level number (get_or (controls_in entries) (number - 1) []) module_there.after
       found_module = there ∙ module_there.is e
 
       pub found_no_substack : (level : ℕ) → e ≡ Substack level → ⊥
       found_no_substack level substack =
-          let no : Module module_there.level number (get_or (controls_in entries) (number - 1) []) module_there.behind ≡ Substack level = sym found_module ∙ substack in
+          let no : Module module_there.level number (get_or (controls_in entries) (number - 1) []) module_there.after ≡ Substack level =
+          sym found_module ∙ substack in
           cc
 
-      pub found_control : (level m : ℕ) (control : List Action) (behind : ℕ) → e ≡ Module level m control behind → control ≡ control_at program number
-      found_control level m control behind found =
+      pub found_control : (level m : ℕ) (control : List Action) (after : ℕ) → e ≡ Module level m control after → control ≡ control_at program number
+      found_control level m control after found =
           ap control_of (sym found ∙ found_module) ∙ ap (λ (ts : List Entry). control_at ts number) is
 
-      pub found_asked : (level m : ℕ) (control : List Action) (behind : ℕ) → e ≡ Module level m control behind →
+      pub found_asked : (level m : ℕ) (control : List Action) (after : ℕ) → e ≡ Module level m control after →
           (place : Place) → IsPlaceOf program place → asked_module (rest_of program place) ≡ Some number →
           (next_ask (rest_of program place)).control ≡ control
-      found_asked level m control behind found place valid asked =
+      found_asked level m control after found place valid asked =
           place-control program place number (subst (λ ts. IsNumbered 0 ts) is p.numbered) valid asked
-          ∙ sym (found_control level m control behind found)
+          ∙ sym (found_control level m control after found)

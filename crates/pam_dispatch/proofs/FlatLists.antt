@@ -1,5 +1,6 @@
 -- The flat list of a tree of items.
-use Rattle.std.proofs.Common.{◌≡◌, ℕ, ◌+◌, ◌<◌, ◌≤◌, List, [], ◌∷◌, ◌++◌, zero, suc, refl, sym, ◌∙◌, ap, arith, drop, length, length-drop, get_or, append_assoc, append-nil, drop_of_length-le}
+use Rattle.std.proofs.Common.{◌≡◌, ℕ, ◌+◌, ◌<◌, ◌≤◌, List, [], ◌∷◌, ◌++◌, zero, suc, refl, sym, ◌∙◌, ap, arith, drop, length, length-drop, get_or}
+use Rattle.std.proofs.Common.{append_assoc, append-nil, drop_of_length-le}
 use Rattle.std.proofs.Math.Seq.{drop-nil}
 use Rattle.pam_conf.specs.declared.stack.Module.{Module}
 use Rattle.pam_conf.specs.declared.stack.Item.{Item}
@@ -19,27 +20,30 @@ count-items_of (ModuleItem m ∷ xs) = ap suc (count-items_of xs)
 count-items_of (SubItem s ∷ xs) = ap suc (count-items_of xs)
 
 -- a module comes after the entries of the items before it
-pub flat_list-module : (level i behind : ℕ) (xs : List Item) (entries : List Entry) (d : Item) (m : Module) → i < length xs → get_or xs i d ≡ ModuleItem m →
-    behind + (i + 1) ≡ length xs →
-    (entries ++ ModuleEntry level m.number m.control behind ∷ []) ++ flat_list level (items_of (drop (i + 1) xs)) ≡ entries ++ flat_list level (items_of (drop i xs))
+pub flat_list-module : (level i after : ℕ) (xs : List Item) (entries : List Entry) (d : Item) (m : Module) → i < length xs → get_or xs i d ≡ ModuleItem m →
+    after + (i + 1) ≡ length xs →
+    (entries ++ ModuleEntry level m.number m.control after ∷ []) ++ flat_list level (items_of (drop (i + 1) xs)) ≡ entries ++ flat_list level
+    (items_of (drop i xs))
 unfolding flat_list
-flat_list-module level i behind xs entries d m h e b =
+flat_list-module level i after xs entries d m h e b =
     let next : i + 1 ≡ suc i = omega arith in
-    let left : length (drop (suc i) xs) ≡ behind = length-drop (suc i) xs ∙ omega (arith, b) in
-    append_assoc entries (ModuleEntry level m.number m.control behind ∷ []) (flat_list level (items_of (drop (i + 1) xs)))
-    ∙ ap (λ (k : ℕ). entries ++ ModuleEntry level m.number m.control behind ∷ flat_list level (items_of (drop k xs))) next
-    ∙ ap (λ (k : ℕ). entries ++ ModuleEntry level m.number m.control k ∷ flat_list level (items_of (drop (suc i) xs))) (sym (count-items_of (drop (suc i) xs) ∙ left))
+    let left : length (drop (suc i) xs) ≡ after = length-drop (suc i) xs ∙ omega (arith, b) in
+    append_assoc entries (ModuleEntry level m.number m.control after ∷ []) (flat_list level (items_of (drop (i + 1) xs)))
+    ∙ ap (λ (k : ℕ). entries ++ ModuleEntry level m.number m.control after ∷ flat_list level (items_of (drop k xs))) next
+    ∙ ap (λ (k : ℕ). entries ++ ModuleEntry level m.number m.control k ∷ flat_list level (items_of (drop (suc i) xs)))
+    (sym (count-items_of (drop (suc i) xs) ∙ left))
     ∙ ap (λ (x : Items). entries ++ flat_list level x) (sym (items_of-drop_module xs i d m h e))
 
 -- a substack and its entries come after the entries of the items before it
 pub flat_list-sub : (level i : ℕ) (xs : List Item) (entries : List Entry) (d : Item) (s : SubList) → i < length xs → get_or xs i d ≡ SubItem s →
-    ((entries ++ Substack level ∷ []) ++ flat_list (level + 1) s.inner) ++ flat_list level (items_of (drop (i + 1) xs)) ≡ entries ++ flat_list level (items_of (drop i xs))
+    ((entries ++ Substack level ∷ []) ++ flat_list (level + 1) s.inner) ++ flat_list level (items_of (drop (i + 1) xs)) ≡ entries ++ flat_list level
+    (items_of (drop i xs))
 unfolding flat_list
 flat_list-sub level i xs entries d s h e =
     let next : i + 1 ≡ suc i = omega arith in
-    let behind = flat_list level (items_of (drop (i + 1) xs)) in
-    append_assoc (entries ++ Substack level ∷ []) (flat_list (level + 1) s.inner) behind
-    ∙ append_assoc entries (Substack level ∷ []) (flat_list (level + 1) s.inner ++ behind)
+    let after = flat_list level (items_of (drop (i + 1) xs)) in
+    append_assoc (entries ++ Substack level ∷ []) (flat_list (level + 1) s.inner) after
+    ∙ append_assoc entries (Substack level ∷ []) (flat_list (level + 1) s.inner ++ after)
     ∙ ap (λ (k : ℕ). entries ++ Substack level ∷ (flat_list (level + 1) s.inner ++ flat_list level (items_of (drop k xs)))) next
     ∙ ap (λ (x : Items). entries ++ flat_list level x) (sym (items_of-drop_sub xs i d s h e))
 

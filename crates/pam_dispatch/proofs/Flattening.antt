@@ -1,5 +1,6 @@
 -- The flat list of a tree runs as the tree.
-use Rattle.std.proofs.Common.{◌≡◌, ℕ, ◌+◌, ◌-◌, ◌<◌, ◌≤◌, List, [], ◌∷◌, ◌++◌, zero, suc, refl, sym, ◌∙◌, ap, arith, take, length, get_or, append_assoc, append-nil}
+use Rattle.std.proofs.Common.{◌≡◌, ℕ, ◌+◌, ◌-◌, ◌<◌, ◌≤◌, List, [], ◌∷◌, ◌++◌, zero, suc, refl, sym, ◌∙◌, ap, arith, take, length, get_or}
+use Rattle.std.proofs.Common.{append_assoc, append-nil}
 use Rattle.std.proofs.lemmas.List.{take_all, take-append-le, get_or-append_right, length-append, get_or_append_left}
 use Rattle.pam_dispatch.specs.declared.state.State.{State}
 use Rattle.pam_dispatch.specs.declared.step.Outcome.{Outcome}
@@ -32,13 +33,13 @@ same_above : (ts : List Entry) (level l1 k1 l2 k2 : ℕ) (es fs : List State) (s
     resume ts l1 k1 es s ≡ resume ts l2 k2 fs s
 unfolding HeadBelow resume ask_at
 same_above [] level l1 k1 l2 k2 es fs s h a b p q t g = refl
-same_above (Module here m control behind ∷ ts) level l1 k1 l2 k2 es fs s h a b p q t g =
-    resume-module here m control behind ts l1 k1 es s (omega arith) (p here h)
-    ∙ ap (λ (x : State). asks (record { module_number = m; control = control; state = s; entry = x; behind = behind })
-    (λ o. resume ts here (behind - o.left) (take (here + 1) es) o.state)) (g here h)
-    ∙ ap (λ (x : List State). asks (record { module_number = m; control = control; state = s; entry = get_or fs here start_state; behind = behind })
-    (λ o. resume ts here (behind - o.left) x o.state)) (t here h)
-    ∙ sym (resume-module here m control behind ts l2 k2 fs s (omega arith) (q here h))
+same_above (Module here m control after ∷ ts) level l1 k1 l2 k2 es fs s h a b p q t g =
+    resume-module here m control after ts l1 k1 es s (omega arith) (p here h)
+    ∙ ap (λ (x : State). asks (record { module_number = m; control = control; state = s; entry = x; behind = after })
+    (λ o. resume ts here (after - o.left) (take (here + 1) es) o.state)) (g here h)
+    ∙ ap (λ (x : List State). asks (record { module_number = m; control = control; state = s; entry = get_or fs here start_state; behind = after })
+    (λ o. resume ts here (after - o.left) x o.state)) (t here h)
+    ∙ sym (resume-module here m control after ts l2 k2 fs s (omega arith) (q here h))
 same_above (Substack here ∷ ts) level l1 k1 l2 k2 es fs s h a b p q t g =
     resume-sub here ts l1 k1 es s (omega arith) (p here h)
     ∙ ap (λ (x : List State). resume ts (here + 1) 0 (x ++ s ∷ []) s) (t here h)
@@ -64,7 +65,8 @@ pub flat_runs : (items : Items) (level skip : ℕ) (ts : List Entry) (es : List 
     resume (flat_list level items ++ ts) level skip es s ≡ runs_after skip items s e (λ t. resume ts level 0 es t)
 unfolding flat_list runs_after count ask_at
 flat_runs End level skip ts es s e h k len is =
-    same_above ts level level skip level 0 es es s h (omega arith) (omega arith) (λ here l i z. omega arith) (λ here l i z. omega arith) (λ here l. refl) (λ here l. refl)
+    same_above ts level level skip level 0 es es s h (omega arith) (omega arith) (λ here l i z. omega arith) (λ here l i z. omega arith)
+    (λ here l. refl) (λ here l. refl)
 flat_runs (ThenModule m rest) level (suc k) ts es s e h le len is =
     let one : suc k - 1 ≡ k = omega arith in
     resume-item (Module level m.number m.control (count rest)) (flat_list level rest ++ ts) level (suc k) es s refl (omega arith)
@@ -80,8 +82,10 @@ flat_runs (ThenSub sub inner rest) level (suc k) ts es s e h le len is =
 flat_runs (ThenModule m rest) level zero ts es s e h le len is =
     let next : Outcome → Runs = λ o. resume (flat_list level rest ++ ts) level (count rest - o.left) es o.state in
     resume-module level m.number m.control (count rest) (flat_list level rest ++ ts) level 0 es s (omega arith) (λ i z. omega arith)
-    ∙ ap (λ (x : List State). asks (record { module_number = m.number; control = m.control; state = s; entry = get_or es level start_state; behind = count rest })
-    (λ o. resume (flat_list level rest ++ ts) level (count rest - o.left) x o.state)) (take_all (level + 1) es (omega arith))
+    ∙ ap (λ (x : List State).
+    asks (record { module_number = m.number; control = m.control; state = s; entry = get_or es level start_state; behind = count rest })
+    (λ o. resume (flat_list level rest ++ ts) level (count rest - o.left) x o.state))
+    (take_all (level + 1) es (omega arith))
     ∙ ap (λ (x : State). asks (record { module_number = m.number; control = m.control; state = s; entry = x; behind = count rest }) next) is
     ∙ ap (λ (f : Outcome → Runs). asks (record { module_number = m.number; control = m.control; state = s; entry = e; behind = count rest }) f)
     (λ i o. flat_runs rest level (count rest - o.left) ts es o.state e h (omega arith) len is i)

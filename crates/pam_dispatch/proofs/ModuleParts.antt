@@ -15,13 +15,13 @@ abbrev pub AreCompleted : List Entry → List (List Part) → ℕ → Type 0
 AreCompleted ts parts at = (more : List (List Part)) → AllZip IsParts (controls_in (drop at ts)) more → AllZip IsParts (controls_in ts) (parts ++ more)
 
 module _ (ts : List Entry) (at : ℕ) (parts : List (List Part)) (now : AreCompleted ts parts at) where
-  pub parts-module : (past : Entry) (level number : ℕ) (control : List Action) (behind : ℕ) (new : List Part) → at < length ts →
-      get_or ts at past ≡ Module level number control behind → IsParts control new → AreCompleted ts (parts ++ new ∷ []) (at + 1)
+  pub parts-module : (past : Entry) (level number : ℕ) (control : List Action) (after : ℕ) (new : List Part) → at < length ts →
+      get_or ts at past ≡ Module level number control after → IsParts control new → AreCompleted ts (parts ++ new ∷ []) (at + 1)
   unfolding controls_in
-  parts-module past level number control behind new within is divided more rest =
+  parts-module past level number control after new within is divided more rest =
       rw append_assoc (now (new ∷ more)
       (subst (λ (x : List Entry). AllZip IsParts (controls_in x) (new ∷ more))
-      (sym (at_place ts at past (Module level number control behind) within is)) (divided, rest)))
+      (sym (at_place ts at past (Module level number control after) within is)) (divided, rest)))
 
   pub parts-substack : (past : Entry) (level : ℕ) → at < length ts → get_or ts at past ≡ Substack level → AreCompleted ts parts (at + 1)
   unfolding controls_in

@@ -19,7 +19,7 @@ AsksRise-resume : (ts : List Entry) (before high level skip : ℕ) (es : List St
     IsNumbered before ts → before + modules_of ts ≤ high → AsksRise before high (resume ts level skip es s)
 unfolding IsNumbered resume AsksRise controls_in
 AsksRise-resume [] before high level skip es s n h = tt
-AsksRise-resume (Module here m control behind ∷ rest) before high level skip es s n h =
+AsksRise-resume (Module here m control after ∷ rest) before high level skip es s n h =
     cond_both (ltb level here) (resume rest level skip es s) _ (λ r. AsksRise before high r)
     (λ k. AsksRise-lower before (before + 1) high _ (omega arith) (AsksRise-resume rest (before + 1) high level skip es s n.1 (omega (arith, h))))
     (λ k. cond_both (eqb here level && ltb 0 skip) (resume rest level (skip - 1) es s) _ (λ r. AsksRise before high r)
@@ -27,7 +27,9 @@ AsksRise-resume (Module here m control behind ∷ rest) before high level skip e
     (λ j. (
       omega (arith, n.0),
       omega (arith, n.0, h),
-      λ o. AsksRise-lower m (before + 1) high _ (omega (arith, n.0)) (AsksRise-resume rest (before + 1) high here (behind - o.left) _ o.state n.1 (omega (arith, h))),
+      λ o.
+          AsksRise-lower m (before + 1) high _ (omega (arith, n.0))
+          (AsksRise-resume rest (before + 1) high here (after - o.left) _ o.state n.1 (omega (arith, h))),
     )))
 AsksRise-resume (Substack here ∷ rest) before high level skip es s n h =
     cond_both (ltb level here) (resume rest level skip es s) _ (λ r. AsksRise before high r)
@@ -44,29 +46,29 @@ AsksRise-runs_of program n = AsksRise-resume program 0 (modules_of program) 0 0 
 pub length-positions_from : (before : ℕ) (ts : List Entry) → length (positions_from before ts) ≡ modules_of ts
 unfolding positions_from controls_in
 length-positions_from before [] = refl
-length-positions_from before (Module level number control behind ∷ rest) = ap suc (length-positions_from (before + 1) rest)
+length-positions_from before (Module level number control after ∷ rest) = ap suc (length-positions_from (before + 1) rest)
 length-positions_from before (Substack level ∷ rest) = length-positions_from (before + 1) rest
 
 -- the number and the control of an entry
 abbrev pub number_of : Entry → ℕ
-number_of (Module level number control behind) = number
+number_of (Module level number control after) = number
 number_of (Substack level) = 0
 
 abbrev pub control_of : Entry → List Action
-control_of (Module level number control behind) = control
+control_of (Module level number control after) = control
 control_of (Substack level) = []
 
 -- the entry at a position is the module of a number, with its control
 pub record ModuleAt (ts : List Entry) (position number : ℕ) (control : List Action) : Type 0 where
   pub level : ℕ
-  pub behind : ℕ
+  pub after : ℕ
   pub within : position < length ts
-  pub is : (past : Entry) → get_or ts position past ≡ Module level number control behind
+  pub is : (past : Entry) → get_or ts position past ≡ Module level number control after
 
 -- after one more entry
-ModuleAt-behind : (e : Entry) (ts : List Entry) (position number : ℕ) (control : List Action) →
+ModuleAt-next : (e : Entry) (ts : List Entry) (position number : ℕ) (control : List Action) →
     ModuleAt ts position number control → ModuleAt (e ∷ ts) (suc position) number control
-ModuleAt-behind e ts position number control m = record { level = m.level; behind = m.behind; within = omega (arith, m.within); is = m.is }
+ModuleAt-next e ts position number control m = record { level = m.level; after = m.after; within = omega (arith, m.within); is = m.is }
 
 -- the module of an index is at its position in the list of positions
 pub at_positions_from : (ts : List Entry) (before numbered index : ℕ) → IsNumbered numbered ts → index < modules_of ts →
@@ -74,30 +76,34 @@ pub at_positions_from : (ts : List Entry) (before numbered index : ℕ) → IsNu
     × ModuleAt ts position (numbered + index + 1) (get_or (controls_in ts) index [])
 unfolding IsNumbered positions_from controls_in
 at_positions_from [] before numbered index n h = absurd (omega (arith, h))
-at_positions_from (Module level number control behind ∷ rest) before numbered zero n h =
-    (0, omega arith, record { level = level; behind = behind; within = omega arith; is = λ past. ap (λ (x : ℕ). Module level x control behind) (omega (arith, n.0)) })
-at_positions_from (Module level number control behind ∷ rest) before numbered (suc index) n h =
+at_positions_from (Module level number control after ∷ rest) before numbered zero n h = (
+  0,
+  omega arith,
+  record
+      { level = level; after = after; within = omega arith; is = λ past. ap (λ (x : ℕ). Module level x control after) (omega (arith, n.0)) },
+)
+at_positions_from (Module level number control after ∷ rest) before numbered (suc index) n h =
     let deeper = at_positions_from rest (before + 1) (numbered + 1) index n.1 (omega (arith, h)) in
     let same : (numbered + 1) + index + 1 ≡ numbered + suc index + 1 = omega arith in (
       suc deeper.0,
       deeper.1 ∙ omega arith,
-      rw (← same) (ModuleAt-behind (Module level number control behind) rest deeper.0 _ _ deeper.2),
+      rw (← same) (ModuleAt-next (Module level number control after) rest deeper.0 _ _ deeper.2),
     )
 at_positions_from (Substack level ∷ rest) before numbered index n h =
     let deeper = at_positions_from rest (before + 1) numbered index n h in
-    (suc deeper.0, deeper.1 ∙ omega arith, ModuleAt-behind (Substack level) rest deeper.0 _ _ deeper.2)
+    (suc deeper.0, deeper.1 ∙ omega arith, ModuleAt-next (Substack level) rest deeper.0 _ _ deeper.2)
 
 -- a module of the list has the control of its number
-pub control_in-module : (ts : List Entry) (before position : ℕ) (past : Entry) (level number : ℕ) (control : List Action) (behind : ℕ) →
-    IsNumbered before ts → position < length ts → get_or ts position past ≡ Module level number control behind →
+pub control_in-module : (ts : List Entry) (before position : ℕ) (past : Entry) (level number : ℕ) (control : List Action) (after : ℕ) →
+    IsNumbered before ts → position < length ts → get_or ts position past ≡ Module level number control after →
     (index : ℕ) × (number ≡ before + index + 1) × (get_or (controls_in ts) index [] ≡ control)
 unfolding IsNumbered controls_in
-control_in-module [] before position past level number control behind n within is = absurd (omega (arith, within))
-control_in-module (Module l m c b ∷ rest) before zero past level number control behind n within is =
+control_in-module [] before position past level number control after n within is = absurd (omega (arith, within))
+control_in-module (Module l m c b ∷ rest) before zero past level number control after n within is =
     (0, omega (arith, n.0, ap number_of is), ap control_of is)
-control_in-module (Module l m c b ∷ rest) before (suc position) past level number control behind n within is =
-    let deeper = control_in-module rest (before + 1) position past level number control behind n.1 (omega (arith, within)) is in
+control_in-module (Module l m c b ∷ rest) before (suc position) past level number control after n within is =
+    let deeper = control_in-module rest (before + 1) position past level number control after n.1 (omega (arith, within)) is in
     (suc deeper.0, omega (arith, deeper.1), deeper.2)
-control_in-module (Substack l ∷ rest) before zero past level number control behind n within is = cc
-control_in-module (Substack l ∷ rest) before (suc position) past level number control behind n within is =
-    control_in-module rest before position past level number control behind n (omega (arith, within)) is
+control_in-module (Substack l ∷ rest) before zero past level number control after n within is = cc
+control_in-module (Substack l ∷ rest) before (suc position) past level number control after n within is =
+    control_in-module rest before position past level number control after n (omega (arith, within)) is

@@ -10,55 +10,55 @@ use Rattle.pam_dispatch.specs.declared.state.Impression.TheVariants.{Undef, Posi
 use Rattle.pam_dispatch.specs.Decision.{decision_of}
 use Rattle.pam_dispatch.specs.State.{start_state, action_of, accepted, left_of, left_unless_positive}
 use Rattle.pam_dispatch.specs.Runs.{Ask, Assignment, Runs, outcome_of, final_state, asked_by}
-use Rattle.pam_dispatch.specs.Tree.{count, items_behind, ask_of, run_behind, asked_behind, run, asked, runs_after, runs_of_stack, decided}
+use Rattle.pam_dispatch.specs.Tree.{count, items_after, ask_of, run_after, asked_after, run, asked, runs_after, runs_of_stack, decided}
 
 -- a run after the first items is the run of the items after them
-pub run_behind-items_behind : (skip : ℕ) (items : Items) (s entry : State) (answers : Assignment) →
-    run_behind skip items s entry answers ≡ run (items_behind skip items) s entry answers
-unfolding run_behind items_behind
-run_behind-items_behind zero End s entry answers = refl
-run_behind-items_behind zero (ThenModule m rest) s entry answers = refl
-run_behind-items_behind zero (ThenSub sub inner rest) s entry answers = refl
-run_behind-items_behind (suc skip) End s entry answers = refl
-run_behind-items_behind (suc skip) (ThenModule m rest) s entry answers = run_behind-items_behind skip rest s entry answers
-run_behind-items_behind (suc skip) (ThenSub sub inner rest) s entry answers = run_behind-items_behind skip rest s entry answers
+pub run_after-items_after : (skip : ℕ) (items : Items) (s entry : State) (answers : Assignment) →
+    run_after skip items s entry answers ≡ run (items_after skip items) s entry answers
+unfolding run_after items_after
+run_after-items_after zero End s entry answers = refl
+run_after-items_after zero (ThenModule m rest) s entry answers = refl
+run_after-items_after zero (ThenSub sub inner rest) s entry answers = refl
+run_after-items_after (suc skip) End s entry answers = refl
+run_after-items_after (suc skip) (ThenModule m rest) s entry answers = run_after-items_after skip rest s entry answers
+run_after-items_after (suc skip) (ThenSub sub inner rest) s entry answers = run_after-items_after skip rest s entry answers
 
-pub asked_behind-items_behind : (skip : ℕ) (items : Items) (s entry : State) (answers : Assignment) →
-    asked_behind skip items s entry answers ≡ asked (items_behind skip items) s entry answers
-unfolding asked_behind items_behind
-asked_behind-items_behind zero End s entry answers = refl
-asked_behind-items_behind zero (ThenModule m rest) s entry answers = refl
-asked_behind-items_behind zero (ThenSub sub inner rest) s entry answers = refl
-asked_behind-items_behind (suc skip) End s entry answers = refl
-asked_behind-items_behind (suc skip) (ThenModule m rest) s entry answers = asked_behind-items_behind skip rest s entry answers
-asked_behind-items_behind (suc skip) (ThenSub sub inner rest) s entry answers = asked_behind-items_behind skip rest s entry answers
+pub asked_after-items_after : (skip : ℕ) (items : Items) (s entry : State) (answers : Assignment) →
+    asked_after skip items s entry answers ≡ asked (items_after skip items) s entry answers
+unfolding asked_after items_after
+asked_after-items_after zero End s entry answers = refl
+asked_after-items_after zero (ThenModule m rest) s entry answers = refl
+asked_after-items_after zero (ThenSub sub inner rest) s entry answers = refl
+asked_after-items_after (suc skip) End s entry answers = refl
+asked_after-items_after (suc skip) (ThenModule m rest) s entry answers = asked_after-items_after skip rest s entry answers
+asked_after-items_after (suc skip) (ThenSub sub inner rest) s entry answers = asked_after-items_after skip rest s entry answers
 
 -- the number of items after the first `skip`
-pub count-items_behind : (skip : ℕ) (items : Items) → count (items_behind skip items) ≡ count items - skip
-unfolding count items_behind
-count-items_behind zero items = omega arith
-count-items_behind (suc skip) End = omega arith
-count-items_behind (suc skip) (ThenModule m rest) = omega (arith, count-items_behind skip rest)
-count-items_behind (suc skip) (ThenSub sub inner rest) = omega (arith, count-items_behind skip rest)
+pub count-items_after : (skip : ℕ) (items : Items) → count (items_after skip items) ≡ count items - skip
+unfolding count items_after
+count-items_after zero items = omega arith
+count-items_after (suc skip) End = omega arith
+count-items_after (suc skip) (ThenModule m rest) = omega (arith, count-items_after skip rest)
+count-items_after (suc skip) (ThenSub sub inner rest) = omega (arith, count-items_after skip rest)
 
 -- under an assignment, an open run continues like the run of its tree
 pub final_state-runs_after : (skip : ℕ) (items : Items) (s entry : State) (next : State → Runs) (answers : Assignment) →
     final_state (runs_after skip items s entry next) answers
-    ≡ final_state (next (run_behind skip items s entry answers)) answers
-unfolding run_behind runs_after final_state
+    ≡ final_state (next (run_after skip items s entry answers)) answers
+unfolding run_after runs_after final_state
 final_state-runs_after skip End s entry next answers = refl
 final_state-runs_after (suc skip) (ThenModule m rest) s entry next answers = final_state-runs_after skip rest s entry next answers
 final_state-runs_after (suc skip) (ThenSub sub inner rest) s entry next answers = final_state-runs_after skip rest s entry next answers
 final_state-runs_after zero (ThenModule m rest) s entry next answers = final_state-runs_after _ rest _ entry next answers
 final_state-runs_after zero (ThenSub sub inner rest) s entry next answers =
     final_state-runs_after zero inner s s (λ t. runs_after zero rest t entry next) answers
-    ∙ final_state-runs_after zero rest (run_behind zero inner s s answers) entry next answers
+    ∙ final_state-runs_after zero rest (run_after zero inner s s answers) entry next answers
 
 -- and asks what the run of its tree asks
 pub asked_by-runs_after : (skip : ℕ) (items : Items) (s entry : State) (next : State → Runs) (answers : Assignment) →
     asked_by (runs_after skip items s entry next) answers
-    ≡ asked_behind skip items s entry answers ++ asked_by (next (run_behind skip items s entry answers)) answers
-unfolding run_behind runs_after asked_by asked_behind
+    ≡ asked_after skip items s entry answers ++ asked_by (next (run_after skip items s entry answers)) answers
+unfolding run_after runs_after asked_by asked_after
 asked_by-runs_after skip End s entry next answers = refl
 asked_by-runs_after (suc skip) (ThenModule m rest) s entry next answers = asked_by-runs_after skip rest s entry next answers
 asked_by-runs_after (suc skip) (ThenSub sub inner rest) s entry next answers = asked_by-runs_after skip rest s entry next answers
@@ -68,9 +68,9 @@ asked_by-runs_after zero (ThenModule m rest) s entry next answers =
     (asked_by-runs_after (count rest - outcome.left) rest outcome.state entry next answers)
 asked_by-runs_after zero (ThenSub sub inner rest) s entry next answers =
     asked_by-runs_after zero inner s s (λ t. runs_after zero rest t entry next) answers
-    ∙ ap (λ (x : List Ask). asked_behind zero inner s s answers ++ x)
-    (asked_by-runs_after zero rest (run_behind zero inner s s answers) entry next answers)
-    ∙ sym (append_assoc (asked_behind zero inner s s answers) _ _)
+    ∙ ap (λ (x : List Ask). asked_after zero inner s s answers ++ x)
+    (asked_by-runs_after zero rest (run_after zero inner s s answers) entry next answers)
+    ∙ sym (append_assoc (asked_after zero inner s s answers) _ _)
 
 pub final_state-runs_of_stack : (items : Items) (answers : Assignment) →
     final_state (runs_of_stack items) answers ≡ run items start_state start_state answers
@@ -89,20 +89,20 @@ asked_by-runs_of_stack items answers =
     asked_by-runs_after 0 items start_state start_state _ answers ∙ append-nil _
 
 -- no action leaves more items than there are
-left_of-fits : (action : Action) (code : ℕ) (s : State) (behind : ℕ) → left_of action code s behind ≤ behind
-left_of-fits Ignore code s behind = omega arith
-left_of-fits Ok code s behind = omega arith
-left_of-fits Bad code s behind = omega arith
-left_of-fits Reset code s behind = omega arith
-left_of-fits Die code s behind = omega arith
-left_of-fits Done code s behind = unless_positive (accepted s.impression s.status code).impression
+left_of-fits : (action : Action) (code : ℕ) (s : State) (after : ℕ) → left_of action code s after ≤ after
+left_of-fits Ignore code s after = omega arith
+left_of-fits Ok code s after = omega arith
+left_of-fits Bad code s after = omega arith
+left_of-fits Reset code s after = omega arith
+left_of-fits Die code s after = omega arith
+left_of-fits Done code s after = unless_positive (accepted s.impression s.status code).impression
   where
-    unless_positive : (impression : Impression) → left_unless_positive impression behind ≤ behind
+    unless_positive : (impression : Impression) → left_unless_positive impression after ≤ after
     unless_positive Undef = omega arith
     unless_positive Positive = omega arith
     unless_positive Negative = omega arith
-left_of-fits (Jump items) code s behind =
-    cond_both (leb items behind) (behind - items) 0 (λ x. x ≤ behind) (λ h. omega arith) (λ h. omega arith)
+left_of-fits (Jump items) code s after =
+    cond_both (leb items after) (after - items) 0 (λ x. x ≤ after) (λ h. omega arith) (λ h. omega arith)
 
 pub left-fits : (ask : Ask) (code : ℕ) → (outcome_of ask code).left ≤ ask.behind
 unfolding outcome_of

@@ -1,5 +1,6 @@
 -- Places, and the runs from them on.
-use Rattle.std.proofs.Common.{◌≡◌, ℕ, ◌+◌, ◌-◌, ◌<◌, ◌&&◌, List, [], ◌∷◌, ◌++◌, eqb, ltb, refl, sym, ◌∙◌, ap, subst, inl, inr, arith, take, drop, length, get_or, Option}
+use Rattle.std.proofs.Common.{◌≡◌, ℕ, ◌+◌, ◌-◌, ◌<◌, ◌&&◌, List, [], ◌∷◌, ◌++◌, eqb, ltb, refl, sym, ◌∙◌, ap, subst, inl, inr, arith, take, drop}
+use Rattle.std.proofs.Common.{length, get_or, Option}
 use Rattle.std.specs.Prelude.{IsSome}
 use Rattle.std.proofs.lemmas.Bool.{cases_lt, cond_both, false≢true}
 use Rattle.std.proofs.lemmas.List.{drop_all}
@@ -10,8 +11,8 @@ use Rattle.pam_dispatch.specs.declared.entry.Entry.{Entry}
 use Rattle.pam_dispatch.specs.declared.entry.Entry.TheVariants.{Module, Substack}
 use Rattle.pam_dispatch.specs.State.{start_state, act, left_of, action_of}
 use Rattle.pam_dispatch.specs.declared.step.Outcome.{Outcome}
-use Rattle.pam_dispatch.specs.Runs.{outcome_of, Runs, asked_module, state_in, after_answer, outcome_in}
-use Rattle.pam_dispatch.specs.Flat.{resume, StandsAt, IsPlaceOf, rest_of}
+use Rattle.pam_dispatch.specs.Runs.{Ask, outcome_of, Runs, asked_module, state_in, after_answer, outcome_in}
+use Rattle.pam_dispatch.specs.Flat.{resume, IsAt, IsPlaceOf, rest_of}
 use Rattle.pam_dispatch.proofs.Resume.{resume-module, ask_at, asked_module-ask_at, at_place, at_module-asks}
 
 abbrev outcome : State → ℕ → Outcome
@@ -21,7 +22,7 @@ outcome s l = record { state = s; left = l }
 pub state_in-resume : (ts : List Entry) (level skip : ℕ) (es : List State) (s : State) → state_in (resume ts level skip es s) ≡ s
 unfolding resume
 state_in-resume [] level skip es s = refl
-state_in-resume (Module here m control behind ∷ rest) level skip es s =
+state_in-resume (Module here m control after ∷ rest) level skip es s =
     cond_both (ltb level here) (resume rest level skip es s) _ (λ r. state_in r ≡ s)
     (λ k. state_in-resume rest level skip es s)
     (λ k. cond_both (eqb here level && ltb 0 skip) (resume rest level (skip - 1) es s) _ (λ r. state_in r ≡ s)
@@ -29,14 +30,18 @@ state_in-resume (Module here m control behind ∷ rest) level skip es s =
 state_in-resume (Substack here ∷ rest) level skip es s =
     cond_both (ltb level here) (resume rest level skip es s) _ (λ r. state_in r ≡ s)
     (λ k. state_in-resume rest level skip es s)
-    (λ k. cond_both (eqb here level && ltb 0 skip) (resume rest level (skip - 1) es s) (resume rest (here + 1) 0 (take (here + 1) es ++ s ∷ []) s) (λ r. state_in r ≡ s)
+    (λ k.
+    cond_both (eqb here level && ltb 0 skip) (resume rest level (skip - 1) es s) (resume rest (here + 1) 0 (take (here + 1) es ++ s ∷ []) s)
+    (λ r. state_in r ≡ s)
     (λ j. state_in-resume rest level (skip - 1) es s) (λ j. state_in-resume rest (here + 1) 0 _ s))
 
-asked-resume : (ts : List Entry) (depth : ℕ) (n : Option ℕ) (es : List State) (s : State) → StandsAt ts depth n → n ≡ asked_module (resume ts depth 0 es s)
+asked-resume : (ts : List Entry) (depth : ℕ) (n : Option ℕ) (es : List State) (s : State) → IsAt ts depth n → n ≡ asked_module (resume ts depth 0 es s)
 unfolding resume
 asked-resume [] depth n es s h = h
-asked-resume (Module here m control behind ∷ rest) depth n es s h =
-    h.1 ∙ sym (asked_module-ask_at here m control behind rest es s) ∙ sym (ap asked_module (resume-module here m control behind rest depth 0 es s (omega (arith, h.0)) (λ e l. omega arith)))
+asked-resume (Module here m control after ∷ rest) depth n es s h =
+    h.1
+    ∙ sym (asked_module-ask_at here m control after rest es s)
+    ∙ sym (ap asked_module (resume-module here m control after rest depth 0 es s (omega (arith, h.0)) (λ e l. omega arith)))
 asked-resume (Substack here ∷ rest) depth n es s h = absurd h
 
 module _ (program : List Entry) (place : Place) (valid : IsPlaceOf program place) where
@@ -63,43 +68,53 @@ module _ (program : List Entry) (place : Place) (valid : IsPlaceOf program place
   pub place_no_substack : (d : Entry) (l : ℕ) → place.position < length program → get_or program place.position d ≡ Substack l → ⊥
   unfolding IsPlaceOf
   place_no_substack d l within is =
-      subst (λ ts. StandsAt ts place.depth place.module_number) (at_place program place.position d (Substack l) within is) valid
+      subst (λ ts. IsAt ts place.depth place.module_number) (at_place program place.position d (Substack l) within is) valid
 
-  module _ (d : Entry) (l m : ℕ) (control : List Action) (behind : ℕ) (within : place.position < length program)
-      (is : get_or program place.position d ≡ Module l m control behind) where
+  module _ (d : Entry) (l m : ℕ) (control : List Action) (after : ℕ) (within : place.position < length program)
+      (is : get_or program place.position d ≡ Module l m control after) where
     pub place_depth : place.depth ≡ l + 1
     unfolding IsPlaceOf
     place_depth =
-        let P : List Entry → Type 0 = λ ts. StandsAt ts place.depth place.module_number in
-        let k : P (Module l m control behind ∷ drop (place.position + 1) program) = subst P (at_place program place.position d (Module l m control behind) within is) valid in
+        let P : List Entry → Type 0 = λ ts. IsAt ts place.depth place.module_number in
+        let k : P (Module l m control after ∷ drop (place.position + 1) program) =
+        subst P (at_place program place.position d (Module l m control after) within is) valid in
         k.0
 
-    pub place_asks : rest_of program place ≡ ask_at l m control behind (drop (place.position + 1) program) place.entered.states place.state
+    pub place_asks : rest_of program place ≡ ask_at l m control after (drop (place.position + 1) program) place.entered.states place.state
     unfolding rest_of
     place_asks =
-        at_module-asks program place.position d l m control behind within is place.entered.states place.state place.depth place.depth 0
+        at_module-asks program place.position d l m control after within is place.entered.states place.state place.depth place.depth 0
         (omega (arith, place_depth)) (λ e z. omega arith) (omega (arith, place_depth))
 
     module _ (code left : ℕ) (state entry : State) (action : Action)
         (action_is : action_of control code ≡ action)
         (entry_is : entry ≡ get_or place.entered.states l start_state)
-        (left_is : left ≡ left_of action code place.state behind)
-        (state_is : state ≡ act action code place.state entry behind) where
-      outcome_is : record { state = state; left = left } ≡ outcome_of (record { module_number = m; control = control; state = place.state; entry = get_or place.entered.states l start_state; behind = behind }) code
+        (left_is : left ≡ left_of action code place.state after)
+        (state_is : state ≡ act action code place.state entry after) where
+      abbrev asked : Ask
+      asked = record {
+        module_number = m;
+        control = control;
+        state = place.state;
+        entry = get_or place.entered.states l start_state;
+        behind = after;
+      }
+
+      outcome_is : record { state = state; left = left } ≡ outcome_of asked code
       unfolding outcome_of
       outcome_is =
           ap (λ (x : ℕ). outcome state x) left_is
-          ∙ ap (λ (x : State). outcome x (left_of action code place.state behind)) state_is
-          ∙ ap (λ (x : State). outcome (act action code place.state x behind) (left_of action code place.state behind)) entry_is
-          ∙ sym (ap (λ (a : Action). outcome (act a code place.state (get_or place.entered.states l start_state) behind) (left_of a code place.state behind)) action_is)
+          ∙ ap (λ (x : State). outcome x (left_of action code place.state after)) state_is
+          ∙ ap (λ (x : State). outcome (act action code place.state x after) (left_of action code place.state after)) entry_is
+          ∙ sym (ap (λ (a : Action). outcome (act a code place.state asked.entry after) (left_of a code place.state after)) action_is)
 
-      pub answer_rest : resume (drop (place.position + 1) program) l (behind - left) (take place.depth place.entered.states) state
+      pub answer_rest : resume (drop (place.position + 1) program) l (after - left) (take place.depth place.entered.states) state
           ≡ after_answer (rest_of program place) code
       unfolding ask_at
       answer_rest =
           let rest = drop (place.position + 1) program in
-          ap (λ (x : ℕ). resume rest l (behind - left) (take x place.entered.states) state) place_depth
-          ∙ ap (λ (o : Outcome). resume rest l (behind - o.left) (take (l + 1) place.entered.states) o.state) outcome_is
+          ap (λ (x : ℕ). resume rest l (after - left) (take x place.entered.states) state) place_depth
+          ∙ ap (λ (o : Outcome). resume rest l (after - o.left) (take (l + 1) place.entered.states) o.state) outcome_is
           ∙ sym (ap (λ (q : Runs). after_answer q code) place_asks)
 
       pub answer_outcome : outcome_in (rest_of program place) code ≡ record { state = state; left = left }

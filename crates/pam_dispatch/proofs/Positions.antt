@@ -8,13 +8,13 @@ use Rattle.pam_dispatch.specs.Flat.{positions_from}
 use Rattle.pam_dispatch.proofs.Resume.{at_place}
 
 module _ (ts : List Entry) (at : ℕ) (before : List ℕ) where
-  pub positions-module : (past : Entry) (level number : ℕ) (control : List Action) (behind : ℕ) → at < length ts →
-      get_or ts at past ≡ Module level number control behind →
+  pub positions-module : (past : Entry) (level number : ℕ) (control : List Action) (after : ℕ) → at < length ts →
+      get_or ts at past ≡ Module level number control after →
       (before ++ at ∷ []) ++ positions_from (at + 1) (drop (at + 1) ts) ≡ before ++ positions_from at (drop at ts)
   unfolding positions_from
-  positions-module past level number control behind within is =
+  positions-module past level number control after within is =
       append_assoc before (at ∷ []) (positions_from (at + 1) (drop (at + 1) ts))
-      ∙ ap (λ (x : List Entry). before ++ positions_from at x) (sym (at_place ts at past (Module level number control behind) within is))
+      ∙ ap (λ (x : List Entry). before ++ positions_from at x) (sym (at_place ts at past (Module level number control after) within is))
 
   pub positions-substack : (past : Entry) (level : ℕ) → at < length ts → get_or ts at past ≡ Substack level →
       before ++ positions_from (at + 1) (drop (at + 1) ts) ≡ before ++ positions_from at (drop at ts)

@@ -1,5 +1,6 @@
 -- The effect of each entry on a run over a flat list.
-use Rattle.std.proofs.Common.{◌≡◌, ℕ, ◌+◌, ◌-◌, ◌<◌, ◌≤◌, false, ◌&&◌, List, [], ◌∷◌, ◌++◌, eqb, ltb, zero, suc, refl, sym, ◌∙◌, ap, arith, take, drop, length, get_or, drop-cons, add-one, add-suc, slice_set, Some}
+use Rattle.std.proofs.Common.{◌≡◌, ℕ, ◌+◌, ◌-◌, ◌<◌, ◌≤◌, false, ◌&&◌, List, [], ◌∷◌, ◌++◌, eqb, ltb, zero, suc, refl, sym, ◌∙◌, ap, arith, take}
+use Rattle.std.proofs.Common.{drop, length, get_or, drop-cons, add-one, add-suc, slice_set, Some}
 use Rattle.std.proofs.lemmas.List.{get_or-take}
 use Rattle.std.proofs.Math.Seq.{take-suc-set}
 use Rattle.std.proofs.lemmas.Bool.{cond-true, cond-false, lt-ltb, le-ltb, eq-eqb, and_from, and_right, ne_eqb, and_left}
@@ -21,14 +22,14 @@ take-take (suc m) (suc d) (x ∷ xs) h = ap (λ zs. x ∷ zs) (take-take m d xs 
 pub resume-deeper : (e : Entry) (rest : List Entry) (level skip : ℕ) (es : List State) (s : State) → level < level_of e →
     resume (e ∷ rest) level skip es s ≡ resume rest level skip es s
 unfolding resume
-resume-deeper (Module here m control behind) rest level skip es s h = cond-true (ltb level here) _ _ (lt-ltb _ _ h)
+resume-deeper (Module here m control after) rest level skip es s h = cond-true (ltb level here) _ _ (lt-ltb _ _ h)
 resume-deeper (Substack here) rest level skip es s h = cond-true (ltb level here) _ _ (lt-ltb _ _ h)
 
 -- an item of the level is skipped while some are left to skip
 pub resume-item : (e : Entry) (rest : List Entry) (level skip : ℕ) (es : List State) (s : State) → level_of e ≡ level → 0 < skip →
     resume (e ∷ rest) level skip es s ≡ resume rest level (skip - 1) es s
 unfolding resume
-resume-item (Module here m control behind) rest level skip es s e h =
+resume-item (Module here m control after) rest level skip es s e h =
     cond-false (ltb level here) _ _ (le-ltb _ _ (omega arith))
     ∙ cond-true (eqb here level && ltb 0 skip) _ _ (and_from _ _ (eq-eqb _ _ e) (lt-ltb _ _ h))
 resume-item (Substack here) rest level skip es s e h =
@@ -49,34 +50,34 @@ resume-sub here rest level skip es s l h =
 
 -- a module is asked
 unfoldable pub ask_at : ℕ → ℕ → List Action → ℕ → List Entry → List State → State → Runs
-ask_at here m control behind rest es s = asks
-    (record { module_number = m; control = control; state = s; entry = get_or es here start_state; behind = behind })
-    (λ o. resume rest here (behind - o.left) (take (here + 1) es) o.state)
+ask_at here m control after rest es s = asks
+    (record { module_number = m; control = control; state = s; entry = get_or es here start_state; behind = after })
+    (λ o. resume rest here (after - o.left) (take (here + 1) es) o.state)
 
-pub asked_module-ask_at : (here m : ℕ) (control : List Action) (behind : ℕ) (rest : List Entry) (es : List State) (s : State) →
-    asked_module (ask_at here m control behind rest es s) ≡ Some m
+pub asked_module-ask_at : (here m : ℕ) (control : List Action) (after : ℕ) (rest : List Entry) (es : List State) (s : State) →
+    asked_module (ask_at here m control after rest es s) ≡ Some m
 unfolding ask_at
-asked_module-ask_at here m control behind rest es s = refl
+asked_module-ask_at here m control after rest es s = refl
 
-pub resume-module : (here m : ℕ) (control : List Action) (behind : ℕ) (rest : List Entry) (level skip : ℕ) (es : List State) (s : State) →
+pub resume-module : (here m : ℕ) (control : List Action) (after : ℕ) (rest : List Entry) (level skip : ℕ) (es : List State) (s : State) →
     here ≤ level → (here ≡ level → 0 < skip → ⊥) →
-    resume (Module here m control behind ∷ rest) level skip es s ≡ ask_at here m control behind rest es s
+    resume (Module here m control after ∷ rest) level skip es s ≡ ask_at here m control after rest es s
 unfolding resume ask_at
-resume-module here m control behind rest level skip es s l h =
+resume-module here m control after rest level skip es s l h =
     cond-false (ltb level here) _ _ (le-ltb _ _ l)
     ∙ cond-false (eqb here level && ltb 0 skip) _ _ (stays here level skip h)
 
 -- entry states deeper than the module's level are not used
-pub ask_at-take : (here m : ℕ) (control : List Action) (behind : ℕ) (rest : List Entry) (d : ℕ) (es : List State) (s : State) → here < d →
-    ask_at here m control behind rest (take d es) s ≡ ask_at here m control behind rest es s
+pub ask_at-take : (here m : ℕ) (control : List Action) (after : ℕ) (rest : List Entry) (d : ℕ) (es : List State) (s : State) → here < d →
+    ask_at here m control after rest (take d es) s ≡ ask_at here m control after rest es s
 unfolding ask_at
-ask_at-take here m control behind rest d es s h =
+ask_at-take here m control after rest d es s h =
     let e : get_or (take d es) here start_state ≡ get_or es here start_state = get_or-take d es here start_state h in
     let t : take (here + 1) (take d es) ≡ take (here + 1) es = take-take (here + 1) d es (omega arith) in
-    ap (λ (x : State). asks (record { module_number = m; control = control; state = s; entry = x; behind = behind })
-    (λ o. resume rest here (behind - o.left) (take (here + 1) (take d es)) o.state)) e
-    ∙ ap (λ (x : List State). asks (record { module_number = m; control = control; state = s; entry = get_or es here start_state; behind = behind })
-    (λ o. resume rest here (behind - o.left) x o.state)) t
+    ap (λ (x : State). asks (record { module_number = m; control = control; state = s; entry = x; behind = after })
+    (λ o. resume rest here (after - o.left) (take (here + 1) (take d es)) o.state)) e
+    ∙ ap (λ (x : List State). asks (record { module_number = m; control = control; state = s; entry = get_or es here start_state; behind = after })
+    (λ o. resume rest here (after - o.left) x o.state)) t
 
 -- the same, at a place of a list
 module _ (program : List Entry) (at : ℕ) (d e : Entry) (within : at < length program) (is : get_or program at d ≡ e) where
@@ -109,14 +110,14 @@ module _ (program : List Entry) (at : ℕ) (d : Entry) (here : ℕ) (within : at
       ∙ sym (ap (λ (x : List Entry). resume x level skip (take depth held) s) (at_place program at d (Substack here) within is)
       ∙ resume-sub here (drop (at + 1) program) level skip (take depth held) s low stays)
 
-module _ (program : List Entry) (at : ℕ) (d : Entry) (here m : ℕ) (control : List Action) (behind : ℕ) (within : at < length program)
-    (is : get_or program at d ≡ Module here m control behind) (held : List State) (s : State) where
+module _ (program : List Entry) (at : ℕ) (d : Entry) (here m : ℕ) (control : List Action) (after : ℕ) (within : at < length program)
+    (is : get_or program at d ≡ Module here m control after) (held : List State) (s : State) where
   pub at_module-asks : (depth level skip : ℕ) → here ≤ level → (here ≡ level → 0 < skip → ⊥) → here < depth →
-      resume (drop at program) level skip (take depth held) s ≡ ask_at here m control behind (drop (at + 1) program) held s
+      resume (drop at program) level skip (take depth held) s ≡ ask_at here m control after (drop (at + 1) program) held s
   at_module-asks depth level skip low stays deep =
-      ap (λ (x : List Entry). resume x level skip (take depth held) s) (at_place program at d (Module here m control behind) within is)
-      ∙ resume-module here m control behind (drop (at + 1) program) level skip (take depth held) s low stays
-      ∙ ask_at-take here m control behind (drop (at + 1) program) depth held s (omega arith)
+      ap (λ (x : List Entry). resume x level skip (take depth held) s) (at_place program at d (Module here m control after) within is)
+      ∙ resume-module here m control after (drop (at + 1) program) level skip (take depth held) s low stays
+      ∙ ask_at-take here m control after (drop (at + 1) program) depth held s (omega arith)
 
   pub at_module : (depth level skip : ℕ) → here ≤ level → (here ≡ level → 0 < skip → ⊥) → level < depth →
       resume (drop at program) (here + 1) 0 (take (here + 1) held) s ≡ resume (drop at program) level skip (take depth held) s

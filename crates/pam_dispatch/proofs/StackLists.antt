@@ -1,5 +1,6 @@
 -- The flat list of a stack is a program's, with the stack's modules and controls.
-use Rattle.std.proofs.Common.{◌≡◌, ℕ, ◌+◌, ◌-◌, ◌≤◌, List, [], ◌∷◌, ◌++◌, Option, Some, None, IsSome, IfSome, All, eqb, suc, refl, ◌∙◌, ap, subst, arith, length, get_or}
+use Rattle.std.proofs.Common.{◌≡◌, ℕ, ◌+◌, ◌-◌, ◌≤◌, List, [], ◌∷◌, ◌++◌, Option, Some, None, IsSome, IfSome, All, eqb, suc, refl, ◌∙◌, ap, subst}
+use Rattle.std.proofs.Common.{arith, length, get_or}
 use Rattle.std.proofs.lemmas.Bool.{cond_both, eqb-true}
 use Rattle.std.proofs.lemmas.List.{length-append, get_or-append_right, get_or_append_left}
 use Rattle.std.proofs.lemmas.List.Elements.{All-append, All-cons, All-nil}
@@ -25,14 +26,15 @@ shallow-flat_list level (ThenModule m rest) h =
     All-cons IsShallow (Module level m.number m.control (count rest)) (flat_list level rest) (omega (arith, h, depth-pos rest)) (shallow-flat_list level rest h)
 shallow-flat_list level (ThenSub sub inner rest) h =
     All-cons IsShallow (Substack level) (flat_list (level + 1) inner ++ flat_list level rest) (omega (arith, h, depth-pos inner))
-    (All-append IsShallow (flat_list (level + 1) inner) (flat_list level rest) (shallow-flat_list (level + 1) inner (omega (arith, h))) (shallow-flat_list level rest (omega (arith, h))))
+    (All-append IsShallow (flat_list (level + 1) inner) (flat_list level rest) (shallow-flat_list (level + 1) inner (omega (arith, h)))
+    (shallow-flat_list level rest (omega (arith, h))))
 
 -- CONTROLS
 
 controls_in-append : (xs ys : List Entry) → controls_in (xs ++ ys) ≡ controls_in xs ++ controls_in ys
 unfolding controls_in
 controls_in-append [] ys = refl
-controls_in-append (Module level number control behind ∷ xs) ys = ap (λ (cs : List (List Action)). control ∷ cs) (controls_in-append xs ys)
+controls_in-append (Module level number control after ∷ xs) ys = ap (λ (cs : List (List Action)). control ∷ cs) (controls_in-append xs ys)
 controls_in-append (Substack level ∷ xs) ys = controls_in-append xs ys
 
 pub controls_in-flat_list : (level : ℕ) (items : Items) → controls_in (flat_list level items) ≡ controls_of items
@@ -61,7 +63,7 @@ unfolding IsNumbered controls_in
 IsNumbered-append before [] ys a b =
     let none : before + 0 ≡ before = omega arith in
     subst (λ (n : ℕ). IsNumbered n ys) none b
-IsNumbered-append before (Module level number control behind ∷ xs) ys a b =
+IsNumbered-append before (Module level number control after ∷ xs) ys a b =
     let more : before + suc (modules_of xs) ≡ (before + 1) + modules_of xs = omega arith in
     (a.0, IsNumbered-append (before + 1) xs ys a.1 (subst (λ (n : ℕ). IsNumbered n ys) more b))
 IsNumbered-append before (Substack level ∷ xs) ys a b = IsNumbered-append before xs ys a b
@@ -75,9 +77,9 @@ numbered-flat_list level before (ThenModule m rest) h =
 numbered-flat_list level before (ThenSub sub inner rest) h =
     let parts = numbered-sub_parts (before + 1) sub inner rest h in
     let first : (before + 1) + module_count inner ≡ (before + module_count inner) + 1 = omega arith in
-    let behind : before + module_count inner ≡ before + modules_of (flat_list (level + 1) inner) = omega (arith, modules_of-flat_list (level + 1) inner) in
+    let after : before + module_count inner ≡ before + modules_of (flat_list (level + 1) inner) = omega (arith, modules_of-flat_list (level + 1) inner) in
     IsNumbered-append before (flat_list (level + 1) inner) (flat_list level rest) (numbered-flat_list (level + 1) before inner parts.0)
-    (subst (λ (n : ℕ). IsNumbered n (flat_list level rest)) behind
+    (subst (λ (n : ℕ). IsNumbered n (flat_list level rest)) after
     (numbered-flat_list level (before + module_count inner) rest (subst (λ (n : ℕ). IsNumberedFrom n rest) first parts.1)))
 
 -- THE CONTROL OF A NUMBER
@@ -106,8 +108,8 @@ control-module_at first number (ThenModule m rest) h =
     ap (λ (i : ℕ). get_or (m.control ∷ controls_of rest) i []) here)
     (λ other. if_both (module_at number rest) (HasControl (controls_of rest) (number - (first + 1))) P
     (λ some found is.
-    let behind : number - first ≡ suc (number - (first + 1)) = omega (arith, (module_at-range (first + 1) number rest parts.1 some).0) in
-    ap (λ (i : ℕ). get_or (m.control ∷ controls_of rest) i []) behind ∙ is)
+    let after : number - first ≡ suc (number - (first + 1)) = omega (arith, (module_at-range (first + 1) number rest parts.1 some).0) in
+    ap (λ (i : ℕ). get_or (m.control ∷ controls_of rest) i []) after ∙ is)
     (control-module_at (first + 1) number rest parts.1))
 control-module_at first number (ThenSub sub inner rest) h =
     let parts = numbered-sub_parts first sub inner rest h in
@@ -121,12 +123,13 @@ control-module_at first number (ThenSub sub inner rest) h =
     (λ _. if_both (module_at number rest) (HasControl (controls_of rest) (number - (first + module_count inner))) P
     (λ some found is.
     let range = module_at-range (first + module_count inner) number rest parts.1 some in
-    let behind : (number - first) - module_count inner ≡ number - (first + module_count inner) = omega arith in
+    let after : (number - first) - module_count inner ≡ number - (first + module_count inner) = omega arith in
     get_or-append_right (controls_of inner) (controls_of rest) (module_count inner) (number - first) [] (length-controls_of inner) (omega (arith, range.0))
-    ∙ ap (λ (i : ℕ). get_or (controls_of rest) i []) behind ∙ is)
+    ∙ ap (λ (i : ℕ). get_or (controls_of rest) i []) after ∙ is)
     (control-module_at (first + module_count inner) number rest parts.1))
 
-pub control_at-flat_list : (items : Items) (number : ℕ) → IsNumberedFrom 1 items → IfSome (module_at number items) (λ m. control_at (flat_list 0 items) number ≡ m.control)
+pub control_at-flat_list : (items : Items) (number : ℕ) → IsNumberedFrom 1 items
+    → IfSome (module_at number items) (λ m. control_at (flat_list 0 items) number ≡ m.control)
 control_at-flat_list items number h =
     if_both (module_at number items) (HasControl (controls_of items) (number - 1)) (λ m. control_at (flat_list 0 items) number ≡ m.control)
     (λ some m is. ap (λ (cs : List (List Action)). get_or cs (number - 1) []) (controls_in-flat_list 0 items) ∙ is)
@@ -134,7 +137,8 @@ control_at-flat_list items number h =
 
 -- A STACK'S PROGRAM
 
-pub program-flat_list : (items : Items) (positions : List ℕ) (parts : List (List Part)) → module_count items ≤ MAX_MODULES → depth items ≤ 16 → IsNumberedFrom 1 items →
+pub program-flat_list : (items : Items) (positions : List ℕ) (parts : List (List Part)) → module_count items ≤ MAX_MODULES → depth items ≤ 16
+    → IsNumberedFrom 1 items →
     positions ≡ positions_from 0 (flat_list 0 items) → AllZip IsParts (controls_in (flat_list 0 items)) parts →
     IsProgram (flat_list 0 items) positions parts
 program-flat_list items positions parts few shallow numbered found divided =
@@ -149,6 +153,7 @@ program-flat_list items positions parts few shallow numbered found divided =
     }
 
 -- the flat list, appended to an empty list
-pub whole_list : (items list : Items) (front entries : List Entry) → front ≡ [] → list ≡ items → entries ≡ front ++ flat_list 0 list → entries ≡ flat_list 0 items
+pub whole_list : (items list : Items) (front entries : List Entry) → front ≡ [] → list ≡ items → entries ≡ front ++ flat_list 0 list
+    → entries ≡ flat_list 0 items
 whole_list items list front entries f l e =
     e ∙ ap (λ (x : List Entry). x ++ flat_list 0 list) f ∙ ap (flat_list 0) l

@@ -1,10 +1,12 @@
 -- The flat list of a stack's items, each with its level, in the order of pam.conf(5), DESCRIPTION.
-use Rattle.std.specs.Prelude.{◌≡◌, ℕ, ◌+◌, ◌-◌, ◌<◌, ◌==◌, nat_lt, ◌&&◌, if◌then◌else◌, List, [], ◌∷◌, ◌++◌, length, take, drop, slice_index_or, Option, Some, None}
+use Rattle.std.specs.Prelude.{◌≡◌, ℕ, ◌+◌, ◌-◌, ◌<◌, ◌==◌, nat_lt, ◌&&◌, if◌then◌else◌}
+use Rattle.std.specs.Prelude.{List, [], ◌∷◌, ◌++◌, length, take, drop, slice_index_or, Option, Some, None}
 use Rattle.pam_codes.specs.declared.action.Action.{Action}
 use Rattle.pam_conf.specs.Stack.{Items, End, ThenModule, ThenSub}
 use Rattle.pam_dispatch.specs.declared.state.State.{State}
 use Rattle.pam_dispatch.specs.declared.entry.Entry.{Entry}
 use Rattle.pam_dispatch.specs.declared.entry.Entry.TheVariants.{Module, Substack}
+use Rattle.pam_dispatch.specs.declared.entered.TheConstants.{LISTS}
 use Rattle.pam_dispatch.specs.declared.place.Place.{Place}
 use Rattle.pam_dispatch.specs.State.{start_state}
 use Rattle.pam_dispatch.specs.Runs.{Runs, ends, asks}
@@ -18,13 +20,13 @@ flat_list level (ThenSub sub inner rest) = Substack level ∷ (flat_list (level 
 
 -- the number of substacks around an entry
 abbrev pub level_of : Entry → ℕ
-level_of (Module level number control behind) = level
+level_of (Module level number control after) = level
 level_of (Substack level) = level
 
 -- the controls of the modules, from the left
 unfoldable pub controls_in : List Entry → List (List Action)
 controls_in [] = []
-controls_in (Module level number control behind ∷ rest) = control ∷ controls_in rest
+controls_in (Module level number control after ∷ rest) = control ∷ controls_in rest
 controls_in (Substack level ∷ rest) = controls_in rest
 
 -- the number of modules
@@ -38,30 +40,30 @@ control_at program number = slice_index_or (controls_in program) (number - 1) []
 -- the positions of the modules, from the left, if `before` entries come before the list
 unfoldable pub positions_from : ℕ → List Entry → List ℕ
 positions_from before [] = []
-positions_from before (Module level number control behind ∷ rest) = before ∷ positions_from (before + 1) rest
+positions_from before (Module level number control after ∷ rest) = before ∷ positions_from (before + 1) rest
 positions_from before (Substack level ∷ rest) = positions_from (before + 1) rest
 
 -- the modules are numbered from the left, if `before` modules come before the list
 unfoldable pub IsNumbered : ℕ → List Entry → Type 0
 IsNumbered before [] = Unit {0}
-IsNumbered before (Module level number control behind ∷ rest) = (number ≡ before + 1) × IsNumbered (before + 1) rest
+IsNumbered before (Module level number control after ∷ rest) = (number ≡ before + 1) × IsNumbered (before + 1) rest
 IsNumbered before (Substack level ∷ rest) = IsNumbered before rest
 
 -- at most 16 lists are open at a module, or in a substack
 abbrev pub IsShallow : Entry → Type 0
-IsShallow (Module level number control behind) = level < 16
-IsShallow (Substack level) = level + 1 < 16
+IsShallow (Module level number control after) = level < LISTS
+IsShallow (Substack level) = level + 1 < LISTS
 
 -- the open run of a flat list: skips the entries deeper than `level` and `skip` items of that level; `entered` has
 -- the entry states of the open lists, outermost first, and `s` is the state
 unfoldable pub resume : List Entry → ℕ → ℕ → List State → State → Runs
 resume [] level skip entered s = ends s
-resume (Module here number control behind ∷ rest) level skip entered s =
+resume (Module here number control after ∷ rest) level skip entered s =
     if nat_lt level here then resume rest level skip entered s
     else if here == level && nat_lt 0 skip then resume rest level (skip - 1) entered s
     else asks
-    (record { module_number = number; control = control; state = s; entry = slice_index_or entered here start_state; behind = behind })
-    (λ o. resume rest here (behind - o.left) (take (here + 1) entered) o.state)
+    (record { module_number = number; control = control; state = s; entry = slice_index_or entered here start_state; behind = after })
+    (λ o. resume rest here (after - o.left) (take (here + 1) entered) o.state)
 resume (Substack here ∷ rest) level skip entered s =
     if nat_lt level here then resume rest level skip entered s
     else if here == level && nat_lt 0 skip then resume rest level (skip - 1) entered s
@@ -77,11 +79,11 @@ rest_of program place =
     resume (drop place.position program) place.depth 0 (take place.depth place.entered.states) place.state
 
 -- a place is at a module, with an entry state for each open list, or at the end
-abbrev pub StandsAt : List Entry → ℕ → Option ℕ → Type 0
-StandsAt [] depth here = here ≡ None
-StandsAt (Module level number control behind ∷ rest) depth here = (depth ≡ level + 1) × (here ≡ Some number)
-StandsAt (Substack level ∷ rest) depth here = ⊥
+abbrev pub IsAt : List Entry → ℕ → Option ℕ → Type 0
+IsAt [] depth here = here ≡ None
+IsAt (Module level number control after ∷ rest) depth here = (depth ≡ level + 1) × (here ≡ Some number)
+IsAt (Substack level ∷ rest) depth here = ⊥
 
 -- a place is one of the program
 unfoldable pub IsPlaceOf : List Entry → Place → Type 0
-IsPlaceOf program place = StandsAt (drop place.position program) place.depth place.module_number
+IsPlaceOf program place = IsAt (drop place.position program) place.depth place.module_number

@@ -5,16 +5,8 @@ use Rattle.pam_codes.specs.declared.action.Action.TheVariants.{Ignore, Ok, Done,
 use Rattle.pam_dispatch.specs.declared.state.Impression.{Impression}
 use Rattle.pam_dispatch.specs.declared.state.Impression.TheVariants.{Undef, Positive, Negative}
 use Rattle.pam_dispatch.specs.declared.state.State.{State}
-
--- the numbers of three codes
-abbrev pub success : ℕ
-success = 0
-
-abbrev pub perm_denied : ℕ
-perm_denied = 6
-
-abbrev pub ignored : ℕ
-ignored = 25
+-- the codes that the rules name
+pub use Rattle.pam_codes.specs.Code.{success, perm_denied, ignored}
 
 -- a state, by its parts
 abbrev pub state_with : Impression → ℕ → State
@@ -39,29 +31,29 @@ refused Positive status code = state_with Negative (if code == ignored then perm
 -- the state after a module, from the action, the code, the state before, the state in which its list was
 -- entered, and the number of items after it in its list
 abbrev pub act : Action → ℕ → State → State → ℕ → State
-act Ignore code s entry behind = s
-act Ok code s entry behind = accepted s.impression s.status code
-act Done code s entry behind = accepted s.impression s.status code
-act Bad code s entry behind = refused s.impression s.status code
-act Die code s entry behind = refused s.impression s.status code
-act Reset code s entry behind = entry
-act (Jump items) code s entry behind = if nat_le items behind then s else state_with Negative perm_denied
+act Ignore code s entry after = s
+act Ok code s entry after = accepted s.impression s.status code
+act Done code s entry after = accepted s.impression s.status code
+act Bad code s entry after = refused s.impression s.status code
+act Die code s entry after = refused s.impression s.status code
+act Reset code s entry after = entry
+act (Jump items) code s entry after = if nat_le items after then s else state_with Negative perm_denied
 
 -- the items left by done: none if the impression is positive, else all
 abbrev pub left_unless_positive : Impression → ℕ → ℕ
-left_unless_positive Positive behind = 0
-left_unless_positive Undef behind = behind
-left_unless_positive Negative behind = behind
+left_unless_positive Positive after = 0
+left_unless_positive Undef after = after
+left_unless_positive Negative after = after
 
 -- the number of items left after the module
 abbrev pub left_of : Action → ℕ → State → ℕ → ℕ
-left_of Ignore code s behind = behind
-left_of Ok code s behind = behind
-left_of Bad code s behind = behind
-left_of Reset code s behind = behind
-left_of Die code s behind = 0
-left_of Done code s behind = left_unless_positive (accepted s.impression s.status code).impression behind
-left_of (Jump items) code s behind = if nat_le items behind then behind - items else 0
+left_of Ignore code s after = after
+left_of Ok code s after = after
+left_of Bad code s after = after
+left_of Reset code s after = after
+left_of Die code s after = 0
+left_of Done code s after = left_unless_positive (accepted s.impression s.status code).impression after
+left_of (Jump items) code s after = if nat_le items after then after - items else 0
 
 -- the action of a code in a control
 abbrev pub action_of : List Action → ℕ → Action

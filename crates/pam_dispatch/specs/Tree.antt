@@ -21,50 +21,50 @@ controls_of (ThenModule m rest) = m.control ∷ controls_of rest
 controls_of (ThenSub sub inner rest) = controls_of inner ++ controls_of rest
 
 -- the items after the first `skip`
-unfoldable pub items_behind : ℕ → Items → Items
-items_behind zero items = items
-items_behind (suc skip) End = End
-items_behind (suc skip) (ThenModule m rest) = items_behind skip rest
-items_behind (suc skip) (ThenSub sub inner rest) = items_behind skip rest
+unfoldable pub items_after : ℕ → Items → Items
+items_after zero items = items
+items_after (suc skip) End = End
+items_after (suc skip) (ThenModule m rest) = items_after skip rest
+items_after (suc skip) (ThenSub sub inner rest) = items_after skip rest
 
 -- the last `left` items of a list
 abbrev pub last_items : ℕ → Items → Items
-last_items left items = items_behind (count items - left) items
+last_items left items = items_after (count items - left) items
 
 -- a module as it is asked, before the rest of its list, in the state `s`, in a list entered in the state `entry`
 abbrev pub ask_of : ModuleText → Items → State → State → Ask
 ask_of m rest s entry = record { module_number = m.number; control = m.control; state = s; entry = entry; behind = count rest }
 
 -- the state in which a run of the items after the first `skip` ends
-unfoldable pub run_behind : ℕ → Items → State → State → Assignment → State
-run_behind skip End s entry answers = s
-run_behind (suc skip) (ThenModule m rest) s entry answers = run_behind skip rest s entry answers
-run_behind (suc skip) (ThenSub sub inner rest) s entry answers = run_behind skip rest s entry answers
-run_behind zero (ThenModule m rest) s entry answers =
+unfoldable pub run_after : ℕ → Items → State → State → Assignment → State
+run_after skip End s entry answers = s
+run_after (suc skip) (ThenModule m rest) s entry answers = run_after skip rest s entry answers
+run_after (suc skip) (ThenSub sub inner rest) s entry answers = run_after skip rest s entry answers
+run_after zero (ThenModule m rest) s entry answers =
     let outcome = outcome_of (ask_of m rest s entry) (answers m.number) in
-    run_behind (count rest - outcome.left) rest outcome.state entry answers
-run_behind zero (ThenSub sub inner rest) s entry answers =
-    run_behind zero rest (run_behind zero inner s s answers) entry answers
+    run_after (count rest - outcome.left) rest outcome.state entry answers
+run_after zero (ThenSub sub inner rest) s entry answers =
+    run_after zero rest (run_after zero inner s s answers) entry answers
 
 -- the modules asked in that run, in order
-unfoldable pub asked_behind : ℕ → Items → State → State → Assignment → List Ask
-asked_behind skip End s entry answers = []
-asked_behind (suc skip) (ThenModule m rest) s entry answers = asked_behind skip rest s entry answers
-asked_behind (suc skip) (ThenSub sub inner rest) s entry answers = asked_behind skip rest s entry answers
-asked_behind zero (ThenModule m rest) s entry answers =
+unfoldable pub asked_after : ℕ → Items → State → State → Assignment → List Ask
+asked_after skip End s entry answers = []
+asked_after (suc skip) (ThenModule m rest) s entry answers = asked_after skip rest s entry answers
+asked_after (suc skip) (ThenSub sub inner rest) s entry answers = asked_after skip rest s entry answers
+asked_after zero (ThenModule m rest) s entry answers =
     let outcome = outcome_of (ask_of m rest s entry) (answers m.number) in
-    ask_of m rest s entry ∷ asked_behind (count rest - outcome.left) rest outcome.state entry answers
-asked_behind zero (ThenSub sub inner rest) s entry answers =
-    asked_behind zero inner s s answers
-    ++ asked_behind zero rest (run_behind zero inner s s answers) entry answers
+    ask_of m rest s entry ∷ asked_after (count rest - outcome.left) rest outcome.state entry answers
+asked_after zero (ThenSub sub inner rest) s entry answers =
+    asked_after zero inner s s answers
+    ++ asked_after zero rest (run_after zero inner s s answers) entry answers
 
 -- the state in which a run of these items from the state `s` ends, in a list entered in the state `entry`
 abbrev pub run : Items → State → State → Assignment → State
-run items s entry answers = run_behind 0 items s entry answers
+run items s entry answers = run_after 0 items s entry answers
 
 -- the modules asked in that run, in order
 abbrev pub asked : Items → State → State → Assignment → List Ask
-asked items s entry answers = asked_behind 0 items s entry answers
+asked items s entry answers = asked_after 0 items s entry answers
 
 -- THE DECISION of a stack whose modules give these answers
 unfoldable pub decided : Items → Assignment → ℕ

@@ -18,7 +18,7 @@ impl Entered {
 
     /// The state in which the list at `level` was entered.
     pub(crate) fn at(&self, level: usize) -> State
-        requires { level < 16 }
+        requires { level < LISTS }
         ensures { result ≡ slice_index_or self.now.states level start_state }
     {
         self.states[level]
@@ -26,7 +26,7 @@ impl Entered {
 
     /// Enters the list at `level` in this state.
     pub(crate) fn enter(&mut self, level: usize, state: &State)
-        requires { level < 16 }
+        requires { level < LISTS }
         ensures { self.new.states ≡ slice_set self.old.states level state.now }
     {
         self.states[level] = *state;

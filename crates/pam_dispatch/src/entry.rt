@@ -11,7 +11,7 @@ pub enum Entry {
         number: usize,
         control: Control,
         /// The number of items after it in its own list.
-        behind: usize,
+        items_after: usize,
     },
     /// The items of the substack follow, one level deeper.
     Substack {

@@ -1,6 +1,8 @@
 //! Laws of the definitions that the contracts cite: each is the contract of an empty function.
 
-ghost use Rattle.pam_dispatch.specs.Laws.{AskedOfModule, AskedOfNothing, AskedOfSubstack, LastItemsCount, LeftFits, OpenRunAsks, OpenRunDecides, OpenRunEnds, OutcomeIsRetold, OutcomeIsShared, OutcomesDiffer, RunOfModule, RunOfNothing, RunOfSubstack};
+ghost use Rattle.pam_dispatch.specs.Laws.{RunOfModule, RunOfNothing, RunOfSubstack, AskedOfModule, AskedOfNothing, AskedOfSubstack};
+ghost use Rattle.pam_dispatch.specs.Laws.{LastItemsCount, LeftFits, OpenRunAsks, OpenRunDecides, OpenRunEnds};
+ghost use Rattle.pam_dispatch.specs.Laws.{OutcomeIsRetold, OutcomeIsShared, OutcomesDiffer};
 
 /// The run of a list of items: empty, or beginning with a substack or a module.
 pub fn run_of_items()

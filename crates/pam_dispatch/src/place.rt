@@ -1,6 +1,7 @@
 //! The places of a run.
 
 ghost use Rattle.std.specs.Prelude.{◌≤◌};
+ghost use Rattle.pam_dispatch.specs.declared.entered.TheConstants.{LISTS};
 
 use crate::entered::{Entered, LISTS};
 use crate::state::State;
@@ -13,7 +14,7 @@ pub struct Place {
     pub(crate) entered: Entered,
     pub(crate) state: State,
     pub(crate) module_number: Option<usize>,
-    pub ghost shallow: { depth ≤ 16 },
+    pub ghost shallow: { depth ≤ LISTS },
 }
 
 /// The place of a stack without modules.

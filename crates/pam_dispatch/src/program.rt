@@ -101,15 +101,15 @@ fn answer_at(entries: &[Entry], place: &Place, code: Code) -> Answered
         Entry::Module {
             level,
             control,
-            behind,
+            items_after,
             ..
         } => {
             let entry = place.entered.at(*level);
-            let outcome = Outcome::of(control.action(code), code, place.state, entry, *behind);
+            let outcome = Outcome::of(control.action(code), code, place.state, entry, *items_after);
             Answered {
                 outcome,
                 level: *level,
-                skip: *behind - outcome.left,
+                skip: *items_after - outcome.left,
             }
         }
         Entry::Substack { .. } => unreachable!(),

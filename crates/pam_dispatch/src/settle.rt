@@ -2,6 +2,7 @@
 
 ghost use Rattle.std.specs.Prelude.{◌≡◌, ◌<◌, ◌≤◌, All, drop, take};
 ghost use Rattle.pam_dispatch.specs.Flat.{IsPlaceOf, IsShallow, resume, rest_of};
+ghost use Rattle.pam_dispatch.specs.declared.entered.TheConstants.{LISTS};
 
 use crate::entered::Entered;
 use crate::entry::Entry;
@@ -20,7 +21,7 @@ pub fn settle(
     state: &State,
 ) -> Place
     requires below { level < depth }
-    requires shallow { depth ≤ 16 }
+    requires shallow { depth ≤ LISTS }
     requires entries { All IsShallow program.now }
     ensures place { IsPlaceOf program.now result }
     ensures state { result.state ≡ state.now }

@@ -15,30 +15,30 @@ pub struct Outcome {
 }
 
 impl Outcome {
-    /// The outcome of `action` for `code` in `state`; the list was entered in `entry`, and `behind` items of it follow.
+    /// The outcome of `action` for `code` in `state`; the list was entered in `entry`, and `items_after` items of it follow.
     pub(crate) fn of(
         action: Action,
         code: Code,
         state: State,
         entry: State,
-        behind: usize,
+        items_after: usize,
     ) -> Outcome
-        ensures state { result.state ≡ act action code state entry behind }
-        ensures left { result.left ≡ left_of action code state behind }
+        ensures state { result.state ≡ act action code state entry items_after }
+        ensures left { result.left ≡ left_of action code state items_after }
     {
         match action {
             Action::Ignore => Outcome {
                 state,
-                left: behind,
+                left: items_after,
             },
             Action::Ok => Outcome {
                 state: state.accept(code),
-                left: behind,
+                left: items_after,
             },
-            Action::Done => done(state.accept(code), behind),
+            Action::Done => done(state.accept(code), items_after),
             Action::Bad => Outcome {
                 state: state.refuse(code),
-                left: behind,
+                left: items_after,
             },
             Action::Die => Outcome {
                 state: state.refuse(code),
@@ -46,34 +46,34 @@ impl Outcome {
             },
             Action::Reset => Outcome {
                 state: entry,
-                left: behind,
+                left: items_after,
             },
-            Action::Jump(items) => jump(items as usize, state, behind),
+            Action::Jump(items) => jump(items as usize, state, items_after),
         }
     }
 }
 
 /// The outcome of `done`, after which the state is `state`.
-fn done(state: State, behind: usize) -> Outcome
+fn done(state: State, items_after: usize) -> Outcome
     ensures state { result.state ≡ state }
-    ensures left { result.left ≡ left_unless_positive state.impression behind }
+    ensures left { result.left ≡ left_unless_positive state.impression items_after }
 {
     let left = match state.impression {
         Impression::Positive => 0,
-        Impression::Undef | Impression::Negative => behind,
+        Impression::Undef | Impression::Negative => items_after,
     };
     Outcome { state, left }
 }
 
 /// The outcome of a jump. One past the end of the list fails as perm_denied.
-fn jump(items: usize, state: State, behind: usize) -> Outcome
-    ensures state { result.state ≡ (if nat_le items behind then state else state_with Impression.Negative perm_denied) }
-    ensures left { result.left ≡ (if nat_le items behind then behind - items else 0) }
+fn jump(items: usize, state: State, items_after: usize) -> Outcome
+    ensures state { result.state ≡ (if nat_le items items_after then state else state_with Impression.Negative perm_denied) }
+    ensures left { result.left ≡ (if nat_le items items_after then items_after - items else 0) }
 {
-    if items <= behind {
+    if items <= items_after {
         return Outcome {
             state,
-            left: behind - items,
+            left: items_after - items,
         };
     }
     Outcome {

@@ -1,5 +1,6 @@
 -- A run of plain bytes in front of a text.
-use Rattle.std.proofs.Common.{◌≡◌, ◌+◌, ◌++◌, ◌∙◌, sym, ap, refl, one-add, append-nil, append_assoc, length-append, length, arith, ℕ, Bool, true, false, List, [], ◌∷◌, take, drop, cond, eqb}
+use Rattle.std.proofs.Common.{◌≡◌, ◌+◌, ◌++◌, ◌∙◌, sym, ap, refl, one-add, append-nil, append_assoc, length-append, length, arith, ℕ, Bool, true}
+use Rattle.std.proofs.Common.{false, List, [], ◌∷◌, take, drop, cond, eqb}
 use Rattle.std.specs.List.{prefix_len}
 use Rattle.std.proofs.lemmas.Bool.{eqb-true, false≢true}
 use Rattle.pam_text.specs.Text.{Mark, text_of, first_line, after_line, is_plain}
@@ -19,24 +20,38 @@ plain_step : (b : ℕ) (bs : List ℕ) (l : ℕ) → is_plain b ≡ true → tex
 plain_step b bs l h = step_plain (b ∷ bs) b bs l (past_comment-no (b ∷ bs) (not_hash b h)) (not_feed b h) (not_backslash b h)
 
 first_plain : (b l : ℕ) (ms : List Mark) → is_plain b ≡ true → first_line ((l, b) ∷ ms) ≡ b ∷ first_line ms
-first_plain b l ms h = elim (eqb b 10) as (λ (t : Bool). eqb b 10 ≡ t → cond t [] (b ∷ first_line ms) ≡ b ∷ first_line ms) [ true ↦ λ e. absurd (not_feed b h (eqb-true b 10 e)) | false ↦ λ e. refl ] refl
+first_plain b l ms h =
+    elim (eqb b 10) as (λ (t : Bool). eqb b 10 ≡ t → cond t [] (b ∷ first_line ms) ≡ b ∷ first_line ms) [
+      | true ↦ λ e. absurd (not_feed b h (eqb-true b 10 e))
+      | false ↦ λ e. refl
+    ] refl
 
 after_plain : (b l : ℕ) (ms : List Mark) → is_plain b ≡ true → after_line ((l, b) ∷ ms) ≡ after_line ms
-after_plain b l ms h = elim (eqb b 10) as (λ (t : Bool). eqb b 10 ≡ t → cond t ms (after_line ms) ≡ after_line ms) [ true ↦ λ e. absurd (not_feed b h (eqb-true b 10 e)) | false ↦ λ e. refl ] refl
+after_plain b l ms h =
+    elim (eqb b 10) as (λ (t : Bool). eqb b 10 ≡ t → cond t ms (after_line ms) ≡ after_line ms) [
+      | true ↦ λ e. absurd (not_feed b h (eqb-true b 10 e))
+      | false ↦ λ e. refl
+    ] refl
 
 pub run_line : (l : ℕ) (bs : List ℕ) → first_line (text_of l bs) ≡ take (prefix_len is_plain bs) bs ++ first_line (text_of l (drop (prefix_len is_plain bs) bs))
 run_line l [] = refl
-run_line l (b ∷ bs) = elim (is_plain b) as (λ (t : Bool). is_plain b ≡ t → first_line (text_of l (b ∷ bs)) ≡ take (cond t (1 + prefix_len is_plain bs) 0) (b ∷ bs) ++ first_line (text_of l (drop (cond t (1 + prefix_len is_plain bs) 0) (b ∷ bs)))) [
-  | true ↦ λ h. rw one-add (ap first_line (plain_step b bs l h) ∙ first_plain b l (text_of l bs) h ∙ ap (λ (xs : List ℕ). b ∷ xs) (run_line l bs))
-  | false ↦ λ h. refl
-] refl
+run_line l (b ∷ bs) =
+    elim (is_plain b) as (λ (t : Bool).
+    is_plain b ≡ t
+    → first_line (text_of l (b ∷ bs))
+    ≡ take (cond t (1 + prefix_len is_plain bs) 0) (b ∷ bs) ++ first_line (text_of l (drop (cond t (1 + prefix_len is_plain bs) 0) (b ∷ bs)))) [
+      | true ↦ λ h. rw one-add (ap first_line (plain_step b bs l h) ∙ first_plain b l (text_of l bs) h ∙ ap (λ (xs : List ℕ). b ∷ xs) (run_line l bs))
+      | false ↦ λ h. refl
+    ] refl
 
 pub run_after : (l : ℕ) (bs : List ℕ) → after_line (text_of l bs) ≡ after_line (text_of l (drop (prefix_len is_plain bs) bs))
 run_after l [] = refl
-run_after l (b ∷ bs) = elim (is_plain b) as (λ (t : Bool). is_plain b ≡ t → after_line (text_of l (b ∷ bs)) ≡ after_line (text_of l (drop (cond t (1 + prefix_len is_plain bs) 0) (b ∷ bs)))) [
-  | true ↦ λ h. rw one-add (ap after_line (plain_step b bs l h) ∙ after_plain b l (text_of l bs) h ∙ run_after l bs)
-  | false ↦ λ h. refl
-] refl
+run_after l (b ∷ bs) =
+    elim (is_plain b) as (λ (t : Bool).
+    is_plain b ≡ t → after_line (text_of l (b ∷ bs)) ≡ after_line (text_of l (drop (cond t (1 + prefix_len is_plain bs) 0) (b ∷ bs)))) [
+      | true ↦ λ h. rw one-add (ap after_line (plain_step b bs l h) ∙ after_plain b l (text_of l bs) h ∙ run_after l bs)
+      | false ↦ λ h. refl
+    ] refl
 
 -- a run of plain bytes, and what is left after it
 module _ (l n : ℕ) (bs v s : List ℕ) (e : n ≡ prefix_len is_plain bs) (front : v ≡ take n bs) (back : s ≡ drop n bs) where
@@ -48,7 +63,9 @@ module _ (l n : ℕ) (bs v s : List ℕ) (e : n ≡ prefix_len is_plain bs) (fro
 
   -- a text with a run in front is not empty
   pub nothing_run : text_of l bs ≡ [] → length v ≡ 0
-  nothing_run h = let none : length (v ++ first_line (text_of l s)) ≡ 0 = ap length (sym line_of_run ∙ ap first_line h) in omega (arith, none, length-append v (first_line (text_of l s)))
+  nothing_run h =
+      let none : length (v ++ first_line (text_of l s)) ≡ 0 = ap length (sym line_of_run ∙ ap first_line h) in
+      omega (arith, none, length-append v (first_line (text_of l s)))
 
   pub nothing_after : text_of l bs ≡ [] → length v ≡ n → text_of l s ≡ []
   nothing_after h k = let zero : n ≡ 0 = omega (arith, k, nothing_run h) in ap (text_of l) (back ∙ ap (λ (m : ℕ). drop m bs) zero) ∙ h
@@ -82,15 +99,25 @@ module _ (l n : ℕ) (bs v s : List ℕ) (e : n ≡ prefix_len is_plain bs) (fro
     rest_fed e10 = rest_to ∙ ap (λ (x : ℕ). after_line ((l, x) ∷ ms)) e10
 
 -- a text with a run in front is not empty, and one with none and nothing after it is
-pub no_text : (l n : ℕ) (bs s v : List ℕ) → n ≡ prefix_len is_plain bs → v ≡ take n bs → s ≡ drop n bs → length v ≡ n → length v ≡ 0 → text_of l s ≡ [] → text_of l bs ≡ []
-no_text l n bs s v e f b k z h = let zero : n ≡ 0 = omega (arith, k, z) in sym (ap (λ (m : ℕ). text_of l (drop m bs)) zero) ∙ ap (λ (xs : List ℕ). text_of l xs) (sym b) ∙ h
+pub no_text : (l n : ℕ) (bs s v : List ℕ) → n ≡ prefix_len is_plain bs → v ≡ take n bs → s ≡ drop n bs → length v ≡ n → length v ≡ 0
+    → text_of l s ≡ [] → text_of l bs ≡ []
+no_text l n bs s v e f b k z h =
+    let zero : n ≡ 0 = omega (arith, k, z) in sym (ap (λ (m : ℕ). text_of l (drop m bs)) zero) ∙ ap (λ (xs : List ℕ). text_of l xs) (sym b) ∙ h
 
 -- a byte that is no line feed belongs to the line
 pub kept_byte : (b l : ℕ) (ms : List Mark) (old new : List ℕ) → (b ≡ 10 → ⊥) → new ≡ old ++ b ∷ [] → new ++ first_line ms ≡ old ++ first_line ((l, b) ∷ ms)
-kept_byte b l ms old new n k = elim (eqb b 10) as (λ (t : Bool). eqb b 10 ≡ t → new ++ first_line ms ≡ old ++ cond t [] (b ∷ first_line ms)) [ true ↦ λ e. absurd (n (eqb-true b 10 e)) | false ↦ λ e. ap (λ (xs : List ℕ). xs ++ first_line ms) k ∙ append_assoc old (b ∷ []) (first_line ms) ] refl
+kept_byte b l ms old new n k =
+    elim (eqb b 10) as (λ (t : Bool). eqb b 10 ≡ t → new ++ first_line ms ≡ old ++ cond t [] (b ∷ first_line ms)) [
+      | true ↦ λ e. absurd (n (eqb-true b 10 e))
+      | false ↦ λ e. ap (λ (xs : List ℕ). xs ++ first_line ms) k ∙ append_assoc old (b ∷ []) (first_line ms)
+    ] refl
 
 pub kept_rest : (b l : ℕ) (ms : List Mark) → (b ≡ 10 → ⊥) → after_line ms ≡ after_line ((l, b) ∷ ms)
-kept_rest b l ms n = elim (eqb b 10) as (λ (t : Bool). eqb b 10 ≡ t → after_line ms ≡ cond t ms (after_line ms)) [ true ↦ λ e. absurd (n (eqb-true b 10 e)) | false ↦ λ e. refl ] refl
+kept_rest b l ms n =
+    elim (eqb b 10) as (λ (t : Bool). eqb b 10 ≡ t → after_line ms ≡ cond t ms (after_line ms)) [
+      | true ↦ λ e. absurd (n (eqb-true b 10 e))
+      | false ↦ λ e. refl
+    ] refl
 
 pub feed_line : (b l : ℕ) (ms : List Mark) → b ≡ 10 → first_line ((l, b) ∷ ms) ≡ []
 feed_line b l ms e = ap (λ (x : ℕ). first_line ((l, x) ∷ ms)) e
@@ -99,12 +126,20 @@ pub feed_rest : (b l : ℕ) (ms : List Mark) → b ≡ 10 → after_line ((l, b)
 feed_rest b l ms e = ap (λ (x : ℕ). after_line ((l, x) ∷ ms)) e
 
 -- a line that goes on after a run and one more byte
-module _ (l n : ℕ) (bs v s : List ℕ) (e : n ≡ prefix_len is_plain bs) (front : v ≡ take n bs) (back : s ≡ drop n bs) (b : ℕ) (ms : List Mark) (h : text_of l s ≡ (l, b) ∷ ms) (not10 : b ≡ 10 → ⊥) where
+module _ (l n : ℕ) (bs v s : List ℕ) (e : n ≡ prefix_len is_plain bs) (front : v ≡ take n bs) (back : s ≡ drop n bs) (b : ℕ) (ms : List Mark)
+    (h : text_of l s ≡ (l, b) ∷ ms) (not10 : b ≡ 10 → ⊥) where
   pub joined_line : (w0 w1 w2 r : List ℕ) → w0 ≡ [] → w1 ≡ w0 ++ v → w2 ≡ w1 ++ b ∷ [] → r ≡ w2 ++ first_line ms → r ≡ first_line (text_of l bs)
-  joined_line w0 w1 w2 r e0 e1 e2 e3 = e3 ∙ kept_byte b l ms w1 w2 not10 e2 ∙ ap (λ (xs : List ℕ). xs ++ first_line ((l, b) ∷ ms)) (e1 ∙ ap (λ (xs : List ℕ). xs ++ v) e0) ∙ sym (line_to l n bs v s e front back b ms h)
+  joined_line w0 w1 w2 r e0 e1 e2 e3 =
+      e3
+      ∙ kept_byte b l ms w1 w2 not10 e2
+      ∙ ap (λ (xs : List ℕ). xs ++ first_line ((l, b) ∷ ms)) (e1 ∙ ap (λ (xs : List ℕ). xs ++ v) e0)
+      ∙ sym (line_to l n bs v s e front back b ms h)
 
   pub joined_rest : after_line ms ≡ after_line (text_of l bs)
   joined_rest = kept_rest b l ms not10 ∙ sym (rest_to l n bs v s e front back b ms h)
 
-pub some_text : (l n : ℕ) (bs v s : List ℕ) (b : ℕ) (ms : List Mark) → n ≡ prefix_len is_plain bs → v ≡ take n bs → s ≡ drop n bs → length v ≡ n → text_of l s ≡ (l, b) ∷ ms → text_of l bs ≡ [] → ⊥
-some_text l n bs v s b ms e f k m h none = let empty : text_of l s ≡ [] = nothing_after l n bs v s e f k none m in let both : ◌≡◌ {A = List Mark} [] ((l, b) ∷ ms) = sym empty ∙ h in absurd (cc)
+pub some_text : (l n : ℕ) (bs v s : List ℕ) (b : ℕ) (ms : List Mark) → n ≡ prefix_len is_plain bs → v ≡ take n bs → s ≡ drop n bs → length v ≡ n
+    → text_of l s ≡ (l, b) ∷ ms → text_of l bs ≡ [] → ⊥
+some_text l n bs v s b ms e f k m h none =
+    let empty : text_of l s ≡ [] = nothing_after l n bs v s e f k none m in
+    let both : ◌≡◌ {A = List Mark} [] ((l, b) ∷ ms) = sym empty ∙ h in absurd (cc)

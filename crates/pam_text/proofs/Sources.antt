@@ -13,7 +13,9 @@ past_all p (b ∷ bs) h = elim (p b) as (λ (t : Bool). (t || list_any p bs) ≡
 ] h
 
 nowhere : (p : ℕ → Bool) (bs : List ℕ) → list_any p bs ≡ false → position p bs ≡ None
-nowhere p bs h = ap (λ (t : Bool). cond t (Some (position_or_len p bs)) None) (le-ltb (position_or_len p bs) (length bs) (let e : position_or_len p bs ≡ length bs = past_all p bs h in omega (arith, e)))
+nowhere p bs h =
+    ap (λ (t : Bool). cond t (Some (position_or_len p bs)) None)
+    (le-ltb (position_or_len p bs) (length bs) (let e : position_or_len p bs ≡ length bs = past_all p bs h in omega (arith, e)))
 
 pub sound : (bs : List ℕ) → length bs ≤ 1048576 → list_any (λ b. b == 0) bs ≡ false → source_fault bs ≡ None
 unfolding source_fault

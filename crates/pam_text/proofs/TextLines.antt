@@ -12,41 +12,68 @@ HeadIs l (m ∷ ms) = m.0 ≡ l
 head_in_comment : (l : ℕ) (bs : List ℕ) → HeadIs l (uncommented true (marked l bs))
 unfolding HeadIs marked uncommented
 head_in_comment l [] = tt
-head_in_comment l (b ∷ bs) = elim (eqb b 10) as (λ (t : Bool). HeadIs l (cond t ((l, b) ∷ uncommented false (marked (cond t (l + 1) l) bs)) (uncommented true (marked (cond t (l + 1) l) bs)))) [ true ↦ refl | false ↦ head_in_comment l bs ]
+head_in_comment l (b ∷ bs) =
+    elim (eqb b 10) as (λ (t : Bool).
+    HeadIs l (cond t ((l, b) ∷ uncommented false (marked (cond t (l + 1) l) bs)) (uncommented true (marked (cond t (l + 1) l) bs)))) [
+      | true ↦ refl
+      | false ↦ head_in_comment l bs
+    ]
 
 head_of_rest : (l : ℕ) (bs : List ℕ) → HeadIs l (uncommented false (marked l bs))
 unfolding HeadIs marked uncommented
 head_of_rest l [] = tt
-head_of_rest l (b ∷ bs) = elim (eqb b 35) as (λ (t : Bool). eqb b 35 ≡ t → HeadIs l (cond t (uncommented true (marked (cond (eqb b 10) (l + 1) l) bs)) ((l, b) ∷ uncommented false (marked (cond (eqb b 10) (l + 1) l) bs)))) [
-  | true ↦ λ e. let is : b ≡ 35 = eqb-true b 35 e in rw is (head_in_comment l bs)
-  | false ↦ λ e. refl
-] refl
+head_of_rest l (b ∷ bs) =
+    elim (eqb b 35) as (λ (t : Bool).
+    eqb b 35 ≡ t
+    → HeadIs l (cond t (uncommented true (marked (cond (eqb b 10) (l + 1) l) bs))
+    ((l, b) ∷ uncommented false (marked (cond (eqb b 10) (l + 1) l) bs)))) [
+      | true ↦ λ e. let is : b ≡ 35 = eqb-true b 35 e in rw is (head_in_comment l bs)
+      | false ↦ λ e. refl
+    ] refl
 
 head_joined : (l : ℕ) (ms : List Mark) → HeadIs l ms → HeadIs l (joined ms)
 unfolding HeadIs joined
 head_joined l [] h = tt
 head_joined l (m ∷ []) h = h
-head_joined l (m ∷ n ∷ ms) h = elim (eqb m.1 92 && eqb n.1 10) as (λ (t : Bool). HeadIs l (cond t ((m.0, 32) ∷ joined ms) (m ∷ joined (n ∷ ms)))) [ true ↦ h | false ↦ h ]
+head_joined l (m ∷ n ∷ ms) h =
+    elim (eqb m.1 92 && eqb n.1 10) as (λ (t : Bool). HeadIs l (cond t ((m.0, 32) ∷ joined ms) (m ∷ joined (n ∷ ms)))) [ true ↦ h | false ↦ h ]
 
 pub head_is : (l : ℕ) (bs : List ℕ) → HeadIs l (text_of l bs)
 head_is l bs = head_joined l _ (head_of_rest l bs)
 
 pub bytes_of_marks : (ms : List Mark) → map (λ m. m.1) (first_marks ms) ≡ first_line ms
 bytes_of_marks [] = refl
-bytes_of_marks (m ∷ ms) = elim (eqb m.1 10) as (λ (t : Bool). map (λ m. m.1) (cond t [] (m ∷ first_marks ms)) ≡ cond t [] (m.1 ∷ first_line ms)) [ true ↦ refl | false ↦ ap (λ bs. m.1 ∷ bs) (bytes_of_marks ms) ]
+bytes_of_marks (m ∷ ms) =
+    elim (eqb m.1 10) as (λ (t : Bool). map (λ m. m.1) (cond t [] (m ∷ first_marks ms)) ≡ cond t [] (m.1 ∷ first_line ms)) [
+      | true ↦ refl
+      | false ↦ ap (λ bs. m.1 ∷ bs) (bytes_of_marks ms)
+    ]
 
 -- the lines of a text are its first, and those after it, if a line feed ends it
 pub split_first : (ms : List Mark) → (lines_of ms ≡ first_marks ms ∷ lines_of (after_line ms)) ⊎ ((lines_of ms ≡ first_marks ms ∷ []) × (after_line ms ≡ []))
 split_first [] = inr (refl, refl)
-split_first (m ∷ ms) = elim (eqb m.1 10) as (λ (t : Bool). (cond t ([] ∷ lines_of ms) (onto_first m (lines_of ms)) ≡ cond t [] (m ∷ first_marks ms) ∷ lines_of (cond t ms (after_line ms))) ⊎ ((cond t ([] ∷ lines_of ms) (onto_first m (lines_of ms)) ≡ cond t [] (m ∷ first_marks ms) ∷ []) × (cond t ms (after_line ms) ≡ []))) [
-  | true ↦ inl refl
-  | false ↦ ⊎_elim (λ e. inl (ap (onto_first m) e)) (λ p. inr (ap (onto_first m) p.0, p.1)) (split_first ms)
-]
+split_first (m ∷ ms) =
+    elim (eqb m.1 10) as (λ (t : Bool).
+    (cond t ([] ∷ lines_of ms) (onto_first m (lines_of ms)) ≡ cond t [] (m ∷ first_marks ms) ∷ lines_of (cond t ms (after_line ms))) ⊎
+    ((cond t ([] ∷ lines_of ms) (onto_first m (lines_of ms)) ≡ cond t [] (m ∷ first_marks ms) ∷ []) × (cond t ms (after_line ms) ≡ []))) [
+      | true ↦ inl refl
+      | false ↦ ⊎_elim (λ e. inl (ap (onto_first m) e)) (λ p. inr (ap (onto_first m) p.0, p.1)) (split_first ms)
+    ]
 
 first_of : (m : Mark) (ms : List Mark) → text_lines (m ∷ ms) ≡ (m.0, first_line (m ∷ ms)) ∷ text_lines (after_line (m ∷ ms))
 unfolding text_lines
-first_of m [] = elim (eqb m.1 10) as (λ (t : Bool). cond t ((m.0, []) ∷ []) (onto_line m []) ≡ (m.0, cond t [] (m.1 ∷ [])) ∷ text_lines (cond t [] [])) [ true ↦ refl | false ↦ refl ]
-first_of m (k ∷ ms) = elim (eqb m.1 10) as (λ (t : Bool). cond t ((m.0, []) ∷ text_lines (k ∷ ms)) (onto_line m (text_lines (k ∷ ms))) ≡ (m.0, cond t [] (m.1 ∷ first_line (k ∷ ms))) ∷ text_lines (cond t (k ∷ ms) (after_line (k ∷ ms)))) [ true ↦ refl | false ↦ ap (onto_line m) (first_of k ms) ]
+first_of m [] =
+    elim (eqb m.1 10) as (λ (t : Bool). cond t ((m.0, []) ∷ []) (onto_line m []) ≡ (m.0, cond t [] (m.1 ∷ [])) ∷ text_lines (cond t [] [])) [
+      | true ↦ refl
+      | false ↦ refl
+    ]
+first_of m (k ∷ ms) =
+    elim (eqb m.1 10) as (λ (t : Bool).
+    cond t ((m.0, []) ∷ text_lines (k ∷ ms)) (onto_line m (text_lines (k ∷ ms)))
+    ≡ (m.0, cond t [] (m.1 ∷ first_line (k ∷ ms))) ∷ text_lines (cond t (k ∷ ms) (after_line (k ∷ ms)))) [
+      | true ↦ refl
+      | false ↦ ap (onto_line m) (first_of k ms)
+    ]
 
 -- the lines of a text that is not empty are its first, and those after it
 pub lines_step : (l : ℕ) (ms : List Mark) → HeadIs l ms → (ms ≡ [] → ⊥) → text_lines ms ≡ (l, first_line ms) ∷ text_lines (after_line ms)
@@ -54,8 +81,12 @@ unfolding HeadIs
 lines_step l [] h n = absurd (n refl)
 lines_step l (m ∷ ms) h n = first_of m ms ∙ ap (λ (k : ℕ). (k, first_line (m ∷ ms)) ∷ text_lines (after_line (m ∷ ms))) h
 
-pub given_line : (l : ℕ) (ms : List Mark) (bytes : List ℕ) (rest : List Mark) → HeadIs l ms → (ms ≡ [] → ⊥) → bytes ≡ first_line ms → rest ≡ after_line ms → text_lines ms ≡ (l, bytes) ∷ text_lines rest
-given_line l ms bytes rest h n e f = lines_step l ms h n ∙ ap (λ (bs : List ℕ). (l, bs) ∷ text_lines (after_line ms)) (sym e) ∙ ap (λ (r : List Mark). (l, bytes) ∷ text_lines r) (sym f)
+pub given_line : (l : ℕ) (ms : List Mark) (bytes : List ℕ) (rest : List Mark) → HeadIs l ms → (ms ≡ [] → ⊥) → bytes ≡ first_line ms
+    → rest ≡ after_line ms → text_lines ms ≡ (l, bytes) ∷ text_lines rest
+given_line l ms bytes rest h n e f =
+    lines_step l ms h n
+    ∙ ap (λ (bs : List ℕ). (l, bs) ∷ text_lines (after_line ms)) (sym e)
+    ∙ ap (λ (r : List Mark). (l, bytes) ∷ text_lines r) (sym f)
 
 pub no_lines : (ms : List Mark) → ms ≡ [] → text_lines ms ≡ []
 unfolding text_lines

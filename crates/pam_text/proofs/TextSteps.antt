@@ -10,41 +10,50 @@ unequal a b h = elim (eqb a b) as (λ (t : Bool). eqb a b ≡ t → t ≡ false)
 rest_of_comment : (l : ℕ) (bs : List ℕ) → uncommented true (marked l bs) ≡ uncommented false (marked l (drop (prefix_len (λ c. not (eqb c 10)) bs) bs))
 unfolding marked uncommented
 rest_of_comment l [] = refl
-rest_of_comment l (b ∷ bs) = elim (eqb b 10) as (λ (t : Bool). eqb b 10 ≡ t → uncommented true (marked l (b ∷ bs)) ≡ uncommented false (marked l (drop (prefix_len (λ c. not (eqb c 10)) (b ∷ bs)) (b ∷ bs)))) [
-  | true ↦ λ e.
-      let stop : prefix_len (λ c. not (eqb c 10)) (b ∷ bs) ≡ 0 = ap (λ (t : Bool). cond (not t) (1 + prefix_len (λ c. not (eqb c 10)) bs) 0) e in
-      let is : b ≡ 10 = eqb-true b 10 e in rw stop (rw is refl)
-  | false ↦ λ e.
-      let more : prefix_len (λ c. not (eqb c 10)) (b ∷ bs) ≡ 1 + prefix_len (λ c. not (eqb c 10)) bs = ap (λ (t : Bool). cond (not t) (1 + prefix_len (λ c. not (eqb c 10)) bs) 0) e in
-      rw more (rw one-add (rw e (rest_of_comment l bs)))
-] refl
+rest_of_comment l (b ∷ bs) =
+    elim (eqb b 10) as (λ (t : Bool).
+    eqb b 10 ≡ t
+    → uncommented true (marked l (b ∷ bs)) ≡ uncommented false (marked l (drop (prefix_len (λ c. not (eqb c 10)) (b ∷ bs)) (b ∷ bs)))) [
+      | true ↦ λ e.
+          let stop : prefix_len (λ c. not (eqb c 10)) (b ∷ bs) ≡ 0 = ap (λ (t : Bool). cond (not t) (1 + prefix_len (λ c. not (eqb c 10)) bs) 0) e in
+          let is : b ≡ 10 = eqb-true b 10 e in rw stop (rw is refl)
+      | false ↦ λ e.
+          let more : prefix_len (λ c. not (eqb c 10)) (b ∷ bs) ≡ 1 + prefix_len (λ c. not (eqb c 10)) bs =
+          ap (λ (t : Bool). cond (not t) (1 + prefix_len (λ c. not (eqb c 10)) bs) 0) e in
+          rw more (rw one-add (rw e (rest_of_comment l bs)))
+    ] refl
 
 -- a comment in front says nothing
 skip : (l : ℕ) (bs : List ℕ) → uncommented false (marked l bs) ≡ uncommented false (marked l (past_comment bs))
 unfolding marked uncommented past_comment
 skip l [] = refl
-skip l (b ∷ bs) = elim (eqb b 35) as (λ (t : Bool). eqb b 35 ≡ t → uncommented false (marked l (b ∷ bs)) ≡ uncommented false (marked l (past_comment (b ∷ bs)))) [
-  | true ↦ λ e.
-      let is : b ≡ 35 = eqb-true b 35 e in
-      rw is (rest_of_comment l bs ∙ rw one-add refl)
-  | false ↦ λ e. rw e (rw e refl)
-] refl
+skip l (b ∷ bs) =
+    elim (eqb b 35) as (λ (t : Bool). eqb b 35 ≡ t → uncommented false (marked l (b ∷ bs)) ≡ uncommented false (marked l (past_comment (b ∷ bs)))) [
+      | true ↦ λ e.
+          let is : b ≡ 35 = eqb-true b 35 e in
+          rw is (rest_of_comment l bs ∙ rw one-add refl)
+      | false ↦ λ e. rw e (rw e refl)
+    ] refl
 
 comment_end : (bs : List ℕ) (b : ℕ) (r : List ℕ) → drop (prefix_len (λ c. not (eqb c 10)) bs) bs ≡ b ∷ r → eqb b 35 ≡ false
 comment_end [] b r h = absurd (cc)
-comment_end (a ∷ bs) b r h = elim (eqb a 10) as (λ (t : Bool). eqb a 10 ≡ t → drop (cond (not t) (1 + prefix_len (λ c. not (eqb c 10)) bs) 0) (a ∷ bs) ≡ b ∷ r → eqb b 35 ≡ false) [
-  | true ↦ λ e g. let same : a ≡ b = cc in let is : a ≡ 10 = eqb-true a 10 e in rw (← same, is) refl
-  | false ↦ λ e g. comment_end bs b r (rw one-add at g)
-] refl h
+comment_end (a ∷ bs) b r h =
+    elim (eqb a 10) as (λ (t : Bool).
+    eqb a 10 ≡ t → drop (cond (not t) (1 + prefix_len (λ c. not (eqb c 10)) bs) 0) (a ∷ bs) ≡ b ∷ r → eqb b 35 ≡ false) [
+      | true ↦ λ e g. let same : a ≡ b = cc in let is : a ≡ 10 = eqb-true a 10 e in rw (← same, is) refl
+      | false ↦ λ e g. comment_end bs b r (rw one-add at g)
+    ] refl h
 
 -- what is after a comment does not begin as one
 pub no_comment : (bs : List ℕ) (b : ℕ) (r : List ℕ) → past_comment bs ≡ b ∷ r → eqb b 35 ≡ false
 unfolding past_comment
 no_comment [] b r h = absurd (cc)
-no_comment (a ∷ bs) b r h = elim (eqb a 35) as (λ (t : Bool). eqb a 35 ≡ t → cond t (drop (prefix_len (λ c. not (eqb c 10)) (a ∷ bs)) (a ∷ bs)) (a ∷ bs) ≡ b ∷ r → eqb b 35 ≡ false) [
-  | true ↦ λ e g. comment_end (a ∷ bs) b r g
-  | false ↦ λ e g. let same : a ≡ b = cc in rw (← same) e
-] refl h
+no_comment (a ∷ bs) b r h =
+    elim (eqb a 35) as (λ (t : Bool).
+    eqb a 35 ≡ t → cond t (drop (prefix_len (λ c. not (eqb c 10)) (a ∷ bs)) (a ∷ bs)) (a ∷ bs) ≡ b ∷ r → eqb b 35 ≡ false) [
+      | true ↦ λ e g. comment_end (a ∷ bs) b r g
+      | false ↦ λ e g. let same : a ≡ b = cc in rw (← same) e
+    ] refl h
 
 pub past_comment-yes : (bs : List ℕ) → get_or bs 0 0 ≡ 35 → past_comment bs ≡ drop (prefix_len (λ c. not (eqb c 10)) bs) bs
 unfolding past_comment
@@ -73,17 +82,24 @@ step_none bs l h = ap joined (skip l bs ∙ ap (λ (s : List ℕ). uncommented f
 
 pub step_feed : (bs r : List ℕ) (l : ℕ) → past_comment bs ≡ 10 ∷ r → text_of l bs ≡ (l, 10) ∷ text_of (l + 1) r
 unfolding marked uncommented
-step_feed bs r l h = ap joined (skip l bs ∙ ap (λ (s : List ℕ). uncommented false (marked l s)) h) ∙ joined-plain (l, 10) (uncommented false (marked (l + 1) r)) refl
+step_feed bs r l h =
+    ap joined (skip l bs ∙ ap (λ (s : List ℕ). uncommented false (marked l s)) h) ∙ joined-plain (l, 10) (uncommented false (marked (l + 1) r)) refl
 
 plain_byte : (b : ℕ) (r : List ℕ) (l : ℕ) → eqb b 10 ≡ false → eqb b 35 ≡ false → uncommented false (marked l (b ∷ r)) ≡ (l, b) ∷ uncommented false (marked l r)
 unfolding marked uncommented
 plain_byte b r l h k = rw (k, h) refl
 
 pub step_plain : (bs : List ℕ) (b : ℕ) (r : List ℕ) (l : ℕ) → past_comment bs ≡ b ∷ r → (b ≡ 10 → ⊥) → (b ≡ 92 → ⊥) → text_of l bs ≡ (l, b) ∷ text_of l r
-step_plain bs b r l h n m = ap joined (skip l bs ∙ ap (λ (s : List ℕ). uncommented false (marked l s)) h ∙ plain_byte b r l (unequal b 10 n) (no_comment bs b r h)) ∙ joined-plain (l, b) _ (unequal b 92 m)
+step_plain bs b r l h n m =
+    ap joined (skip l bs ∙ ap (λ (s : List ℕ). uncommented false (marked l s)) h ∙ plain_byte b r l (unequal b 10 n) (no_comment bs b r h))
+    ∙ joined-plain (l, b) _ (unequal b 92 m)
 
 backslash : (bs r : List ℕ) (l : ℕ) → past_comment bs ≡ 92 ∷ r → text_of l bs ≡ joined ((l, 92) ∷ uncommented false (marked l (past_comment r)))
-backslash bs r l h = ap joined (skip l bs ∙ ap (λ (s : List ℕ). uncommented false (marked l s)) h ∙ plain_byte 92 r l refl refl ∙ ap (λ (ms : List Mark). (l, 92) ∷ ms) (skip l r))
+backslash bs r l h =
+    ap joined (skip l bs
+    ∙ ap (λ (s : List ℕ). uncommented false (marked l s)) h
+    ∙ plain_byte 92 r l refl refl
+    ∙ ap (λ (ms : List Mark). (l, 92) ∷ ms) (skip l r))
 
 pub step_joined : (bs r more : List ℕ) (l : ℕ) → past_comment bs ≡ 92 ∷ r → past_comment r ≡ 10 ∷ more → text_of l bs ≡ (l, 32) ∷ text_of (l + 1) more
 unfolding marked uncommented joined
@@ -93,7 +109,8 @@ joined-kept : (l b : ℕ) (ms : List Mark) → eqb b 10 ≡ false → joined ((l
 unfolding joined
 joined-kept l b ms h = ap (λ (t : Bool). cond t ((l, 32) ∷ joined ms) ((l, 92) ∷ joined ((l, b) ∷ ms))) h
 
-kept : (r s : List ℕ) (l : ℕ) → past_comment r ≡ s → ((more : List ℕ) → s ≡ 10 ∷ more → ⊥) → joined ((l, 92) ∷ uncommented false (marked l s)) ≡ (l, 92) ∷ joined (uncommented false (marked l s))
+kept : (r s : List ℕ) (l : ℕ) → past_comment r ≡ s → ((more : List ℕ) → s ≡ 10 ∷ more → ⊥)
+    → joined ((l, 92) ∷ uncommented false (marked l s)) ≡ (l, 92) ∷ joined (uncommented false (marked l s))
 unfolding marked uncommented joined
 kept r [] l e h = refl
 kept r (b ∷ s) l e h =
@@ -101,7 +118,8 @@ kept r (b ∷ s) l e h =
     let plain : uncommented false (marked l (b ∷ s)) ≡ (l, b) ∷ uncommented false (marked l s) = plain_byte b s l f (no_comment r b s e) in
     ap (λ (ms : List Mark). joined ((l, 92) ∷ ms)) plain ∙ joined-kept l b _ f ∙ ap (λ (ms : List Mark). (l, 92) ∷ joined ms) (sym plain)
 
-pub step_backslash : (bs r : List ℕ) (l : ℕ) → past_comment bs ≡ 92 ∷ r → ((more : List ℕ) → past_comment r ≡ 10 ∷ more → ⊥) → text_of l bs ≡ (l, 92) ∷ text_of l r
+pub step_backslash : (bs r : List ℕ) (l : ℕ) → past_comment bs ≡ 92 ∷ r → ((more : List ℕ) → past_comment r ≡ 10 ∷ more → ⊥)
+    → text_of l bs ≡ (l, 92) ∷ text_of l r
 step_backslash bs r l h n = backslash bs r l h ∙ kept r _ l refl n ∙ ap (λ (ms : List Mark). (l, 92) ∷ joined ms) (sym (skip l r))
 
 -- a list that begins with another number, or with none

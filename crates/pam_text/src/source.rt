@@ -51,7 +51,9 @@ impl<'a> Source<'a> {
     /// Checks the limits. `TooLong` comes before `NulByte`.
     #[tactic(auto, unfolding(crate::specs::Source::source_fault))]
     pub fn of(bytes: &'a [u8]) -> Result<Source<'a>, SourceFault>
-        ensures { MatchResult result (λ source. (source_fault bytes.now ≡ None) × (source.bytes.now ≡ bytes.now)) (λ fault. source_fault bytes.now ≡ Some fault) }
+        ensures { MatchResult result
+            (λ source. (source_fault bytes.now ≡ None) × (source.bytes.now ≡ bytes.now))
+            (λ fault. source_fault bytes.now ≡ Some fault) }
     {
         if bytes.len() > MAX_FILE_BYTES {
             return Err(SourceFault::TooLong);

@@ -42,7 +42,8 @@ impl<'a> Text<'a> {
         'a: 'b,
         ensures lines { IfOk result (λ l. MatchOption l (text_lines (text_left self.old) ≡ [])
             (λ line. text_lines (text_left self.old) ≡ (line.number, line.bytes.now) ∷ text_lines (text_left self.new))) }
-        ensures line { IfOk result (λ l. MatchOption l (text_left self.old ≡ []) (λ line. (line.number ≡ self.old.line) × (line.bytes.now ≡ first_line (text_left self.old)))) }
+        ensures line { IfOk result (λ l. MatchOption l (text_left self.old ≡ [])
+            (λ line. (line.number ≡ self.old.line) × (line.bytes.now ≡ first_line (text_left self.old)))) }
         ensures rest { OnOk result (text_left self.new ≡ after_line (text_left self.old)) }
         ensures shorter { IfOk result (λ l. IfSome l (λ _. length self.new.rest.now < length self.old.rest.now)) }
     {
@@ -99,7 +100,8 @@ impl<'a> Text<'a> {
     fn take_run(&mut self, joined: &mut Vec<u8>) -> Result<Option<u8>, AllocError>
         ensures line { IfOk result (λ b. joined.old.items ++ first_line (text_left self.old) ≡ joined.new.items ++ line_from b (text_left self.new)) }
         ensures rest { IfOk result (λ b. after_line (text_left self.old) ≡ rest_from b (text_left self.new)) }
-        ensures shorter { IfOk result (λ b. MatchOption b (length self.new.rest.now ≤ length self.old.rest.now) (λ _. length self.new.rest.now < length self.old.rest.now)) }
+        ensures shorter { IfOk result (λ b. MatchOption b (length self.new.rest.now ≤ length self.old.rest.now)
+            (λ _. length self.new.rest.now < length self.old.rest.now)) }
     {
         let (front, after) = self.rest.split_at(plain_len(self.rest));
         joined.extend_from_slice(front)?;

@@ -10,12 +10,15 @@ loop-item-preserved t c =
     let level = c.args.level in
     let index = c.loop-item.item-index in
     let items = c.args.items.now in
-    let counted : c.loop-item.behind - 1 + (index + 1) ≡ length items = omega (arith, c.loop-item.invariant.1, c.loop-item-test.true) in
+    let counted : c.loop-item.items_after - 1 + (index + 1) ≡ length items = omega (arith, c.loop-item.invariant.1, c.loop-item-test.true) in
     let shallow = shallow-behind level index items c.loop-item.invariant.2 in
     elim c.match-item.branch [
       | in-Module+in_ok-push-in-Module w ↦ (
-        rw (w.entries-is, w.in_ok-push-in-Module.ensures.items)
-            (flat_list-module level index (c.loop-item.behind - 1) items c.loop-item.entries.items c.item-item.result w.in-Module.module c.loop-item-test.true (sym c.item-item.is ∙ w.in-Module.is) counted
+        let entries = c.loop-item.entries.items in
+            let is = sym c.item-item.is ∙ w.in-Module.is in
+            let after = c.loop-item.items_after - 1 in
+            rw (w.entries-is, w.in_ok-push-in-Module.ensures.items)
+            (flat_list-module level index after items entries c.item-item.result w.in-Module.module c.loop-item-test.true is counted
             ∙ c.loop-item.invariant.0),
         counted,
         shallow,
@@ -31,4 +34,6 @@ loop-item-preserved t c =
     ]
 
 pub returns : goal.returns
-returns t c = sym (flat_list-end c.args.level c.loop-item.item-index c.args.items.now c.loop-item.entries.items c.loop-item-test.false) ∙ c.loop-item.invariant.0
+returns t c =
+    sym (flat_list-end c.args.level c.loop-item.item-index c.args.items.now c.loop-item.entries.items c.loop-item-test.false)
+    ∙ c.loop-item.invariant.0

@@ -31,7 +31,7 @@ returns-clause-outcome c =
     let m = c.in-Module in
     let within = place_within c.args.entries.now c.args.place.now c.requires.place c.requires.asking in
     let action : action_of m.control c.args.code ≡ c.action.result = get_or_from_slice_get m.control c.args.code c.action.result Ignore (search rules) in
-    answer_outcome c.args.entries.now c.args.place.now c.requires.place e.result m.level m.number m.control m.behind within (sym e.is ∙ m.is)
+    answer_outcome c.args.entries.now c.args.place.now c.requires.place e.result m.level m.number m.control m.items_after within (sym e.is ∙ m.is)
     c.args.code c.of-outcome.result.left c.of-outcome.result.state c.at-entry.result c.action.result action
     c.at-entry.ensures c.of-outcome.ensures.left c.of-outcome.ensures.state
 
@@ -41,7 +41,7 @@ returns-clause-rest c =
     let m = c.in-Module in
     let within = place_within c.args.entries.now c.args.place.now c.requires.place c.requires.asking in
     let action : action_of m.control c.args.code ≡ c.action.result = get_or_from_slice_get m.control c.args.code c.action.result Ignore (search rules) in
-    sym (answer_rest c.args.entries.now c.args.place.now c.requires.place e.result m.level m.number m.control m.behind within (sym e.is ∙ m.is)
+    sym (answer_rest c.args.entries.now c.args.place.now c.requires.place e.result m.level m.number m.control m.items_after within (sym e.is ∙ m.is)
     c.args.code c.of-outcome.result.left c.of-outcome.result.state c.at-entry.result c.action.result action
     c.at-entry.ensures c.of-outcome.ensures.left c.of-outcome.ensures.state)
 

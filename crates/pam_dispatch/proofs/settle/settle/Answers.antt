@@ -12,7 +12,9 @@ loop-position-preserved-then-here-level c =
     let l = c.loop-position in
     let e = l.invariant.rest in
     record {
-      rest = at_place-deeper c.args.program.now l.position c.index-program-position.result c.index-program-position.result c.loop-position-test.true (sym c.index-program-position.is) l.level l.skip _ c.args.state.now (omega (arith, c.level-here.ensures)) ∙ e;
+      rest = at_place-deeper c.args.program.now l.position c.index-program-position.result c.index-program-position.result c.loop-position-test.true
+          (sym c.index-program-position.is) l.level l.skip _ c.args.state.now (omega (arith, c.level-here.ensures))
+          ∙ e;
       below = l.invariant.below;
       shallow = l.invariant.shallow;
       full = l.invariant.full;
@@ -22,7 +24,9 @@ pub loop-position-preserved-then-skip-gt0 : goal.loop-position-preserved-then-sk
 loop-position-preserved-then-skip-gt0 c =
     let l = c.loop-position in
     record {
-      rest = at_place-item c.args.program.now l.position c.index-program-position.result c.index-program-position.result c.loop-position-test.true (sym c.index-program-position.is) l.level l.skip _ c.args.state.now (omega (arith, c.level-here.ensures)) c.if-skip-gt0.true ∙ l.invariant.rest;
+      rest = at_place-item c.args.program.now l.position c.index-program-position.result c.index-program-position.result c.loop-position-test.true
+          (sym c.index-program-position.is) l.level l.skip _ c.args.state.now (omega (arith, c.level-here.ensures)) c.if-skip-gt0.true
+          ∙ l.invariant.rest;
       below = l.invariant.below;
       shallow = l.invariant.shallow;
       full = l.invariant.full;
@@ -43,7 +47,8 @@ loop-position-preserved c =
     ] in
     record {
       rest = ap (λ (x : List State). resume (drop (l.position + 1) c.args.program.now) (here + 1) 0 (take (here + 2) x) c.args.state.now) c.enter.ensures
-          ∙ at_substack c.args.program.now l.position c.index-program-position.result here c.loop-position-test.true is l.entered.states l.depth l.level l.skip c.args.state.now
+          ∙ at_substack c.args.program.now l.position c.index-program-position.result here c.loop-position-test.true is l.entered.states l.depth
+          l.level l.skip c.args.state.now
           low stays l.invariant.below (omega (arith, l.invariant.full)) ∙ l.invariant.rest;
       below = omega arith;
       shallow = omega arith;
@@ -55,7 +60,8 @@ unfolding IsPlaceOf
 returns-in-Module-clause-place c =
     let here = c.level-here.result in
     let h : here ≡ c.in-Module.level = c.level-here.ensures ∙ ap level_of c.in-Module.is in
-    rw (at_place c.args.program.now c.loop-position.position c.index-program-position.result _ c.loop-position-test.true (sym c.index-program-position.is ∙ c.in-Module.is))
+    rw (at_place c.args.program.now c.loop-position.position c.index-program-position.result _ c.loop-position-test.true
+    (sym c.index-program-position.is ∙ c.in-Module.is))
     (ap (λ x. x + 1) h, refl)
 
 pub returns-in-Module-clause-rest : goal.returns-in-Module-clause-rest
@@ -65,13 +71,14 @@ returns-in-Module-clause-rest c =
     let here = c.level-here.result in
     let m = c.in-Module in
     let h : here ≡ m.level = c.level-here.ensures ∙ ap level_of m.is in
-    let is = sym c.index-program-position.is ∙ m.is ∙ ap (λ (x : ℕ). Module x m.number m.control m.behind) (sym h) in
+    let is = sym c.index-program-position.is ∙ m.is ∙ ap (λ (x : ℕ). Module x m.number m.control m.items_after) (sym h) in
     let stays : here ≡ l.level → 0 < l.skip → ⊥ =
     elim c.else-here-level-2.branch [
       | else-here-level-2-via-then-here-level-2+else-skip-gt0 w ↦ λ e p. omega arith
       | else-here-level-2-via-else-here-level-2 w ↦ λ e p. w.if-here-level-2.false e
     ] in
-    at_module c.args.program.now l.position c.index-program-position.result here m.number m.control m.behind c.loop-position-test.true is l.entered.states c.args.state.now
+    at_module c.args.program.now l.position c.index-program-position.result here m.number m.control m.items_after c.loop-position-test.true is
+    l.entered.states c.args.state.now
     l.depth l.level l.skip c.if-here-level.false stays l.invariant.below ∙ l.invariant.rest
 
 pub returns-clause-place : goal.returns-clause-place

@@ -2,7 +2,7 @@ use Rattle.std.proofs.Common.{List, ℕ, ◌++◌, ap, codes}
 use Rattle.pam_codes.specs.Code.{code_names}
 use Rattle.pam_codes.specs.ControlText.{mentions}
 use Rattle.pam_codes.proofs.Mentions.{end_text, list_text-parts}
-use Rattle.pam_codes.proofs.Writing.{err-front, front-then, front-longer, front-is, all-then, writes-then, writes-is}
+use Rattle.pam_text.proofs.Writing.{err-front, front-then, front-longer, front-is, all-then, writes-then, writes-is}
 use Rattle.pam_codes.proofs.control.Control.write_list.Goals as goal
 
 pub returns-in_err-put : goal.returns-in_err-put

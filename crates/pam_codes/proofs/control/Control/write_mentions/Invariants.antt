@@ -2,7 +2,7 @@
 use Rattle.std.proofs.Common.{take}
 use Rattle.pam_codes.specs.Code.{code_names}
 use Rattle.pam_codes.specs.ControlText.{mentions}
-use Rattle.pam_codes.specs.Out.{TookAll}
+use Rattle.pam_text.specs.Out.{TookAll}
 use Rattle.pam_codes.proofs.control.Control.write_mentions.Given as goal
 
 abbrev pub invariant-loop-number : goal.invariant-loop-number

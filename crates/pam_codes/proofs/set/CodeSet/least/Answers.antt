@@ -9,7 +9,8 @@ pub returns-then-self-eq0-clause-order : goal.returns-then-self-eq0-clause-order
 returns-then-self-eq0-clause-order c = rw (← c.self.view_is) (codes_of_bits-is_set c.self.inside.bits)
 
 pub returns-clause-first : goal.returns-clause-first
-returns-clause-first c = c.new.ensures ∙ least_code c.self.inside.bits c.if-self-eq0.false c.self.invariant ∙ ap (λ (codes : List ℕ). slice_get codes 0) c.self.view_is
+returns-clause-first c =
+    c.new.ensures ∙ least_code c.self.inside.bits c.if-self-eq0.false c.self.invariant ∙ ap (λ (codes : List ℕ). slice_get codes 0) c.self.view_is
 
 pub returns-clause-order : goal.returns-clause-order
 returns-clause-order c = rw (← c.self.view_is) (codes_of_bits-is_set c.self.inside.bits)

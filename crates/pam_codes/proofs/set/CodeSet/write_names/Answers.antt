@@ -1,14 +1,11 @@
-use Rattle.std.proofs.Common.{◌&&◌, ◌∙◌, List, ℕ, Some, not, ap, sym, subst, arith}
+use Rattle.std.proofs.Common.{◌&&◌, ◌∙◌, List, ℕ, Some, not, ap, sym, subst}
 use Rattle.pam_codes.specs.Set.{codes_where, is_in}
 use Rattle.pam_codes.proofs.SetNames.{AreWritten, AreWritten-none, AreWritten-all, AreWritten-failed, AreWritten-more, less_codes}
-use Rattle.pam_codes.proofs.Writing.{err-front}
+use Rattle.pam_text.proofs.Writing.{err-front}
 use Rattle.pam_codes.proofs.set.CodeSet.write_names.Goals as goal
 
 pub loop-code-init : goal.loop-code-init
 loop-code-init g c = AreWritten-none _ _ _ _ c.as_slice-separator.ensures
-
-pub put_line-requires : goal.put_line-requires
-put_line-requires g c = omega (arith, c.requires, c.loop-code.invariant.took.as_before)
 
 pub returns-in_err-put_line : goal.returns-in_err-put_line
 returns-in_err-put_line g c =

@@ -1,7 +1,7 @@
 use Rattle.std.proofs.Common.{◌&&◌, ◌∙◌, List, ℕ, ap, not, refl, sym, arith}
 use Rattle.pam_codes.specs.Set.{codes_where, is_in}
 use Rattle.pam_codes.proofs.SetNames.{set_text-any, set_text-but, set_text-names}
-use Rattle.pam_codes.proofs.Writing.{err-front, front-is, front-longer, writes-is, writes-then}
+use Rattle.pam_text.proofs.Writing.{err-front, front-is, front-longer, writes-is, writes-then}
 use Rattle.pam_codes.proofs.set.CodeSet.write_text.Goals as goal
 
 pub returns-then-count-eq-CODES : goal.returns-then-count-eq-CODES

@@ -23,8 +23,8 @@ pub struct Out<W> {
 }
 
 impl<W: Write> Out<W> {
-    ghost use Rattle.std.specs.Prelude.{◌≡◌, ◌-◌, ◌<◌, ◌^◌, decimal, []};
-    ghost use Rattle.pam_codes.specs.Out.{Writes};
+    ghost use Rattle.std.specs.Prelude.{◌≡◌, decimal, []};
+    ghost use Rattle.pam_text.specs.Out.{Writes};
 
     pub fn new(inner: W) -> Self
         ensures inner { result.inner ≡ inner }
@@ -61,7 +61,6 @@ impl<W: Write> Out<W> {
 
     /// Writes all of `bytes`. Continues after a short write, and retries no failure, not even an interrupted write.
     pub fn put(&mut self, bytes: &[u8]) -> Result<(), Device>
-        requires { self.old.failures < 2 ^ 64 - 1 }
         ensures { Writes W.contents self.old self.new result bytes.now }
     {
         let mut written = 0;
@@ -77,7 +76,6 @@ impl<W: Write> Out<W> {
 
     /// Writes `number` in decimal.
     pub fn put_number(&mut self, number: u64) -> Result<(), Device>
-        requires { self.old.failures < 2 ^ 64 - 1 }
         ensures { Writes W.contents self.old self.new result (decimal number) }
     {
         let mut buffer = Buffer::new();
@@ -86,7 +84,6 @@ impl<W: Write> Out<W> {
 
     /// Flushes the inner writer, once.
     pub fn finish(&mut self) -> Result<(), Device>
-        requires { self.old.failures < 2 ^ 64 - 1 }
         ensures { Writes W.contents self.old self.new result [] }
     {
         match self.flush() {
@@ -101,7 +98,7 @@ impl<W: Write> Write for Out<W> {
     ghost use Rattle.std.specs.Prelude.{◌≡◌, ◌+◌};
     ghost use Rattle.std.specs.Io.{WritesAtMost};
     ghost use Rattle.std.specs.Io.KnownBytes.{Keeps, WriteAppends};
-    ghost use Rattle.pam_codes.specs.Out.{saturated, bytes_taken, write_failures, flush_failures};
+    ghost use Rattle.pam_text.specs.Out.{saturated, bytes_taken, write_failures, flush_failures};
 
     ghost contents = { λ o. W.contents o.inner };
 

@@ -1,6 +1,6 @@
 use Rattle.std.proofs.Common.{ℕ, List, ◌-◌, length, take, drop, arith, length-take, length-drop}
-use Rattle.pam_codes.proofs.Writing.{took-kept, took-more, front-at, fails-taking_none, fails-taking_some}
-use Rattle.pam_codes.proofs.out.Out.put.Goals as goal
+use Rattle.pam_text.proofs.Writing.{took-kept, took-more, front-at, fails-taking_none, fails-taking_some}
+use Rattle.pam_text.proofs.out.Out.put.Goals as goal
 
 pub returns-in-Ok-eq0 : goal.returns-in-Ok-eq0
 returns-in-Ok-eq0 g c =
@@ -22,9 +22,12 @@ loop-written-preserved g c =
     let e = c.in-Ok.ensures in
     let most = length-take {A = ℕ} in
     let left = length-drop {A = ℕ} in
-    let none = fails-taking_some c.in-Ok.count (take (length c.args.bytes.now - c.loop-written.written) (drop c.loop-written.written c.args.bytes.now)) c.in-Ok.count-test.1 in
+    let none =
+    fails-taking_some c.in-Ok.count (take (length c.args.bytes.now - c.loop-written.written) (drop c.loop-written.written c.args.bytes.now))
+    c.in-Ok.count-test.1 in
     record {
       within = omega (arith, e.bound, most, left);
-      took = took-more _ _ _ (omega (arith, e.bound, most, left)) c.loop-written.invariant.took (record { held = e.bytes; counted = omega (arith, e.taken, e.bound, most, left) });
+      took = took-more _ _ _ (omega (arith, e.bound, most, left)) c.loop-written.invariant.took
+          (record { held = e.bytes; counted = omega (arith, e.taken, e.bound, most, left) });
       as_before = omega (arith, rw none at e.failures, c.loop-written.invariant.as_before);
     }

@@ -1,6 +1,6 @@
 use Rattle.std.proofs.Common.{arith, refl, []}
-use Rattle.pam_codes.proofs.Writing.{took-kept}
-use Rattle.pam_codes.proofs.out.Out.finish.Goals as goal
+use Rattle.pam_text.proofs.Writing.{took-kept}
+use Rattle.pam_text.proofs.out.Out.finish.Goals as goal
 
 pub returns-in-Ok : goal.returns-in-Ok
 returns-in-Ok g c =

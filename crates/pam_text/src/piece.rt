@@ -1,8 +1,7 @@
 //! Writing a line piece by piece.
 
-ghost use Rattle.std.specs.Prelude.{◌-◌, ◌<◌, ◌^◌};
-ghost use Rattle.pam_codes.specs.Out.{Writes};
-ghost use Rattle.pam_codes.specs.Line.{line_text, piece_text};
+ghost use Rattle.pam_text.specs.Out.{Writes};
+ghost use Rattle.pam_text.specs.Piece.{line_text, piece_text};
 
 use crate::out::{Device, Out};
 use std::io::Write;
@@ -17,7 +16,6 @@ pub enum Piece<'a> {
 
 impl<W: Write> Out<W> {
     fn put_piece(&mut self, piece: Piece<'_>) -> Result<(), Device>
-        requires { self.old.failures < 2 ^ 64 - 1 }
         ensures { Writes W.contents self.old self.new result (piece_text piece.entry) }
     {
         match piece {
@@ -28,7 +26,6 @@ impl<W: Write> Out<W> {
 
     /// Writes `pieces` in order, like `put`.
     pub fn put_line(&mut self, pieces: &[Piece<'_>]) -> Result<(), Device>
-        requires { self.old.failures < 2 ^ 64 - 1 }
         ensures { Writes W.contents self.old self.new result (line_text pieces.now) }
     {
         for piece in pieces {

@@ -1,6 +1,6 @@
 use Rattle.std.proofs.Common.{◌≡◌, ◌-◌, ◌≤◌, length, take}
-use Rattle.pam_codes.specs.Out.{Took}
-use Rattle.pam_codes.proofs.out.Out.put.Given as goal
+use Rattle.pam_text.specs.Out.{Took}
+use Rattle.pam_text.proofs.out.Out.put.Given as goal
 
 abbrev pub invariant-loop-written : goal.invariant-loop-written
 invariant-loop-written g l = record {

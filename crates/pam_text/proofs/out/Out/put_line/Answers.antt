@@ -1,10 +1,7 @@
-use Rattle.std.proofs.Common.{arith, sym}
-use Rattle.pam_codes.proofs.Lines.{line_text-take, line_text-at}
-use Rattle.pam_codes.proofs.Writing.{err-front, front-then, front-longer, front-is, all-then, all-is}
-use Rattle.pam_codes.proofs.out.Out.put_line.Goals as goal
-
-pub put_piece-requires : goal.put_piece-requires
-put_piece-requires g c = omega arith
+use Rattle.std.proofs.Common.{sym}
+use Rattle.pam_text.proofs.Pieces.{line_text-take, line_text-at}
+use Rattle.pam_text.proofs.Writing.{err-front, front-then, front-longer, front-is, all-then, all-is}
+use Rattle.pam_text.proofs.out.Out.put_line.Goals as goal
 
 pub returns-in_err-put_piece : goal.returns-in_err-put_piece
 returns-in_err-put_piece g c =
