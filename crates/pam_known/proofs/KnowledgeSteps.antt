@@ -15,6 +15,8 @@ use Rattle.pam_known.specs.Answers.{IsFault, read_as}
 use Rattle.pam_known.specs.Knowledge.{◌>>=◌, Knows, codes_by, first_fault, groups_read, knowledge, line_at, numbers, returns_read, told_at, unless}
 use Rattle.pam_known.specs.Sets.{Lets}
 use Rattle.pam_known.specs.Tables.{TablesText}
+use Rattle.pam_known.specs.declared.error.KnownError.{KnownError}
+use Rattle.pam_known.specs.declared.error.KnownError.TheVariants as known
 use Rattle.pam_known.proofs.FaultSteps.{is_fault_of, read_fails}
 use Rattle.pam_known.proofs.ReaderSteps.{no_lines}
 
@@ -23,46 +25,47 @@ module _ (kind : Kind) (login : LoginText) (tables : TablesText) (items : Items)
   abbrev pub codes_with : List Group → List ReturnLine → ℕ → List ℕ
   codes_with groups lines number = codes_by (told_at kind login tables groups items number) (line_at lines items number)
 
-  abbrev after_returns : List Group → Result (List ReturnLine) TableError → Result (ℕ → List ℕ) TableError
+  abbrev after_returns : List Group → Result (List ReturnLine) KnownError → Result (ℕ → List ℕ) KnownError
   after_returns groups returns = returns >>= λ lines. Ok (codes_with groups lines)
 
-  abbrev after_tables : List Group → Option TableError → Result (ℕ → List ℕ) TableError
+  abbrev after_tables : List Group → Option KnownError → Result (ℕ → List ℕ) KnownError
   after_tables groups fault = unless fault (after_returns groups (returns_read tables.returns))
 
-  abbrev after_groups : Result (List Group) TableError → Result (ℕ → List ℕ) TableError
+  abbrev after_groups : Result (List Group) KnownError → Result (ℕ → List ℕ) KnownError
   after_groups groups = groups >>= λ g. after_tables g (first_fault (told_at kind login tables g items) (numbers items))
 
-  groups_fail : (e : TableError) → groups_read tables items ≡ Err e → knowledge kind login tables items ≡ Err e
+  groups_fail : (e : KnownError) → groups_read tables items ≡ Err e → knowledge kind login tables items ≡ Err e
   unfolding knowledge
   groups_fail e is = ap after_groups is
 
-  pub groups_fault : (e : TableError) → IsFault e e.fault (groups_read tables items ≡ Err e) →
-      IsFault e e.fault (knowledge kind login tables items ≡ Err e)
+  pub groups_fault : (e : KnownError) → IsFault e (groups_read tables items ≡ Err e) →
+      IsFault e (knowledge kind login tables items ≡ Err e)
   groups_fault e =
-      is_fault_of {A = groups_read tables items ≡ Err e} {B = knowledge kind login tables items ≡ Err e} e e.fault (groups_fail e)
+      is_fault_of {A = groups_read tables items ≡ Err e} {B = knowledge kind login tables items ≡ Err e} e (groups_fail e)
 
   module _ (groups : List Group) (read : groups_read tables items ≡ Ok groups) where
-    tables_fail : (e : TableError) → first_fault (told_at kind login tables groups items) (numbers items) ≡ Some e →
+    tables_fail : (e : KnownError) → first_fault (told_at kind login tables groups items) (numbers items) ≡ Some e →
         knowledge kind login tables items ≡ Err e
     unfolding knowledge
     tables_fail e is = ap after_groups read ∙ ap (after_tables groups) is
 
-    pub tables_fault : (e : TableError) → IsFault e e.fault (first_fault (told_at kind login tables groups items) (numbers items) ≡ Some e) →
-        IsFault e e.fault (knowledge kind login tables items ≡ Err e)
+    pub tables_fault : (e : KnownError) → IsFault e (first_fault (told_at kind login tables groups items) (numbers items) ≡ Some e) →
+        IsFault e (knowledge kind login tables items ≡ Err e)
     tables_fault e =
         is_fault_of {A = first_fault (told_at kind login tables groups items) (numbers items) ≡ Some e}
-        {B = knowledge kind login tables items ≡ Err e} e e.fault (tables_fail e)
+        {B = knowledge kind login tables items ≡ Err e} e (tables_fail e)
 
     module _ (none : first_fault (told_at kind login tables groups items) (numbers items) ≡ None) where
-      returns_fail : (e : TableError) → returns_read tables.returns ≡ Err e → knowledge kind login tables items ≡ Err e
+      returns_fail : (e : KnownError) → returns_read tables.returns ≡ Err e → knowledge kind login tables items ≡ Err e
       unfolding knowledge
       returns_fail e is = ap after_groups read ∙ ap (after_tables groups) none ∙ ap (after_returns groups) is
 
       pub returns_fault : (bytes : List ℕ) (e : TableError) → tables.returns ≡ Some bytes → e.table ≡ Returns → FailsAt e.fault e.line (returns_of bytes) →
-          IsFault e e.fault (knowledge kind login tables items ≡ Err e)
+          IsFault (known.Table e) (knowledge kind login tables items ≡ Err (known.Table e))
       returns_fault bytes e given same h =
-          is_fault_of {A = read_as Returns (returns_of bytes) ≡ Err e} {B = knowledge kind login tables items ≡ Err e} e e.fault
-          (λ is. returns_fail e (ap returns_read given ∙ is)) (read_fails Returns e (returns_of bytes) same h)
+          is_fault_of {A = read_as Returns (returns_of bytes) ≡ Err (known.Table e)}
+          {B = knowledge kind login tables items ≡ Err (known.Table e)} (known.Table e)
+          (λ is. returns_fail (known.Table e) (ap returns_read given ∙ is)) (read_fails Returns e (returns_of bytes) same h)
 
       all_read : (lines : List ReturnLine) → returns_read tables.returns ≡ Ok lines →
           knowledge kind login tables items ≡ Ok (codes_with groups lines)

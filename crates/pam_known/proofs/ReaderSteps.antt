@@ -11,11 +11,11 @@ use Rattle.pam_tables.specs.Login.{LoginText}
 use Rattle.pam_tables.specs.Returns.{codes_for}
 use Rattle.pam_tables.specs.declared.access.AccessAnswer.{AccessAnswer}
 use Rattle.pam_tables.specs.declared.access.AccessAnswer.TheVariants as access
-use Rattle.pam_tables.specs.declared.error.TableError.{TableError}
+use Rattle.pam_known.specs.declared.error.KnownError.{KnownError}
 use Rattle.pam_times.specs.Times.{answer_of}
 use Rattle.pam_times.specs.declared.times.TimeAnswer.{TimeAnswer}
 use Rattle.pam_times.specs.declared.times.TimeAnswer.TheVariants as times
-use Rattle.pam_known.specs.Answers.{access_code, access_read, access_told, name_of_path, result_map, table_answer, time_code, time_read, time_told}
+use Rattle.pam_known.specs.Answers.{access_code, access_read, access_told, name_of_path, result_map, table_answer, time_code, time_read, time_told, timed_login}
 use Rattle.pam_known.specs.Knowledge.{codes_by, line_at, told_at}
 use Rattle.pam_known.specs.Tables.{TablesText, TimedText}
 
@@ -37,12 +37,12 @@ unfolding time_read
 read_is_given kind tables m table e = given_of _ tables.time table e
 
 -- a line changes nothing if a table tells the code
-pub told_alone : (told : Option (Result ℕ TableError)) (line : Option (List ℕ)) → is_some told ≡ true → codes_by told line ≡ codes_by told None
+pub told_alone : (told : Option (Result ℕ KnownError)) (line : Option (List ℕ)) → is_some told ≡ true → codes_by told line ≡ codes_by told None
 told_alone None line e = absurd (cc)
 told_alone (Some (Ok code)) line e = refl
 told_alone (Some (Err fault)) line e = refl
 
-pub untold : (told : Option (Result ℕ TableError)) → is_some told ≡ false → told ≡ None
+pub untold : (told : Option (Result ℕ KnownError)) → is_some told ≡ false → told ≡ None
 untold None e = refl
 untold (Some r) e = absurd (cc)
 
@@ -56,11 +56,11 @@ time_small : (answer : TimeAnswer) → time_code answer < 31
 time_small times.Granted = omega arith
 time_small (times.Denied line) = omega arith
 
-told_small : {T : Type 0} (f : T → ℕ) (read : Result T TableError) (code : ℕ) → ((t : T) → f t < 31) → result_map f read ≡ Ok code → code < 31
+told_small : {T : Type 0} (f : T → ℕ) (read : Result T KnownError) (code : ℕ) → ((t : T) → f t < 31) → result_map f read ≡ Ok code → code < 31
 told_small f (Ok t) code small e = let same : f t ≡ code = cc in subst (λ (k : ℕ). k < 31) same (small t)
 told_small f (Err fault) code small e = absurd (cc)
 
-either_small : (by_access : List ℕ → Result ℕ TableError) (by_time : TimedText → Result ℕ TableError) (a : Option (List ℕ)) (t : Option TimedText) (code : ℕ) →
+either_small : (by_access : List ℕ → Result ℕ KnownError) (by_time : TimedText → Result ℕ KnownError) (a : Option (List ℕ)) (t : Option TimedText) (code : ℕ) →
     ((bytes : List ℕ) → by_access bytes ≡ Ok code → code < 31) → ((timed : TimedText) → by_time timed ≡ Ok code → code < 31) →
     option_or (option_map by_access a) (option_map by_time t) ≡ Some (Ok code) → code < 31
 either_small by_access by_time (Some bytes) t code f g e = f bytes (cc)
@@ -73,7 +73,7 @@ unfolding table_answer access_told time_told
 code_small kind login tables groups m code e =
     either_small (access_told login groups m.arguments) (time_told login) (access_read tables m) (time_read kind tables m) code
     (λ bytes is. told_small (λ table. access_code (access_answer table login groups)) _ code (λ table. access_small (access_answer table login groups)) is)
-    (λ timed is. told_small (λ rules. time_code (answer_of rules login timed.moment)) _ code (λ rules. time_small (answer_of rules login timed.moment)) is)
+    (λ timed is. told_small (λ rules. time_code (answer_of rules (timed_login login) timed.moment)) _ code (λ rules. time_small (answer_of rules (timed_login login) timed.moment)) is)
     e
 
 pub code_small_at : (kind : Kind) (login : LoginText) (tables : TablesText) (groups : List Group) (items : Items) (number code : ℕ) →

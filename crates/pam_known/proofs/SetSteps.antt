@@ -9,7 +9,7 @@ use Rattle.pam_codes.specs.Set.{is_in, IsCodeSet}
 use Rattle.pam_codes.specs.SetBits.{is_in-codes_where}
 use Rattle.pam_paths.specs.Known.{answers_by}
 use Rattle.pam_paths.proofs.KnownCodes.{nothing_set, something_set}
-use Rattle.pam_tables.specs.declared.error.TableError.{TableError}
+use Rattle.pam_known.specs.declared.error.KnownError.{KnownError}
 use Rattle.pam_known.specs.Knowledge.{codes_by}
 use Rattle.pam_known.specs.Sets.{Adds, AreDone, Lets}
 
@@ -77,22 +77,22 @@ lets_all code h = sym (ap (is_in code) (nothing_set [] all_codes refl refl) ∙ 
 
 -- ---- the sets of a module
 
-lets_same : (told other : Option (Result ℕ TableError)) (set new : List ℕ) → told ≡ other → set ≡ new → Lets (codes_by other None) new →
+lets_same : (told other : Option (Result ℕ KnownError)) (set new : List ℕ) → told ≡ other → set ≡ new → Lets (codes_by other None) new →
     Lets (codes_by told None) set
 lets_same told other set new is same h =
-    subst (λ (t : Option (Result ℕ TableError)). Lets (codes_by t None) set) (sym is)
+    subst (λ (t : Option (Result ℕ KnownError)). Lets (codes_by t None) set) (sym is)
     (subst (λ (x : List ℕ). Lets (codes_by other None) x) (sym same) h)
 
-pub told_set : (told : Option (Result ℕ TableError)) (code : ℕ) (set : List ℕ) → code < 31 → told ≡ Some (Ok code) → set ≡ code ∷ [] →
+pub told_set : (told : Option (Result ℕ KnownError)) (code : ℕ) (set : List ℕ) → code < 31 → told ≡ Some (Ok code) → set ≡ code ∷ [] →
     Lets (codes_by told None) set
 told_set told code set small is same = lets_same told (Some (Ok code)) set (code ∷ []) is same (lets_one code small)
 
-pub untold_set : (told : Option (Result ℕ TableError)) (set : List ℕ) → told ≡ None → set ≡ [] → Lets (codes_by told None) set
+pub untold_set : (told : Option (Result ℕ KnownError)) (set : List ℕ) → told ≡ None → set ≡ [] → Lets (codes_by told None) set
 untold_set told set is same = lets_same told None set [] is same lets_all
 
-pub line_kept : (told : Option (Result ℕ TableError)) (line : Option (List ℕ)) (set : List ℕ) → codes_by told line ≡ codes_by told None →
+pub line_kept : (told : Option (Result ℕ KnownError)) (line : Option (List ℕ)) (set : List ℕ) → codes_by told line ≡ codes_by told None →
     Lets (codes_by told None) set → Lets (codes_by told line) set
 line_kept told line set e h = subst (λ (codes : List ℕ). Lets codes set) (sym e) h
 
-pub line_put : (told : Option (Result ℕ TableError)) (line : Option (List ℕ)) (set : List ℕ) → Adds (Some set) told line → Lets (codes_by told line) set
+pub line_put : (told : Option (Result ℕ KnownError)) (line : Option (List ℕ)) (set : List ℕ) → Adds (Some set) told line → Lets (codes_by told line) set
 line_put told line set adds = subst (λ (codes : List ℕ). Lets codes set) (sym adds.0) (lets_codes set adds.1 adds.2)

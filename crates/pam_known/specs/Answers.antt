@@ -15,32 +15,49 @@ use Rattle.pam_tables.specs.Options.{options_of}
 use Rattle.pam_tables.specs.declared.access.AccessAnswer.{AccessAnswer}
 use Rattle.pam_tables.specs.declared.access.AccessAnswer.TheVariants as access
 use Rattle.pam_tables.specs.declared.error.Table.{Table}
-use Rattle.pam_tables.specs.declared.error.Table.TheVariants.{Access, Time}
-use Rattle.pam_tables.specs.declared.error.TableError.{TableError}
+use Rattle.pam_tables.specs.declared.error.Table.TheVariants.{Access}
 use Rattle.pam_tables.specs.declared.error.TableFault.{TableFault}
-use Rattle.pam_tables.specs.declared.error.TableFault.TheVariants.{Memory}
+use Rattle.pam_tables.specs.declared.error.TableFault.TheVariants as tables
+use Rattle.pam_times.specs.Login.{LoginText as TimedLogin}
 use Rattle.pam_times.specs.Reading.{rules_of}
 use Rattle.pam_times.specs.Times.{answer_of}
+use Rattle.pam_times.specs.declared.error.TimeError.{TimeError}
+use Rattle.pam_times.specs.declared.error.TimeFault.{TimeFault}
+use Rattle.pam_times.specs.declared.error.TimeFault.TheVariants as times
 use Rattle.pam_times.specs.declared.times.TimeAnswer.{TimeAnswer}
-use Rattle.pam_times.specs.declared.times.TimeAnswer.TheVariants as times
+use Rattle.pam_times.specs.declared.times.TimeAnswer.TheVariants as answers
 use Rattle.pam_known.specs.Tables.{TablesText, TimedText}
+use Rattle.pam_known.specs.declared.error.KnownError.{KnownError}
+use Rattle.pam_known.specs.declared.error.KnownError.TheVariants as known
 
 -- ---- results of calls
 
--- exactly this fault, unless an allocation failed, which has no line
-abbrev pub IsFault : TableError → TableFault → Type 0 → Type 0
-IsFault e Memory exact = e.line ≡ 0
-IsFault e fault exact = exact
+abbrev pub IsTableFault : TableFault → ℕ → Type 0 → Type 0
+IsTableFault tables.Memory line exact = line ≡ 0
+IsTableFault fault line exact = exact
 
--- a value, or the first fault, unless an allocation failed
-abbrev pub Tells : {X Y : Type 0} → (X → Y) → Result X TableError → Result Y TableError → Type 0
-Tells view (Ok x) told = told ≡ Ok (view x)
-Tells view (Err e) told = IsFault e e.fault (told ≡ Err e)
+abbrev pub IsTimeFault : TimeFault → ℕ → Type 0 → Type 0
+IsTimeFault times.Memory line exact = line ≡ 0
+IsTimeFault fault line exact = exact
+
+-- exactly this fault, unless an allocation failed, which has no line
+abbrev pub IsFault : KnownError → Type 0 → Type 0
+IsFault (known.Table e) exact = IsTableFault e.fault e.line exact
+IsFault (known.Time e) exact = IsTimeFault e.fault e.line exact
+
+-- an error is that of the definition, unless an allocation failed
+abbrev pub TellsError : {Y : Type 0} → KnownError → Result Y KnownError → Type 0
+TellsError e told = IsFault e (told ≡ Err e)
 
 -- a table, or its fault together with the kind of the table
-abbrev pub read_as : {T : Type 0} → Table → Result T (TableFault × ℕ) → Result T TableError
+abbrev pub read_as : {T : Type 0} → Table → Result T (TableFault × ℕ) → Result T KnownError
 read_as table (Ok t) = Ok t
-read_as table (Err e) = Err (record { table = table; fault = e.0; line = e.1 })
+read_as table (Err e) = Err (known.Table (record { table = table; fault = e.0; line = e.1 }))
+
+-- a time table, or its fault
+abbrev pub read_times : {T : Type 0} → Result T TimeError → Result T KnownError
+read_times (Ok t) = Ok t
+read_times (Err e) = Err (known.Time e)
 
 -- ---- the table that a module reads
 
@@ -73,23 +90,27 @@ access_code (access.Granted line) = success
 access_code (access.Denied line) = perm_denied
 
 abbrev pub time_code : TimeAnswer → ℕ
-time_code times.Granted = success
-time_code (times.Denied line) = perm_denied
+time_code answers.Granted = success
+time_code (answers.Denied line) = perm_denied
 
 abbrev pub result_map : {X Y E : Type 0} → (X → Y) → Result X E → Result Y E
 result_map f (Ok x) = Ok (f x)
 result_map f (Err e) = Err e
 
 -- the code that an access table tells, read with the arguments of the module
-unfoldable pub access_told : LoginText → List Group → List (List ℕ) → List ℕ → Result ℕ TableError
+unfoldable pub access_told : LoginText → List Group → List (List ℕ) → List ℕ → Result ℕ KnownError
 access_told login groups arguments bytes =
     result_map (λ table. access_code (access_answer table login groups)) (read_as Access (table_of (options_of arguments) bytes))
 
+-- the login as a time table sees it, without the remote host
+abbrev pub timed_login : LoginText → TimedLogin
+timed_login l = record { user = l.user; service = l.service; tty = l.tty }
+
 -- the code that a time table tells
-unfoldable pub time_told : LoginText → TimedText → Result ℕ TableError
-time_told login timed = result_map (λ rules. time_code (answer_of rules login timed.moment)) (read_as Time (rules_of timed.bytes))
+unfoldable pub time_told : LoginText → TimedText → Result ℕ KnownError
+time_told login timed = result_map (λ rules. time_code (answer_of rules (timed_login login) timed.moment)) (read_times (rules_of timed.bytes))
 
 -- THE CODE of a module that reads a table, or the table's fault; none for other modules
-unfoldable pub table_answer : Kind → LoginText → TablesText → List Group → ModuleText → Option (Result ℕ TableError)
+unfoldable pub table_answer : Kind → LoginText → TablesText → List Group → ModuleText → Option (Result ℕ KnownError)
 table_answer kind login tables groups m =
     option_or (option_map (access_told login groups m.arguments) (access_read tables m)) (option_map (time_told login) (time_read kind tables m))

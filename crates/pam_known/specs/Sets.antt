@@ -6,24 +6,24 @@ use Rattle.pam_conf.specs.Stack.{Items, ModuleText}
 use Rattle.pam_paths.specs.Known.{answers_by, set_for}
 use Rattle.pam_paths.specs.declared.knowledge.Known.{Known}
 use Rattle.pam_tables.specs.Login.{login_view}
-use Rattle.pam_tables.specs.declared.error.TableError.{TableError}
+use Rattle.pam_known.specs.declared.error.KnownError.{KnownError}
 use Rattle.pam_known.specs.Answers.{IsFault, table_answer, time_told}
 use Rattle.pam_known.specs.Knowledge.{codes_by, first_fault, numbers, told_at}
 use Rattle.pam_known.specs.Tables.{tables_view}
 use Rattle.pam_known.specs.declared.known.Lookup.{Lookup}
 
 -- the code that a table tells, if it tells one, or its fault, unless an allocation failed
-abbrev pub TellsIfAny : Result (Option ℕ) TableError → Option (Result ℕ TableError) → Type 0
+abbrev pub TellsIfAny : Result (Option ℕ) KnownError → Option (Result ℕ KnownError) → Type 0
 TellsIfAny (Ok None) told = told ≡ None
 TellsIfAny (Ok (Some code)) told = told ≡ Some (Ok code)
-TellsIfAny (Err e) told = IsFault e e.fault (told ≡ Some (Err e))
+TellsIfAny (Err e) told = IsFault e (told ≡ Some (Err e))
 
 -- the code that a table tells for a module, for this lookup
-abbrev pub told_of : Lookup → ModuleText → Option (Result ℕ TableError)
+abbrev pub told_of : Lookup → ModuleText → Option (Result ℕ KnownError)
 told_of l m = table_answer l.kind (login_view l.login.now) (tables_view l.tables.now) l.groups m
 
 -- the same, by the number of the module
-abbrev pub told_of_number : Lookup → Items → ℕ → Option (Result ℕ TableError)
+abbrev pub told_of_number : Lookup → Items → ℕ → Option (Result ℕ KnownError)
 told_of_number l items number = told_at l.kind (login_view l.login.now) (tables_view l.tables.now) l.groups items number
 
 -- the kept code is what the time table tells
@@ -36,7 +36,7 @@ unfoldable pub Lets : List ℕ → List ℕ → Type 0
 Lets codes set = (code : ℕ) → code < 31 → answers_by set code ≡ is_in code codes
 
 -- the codes of a line are those of its module, or the line changes nothing
-abbrev pub Adds : Option (List ℕ) → Option (Result ℕ TableError) → Option (List ℕ) → Type 0
+abbrev pub Adds : Option (List ℕ) → Option (Result ℕ KnownError) → Option (List ℕ) → Type 0
 Adds None told line = codes_by told line ≡ codes_by told None
 Adds (Some codes) told line = (codes_by told line ≡ codes) × IsCodeSet codes × (codes ≢ [])
 
@@ -49,13 +49,13 @@ pub record AreDone (n : ℕ) (before done : ℕ → List ℕ → Type 0) (sets :
 abbrev pub IsUnset : ℕ → List ℕ → Type 0
 IsUnset number set = set ≡ []
 
-abbrev pub IsTableSet : (ℕ → Option (Result ℕ TableError)) → ℕ → List ℕ → Type 0
+abbrev pub IsTableSet : (ℕ → Option (Result ℕ KnownError)) → ℕ → List ℕ → Type 0
 IsTableSet told number set = Lets (codes_by (told number) None) set
 
-abbrev pub IsLineSet : (ℕ → Option (Result ℕ TableError)) → (ℕ → Option (List ℕ)) → ℕ → List ℕ → Type 0
+abbrev pub IsLineSet : (ℕ → Option (Result ℕ KnownError)) → (ℕ → Option (List ℕ)) → ℕ → List ℕ → Type 0
 IsLineSet told line number set = Lets (codes_by (told number) (line number)) set
 
 -- the codes that tables tell for the modules 1 to n, or the first fault, unless an allocation failed
-abbrev pub TellsAll : ℕ → (ℕ → Option (Result ℕ TableError)) → List ℕ → Result Known TableError → Type 0
+abbrev pub TellsAll : ℕ → (ℕ → Option (Result ℕ KnownError)) → List ℕ → Result Known KnownError → Type 0
 TellsAll n told numbers (Ok known) = (first_fault told numbers ≡ None) × ((m : ℕ) → 1 ≤ m → m ≤ n → IsTableSet told m (set_for known m))
-TellsAll n told numbers (Err e) = IsFault e e.fault (first_fault told numbers ≡ Some e)
+TellsAll n told numbers (Err e) = IsFault e (first_fault told numbers ≡ Some e)

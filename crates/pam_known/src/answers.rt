@@ -4,14 +4,17 @@ ghost use Rattle.std.specs.Prelude.{◌≡◌, ◌≤◌, ◌==◌, nat_eq, not,
 ghost use Rattle.std.specs.List.{list_any, starts_with, suffix_len};
 ghost use Rattle.std.specs.Option.{option_map};
 ghost use Rattle.pam_conf.specs.ItemsOf.{module_text};
-ghost use Rattle.pam_known.specs.Answers.{Tells, access_code, access_read, access_told, is_reader, name_of_path, time_code, time_read, time_told};
+ghost use Rattle.pam_known.specs.Answers.{TellsError, access_code, access_read, access_told, is_reader, name_of_path, time_code, time_read, time_told, timed_login};
 ghost use Rattle.pam_known.specs.Tables.{tables_view, timed_view};
 ghost use Rattle.pam_tables.specs.Login.{login_view};
+ghost use Rattle.pam_text.specs.Gives.{Gives};
+ghost use Rattle.pam_times.specs.Login.{login_view as timed_login_view};
 
+use crate::error::KnownError;
 use crate::tables::{Tables, TimedTable};
 use pam_codes::Code;
 use pam_conf::{Kind, Module};
-use pam_tables::{AccessAnswer, AccessOptions, AccessTable, Groups, Login, TableError};
+use pam_tables::{AccessAnswer, AccessOptions, AccessTable, Groups, Login};
 use pam_times::{TimeAnswer, TimeTable};
 use std::alloc::Global;
 
@@ -99,12 +102,23 @@ pub(crate) fn access_told(
     groups: &Groups,
     arguments: &[Vec<u8>],
     bytes: &[u8],
-) -> Result<Code, TableError>
-    ensures { Tells (λ code. code) result (access_told (login_view login.now) groups.now (map (λ a. a.items) arguments.now) bytes.now) }
+) -> Result<Code, KnownError>
+    ensures { Gives (λ e. TellsError e) (λ code. code) result (access_told (login_view login.now) groups.now (map (λ a. a.items) arguments.now) bytes.now) }
 {
     match AccessTable::read(alloc, bytes, &AccessOptions::of(arguments)) {
         Ok(table) => Ok(access_code(table.decide(login, groups))),
-        Err(error) => Err(error),
+        Err(error) => Err(KnownError::Table(error)),
+    }
+}
+
+/// Returns the login as a time table sees it, without the remote host.
+fn timed_login<'l>(login: &Login<'l>) -> pam_times::Login<'l>
+    ensures { timed_login_view result ≡ timed_login (login_view login.now) }
+{
+    pam_times::Login {
+        user: login.user,
+        service: login.service,
+        tty: login.tty,
     }
 }
 
@@ -114,11 +128,11 @@ pub(crate) fn time_told(
     alloc: Global,
     login: &Login<'_>,
     table: &TimedTable<'_>,
-) -> Result<Code, TableError>
-    ensures { Tells (λ code. code) result (time_told (login_view login.now) (timed_view table.now)) }
+) -> Result<Code, KnownError>
+    ensures { Gives (λ e. TellsError e) (λ code. code) result (time_told (login_view login.now) (timed_view table.now)) }
 {
     match TimeTable::read(alloc, table.bytes) {
-        Ok(rules) => Ok(time_code(rules.decide(login, &table.moment))),
-        Err(error) => Err(error),
+        Ok(rules) => Ok(time_code(rules.decide(&timed_login(login), &table.moment))),
+        Err(error) => Err(KnownError::Time(error)),
     }
 }

@@ -4,20 +4,22 @@ ghost use Rattle.std.specs.Prelude.{◌≡◌, ◌≤◌, ℕ, Some, is_some};
 ghost use Rattle.std.specs.List.{list_any};
 ghost use Rattle.pam_conf.specs.ItemsOf.{module_text};
 ghost use Rattle.pam_conf.specs.Stack.{module_count};
-ghost use Rattle.pam_known.specs.Answers.{Tells, name_of_path, time_told};
+ghost use Rattle.pam_known.specs.Answers.{TellsError, name_of_path, time_told};
 ghost use Rattle.pam_known.specs.Knowledge.{Knows, groups_read, knowledge, line_at, numbers, reads_access};
 ghost use Rattle.pam_known.specs.Sets.{Adds, IsKept, TellsAll, TellsIfAny, IsLineSet, IsTableSet, told_of, told_of_number};
 ghost use Rattle.pam_known.specs.Tables.{tables_view, timed_view};
 ghost use Rattle.pam_paths.specs.Known.{set_for};
 ghost use Rattle.pam_tables.specs.Login.{login_view};
+ghost use Rattle.pam_text.specs.Gives.{Gives};
 ghost use Rattle.pam_tables.specs.Returns.{codes_for};
 
 use crate::answers::{access_read, access_told, name_of_path, time_read, time_told};
+use crate::error::KnownError;
 use crate::tables::{Tables, TimedTable};
 use pam_codes::{Code, CodeSet};
 use pam_conf::{Kind, Module, Stack};
 use pam_paths::Known;
-use pam_tables::{Groups, Login, ReturnTable, TableError};
+use pam_tables::{Groups, Login, ReturnTable};
 use std::alloc::Global;
 
 /// Whether the module of a number reads the access table.
@@ -44,14 +46,14 @@ fn some_reads_access(stack: &Stack, tables: &Tables<'_>) -> bool
 
 /// Returns the groups. Reads the group file only if a module reads the access table.
 #[tactic(auto, unfolding(crate::specs::Knowledge::groups_read))]
-fn groups_read(alloc: Global, stack: &Stack, tables: &Tables<'_>) -> Result<Groups, TableError>
-    ensures { Tells (λ groups. groups) result (groups_read (tables_view tables.now) stack.now) }
+fn groups_read(alloc: Global, stack: &Stack, tables: &Tables<'_>) -> Result<Groups, KnownError>
+    ensures { Gives (λ e. TellsError e) (λ groups. groups) result (groups_read (tables_view tables.now) stack.now) }
 {
     if !some_reads_access(stack, tables) {
         return Ok(Groups::new(alloc));
     }
     match tables.groups {
-        Some(bytes) => Groups::read(alloc, bytes),
+        Some(bytes) => Ok(Groups::read(alloc, bytes)?),
         None => Ok(Groups::new(alloc)),
     }
 }
@@ -72,10 +74,10 @@ impl Lookup<'_, '_, '_> {
         alloc: Global,
         table: &TimedTable<'_>,
         by_time: &mut Option<Code>,
-    ) -> Result<Code, TableError>
+    ) -> Result<Code, KnownError>
         requires kept { IsKept self.now by_time.old }
         requires table { (tables_view self.now.tables.now).time ≡ Some (timed_view table.now) }
-        ensures told { Tells (λ code. code) result (time_told (login_view self.now.login.now) (timed_view table.now)) }
+        ensures told { Gives (λ e. TellsError e) (λ code. code) result (time_told (login_view self.now.login.now) (timed_view table.now)) }
         ensures kept { IsKept self.now by_time.new }
     {
         match *by_time {
@@ -95,7 +97,7 @@ impl Lookup<'_, '_, '_> {
         alloc: Global,
         module: &Module,
         by_time: &mut Option<Code>,
-    ) -> Result<Option<Code>, TableError>
+    ) -> Result<Option<Code>, KnownError>
         requires { IsKept self.now by_time.old }
         ensures told { TellsIfAny result (told_of self.now (module_text «module».now)) }
         ensures kept { IsKept self.now by_time.new }
@@ -120,7 +122,7 @@ impl Lookup<'_, '_, '_> {
         stack: &Stack,
         number: usize,
         by_time: &mut Option<Code>,
-    ) -> Result<Option<Code>, TableError>
+    ) -> Result<Option<Code>, KnownError>
         requires { IsKept self.now by_time.old }
         ensures told { TellsIfAny result (told_of_number self.now stack.now number) }
         ensures kept { IsKept self.now by_time.new }
@@ -132,7 +134,7 @@ impl Lookup<'_, '_, '_> {
     }
 
     /// Returns the codes of all modules that read a table.
-    fn table_answers(&self, alloc: Global, stack: &Stack) -> Result<Known, TableError>
+    fn table_answers(&self, alloc: Global, stack: &Stack) -> Result<Known, KnownError>
         ensures { TellsAll (module_count stack.now) (told_of_number self.now stack.now) (numbers stack.now) result }
     {
         let mut known = Known::new();
@@ -198,15 +200,15 @@ impl Lookup<'_, '_, '_> {
 /// the codes of its line in the returns file, or any code if it has no line.
 ///
 /// Returns the first fault: of the group file, which is read only if a module reads the access table; then of the
-/// table that a module reads, in the order of the modules; then of the returns file. A failed allocation is `Memory`,
-/// with line 0.
+/// table that a module reads, in the order of the modules; then of the returns file. A failed allocation is `Memory`
+/// of either kind, with line 0.
 pub fn known_answers<'x>(
     alloc: Global,
     stack: &Stack,
     kind: Kind,
     login: &'x Login<'_>,
     tables: &'x Tables<'_>,
-) -> Result<Known, TableError>
+) -> Result<Known, KnownError>
     ensures { Knows (module_count stack.now) result (knowledge kind (login_view login.now) (tables_view tables.now) stack.now) }
 {
     let groups = groups_read(alloc, stack, tables)?;

@@ -3,9 +3,11 @@
 #![tactic(auto)]
 
 mod answers;
+mod error;
 mod known;
 pub mod laws;
 mod tables;
 
+pub use error::KnownError;
 pub use known::known_answers;
 pub use tables::{Tables, TimedTable};

@@ -1,7 +1,7 @@
 -- A logic list and its signs.
 use Rattle.std.proofs.Common.{◌≡◌, ◌∙◌, ℕ, Bool, true, false, List, [], ◌∷◌, Option, Some, None, Ok, refl, sym, ap, subst}
-use Rattle.pam_times.specs.Laws.{written_item, written_behind, IsWritten}
-use Rattle.pam_times.specs.Logic.{ItemOf, Sign, Not, Join, Token, signs_of, onto_items, items_from, items_or_fault, items_of}
+use Rattle.pam_times.specs.Laws.{written_item, written_after, IsWritten}
+use Rattle.pam_times.specs.Logic.{ItemOf, SignText, Not, Join, Token, signs_of, onto_items, items_from, items_or_fault, items_of}
 use Rattle.pam_times.specs.declared.logic.Joint.{Joint}
 use Rattle.pam_times.specs.declared.logic.Joint.TheVariants.{First}
 use Rattle.pam_times.specs.declared.logic.Place.{Place}
@@ -11,54 +11,54 @@ abbrev Items : Type 0
 Items = List (ItemOf (List ℕ))
 
 -- the signs of items from a place on
-abbrev From : Place → List Sign → Items → Type 0
-From places.Joint signs items = signs ≡ written_behind items
+abbrev From : Place → List SignText → Items → Type 0
+From places.Joint signs items = signs ≡ written_after items
 From (places.Item joint) signs [] = ⊥
-From (places.Item joint) signs (item ∷ items) = (item.0 ≡ joint) × (signs ≡ written_item item.1 item.2 (written_behind items))
+From (places.Item joint) signs (item ∷ items) = (item.0 ≡ joint) × (signs ≡ written_item item.1 item.2 (written_after items))
 From (places.Token joint) signs [] = ⊥
-From (places.Token joint) signs (item ∷ items) = (item.0 ≡ joint) × (item.1 ≡ true) × (signs ≡ Token item.2 ∷ written_behind items)
+From (places.Token joint) signs (item ∷ items) = (item.0 ≡ joint) × (item.1 ≡ true) × (signs ≡ Token item.2 ∷ written_after items)
 
-abbrev OrNone : Place → List Sign → Option Items → Type 0
+abbrev OrNone : Place → List SignText → Option Items → Type 0
 OrNone place signs None = Unit {0}
 OrNone place signs (Some items) = From place signs items
 
-plain : (joint : Joint) (t : List ℕ) (signs : List Sign) (o : Option Items) → OrNone places.Joint signs o →
+plain : (joint : Joint) (t : List ℕ) (signs : List SignText) (o : Option Items) → OrNone places.Joint signs o →
     OrNone (places.Item joint) (Token t ∷ signs) (onto_items joint false t o)
 plain joint t signs None h = tt
-plain joint t signs (Some items) h = (refl, ap (λ (ss : List Sign). Token t ∷ ss) h)
+plain joint t signs (Some items) h = (refl, ap (λ (ss : List SignText). Token t ∷ ss) h)
 
-turned : (joint : Joint) (t : List ℕ) (signs : List Sign) (o : Option Items) → OrNone places.Joint signs o →
+turned : (joint : Joint) (t : List ℕ) (signs : List SignText) (o : Option Items) → OrNone places.Joint signs o →
     OrNone (places.Token joint) (Token t ∷ signs) (onto_items joint true t o)
 turned joint t signs None h = tt
-turned joint t signs (Some items) h = (refl, refl, ap (λ (ss : List Sign). Token t ∷ ss) h)
+turned joint t signs (Some items) h = (refl, refl, ap (λ (ss : List SignText). Token t ∷ ss) h)
 
-behind_not_items : (joint : Joint) (signs : List Sign) (items : Items) → From (places.Token joint) signs items → From (places.Item joint) (Not ∷ signs) items
-behind_not_items joint signs [] h = h
-behind_not_items joint signs (item ∷ items) h =
-    (h.0, ap (λ (ss : List Sign). Not ∷ ss) h.2 ∙ ap (λ (b : Bool). written_item b item.2 (written_behind items)) (sym h.1))
+after_not_items : (joint : Joint) (signs : List SignText) (items : Items) → From (places.Token joint) signs items → From (places.Item joint) (Not ∷ signs) items
+after_not_items joint signs [] h = h
+after_not_items joint signs (item ∷ items) h =
+    (h.0, ap (λ (ss : List SignText). Not ∷ ss) h.2 ∙ ap (λ (b : Bool). written_item b item.2 (written_after items)) (sym h.1))
 
-behind_not : (joint : Joint) (signs : List Sign) (o : Option Items) → OrNone (places.Token joint) signs o → OrNone (places.Item joint) (Not ∷ signs) o
-behind_not joint signs None h = tt
-behind_not joint signs (Some items) h = behind_not_items joint signs items h
+after_not : (joint : Joint) (signs : List SignText) (o : Option Items) → OrNone (places.Token joint) signs o → OrNone (places.Item joint) (Not ∷ signs) o
+after_not joint signs None h = tt
+after_not joint signs (Some items) h = after_not_items joint signs items h
 
-behind_joint_items : (joint : Joint) (signs : List Sign) (items : Items) → From (places.Item joint) signs items → From places.Joint (Join joint ∷ signs) items
-behind_joint_items joint signs [] h = absurd h
-behind_joint_items joint signs (item ∷ items) h =
-    ap (λ (ss : List Sign). Join joint ∷ ss) h.1 ∙ ap (λ (j : Joint). Join j ∷ written_item item.1 item.2 (written_behind items)) (sym h.0)
+after_joint_items : (joint : Joint) (signs : List SignText) (items : Items) → From (places.Item joint) signs items → From places.Joint (Join joint ∷ signs) items
+after_joint_items joint signs [] h = absurd h
+after_joint_items joint signs (item ∷ items) h =
+    ap (λ (ss : List SignText). Join joint ∷ ss) h.1 ∙ ap (λ (j : Joint). Join j ∷ written_item item.1 item.2 (written_after items)) (sym h.0)
 
-behind_joint : (joint : Joint) (signs : List Sign) (o : Option Items) → OrNone (places.Item joint) signs o → OrNone places.Joint (Join joint ∷ signs) o
-behind_joint joint signs None h = tt
-behind_joint joint signs (Some items) h = behind_joint_items joint signs items h
+after_joint : (joint : Joint) (signs : List SignText) (o : Option Items) → OrNone (places.Item joint) signs o → OrNone places.Joint (Join joint ∷ signs) o
+after_joint joint signs None h = tt
+after_joint joint signs (Some items) h = after_joint_items joint signs items h
 
 -- signs that are read as items are those of the items
-read_from : (place : Place) (signs : List Sign) → OrNone place signs (items_from place signs)
+read_from : (place : Place) (signs : List SignText) → OrNone place signs (items_from place signs)
 unfolding items_from
 read_from places.Joint [] = refl
 read_from places.Joint (Not ∷ signs) = tt
-read_from places.Joint (Join joint ∷ signs) = behind_joint joint signs _ (read_from (places.Item joint) signs)
+read_from places.Joint (Join joint ∷ signs) = after_joint joint signs _ (read_from (places.Item joint) signs)
 read_from places.Joint (Token t ∷ signs) = tt
 read_from (places.Item joint) [] = tt
-read_from (places.Item joint) (Not ∷ signs) = behind_not joint signs _ (read_from (places.Token joint) signs)
+read_from (places.Item joint) (Not ∷ signs) = after_not joint signs _ (read_from (places.Token joint) signs)
 read_from (places.Item joint) (Join other ∷ signs) = tt
 read_from (places.Item joint) (Token t ∷ signs) = plain joint t signs _ (read_from places.Joint signs)
 read_from (places.Token joint) [] = tt
@@ -67,22 +67,22 @@ read_from (places.Token joint) (Join other ∷ signs) = tt
 read_from (places.Token joint) (Token t ∷ signs) = turned joint t signs _ (read_from places.Joint signs)
 
 -- the signs of items are read as those items
-read_item : (joint : Joint) (b : Bool) (t : List ℕ) (items : Items) → items_from places.Joint (written_behind items) ≡ Some items →
-    items_from (places.Item joint) (written_item b t (written_behind items)) ≡ Some ((joint, b, t) ∷ items)
+read_item : (joint : Joint) (b : Bool) (t : List ℕ) (items : Items) → items_from places.Joint (written_after items) ≡ Some items →
+    items_from (places.Item joint) (written_item b t (written_after items)) ≡ Some ((joint, b, t) ∷ items)
 unfolding items_from
 read_item joint true t items h = ap (onto_items joint true t) h
 read_item joint false t items h = ap (onto_items joint false t) h
 
-read_behind : (items : Items) → items_from places.Joint (written_behind items) ≡ Some items
+read_after : (items : Items) → items_from places.Joint (written_after items) ≡ Some items
 unfolding items_from
-read_behind [] = refl
-read_behind (item ∷ items) = read_item item.0 item.1 item.2 items (read_behind items)
+read_after [] = refl
+read_after (item ∷ items) = read_item item.0 item.1 item.2 items (read_after items)
 
-from_first : (signs : List Sign) (items : Items) → From (places.Item First) signs items → IsWritten signs items
+from_first : (signs : List SignText) (items : Items) → From (places.Item First) signs items → IsWritten signs items
 from_first signs [] h = h
 from_first signs (item ∷ items) h = h
 
-written_of : (signs : List Sign) (o : Option Items) (items : Items) → OrNone (places.Item First) signs o → items_or_fault o ≡ Ok items → IsWritten signs items
+written_of : (signs : List SignText) (o : Option Items) (items : Items) → OrNone (places.Item First) signs o → items_or_fault o ≡ Ok items → IsWritten signs items
 written_of signs None items h e = absurd (cc)
 written_of signs (Some list) items h e =
     let same : list ≡ items = cc in
@@ -93,10 +93,10 @@ pub is_written : (text : List ℕ) (items : Items) → items_of text ≡ Ok item
 unfolding items_of
 is_written text items e = written_of (signs_of text) _ items (read_from (places.Item First) (signs_of text)) e
 
-read_first : (signs : List Sign) (items : Items) → IsWritten signs items → items_from (places.Item First) signs ≡ Some items
+read_first : (signs : List SignText) (items : Items) → IsWritten signs items → items_from (places.Item First) signs ≡ Some items
 read_first signs [] h = absurd h
 read_first signs (item ∷ items) h =
-    ap (λ (ss : List Sign). items_from (places.Item First) ss) h.1 ∙ read_item First item.1 item.2 items (read_behind items)
+    ap (λ (ss : List SignText). items_from (places.Item First) ss) h.1 ∙ read_item First item.1 item.2 items (read_after items)
     ∙ ap (λ (j : Joint). Some ((j, item.1, item.2) ∷ items)) (sym h.0)
 
 pub is_read : (text : List ℕ) (items : Items) → IsWritten (signs_of text) items → items_of text ≡ Ok items

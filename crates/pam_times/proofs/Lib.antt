@@ -1,6 +1,9 @@
+pub mod CheckSteps
 pub mod EntrySteps
 pub mod LawSteps
 pub mod LogicSteps
 pub mod PatternSteps
 pub mod ReadingSteps
+pub mod RuleSteps
+pub mod StoredSteps
 pub mod TimeSteps

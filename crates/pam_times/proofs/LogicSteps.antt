@@ -1,12 +1,12 @@
 -- The value of a list from the left, and the signs of a text one after another.
-use Rattle.std.proofs.Common.{◌≡◌, ◌∙◌, ◌+◌, ◌&&◌, ◌||◌, ◌++◌, ℕ, Bool, true, false, not, List, [], ◌∷◌, length, get_or, take, drop, map, cond, eqb, Option}
-use Rattle.std.proofs.Common.{Some, None, Err, refl, sym, ap, ap₂, arith, one-add, append_assoc, append-nil}
+use Rattle.std.proofs.Common.{◌≡◌, ◌∙◌, ◌+◌, ◌&&◌, ◌||◌, ℕ, Bool, true, false, not, List, [], ◌∷◌, length, get_or, take, drop, map, cond, eqb, Option}
+use Rattle.std.proofs.Common.{Some, None, refl, sym, ap, arith, one-add}
 use Rattle.std.proofs.lemmas.Bool.{eqb-true}
 use Rattle.std.specs.List.{list_all, prefix_len}
 use Rattle.pam_codes.specs.Tokens.{is_blank}
-use Rattle.pam_tables.specs.declared.error.TableFault.TheVariants.{BadLogic}
-use Rattle.pam_times.specs.Logic.{ItemOf, may_begin, keeps, is_true_of, item_value, is_true, join, Sign, Not, Join, Token, is_token_byte, begins_token}
-use Rattle.pam_times.specs.Logic.{onto_token, signs_of, onto_item, items_from, items_or_fault}
+use Rattle.pam_times.specs.Entry.{differ}
+use Rattle.pam_times.specs.Logic.{ItemOf, may_begin, keeps, is_true_of, item_value, is_true, join, SignText, Not, Join, Token, is_token_byte, begins_token}
+use Rattle.pam_times.specs.Logic.{onto_token, signs_of, onto_items, items_from, items_of, items_or_fault, list_value, place_after, value_after}
 use Rattle.pam_times.specs.declared.logic.Joint.{Joint}
 use Rattle.pam_times.specs.declared.logic.Joint.TheVariants.{First, And, Or}
 use Rattle.pam_times.specs.declared.logic.Place.{Place}
@@ -57,7 +57,7 @@ folded_is_true f items = folded_all (map (item_value f) items)
 
 -- ---- signs
 
-abbrev sign_step : (b : ℕ) (bs : List ℕ) → List Sign
+abbrev sign_step : (b : ℕ) (bs : List ℕ) → List SignText
 sign_step b bs =
     cond (eqb b 33) (Not ∷ signs_of bs) (cond (eqb b 38) (Join And ∷ signs_of bs)
     (cond (eqb b 124) (Join Or ∷ signs_of bs) (cond (begins_token bs) (onto_token b (signs_of bs)) (Token (b ∷ []) ∷ signs_of bs))))
@@ -77,6 +77,15 @@ signs_skip (b ∷ bs) = elim (is_blank b) as (λ (t : Bool). is_blank b ≡ t �
       let stop : prefix_len is_blank (b ∷ bs) ≡ 0 = ap (λ (t : Bool). cond t (1 + prefix_len is_blank bs) 0) e in
       rw stop refl
 ] refl
+
+pub no_blank_first : (bs : List ℕ) → prefix_len is_blank (drop (prefix_len is_blank bs) bs) ≡ 0
+no_blank_first [] = refl
+no_blank_first (b ∷ bs) =
+    elim (is_blank b) as (λ (t : Bool). is_blank b ≡ t →
+    prefix_len is_blank (drop (cond t (1 + prefix_len is_blank bs) 0) (b ∷ bs)) ≡ 0) [
+      | true ↦ λ e. rw one-add (no_blank_first bs)
+      | false ↦ λ e. ap (λ (t : Bool). cond t (1 + prefix_len is_blank bs) 0) e
+    ] refl
 
 token_test : (b : ℕ) → is_token_byte b ≡ true → (is_blank b ≡ false) × (eqb b 33 ≡ false) × (eqb b 38 ≡ false) × (eqb b 124 ≡ false)
 token_test b h = parts (is_blank b) (eqb b 33) (eqb b 38) (eqb b 124) h
@@ -154,45 +163,111 @@ pub token_first : (bs a r : List ℕ) → (length bs ≡ 0 → ⊥) → prefix_l
 token_first [] a r n z h k l p q = absurd (n refl)
 token_first (b ∷ bs) a r n z h k l p q = rw (p, q) (signs_token (b ∷ bs) (no_mark b bs z h k l))
 
--- ---- items
+-- ---- one sign after another
 
--- the complete items come first
-abbrev pub in_front : List (ItemOf (List ℕ)) → Option (List (ItemOf (List ℕ))) → Option (List (ItemOf (List ℕ)))
-in_front front None = None
-in_front front (Some items) = Some (front ++ items)
+abbrev Items : Type 0
+Items = List (ItemOf (List ℕ))
 
-pub nothing_in_front : (o : Option (List (ItemOf (List ℕ)))) → in_front [] o ≡ o
-nothing_in_front None = refl
-nothing_in_front (Some items) = refl
-
-module _ (front : List (ItemOf (List ℕ))) (place next : Place) (sign : Sign) (all rest : List Sign) (first : all ≡ sign ∷ rest) where
-  pub led : items_from place (sign ∷ rest) ≡ items_from next rest → in_front front (items_from next rest) ≡ in_front front (items_from place all)
-  led h = sym (ap (λ ss. in_front front (items_from place ss)) first ∙ ap (in_front front) h)
-
-  pub stuck : items_from place (sign ∷ rest) ≡ None → items_or_fault (in_front front (items_from place all)) ≡ Err BadLogic
-  stuck h = ap (λ ss. items_or_fault (in_front front (items_from place ss))) first ∙ ap (λ o. items_or_fault (in_front front o)) h
-
-one_more : (front : List (ItemOf (List ℕ))) (item : ItemOf (List ℕ)) (o : Option (List (ItemOf (List ℕ)))) →
-    in_front (front ++ item ∷ []) o ≡ in_front front (onto_item item o)
-one_more front item None = refl
-one_more front item (Some items) = ap Some (append_assoc front (item ∷ []) items)
-
-pub completed : (front : List (ItemOf (List ℕ))) (place : Place) (item : ItemOf (List ℕ)) (token : List ℕ) (all rest : List Sign) → all ≡ Token token ∷ rest →
-    items_from place (Token token ∷ rest) ≡ onto_item item (items_from places.Joint rest) →
-    in_front (front ++ item ∷ []) (items_from places.Joint rest) ≡ in_front front (items_from place all)
-completed front place item token all rest first h = one_more front item _ ∙ sym (ap (λ ss. in_front front (items_from place ss)) first ∙ ap (in_front front) h)
-
-pub ends_whole : (front : List (ItemOf (List ℕ))) (place : Place) (all : List Sign) → all ≡ [] → place ≡ places.Joint →
-    in_front front (items_from place all) ≡ Some front
+-- a sign that may not come next
+pub stuck : (place : Place) (sign : SignText) (rest : List SignText) → place_after place sign ≡ None → items_from place (sign ∷ rest) ≡ None
 unfolding items_from
-ends_whole front place all e f = ap₂ (λ p ss. in_front front (items_from p ss)) f e ∙ ap Some (append-nil front)
+stuck places.Joint Not rest h = refl
+stuck places.Joint (Join joint) rest h = absurd (cc)
+stuck places.Joint (Token t) rest h = refl
+stuck (places.Item joint) Not rest h = absurd (cc)
+stuck (places.Item joint) (Join other) rest h = refl
+stuck (places.Item joint) (Token t) rest h = absurd (cc)
+stuck (places.Token joint) Not rest h = refl
+stuck (places.Token joint) (Join other) rest h = refl
+stuck (places.Token joint) (Token t) rest h = absurd (cc)
 
-pub wants_item : (front : List (ItemOf (List ℕ))) (place : Place) (joint : Joint) (all : List Sign) → all ≡ [] → place ≡ places.Item joint →
-    in_front front (items_from place all) ≡ None
-unfolding items_from
-wants_item front place joint all e f = ap₂ (λ p ss. in_front front (items_from p ss)) f e
+-- the value of a list, from the value of the items before a place
+abbrev pub value_from : (List ℕ → Bool) → Bool → Option Items → Option Bool
+value_from f value None = None
+value_from f value (Some items) = Some (folded_items f value items)
 
-pub wants_token : (front : List (ItemOf (List ℕ))) (place : Place) (joint : Joint) (all : List Sign) → all ≡ [] → place ≡ places.Token joint →
-    in_front front (items_from place all) ≡ None
-unfolding items_from
-wants_token front place joint all e f = ap₂ (λ p ss. in_front front (items_from p ss)) f e
+differ_false : (b : Bool) → differ false b ≡ b
+differ_false true = refl
+differ_false false = refl
+
+differ_true : (b : Bool) → differ true b ≡ not b
+differ_true true = refl
+differ_true false = refl
+
+module _ (f : List ℕ → Bool) (value : Bool) (joint : Joint) (t : List ℕ) where
+  plain : (o : Option Items) → value_from f value (onto_items joint false t o) ≡ value_from f (join joint value (f t)) o
+  plain None = refl
+  plain (Some items) = ap (λ (b : Bool). Some (folded_items f (join joint value b) items)) (differ_false (f t))
+
+  inverted : (o : Option Items) → value_from f value (onto_items joint true t o) ≡ value_from f (join joint value (not (f t))) o
+  inverted None = refl
+  inverted (Some items) = ap (λ (b : Bool). Some (folded_items f (join joint value b) items)) (differ_true (f t))
+
+module _ (f : List ℕ → Bool) (value : Bool) (next : Place) (rest : List SignText) where
+  pub value_step : (place : Place) (sign : SignText) → place_after place sign ≡ Some next →
+      value_from f value (items_from place (sign ∷ rest)) ≡ value_from f (value_after f value place sign) (items_from next rest)
+  unfolding items_from
+  value_step places.Joint Not h = absurd (cc)
+  value_step places.Joint (Join joint) h =
+      let same : places.Item joint ≡ next = cc in ap (λ (p : Place). value_from f value (items_from p rest)) same
+  value_step places.Joint (Token t) h = absurd (cc)
+  value_step (places.Item joint) Not h =
+      let same : places.Token joint ≡ next = cc in ap (λ (p : Place). value_from f value (items_from p rest)) same
+  value_step (places.Item joint) (Join other) h = absurd (cc)
+  value_step (places.Item joint) (Token t) h =
+      let same : places.Joint ≡ next = cc in
+      plain f value joint t _ ∙ ap (λ (p : Place). value_from f (join joint value (f t)) (items_from p rest)) same
+  value_step (places.Token joint) Not h = absurd (cc)
+  value_step (places.Token joint) (Join other) h = absurd (cc)
+  value_step (places.Token joint) (Token t) h =
+      let same : places.Joint ≡ next = cc in
+      inverted f value joint t _ ∙ ap (λ (p : Place). value_from f (join joint value (not (f t))) (items_from p rest)) same
+
+none_some : (b : Bool) → ◌≡◌ {A = Option Bool} None (Some b) → ⊥
+none_some b h = absurd (cc)
+
+abbrev pub or_false_value : Option Bool → Bool
+or_false_value None = false
+or_false_value (Some value) = value
+
+-- the value of a list, from the value of the items before a place, or false if the signs are no list
+abbrev pub value_left : (List ℕ → Bool) → Bool → Place → List SignText → Bool
+value_left f value place signs = or_false_value (value_from f value (items_from place signs))
+
+pub value_whole : (f : List ℕ → Bool) (text : List ℕ) → value_left f false (places.Item First) (signs_of text) ≡ list_value f (items_of text)
+unfolding items_of
+value_whole f text =
+    elim (items_from (places.Item First) (signs_of text)) as
+    (λ (o : Option Items). or_false_value (value_from f false o) ≡ list_value f (items_or_fault o)) [
+      | None ↦ refl
+      | Some items ↦ folded_is_true f items
+    ]
+
+module _ (f : List ℕ → Bool) (value : Bool) (place : Place) (signs rest : List SignText) (sign : SignText) (first : signs ≡ sign ∷ rest) where
+  pub value_next : (new : Bool) (next : Place) (all : Bool) → place_after place sign ≡ Some next → new ≡ value_after f value place sign →
+      value_left f value place signs ≡ all → value_left f new next rest ≡ all
+  value_next new next all h k same =
+      ap (λ (v : Bool). value_left f v next rest) k ∙ sym (ap or_false_value (value_step f value next rest place sign h))
+      ∙ sym (ap (λ (ss : List SignText). value_left f value place ss) first) ∙ same
+
+  pub value_stuck : place_after place sign ≡ None → false ≡ value_left f value place signs
+  value_stuck h =
+      sym (ap (λ (ss : List SignText). value_left f value place ss) first
+      ∙ ap (λ (o : Option Items). or_false_value (value_from f value o)) (stuck place sign rest h))
+
+-- no sign is left
+module _ (f : List ℕ → Bool) (value : Bool) (place : Place) (signs : List SignText) (none : signs ≡ []) where
+  at : (p : Place) → place ≡ p → value_left f value place signs ≡ value_left f value p []
+  at p e = ap (λ (q : Place). value_left f value q signs) e ∙ ap (λ (ss : List SignText). value_left f value p ss) none
+
+  pub value_at_end : place ≡ places.Joint → value ≡ value_left f value place signs
+  unfolding items_from
+  value_at_end e = sym (at places.Joint e)
+
+  pub no_item : (joint : Joint) → place ≡ places.Item joint → false ≡ value_left f value place signs
+  unfolding items_from
+  no_item joint e = sym (at (places.Item joint) e)
+
+  pub no_token : (joint : Joint) → place ≡ places.Token joint → false ≡ value_left f value place signs
+  unfolding items_from
+  no_token joint e = sym (at (places.Token joint) e)

@@ -1,105 +1,96 @@
--- Fields, and lines one after another.
-use Rattle.std.proofs.Common.{◌≡◌, ◌∙◌, ◌++◌, ⊎_elim, ℕ, Bool, true, false, List, [], ◌∷◌, map, cond, eqb, Option, Some, None, Result, Ok, Err, refl, sym, ap}
-use Rattle.std.proofs.Common.{append_assoc, append-nil}
-use Rattle.pam_codes.specs.Text.{Mark, first_line, first_marks, behind_line}
-use Rattle.pam_codes.proofs.TextLines.{HeadIs, bytes_of_marks, split_first}
-use Rattle.pam_tables.specs.Error.{onto_lines, read_lines}
-use Rattle.pam_tables.specs.declared.error.TableFault.{TableFault}
-use Rattle.pam_tables.proofs.ReadSteps.{in_front}
-use Rattle.pam_times.specs.Reading.{semicolon_cut, fields_of, full_fields, has_empty, rule_of, number_of, numbered_line, rules_in, with_rule}
+-- Rules line by line.
+use Rattle.std.proofs.Common.{◌≡◌, ◌∙◌, ◌++◌, ℕ, List, [], ◌∷◌, Option, Some, None, Result, Ok, Err, refl, sym, ap, append_assoc, append-nil}
+use Rattle.std.specs.Option.{option_map_or}
+use Rattle.pam_text.specs.Source.{source_fault}
+use Rattle.pam_text.specs.Text.{text_lines, text_of}
+use Rattle.pam_text.specs.declared.source.SourceFault.{SourceFault}
+use Rattle.pam_text.specs.declared.source.SourceFault.TheVariants as source
+use Rattle.pam_times.specs.Error.{Tells, TellsFault, source_error}
+use Rattle.pam_times.specs.Reading.{rule_of, rules_in, rules_of, onto_rules}
+use Rattle.pam_times.specs.RuleLines.{with_line}
 use Rattle.pam_times.specs.Times.{Rule}
-
--- ---- fields
-
-pub no_cut : (line : List ℕ) → None ≡ semicolon_cut line → None ≡ fields_of line
-unfolding fields_of
-no_cut line e = rw (← e) refl
-
-pub one_cut : (line a r : List ℕ) → Some (a, r) ≡ semicolon_cut line → None ≡ semicolon_cut r → None ≡ fields_of line
-unfolding fields_of
-one_cut line a r e f = rw (← e) (rw (← f) refl)
-
-pub two_cuts : (line a r b s : List ℕ) → Some (a, r) ≡ semicolon_cut line → Some (b, s) ≡ semicolon_cut r → None ≡ semicolon_cut s → None ≡ fields_of line
-unfolding fields_of
-two_cuts line a r b s e f g = rw (← e) (rw (← f) (rw (← g) refl))
-
-three_cuts : (line a r b s c d : List ℕ) → Some (a, r) ≡ semicolon_cut line → Some (b, s) ≡ semicolon_cut r → Some (c, d) ≡ semicolon_cut s →
-    fields_of line ≡ full_fields (Some (record { services = a; terminals = b; users = c; times = d }))
-unfolding fields_of
-three_cuts line a r b s c d e f g = rw (← e) (rw (← f) (rw (← g) refl))
-
-pub empty_field : (line a r b s c d : List ℕ) (t : Bool) → Some (a, r) ≡ semicolon_cut line → Some (b, s) ≡ semicolon_cut r → Some (c, d) ≡ semicolon_cut s →
-    t ≡ has_empty (record { services = a; terminals = b; users = c; times = d }) → t ≡ true → None ≡ fields_of line
-empty_field line a r b s c d t e f g h i =
-    sym (three_cuts line a r b s c d e f g ∙ ap (λ (x : Bool). cond x None (Some (record { services = a; terminals = b; users = c; times = d }))) (sym h ∙ i))
-
-pub no_empty_field : (line a r b s c d : List ℕ) (t : Bool) → Some (a, r) ≡ semicolon_cut line → Some (b, s) ≡ semicolon_cut r → Some (c, d) ≡ semicolon_cut s →
-    t ≡ has_empty (record { services = a; terminals = b; users = c; times = d }) → t ≡ false →
-    Some (record { services = a; terminals = b; users = c; times = d }) ≡ fields_of line
-no_empty_field line a r b s c d t e f g h i =
-    sym (three_cuts line a r b s c d e f g ∙ ap (λ (x : Bool). cond x None (Some (record { services = a; terminals = b; users = c; times = d }))) (sym h ∙ i))
+use Rattle.pam_times.specs.declared.error.TimeError.{TimeError}
+use Rattle.pam_times.specs.declared.error.TimeFault.{TimeFault}
+use Rattle.pam_times.specs.declared.error.TimeFault.TheVariants.{MissingField, Netgroup, BadTimes, TwoWildcards, BadLogic, NulByte, Memory, TooLong}
 
 -- ---- lines
 
-empty_line : (n : ℕ) → rule_of n [] ≡ Ok None
-unfolding rule_of
-empty_line n = refl
+-- rules that come before the others
+abbrev pub with_rules : List Rule → Result (List Rule) TimeError → Result (List Rule) TimeError
+with_rules before (Ok rules) = Ok (before ++ rules)
+with_rules before (Err error) = Err error
 
-nothing_read : rules_in [] ≡ Ok []
-unfolding rule_of read_lines
-nothing_read = refl
+pub no_rules_before : (r : Result (List Rule) TimeError) → with_rules [] r ≡ r
+no_rules_before (Ok rules) = refl
+no_rules_before (Err error) = refl
 
-line_then : (l : ℕ) (ms : List Mark) → Result (List Rule) (TableFault × ℕ) → Result (List Rule) (TableFault × ℕ)
-line_then l ms others = onto_lines l (rule_of l (first_line ms)) others
+line_added : (before more : List Rule) (number : ℕ) (r : Result (Option Rule) TimeFault) (others : Result (List Rule) TimeError) →
+    with_line before number r ≡ Ok more → with_rules more others ≡ with_rules before (onto_rules number r others)
+line_added before more number (Ok None) others h = let same : before ≡ more = cc in ap (λ (rs : List Rule). with_rules rs others) (sym same)
+line_added before more number (Ok (Some rule)) (Ok rules) h =
+    let same : before ++ rule ∷ [] ≡ more = cc in
+    ap (λ (rs : List Rule). Ok (rs ++ rules)) (sym same) ∙ ap Ok (append_assoc before (rule ∷ []) rules)
+line_added before more number (Ok (Some rule)) (Err error) h = refl
+line_added before more number (Err fault) others h = absurd (cc)
 
-first_numbered : (l : ℕ) (ms : List Mark) (others : Result (List Rule) (TableFault × ℕ)) → HeadIs l ms →
-    onto_lines (number_of (first_marks ms)) (rule_of (number_of (first_marks ms)) (map (λ m. m.1) (first_marks ms))) others ≡ line_then l ms others
-unfolding HeadIs rule_of line_then
-first_numbered l [] others h = refl
-first_numbered l (m ∷ ms) others h =
-    elim (eqb m.1 10) as (λ (t : Bool). onto_lines (number_of (cond t [] (m ∷ first_marks ms)))
-    (rule_of (number_of (cond t [] (m ∷ first_marks ms))) (map (λ m. m.1) (cond t [] (m ∷ first_marks ms)))) others
-    ≡ onto_lines l (rule_of l (cond t [] (m.1 ∷ first_line ms))) others) [
-      | true ↦ refl
-      | false ↦ rw (h, bytes_of_marks ms) refl
-    ]
+line_fails : (before : List Rule) (number : ℕ) (r : Result (Option Rule) TimeFault) (others : Result (List Rule) TimeError) (error : TimeError) →
+    with_line before number r ≡ Err error → with_rules before (onto_rules number r others) ≡ Err error
+line_fails before number (Ok None) others error h = absurd (cc)
+line_fails before number (Ok (Some rule)) others error h = absurd (cc)
+line_fails before number (Err fault) others error h = h
 
--- the rules of a text: that of its first line, then those of the text after it
-rules_step : (l : ℕ) (ms : List Mark) → HeadIs l ms → rules_in ms ≡ onto_lines l (rule_of l (first_line ms)) (rules_in (behind_line ms))
-unfolding read_lines line_then
-rules_step l ms h = ⊎_elim
-    (λ e. ap (λ ls. read_lines rule_of (map numbered_line ls)) e ∙ first_numbered l ms (rules_in (behind_line ms)) h)
-    (λ p. ap (λ ls. read_lines rule_of (map numbered_line ls)) p.0 ∙ first_numbered l ms (Ok []) h
-    ∙ ap (λ r. onto_lines l (rule_of l (first_line ms)) r) (sym nothing_read ∙ ap rules_in (sym p.1)))
-    (split_first ms)
+module _ (before : List Rule) (number : ℕ) (bytes : List ℕ) (all lines : List (ℕ × List ℕ)) (first : all ≡ (number, bytes) ∷ lines) where
+  here : with_rules before (rules_in all) ≡ with_rules before (onto_rules number (rule_of number bytes) (rules_in lines))
+  unfolding rules_in
+  here = ap (λ (ls : List (ℕ × List ℕ)). with_rules before (rules_in ls)) first
 
-pub nothing_left : (front : List Rule) (ms : List Mark) → ms ≡ [] → in_front front (rules_in ms) ≡ Ok front
-nothing_left front ms e = ap (λ (ts : List Mark). in_front front (rules_in ts)) e ∙ ap (in_front front) nothing_read ∙ ap Ok (append-nil front)
+  pub next_line : (more : List Rule) → with_line before number (rule_of number bytes) ≡ Ok more →
+      with_rules more (rules_in lines) ≡ with_rules before (rules_in all)
+  next_line more h = line_added before more number (rule_of number bytes) (rules_in lines) h ∙ sym here
 
-one_rule : (front : List Rule) (x : Rule) (r : Result (List Rule) (TableFault × ℕ)) (l : ℕ) →
-    in_front (front ++ x ∷ []) r ≡ in_front front (onto_lines l (Ok (Some x)) r)
-one_rule front x (Ok xs) l = ap Ok (append_assoc front (x ∷ []) xs)
-one_rule front x (Err e) l = refl
+  pub fault_here : (error : TimeError) → with_line before number (rule_of number bytes) ≡ Err error → with_rules before (rules_in all) ≡ Err error
+  fault_here error h = here ∙ line_fails before number (rule_of number bytes) (rules_in lines) error h
 
-added : (front more : List Rule) (l : ℕ) (r : Result (Option Rule) TableFault) (others : Result (List Rule) (TableFault × ℕ)) → with_rule front r ≡ Ok more →
-    in_front more others ≡ in_front front (onto_lines l r others)
-added front more l (Err f) others h = absurd (cc)
-added front more l (Ok None) others h = let same : front ≡ more = cc in ap (λ (rs : List Rule). in_front rs others) (sym same)
-added front more l (Ok (Some x)) others h =
-    let same : front ++ x ∷ [] ≡ more = cc in ap (λ (rs : List Rule). in_front rs others) (sym same) ∙ one_rule front x others l
+pub no_lines_left : (before : List Rule) (all : List (ℕ × List ℕ)) → all ≡ [] → with_rules before (rules_in all) ≡ Ok before
+unfolding rules_in
+no_lines_left before all e = ap (λ (ls : List (ℕ × List ℕ)). with_rules before (rules_in ls)) e ∙ ap Ok (append-nil before)
 
-pub line_added : (front more : List Rule) (l : ℕ) (ms ts : List Mark) → HeadIs l ms → with_rule front (rule_of l (first_line ms)) ≡ Ok more →
-    ts ≡ behind_line ms → in_front more (rules_in ts) ≡ in_front front (rules_in ms)
-line_added front more l ms ts head h e =
-    ap (λ (us : List Mark). in_front more (rules_in us)) e ∙ added front more l _ (rules_in (behind_line ms)) h
-    ∙ sym (ap (in_front front) (rules_step l ms head))
+-- ---- the bytes as a whole
 
-stops : (front : List Rule) (l : ℕ) (fault : TableFault) (r : Result (Option Rule) TableFault) (others : Result (List Rule) (TableFault × ℕ)) →
-    with_rule front r ≡ Err fault → in_front front (onto_lines l r others) ≡ Err (fault, l)
-stops front l fault (Err f) others h = let same : f ≡ fault = cc in ap (λ (x : TableFault). Err (x, l)) same
-stops front l fault (Ok None) others h = absurd (cc)
-stops front l fault (Ok (Some x)) others h = absurd (cc)
+unless : Option SourceFault → Result (List Rule) TimeError → Result (List Rule) TimeError
+unless fault read = option_map_or (λ f. Err (source_error f)) fault read
 
-pub line_fails : (front : List Rule) (l : ℕ) (ms : List Mark) (fault : TableFault) → HeadIs l ms → with_rule front (rule_of l (first_line ms)) ≡ Err fault →
-    in_front front (rules_in ms) ≡ Err (fault, l)
-line_fails front l ms fault head h = ap (in_front front) (rules_step l ms head) ∙ stops front l fault _ (rules_in (behind_line ms)) h
+fault_found : (bytes : List ℕ) (fault : SourceFault) → source_fault bytes ≡ Some fault → rules_of bytes ≡ Err (source_error fault)
+unfolding rules_of unless
+fault_found bytes fault h = ap (λ (o : Option SourceFault). unless o (rules_in (text_lines (text_of 1 bytes)))) h
+
+pub source_told : (bytes : List ℕ) (fault : SourceFault) → source_fault bytes ≡ Some fault → Tells (source_error fault) (rules_of bytes)
+source_told bytes source.TooLong h = fault_found bytes source.TooLong h
+source_told bytes (source.NulByte line) h = fault_found bytes (source.NulByte line) h
+
+pub rules_are : (bytes : List ℕ) → source_fault bytes ≡ None → rules_of bytes ≡ rules_in (text_lines (text_of 1 bytes))
+unfolding rules_of unless
+rules_are bytes h = ap (λ (o : Option SourceFault). unless o (rules_in (text_lines (text_of 1 bytes)))) h
+
+-- an error of one definition is one of another
+told_of : (fault : TimeFault) (error : TimeError) (one other : Result (List Rule) TimeError) → (one ≡ Err error → other ≡ Err error) →
+    TellsFault fault error one → TellsFault fault error other
+told_of MissingField error one other f h = f h
+told_of Netgroup error one other f h = f h
+told_of BadTimes error one other f h = f h
+told_of TwoWildcards error one other f h = f h
+told_of BadLogic error one other f h = f h
+told_of NulByte error one other f h = f h
+told_of Memory error one other f h = h
+told_of TooLong error one other f h = f h
+
+module _ (bytes : List ℕ) (sound : source_fault bytes ≡ None) (before : List Rule) (left : List (ℕ × List ℕ))
+    (same : with_rules before (rules_in left) ≡ rules_in (text_lines (text_of 1 bytes))) where
+  pub line_error : (number : ℕ) (line : List ℕ) (lines : List (ℕ × List ℕ)) (error : TimeError) → left ≡ (number, line) ∷ lines →
+      Tells error (with_line before number (rule_of number line)) → Tells error (rules_of bytes)
+  line_error number line lines error first =
+      told_of error.fault error (with_line before number (rule_of number line)) (rules_of bytes)
+      (λ h. rules_are bytes sound ∙ sym same ∙ fault_here before number line left lines first error h)
+
+  pub all_read : left ≡ [] → rules_of bytes ≡ Ok before
+  all_read none = rules_are bytes sound ∙ sym same ∙ no_lines_left before left none

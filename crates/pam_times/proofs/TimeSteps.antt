@@ -1,4 +1,4 @@
--- The weekday, and the lines of a table.
+-- The day of the week.
 use Rattle.std.proofs.Common.{◌≡◌, ◌∙◌, refl, ap, ℕ, ℤ, pos, arith, FitsSigned, w8, nat_abs}
 use Rattle.std.proofs.lemmas.Int.{to_z-of_z}
 use Rattle.jiff.proofs.SpanFacts.{signed_arith}

@@ -1,22 +1,22 @@
 -- time.conf(5): a logic list is an item, then any number of operators, each with an item after it.
 use Rattle.std.specs.Prelude.{◌≡◌, ◌↔◌, ℕ, Bool, true, false, List, [], ◌∷◌, Ok}
-use Rattle.pam_times.specs.Logic.{ItemOf, Sign, Not, Join, Token, signs_of, items_of}
+use Rattle.pam_times.specs.Logic.{ItemOf, SignText, Not, Join, Token, signs_of, items_of}
 use Rattle.pam_times.specs.declared.logic.Joint.TheVariants.{First}
 
 -- the signs of an item, before those that follow
-abbrev pub written_item : Bool → List ℕ → List Sign → List Sign
+abbrev pub written_item : Bool → List ℕ → List SignText → List SignText
 written_item true token more = Not ∷ Token token ∷ more
 written_item false token more = Token token ∷ more
 
 -- the signs of the items after the first, each with its operator
-abbrev pub written_behind : List (ItemOf (List ℕ)) → List Sign
-written_behind [] = []
-written_behind (item ∷ items) = Join item.0 ∷ written_item item.1 item.2 (written_behind items)
+abbrev pub written_after : List (ItemOf (List ℕ)) → List SignText
+written_after [] = []
+written_after (item ∷ items) = Join item.0 ∷ written_item item.1 item.2 (written_after items)
 
 -- the signs of a list of items, the first without an operator
-abbrev pub IsWritten : List Sign → List (ItemOf (List ℕ)) → Type 0
+abbrev pub IsWritten : List SignText → List (ItemOf (List ℕ)) → Type 0
 IsWritten signs [] = ⊥
-IsWritten signs (item ∷ items) = (item.0 ≡ First) × (signs ≡ written_item item.1 item.2 (written_behind items))
+IsWritten signs (item ∷ items) = (item.0 ≡ First) × (signs ≡ written_item item.1 item.2 (written_after items))
 
 -- a text has these items if and only if its signs are those of the items
 abbrev pub ListsAreWrittenInOneWay : Type 0

@@ -2,16 +2,15 @@
 use Rattle.std.specs.Prelude.{◌≡◌, ℕ, ◌==◌, ◌&&◌, ◌||◌, Bool, true, false, not, List, [], ◌∷◌, map, if◌then◌else◌, Option, Some, None, Result, Ok, Err}
 use Rattle.std.specs.List.{list_all}
 use Rattle.pam_codes.specs.Tokens.{is_blank}
-use Rattle.pam_tables.specs.declared.error.TableFault.{TableFault}
-use Rattle.pam_tables.specs.declared.error.TableFault.TheVariants.{BadLogic}
+use Rattle.pam_times.specs.declared.error.TimeFault.{TimeFault}
+use Rattle.pam_times.specs.declared.error.TimeFault.TheVariants.{BadLogic}
 use Rattle.pam_times.specs.Entry.{differ}
-use Rattle.pam_times.specs.declared.logic.Item.{Item}
 use Rattle.pam_times.specs.declared.logic.Joint.{Joint}
 use Rattle.pam_times.specs.declared.logic.Joint.TheVariants.{First, And, Or}
-use Rattle.pam_times.specs.declared.logic.Part.{Part}
-use Rattle.pam_times.specs.declared.logic.Part.TheVariants as parts
 use Rattle.pam_times.specs.declared.logic.Place.{Place}
 use Rattle.pam_times.specs.declared.logic.Place.TheVariants as places
+use Rattle.pam_times.specs.declared.logic.Sign.{Sign}
+use Rattle.pam_times.specs.declared.logic.Sign.TheVariants as signs
 
 -- ---- the value of a list
 
@@ -50,10 +49,10 @@ is_true f items = is_true_of (map (item_value f) items)
 -- ---- the text of a list
 
 -- `!`, an operator, or a token
-pub data Sign : Type 0 where
-  Not : Sign
-  Join : Joint → Sign
-  Token : List ℕ → Sign
+pub data SignText : Type 0 where
+  Not : SignText
+  Join : Joint → SignText
+  Token : List ℕ → SignText
 
 abbrev pub is_token_byte : ℕ → Bool
 is_token_byte b = not (is_blank b || b == 33 || b == 38 || b == 124)
@@ -62,12 +61,12 @@ abbrev pub begins_token : List ℕ → Bool
 begins_token [] = false
 begins_token (b ∷ bs) = is_token_byte b
 
-abbrev pub onto_token : ℕ → List Sign → List Sign
+abbrev pub onto_token : ℕ → List SignText → List SignText
 onto_token b (Token t ∷ signs) = Token (b ∷ t) ∷ signs
 onto_token b signs = Token (b ∷ []) ∷ signs
 
 -- the signs of a text: each `!` and operator, and each longest run of bytes other than these and blanks
-unfoldable pub signs_of : List ℕ → List Sign
+unfoldable pub signs_of : List ℕ → List SignText
 signs_of [] = []
 signs_of (b ∷ bs) =
     if is_blank b then signs_of bs
@@ -77,10 +76,10 @@ signs_of (b ∷ bs) =
     else if begins_token bs then onto_token b (signs_of bs)
     else Token (b ∷ []) ∷ signs_of bs
 
-abbrev pub sign_view : Part → Sign
-sign_view parts.Not = Not
-sign_view (parts.Joint joint) = Join joint
-sign_view (parts.Token text) = Token text.now
+abbrev pub sign_view : Sign → SignText
+sign_view signs.Not = Not
+sign_view (signs.Joint joint) = Join joint
+sign_view (signs.Token text) = Token text.now
 
 abbrev pub onto_items : Joint → Bool → List ℕ → Option (List (ItemOf (List ℕ))) → Option (List (ItemOf (List ℕ)))
 onto_items joint is_inverted token (Some items) = Some ((joint, is_inverted, token) ∷ items)
@@ -88,7 +87,7 @@ onto_items joint is_inverted token None = None
 
 -- the items from a place on, if the signs are a list: an item is a token, with at most one `!` before it,
 -- and there is an operator between two items
-unfoldable pub items_from : Place → List Sign → Option (List (ItemOf (List ℕ)))
+unfoldable pub items_from : Place → List SignText → Option (List (ItemOf (List ℕ)))
 items_from (places.Item joint) (Not ∷ signs) = items_from (places.Token joint) signs
 items_from (places.Item joint) (Token t ∷ signs) = onto_items joint false t (items_from places.Joint signs)
 items_from (places.Token joint) (Token t ∷ signs) = onto_items joint true t (items_from places.Joint signs)
@@ -96,31 +95,31 @@ items_from places.Joint (Join joint ∷ signs) = items_from (places.Item joint) 
 items_from places.Joint [] = Some []
 items_from _ _ = None
 
-abbrev pub items_or_fault : Option (List (ItemOf (List ℕ))) → Result (List (ItemOf (List ℕ))) TableFault
+abbrev pub items_or_fault : Option (List (ItemOf (List ℕ))) → Result (List (ItemOf (List ℕ))) TimeFault
 items_or_fault (Some items) = Ok items
 items_or_fault None = Err BadLogic
 
 -- the items of a text
-unfoldable pub items_of : List ℕ → Result (List (ItemOf (List ℕ))) TableFault
+unfoldable pub items_of : List ℕ → Result (List (ItemOf (List ℕ))) TimeFault
 items_of text = items_or_fault (items_from (places.Item First) (signs_of text))
 
--- ---- the effect of one sign
+-- the value of a text, which is false if the text is no list
+abbrev pub list_value : (List ℕ → Bool) → Result (List (ItemOf (List ℕ))) TimeFault → Bool
+list_value f (Ok items) = is_true f items
+list_value f (Err fault) = false
 
--- an item, with the meaning of its token
-abbrev pub item_view : {A B : Type 0} → (A → B) → Item A → ItemOf B
-item_view view item = (item.joint, item.is_inverted, view item.meant)
+-- ---- sign by sign
 
--- a sign leads to a place with the same remaining items; if it is a fault, there are no items
-abbrev pub Leads : Place → Sign → Result Place TableFault → Type 0
-Leads place sign (Ok next) = (rest : List Sign) → items_from place (sign ∷ rest) ≡ items_from next rest
-Leads place sign (Err fault) = (fault ≡ BadLogic) × ((rest : List Sign) → items_from place (sign ∷ rest) ≡ None)
+-- the place after a sign, if the sign may come next
+abbrev pub place_after : Place → SignText → Option Place
+place_after (places.Item joint) Not = Some (places.Token joint)
+place_after (places.Item joint) (Token t) = Some places.Joint
+place_after (places.Token joint) (Token t) = Some places.Joint
+place_after places.Joint (Join joint) = Some (places.Item joint)
+place_after _ _ = None
 
-abbrev pub onto_item : ItemOf (List ℕ) → Option (List (ItemOf (List ℕ))) → Option (List (ItemOf (List ℕ)))
-onto_item item items = onto_items item.0 item.1 item.2 items
-
--- the item that a token completes comes before the remaining ones, which begin with an operator; if it is a fault,
--- there are no items
-abbrev pub Completes : {A : Type 0} → (A → List ℕ) → Place → List ℕ → Result (Item A) TableFault → Type 0
-Completes view place token (Ok item) =
-    (rest : List Sign) → items_from place (Token token ∷ rest) ≡ onto_item (item_view view item) (items_from places.Joint rest)
-Completes view place token (Err fault) = (fault ≡ BadLogic) × ((rest : List Sign) → items_from place (Token token ∷ rest) ≡ None)
+-- the value up to a sign at a place, from the value before it
+abbrev pub value_after : (List ℕ → Bool) → Bool → Place → SignText → Bool
+value_after f value (places.Item joint) (Token t) = join joint value (f t)
+value_after f value (places.Token joint) (Token t) = join joint value (not (f t))
+value_after f value _ _ = value

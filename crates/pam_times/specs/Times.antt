@@ -1,16 +1,15 @@
 -- time.conf(5): a rule has services, terminals, users and times. pam_time(8) denies a login by the first rule
 -- whose first three fields match and whose times do not.
-use Rattle.std.specs.Prelude.{ℕ, ◌+◌, ◌*◌, ◌&&◌, Bool, not, List, [], ◌∷◌, map, if◌then◌else◌}
+use Rattle.std.specs.Prelude.{ℕ, ◌+◌, ◌*◌, ◌&&◌, Bool, not, List, [], ◌∷◌, if◌then◌else◌}
 use Rattle.jiff.specs.Types.{DateTime}
 use Rattle.jiff.specs.Words.{epoch_day}
-use Rattle.pam_tables.specs.Login.{LoginText, without_dev}
+use Rattle.pam_times.specs.Login.{LoginText, without_dev}
 use Rattle.pam_times.specs.Entry.{holds, weekday_of_day}
-use Rattle.pam_times.specs.Logic.{ItemOf, is_true, item_view}
+use Rattle.pam_times.specs.Logic.{ItemOf, is_true}
 use Rattle.pam_times.specs.Pattern.{matches}
 use Rattle.pam_times.specs.declared.entry.Entry.{Entry}
 use Rattle.pam_times.specs.declared.times.TimeAnswer.{TimeAnswer}
 use Rattle.pam_times.specs.declared.times.TimeAnswer.TheVariants.{Granted, Denied}
-use Rattle.pam_times.specs.declared.times.TimeRule.{TimeRule}
 
 -- ---- rules
 
@@ -28,15 +27,6 @@ pub record Rule : Type 0 where
   pub users : NameList
   pub times : TimeList
 
-abbrev pub rule_view : TimeRule → Rule
-rule_view r = record {
-  line = r.line;
-  services = map (item_view (λ t. t.items)) r.services.items;
-  terminals = map (item_view (λ t. t.items)) r.terminals.items;
-  users = map (item_view (λ t. t.items)) r.users.items;
-  times = map (item_view (λ e. e)) r.times.items;
-}
-
 -- ---- the answer of a table
 
 abbrev pub names_hold : NameList → List ℕ → Bool
@@ -52,10 +42,14 @@ times_hold items day minute = is_true (λ entry. holds entry day minute) items
 abbrev pub is_active : Rule → LoginText → Bool
 is_active r login = names_hold r.services login.service && (names_hold r.terminals (without_dev login.tty) && names_hold r.users login.user)
 
--- denied by the first rule that matches the login but not the moment
+-- a rule denies a login that it matches at a time that it does not include
+abbrev pub denies : Rule → LoginText → ℕ → ℕ → Bool
+denies r login day minute = is_active r login && not (times_hold r.times day minute)
+
+-- denied by the first rule that does
 abbrev pub answer_at : List Rule → LoginText → ℕ → ℕ → TimeAnswer
 answer_at [] login day minute = Granted
-answer_at (r ∷ rs) login day minute = if is_active r login && not (times_hold r.times day minute) then Denied r.line else answer_at rs login day minute
+answer_at (r ∷ rs) login day minute = if denies r login day minute then Denied r.line else answer_at rs login day minute
 
 unfoldable pub answer_of : List Rule → LoginText → DateTime → TimeAnswer
 answer_of rules login moment = answer_at rules login (weekday_of_day (epoch_day moment.date)) (minute_of_day moment)

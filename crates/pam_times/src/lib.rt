@@ -3,12 +3,19 @@
 #![tactic(auto)]
 
 mod entry;
+mod error;
+mod fact;
 pub mod laws;
 mod logic;
+mod login;
 mod moments;
 mod pattern;
 mod reading;
+mod rule_lines;
 mod times;
+mod week_time;
 
+pub use error::{TimeError, TimeFault};
+pub use login::Login;
 pub use moments::{MomentError, civil, moment};
 pub use times::{TimeAnswer, TimeTable};

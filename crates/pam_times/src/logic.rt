@@ -1,15 +1,14 @@
 //! Logic lists of time.conf(5): items joined by `&` and `|`.
 
-ghost use Rattle.std.specs.Prelude.{◌≡◌, ◌∷◌, ◌≤◌, [], length, map, MatchOption};
+ghost use Rattle.std.specs.Prelude.{◌≡◌, ◌∷◌, ◌≤◌, [], length, MatchOption};
 ghost use Rattle.std.specs.Iterator.{YieldsFirstBy, item_count};
 ghost use Rattle.std.specs.List.{prefix_len};
 ghost use Rattle.pam_codes.specs.Tokens.{is_blank};
-ghost use Rattle.pam_tables.specs.Error.{GivesPart};
-ghost use Rattle.pam_times.specs.Logic.{Not, Join, join, is_token_byte, signs_of, sign_view, item_view, items_of, Leads, Completes};
+ghost use Rattle.pam_times.specs.Fact.{meets};
+ghost use Rattle.pam_times.specs.Logic.{join, list_value, is_token_byte, signs_of, sign_view, place_after, value_after, items_of};
 
+use crate::fact::Fact;
 use pam_codes::is_blank_byte;
-use pam_tables::TableFault;
-use std::alloc::Global;
 
 /// The operator before an item of a list.
 #[derive(Clone, Copy)]
@@ -22,7 +21,7 @@ pub(crate) enum Joint {
 
 impl Joint {
     /// Returns the value of a list up to an item, given its value before the item and the value of the item.
-    pub(crate) fn join(self, before: bool, value: bool) -> bool
+    fn join(self, before: bool, value: bool) -> bool
         ensures { result ≡ join self before value }
     {
         match self {
@@ -33,17 +32,9 @@ impl Joint {
     }
 }
 
-/// An item of a list: a token, by its meaning, with the operator before it. `!` inverts it.
-#[derive(Clone, Copy)]
-pub(crate) struct Item<T> {
-    pub(crate) joint: Joint,
-    pub(crate) is_inverted: bool,
-    pub(crate) meant: T,
-}
-
 /// A token or an operator in the text of a list.
 #[derive(Clone, Copy)]
-enum Part<'a> {
+pub(crate) enum Sign<'a> {
     Not,
     Joint(Joint),
     Token(&'a [u8]),
@@ -76,8 +67,8 @@ fn skip_blanks(bytes: &[u8]) -> &[u8]
     bytes.split_at(blank_len(bytes)).1
 }
 
-/// Splits off the first part. Returns it and the text after it.
-fn first_part(bytes: &[u8]) -> Option<(Part<'_>, &[u8])>
+/// Splits off the first sign. Returns it and the text after it.
+fn first_sign(bytes: &[u8]) -> Option<(Sign<'_>, &[u8])>
     ensures { MatchOption result (signs_of bytes.now ≡ []) (λ p. signs_of bytes.now ≡ sign_view p.0 ∷ signs_of p.1.now) }
 {
     let rest = skip_blanks(bytes);
@@ -85,41 +76,41 @@ fn first_part(bytes: &[u8]) -> Option<(Part<'_>, &[u8])>
         return None;
     }
     if rest[0] == b'!' {
-        return Some((Part::Not, rest.split_at(1).1));
+        return Some((Sign::Not, rest.split_at(1).1));
     }
     if rest[0] == b'&' {
-        return Some((Part::Joint(Joint::And), rest.split_at(1).1));
+        return Some((Sign::Joint(Joint::And), rest.split_at(1).1));
     }
     if rest[0] == b'|' {
-        return Some((Part::Joint(Joint::Or), rest.split_at(1).1));
+        return Some((Sign::Joint(Joint::Or), rest.split_at(1).1));
     }
-    let (token, behind) = rest.split_at(token_len(rest));
-    Some((Part::Token(token), behind))
+    let (token, after) = rest.split_at(token_len(rest));
+    Some((Sign::Token(token), after))
 }
 
-/// An iterator over the parts of a text.
+/// An iterator over the signs of a text.
 #[derive(Drop)]
-struct Parts<'a> {
-    rest: &'a [u8],
+pub(crate) struct Signs<'a> {
+    pub(crate) rest: &'a [u8],
 }
 
-impl<'a> Iterator for Parts<'a> {
-    type Item = Part<'a>;
+impl<'a> Iterator for Signs<'a> {
+    type Item = Sign<'a>;
 
     ghost next_gives = { YieldsFirstBy sign_view (λ s. signs_of s.rest.now) };
 
     ghost remaining = { item_count (λ s. signs_of s.rest.now) };
 
-    fn next(&mut self) -> Option<Part<'a>> {
-        let (part, rest) = first_part(self.rest)?;
+    fn next(&mut self) -> Option<Sign<'a>> {
+        let (sign, rest) = first_sign(self.rest)?;
         self.rest = rest;
-        Some(part)
+        Some(sign)
     }
 }
 
 /// What may come next in a list.
 #[derive(Clone, Copy)]
-enum Place {
+pub(crate) enum Place {
     /// An item, after this operator.
     Item(Joint),
     /// The token of an inverted item.
@@ -128,70 +119,64 @@ enum Place {
     Joint,
 }
 
-/// Returns the place after a `!`.
-#[tactic(auto, unfolding(crate::specs::Logic::items_from))]
-fn inverted(place: Place) -> Result<Place, TableFault>
-    ensures { Leads place Not result }
-{
-    match place {
-        Place::Item(joint) => Ok(Place::Token(joint)),
-        Place::Token(_) => Err(TableFault::BadLogic),
-        Place::Joint => Err(TableFault::BadLogic),
+impl Place {
+    /// Returns the place after a sign, or `None` if the sign may not come next.
+    pub(crate) fn after(self, sign: Sign<'_>) -> Option<Place>
+        ensures { result ≡ place_after self (sign_view sign.entry) }
+    {
+        match self {
+            Place::Item(joint) => match sign {
+                Sign::Not => Some(Place::Token(joint)),
+                Sign::Joint(_) => None,
+                Sign::Token(_) => Some(Place::Joint),
+            },
+            Place::Token(_) => match sign {
+                Sign::Not => None,
+                Sign::Joint(_) => None,
+                Sign::Token(_) => Some(Place::Joint),
+            },
+            Place::Joint => match sign {
+                Sign::Not => None,
+                Sign::Joint(joint) => Some(Place::Item(joint)),
+                Sign::Token(_) => None,
+            },
+        }
     }
 }
 
-/// Returns the place after an operator.
-#[tactic(auto, unfolding(crate::specs::Logic::items_from))]
-fn joined(place: Place, joint: Joint) -> Result<Place, TableFault>
-    ensures { Leads place (Join joint) result }
+/// Returns the value of a list up to a sign at this place, given its value before the sign.
+fn value_after(value: bool, place: Place, sign: Sign<'_>, fact: &Fact<'_>) -> bool
+    ensures { result ≡ value_after (meets fact.now) value place (sign_view sign.entry) }
 {
-    match place {
-        Place::Item(_) => Err(TableFault::BadLogic),
-        Place::Token(_) => Err(TableFault::BadLogic),
-        Place::Joint => Ok(Place::Item(joint)),
+    match sign {
+        Sign::Token(token) => match place {
+            Place::Item(joint) => joint.join(value, fact.meets(token)),
+            Place::Token(joint) => joint.join(value, !fact.meets(token)),
+            Place::Joint => value,
+        },
+        Sign::Not => value,
+        Sign::Joint(_) => value,
     }
 }
 
-/// Returns the item that a token completes.
-#[tactic(auto, unfolding(crate::specs::Logic::items_from))]
-fn completed(place: Place, token: &[u8]) -> Result<Item<&[u8]>, TableFault>
-    ensures { Completes (λ t. t.now) place token.now result }
+/// Whether a text is a list that is true, given which tokens the fact meets.
+pub(crate) fn is_true(text: &[u8], fact: &Fact<'_>) -> bool
+    ensures { result ≡ list_value (meets fact.now) (items_of text.now) }
 {
-    match place {
-        Place::Item(joint) => Ok(Item {
-            joint,
-            is_inverted: false,
-            meant: token,
-        }),
-        Place::Token(joint) => Ok(Item {
-            joint,
-            is_inverted: true,
-            meant: token,
-        }),
-        Place::Joint => Err(TableFault::BadLogic),
-    }
-}
-
-/// Reads the items of a list. Returns `BadLogic` if the text is no list.
-#[tactic(auto, unfolding(crate::specs::Logic::items_of))]
-pub(crate) fn items<'a>(alloc: Global, text: &'a [u8]) -> Result<Vec<Item<&'a [u8]>>, TableFault>
-    ensures { GivesPart (λ items. map (item_view (λ t. t.now)) items.items) result (items_of text.now) }
-{
-    let mut items = Vec::new(alloc);
+    let mut value = false;
     let mut place = Place::Item(Joint::First);
-    for part in (Parts { rest: text }) {
-        match part {
-            Part::Not => place = inverted(place)?,
-            Part::Joint(joint) => place = joined(place, joint)?,
-            Part::Token(token) => {
-                items.push(completed(place, token)?)?;
-                place = Place::Joint;
+    for sign in (Signs { rest: text }) {
+        match place.after(sign) {
+            Some(next) => {
+                value = value_after(value, place, sign, fact);
+                place = next;
             }
+            None => return false,
         }
     }
     match place {
-        Place::Joint => Ok(items),
-        Place::Item(_) => Err(TableFault::BadLogic),
-        Place::Token(_) => Err(TableFault::BadLogic),
+        Place::Joint => value,
+        Place::Item(_) => false,
+        Place::Token(_) => false,
     }
 }

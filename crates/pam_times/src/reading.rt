@@ -1,41 +1,40 @@
-//! The text of a time table: its lines and their fields.
+//! The lines of a time table: their fields and faults.
 
-ghost use Rattle.std.specs.Prelude.{◌≡◌, map, OnOk};
+ghost use Rattle.std.specs.Prelude.{◌≡◌, ℕ};
+ghost use Rattle.std.specs.List.{list_all};
 ghost use Rattle.std.specs.Option.{option_map};
-ghost use Rattle.pam_codes.specs.Text.{first_line, behind_line};
-ghost use Rattle.pam_tables.specs.Error.{GivesPart};
-ghost use Rattle.pam_times.specs.Entry.{entry_of};
-ghost use Rattle.pam_times.specs.Logic.{item_view};
-ghost use Rattle.pam_times.specs.Reading.{is_netgroup, name_of, entry_or_fault, names_of, times_of, is_blank_text, has_empty, fields_of, fields_view, rule_of, text_left};
-ghost use Rattle.pam_times.specs.Times.{rule_view};
+ghost use Rattle.pam_codes.specs.Tokens.{is_blank};
+ghost use Rattle.pam_times.specs.Logic.{sign_view};
+ghost use Rattle.pam_times.specs.Reading.{is_netgroup, has_empty, cut_fields, fields_of, fields_view, rule_of};
+ghost use Rattle.pam_times.specs.Checks.{name_checked, entry_checked, token_checked, sign_checked, list_checked, line_checked};
 
 use crate::entry::Entry;
-use crate::logic::{Item, items};
+use crate::error::TimeFault;
+use crate::logic::{Joint, Place, Sign, Signs};
 use crate::pattern;
-use crate::times::TimeRule;
-use pam_codes::{Text, is_blank_byte};
-use pam_tables::{TableFault, cut};
-use std::alloc::{AllocError, Global};
+use pam_codes::is_blank_byte;
+use pam_text::cut;
 
-/// A field whose tokens are names.
+/// A field of a line.
 #[derive(Clone, Copy)]
-enum Field {
+pub(crate) enum Field {
     Services,
     Terminals,
     Users,
+    Times,
 }
 
-/// The four fields of a line, not yet split into items.
+/// The four fields of a line.
 #[derive(Clone, Copy)]
-struct Fields<'a> {
-    services: &'a [u8],
-    terminals: &'a [u8],
-    users: &'a [u8],
-    times: &'a [u8],
+pub(crate) struct Fields<'a> {
+    pub(crate) services: &'a [u8],
+    pub(crate) terminals: &'a [u8],
+    pub(crate) users: &'a [u8],
+    pub(crate) times: &'a [u8],
 }
 
 fn is_blank_text(text: &[u8]) -> bool
-    ensures { result ≡ is_blank_text text.now }
+    ensures { result ≡ list_all is_blank text.now }
 {
     text.iter().all(|b| is_blank_byte(*b))
 }
@@ -49,19 +48,27 @@ fn has_empty(fields: Fields<'_>) -> bool
         || is_blank_text(fields.times)
 }
 
-/// Splits a line into its four fields. Returns `None` if one is missing or blank. The last is the rest of the line.
-fn split_fields(line: &[u8]) -> Option<Fields<'_>>
-    ensures { option_map fields_view result ≡ fields_of line.now }
+/// Cuts a line into its four fields. Returns `None` if one is missing. The last is the rest of the line.
+pub(crate) fn cut_fields(line: &[u8]) -> Option<Fields<'_>>
+    ensures { option_map fields_view result ≡ cut_fields line.now }
 {
-    let (services, rest) = cut(line, b";")?;
-    let (terminals, rest) = cut(rest, b";")?;
-    let (users, times) = cut(rest, b";")?;
-    let fields = Fields {
+    let (services, rest) = cut(line, b';')?;
+    let (terminals, rest) = cut(rest, b';')?;
+    let (users, times) = cut(rest, b';')?;
+    Some(Fields {
         services,
         terminals,
         users,
         times,
-    };
+    })
+}
+
+/// Like `cut_fields`, but also returns `None` if a field is blank.
+#[tactic(auto, unfolding(crate::specs::Reading::fields_of))]
+fn full_fields(line: &[u8]) -> Option<Fields<'_>>
+    ensures { option_map fields_view result ≡ fields_of line.now }
+{
+    let fields = cut_fields(line)?;
     if has_empty(fields) {
         None
     } else {
@@ -76,101 +83,92 @@ fn is_netgroup(field: Field, name: &[u8]) -> bool
         Field::Users => !name.is_empty() && name[0] == b'@',
         Field::Services => false,
         Field::Terminals => false,
+        Field::Times => false,
     }
 }
 
-/// Copies a name, if it is a valid token of the field.
-fn name(alloc: Global, field: Field, token: &[u8]) -> Result<Vec<u8>, TableFault>
-    ensures { GivesPart (λ name. name.items) result (name_of field token.now) }
+fn check_name(field: Field, name: &[u8]) -> Result<(), TimeFault>
+    ensures { result ≡ name_checked field name.now }
 {
-    if is_netgroup(field, token) {
-        return Err(TableFault::Netgroup);
+    if is_netgroup(field, name) {
+        return Err(TimeFault::Netgroup);
     }
-    if pattern::has_two_stars(token) {
-        return Err(TableFault::TwoWildcards);
-    }
-    Ok(Vec::from_slice(alloc, token)?)
-}
-
-fn entry(token: &[u8]) -> Result<Entry, TableFault>
-    ensures { GivesPart (λ entry. entry) result (entry_or_fault (entry_of token.now)) }
-{
-    match Entry::read(token) {
-        Some(entry) => Ok(entry),
-        None => Err(TableFault::BadTimes),
-    }
-}
-
-/// Reads a list of names.
-#[tactic(auto, unfolding(crate::specs::Reading::names_of))]
-fn names(alloc: Global, field: Field, text: &[u8]) -> Result<Vec<Item<Vec<u8>>>, TableFault>
-    ensures { GivesPart (λ names. map (item_view (λ t. t.items)) names.items) result (names_of field text.now) }
-{
-    let tokens = items(alloc, text)?;
-    let mut names = Vec::with_capacity(alloc, tokens.len())?;
-    for token in &tokens {
-        names.push(Item {
-            joint: token.joint,
-            is_inverted: token.is_inverted,
-            meant: name(alloc, field, token.meant)?,
-        })?;
-    }
-    Ok(names)
-}
-
-/// Reads a list of entries.
-#[tactic(auto, unfolding(crate::specs::Reading::times_of))]
-fn times(alloc: Global, text: &[u8]) -> Result<Vec<Item<Entry>>, TableFault>
-    ensures { GivesPart (λ times. map (item_view (λ e. e)) times.items) result (times_of text.now) }
-{
-    let tokens = items(alloc, text)?;
-    let mut times = Vec::with_capacity(alloc, tokens.len())?;
-    for token in &tokens {
-        times.push(Item {
-            joint: token.joint,
-            is_inverted: token.is_inverted,
-            meant: entry(token.meant)?,
-        })?;
-    }
-    Ok(times)
-}
-
-/// Reads the rule of a line. Returns `Ok(None)` for a blank line.
-#[tactic(auto, unfolding(crate::specs::Reading::rule_of))]
-pub(crate) fn rule(alloc: Global, line: u32, text: &[u8]) -> Result<Option<TimeRule>, TableFault>
-    ensures { GivesPart (option_map rule_view) result (rule_of line text.now) }
-{
-    if is_blank_text(text) {
-        return Ok(None);
-    }
-    let fields = match split_fields(text) {
-        Some(fields) => fields,
-        None => return Err(TableFault::MissingField),
-    };
-    let services = names(alloc, Field::Services, fields.services)?;
-    let terminals = names(alloc, Field::Terminals, fields.terminals)?;
-    let users = names(alloc, Field::Users, fields.users)?;
-    let times = times(alloc, fields.times)?;
-    Ok(Some(TimeRule {
-        line,
-        services,
-        terminals,
-        users,
-        times,
-    }))
-}
-
-/// Replaces the contents of `line` with the next line of the text, and advances the text past it.
-pub(crate) fn take_line(text: &mut Text, line: &mut Vec<u8>) -> Result<(), AllocError>
-    ensures line { OnOk result (line.new.items ≡ first_line (text_left text.old)) }
-    ensures rest { OnOk result (text_left text.new ≡ behind_line (text_left text.old)) }
-{
-    line.clear();
-    while let Some((_, byte)) = text.next() {
-        if byte == b'\n' {
-            return Ok(());
-        }
-        line.push(byte)?;
+    if pattern::has_two_stars(name) {
+        return Err(TimeFault::TwoWildcards);
     }
     Ok(())
+}
+
+fn check_entry(token: &[u8]) -> Result<(), TimeFault>
+    ensures { result ≡ entry_checked token.now }
+{
+    match Entry::read(token) {
+        Some(_) => Ok(()),
+        None => Err(TimeFault::BadTimes),
+    }
+}
+
+fn check_token(field: Field, token: &[u8]) -> Result<(), TimeFault>
+    ensures { result ≡ token_checked field token.now }
+{
+    match field {
+        Field::Times => check_entry(token),
+        Field::Services => check_name(field, token),
+        Field::Terminals => check_name(field, token),
+        Field::Users => check_name(field, token),
+    }
+}
+
+/// Returns the first fault of the tokens of a list up to a sign, given that of the signs before it.
+fn check_sign(before: Result<(), TimeFault>, field: Field, sign: Sign<'_>) -> Result<(), TimeFault>
+    ensures { result ≡ sign_checked field before (sign_view sign.entry) }
+{
+    match sign {
+        Sign::Token(token) => match before {
+            Ok(()) => check_token(field, token),
+            Err(fault) => Err(fault),
+        },
+        Sign::Not => before,
+        Sign::Joint(_) => before,
+    }
+}
+
+/// Checks that a field is a list, and then its tokens from the left.
+fn check_list(field: Field, text: &[u8]) -> Result<(), TimeFault>
+    ensures { result ≡ list_checked field text.now }
+{
+    let mut checked = Ok(());
+    let mut place = Place::Item(Joint::First);
+    for sign in (Signs { rest: text }) {
+        match place.after(sign) {
+            Some(next) => {
+                checked = check_sign(checked, field, sign);
+                place = next;
+            }
+            None => return Err(TimeFault::BadLogic),
+        }
+    }
+    match place {
+        Place::Joint => checked,
+        Place::Item(_) => Err(TimeFault::BadLogic),
+        Place::Token(_) => Err(TimeFault::BadLogic),
+    }
+}
+
+/// Checks a line. Returns whether it has a rule: a blank line has none.
+pub(crate) fn check_line(line: &[u8]) -> Result<bool, TimeFault>
+    ensures { (number : ℕ) → result ≡ line_checked (rule_of number line.now) }
+{
+    if is_blank_text(line) {
+        return Ok(false);
+    }
+    let fields = match full_fields(line) {
+        Some(fields) => fields,
+        None => return Err(TimeFault::MissingField),
+    };
+    check_list(Field::Services, fields.services)?;
+    check_list(Field::Terminals, fields.terminals)?;
+    check_list(Field::Users, fields.users)?;
+    check_list(Field::Times, fields.times)?;
+    Ok(true)
 }

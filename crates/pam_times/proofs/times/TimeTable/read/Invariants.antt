@@ -1,15 +1,16 @@
-use Rattle.std.proofs.Common.{◌≡◌, ◌^◌, length}
-use Rattle.pam_codes.specs.Text.{text_of}
-use Rattle.pam_codes.proofs.TextLines.{Before}
-use Rattle.pam_tables.proofs.ReadSteps.{in_front}
+use Rattle.std.proofs.Common.{◌≡◌, length}
+use Rattle.pam_text.specs.Left.{text_left}
+use Rattle.pam_text.specs.Text.{text_lines, text_of}
 use Rattle.pam_times.specs.Reading.{rules_in}
+use Rattle.pam_times.specs.Stored.{stored, AreStored}
+use Rattle.pam_times.proofs.ReadingSteps.{with_rules}
 use Rattle.pam_times.proofs.times.TimeTable.read.Given as goal
 
-abbrev pub invariant-loop-text : goal.invariant-loop-text
-invariant-loop-text l = record {
-  few : Before (2 ^ 32) (text_of l.text.line l.text.rest.now);
-  same : in_front l.table (rules_in (text_of l.text.line l.text.rest.now)) ≡ rules_in (text_of 1 l.bytes);
+abbrev pub invariant-loop-rules : goal.invariant-loop-rules
+invariant-loop-rules l = record {
+  same : with_rules (stored l.rules) (rules_in (text_lines (text_left l.text))) ≡ rules_in (text_lines (text_of 1 l.bytes));
+  stored : AreStored l.rules;
 }
 
-abbrev pub decreases-loop-text : goal.decreases-loop-text
-decreases-loop-text l = length (text_of l.text.line l.text.rest.now)
+abbrev pub decreases-loop-rules : goal.decreases-loop-rules
+decreases-loop-rules l = length l.text.rest.now

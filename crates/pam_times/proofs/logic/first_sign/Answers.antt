@@ -1,7 +1,7 @@
 use Rattle.std.proofs.Common.{◌∙◌, ap, sym, ℕ, drop, take}
 use Rattle.std.proofs.lemmas.Bool.{eqb-true, eqb-false}
 use Rattle.pam_times.proofs.LogicSteps.{no_sign, not_first, both_first, either_first, token_first}
-use Rattle.pam_times.proofs.logic.first_part.Goals as goal
+use Rattle.pam_times.proofs.logic.first_sign.Goals as goal
 
 pub returns-then-is_empty : goal.returns-then-is_empty
 returns-then-is_empty c = c.skip_blanks-rest.ensures.signs ∙ no_sign _ (eqb-true _ _ (sym c.is_empty.ensures ∙ c.if-is_empty.true))

@@ -1,7 +1,7 @@
 use Rattle.std.proofs.Common.{◌∙◌}
 use Rattle.jiff.specs.Words.{epoch_day, monday_zero}
 use Rattle.pam_times.proofs.TimeSteps.{same_weekday, unsigned_weekday}
-use Rattle.pam_times.proofs.times.weekday.Goals as goal
+use Rattle.pam_times.proofs.week_time.WeekTime.weekday.Goals as goal
 
 pub returns-clause-value : goal.returns-clause-value
 returns-clause-value c =

@@ -1,0 +1,183 @@
+-- The first fault of a list, sign by sign.
+use Rattle.std.proofs.Common.{◌≡◌, ◌∙◌, ℕ, Bool, true, false, List, [], ◌∷◌, cond, Option, Some, None, Result, Ok, Err, refl, sym, ap}
+use Rattle.pam_times.specs.Checks.{checked, first_fault, line_checked, list_checked, sign_checked, token_checked}
+use Rattle.pam_times.specs.Entry.{entry_of}
+use Rattle.pam_times.specs.Logic.{ItemOf, SignText, Not, Join, Token, items_from, items_of, items_or_fault, onto_items, place_after, signs_of}
+use Rattle.pam_times.specs.Reading.{FieldTexts, each, each_of, entry_or_fault, fields_of, is_blank_text, name_of, names_of, onto_list, rule_from, rule_of, rule_of_fields}
+use Rattle.pam_times.specs.Reading.{times_of, with_meaning}
+use Rattle.pam_times.specs.Times.{NameList, TimeList}
+use Rattle.pam_times.specs.declared.error.TimeFault.{TimeFault}
+use Rattle.pam_times.specs.declared.error.TimeFault.TheVariants.{BadLogic, MissingField}
+use Rattle.pam_times.specs.declared.logic.Joint.{Joint}
+use Rattle.pam_times.specs.declared.logic.Joint.TheVariants.{First}
+use Rattle.pam_times.specs.declared.logic.Place.{Place}
+use Rattle.pam_times.specs.declared.logic.Place.TheVariants as places
+use Rattle.pam_times.specs.declared.reading.Field.{Field}
+use Rattle.pam_times.specs.declared.reading.Field.TheVariants.{Services, Terminals, Users, Times}
+use Rattle.pam_times.proofs.LogicSteps.{stuck}
+
+abbrev Items : Type 0
+Items = List (ItemOf (List ℕ))
+
+abbrev Checked : Type 0
+Checked = Result (Unit {0}) TimeFault
+
+-- the first fault of the tokens of items
+abbrev pub all_checked : (List ℕ → Checked) → Items → Checked
+all_checked check [] = Ok tt
+all_checked check (item ∷ items) = first_fault (check item.2) (all_checked check items)
+
+-- the first fault of a list, from that of the tokens before a place
+abbrev pub fault_from : (List ℕ → Checked) → Checked → Option Items → Checked
+fault_from check before None = Err BadLogic
+fault_from check before (Some items) = first_fault before (all_checked check items)
+
+-- ---- the faults of a list are those of its tokens
+
+one_checked : {B : Type 0} (item : ItemOf (List ℕ)) (x : Result B TimeFault) (others : Result (List (ItemOf B)) TimeFault) →
+    checked (onto_list (with_meaning item x) others) ≡ first_fault (checked x) (checked others)
+one_checked item (Ok x) (Ok xs) = refl
+one_checked item (Ok x) (Err fault) = refl
+one_checked item (Err fault) others = refl
+
+each_checked : {B : Type 0} (meaning : List ℕ → Result B TimeFault) (items : Items) →
+    checked (each meaning items) ≡ all_checked (λ t. checked (meaning t)) items
+each_checked meaning [] = refl
+each_checked meaning (item ∷ items) =
+    one_checked item (meaning item.2) (each meaning items) ∙ ap (first_fault (checked (meaning item.2))) (each_checked meaning items)
+
+each_fault : {B : Type 0} (meaning : List ℕ → Result B TimeFault) (o : Option Items) →
+    checked (each_of meaning (items_or_fault o)) ≡ fault_from (λ t. checked (meaning t)) (Ok tt) o
+each_fault meaning None = refl
+each_fault meaning (Some items) = each_checked meaning items
+
+pub list_fault : (field : Field) (text : List ℕ) →
+    fault_from (token_checked field) (Ok tt) (items_from (places.Item First) (signs_of text)) ≡ list_checked field text
+unfolding names_of times_of items_of
+list_fault Services text = sym (each_fault (name_of Services) (items_from (places.Item First) (signs_of text)))
+list_fault Terminals text = sym (each_fault (name_of Terminals) (items_from (places.Item First) (signs_of text)))
+list_fault Users text = sym (each_fault (name_of Users) (items_from (places.Item First) (signs_of text)))
+list_fault Times text = sym (each_fault (λ token. entry_or_fault (entry_of token)) (items_from (places.Item First) (signs_of text)))
+
+-- ---- one sign after another
+
+token_fault : (check : List ℕ → Checked) (before : Checked) (joint : Joint) (is_inverted : Bool) (t : List ℕ) (o : Option Items) →
+    fault_from check before (onto_items joint is_inverted t o) ≡ fault_from check (first_fault before (check t)) o
+token_fault check before joint is_inverted t None = refl
+token_fault check (Ok u) joint is_inverted t (Some items) = refl
+token_fault check (Err fault) joint is_inverted t (Some items) = refl
+
+module _ (field : Field) (before : Checked) (next : Place) (rest : List SignText) where
+  pub fault_step : (place : Place) (sign : SignText) → place_after place sign ≡ Some next →
+      fault_from (token_checked field) before (items_from place (sign ∷ rest))
+      ≡ fault_from (token_checked field) (sign_checked field before sign) (items_from next rest)
+  unfolding items_from
+  fault_step places.Joint Not h = absurd (cc)
+  fault_step places.Joint (Join joint) h =
+      let same : places.Item joint ≡ next = cc in ap (λ (p : Place). fault_from (token_checked field) before (items_from p rest)) same
+  fault_step places.Joint (Token t) h = absurd (cc)
+  fault_step (places.Item joint) Not h =
+      let same : places.Token joint ≡ next = cc in ap (λ (p : Place). fault_from (token_checked field) before (items_from p rest)) same
+  fault_step (places.Item joint) (Join other) h = absurd (cc)
+  fault_step (places.Item joint) (Token t) h =
+      let same : places.Joint ≡ next = cc in
+      token_fault (token_checked field) before joint false t _
+      ∙ ap (λ (p : Place). fault_from (token_checked field) (first_fault before (token_checked field t)) (items_from p rest)) same
+  fault_step (places.Token joint) Not h = absurd (cc)
+  fault_step (places.Token joint) (Join other) h = absurd (cc)
+  fault_step (places.Token joint) (Token t) h =
+      let same : places.Joint ≡ next = cc in
+      token_fault (token_checked field) before joint true t _
+      ∙ ap (λ (p : Place). fault_from (token_checked field) (first_fault before (token_checked field t)) (items_from p rest)) same
+
+pub fault_next : (field : Field) (before more : Checked) (place next : Place) (signs rest : List SignText) (sign : SignText) (all : Checked) →
+    signs ≡ sign ∷ rest → place_after place sign ≡ Some next → more ≡ sign_checked field before sign →
+    fault_from (token_checked field) before (items_from place signs) ≡ all → fault_from (token_checked field) more (items_from next rest) ≡ all
+fault_next field before more place next signs rest sign all e h k same =
+    ap (λ (c : Checked). fault_from (token_checked field) c (items_from next rest)) k ∙ sym (fault_step field before next rest place sign h)
+    ∙ sym (ap (λ (ss : List SignText). fault_from (token_checked field) before (items_from place ss)) e) ∙ same
+
+pub fault_stuck : (field : Field) (before : Checked) (place : Place) (signs : List SignText) (sign : SignText) (rest : List SignText) →
+    signs ≡ sign ∷ rest → place_after place sign ≡ None → fault_from (token_checked field) before (items_from place signs) ≡ Err BadLogic
+fault_stuck field before place signs sign rest e h =
+    ap (λ (ss : List SignText). fault_from (token_checked field) before (items_from place ss)) e
+    ∙ ap (fault_from (token_checked field) before) (stuck place sign rest h)
+
+-- no sign is left
+ok_then : (before : Checked) → first_fault before (Ok tt) ≡ before
+ok_then (Ok u) = refl
+ok_then (Err fault) = refl
+
+module _ (field : Field) (before : Checked) (signs : List SignText) (none : signs ≡ []) where
+  pub fault_at_end : fault_from (token_checked field) before (items_from places.Joint signs) ≡ before
+  unfolding items_from
+  fault_at_end = ap (λ (ss : List SignText). fault_from (token_checked field) before (items_from places.Joint ss)) none ∙ ok_then before
+
+  pub item_missing : (joint : Joint) → fault_from (token_checked field) before (items_from (places.Item joint) signs) ≡ Err BadLogic
+  unfolding items_from
+  item_missing joint = ap (λ (ss : List SignText). fault_from (token_checked field) before (items_from (places.Item joint) ss)) none
+
+  pub token_missing : (joint : Joint) → fault_from (token_checked field) before (items_from (places.Token joint) signs) ≡ Err BadLogic
+  unfolding items_from
+  token_missing joint = ap (λ (ss : List SignText). fault_from (token_checked field) before (items_from (places.Token joint) ss)) none
+
+-- ---- the fault of a line is the first of its fields
+
+unfoldable yes : Checked → Result Bool TimeFault
+yes (Ok u) = Ok true
+yes (Err fault) = Err fault
+
+fields_checked : (number : ℕ) (a b c : Result NameList TimeFault) (d : Result TimeList TimeFault) →
+    line_checked (rule_from number a b c d) ≡ yes (first_fault (checked a) (first_fault (checked b) (first_fault (checked c) (checked d))))
+unfolding yes
+fields_checked number (Err fault) b c d = refl
+fields_checked number (Ok services) (Err fault) c d = refl
+fields_checked number (Ok services) (Ok terminals) (Err fault) d = refl
+fields_checked number (Ok services) (Ok terminals) (Ok users) (Err fault) = refl
+fields_checked number (Ok services) (Ok terminals) (Ok users) (Ok times) = refl
+
+pub blank_line : (number : ℕ) (line : List ℕ) → is_blank_text line ≡ true → line_checked (rule_of number line) ≡ Ok false
+unfolding rule_of
+blank_line number line h = ap (λ (t : Bool). line_checked (cond t (Ok None) (rule_of_fields number (fields_of line)))) h
+
+module _ (number : ℕ) (line : List ℕ) (full : is_blank_text line ≡ false) where
+  pub field_missing : None ≡ fields_of line → line_checked (rule_of number line) ≡ Err MissingField
+  unfolding rule_of
+  field_missing e =
+      ap (λ (t : Bool). line_checked (cond t (Ok None) (rule_of_fields number (fields_of line)))) full
+      ∙ ap (λ (o : Option FieldTexts). line_checked (rule_of_fields number o)) (sym e)
+
+  module _ (f : FieldTexts) (is : Some f ≡ fields_of line) where
+    all_fields : line_checked (rule_of number line)
+        ≡ yes (first_fault (list_checked Services f.services) (first_fault (list_checked Terminals f.terminals)
+        (first_fault (list_checked Users f.users) (list_checked Times f.times))))
+    unfolding rule_of
+    all_fields =
+        ap (λ (t : Bool). line_checked (cond t (Ok None) (rule_of_fields number (fields_of line)))) full
+        ∙ ap (λ (o : Option FieldTexts). line_checked (rule_of_fields number o)) (sym is)
+        ∙ fields_checked number (names_of Services f.services) (names_of Terminals f.terminals) (names_of Users f.users) (times_of f.times)
+
+    module _ (fault : TimeFault) where
+      pub services_fail : Err fault ≡ list_checked Services f.services → Err fault ≡ line_checked (rule_of number line)
+      unfolding yes
+      services_fail a = sym (all_fields ∙ rw (← a) refl)
+
+      pub terminals_fail : Ok tt ≡ list_checked Services f.services → Err fault ≡ list_checked Terminals f.terminals →
+          Err fault ≡ line_checked (rule_of number line)
+      unfolding yes
+      terminals_fail a b = sym (all_fields ∙ rw (← a, ← b) refl)
+
+      pub users_fail : Ok tt ≡ list_checked Services f.services → Ok tt ≡ list_checked Terminals f.terminals → Err fault ≡ list_checked Users f.users →
+          Err fault ≡ line_checked (rule_of number line)
+      unfolding yes
+      users_fail a b c = sym (all_fields ∙ rw (← a, ← b, ← c) refl)
+
+      pub times_fail : Ok tt ≡ list_checked Services f.services → Ok tt ≡ list_checked Terminals f.terminals → Ok tt ≡ list_checked Users f.users →
+          Err fault ≡ list_checked Times f.times → Err fault ≡ line_checked (rule_of number line)
+      unfolding yes
+      times_fail a b c d = sym (all_fields ∙ rw (← a, ← b, ← c, ← d) refl)
+
+    pub none_fail : Ok tt ≡ list_checked Services f.services → Ok tt ≡ list_checked Terminals f.terminals → Ok tt ≡ list_checked Users f.users →
+        Ok tt ≡ list_checked Times f.times → Ok true ≡ line_checked (rule_of number line)
+    unfolding yes
+    none_fail a b c d = sym (all_fields ∙ rw (← a, ← b, ← c, ← d) refl)

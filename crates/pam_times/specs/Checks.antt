@@ -1,0 +1,44 @@
+-- time.conf(5): the faults of a line, without its rule.
+use Rattle.std.specs.Prelude.{Bool, true, false, ℕ, List, Option, Some, None, Result, Ok, Err}
+use Rattle.pam_times.specs.Entry.{entry_of}
+use Rattle.pam_times.specs.Logic.{SignText, Token}
+use Rattle.pam_times.specs.Reading.{entry_or_fault, name_of, names_of, times_of}
+use Rattle.pam_times.specs.Times.{Rule}
+use Rattle.pam_times.specs.declared.error.TimeFault.{TimeFault}
+use Rattle.pam_times.specs.declared.reading.Field.{Field}
+use Rattle.pam_times.specs.declared.reading.Field.TheVariants.{Times}
+
+-- whether there is a value, or its fault
+abbrev pub checked : {A : Type 0} → Result A TimeFault → Result (Unit {0}) TimeFault
+checked (Ok x) = Ok tt
+checked (Err fault) = Err fault
+
+abbrev pub name_checked : Field → List ℕ → Result (Unit {0}) TimeFault
+name_checked field token = checked (name_of field token)
+
+abbrev pub entry_checked : List ℕ → Result (Unit {0}) TimeFault
+entry_checked token = checked (entry_or_fault (entry_of token))
+
+abbrev pub token_checked : Field → List ℕ → Result (Unit {0}) TimeFault
+token_checked Times token = entry_checked token
+token_checked field token = name_checked field token
+
+abbrev pub list_checked : Field → List ℕ → Result (Unit {0}) TimeFault
+list_checked Times text = checked (times_of text)
+list_checked field text = checked (names_of field text)
+
+-- the first of two faults
+abbrev pub first_fault : Result (Unit {0}) TimeFault → Result (Unit {0}) TimeFault → Result (Unit {0}) TimeFault
+first_fault (Ok u) other = other
+first_fault (Err fault) other = Err fault
+
+-- the first fault up to a sign, from that of the signs before it
+abbrev pub sign_checked : Field → Result (Unit {0}) TimeFault → SignText → Result (Unit {0}) TimeFault
+sign_checked field before (Token t) = first_fault before (token_checked field t)
+sign_checked field before _ = before
+
+-- whether a line has a rule, or its fault
+abbrev pub line_checked : Result (Option Rule) TimeFault → Result Bool TimeFault
+line_checked (Ok None) = Ok false
+line_checked (Ok (Some rule)) = Ok true
+line_checked (Err fault) = Err fault

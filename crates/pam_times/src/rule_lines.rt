@@ -1,0 +1,105 @@
+//! The lines of a table that have a rule.
+
+ghost use Rattle.std.specs.Prelude.{◌≡◌, ℕ, [], Ok, Some, OnOk};
+ghost use Rattle.pam_text.specs.Gives.{Gives};
+ghost use Rattle.pam_times.specs.Error.{Tells};
+ghost use Rattle.pam_times.specs.Login.{login_view};
+ghost use Rattle.pam_times.specs.Reading.{fields_view, rule_of};
+ghost use Rattle.pam_times.specs.RuleLines.{fields_deny, with_line};
+ghost use Rattle.pam_times.specs.Times.{Rule, denies, answer_at};
+ghost use Rattle.pam_times.specs.Stored.{stored, AreStored};
+
+use crate::error::TimeError;
+use crate::fact::Fact;
+use crate::logic::is_true;
+use crate::login::{Login, drop_dev};
+use crate::reading::{Fields, check_line, cut_fields};
+use crate::times::TimeAnswer;
+use crate::week_time::WeekTime;
+use pam_text::Line;
+use std::alloc::Global;
+
+/// The number and the length of a line.
+#[derive(Clone, Copy)]
+pub(crate) struct RuleLine {
+    pub(crate) number: u32,
+    pub(crate) len: usize,
+}
+
+/// Lines that have a rule each. They are checked when they are added, and read again for each login.
+#[derive(Drop)]
+pub(crate) struct RuleLines {
+    /// The bytes of the lines, one after another, without their ends.
+    pub(crate) text: Vec<u8>,
+    pub(crate) lines: Vec<RuleLine>,
+}
+
+/// Whether the names in the fields match a login, and the times do not include this time.
+fn fields_deny(fields: Fields<'_>, login: &Login<'_>, time: WeekTime) -> bool
+    ensures { result ≡ fields_deny (fields_view fields.entry) (login_view login.now) time.day time.minute }
+{
+    is_true(fields.services, &Fact::Name(login.service))
+        && is_true(fields.terminals, &Fact::Name(drop_dev(login.tty)))
+        && is_true(fields.users, &Fact::Name(login.user))
+        && !is_true(fields.times, &Fact::Time(time))
+}
+
+/// Whether the rule of a line denies a login at a time.
+fn denies(line: &[u8], login: &Login<'_>, time: WeekTime) -> bool
+    ensures { (number : ℕ) (rule : Rule) → rule_of number line.now ≡ Ok (Some rule)
+        → result ≡ denies rule (login_view login.now) time.day time.minute }
+{
+    match cut_fields(line) {
+        Some(fields) => fields_deny(fields, login, time),
+        None => false,
+    }
+}
+
+impl RuleLines {
+    pub(crate) fn new(alloc: Global) -> Self
+        ensures rules { stored result ≡ [] }
+        ensures stored { AreStored result }
+    {
+        RuleLines {
+            text: Vec::new(alloc),
+            lines: Vec::new(alloc),
+        }
+    }
+
+    /// Checks a line, and adds it if it has a rule.
+    pub(crate) fn add(&mut self, line: Line<'_>) -> Result<(), TimeError>
+        requires { AreStored self.old }
+        ensures rules { Gives (λ e. Tells e) (λ _. stored self.new) result
+            (with_line (stored self.old) line.entry.number (rule_of line.entry.number line.entry.bytes.now)) }
+        ensures stored { OnOk result (AreStored self.new) }
+    {
+        let has_rule = match check_line(line.bytes) {
+            Ok(has_rule) => has_rule,
+            Err(fault) => return Err(TimeError::at(fault, line.number)),
+        };
+        if has_rule {
+            self.text.extend_from_slice(line.bytes)?;
+            self.lines.push(RuleLine {
+                number: line.number,
+                len: line.bytes.len(),
+            })?;
+        }
+        Ok(())
+    }
+
+    /// Returns the answer for a login at a time.
+    pub(crate) fn answer(&self, login: &Login<'_>, time: WeekTime) -> TimeAnswer
+        requires { AreStored self.now }
+        ensures { result ≡ answer_at (stored self.now) (login_view login.now) time.day time.minute }
+    {
+        let mut rest = self.text.as_slice();
+        for line in &self.lines {
+            let (rule, after) = rest.split_at(line.len);
+            if denies(rule, login, time) {
+                return TimeAnswer::Denied(line.number);
+            }
+            rest = after;
+        }
+        TimeAnswer::Granted
+    }
+}
