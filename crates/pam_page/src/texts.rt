@@ -73,7 +73,6 @@ fn with_step(steps: Buffer, step: &PathStep) -> (Buffer, bool)
 /// Writes `.CODE`, the least code of the class of a step.
 #[tactic(auto, unfolding(crate::specs::Marks::code_text))]
 fn put_code<W: Write>(step: &PathStep, out: &mut Out<W>) -> Result<(), Device>
-    requires { out.old.failures < 2 ^ 64 - 1 }
     ensures { Writes W.contents out.old out.new result (code_text (step_seen step.now)) }
 {
     let number = match step.class().least() {
@@ -211,7 +210,6 @@ impl LineTexts {
 
     /// Writes the line of a path, whose first steps are the kept ones.
     pub(crate) fn put_path<W: Write>(&self, path: &Path, out: &mut Out<W>) -> Result<(), Device>
-        requires room { out.old.failures < 2 ^ 64 - 1 }
         requires kept { kept self.now ≡ take (length (kept self.now)) path.now.steps }
         ensures { Writes W.contents out.old out.new result (path_line path.now) }
     {

@@ -3,10 +3,10 @@
 use crate::files::put;
 use pam_codes::{Code, CodeSet};
 use pam_conf::{Files, Form, Kind, Stack, resolve};
-use pam_known::{Tables, TimedTable, known_answers};
+use pam_known::{KnownError, Tables, TimedTable, known_answers};
 use pam_paths::{Knowledge, Known};
 use pam_tables::{Login, Table, TableError, TableFault};
-use pam_times::civil;
+use pam_times::{TimeError, TimeFault, civil};
 use std::alloc::Global;
 use std::process::Abort;
 use std::test::Fail;
@@ -60,7 +60,7 @@ fn answers(alloc: Global, rules: &[u8], tables: &Tables<'_>) -> Result<(CodeSet,
     Ok((known.allowed(1), known.allowed(2)))
 }
 
-fn fault(alloc: Global, rules: &[u8], tables: &Tables<'_>) -> Result<Option<TableError>, Fail> {
+fn fault(alloc: Global, rules: &[u8], tables: &Tables<'_>) -> Result<Option<KnownError>, Fail> {
     let stack = stack_of(alloc, Kind::Account, rules)?;
     let login = bob();
     match known_answers(alloc, &stack, Kind::Account, &login, tables) {
@@ -69,8 +69,12 @@ fn fault(alloc: Global, rules: &[u8], tables: &Tables<'_>) -> Result<Option<Tabl
     }
 }
 
-fn at_line(table: Table, fault: TableFault, line: u32) -> Option<TableError> {
-    Some(TableError { table, fault, line })
+fn at_line(table: Table, fault: TableFault, line: u32) -> Option<KnownError> {
+    Some(KnownError::Table(TableError { table, fault, line }))
+}
+
+fn in_times(fault: TimeFault, line: u32) -> Option<KnownError> {
+    Some(KnownError::Time(TimeError { fault, line }))
 }
 
 fn denied() -> CodeSet {
@@ -180,7 +184,7 @@ fn tables_that_no_module_reads_have_no_fault(rt: HostRuntime) -> Result<(), Fail
     let found = fault(rt.alloc(), b"account required b.so", &tables)?;
     assert_eq!(rt; found, None);
     let found = fault(rt.alloc(), b"account required pam_time.so", &tables)?;
-    assert_eq!(rt; found, at_line(Table::Time, TableFault::MissingField, 1));
+    assert_eq!(rt; found, in_times(TimeFault::MissingField, 1));
     Ok(())
 }
 
@@ -189,8 +193,8 @@ fn is_first(
     rt: &impl Abort,
     alloc: Global,
     tables: &Tables<'_>,
-    time_first: Option<TableError>,
-    access_first: Option<TableError>,
+    time_first: Option<KnownError>,
+    access_first: Option<KnownError>,
 ) -> Result<(), Fail> {
     let rules = b"account required pam_time.so\naccount required pam_access.so";
     assert_eq!(rt; fault(alloc, rules, tables)?, time_first);
@@ -204,7 +208,7 @@ fn groups_come_first_then_tables_by_modules_then_returns(rt: HostRuntime) -> Res
     let moment = civil(MORNING)?;
     let groups = at_line(Table::Group, TableFault::BadGroup, 1);
     let access = at_line(Table::Access, TableFault::MissingField, 1);
-    let time = at_line(Table::Time, TableFault::MissingField, 1);
+    let time = in_times(TimeFault::MissingField, 1);
     let returns = at_line(Table::Returns, TableFault::MissingField, 1);
     let all_bad = Tables {
         groups: Some(b"bad"),

@@ -1,7 +1,7 @@
 //! Tables that are too long, and groups.
 
 use pam_tables::{AccessOptions, AccessTable, Groups, Table, TableError, TableFault};
-use pam_times::TimeTable;
+use pam_times::{TimeError, TimeFault, TimeTable};
 use std::test::Fail;
 
 fn too_long(table: Table) -> Option<TableError> {
@@ -21,7 +21,11 @@ fn tables_of_one_byte_too_many(rt: HostRuntime) -> Result<(), Fail> {
     let groups = Groups::read(rt.alloc(), &long).err();
     assert_eq!(rt; groups, too_long(Table::Group));
     let time = TimeTable::read(rt.alloc(), &long).err();
-    assert_eq!(rt; time, too_long(Table::Time));
+    let too_long = TimeError {
+        fault: TimeFault::TooLong,
+        line: 0,
+    };
+    assert_eq!(rt; time, Some(too_long));
     Ok(())
 }
 

@@ -1,6 +1,6 @@
 //! The `paths` command: a page of the paths through a stack.
 
-ghost use Rattle.std.specs.Prelude.{◌≡◌, ◌-◌, ◌<◌, ◌^◌, ◌++◌, IfOk, MatchResult, Err, Ok, max};
+ghost use Rattle.std.specs.Prelude.{◌≡◌, ◌++◌, IfOk, MatchResult, Err, Ok, max};
 ghost use Rattle.jiff.specs.Types.{DateTime as CivilTime};
 ghost use Rattle.pam_codes.specs.Out.{Writes};
 ghost use Rattle.pam_conf.specs.Resolution.{resolved};
@@ -22,7 +22,7 @@ ghost use Rattle.pam_tables.specs.Login.{login_view};
 use super::Status;
 use super::header::put_header;
 use super::login::{login_to, lowered};
-use crate::fault::Fault;
+use crate::fault::{Fault, known_fault};
 use crate::inputs::{Inputs, tables_given};
 use jiff::civil::DateTime;
 use pam_codes::{Device, Out};
@@ -85,7 +85,6 @@ fn write_page<W: Write>(
     texts: LineTexts,
     out: &mut Out<W>,
 ) -> Result<(), Device>
-    requires { out.old.failures < 2 ^ 64 - 1 }
     ensures { let page = first_page (max request.now.limit 1) (coming listing.old) in
         let header = header_text request.now.service.now request.now.kind modules in
         Writes W.contents out.old out.new result (header ++ page_text (side listing.old) page) }
@@ -103,7 +102,6 @@ fn answer_known<W: Write>(
     known: &Known,
     out: &mut Out<W>,
 ) -> Result<Status, Fault>
-    requires { out.old.failures < 2 ^ 64 - 1 }
     ensures { (allows : Allowance) → Agree (module_count stack.now) (may_answer known.now) allows
         → LeavesSome W.contents out.old out.new result (IsPageOf (page_view request.now) stack.now allows) }
 {
@@ -135,13 +133,12 @@ fn answer_at<W: Write>(
     moment: Option<DateTime>,
     out: &mut Out<W>,
 ) -> Result<Status, Fault>
-    requires { out.old.failures < 2 ^ 64 - 1 }
     ensures { LeavesSome W.contents out.old out.new result (IsPageAt (page_view request.now) (login_view login.now) inputs.now stack.now moment) }
 {
     let tables = tables_given(inputs, moment);
     match known_answers(alloc, stack, request.kind, login, &tables) {
         Ok(known) => answer_known(alloc, request, stack, &known, out),
-        Err(error) => Err(Fault::Table(error)),
+        Err(error) => Err(known_fault(error)),
     }
 }
 
@@ -155,7 +152,6 @@ fn answer_stack<W: Write>(
     moment: Option<Result<DateTime, MomentError>>,
     out: &mut Out<W>,
 ) -> Result<Status, Fault>
-    requires { out.old.failures < 2 ^ 64 - 1 }
     ensures { LeavesSome W.contents out.old out.new result (IsStackPage (page_view request.now) (login_view login.now) inputs.now stack.now moment) }
 {
     match moment {
@@ -174,7 +170,6 @@ pub(super) fn answer_paths<W: Write>(
     inputs: &Inputs,
     out: &mut Out<W>,
 ) -> Result<Status, Fault>
-    requires { out.old.failures < 2 ^ 64 - 1 }
     ensures { let page = page_view request.now in
         let stack = resolved files.now page.service page.kind in
         LeavesSome W.contents out.old out.new result (IsPage page (login_at page.service login.entry) inputs.now moment stack) }
