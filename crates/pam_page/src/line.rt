@@ -13,7 +13,6 @@ use std::io::Write;
 /// Writes ` NUMBER=CLASS`.
 #[tactic(auto, unfolding(crate::specs::Page::step_text))]
 fn put_step<W: Write>(step: &PathStep, out: &mut Out<W>) -> Result<(), Device>
-    requires { out.old.failures < 2 ^ 64 - 1 }
     ensures { Writes W.contents out.old out.new result (step_text (step_seen step.now)) }
 {
     out.put_line(&[
@@ -25,7 +24,6 @@ fn put_step<W: Write>(step: &PathStep, out: &mut Out<W>) -> Result<(), Device>
 }
 
 fn put_steps<W: Write>(steps: &[PathStep], out: &mut Out<W>) -> Result<(), Device>
-    requires { out.old.failures < 2 ^ 64 - 1 }
     ensures { Writes W.contents out.old out.new result (flat_map step_text (map step_seen steps.now)) }
 {
     for step in steps {
@@ -37,7 +35,6 @@ fn put_steps<W: Write>(steps: &[PathStep], out: &mut Out<W>) -> Result<(), Devic
 /// Writes the line of a path.
 #[tactic(auto, unfolding(crate::specs::Page::path_line))]
 pub(crate) fn put_path<W: Write>(path: &Path, out: &mut Out<W>) -> Result<(), Device>
-    requires { out.old.failures < 2 ^ 64 - 1 }
     ensures { Writes W.contents out.old out.new result (path_line path.now) }
 {
     path.cursor().write_text(out)?;
@@ -52,7 +49,6 @@ pub(crate) fn put_path<W: Write>(path: &Path, out: &mut Out<W>) -> Result<(), De
 /// Writes the last line of a page, if no path follows it.
 #[tactic(auto, unfolding(crate::specs::Page::last_line))]
 pub(crate) fn put_end<W: Write>(side: &[u8], count: u64, out: &mut Out<W>) -> Result<(), Device>
-    requires { out.old.failures < 2 ^ 64 - 1 }
     ensures { Writes W.contents out.old out.new result (last_line side.now count None) }
 {
     out.put_line(&[
@@ -70,7 +66,6 @@ pub(crate) fn put_more<W: Write>(
     cursor: &Cursor,
     out: &mut Out<W>,
 ) -> Result<(), Device>
-    requires { out.old.failures < 2 ^ 64 - 1 }
     ensures { Writes W.contents out.old out.new result (last_line side.now count (Some cursor.now)) }
 {
     out.put_line(&[

@@ -23,7 +23,6 @@ pub fn put_page<K: Knowledge, W: Write>(
     out: &mut Out<W>,
 ) -> Result<(), Device>
     requires some { 1 ≤ limit }
-    requires room { out.old.failures < 2 ^ 64 - 1 }
     ensures { Writes W.contents out.old out.new result (page_text (side listing.old) (first_page limit (coming listing.old))) }
 {
     let mut texts = texts;
@@ -49,7 +48,6 @@ fn put_rest<K: Knowledge, W: Write>(
 ) -> Result<(), Device>
     requires kept { texts.old ≡ take (length texts.old) (followed listing.old).steps }
     requires few { count < 2 ^ 32 - 1 }
-    requires room { out.old.failures < 2 ^ 64 - 1 }
     ensures { Writes W.contents out.old out.new result (text_after (side listing.old) count (first_page 1 (coming listing.old))) }
 {
     let Some(shared) = listing.follow() else {

@@ -131,7 +131,6 @@ fn put_texts<W: Write>(
     path: &Path,
     out: &mut Out<W>,
 ) -> Result<(), Device>
-    requires room { out.old.failures < 2 ^ 64 - 1 }
     requires some { 1 ≤ length path.now.steps }
     requires cursor { cursor.old.bytes.items ≡ flat_map code_text path.now.steps }
     requires steps { steps.old.bytes.items ≡ flat_map step_text path.now.steps }
@@ -228,7 +227,6 @@ impl LineTexts {
 
     /// Writes the line of a path, whose first steps are the kept ones.
     pub(crate) fn put_path<W: Write>(&mut self, path: &Path, out: &mut Out<W>) -> Result<(), Device>
-        requires room { out.old.failures < 2 ^ 64 - 1 }
         requires kept { self.old ≡ take (length self.old) path.now.steps }
         ensures kept { self.new ≡ self.old }
         ensures written { Writes W.contents out.old out.new result (path_line path.now) }

@@ -76,7 +76,6 @@ impl Cursor {
 
     /// Writes the numbers of the codes, separated by dots, or `-` if there are none.
     pub fn write_text<W: Write>(&self, out: &mut Out<W>) -> Result<(), Device>
-        requires { out.old.failures < 2 ^ 64 - 1 }
         ensures { Writes W.contents out.old out.new result (cursor_text self.now) }
     {
         let Some((first, others)) = self.codes.as_slice().split_first() else {

@@ -1,8 +1,7 @@
 -- The lines of a list, item by item.
 use Rattle.std.proofs.Common.{◌≡◌, ℕ, ◌+◌, ◌<◌, ◌≤◌, List, [], ◌++◌, suc, length, drop, get_or, sym, ap, ◌∙◌, arith, append_assoc, append-nil, drop_of_length-le, max, Option}
 use Rattle.pam_codes.proofs.Writing.{all-is, all-then, front-is, front-longer, front-then}
-use Rattle.pam_codes.specs.Out.{TookAll, TookFront}
-use Rattle.pam_codes.specs.declared.out.Out.{Out}
+use Rattle.pam_codes.specs.Out.{Out, TookAll, TookFront}
 use Rattle.pam_conf.proofs.StackTree.{items_of-drop_module, items_of-drop_sub}
 use Rattle.pam_conf.specs.Files.{Folder}
 use Rattle.pam_conf.specs.ItemsOf.{items_of, module_text, sub_list}

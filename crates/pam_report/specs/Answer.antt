@@ -1,7 +1,7 @@
 -- The answer to a request: the text and the status that its inputs imply, and what a call writes.
 use Rattle.std.specs.Prelude.{◌≡◌, ℕ, ℤ, List, [], map, IsSome, Option, None, Result, Ok, Err, ◌==◌, if◌then◌else◌, length, unwrap_or}
 use Rattle.std.specs.Char.{to_ascii_lowercase}
-use Rattle.pam_codes.specs.declared.out.Out.{Out}
+use Rattle.pam_codes.specs.Out.{Out}
 use Rattle.pam_conf.specs.Files.{Folder}
 use Rattle.pam_conf.specs.Resolution.{resolved}
 use Rattle.pam_conf.specs.Stack.{Items, module_count}
@@ -19,8 +19,10 @@ use Rattle.pam_tables.specs.declared.access.AccessAnswer.TheVariants as access
 use Rattle.pam_tables.specs.declared.error.Table.{Table}
 use Rattle.pam_tables.specs.declared.error.Table.TheVariants as tables
 use Rattle.pam_tables.specs.declared.error.TableFault.{TableFault}
+use Rattle.pam_times.specs.Login.{LoginText as TimeLogin}
 use Rattle.pam_times.specs.Reading.{rules_of}
 use Rattle.pam_times.specs.Times.{Rule, answer_of as time_answer_of}
+use Rattle.pam_times.specs.declared.error.TimeError.{TimeError}
 use Rattle.pam_times.specs.declared.moments.MomentError.{MomentError}
 use Rattle.pam_times.specs.declared.times.TimeAnswer.{TimeAnswer}
 use Rattle.pam_times.specs.declared.times.TimeAnswer.TheVariants as times
@@ -29,7 +31,7 @@ use Rattle.pam_words.specs.declared.wanted.Task.{Task}
 use Rattle.pam_words.specs.declared.wanted.Task.TheVariants.{Show, Decide, Access, Time, Paths}
 use Rattle.pam_report.specs.Decide.{decide_text}
 use Rattle.pam_report.specs.Inputs.{access_given, files_given, group_file, groups_in, no_files, time_given}
-use Rattle.pam_report.specs.Leaves.{IsTableFault, Leaves, LeavesSome}
+use Rattle.pam_report.specs.Leaves.{IsTableFault, IsTimeFault, Leaves, LeavesSome}
 use Rattle.pam_report.specs.Moments.{IsGivenMoment, IsMoment}
 use Rattle.pam_report.specs.Paths.{IsPage}
 use Rattle.pam_report.specs.Report.{Answer, Report}
@@ -93,12 +95,12 @@ time_status (times.Denied line) = Refusal
 abbrev pub time_report : TimeAnswer → Report
 time_report found = record { text = time_text found; status = time_status found }
 
-abbrev pub with_rules : LoginText → DateTime → Result (List Rule) (TableFault × ℕ) → Answer
-with_rules login moment (Err e) = Err (table_fault tables.Time e)
+abbrev pub with_rules : TimeLogin → DateTime → Result (List Rule) TimeError → Answer
+with_rules login moment (Err e) = Err (faults.Time e)
 with_rules login moment (Ok rules) = Ok (time_report (time_answer_of rules login moment))
 
 -- a fault of the moment comes before those of the table
-abbrev pub timed : LoginText → List ℕ → Result DateTime MomentError → Answer
+abbrev pub timed : TimeLogin → List ℕ → Result DateTime MomentError → Answer
 timed login bytes (Err e) = Err (faults.Moment e)
 timed login bytes (Ok moment) = with_rules login moment (rules_of bytes)
 
@@ -112,6 +114,13 @@ login_in service login = record { user = login.user.now; service = service; tty 
 abbrev pub login_at : List ℕ → Login → LoginText
 login_at service login = login_in (map to_ascii_lowercase service) login
 
+-- the same, as time tables see it
+abbrev pub time_login_in : List ℕ → Login → TimeLogin
+time_login_in service login = record { user = login.user.now; service = service; tty = login.tty.now }
+
+abbrev pub time_login_at : List ℕ → Login → TimeLogin
+time_login_at service login = time_login_in (map to_ascii_lowercase service) login
+
 -- the answer to a task for a service, from these files and the tables of these inputs, and what the call writes
 abbrev pub AnswersFrom : {W : Type 0} → (W → Option (List ℕ)) → Out W → Out W → Result Status Fault → List ℕ → Task → Folder → Inputs → Type 0
 AnswersFrom contents old new result service (Show source kind) files inputs =
@@ -122,7 +131,7 @@ AnswersFrom contents old new result service (Access table groups login arguments
     Leaves contents old new result (looked_up (login_at service login) (map (λ a. a.items) arguments.items) inputs)
 AnswersFrom contents old new result service (Time table login moment) files inputs =
     (at : Result DateTime MomentError) × IsMoment moment at
-    × Leaves contents old new result (timed (login_at service login) (time_given inputs) at)
+    × Leaves contents old new result (timed (time_login_at service login) (time_given inputs) at)
 AnswersFrom contents old new result service (Paths source kind limit part login access time groups returns moment) files inputs =
     (at : Option (Result DateTime MomentError)) × IsGivenMoment moment at
     × LeavesSome contents old new result
@@ -136,6 +145,7 @@ Answers contents old new result service task inputs =
 -- what is looked up is the answer, or its fault, unless an allocation failed
 abbrev pub FindsFault : Fault → Answer → Type 0
 FindsFault (faults.Table e) answer = IsTableFault (λ given. answer ≡ given) e e.fault
+FindsFault (faults.Time e) answer = IsTimeFault (λ given. answer ≡ given) e e.fault
 FindsFault _ answer = ⊥
 
 abbrev pub FindsAccess : Result AccessAnswer Fault → Answer → Type 0

@@ -5,10 +5,12 @@ use Rattle.std.specs.Option.{option_map}
 use Rattle.pam_conf.specs.Files.{Folder}
 use Rattle.pam_conf.specs.declared.error.FaultKind.{FaultKind}
 use Rattle.pam_conf.specs.declared.error.FaultKind.TheVariants as conf
+use Rattle.pam_known.specs.declared.error.KnownError.{KnownError}
+use Rattle.pam_known.specs.declared.error.KnownError.TheVariants as known
 use Rattle.pam_paths.specs.declared.cursor.CursorError.{CursorError}
 use Rattle.pam_paths.specs.declared.cursor.CursorError.TheVariants as cursor
 use Rattle.pam_report.specs.FaultTable.{Row, conf_row, count_row, cursor_row, input_row, memory_row, moment_row}
-use Rattle.pam_report.specs.FaultTable.{table_name, table_row, usage_row, write_row}
+use Rattle.pam_report.specs.FaultTable.{table_name, table_row, time_row, usage_row, write_row}
 use Rattle.pam_report.specs.declared.fault.Fault.{Fault}
 use Rattle.pam_report.specs.declared.fault.Fault.TheVariants as faults
 use Rattle.pam_report.specs.declared.inputs.InputError.{InputError}
@@ -16,13 +18,21 @@ use Rattle.pam_report.specs.declared.inputs.InputError.TheVariants as inputs
 use Rattle.pam_tables.specs.declared.error.Table.{Table}
 use Rattle.pam_tables.specs.declared.error.TableFault.{TableFault}
 use Rattle.pam_tables.specs.declared.error.TableFault.TheVariants as table
+use Rattle.pam_times.specs.declared.error.TimeFault.{TimeFault}
+use Rattle.pam_times.specs.declared.error.TimeFault.TheVariants as time
 use Rattle.pam_words.specs.declared.wanted.Usage.{Usage}
 use Rattle.pam_words.specs.declared.wanted.Usage.TheVariants.{Help, Words}
+
+-- the fault of a table that modules read
+abbrev pub known_fault : KnownError → Fault
+known_fault (known.Table e) = faults.Table e
+known_fault (known.Time e) = faults.Time e
 
 -- the row of a fault in the table
 abbrev pub row_of : Fault → Row
 row_of (faults.Conf e) = conf_row e.kind
 row_of (faults.Table e) = table_row e.fault
+row_of (faults.Time e) = time_row e.fault
 row_of (faults.Moment e) = moment_row e
 row_of (faults.Count e) = count_row
 row_of (faults.Cursor e) = cursor_row e
@@ -46,6 +56,10 @@ abbrev pub table_file : Table → TableFault → Option (List ℕ)
 table_file t table.Memory = None
 table_file t fault = Some (table_name t)
 
+abbrev pub time_file : TimeFault → Option (List ℕ)
+time_file time.Memory = None
+time_file fault = Some (codes "time")
+
 -- ` FILE:LINE`, if there is a file
 abbrev pub line_place : Option (List ℕ) → ℕ → List ℕ
 line_place None line = []
@@ -59,6 +73,7 @@ cursor_place e = []
 abbrev pub place_of : Folder → Fault → List ℕ
 place_of files (faults.Conf e) = line_place (conf_file files e.at e.kind) e.line
 place_of files (faults.Table e) = line_place (table_file e.table e.fault) e.line
+place_of files (faults.Time e) = line_place (time_file e.fault) e.line
 place_of files (faults.Count e) = concat (codes " want " ∷ decimal e.modules ∷ [])
 place_of files (faults.Cursor e) = cursor_place e
 place_of files fault = []

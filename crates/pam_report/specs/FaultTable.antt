@@ -12,6 +12,8 @@ use Rattle.pam_tables.specs.declared.error.Table.{Table}
 use Rattle.pam_tables.specs.declared.error.Table.TheVariants.{Access, Time, Group, Returns}
 use Rattle.pam_tables.specs.declared.error.TableFault.{TableFault}
 use Rattle.pam_tables.specs.declared.error.TableFault.TheVariants as table
+use Rattle.pam_times.specs.declared.error.TimeFault.{TimeFault}
+use Rattle.pam_times.specs.declared.error.TimeFault.TheVariants as time
 use Rattle.pam_times.specs.declared.moments.MomentError.{MomentError}
 use Rattle.pam_times.specs.declared.moments.MomentError.TheVariants as moment
 use Rattle.pam_words.specs.declared.wanted.Usage.{Usage}
@@ -96,6 +98,16 @@ table_row table.Memory = row (codes "TE11 Memory") 6
 table_row table.TableTooLong = row (codes "TE12 TableTooLong") 4
 table_row table.BadCode = row (codes "TE13 BadCode") 4
 table_row table.BadModule = row (codes "TE14 BadModule") 4
+
+unfoldable pub time_row : TimeFault → Row
+time_row time.MissingField = row (codes "TE1 MissingField") 4
+time_row time.Netgroup = row (codes "TE3 Netgroup") 4
+time_row time.BadTimes = row (codes "TE6 BadTimes") 4
+time_row time.TwoWildcards = row (codes "TE7 TwoWildcards") 4
+time_row time.BadLogic = row (codes "TE8 BadLogic") 4
+time_row time.NulByte = row (codes "TE10 NulByte") 4
+time_row time.Memory = row (codes "TE11 Memory") 6
+time_row time.TooLong = row (codes "TE12 TableTooLong") 4
 
 -- the name of a table, which is its place in a line
 abbrev pub table_name : Table → List ℕ

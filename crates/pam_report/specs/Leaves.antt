@@ -1,13 +1,15 @@
 -- The text that a call writes when it answers.
 use Rattle.std.specs.Prelude.{◌≡◌, ℕ, List, Option, None, Result, Ok, Err}
-use Rattle.pam_codes.specs.Out.{TookAll, TookFront}
-use Rattle.pam_codes.specs.declared.out.Out.{Out}
+use Rattle.pam_codes.specs.Out.{Out, TookAll, TookFront}
 use Rattle.pam_conf.specs.declared.error.FaultKind.{FaultKind}
 use Rattle.pam_conf.specs.declared.error.FaultKind.TheVariants as conf
 use Rattle.pam_conf.specs.declared.conf_error.ConfError.{ConfError}
 use Rattle.pam_tables.specs.declared.error.TableError.{TableError}
 use Rattle.pam_tables.specs.declared.error.TableFault.{TableFault}
 use Rattle.pam_tables.specs.declared.error.TableFault.TheVariants as reasons
+use Rattle.pam_times.specs.declared.error.TimeError.{TimeError}
+use Rattle.pam_times.specs.declared.error.TimeFault.{TimeFault}
+use Rattle.pam_times.specs.declared.error.TimeFault.TheVariants as times
 use Rattle.pam_report.specs.Report.{Answer, Report}
 use Rattle.pam_report.specs.declared.fault.Fault.{Fault}
 use Rattle.pam_report.specs.declared.fault.Fault.TheVariants as faults
@@ -22,6 +24,10 @@ abbrev pub IsTableFault : (Answer → Type 0) → TableError → TableFault → 
 IsTableFault IsAnswer error reasons.Memory = error.line ≡ 0
 IsTableFault IsAnswer error _ = IsAnswer (Err (faults.Table error))
 
+abbrev pub IsTimeFault : (Answer → Type 0) → TimeError → TimeFault → Type 0
+IsTimeFault IsAnswer error times.Memory = error.line ≡ 0
+IsTimeFault IsAnswer error _ = IsAnswer (Err (faults.Time error))
+
 -- the text is written in full if there is an answer, up to some byte if a write failed, and not at all if there is a
 -- fault or an allocation failed
 module _ {W : Type 0} (contents : W → Option (List ℕ)) (old new : Out W) where
@@ -33,6 +39,7 @@ module _ {W : Type 0} (contents : W → Option (List ℕ)) (old new : Out W) whe
   LeavesFault IsAnswer (faults.Moment e) = (new ≡ old) × IsAnswer (Err (faults.Moment e))
   LeavesFault IsAnswer (faults.Cursor e) = (new ≡ old) × IsAnswer (Err (faults.Cursor e))
   LeavesFault IsAnswer (faults.Table e) = (new ≡ old) × IsTableFault IsAnswer e e.fault
+  LeavesFault IsAnswer (faults.Time e) = (new ≡ old) × IsTimeFault IsAnswer e e.fault
 
   -- for an answer that satisfies a relation
   abbrev pub LeavesSome : Result Status Fault → (Answer → Type 0) → Type 0

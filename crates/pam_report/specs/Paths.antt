@@ -14,10 +14,11 @@ use Rattle.pam_paths.specs.Paths.{PathValue, path_through}
 use Rattle.pam_paths.specs.declared.cursor.CursorError.{CursorError}
 use Rattle.pam_paths.specs.declared.cursor.CursorError.TheVariants.{Syntax, NotLeast, TooShort, TooLong}
 use Rattle.pam_tables.specs.Login.{LoginText}
-use Rattle.pam_tables.specs.declared.error.TableError.{TableError}
+use Rattle.pam_known.specs.declared.error.KnownError.{KnownError}
 use Rattle.pam_times.specs.declared.moments.MomentError.{MomentError}
 use Rattle.pam_words.specs.declared.wanted.Part.{Part}
 use Rattle.pam_words.specs.declared.wanted.Part.TheVariants.{Whole, After, Before}
+use Rattle.pam_report.specs.Fault.{known_fault}
 use Rattle.pam_report.specs.Header.{header_text}
 use Rattle.pam_report.specs.Inputs.{tables_given}
 use Rattle.pam_report.specs.Report.{Answer, Report}
@@ -68,8 +69,8 @@ abbrev pub IsPageOf : PageRequest → Items → Allowance → Answer → Type 0
 IsPageOf request items allows answer =
     (given : Result (List PathValue) CursorError) × IsPart allows items request.part given × (answer ≡ paged request (module_count items) given)
 
-abbrev pub IsKnownPage : PageRequest → Items → Result (ℕ → List ℕ) TableError → Answer → Type 0
-IsKnownPage request items (Err e) answer = answer ≡ Err (faults.Table e)
+abbrev pub IsKnownPage : PageRequest → Items → Result (ℕ → List ℕ) KnownError → Answer → Type 0
+IsKnownPage request items (Err e) answer = answer ≡ Err (known_fault e)
 IsKnownPage request items (Ok allowed) answer = IsPageOf request items (allows_codes allowed) answer
 
 abbrev pub IsPageAt : PageRequest → LoginText → Inputs → Items → Option DateTime → Answer → Type 0

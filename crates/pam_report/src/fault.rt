@@ -12,14 +12,15 @@ use crate::inputs::InputError;
 use pam_codes::Piece;
 use pam_conf::{ConfError, FaultKind, Files};
 use pam_dispatch::WrongCount;
+use pam_known::KnownError;
 use pam_paths::CursorError;
 use pam_tables::{TableError, TableFault};
-use pam_times::MomentError;
+use pam_times::{MomentError, TimeError, TimeFault};
 use pam_words::Usage;
 use std::alloc::{AllocError, Global};
 use table::{
     Row, conf_row, count_row, cursor_row, input_row, memory_row, moment_row, table_name, table_row,
-    usage_row, write_row,
+    time_row, usage_row, write_row,
 };
 use thiserror::Error;
 
@@ -32,6 +33,9 @@ pub enum Fault {
     /// A fault of a table.
     #[error(transparent)]
     Table(TableError),
+    /// A fault of a time table.
+    #[error(transparent)]
+    Time(TimeError),
     /// The moment is invalid.
     #[error(transparent)]
     Moment(MomentError),
@@ -49,6 +53,16 @@ pub enum Fault {
     Memory,
 }
 
+/// Returns the fault of a table that modules read.
+pub(crate) fn known_fault(error: KnownError) -> Fault
+    ensures { result ≡ spec.known_fault error }
+{
+    match error {
+        KnownError::Table(error) => Fault::Table(error),
+        KnownError::Time(error) => Fault::Time(error),
+    }
+}
+
 /// Returns the row of a fault in the table.
 fn row_of(fault: &Fault) -> Row
     ensures { row_view result ≡ spec.row_of fault.now }
@@ -56,6 +70,7 @@ fn row_of(fault: &Fault) -> Row
     match fault {
         Fault::Conf(error) => conf_row(error.kind),
         Fault::Table(error) => table_row(error.fault),
+        Fault::Time(error) => time_row(error.fault),
         Fault::Moment(error) => moment_row(*error),
         Fault::Count(_) => count_row(),
         Fault::Cursor(error) => cursor_row(*error),
@@ -139,6 +154,16 @@ fn table_file(error: &TableError) -> Option<&'static [u8]>
     Some(table_name(error.table).as_bytes())
 }
 
+/// Returns the place of a fault of a time table, if it has one.
+fn time_file(fault: TimeFault) -> Option<&'static [u8]>
+    ensures { option_map (λ name. name.now) result ≡ spec.time_file fault }
+{
+    if fault == TimeFault::Memory {
+        return None;
+    }
+    Some("time".as_bytes())
+}
+
 fn cursor_line(alloc: Global, row: Row, error: CursorError) -> Result<Vec<u8>, AllocError>
     ensures { IfOk result (λ text. text.items ≡ spec.line_of (row_view row) (spec.cursor_place error)) }
 {
@@ -163,6 +188,7 @@ pub fn fault_text(alloc: Global, fault: &Fault, files: &Files) -> Result<Vec<u8>
     match fault {
         Fault::Conf(error) => line_at(alloc, row, conf_file(files, error), error.line as u64),
         Fault::Table(error) => line_at(alloc, row, table_file(error), u64::from(error.line)),
+        Fault::Time(error) => line_at(alloc, row, time_file(error.fault), u64::from(error.line)),
         Fault::Count(error) => line(
             alloc,
             row,

@@ -1,6 +1,5 @@
 //! A run of the program: reads the command line, answers on standard output, and reports faults on standard error.
 
-ghost use Rattle.std.specs.Prelude.{◌-◌, ◌<◌, ◌^◌};
 
 use crate::fault::{
     Fault, fault_status, fault_text, input_status, input_text, usage_status, usage_text,
@@ -23,7 +22,6 @@ pub fn run<R: Files + AllocGlobal + Clone + Drop, W: Write, V: Write>(
     out: &mut Out<W>,
     err: &mut Out<V>,
 ) -> u8
-    requires { out.old.failures < 2 ^ 64 - 1 }
 {
     match request(alloc, words) {
         Ok(request) => answer_request(rt, alloc, &request, out, err),
@@ -57,7 +55,6 @@ fn answer_request<R: Files + AllocGlobal + Clone + Drop, W: Write, V: Write>(
     out: &mut Out<W>,
     err: &mut Out<V>,
 ) -> u8
-    requires { out.old.failures < 2 ^ 64 - 1 }
 {
     match inputs_of(rt, alloc, request) {
         Ok(inputs) => report(alloc, request, &inputs, out, err),
@@ -75,7 +72,6 @@ fn report<W: Write, V: Write>(
     out: &mut Out<W>,
     err: &mut Out<V>,
 ) -> u8
-    requires { out.old.failures < 2 ^ 64 - 1 }
 {
     match answer(alloc, request, inputs, out) {
         Ok(status) => status.number(),

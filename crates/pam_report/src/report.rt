@@ -1,6 +1,6 @@
 //! Answers. Each is computed first, which finds all faults, and then written, which allocates nothing.
 
-ghost use Rattle.std.specs.Prelude.{◌≡◌, ◌-◌, ◌<◌, ◌^◌};
+ghost use Rattle.std.specs.Prelude.{◌≡◌};
 ghost use Rattle.pam_report.specs.Answer.{Answers, AnswersFrom};
 ghost use Rattle.pam_report.specs.Report.{status_number};
 
@@ -58,7 +58,6 @@ pub fn answer<W: Write>(
     inputs: &Inputs,
     out: &mut Out<W>,
 ) -> Result<Status, Fault>
-    requires { out.old.failures < 2 ^ 64 - 1 }
     ensures { Answers W.contents out.old out.new result request.now.service.now request.now.task inputs.now }
 {
     match inputs.files() {
@@ -75,7 +74,6 @@ fn answer_from<W: Write>(
     inputs: &Inputs,
     out: &mut Out<W>,
 ) -> Result<Status, Fault>
-    requires { out.old.failures < 2 ^ 64 - 1 }
     ensures { AnswersFrom W.contents out.old out.new result request.now.service.now request.now.task files.now inputs.now }
 {
     let service = request.service;

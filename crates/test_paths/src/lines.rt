@@ -9,7 +9,6 @@ use std::alloc::Global;
 use std::io::Write;
 
 fn put_step<W: Write>(step: &PathStep, out: &mut Out<W>) -> Result<(), Device>
-    requires { out.old.failures < 2 ^ 64 - 1 }
 {
     out.put_line(&[
         Piece::Bytes(b" "),

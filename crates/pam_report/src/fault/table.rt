@@ -9,7 +9,7 @@ use pam_codes::ControlError;
 use pam_conf::FaultKind;
 use pam_paths::CursorError;
 use pam_tables::{Table, TableFault};
-use pam_times::MomentError;
+use pam_times::{MomentError, TimeFault};
 use pam_words::Usage;
 
 const HELP: u8 = 0;
@@ -140,6 +140,22 @@ pub(super) fn table_row(fault: TableFault) -> Row
         TableFault::TableTooLong => Row::of("TE12 TableTooLong", BAD_TABLE),
         TableFault::BadCode => Row::of("TE13 BadCode", BAD_TABLE),
         TableFault::BadModule => Row::of("TE14 BadModule", BAD_TABLE),
+    }
+}
+
+#[tactic(auto, unfolding(crate::specs::FaultTable::time_row))]
+pub(super) fn time_row(fault: TimeFault) -> Row
+    ensures { row_view result ≡ spec.time_row fault }
+{
+    match fault {
+        TimeFault::MissingField => Row::of("TE1 MissingField", BAD_TABLE),
+        TimeFault::Netgroup => Row::of("TE3 Netgroup", BAD_TABLE),
+        TimeFault::BadTimes => Row::of("TE6 BadTimes", BAD_TABLE),
+        TimeFault::TwoWildcards => Row::of("TE7 TwoWildcards", BAD_TABLE),
+        TimeFault::BadLogic => Row::of("TE8 BadLogic", BAD_TABLE),
+        TimeFault::NulByte => Row::of("TE10 NulByte", BAD_TABLE),
+        TimeFault::Memory => Row::of("TE11 Memory", NO_MEMORY),
+        TimeFault::TooLong => Row::of("TE12 TableTooLong", BAD_TABLE),
     }
 }
 

@@ -1,6 +1,6 @@
 //! The `access` command: the line of an access table that decides.
 
-ghost use Rattle.std.specs.Prelude.{◌≡◌, ◌-◌, ◌<◌, ◌^◌, map, option_map};
+ghost use Rattle.std.specs.Prelude.{◌≡◌, map, option_map};
 ghost use Rattle.pam_codes.specs.Out.{Writes};
 ghost use Rattle.pam_tables.specs.Error.{Gives};
 ghost use Rattle.pam_tables.specs.Login.{login_view};
@@ -23,7 +23,6 @@ use std::io::Write;
 
 /// Writes `denied line N`.
 pub(super) fn put_denied<W: Write>(line: u32, out: &mut Out<W>) -> Result<(), Device>
-    requires { out.old.failures < 2 ^ 64 - 1 }
     ensures { Writes W.contents out.old out.new result (denied_text line) }
 {
     out.put_line(&[
@@ -35,7 +34,6 @@ pub(super) fn put_denied<W: Write>(line: u32, out: &mut Out<W>) -> Result<(), De
 
 #[tactic(auto, unfolding(crate::specs::Tables::access_text))]
 fn put_answer<W: Write>(answer: AccessAnswer, out: &mut Out<W>) -> Result<(), Device>
-    requires { out.old.failures < 2 ^ 64 - 1 }
     ensures { Writes W.contents out.old out.new result (access_text answer) }
 {
     match answer {
@@ -89,7 +87,6 @@ fn look_up(
 }
 
 fn write_answer<W: Write>(answer: AccessAnswer, out: &mut Out<W>) -> Result<(), Device>
-    requires { out.old.failures < 2 ^ 64 - 1 }
     ensures { Writes W.contents out.old out.new result (access_text answer) }
 {
     put_answer(answer, out)?;
@@ -103,7 +100,6 @@ fn answer_login<W: Write>(
     inputs: &Inputs,
     out: &mut Out<W>,
 ) -> Result<Status, Fault>
-    requires { out.old.failures < 2 ^ 64 - 1 }
     ensures { let texts = map (λ a. a.items) arguments.now in
         Leaves W.contents out.old out.new result (looked_up (login_view login.now) texts inputs.now) }
 {
@@ -125,7 +121,6 @@ pub(super) fn answer_access<W: Write>(
     inputs: &Inputs,
     out: &mut Out<W>,
 ) -> Result<Status, Fault>
-    requires { out.old.failures < 2 ^ 64 - 1 }
     ensures { let texts = map (λ a. a.items) arguments.now in
         Leaves W.contents out.old out.new result (looked_up (login_at service.now login.entry) texts inputs.now) }
 {

@@ -1,6 +1,6 @@
 //! The `decide` command: the modules that a run asks, and the decision.
 
-ghost use Rattle.std.specs.Prelude.{◌≡◌, ◌-◌, ◌<◌, ◌^◌, ◌++◌, map};
+ghost use Rattle.std.specs.Prelude.{◌≡◌, ◌++◌, map};
 ghost use Rattle.pam_codes.specs.Out.{Writes};
 ghost use Rattle.pam_conf.specs.Resolution.{resolved};
 ghost use Rattle.pam_report.specs.Answer.{decided_by, status_of_decision, with_stack};
@@ -33,7 +33,6 @@ fn impression_name(impression: Impression) -> &'static str
 
 #[tactic(auto, unfolding(crate::specs::Decide::action_text))]
 fn put_action<W: Write>(action: Action, out: &mut Out<W>) -> Result<(), Device>
-    requires { out.old.failures < 2 ^ 64 - 1 }
     ensures { Writes W.contents out.old out.new result (action_text action) }
 {
     if let Action::Jump(_) = action {
@@ -52,7 +51,6 @@ fn name_of(code: Code) -> &'static [u8]
 /// Writes a code with a space before and after it.
 #[tactic(auto, unfolding(crate::specs::Decide::code_text))]
 fn put_code<W: Write>(code: Code, out: &mut Out<W>) -> Result<(), Device>
-    requires { out.old.failures < 2 ^ 64 - 1 }
     ensures { Writes W.contents out.old out.new result (code_text code) }
 {
     out.put_line(&[
@@ -65,7 +63,6 @@ fn put_code<W: Write>(code: Code, out: &mut Out<W>) -> Result<(), Device>
 /// Writes ` IMPRESSION STATUS` and a line feed.
 #[tactic(auto, unfolding(crate::specs::Decide::state_text))]
 fn put_state<W: Write>(state: State, out: &mut Out<W>) -> Result<(), Device>
-    requires { out.old.failures < 2 ^ 64 - 1 }
     ensures { Writes W.contents out.old out.new result (state_text state) }
 {
     out.put_line(&[
@@ -84,7 +81,6 @@ fn put_outcome<W: Write>(
     state: State,
     out: &mut Out<W>,
 ) -> Result<(), Device>
-    requires { out.old.failures < 2 ^ 64 - 1 }
     ensures { Writes W.contents out.old out.new result (outcome_text code action state) }
 {
     put_code(code, out)?;
@@ -94,7 +90,6 @@ fn put_outcome<W: Write>(
 
 /// Writes `NUMBER PATH`.
 fn put_path<W: Write>(number: usize, path: &[u8], out: &mut Out<W>) -> Result<(), Device>
-    requires { out.old.failures < 2 ^ 64 - 1 }
     ensures { Writes W.contents out.old out.new result (path_text number path.now) }
 {
     out.put_line(&[Piece::Number(number as u64), Piece::Bytes(b" ")])?;
@@ -103,7 +98,6 @@ fn put_path<W: Write>(number: usize, path: &[u8], out: &mut Out<W>) -> Result<()
 
 /// Writes the line of a module that is asked.
 fn put_asked<W: Write>(module: &AskedModule, out: &mut Out<W>) -> Result<(), Device>
-    requires { out.old.failures < 2 ^ 64 - 1 }
     ensures { Writes W.contents out.old out.new result (asked_text (asked_view module.now)) }
 {
     put_path(module.number, &module.path, out)?;
@@ -112,7 +106,6 @@ fn put_asked<W: Write>(module: &AskedModule, out: &mut Out<W>) -> Result<(), Dev
 
 /// Writes the lines of the modules that are asked.
 fn put_trace<W: Write>(asked: &[AskedModule], out: &mut Out<W>) -> Result<(), Device>
-    requires { out.old.failures < 2 ^ 64 - 1 }
     ensures { Writes W.contents out.old out.new result (trace_text (map asked_view asked.now)) }
 {
     for module in asked {
@@ -123,7 +116,6 @@ fn put_trace<W: Write>(asked: &[AskedModule], out: &mut Out<W>) -> Result<(), De
 
 #[tactic(auto, unfolding(crate::specs::Decide::decision_text))]
 fn put_decision<W: Write>(decision: Decision, out: &mut Out<W>) -> Result<(), Device>
-    requires { out.old.failures < 2 ^ 64 - 1 }
     ensures { Writes W.contents out.old out.new result (decision_text decision) }
 {
     out.put_line(&[
@@ -140,7 +132,6 @@ fn write_trace<W: Write>(
     trace: &Trace,
     out: &mut Out<W>,
 ) -> Result<(), Device>
-    requires { out.old.failures < 2 ^ 64 - 1 }
     ensures { Writes W.contents out.old out.new result
         (header_text service.now kind modules ++ trace_text (map asked_view trace.now.asked.items) ++ decision_text trace.now.decision) }
 {
@@ -159,7 +150,6 @@ fn decide_stack<W: Write>(
     stack: &Stack,
     out: &mut Out<W>,
 ) -> Result<Status, Fault>
-    requires { out.old.failures < 2 ^ 64 - 1 }
     ensures { Leaves W.contents out.old out.new result (decided_by service.now kind codes.now stack.now) }
 {
     let program = match Program::of(alloc, stack) {
@@ -188,7 +178,6 @@ pub(super) fn answer_decide<W: Write>(
     files: &Files,
     out: &mut Out<W>,
 ) -> Result<Status, Fault>
-    requires { out.old.failures < 2 ^ 64 - 1 }
     ensures { Leaves W.contents out.old out.new result (with_stack (resolved files.now service.now kind) (decided_by service.now kind codes.now)) }
 {
     match resolve(alloc, files, service.as_bytes(), kind) {

@@ -1,6 +1,6 @@
 //! The first line of an answer.
 
-ghost use Rattle.std.specs.Prelude.{◌≡◌, ◌-◌, ◌<◌, ◌^◌, map};
+ghost use Rattle.std.specs.Prelude.{◌≡◌, map};
 ghost use Rattle.std.specs.Char.{to_ascii_lowercase};
 ghost use Rattle.pam_codes.specs.Out.{Writes};
 ghost use Rattle.pam_report.specs.Header.{header_text, kind_name};
@@ -21,7 +21,6 @@ fn kind_name(kind: Kind) -> &'static str
 }
 
 fn put_lowercase<W: Write>(text: &[u8], out: &mut Out<W>) -> Result<(), Device>
-    requires { out.old.failures < 2 ^ 64 - 1 }
     ensures { Writes W.contents out.old out.new result (map to_ascii_lowercase text.now) }
 {
     for byte in text {
@@ -38,7 +37,6 @@ pub(super) fn put_header<W: Write>(
     modules: usize,
     out: &mut Out<W>,
 ) -> Result<(), Device>
-    requires { out.old.failures < 2 ^ 64 - 1 }
     ensures { Writes W.contents out.old out.new result (header_text service.now kind modules) }
 {
     put_lowercase(service.as_bytes(), out)?;

@@ -1,6 +1,6 @@
 //! The `paths` command: a page of the paths through a stack.
 
-ghost use Rattle.std.specs.Prelude.{◌≡◌, ◌-◌, ◌<◌, ◌^◌, ◌++◌, IfOk, MatchResult, Err, Ok, codes, max};
+ghost use Rattle.std.specs.Prelude.{◌≡◌, ◌++◌, IfOk, MatchResult, Err, Ok, max};
 ghost use Rattle.jiff.specs.Types.{DateTime as CivilTime};
 ghost use Rattle.pam_codes.specs.Out.{Writes};
 ghost use Rattle.pam_conf.specs.Resolution.{resolved};
@@ -11,19 +11,18 @@ ghost use Rattle.pam_known.specs.Knowledge.{Agree};
 ghost use Rattle.pam_page.specs.Coming.{coming, side};
 ghost use Rattle.pam_page.specs.Page.{first_page, page_text};
 ghost use Rattle.pam_paths.specs.Known.{may_answer};
-ghost use Rattle.pam_paths.specs.Listing.{Allowance, IsListingAfter, IsListingBefore};
-ghost use Rattle.pam_paths.specs.Paths.{path_through};
+ghost use Rattle.pam_paths.specs.Listing.{Allowance};
 ghost use Rattle.pam_report.specs.Answer.{login_at};
 ghost use Rattle.pam_report.specs.Header.{header_text};
 ghost use Rattle.pam_report.specs.Leaves.{LeavesSome};
 ghost use Rattle.pam_report.specs.PageView.{page_view};
-ghost use Rattle.pam_report.specs.Paths.{IsPage, IsPageAt, IsPageOf, IsPart, IsStackPage, IsTaken, side_of};
+ghost use Rattle.pam_report.specs.Paths.{IsPage, IsPageAt, IsPageOf, IsPart, IsStackPage, side_of};
 ghost use Rattle.pam_tables.specs.Login.{login_view};
 
 use super::Status;
 use super::header::put_header;
 use super::login::{login_to, lowered};
-use crate::fault::Fault;
+use crate::fault::{Fault, known_fault};
 use crate::inputs::{Inputs, tables_given};
 use jiff::civil::DateTime;
 use pam_codes::{Device, Out};
@@ -46,50 +45,6 @@ pub(super) struct PageRequest<'a> {
     pub part: Part<'a>,
 }
 
-/// Returns the paths after a cursor.
-#[inline(never)]
-fn paths_after<'a>(
-    program: &'a Program,
-    known: &'a Known,
-    text: &str,
-) -> Result<Listing<'a, Known>, CursorError>
-    ensures part { (items : Items) → runs_of program.now ≡ runs_of_stack items → modules_of program.now ≡ module_count items
-        → MatchResult result (λ l. IsTaken (IsListingAfter (may_answer known.now) (module_count items) (path_through items)) items text.now (Ok (coming l)))
-        (λ e. IsTaken (IsListingAfter (may_answer known.now) (module_count items) (path_through items)) items text.now (Err e)) }
-    ensures side { IfOk result (λ l. side l ≡ codes "after") }
-{
-    let cursor = match Cursor::read(text.as_bytes()) {
-        Ok(cursor) => cursor,
-        Err(error) => return Err(error),
-    };
-    match Explorer::after(program, known, &cursor) {
-        Ok(explorer) => Ok(Listing::Forward(explorer)),
-        Err(error) => Err(error),
-    }
-}
-
-/// Returns the paths before a cursor, the last one first.
-#[inline(never)]
-fn paths_before<'a>(
-    program: &'a Program,
-    known: &'a Known,
-    text: &str,
-) -> Result<Listing<'a, Known>, CursorError>
-    ensures part { (items : Items) → runs_of program.now ≡ runs_of_stack items → modules_of program.now ≡ module_count items
-        → MatchResult result (λ l. IsTaken (IsListingBefore (may_answer known.now) (module_count items) (path_through items)) items text.now (Ok (coming l)))
-        (λ e. IsTaken (IsListingBefore (may_answer known.now) (module_count items) (path_through items)) items text.now (Err e)) }
-    ensures side { IfOk result (λ l. side l ≡ codes "before") }
-{
-    let cursor = match Cursor::read(text.as_bytes()) {
-        Ok(cursor) => cursor,
-        Err(error) => return Err(error),
-    };
-    match Explorer::before(program, known, &cursor) {
-        Ok(before) => Ok(Listing::Backward(before)),
-        Err(error) => Err(error),
-    }
-}
-
 /// Returns the part of the listing that a page is taken from.
 #[inline(never)]
 fn listing_of<'a>(
@@ -98,13 +53,28 @@ fn listing_of<'a>(
     part: Part<'_>,
 ) -> Result<Listing<'a, Known>, CursorError>
     ensures part { (items : Items) → runs_of program.now ≡ runs_of_stack items → modules_of program.now ≡ module_count items
-        → MatchResult result (λ l. IsPart (may_answer known.now) items part.entry (Ok (coming l))) (λ e. IsPart (may_answer known.now) items part.entry (Err e)) }
+        → MatchResult result (λ l. IsPart (may_answer known.now) items part.entry (Ok (coming l)))
+        (λ e. IsPart (may_answer known.now) items part.entry (Err e)) }
     ensures side { IfOk result (λ l. side l ≡ side_of part.entry) }
 {
-    match part {
-        Part::Whole => Ok(Listing::Forward(Explorer::start(program, known))),
-        Part::After(text) => paths_after(program, known, text),
-        Part::Before(text) => paths_before(program, known, text),
+    let text = match part {
+        Part::Whole => return Ok(Listing::Forward(Explorer::start(program, known))),
+        Part::After(text) => text,
+        Part::Before(text) => text,
+    };
+    let cursor = match Cursor::read(text.as_bytes()) {
+        Ok(cursor) => cursor,
+        Err(error) => return Err(error),
+    };
+    if let Part::Before(_) = part {
+        return match Explorer::before(program, known, &cursor) {
+            Ok(before) => Ok(Listing::Backward(before)),
+            Err(error) => Err(error),
+        };
+    }
+    match Explorer::after(program, known, &cursor) {
+        Ok(explorer) => Ok(Listing::Forward(explorer)),
+        Err(error) => Err(error),
     }
 }
 
@@ -115,9 +85,9 @@ fn write_page<W: Write>(
     texts: LineTexts,
     out: &mut Out<W>,
 ) -> Result<(), Device>
-    requires { out.old.failures < 2 ^ 64 - 1 }
-    ensures { Writes W.contents out.old out.new result
-        (header_text request.now.service.now request.now.kind modules ++ page_text (side listing.old) (first_page (max request.now.limit 1) (coming listing.old))) }
+    ensures { let page = first_page (max request.now.limit 1) (coming listing.old) in
+        let header = header_text request.now.service.now request.now.kind modules in
+        Writes W.contents out.old out.new result (header ++ page_text (side listing.old) page) }
 {
     put_header(request.service, request.kind, modules, out)?;
     put_page(listing, request.limit.max(1), texts, out)?;
@@ -132,7 +102,6 @@ fn answer_known<W: Write>(
     known: &Known,
     out: &mut Out<W>,
 ) -> Result<Status, Fault>
-    requires { out.old.failures < 2 ^ 64 - 1 }
     ensures { (allows : Allowance) → Agree (module_count stack.now) (may_answer known.now) allows
         → LeavesSome W.contents out.old out.new result (IsPageOf (page_view request.now) stack.now allows) }
 {
@@ -164,13 +133,12 @@ fn answer_at<W: Write>(
     moment: Option<DateTime>,
     out: &mut Out<W>,
 ) -> Result<Status, Fault>
-    requires { out.old.failures < 2 ^ 64 - 1 }
     ensures { LeavesSome W.contents out.old out.new result (IsPageAt (page_view request.now) (login_view login.now) inputs.now stack.now moment) }
 {
     let tables = tables_given(inputs, moment);
     match known_answers(alloc, stack, request.kind, login, &tables) {
         Ok(known) => answer_known(alloc, request, stack, &known, out),
-        Err(error) => Err(Fault::Table(error)),
+        Err(error) => Err(known_fault(error)),
     }
 }
 
@@ -184,7 +152,6 @@ fn answer_stack<W: Write>(
     moment: Option<Result<DateTime, MomentError>>,
     out: &mut Out<W>,
 ) -> Result<Status, Fault>
-    requires { out.old.failures < 2 ^ 64 - 1 }
     ensures { LeavesSome W.contents out.old out.new result (IsStackPage (page_view request.now) (login_view login.now) inputs.now stack.now moment) }
 {
     match moment {
@@ -203,7 +170,6 @@ pub(super) fn answer_paths<W: Write>(
     inputs: &Inputs,
     out: &mut Out<W>,
 ) -> Result<Status, Fault>
-    requires { out.old.failures < 2 ^ 64 - 1 }
     ensures { let page = page_view request.now in
         let stack = resolved files.now page.service page.kind in
         LeavesSome W.contents out.old out.new result (IsPage page (login_at page.service login.entry) inputs.now moment stack) }

@@ -1,6 +1,6 @@
 //! The `show` command: the stack, rule by rule.
 
-ghost use Rattle.std.specs.Prelude.{◌≡◌, ◌-◌, ◌<◌, ◌≤◌, ◌^◌, ◌+◌, ◌++◌, codes, map};
+ghost use Rattle.std.specs.Prelude.{◌≡◌, ◌≤◌, ◌+◌, ◌++◌, codes, map};
 ghost use Rattle.pam_codes.specs.Out.{Writes};
 ghost use Rattle.pam_conf.specs.ItemsOf.{items_of, module_text};
 ghost use Rattle.pam_conf.specs.Resolution.{resolved};
@@ -33,7 +33,6 @@ fn name_at(files: &Files, position: usize) -> &[u8]
 
 /// Writes two spaces per level.
 fn put_indent<W: Write>(level: usize, out: &mut Out<W>) -> Result<(), Device>
-    requires { out.old.failures < 2 ^ 64 - 1 }
     ensures { Writes W.contents out.old out.new result (indent level) }
 {
     for _ in 0..level {
@@ -50,7 +49,6 @@ fn put_place<W: Write>(
     line: usize,
     out: &mut Out<W>,
 ) -> Result<(), Device>
-    requires { out.old.failures < 2 ^ 64 - 1 }
     ensures { Writes W.contents out.old out.new result (place_text files.now file line) }
 {
     out.put_line(&[
@@ -62,7 +60,6 @@ fn put_place<W: Write>(
 
 /// Writes a word, with a space before it.
 fn put_one_word<W: Write>(word: &[u8], out: &mut Out<W>) -> Result<(), Device>
-    requires { out.old.failures < 2 ^ 64 - 1 }
     ensures { Writes W.contents out.old out.new result (codes " " ++ word_text word.now) }
 {
     out.put(b" ")?;
@@ -71,7 +68,6 @@ fn put_one_word<W: Write>(word: &[u8], out: &mut Out<W>) -> Result<(), Device>
 
 /// Writes words, with a space before each.
 fn put_words<W: Write>(words: &[Vec<u8>], out: &mut Out<W>) -> Result<(), Device>
-    requires { out.old.failures < 2 ^ 64 - 1 }
     ensures { Writes W.contents out.old out.new result (words_text (map (λ w. w.items) words.now)) }
 {
     for word in words {
@@ -88,7 +84,6 @@ fn put_front<W: Write>(
     module: &Module,
     out: &mut Out<W>,
 ) -> Result<(), Device>
-    requires { out.old.failures < 2 ^ 64 - 1 }
     ensures { Writes W.contents out.old out.new result (module_front files.now level (module_text «module».now)) }
 {
     put_indent(level, out)?;
@@ -98,7 +93,6 @@ fn put_front<W: Write>(
 }
 
 fn put_dash<W: Write>(dashed: bool, out: &mut Out<W>) -> Result<(), Device>
-    requires { out.old.failures < 2 ^ 64 - 1 }
     ensures { Writes W.contents out.old out.new result (dash_text dashed) }
 {
     if dashed {
@@ -115,7 +109,6 @@ fn put_module<W: Write>(
     module: &Module,
     out: &mut Out<W>,
 ) -> Result<(), Device>
-    requires { out.old.failures < 2 ^ 64 - 1 }
     ensures { Writes W.contents out.old out.new result (module_line files.now level (module_text «module».now)) }
 {
     put_front(files, level, module, out)?;
@@ -128,7 +121,6 @@ fn put_module<W: Write>(
 /// Writes the line of a substack.
 #[tactic(auto, unfolding(crate::specs::Show::sub_line))]
 fn put_sub<W: Write>(files: &Files, level: usize, sub: &Sub, out: &mut Out<W>) -> Result<(), Device>
-    requires { out.old.failures < 2 ^ 64 - 1 }
     ensures { Writes W.contents out.old out.new result (sub_line files.now level sub.now.text) }
 {
     put_indent(level, out)?;
@@ -148,7 +140,6 @@ fn put_items<W: Write>(
     items: &[Item],
     out: &mut Out<W>,
 ) -> Result<(), Device>
-    requires room { out.old.failures < 2 ^ 64 - 1 }
     requires shallow { level + depth (items_of items.now) ≤ 16 }
     ensures { Writes W.contents out.old out.new result (items_text files.now level (items_of items.now)) }
 {
@@ -171,7 +162,6 @@ fn write_stack<W: Write>(
     stack: &Stack,
     out: &mut Out<W>,
 ) -> Result<(), Device>
-    requires { out.old.failures < 2 ^ 64 - 1 }
     ensures { Writes W.contents out.old out.new result (show_text service.now kind files.now stack.now) }
 {
     put_header(service, kind, stack.modules(), out)?;
@@ -186,7 +176,6 @@ pub(super) fn answer_show<W: Write>(
     files: &Files,
     out: &mut Out<W>,
 ) -> Result<Status, Fault>
-    requires { out.old.failures < 2 ^ 64 - 1 }
     ensures { Leaves W.contents out.old out.new result (with_stack (resolved files.now service.now kind) (shown service.now kind files.now)) }
 {
     let stack = match resolve(alloc, files, service.as_bytes(), kind) {

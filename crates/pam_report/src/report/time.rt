@@ -1,10 +1,10 @@
 //! The `time` command: the line of a time table that denies.
 
-ghost use Rattle.std.specs.Prelude.{◌≡◌, ◌-◌, ◌<◌, ◌^◌, Ok, Result};
+ghost use Rattle.std.specs.Prelude.{◌≡◌, Ok, Result};
 ghost use Rattle.jiff.specs.Types.{DateTime as CivilTime};
 ghost use Rattle.pam_codes.specs.Out.{Writes};
-ghost use Rattle.pam_tables.specs.Login.{login_view};
-ghost use Rattle.pam_report.specs.Answer.{FindsTime, login_at, time_status, timed, with_rules};
+ghost use Rattle.pam_times.specs.Login.{login_view};
+ghost use Rattle.pam_report.specs.Answer.{FindsTime, time_login_at, time_status, timed, with_rules};
 ghost use Rattle.pam_report.specs.Leaves.{Leaves};
 ghost use Rattle.pam_report.specs.Moments.{IsGivenMoment, IsMoment};
 ghost use Rattle.pam_report.specs.Inputs.{time_given};
@@ -13,12 +13,12 @@ ghost use Rattle.pam_times.specs.Reading.{rules_of};
 
 use super::Status;
 use super::access::put_denied;
-use super::login::{login_to, lowered};
+use super::login::{lowered, time_login_to};
 use crate::fault::Fault;
 use crate::inputs::Inputs;
 use jiff::civil::DateTime;
 use pam_codes::{Device, Out};
-use pam_tables::Login as TableLogin;
+use pam_times::Login as TimeLogin;
 use pam_times::{MomentError, TimeAnswer, TimeTable, civil, moment};
 use pam_words::{Login, Moment};
 use std::alloc::Global;
@@ -26,7 +26,6 @@ use std::io::Write;
 
 #[tactic(auto, unfolding(crate::specs::Tables::time_text))]
 fn put_answer<W: Write>(answer: TimeAnswer, out: &mut Out<W>) -> Result<(), Device>
-    requires { out.old.failures < 2 ^ 64 - 1 }
     ensures { Writes W.contents out.old out.new result (time_text answer) }
 {
     match answer {
@@ -67,7 +66,7 @@ pub(super) fn given_moment(moment: Option<Moment<'_>>) -> Option<Result<DateTime
 /// Looks up a login at a moment in the time table.
 fn look_up(
     alloc: Global,
-    login: &TableLogin<'_>,
+    login: &TimeLogin<'_>,
     moment: &DateTime,
     bytes: &[u8],
 ) -> Result<TimeAnswer, Fault>
@@ -75,12 +74,11 @@ fn look_up(
 {
     match TimeTable::read(alloc, bytes) {
         Ok(table) => Ok(table.decide(login, moment)),
-        Err(error) => Err(Fault::Table(error)),
+        Err(error) => Err(Fault::Time(error)),
     }
 }
 
 fn write_answer<W: Write>(answer: TimeAnswer, out: &mut Out<W>) -> Result<(), Device>
-    requires { out.old.failures < 2 ^ 64 - 1 }
     ensures { Writes W.contents out.old out.new result (time_text answer) }
 {
     put_answer(answer, out)?;
@@ -89,12 +87,11 @@ fn write_answer<W: Write>(answer: TimeAnswer, out: &mut Out<W>) -> Result<(), De
 
 fn answer_login<W: Write>(
     alloc: Global,
-    login: &TableLogin<'_>,
+    login: &TimeLogin<'_>,
     moment: &DateTime,
     bytes: &[u8],
     out: &mut Out<W>,
 ) -> Result<Status, Fault>
-    requires { out.old.failures < 2 ^ 64 - 1 }
     ensures { Leaves W.contents out.old out.new result (with_rules (login_view login.now) moment.now (rules_of bytes.now)) }
 {
     let answer = match look_up(alloc, login, moment, bytes) {
@@ -115,8 +112,7 @@ pub(super) fn answer_time<W: Write>(
     inputs: &Inputs,
     out: &mut Out<W>,
 ) -> Result<Status, Fault>
-    requires { out.old.failures < 2 ^ 64 - 1 }
-    ensures { Leaves W.contents out.old out.new result (timed (login_at service.now login.entry) (time_given inputs.now) moment) }
+    ensures { Leaves W.contents out.old out.new result (timed (time_login_at service.now login.entry) (time_given inputs.now) moment) }
 {
     let moment = match moment {
         Ok(moment) => moment,
@@ -125,7 +121,7 @@ pub(super) fn answer_time<W: Write>(
     match lowered(alloc, service) {
         Ok(service) => answer_login(
             alloc,
-            &login_to(&service, login),
+            &time_login_to(&service, login),
             &moment,
             inputs.time_table(),
             out,

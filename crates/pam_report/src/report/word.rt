@@ -1,6 +1,6 @@
 //! Words, written so that pam.conf(5) reads them back.
 
-ghost use Rattle.std.specs.Prelude.{◌≡◌, ◌-◌, ◌<◌, ◌^◌};
+ghost use Rattle.std.specs.Prelude.{◌≡◌};
 ghost use Rattle.std.specs.List.{list_any};
 ghost use Rattle.pam_codes.specs.Out.{Writes};
 ghost use Rattle.pam_codes.specs.Tokens.{is_blank};
@@ -27,7 +27,6 @@ fn has_blank(text: &[u8]) -> bool
 
 /// Writes a text, with `\]` for each `]`.
 fn put_escaped<W: Write>(text: &[u8], out: &mut Out<W>) -> Result<(), Device>
-    requires { out.old.failures < 2 ^ 64 - 1 }
     ensures { Writes W.contents out.old out.new result (escaped text.now) }
 {
     for byte in text {
@@ -42,7 +41,6 @@ fn put_escaped<W: Write>(text: &[u8], out: &mut Out<W>) -> Result<(), Device>
 
 /// Writes a text as a word, in brackets unless it is plain.
 pub(super) fn put_word<W: Write>(text: &[u8], out: &mut Out<W>) -> Result<(), Device>
-    requires { out.old.failures < 2 ^ 64 - 1 }
     ensures { Writes W.contents out.old out.new result (word_text text.now) }
 {
     if is_plain(text) {

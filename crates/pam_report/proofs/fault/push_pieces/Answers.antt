@@ -1,7 +1,6 @@
 use Rattle.std.proofs.Common.{◌≡◌, ℕ, ◌+◌, ◌<◌, List, ◌++◌, length, take, get_or, sym, ap, ◌∙◌, append_assoc}
 use Rattle.pam_codes.proofs.Lines.{line_text-take}
-use Rattle.pam_codes.specs.Line.{line_text, piece_text}
-use Rattle.pam_codes.specs.declared.line.Piece.{Piece}
+use Rattle.pam_codes.specs.Line.{Piece, line_text, piece_text}
 use Rattle.pam_report.proofs.fault.push_pieces.Goals as goal
 
 more : (first : List ℕ) {old new : List ℕ} (pieces : List Piece) (i : ℕ) (d : Piece) → i < length pieces → old ≡ first ++ line_text (take i pieces)

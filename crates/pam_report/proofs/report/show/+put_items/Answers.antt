@@ -29,10 +29,7 @@ put_items-requires g t c κs within =
       omega (arith, shallow),
       (
         within,
-        (
-          omega (arith, c.in_ok-put_sub-in-Sub.ensures.as_before, c.loop-item.invariant.written.took.as_before),
-          subst (λ (x : Items). c.args.level + 1 + depth x ≤ 16) (sym inner) shallow,
-        ),
+        subst (λ (x : Items). c.args.level + 1 + depth x ≤ 16) (sym inner) shallow,
       ),
     )
 
