@@ -19,7 +19,6 @@ use Rattle.pam_tables.specs.declared.access.AccessAnswer.TheVariants as access
 use Rattle.pam_tables.specs.declared.error.Table.{Table}
 use Rattle.pam_tables.specs.declared.error.Table.TheVariants as tables
 use Rattle.pam_tables.specs.declared.error.TableFault.{TableFault}
-use Rattle.pam_times.specs.Login.{LoginText as TimeLogin}
 use Rattle.pam_times.specs.Reading.{rules_of}
 use Rattle.pam_times.specs.Times.{Rule, answer_of as time_answer_of}
 use Rattle.pam_times.specs.declared.error.TimeError.{TimeError}
@@ -95,12 +94,12 @@ time_status (times.Denied line) = Refusal
 abbrev pub time_report : TimeAnswer → Report
 time_report found = record { text = time_text found; status = time_status found }
 
-abbrev pub with_rules : TimeLogin → DateTime → Result (List Rule) TimeError → Answer
+abbrev pub with_rules : LoginText → DateTime → Result (List Rule) TimeError → Answer
 with_rules login moment (Err e) = Err (faults.Time e)
 with_rules login moment (Ok rules) = Ok (time_report (time_answer_of rules login moment))
 
 -- a fault of the moment comes before those of the table
-abbrev pub timed : TimeLogin → List ℕ → Result DateTime MomentError → Answer
+abbrev pub timed : LoginText → List ℕ → Result DateTime MomentError → Answer
 timed login bytes (Err e) = Err (faults.Moment e)
 timed login bytes (Ok moment) = with_rules login moment (rules_of bytes)
 
@@ -114,13 +113,6 @@ login_in service login = record { user = login.user.now; service = service; tty 
 abbrev pub login_at : List ℕ → Login → LoginText
 login_at service login = login_in (map to_ascii_lowercase service) login
 
--- the same, as time tables see it
-abbrev pub time_login_in : List ℕ → Login → TimeLogin
-time_login_in service login = record { user = login.user.now; service = service; tty = login.tty.now }
-
-abbrev pub time_login_at : List ℕ → Login → TimeLogin
-time_login_at service login = time_login_in (map to_ascii_lowercase service) login
-
 -- the answer to a task for a service, from these files and the tables of these inputs, and what the call writes
 abbrev pub AnswersFrom : {W : Type 0} → (W → Option (List ℕ)) → Out W → Out W → Result Status Fault → List ℕ → Task → Folder → Inputs → Type 0
 AnswersFrom contents old new result service (Show source kind) files inputs =
@@ -131,7 +123,7 @@ AnswersFrom contents old new result service (Access table groups login arguments
     Leaves contents old new result (looked_up (login_at service login) (map (λ a. a.items) arguments.items) inputs)
 AnswersFrom contents old new result service (Time table login moment) files inputs =
     (at : Result DateTime MomentError) × IsMoment moment at
-    × Leaves contents old new result (timed (time_login_at service login) (time_given inputs) at)
+    × Leaves contents old new result (timed (login_at service login) (time_given inputs) at)
 AnswersFrom contents old new result service (Paths source kind limit part login access time groups returns moment) files inputs =
     (at : Option (Result DateTime MomentError)) × IsGivenMoment moment at
     × LeavesSome contents old new result

@@ -9,7 +9,7 @@ use Rattle.pam_paths.specs.declared.cursor.CursorError.TheVariants as cursor
 use Rattle.pam_report.specs.declared.inputs.InputError.{InputError}
 use Rattle.pam_report.specs.declared.inputs.InputError.TheVariants as inputs
 use Rattle.pam_tables.specs.declared.error.Table.{Table}
-use Rattle.pam_tables.specs.declared.error.Table.TheVariants.{Access, Time, Group, Returns}
+use Rattle.pam_tables.specs.declared.error.Table.TheVariants.{Access, Group, Returns}
 use Rattle.pam_tables.specs.declared.error.TableFault.{TableFault}
 use Rattle.pam_tables.specs.declared.error.TableFault.TheVariants as table
 use Rattle.pam_times.specs.declared.error.TimeFault.{TimeFault}
@@ -89,9 +89,6 @@ table_row table.BadPermission = row (codes "TE2 BadPermission") 4
 table_row table.Netgroup = row (codes "TE3 Netgroup") 4
 table_row table.UserAtHost = row (codes "TE4 UserAtHost") 4
 table_row table.BadMask = row (codes "TE5 BadMask") 4
-table_row table.BadTimes = row (codes "TE6 BadTimes") 4
-table_row table.TwoWildcards = row (codes "TE7 TwoWildcards") 4
-table_row table.BadLogic = row (codes "TE8 BadLogic") 4
 table_row table.BadGroup = row (codes "TE9 BadGroup") 4
 table_row table.NulByte = row (codes "TE10 NulByte") 4
 table_row table.Memory = row (codes "TE11 Memory") 6
@@ -112,7 +109,6 @@ time_row time.TooLong = row (codes "TE12 TableTooLong") 4
 -- the name of a table, which is its place in a line
 abbrev pub table_name : Table → List ℕ
 table_name Access = codes "access"
-table_name Time = codes "time"
 table_name Group = codes "group"
 table_name Returns = codes "returns"
 

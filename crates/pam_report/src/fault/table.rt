@@ -131,9 +131,6 @@ pub(super) fn table_row(fault: TableFault) -> Row
         TableFault::Netgroup => Row::of("TE3 Netgroup", BAD_TABLE),
         TableFault::UserAtHost => Row::of("TE4 UserAtHost", BAD_TABLE),
         TableFault::BadMask => Row::of("TE5 BadMask", BAD_TABLE),
-        TableFault::BadTimes => Row::of("TE6 BadTimes", BAD_TABLE),
-        TableFault::TwoWildcards => Row::of("TE7 TwoWildcards", BAD_TABLE),
-        TableFault::BadLogic => Row::of("TE8 BadLogic", BAD_TABLE),
         TableFault::BadGroup => Row::of("TE9 BadGroup", BAD_TABLE),
         TableFault::NulByte => Row::of("TE10 NulByte", BAD_TABLE),
         TableFault::Memory => Row::of("TE11 Memory", NO_MEMORY),
@@ -165,7 +162,6 @@ pub(super) fn table_name(table: Table) -> &'static str
 {
     match table {
         Table::Access => "access",
-        Table::Time => "time",
         Table::Group => "group",
         Table::Returns => "returns",
     }

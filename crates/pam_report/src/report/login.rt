@@ -2,12 +2,10 @@
 
 ghost use Rattle.std.specs.Prelude.{◌≡◌, IfOk, map};
 ghost use Rattle.std.specs.Char.{to_ascii_lowercase};
-ghost use Rattle.pam_report.specs.Answer.{login_in, time_login_in};
+ghost use Rattle.pam_report.specs.Answer.{login_in};
 ghost use Rattle.pam_tables.specs.Login.{login_view};
-ghost use Rattle.pam_times.specs.Login.{login_view as time_login_view};
 
 use pam_tables::Login;
-use pam_times::Login as TimeLogin;
 use std::alloc::{AllocError, Global};
 
 /// Lowercases a service.
@@ -30,16 +28,5 @@ pub(super) fn login_to<'a>(service: &'a [u8], login: pam_words::Login<'a>) -> Lo
         service,
         tty: login.tty.as_bytes(),
         rhost: login.rhost.as_bytes(),
-    }
-}
-
-/// The same, as time tables see it.
-pub(super) fn time_login_to<'a>(service: &'a [u8], login: pam_words::Login<'a>) -> TimeLogin<'a>
-    ensures { time_login_view result ≡ time_login_in service.now login.entry }
-{
-    TimeLogin {
-        user: login.user.as_bytes(),
-        service,
-        tty: login.tty.as_bytes(),
     }
 }

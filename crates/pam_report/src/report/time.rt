@@ -4,7 +4,7 @@ ghost use Rattle.std.specs.Prelude.{◌≡◌, Ok, Result};
 ghost use Rattle.jiff.specs.Types.{DateTime as CivilTime};
 ghost use Rattle.pam_codes.specs.Out.{Writes};
 ghost use Rattle.pam_times.specs.Login.{login_view};
-ghost use Rattle.pam_report.specs.Answer.{FindsTime, time_login_at, time_status, timed, with_rules};
+ghost use Rattle.pam_report.specs.Answer.{FindsTime, login_at, time_status, timed, with_rules};
 ghost use Rattle.pam_report.specs.Leaves.{Leaves};
 ghost use Rattle.pam_report.specs.Moments.{IsGivenMoment, IsMoment};
 ghost use Rattle.pam_report.specs.Inputs.{time_given};
@@ -13,14 +13,13 @@ ghost use Rattle.pam_times.specs.Reading.{rules_of};
 
 use super::Status;
 use super::access::put_denied;
-use super::login::{lowered, time_login_to};
+use super::login::{lowered, login_to};
 use crate::fault::Fault;
 use crate::inputs::Inputs;
 use jiff::civil::DateTime;
 use pam_codes::{Device, Out};
-use pam_times::Login as TimeLogin;
-use pam_times::{MomentError, TimeAnswer, TimeTable, civil, moment};
-use pam_words::{Login, Moment};
+use pam_times::{Login, MomentError, TimeAnswer, TimeTable, civil, moment};
+use pam_words::Moment;
 use std::alloc::Global;
 use std::io::Write;
 
@@ -66,7 +65,7 @@ pub(super) fn given_moment(moment: Option<Moment<'_>>) -> Option<Result<DateTime
 /// Looks up a login at a moment in the time table.
 fn look_up(
     alloc: Global,
-    login: &TimeLogin<'_>,
+    login: &Login<'_>,
     moment: &DateTime,
     bytes: &[u8],
 ) -> Result<TimeAnswer, Fault>
@@ -87,7 +86,7 @@ fn write_answer<W: Write>(answer: TimeAnswer, out: &mut Out<W>) -> Result<(), De
 
 fn answer_login<W: Write>(
     alloc: Global,
-    login: &TimeLogin<'_>,
+    login: &Login<'_>,
     moment: &DateTime,
     bytes: &[u8],
     out: &mut Out<W>,
@@ -107,12 +106,12 @@ fn answer_login<W: Write>(
 pub(super) fn answer_time<W: Write>(
     alloc: Global,
     service: &str,
-    login: Login<'_>,
+    login: pam_words::Login<'_>,
     moment: Result<DateTime, MomentError>,
     inputs: &Inputs,
     out: &mut Out<W>,
 ) -> Result<Status, Fault>
-    ensures { Leaves W.contents out.old out.new result (timed (time_login_at service.now login.entry) (time_given inputs.now) moment) }
+    ensures { Leaves W.contents out.old out.new result (timed (login_at service.now login.entry) (time_given inputs.now) moment) }
 {
     let moment = match moment {
         Ok(moment) => moment,
@@ -121,7 +120,7 @@ pub(super) fn answer_time<W: Write>(
     match lowered(alloc, service) {
         Ok(service) => answer_login(
             alloc,
-            &time_login_to(&service, login),
+            &login_to(&service, login),
             &moment,
             inputs.time_table(),
             out,
