@@ -1,6 +1,5 @@
 //! A run of the program: reads the command line, answers on standard output, and reports faults on standard error.
 
-
 use crate::fault::{
     Fault, fault_status, fault_text, input_status, input_text, usage_status, usage_text,
 };
@@ -21,8 +20,7 @@ pub fn run<R: Files + AllocGlobal + Clone + Drop, W: Write, V: Write>(
     words: &[String],
     out: &mut Out<W>,
     err: &mut Out<V>,
-) -> u8
-{
+) -> u8 {
     match request(alloc, words) {
         Ok(request) => answer_request(rt, alloc, &request, out, err),
         Err(Usage::Help(text)) => help(alloc, &text, out, err),
@@ -54,8 +52,7 @@ fn answer_request<R: Files + AllocGlobal + Clone + Drop, W: Write, V: Write>(
     request: &Request<'_>,
     out: &mut Out<W>,
     err: &mut Out<V>,
-) -> u8
-{
+) -> u8 {
     match inputs_of(rt, alloc, request) {
         Ok(inputs) => report(alloc, request, &inputs, out, err),
         Err(error) => {
@@ -71,8 +68,7 @@ fn report<W: Write, V: Write>(
     inputs: &Inputs,
     out: &mut Out<W>,
     err: &mut Out<V>,
-) -> u8
-{
+) -> u8 {
     match answer(alloc, request, inputs, out) {
         Ok(status) => status.number(),
         Err(fault) => refuse_by(alloc, &fault, inputs.files(), err),

@@ -12,11 +12,11 @@ use crate::error::{Table, TableError, TableFault};
 use crate::groups::Groups;
 use crate::lines::{Lines, is_blank_text, source, trim};
 use crate::login::Origin;
-use pam_times::Login;
 use crate::options::AccessOptions;
 use crate::tokens::{check_tokens, has_token, list_matches};
 use crate::users::{UserMatcher, check_users};
 use pam_text::{ByteSet, Source, cut_among};
+use pam_times::Login;
 use std::alloc::Global;
 use std::marker::Model;
 

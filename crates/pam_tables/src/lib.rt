@@ -23,5 +23,7 @@ pub use error::{Table, TableError, TableFault};
 pub use groups::Groups;
 pub use lines::MAX_TABLE_BYTES;
 pub use options::AccessOptions;
-pub use pam_times::{Login, MomentError, TimeAnswer, TimeError, TimeFault, TimeTable, civil, moment};
+pub use pam_times::{
+    Login, MomentError, TimeAnswer, TimeError, TimeFault, TimeTable, civil, moment,
+};
 pub use returns::ReturnTable;

@@ -10,14 +10,12 @@ use std::test::Fail;
 
 const LINES: &[u8] = b"login auth 1 modules\n0 perm_denied 1=any\nend 1 paths\n";
 
-fn in_one_piece<W: Write>(out: &mut Out<W>) -> Result<(), Device>
-{
+fn in_one_piece<W: Write>(out: &mut Out<W>) -> Result<(), Device> {
     out.put(LINES)?;
     out.finish()
 }
 
-fn in_pieces<W: Write>(out: &mut Out<W>) -> Result<(), Device>
-{
+fn in_pieces<W: Write>(out: &mut Out<W>) -> Result<(), Device> {
     out.put(b"login auth ")?;
     out.put_number(1)?;
     out.put_line(&[

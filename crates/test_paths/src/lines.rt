@@ -8,8 +8,7 @@ use pam_paths::{Cursor, Path, PathStep};
 use std::alloc::Global;
 use std::io::Write;
 
-fn put_step<W: Write>(step: &PathStep, out: &mut Out<W>) -> Result<(), Device>
-{
+fn put_step<W: Write>(step: &PathStep, out: &mut Out<W>) -> Result<(), Device> {
     out.put_line(&[
         Piece::Bytes(b" "),
         Piece::Number(step.number() as u64),

@@ -13,7 +13,7 @@ ghost use Rattle.pam_times.specs.Reading.{rules_of};
 
 use super::Status;
 use super::access::put_denied;
-use super::login::{lowered, login_to};
+use super::login::{login_to, lowered};
 use crate::fault::Fault;
 use crate::inputs::Inputs;
 use jiff::civil::DateTime;
