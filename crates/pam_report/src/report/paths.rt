@@ -1,6 +1,6 @@
 //! The `paths` command: a page of the paths through a stack.
 
-ghost use Rattle.std.specs.Prelude.{◌≡◌, ◌++◌, IfOk, MatchResult, Err, Ok, max};
+ghost use Rattle.std.specs.Prelude.{◌≡◌, ◌++◌, IfOk, MatchResult, Err, Ok, codes, max};
 ghost use Rattle.jiff.specs.Types.{DateTime as CivilTime};
 ghost use Rattle.pam_codes.specs.Out.{Writes};
 ghost use Rattle.pam_conf.specs.Resolution.{resolved};
@@ -11,12 +11,13 @@ ghost use Rattle.pam_known.specs.Knowledge.{Agree};
 ghost use Rattle.pam_page.specs.Coming.{coming, side};
 ghost use Rattle.pam_page.specs.Page.{first_page, page_text};
 ghost use Rattle.pam_paths.specs.Known.{may_answer};
-ghost use Rattle.pam_paths.specs.Listing.{Allowance};
+ghost use Rattle.pam_paths.specs.Listing.{Allowance, IsListingAfter, IsListingBefore};
+ghost use Rattle.pam_paths.specs.Paths.{path_through};
 ghost use Rattle.pam_report.specs.Answer.{login_at};
 ghost use Rattle.pam_report.specs.Header.{header_text};
 ghost use Rattle.pam_report.specs.Leaves.{LeavesSome};
 ghost use Rattle.pam_report.specs.PageView.{page_view};
-ghost use Rattle.pam_report.specs.Paths.{IsPage, IsPageAt, IsPageOf, IsPart, IsStackPage, side_of};
+ghost use Rattle.pam_report.specs.Paths.{IsPage, IsPageAt, IsPageOf, IsPart, IsStackPage, IsTaken, side_of};
 ghost use Rattle.pam_tables.specs.Login.{login_view};
 
 use super::Status;
@@ -45,6 +46,51 @@ pub(super) struct PageRequest<'a> {
     pub part: Part<'a>,
 }
 
+/// Returns the paths after a cursor.
+// Apart, and never inlined: else the stack has room for the listings of all three calls, of 27 kB each.
+#[inline(never)]
+fn paths_after<'a>(
+    program: &'a Program,
+    known: &'a Known,
+    text: &str,
+) -> Result<Listing<'a, Known>, CursorError>
+    ensures part { (items : Items) → runs_of program.now ≡ runs_of_stack items → modules_of program.now ≡ module_count items
+        → let rest = IsListingAfter (may_answer known.now) (module_count items) (path_through items) in
+        MatchResult result (λ l. IsTaken rest items text.now (Ok (coming l))) (λ e. IsTaken rest items text.now (Err e)) }
+    ensures side { IfOk result (λ l. side l ≡ codes "after") }
+{
+    let cursor = match Cursor::read(text.as_bytes()) {
+        Ok(cursor) => cursor,
+        Err(error) => return Err(error),
+    };
+    match Explorer::after(program, known, &cursor) {
+        Ok(explorer) => Ok(Listing::Forward(explorer)),
+        Err(error) => Err(error),
+    }
+}
+
+/// Returns the paths before a cursor, the last one first.
+#[inline(never)]
+fn paths_before<'a>(
+    program: &'a Program,
+    known: &'a Known,
+    text: &str,
+) -> Result<Listing<'a, Known>, CursorError>
+    ensures part { (items : Items) → runs_of program.now ≡ runs_of_stack items → modules_of program.now ≡ module_count items
+        → let rest = IsListingBefore (may_answer known.now) (module_count items) (path_through items) in
+        MatchResult result (λ l. IsTaken rest items text.now (Ok (coming l))) (λ e. IsTaken rest items text.now (Err e)) }
+    ensures side { IfOk result (λ l. side l ≡ codes "before") }
+{
+    let cursor = match Cursor::read(text.as_bytes()) {
+        Ok(cursor) => cursor,
+        Err(error) => return Err(error),
+    };
+    match Explorer::before(program, known, &cursor) {
+        Ok(before) => Ok(Listing::Backward(before)),
+        Err(error) => Err(error),
+    }
+}
+
 /// Returns the part of the listing that a page is taken from.
 #[inline(never)]
 fn listing_of<'a>(
@@ -57,24 +103,10 @@ fn listing_of<'a>(
         (λ e. IsPart (may_answer known.now) items part.entry (Err e)) }
     ensures side { IfOk result (λ l. side l ≡ side_of part.entry) }
 {
-    let text = match part {
-        Part::Whole => return Ok(Listing::Forward(Explorer::start(program, known))),
-        Part::After(text) => text,
-        Part::Before(text) => text,
-    };
-    let cursor = match Cursor::read(text.as_bytes()) {
-        Ok(cursor) => cursor,
-        Err(error) => return Err(error),
-    };
-    if let Part::Before(_) = part {
-        return match Explorer::before(program, known, &cursor) {
-            Ok(before) => Ok(Listing::Backward(before)),
-            Err(error) => Err(error),
-        };
-    }
-    match Explorer::after(program, known, &cursor) {
-        Ok(explorer) => Ok(Listing::Forward(explorer)),
-        Err(error) => Err(error),
+    match part {
+        Part::Whole => Ok(Listing::Forward(Explorer::start(program, known))),
+        Part::After(text) => paths_after(program, known, text),
+        Part::Before(text) => paths_before(program, known, text),
     }
 }
 
@@ -109,15 +141,16 @@ fn answer_known<W: Write>(
         Ok(program) => program,
         Err(_) => return Err(Fault::Memory),
     };
-    let mut listing = match listing_of(&program, known, request.part) {
+    let mut listing = listing_of(&program, known, request.part);
+    let listing = match &mut listing {
         Ok(listing) => listing,
-        Err(error) => return Err(Fault::Cursor(error)),
+        Err(error) => return Err(Fault::Cursor(*error)),
     };
     let texts = match LineTexts::new(alloc) {
         Ok(texts) => texts,
         Err(_) => return Err(Fault::Memory),
     };
-    match write_page(request, stack.modules(), &mut listing, texts, out) {
+    match write_page(request, stack.modules(), listing, texts, out) {
         Ok(()) => Ok(Status::Success),
         Err(Device) => Err(Fault::Device),
     }
