@@ -105,7 +105,7 @@ fn inputs(alloc: Global, command: &Command) -> Result<Inputs, Fail> {
     }
     let mut files = Files::new(alloc, Form::Dir);
     put(alloc, &mut files, b"login", command.login)?;
-    if command.words[1] != "paths" {
+    if !command.words.contains(&"paths") {
         return Ok(Inputs::Stack(files));
     }
     Ok(Inputs::Paths {
