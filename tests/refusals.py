@@ -41,11 +41,14 @@ void *realloc(void *old, size_t size) { return is_refused() ? 0 : __libc_realloc
 
 
 def library():
-    """The built library, in the scratch folder."""
+    """The library, built in the scratch folder; None where there is no C compiler that can build it."""
+    if shutil.which(COMPILER) is None:
+        return None
     with open("refusing.c", "w") as file:
         file.write(LIBRARY)
-    subprocess.run([COMPILER, "-O1", "-fno-builtin", "-shared", "-fPIC", "-o", "refusing.so", "refusing.c"], check=True)
-    return os.path.abspath("refusing.so")
+    command = [COMPILER, "-O1", "-fno-builtin", "-shared", "-fPIC", "-o", "refusing.so", "refusing.c"]
+    built = subprocess.run(command, stdout=subprocess.DEVNULL, stderr=subprocess.DEVNULL)
+    return os.path.abspath("refusing.so") if built.returncode == 0 else None
 
 
 def judge(words, whole, got, number, later):
@@ -76,8 +79,8 @@ def in_turn(program, words, shared, later):
 
 def refused(program):
     """How many allocations were refused, or why none was."""
-    if shutil.which(COMPILER) is None:
-        return 0, "there is no C compiler, so no allocation was refused by itself"
-    program.hold(TREE)
     shared = library()
+    if shared is None:
+        return 0, "there is no C compiler that builds the library, so no allocation was refused by itself"
+    program.hold(TREE)
     return sum(in_turn(program, words, shared, later) for words in ASKED if "big" not in words for later in (0, 1))

@@ -227,15 +227,11 @@ def names(program):
 
 
 def many_entries(program):
-    """A folder of 100,000 entries; a file system may refuse more than 65,000 links to one file."""
+    """A folder of 100,000 entries."""
     os.mkdir("many")
     for number in range(100000):
-        name = "many/%d" % number
-        if number % 10000 == 0:
-            with open(name, "wb") as file:
-                file.write(STACK)
-        else:
-            os.link("many/%d" % (number - number % 10000), name)
+        with open("many/%d" % number, "wb") as file:
+            file.write(STACK)
     tree = {"many": {"77777": STACK}}
     for service in ("77777", "gone"):
         check_like(program, ["show", service, "auth", "--dir", "many"], tree)
