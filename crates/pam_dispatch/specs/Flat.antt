@@ -62,7 +62,7 @@ resume (Module here number control after ∷ rest) level skip entered s =
     if nat_lt level here then resume rest level skip entered s
     else if here == level && nat_lt 0 skip then resume rest level (skip - 1) entered s
     else asks
-    (record { module_number = number; control = control; state = s; entry = slice_index_or entered here start_state; behind = after })
+    (record { module_number = number; control = control; state = s; entry = slice_index_or entered here start_state; after = after })
     (λ o. resume rest here (after - o.left) (take (here + 1) entered) o.state)
 resume (Substack here ∷ rest) level skip entered s =
     if nat_lt level here then resume rest level skip entered s

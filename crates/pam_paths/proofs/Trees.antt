@@ -56,7 +56,7 @@ module _ (allows : Allowance) (n : ℕ) (runs : Runs) (items : Items) (is : runs
     );
   }
 
--- codes have the same standing among the paths through an open run and through its tree
+-- codes have the same verdict among the paths through an open run and through its tree
 module _ (n : ℕ) (runs : Runs) (items : Items) (is : runs ≡ runs_of_stack items) where
   key-tree : (answers : Assignment) → key (path_of runs answers) ≡ key (path_through items answers)
   key-tree answers = ap (λ (p : PathValue). key p) (path_of-tree runs items is answers)
@@ -95,8 +95,8 @@ module _ (n : ℕ) (runs : Runs) (items : Items) (is : runs ≡ runs_of_stack it
   refusal-tree codes TooShort h = (too_short-tree codes h.0, h.1)
   refusal-tree codes TooLong h = (too_long-tree codes h.0, h.1)
 
-  pub standing-tree : (codes : List ℕ) (r : Result (Unit {0}) CursorError)
+  pub verdict-tree : (codes : List ℕ) (r : Result (Unit {0}) CursorError)
       → MatchResult r (λ _. IsAccepted n (path_of runs) codes) (IsRefusal n (path_of runs) codes)
       → MatchResult r (λ _. IsAccepted n (path_through items) codes) (IsRefusal n (path_through items) codes)
-  standing-tree codes (Ok x) h = accepted-tree codes h
-  standing-tree codes (Err e) h = refusal-tree codes e h
+  verdict-tree codes (Ok x) h = accepted-tree codes h
+  verdict-tree codes (Err e) h = refusal-tree codes e h

@@ -59,7 +59,7 @@ impl<'a, K: Knowledge> Explorer<'a, K> {
         knowledge: &'a K,
         cursor: &Cursor,
     ) -> Result<Before<'a, K>, CursorError>
-        ensures standing { MatchResult result
+        ensures verdict { MatchResult result
             (λ _. IsAccepted (modules_of program.now) (path_of (runs_of program.now)) cursor.now)
             (IsRefusal (modules_of program.now) (path_of (runs_of program.now)) cursor.now) }
         ensures listing { IfOk result (λ b. IsListingBefore (K.allows knowledge.now) (modules_of program.now) (path_of (runs_of program.now))

@@ -138,7 +138,7 @@ pub(crate) fn frames_at<K: Knowledge>(
     work: &mut Work,
 ) -> Result<(), CursorError>
     requires none { frames.old.items ≡ [] }
-    ensures standing { MatchResult result
+    ensures verdict { MatchResult result
         (λ _. IsAccepted (modules_of program.now) (path_of (runs_of program.now)) cursor.now)
         (IsRefusal (modules_of program.now) (path_of (runs_of program.now)) cursor.now) }
     ensures tree { (items : Items) → runs_of program.now ≡ runs_of_stack items → MatchResult result
@@ -185,7 +185,7 @@ impl<'a, K: Knowledge> Explorer<'a, K> {
         knowledge: &'a K,
         cursor: &Cursor,
     ) -> Result<Explorer<'a, K>, CursorError>
-        ensures standing { MatchResult result
+        ensures verdict { MatchResult result
             (λ _. IsAccepted (modules_of program.now) (path_of (runs_of program.now)) cursor.now)
             (IsRefusal (modules_of program.now) (path_of (runs_of program.now)) cursor.now) }
         ensures listing { IfOk result (λ e. IsListingAfter (K.allows knowledge.now) (modules_of program.now) (path_of (runs_of program.now))
