@@ -60,7 +60,7 @@ depth-drop_suc (SubItem s ∷ xs) zero = omega arith
 depth-drop_suc (x ∷ xs) (suc i) = depth-drop_suc xs i
 
 -- after an item no more lists are open
-pub shallow-behind : (level i : ℕ) (xs : List Item) → level + depth (items_of (drop i xs)) ≤ 16 → level + depth (items_of (drop (i + 1) xs)) ≤ 16
-shallow-behind level i xs h =
+pub shallow-after : (level i : ℕ) (xs : List Item) → level + depth (items_of (drop i xs)) ≤ 16 → level + depth (items_of (drop (i + 1) xs)) ≤ 16
+shallow-after level i xs h =
     let next : i + 1 ≡ suc i = omega arith in
     rw next (omega (arith, h, depth-drop_suc xs i))

@@ -35,9 +35,9 @@ unfolding HeadBelow resume ask_at
 same_above [] level l1 k1 l2 k2 es fs s h a b p q t g = refl
 same_above (Module here m control after ∷ ts) level l1 k1 l2 k2 es fs s h a b p q t g =
     resume-module here m control after ts l1 k1 es s (omega arith) (p here h)
-    ∙ ap (λ (x : State). asks (record { module_number = m; control = control; state = s; entry = x; behind = after })
+    ∙ ap (λ (x : State). asks (record { module_number = m; control = control; state = s; entry = x; after = after })
     (λ o. resume ts here (after - o.left) (take (here + 1) es) o.state)) (g here h)
-    ∙ ap (λ (x : List State). asks (record { module_number = m; control = control; state = s; entry = get_or fs here start_state; behind = after })
+    ∙ ap (λ (x : List State). asks (record { module_number = m; control = control; state = s; entry = get_or fs here start_state; after = after })
     (λ o. resume ts here (after - o.left) x o.state)) (t here h)
     ∙ sym (resume-module here m control after ts l2 k2 fs s (omega arith) (q here h))
 same_above (Substack here ∷ ts) level l1 k1 l2 k2 es fs s h a b p q t g =
@@ -83,11 +83,11 @@ flat_runs (ThenModule m rest) level zero ts es s e h le len is =
     let next : Outcome → Runs = λ o. resume (flat_list level rest ++ ts) level (count rest - o.left) es o.state in
     resume-module level m.number m.control (count rest) (flat_list level rest ++ ts) level 0 es s (omega arith) (λ i z. omega arith)
     ∙ ap (λ (x : List State).
-    asks (record { module_number = m.number; control = m.control; state = s; entry = get_or es level start_state; behind = count rest })
+    asks (record { module_number = m.number; control = m.control; state = s; entry = get_or es level start_state; after = count rest })
     (λ o. resume (flat_list level rest ++ ts) level (count rest - o.left) x o.state))
     (take_all (level + 1) es (omega arith))
-    ∙ ap (λ (x : State). asks (record { module_number = m.number; control = m.control; state = s; entry = x; behind = count rest }) next) is
-    ∙ ap (λ (f : Outcome → Runs). asks (record { module_number = m.number; control = m.control; state = s; entry = e; behind = count rest }) f)
+    ∙ ap (λ (x : State). asks (record { module_number = m.number; control = m.control; state = s; entry = x; after = count rest }) next) is
+    ∙ ap (λ (f : Outcome → Runs). asks (record { module_number = m.number; control = m.control; state = s; entry = e; after = count rest }) f)
     (λ i o. flat_runs rest level (count rest - o.left) ts es o.state e h (omega arith) len is i)
 flat_runs (ThenSub sub inner rest) level zero ts es s e h le len is =
     let more : List State = take (level + 1) es ++ s ∷ [] in

@@ -104,6 +104,6 @@ left_of-fits Done code s after = unless_positive (accepted s.impression s.status
 left_of-fits (Jump items) code s after =
     cond_both (leb items after) (after - items) 0 (λ x. x ≤ after) (λ h. omega arith) (λ h. omega arith)
 
-pub left-fits : (ask : Ask) (code : ℕ) → (outcome_of ask code).left ≤ ask.behind
+pub left-fits : (ask : Ask) (code : ℕ) → (outcome_of ask code).left ≤ ask.after
 unfolding outcome_of
-left-fits ask code = left_of-fits (action_of ask.control code) code ask.state ask.behind
+left-fits ask code = left_of-fits (action_of ask.control code) code ask.state ask.after

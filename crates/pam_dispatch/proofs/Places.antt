@@ -97,7 +97,7 @@ module _ (program : List Entry) (place : Place) (valid : IsPlaceOf program place
         control = control;
         state = place.state;
         entry = get_or place.entered.states l start_state;
-        behind = after;
+        after = after;
       }
 
       outcome_is : record { state = state; left = left } ≡ outcome_of asked code

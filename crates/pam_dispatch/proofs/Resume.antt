@@ -51,7 +51,7 @@ resume-sub here rest level skip es s l h =
 -- a module is asked
 unfoldable pub ask_at : ℕ → ℕ → List Action → ℕ → List Entry → List State → State → Runs
 ask_at here m control after rest es s = asks
-    (record { module_number = m; control = control; state = s; entry = get_or es here start_state; behind = after })
+    (record { module_number = m; control = control; state = s; entry = get_or es here start_state; after = after })
     (λ o. resume rest here (after - o.left) (take (here + 1) es) o.state)
 
 pub asked_module-ask_at : (here m : ℕ) (control : List Action) (after : ℕ) (rest : List Entry) (es : List State) (s : State) →
@@ -74,9 +74,9 @@ unfolding ask_at
 ask_at-take here m control after rest d es s h =
     let e : get_or (take d es) here start_state ≡ get_or es here start_state = get_or-take d es here start_state h in
     let t : take (here + 1) (take d es) ≡ take (here + 1) es = take-take (here + 1) d es (omega arith) in
-    ap (λ (x : State). asks (record { module_number = m; control = control; state = s; entry = x; behind = after })
+    ap (λ (x : State). asks (record { module_number = m; control = control; state = s; entry = x; after = after })
     (λ o. resume rest here (after - o.left) (take (here + 1) (take d es)) o.state)) e
-    ∙ ap (λ (x : List State). asks (record { module_number = m; control = control; state = s; entry = get_or es here start_state; behind = after })
+    ∙ ap (λ (x : List State). asks (record { module_number = m; control = control; state = s; entry = get_or es here start_state; after = after })
     (λ o. resume rest here (after - o.left) x o.state)) t
 
 -- the same, at a place of a list

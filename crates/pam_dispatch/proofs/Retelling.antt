@@ -53,8 +53,8 @@ pub outcome-retold : (ask : Ask) (known code : ℕ) → action_of ask.control kn
     outcome_of ask code ≡ retold (action_of ask.control code) ask.state (outcome_of ask known) code
 unfolding outcome_of
 outcome-retold ask known code same =
-    let made : Action → Outcome = λ a. outcome (act a known ask.state ask.entry ask.behind) (left_of a known ask.state ask.behind) in
-    by_action (action_of ask.control code) ask.state.impression ask.state.status ask.entry ask.behind known code
+    let made : Action → Outcome = λ a. outcome (act a known ask.state ask.entry ask.after) (left_of a known ask.state ask.after) in
+    by_action (action_of ask.control code) ask.state.impression ask.state.status ask.entry ask.after known code
     ∙ ap (λ (a : Action). retold (action_of ask.control code) ask.state (made a) code) (sym same)
 
 pub outcome-shared : (ask : Ask) (one other : ℕ) → action_of ask.control one ≡ action_of ask.control other →
@@ -130,8 +130,8 @@ unfolding outcome_of
 outcomes-differ ask one other at_one at_other same =
     let a = action_of ask.control one in
     let b = action_of ask.control other in
-    let states = sym (told a ask.state.impression ask.state.status ask.entry ask.behind one at_one)
+    let states = sym (told a ask.state.impression ask.state.status ask.entry ask.after one at_one)
     ∙ ap (λ (o : Outcome). o.state) same
-    ∙ told b ask.state.impression ask.state.status ask.entry ask.behind other at_other in
+    ∙ told b ask.state.impression ask.state.status ask.entry ask.after other at_other in
     let parts = same_parts (fails a) (fails b) (told_status a one) (told_status b other) states in
     same_status (fails a) (fails b) one other parts.0 parts.1

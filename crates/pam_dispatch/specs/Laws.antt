@@ -43,7 +43,7 @@ AskedOfModule =
 
 -- an outcome leaves no more items than there are, and the last `left` items of a list are that many
 abbrev pub LeftFits : Type 0
-LeftFits = (ask : Ask) (code : ℕ) → (outcome_of ask code).left ≤ ask.behind
+LeftFits = (ask : Ask) (code : ℕ) → (outcome_of ask code).left ≤ ask.after
 
 abbrev pub LastItemsCount : Type 0
 LastItemsCount = (left : ℕ) (items : Items) → left ≤ count items → count (last_items left items) ≡ left

@@ -20,13 +20,13 @@ pub record Ask : Type 0 where
   pub control : List Action
   pub state : State
   pub entry : State
-  pub behind : ℕ
+  pub after : ℕ
 
 -- the outcome of an answer: the new state, and the number of items left in the list
 unfoldable pub outcome_of : Ask → ℕ → Outcome
 outcome_of ask code = record {
-  state = act (action_of ask.control code) code ask.state ask.entry ask.behind;
-  left = left_of (action_of ask.control code) code ask.state ask.behind;
+  state = act (action_of ask.control code) code ask.state ask.entry ask.after;
+  left = left_of (action_of ask.control code) code ask.state ask.after;
 }
 
 -- an open run: it ends in a state, or asks a module and continues by the outcome
@@ -57,7 +57,7 @@ asked_module (asks ask next) = Some ask.module_number
 
 -- the module as it is asked; without meaning for a run that ends
 abbrev pub next_ask : Runs → Ask
-next_ask (ends s) = record { module_number = 0; control = []; state = s; entry = s; behind = 0 }
+next_ask (ends s) = record { module_number = 0; control = []; state = s; entry = s; after = 0 }
 next_ask (asks ask next) = ask
 
 -- the current state of a run

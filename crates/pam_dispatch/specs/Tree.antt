@@ -33,7 +33,7 @@ last_items left items = items_after (count items - left) items
 
 -- a module as it is asked, before the rest of its list, in the state `s`, in a list entered in the state `entry`
 abbrev pub ask_of : ModuleText → Items → State → State → Ask
-ask_of m rest s entry = record { module_number = m.number; control = m.control; state = s; entry = entry; behind = count rest }
+ask_of m rest s entry = record { module_number = m.number; control = m.control; state = s; entry = entry; after = count rest }
 
 -- the state in which a run of the items after the first `skip` ends
 unfoldable pub run_after : ℕ → Items → State → State → Assignment → State

@@ -17,6 +17,6 @@ pub mod Parts
 pub mod Retracing
 pub mod Sets
 pub mod Sharing
-pub mod Standings
+pub mod Verdicts
 pub mod Trees
 pub mod WrittenCursors

@@ -296,7 +296,7 @@ module _ (ask : Ask) where
 
     -- a stack that has failed, if each action keeps that
     module _ (negative : ask.state.impression ≡ Negative) (keeps : All (λ p. IsTrue (keeps_failure p.action)) parts) where
-      same_for : (d : ℕ) → d < 31 → outcome_of ask d ≡ record { state = ask.state; left = ask.behind }
+      same_for : (d : ℕ) → d < 31 → outcome_of ask d ≡ record { state = ask.state; left = ask.after }
       same_for d low =
           let w = is.each_code d low in
           let p : Part = w.1 in

@@ -69,24 +69,24 @@ alike_codes ask a b c d k l h i e =
 
 -- the outcome of an action for a code
 outcome_by : Action → ℕ → State → State → ℕ → Outcome
-outcome_by a c s entry behind = record { state = act a c s entry behind; left = left_of a c s behind }
+outcome_by a c s entry after = record { state = act a c s entry after; left = left_of a c s after }
 
-failure-kept : (a : Action) (c status : ℕ) (entry : State) (behind : ℕ) → keeps_failure a ≡ true →
-    outcome_by a c (state_with Negative status) entry behind ≡ record { state = state_with Negative status; left = behind }
+failure-kept : (a : Action) (c status : ℕ) (entry : State) (after : ℕ) → keeps_failure a ≡ true →
+    outcome_by a c (state_with Negative status) entry after ≡ record { state = state_with Negative status; left = after }
 unfolding outcome_by
-failure-kept Ignore c status entry behind k = refl
-failure-kept Ok c status entry behind k = refl
-failure-kept Done c status entry behind k = refl
-failure-kept Bad c status entry behind k = refl
-failure-kept Die c status entry behind k = absurd (false≢true k)
-failure-kept Reset c status entry behind k = absurd (false≢true k)
-failure-kept (Jump items) c status entry behind k = absurd (false≢true k)
+failure-kept Ignore c status entry after k = refl
+failure-kept Ok c status entry after k = refl
+failure-kept Done c status entry after k = refl
+failure-kept Bad c status entry after k = refl
+failure-kept Die c status entry after k = absurd (false≢true k)
+failure-kept Reset c status entry after k = absurd (false≢true k)
+failure-kept (Jump items) c status entry after k = absurd (false≢true k)
 
 -- if the stack has failed, a code whose action keeps that leaves the run as it is
 pub failed_outcome : (ask : Ask) (a : Action) (c : ℕ) → slice_get ask.control c ≡ Some a → ask.state.impression ≡ Negative → keeps_failure a ≡ true →
-    outcome_of ask c ≡ record { state = ask.state; left = ask.behind }
+    outcome_of ask c ≡ record { state = ask.state; left = ask.after }
 unfolding outcome_of outcome_by
 failed_outcome ask a c h negative k =
-    ap (λ (x : Action). outcome_by x c ask.state ask.entry ask.behind) (action_at ask c a h)
-    ∙ subst (λ (i : Impression). outcome_by a c (state_with i ask.state.status) ask.entry ask.behind
-    ≡ record { state = state_with i ask.state.status; left = ask.behind }) (sym negative) (failure-kept a c ask.state.status ask.entry ask.behind k)
+    ap (λ (x : Action). outcome_by x c ask.state ask.entry ask.after) (action_at ask c a h)
+    ∙ subst (λ (i : Impression). outcome_by a c (state_with i ask.state.status) ask.entry ask.after
+    ≡ record { state = state_with i ask.state.status; left = ask.after }) (sym negative) (failure-kept a c ask.state.status ask.entry ask.after k)

@@ -15,8 +15,8 @@ use Rattle.pam_paths.specs.declared.direction.Direction.TheVariants.{Forward, Ba
 use Rattle.pam_paths.specs.Computed.{after_step, branches, is_offered, listing}
 use Rattle.pam_paths.specs.Frames.{part}
 use Rattle.pam_paths.specs.Listing.{Allowance, IsListing, IsListingAfter}
-use Rattle.pam_paths.specs.Cursor.{Standing, accepted, not_least, too_long, too_short}
-use Rattle.pam_paths.specs.Retrace.{further, standing_of}
+use Rattle.pam_paths.specs.Cursor.{Verdict, accepted, not_least, too_long, too_short}
+use Rattle.pam_paths.specs.Retrace.{further, verdict_of}
 use Rattle.pam_paths.specs.Pages.{after}
 use Rattle.pam_paths.proofs.Keys.{before-less, before-more, before-same, Precedes-from, Precedes-to}
 use Rattle.pam_paths.proofs.Listings.{PrecedesAll-at, PrecedesAll-from, offered_least, rising-same}
@@ -104,30 +104,30 @@ module _ (allows : Allowance) (ask : Ask) (below : Outcome → List PathValue) (
       ∙ ap (λ (x : List PathValue). filter test (branches allows ask below (range_with_len 0 c)) ++ x)
       (filter-append test (branches allows ask below (range_with_len c 1)) (branches allows ask below (range_with_len (c + 1) (31 - (c + 1)))))
 
-refused : (s : Standing) (j : ℕ) → s ≡ not_least j → s ≡ accepted → ⊥
+refused : (s : Verdict) (j : ℕ) → s ≡ not_least j → s ≡ accepted → ⊥
 refused accepted j e f = let x : ⊥ = cc in x
 refused (not_least i) j e f = let x : ⊥ = cc in x
 refused too_short j e f = let x : ⊥ = cc in x
 refused too_long j e f = let x : ⊥ = cc in x
 
-accepted-back : (s : Standing) → further 1 s ≡ accepted → s ≡ accepted
+accepted-back : (s : Verdict) → further 1 s ≡ accepted → s ≡ accepted
 accepted-back accepted e = refl
 accepted-back (not_least j) e = absurd (let x : ⊥ = cc in x)
 accepted-back too_short e = absurd (let x : ⊥ = cc in x)
 accepted-back too_long e = absurd (let x : ⊥ = cc in x)
 
 -- an accepted key begins with the least code of a class, and continues as an accepted key
-accepted-on : (ask : Ask) (next : Outcome → Runs) (c : ℕ) (k : List ℕ) → standing_of (asks ask next) (c ∷ k) ≡ accepted →
-    (least (class_of ask c) ≡ c) × (standing_of (next (outcome_of ask c)) k ≡ accepted)
-unfolding standing_of
+accepted-on : (ask : Ask) (next : Outcome → Runs) (c : ℕ) (k : List ℕ) → verdict_of (asks ask next) (c ∷ k) ≡ accepted →
+    (least (class_of ask c) ≡ c) × (verdict_of (next (outcome_of ask c)) k ≡ accepted)
+unfolding verdict_of
 accepted-on ask next c k e =
     elim (cases_Bool (least (class_of ask c) == c)) [
       | inl t ↦ (
         eqb-true _ _ t,
-        accepted-back (standing_of (next (outcome_of ask c)) k)
-            (sym (cond-true (least (class_of ask c) == c) (further 1 (standing_of (next (outcome_of ask c)) k)) (not_least 1) t) ∙ e),
+        accepted-back (verdict_of (next (outcome_of ask c)) k)
+            (sym (cond-true (least (class_of ask c) == c) (further 1 (verdict_of (next (outcome_of ask c)) k)) (not_least 1) t) ∙ e),
       )
-      | inr f ↦ absurd (refused _ 1 (cond-false (least (class_of ask c) == c) (further 1 (standing_of (next (outcome_of ask c)) k)) (not_least 1) f) e)
+      | inr f ↦ absurd (refused _ 1 (cond-false (least (class_of ask c) == c) (further 1 (verdict_of (next (outcome_of ask c)) k)) (not_least 1) f) e)
     ]
 
 pub head-low : (ask : Ask) (c : ℕ) (class : List ℕ) → class ≡ class_of ask c → least class ≡ c → c < 31
@@ -138,9 +138,9 @@ head-low ask c (d ∷ ds) e h =
     omega (arith, w.0, h)
 
 -- the computed part of an accepted key is a part of the listing
-pub part-after : (allows : Allowance) (runs : Runs) (k : List ℕ) → standing_of runs k ≡ accepted →
+pub part-after : (allows : Allowance) (runs : Runs) (k : List ℕ) → verdict_of runs k ≡ accepted →
     part Forward allows runs k ≡ filter (λ p. precedes k (key p)) (listing allows runs)
-unfolding part listing standing_of precedes key_of all_codes
+unfolding part listing verdict_of precedes key_of all_codes
 part-after allows (ends s) [] e = refl
 part-after allows (ends s) (c ∷ k) e = absurd (let x : ⊥ = cc in x)
 part-after allows (asks ask next) [] e = absurd (let x : ⊥ = cc in x)
@@ -171,9 +171,9 @@ reverse-cond : (b : Bool) (xs : List PathValue) → reverse (cond b xs []) ≡ c
 reverse-cond true xs = refl
 reverse-cond false xs = refl
 
-pub part-before : (allows : Allowance) (runs : Runs) (k : List ℕ) → standing_of runs k ≡ accepted →
+pub part-before : (allows : Allowance) (runs : Runs) (k : List ℕ) → verdict_of runs k ≡ accepted →
     part Backward allows runs k ≡ reverse (filter (λ p. precedes (key p) k) (listing allows runs))
-unfolding part listing standing_of precedes key_of all_codes
+unfolding part listing verdict_of precedes key_of all_codes
 part-before allows (ends s) [] e = refl
 part-before allows (ends s) (c ∷ k) e = absurd (let x : ⊥ = cc in x)
 part-before allows (asks ask next) [] e = absurd (let x : ⊥ = cc in x)

@@ -15,35 +15,35 @@ use Rattle.pam_paths.specs.Directions.{past}
 use Rattle.pam_paths.specs.Frames.{AreFrames, IsFrame, ahead, ahead_of, branches_in, part, step_in, under}
 use Rattle.pam_paths.specs.Listing.{Allowance}
 use Rattle.pam_paths.specs.Paths.{PathValue, StepValue, step_of}
-use Rattle.pam_paths.specs.Retrace.{further, standing_of}
+use Rattle.pam_paths.specs.Retrace.{further, verdict_of}
 use Rattle.pam_paths.proofs.FrameLists.{ahead-push, pushed, under-append, under-nil, under-push}
-use Rattle.pam_paths.proofs.Standings.{standing-head, standing-other}
+use Rattle.pam_paths.proofs.Verdicts.{verdict-head, verdict-other}
 
 -- at a module, by the first code that is left
-pub standing-asked : (r q : Runs) (m c : ℕ) (k : List ℕ) → asked_module r ≡ Some m → least (class_of (next_ask r) c) ≡ c → q ≡ after_answer r c →
-    standing_of r (c ∷ k) ≡ further 1 (standing_of q k)
-standing-asked (ends s) q m c k e head at = absurd (let x : ⊥ = cc in x)
-standing-asked (asks ask next) q m c k e head at =
-    standing-head ask next c k head ∙ ap (λ (x : Runs). further 1 (standing_of x k)) (sym at)
+pub verdict-asked : (r q : Runs) (m c : ℕ) (k : List ℕ) → asked_module r ≡ Some m → least (class_of (next_ask r) c) ≡ c → q ≡ after_answer r c →
+    verdict_of r (c ∷ k) ≡ further 1 (verdict_of q k)
+verdict-asked (ends s) q m c k e head at = absurd (let x : ⊥ = cc in x)
+verdict-asked (asks ask next) q m c k e head at =
+    verdict-head ask next c k head ∙ ap (λ (x : Runs). further 1 (verdict_of x k)) (sym at)
 
-pub standing-refused : (r : Runs) (m c : ℕ) (k : List ℕ) → asked_module r ≡ Some m → least (class_of (next_ask r) c) ≢ c → standing_of r (c ∷ k) ≡ not_least 1
-standing-refused (ends s) m c k e other = absurd (let x : ⊥ = cc in x)
-standing-refused (asks ask next) m c k e other = standing-other ask next c k other
+pub verdict-refused : (r : Runs) (m c : ℕ) (k : List ℕ) → asked_module r ≡ Some m → least (class_of (next_ask r) c) ≢ c → verdict_of r (c ∷ k) ≡ not_least 1
+verdict-refused (ends s) m c k e other = absurd (let x : ⊥ = cc in x)
+verdict-refused (asks ask next) m c k e other = verdict-other ask next c k other
 
-pub standing-short : (r : Runs) (m : ℕ) → asked_module r ≡ Some m → standing_of r [] ≡ too_short
-unfolding standing_of
-standing-short (ends s) m e = absurd (let x : ⊥ = cc in x)
-standing-short (asks ask next) m e = refl
+pub verdict-short : (r : Runs) (m : ℕ) → asked_module r ≡ Some m → verdict_of r [] ≡ too_short
+unfolding verdict_of
+verdict-short (ends s) m e = absurd (let x : ⊥ = cc in x)
+verdict-short (asks ask next) m e = refl
 
-pub standing-long : (r : Runs) (c : ℕ) (k : List ℕ) → asked_module r ≡ None → standing_of r (c ∷ k) ≡ too_long
-unfolding standing_of
-standing-long (ends s) c k e = refl
-standing-long (asks ask next) c k e = absurd (let x : ⊥ = cc in x)
+pub verdict-long : (r : Runs) (c : ℕ) (k : List ℕ) → asked_module r ≡ None → verdict_of r (c ∷ k) ≡ too_long
+unfolding verdict_of
+verdict-long (ends s) c k e = refl
+verdict-long (asks ask next) c k e = absurd (let x : ⊥ = cc in x)
 
-pub standing-end : (r : Runs) → asked_module r ≡ None → standing_of r [] ≡ accepted
-unfolding standing_of
-standing-end (ends s) e = refl
-standing-end (asks ask next) e = absurd (let x : ⊥ = cc in x)
+pub verdict-end : (r : Runs) → asked_module r ≡ None → verdict_of r [] ≡ accepted
+unfolding verdict_of
+verdict-end (ends s) e = refl
+verdict-end (asks ask next) e = absurd (let x : ⊥ = cc in x)
 
 pub part-end : (d : Direction) (allows : Allowance) (r : Runs) (k : List ℕ) → asked_module r ≡ None → part d allows r k ≡ []
 unfolding part

@@ -1,4 +1,4 @@
--- The standing of codes among the paths of a stack, whatever is known of the answers: pam.conf(5), DESCRIPTION.
+-- The verdict on codes among the paths of a stack, whatever is known of the answers: pam.conf(5), DESCRIPTION.
 use Rattle.std.specs.Prelude.{◌≡◌, ◌≢◌, ℕ, ◌+◌, List, ◌∷◌, ◌++◌, length, Option, None, Some, IfSome}
 use Rattle.pam_dispatch.specs.Runs.{Assignment}
 use Rattle.pam_paths.specs.declared.cursor.CursorError.{CursorError}
@@ -37,27 +37,27 @@ abbrev pub IsTooLong : ℕ → (Assignment → PathValue) → List ℕ → Type 
 IsTooLong n path_by codes =
     (answers : Assignment) × AreCodes n answers × (code : ℕ) × (more : List ℕ) × (codes ≡ key (path_by answers) ++ code ∷ more)
 
--- the four standings of codes among the paths
-pub data Standing : Type 0 where
-  accepted : Standing
-  not_least : ℕ → Standing
-  too_short : Standing
-  too_long : Standing
+-- the four verdicts on codes among the paths
+pub data Verdict : Type 0 where
+  accepted : Verdict
+  not_least : ℕ → Verdict
+  too_short : Verdict
+  too_long : Verdict
 
--- codes have a standing among the paths
-abbrev pub HasStanding : ℕ → (Assignment → PathValue) → List ℕ → Standing → Type 0
-HasStanding n path_by codes accepted = IsAccepted n path_by codes
-HasStanding n path_by codes (not_least place) = IsNotLeast n path_by codes place
-HasStanding n path_by codes too_short = IsTooShort n path_by codes
-HasStanding n path_by codes too_long = IsTooLong n path_by codes
+-- codes have a verdict among the paths
+abbrev pub HasVerdict : ℕ → (Assignment → PathValue) → List ℕ → Verdict → Type 0
+HasVerdict n path_by codes accepted = IsAccepted n path_by codes
+HasVerdict n path_by codes (not_least place) = IsNotLeast n path_by codes place
+HasVerdict n path_by codes too_short = IsTooShort n path_by codes
+HasVerdict n path_by codes too_long = IsTooLong n path_by codes
 
--- the standing that an error reports; a syntax error reports none
-abbrev pub standing_told : CursorError → Option Standing
-standing_told Syntax = None
-standing_told (NotLeast place) = Some (not_least place)
-standing_told TooShort = Some too_short
-standing_told TooLong = Some too_long
+-- the verdict that an error reports; a syntax error reports none
+abbrev pub verdict_told : CursorError → Option Verdict
+verdict_told Syntax = None
+verdict_told (NotLeast place) = Some (not_least place)
+verdict_told TooShort = Some too_short
+verdict_told TooLong = Some too_long
 
--- an error refuses a cursor if it reports the standing of the cursor
+-- an error refuses a cursor if it reports the verdict on the cursor
 abbrev pub IsRefusal : ℕ → (Assignment → PathValue) → List ℕ → CursorError → Type 0
-IsRefusal n path_by codes error = IfSome (standing_told error) (HasStanding n path_by codes) × (standing_told error ≢ None)
+IsRefusal n path_by codes error = IfSome (verdict_told error) (HasVerdict n path_by codes) × (verdict_told error ≢ None)

@@ -7,7 +7,7 @@ use Rattle.pam_dispatch.specs.Tree.{runs_of_stack}
 use Rattle.pam_paths.specs.Classes.{Member}
 use Rattle.pam_paths.specs.Paths.{Agrees, PathValue, key, path_of, path_through}
 use Rattle.pam_paths.specs.Listing.{Allowance, IsAllowed, IsLawful, IsListing, IsListingAfter, IsListingBefore, anything, can_follow}
-use Rattle.pam_paths.specs.Cursor.{Standing, HasStanding}
+use Rattle.pam_paths.specs.Cursor.{Verdict, HasVerdict}
 use Rattle.pam_paths.specs.CursorText.{IsCursor, cursor_text}
 use Rattle.pam_paths.specs.Pages.{ArePrefix, after, before, pages}
 
@@ -42,12 +42,12 @@ Narrowed =
 abbrev pub CursorTextIsOne : Type 0
 CursorTextIsOne = (xs ys : List ℕ) → IsCursor xs → IsCursor ys → cursor_text xs ≡ cursor_text ys → xs ≡ ys
 
--- codes have exactly one standing
-abbrev pub OneStanding : Type 0
-OneStanding =
+-- codes have exactly one verdict
+abbrev pub OneVerdict : Type 0
+OneVerdict =
     (n : ℕ) (runs : Runs) (codes : List ℕ) → AsksRise 0 n runs → All (λ code. code < 31) codes →
-    (standing : Standing) × HasStanding n (path_of runs) codes standing
-    × ((other : Standing) → HasStanding n (path_of runs) codes other → other ≡ standing)
+    (verdict : Verdict) × HasVerdict n (path_of runs) codes verdict
+    × ((other : Verdict) → HasVerdict n (path_of runs) codes other → other ≡ verdict)
 
 -- the paths after a cursor, and those before it, are parts of the listing
 abbrev pub PartAfter : Type 0

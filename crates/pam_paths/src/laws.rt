@@ -1,6 +1,6 @@
 //! Laws of the definitions that the contracts cite: each is the contract of an empty function.
 
-ghost use Rattle.pam_paths.specs.Laws.{CursorTextIsOne, Narrowed, OneListing, OnePath, OneStanding, PathOfStack};
+ghost use Rattle.pam_paths.specs.Laws.{CursorTextIsOne, Narrowed, OneListing, OnePath, OneVerdict, PathOfStack};
 ghost use Rattle.pam_paths.specs.Laws.{EndsMeet, PagesJoin, PagesJoinBackwards, PartAfter, PartBefore};
 
 /// The paths through the open run of a stack are those through its tree.
@@ -29,8 +29,8 @@ pub fn cursor_text_is_one()
 {}
 
 /// A list of codes is a cursor of a stack, or is refused as a cursor, in exactly one of four ways.
-pub fn standing()
-    ensures { OneStanding }
+pub fn verdict()
+    ensures { OneVerdict }
 {}
 
 /// The pages of a listing, each begun at the cursor of the one before, are a prefix of it, and all of it if the last

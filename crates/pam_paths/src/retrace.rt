@@ -7,10 +7,10 @@ ghost use Rattle.pam_dispatch.specs.Flat.{IsPlaceOf, modules_of, rest_of, runs_o
 ghost use Rattle.pam_dispatch.specs.Runs.{AsksRise, after_answer, asked_module, next_ask};
 ghost use Rattle.pam_paths.specs.Classes.{class_of, least};
 ghost use Rattle.pam_paths.specs.Computed.{is_offered};
-ghost use Rattle.pam_paths.specs.Cursor.{accepted, standing_told};
+ghost use Rattle.pam_paths.specs.Cursor.{accepted, verdict_told};
 ghost use Rattle.pam_paths.specs.Frames.{AreFrames, IsFrame, ahead, part, step_in};
 ghost use Rattle.pam_paths.specs.Paths.{step_of};
-ghost use Rattle.pam_paths.specs.Retrace.{standing_of};
+ghost use Rattle.pam_paths.specs.Retrace.{verdict_of};
 
 use crate::cursor::{CursorError, code_numbered, least_number};
 use crate::direction::Direction;
@@ -91,8 +91,8 @@ pub(crate) fn retrace<K: Knowledge>(
 ) -> Result<(), CursorError>
     requires none { frames.old.items ≡ [] }
     requires codes { All (λ code. code < 31) codes.now }
-    ensures standing { MatchResult result (λ _. standing_of (runs_of program.now) codes.now ≡ accepted)
-        (λ e. standing_told e ≡ Some (standing_of (runs_of program.now) codes.now)) }
+    ensures verdict { MatchResult result (λ _. verdict_of (runs_of program.now) codes.now ≡ accepted)
+        (λ e. verdict_told e ≡ Some (verdict_of (runs_of program.now) codes.now)) }
     ensures few { modules_of program.now ≤ MAX_MODULES }
     ensures rise { AsksRise 0 (modules_of program.now) (runs_of program.now) }
     ensures frames { OnOk result (AreFrames (K.allows knowledge.now) program.now 0 frames.new.items) }

@@ -1,7 +1,7 @@
 use Rattle.std.proofs.Common.{◌≡◌, ◌+◌, ◌-◌, length, ap, ◌∙◌, sym, arith}
 use Rattle.pam_conf.specs.Stack.{SubList}
 use Rattle.pam_conf.specs.ItemsOf.{items_of}
-use Rattle.pam_dispatch.proofs.FlatLists.{flat_list-module, flat_list-sub, flat_list-end, shallow-behind}
+use Rattle.pam_dispatch.proofs.FlatLists.{flat_list-module, flat_list-sub, flat_list-end, shallow-after}
 use Rattle.pam_dispatch.proofs.flatten.+flatten.Goals.{in-Module+in_ok-push-in-Module, in-Sub+in_ok-push-in-Sub+in_ok-flatten-in-Sub}
 use Rattle.pam_dispatch.proofs.flatten.+flatten.Goals as goal
 
@@ -11,7 +11,7 @@ loop-item-preserved t c =
     let index = c.loop-item.item-index in
     let items = c.args.items.now in
     let counted : c.loop-item.items_after - 1 + (index + 1) ≡ length items = omega (arith, c.loop-item.invariant.1, c.loop-item-test.true) in
-    let shallow = shallow-behind level index items c.loop-item.invariant.2 in
+    let shallow = shallow-after level index items c.loop-item.invariant.2 in
     elim c.match-item.branch [
       | in-Module+in_ok-push-in-Module w ↦ (
         let entries = c.loop-item.entries.items in

@@ -4,13 +4,13 @@ use Rattle.pam_dispatch.specs.declared.place.Place.{Place}
 use Rattle.pam_dispatch.specs.Flat.{modules_of, rest_of, runs_of}
 use Rattle.pam_dispatch.specs.Runs.{AsksRise, Runs}
 use Rattle.pam_paths.specs.declared.frames.Frame.{Frame}
-use Rattle.pam_paths.specs.Retrace.{further, standing_of}
+use Rattle.pam_paths.specs.Retrace.{further, verdict_of}
 use Rattle.pam_paths.specs.declared.direction.Direction.{Direction}
 use Rattle.pam_paths.specs.Frames.{AreFrames, ahead, part, under}
 use Rattle.pam_paths.proofs.FrameLists.{rise_after, AsksRise-lower}
-use Rattle.pam_paths.proofs.Standings.{further-more, further-none}
-use Rattle.pam_paths.proofs.Retracing.{first_frames, first_part, kept-each, kept-frames, kept-many, left-cons, nothing_left, part-kept, standing-asked}
-use Rattle.pam_paths.proofs.Retracing.{standing-end, standing-long, standing-refused, standing-short}
+use Rattle.pam_paths.proofs.Verdicts.{further-more, further-none}
+use Rattle.pam_paths.proofs.Retracing.{first_frames, first_part, kept-each, kept-frames, kept-many, left-cons, nothing_left, part-kept, verdict-asked}
+use Rattle.pam_paths.proofs.Retracing.{verdict-end, verdict-long, verdict-refused, verdict-short}
 use Rattle.pam_paths.proofs.retrace.retrace.Goals as goal
 
 pub loop-index-init : goal.loop-index-init
@@ -22,7 +22,7 @@ loop-index-init g c =
     let whole : runs_of program ≡ rest_of program c.first-place.result = sym c.first-place.ensures.whole in
     let empty : length c.args.frames.now.items ≡ 0 = ap (λ (x : List Frame). length x) none in
     record {
-      standing = ap (λ (r : Runs). standing_of r codes) whole ∙ further-none _;
+      verdict = ap (λ (r : Runs). verdict_of r codes) whole ∙ further-none _;
       frames = first_frames allows program c.args.frames.now.items none;
       place = c.first-place.ensures.place;
       rise = subst (λ (r : Runs). AsksRise 0 (modules_of program) r) whole c.first-place.ensures.rise;
@@ -60,8 +60,8 @@ loop-index-preserved g c =
     part d allows (runs_of program) codes ≡ cond b (under x (part d allows q (drop (n + 1) codes))) [] ++ ahead d allows program x in
     let both : (c.loop-index.offered && t.offered) ≡ c.both-offered.result = sym c.both-offered.ensures in
     record {
-      standing = i.standing ∙ ap (λ (x : List ℕ). further n (standing_of r x)) left
-          ∙ ap (further n) (standing-asked r q m code (drop (n + 1) codes) asked e.least e.rest) ∙ further-more n (standing_of q (drop (n + 1) codes));
+      verdict = i.verdict ∙ ap (λ (x : List ℕ). further n (verdict_of r x)) left
+          ∙ ap (further n) (verdict-asked r q m code (drop (n + 1) codes) asked e.least e.rest) ∙ further-more n (verdict_of q (drop (n + 1) codes));
       frames = subst (AreFrames allows program 0) (sym kept)
           (kept-frames allows program fs t.frame c.loop-index.offered n i.each i.frames (e.frame n i.rise));
       place = e.place;
@@ -82,8 +82,8 @@ take_turn-requires-clause-room g c h =
     let k = rise_after c.loop-index.index (modules_of program) _ 0 _ i.rise (sym (c.in-Some.ensures program i.place)) in
     omega (arith, i.each h, k.0, k.1, c.first-place.ensures.few)
 
-pub returns-in_default-clause-standing : goal.returns-in_default-clause-standing
-returns-in_default-clause-standing g c =
+pub returns-in_default-clause-verdict : goal.returns-in_default-clause-verdict
+returns-in_default-clause-verdict g c =
     let i = c.loop-index.invariant in
     let program = c.args.program.now in
     let codes : List ℕ = c.args.codes.now in
@@ -93,10 +93,10 @@ returns-in_default-clause-standing g c =
     let ended = sym (c.in_default.ensures program i.place) in
     let left : drop n codes ≡ code ∷ drop (n + 1) codes =
     left-cons codes n code c.loop-index-test.true (get_or_default codes n 0 code c.loop-index-test.true) in
-    ap Some (sym (i.standing ∙ ap (λ (x : List ℕ). further n (standing_of r x)) left ∙ ap (further n) (standing-long r code (drop (n + 1) codes) ended)))
+    ap Some (sym (i.verdict ∙ ap (λ (x : List ℕ). further n (verdict_of r x)) left ∙ ap (further n) (verdict-long r code (drop (n + 1) codes) ended)))
 
-pub returns-in_default-take_turn-clause-standing : goal.returns-in_default-take_turn-clause-standing
-returns-in_default-take_turn-clause-standing g c =
+pub returns-in_default-take_turn-clause-verdict : goal.returns-in_default-take_turn-clause-verdict
+returns-in_default-take_turn-clause-verdict g c =
     let i = c.loop-index.invariant in
     let program = c.args.program.now in
     let codes : List ℕ = c.args.codes.now in
@@ -106,27 +106,27 @@ returns-in_default-take_turn-clause-standing g c =
     let asked = sym (c.in-Some.ensures program i.place) in
     let left : drop n codes ≡ code ∷ drop (n + 1) codes =
     left-cons codes n code c.loop-index-test.true (c.code_numbered.ensures ∙ get_or_default codes n 0 code c.loop-index-test.true) in
-    ap Some (sym (i.standing ∙ ap (λ (x : List ℕ). further n (standing_of r x)) left
-    ∙ ap (further n) (standing-refused r c.in-Some.module_number code (drop (n + 1) codes) asked c.in_default-take_turn.ensures.not_least)))
+    ap Some (sym (i.verdict ∙ ap (λ (x : List ℕ). further n (verdict_of r x)) left
+    ∙ ap (further n) (verdict-refused r c.in-Some.module_number code (drop (n + 1) codes) asked c.in_default-take_turn.ensures.not_least)))
 
-pub returns-in-Some-module-clause-standing : goal.returns-in-Some-module-clause-standing
-returns-in-Some-module-clause-standing g c =
+pub returns-in-Some-module-clause-verdict : goal.returns-in-Some-module-clause-verdict
+returns-in-Some-module-clause-verdict g c =
     let i = c.loop-index.invariant in
     let program = c.args.program.now in
     let r = rest_of program c.loop-index.place in
     let asked = sym (c.in-Some-module.ensures program i.place) in
-    ap Some (sym (i.standing ∙ ap (λ (x : List ℕ). further c.loop-index.index (standing_of r x))
+    ap Some (sym (i.verdict ∙ ap (λ (x : List ℕ). further c.loop-index.index (verdict_of r x))
     (drop_all c.loop-index.index c.args.codes.now c.loop-index-test.false)
-    ∙ ap (further c.loop-index.index) (standing-short r c.in-Some-module.field-0 asked)))
+    ∙ ap (further c.loop-index.index) (verdict-short r c.in-Some-module.field-0 asked)))
 
-pub returns-in-None-clause-standing : goal.returns-in-None-clause-standing
-returns-in-None-clause-standing g c =
+pub returns-in-None-clause-verdict : goal.returns-in-None-clause-verdict
+returns-in-None-clause-verdict g c =
     let i = c.loop-index.invariant in
     let program = c.args.program.now in
     let r = rest_of program c.loop-index.place in
     let ended = sym (c.in-None.ensures program i.place) in
-    i.standing ∙ ap (λ (x : List ℕ). further c.loop-index.index (standing_of r x)) (drop_all c.loop-index.index c.args.codes.now c.loop-index-test.false)
-    ∙ ap (further c.loop-index.index) (standing-end r ended)
+    i.verdict ∙ ap (λ (x : List ℕ). further c.loop-index.index (verdict_of r x)) (drop_all c.loop-index.index c.args.codes.now c.loop-index-test.false)
+    ∙ ap (further c.loop-index.index) (verdict-end r ended)
 
 pub returns-in-None-clause-paths : goal.returns-in-None-clause-paths
 returns-in-None-clause-paths g c d =

@@ -1,7 +1,7 @@
 use Rattle.std.proofs.Common.{◌≡◌, ◌+◌, ◌≤◌, ◌++◌, [], true, cond, drop, length}
 use Rattle.pam_dispatch.specs.Flat.{rest_of, runs_of, IsPlaceOf, modules_of}
 use Rattle.pam_dispatch.specs.Runs.{AsksRise}
-use Rattle.pam_paths.specs.Retrace.{further, standing_of}
+use Rattle.pam_paths.specs.Retrace.{further, verdict_of}
 use Rattle.pam_paths.specs.declared.direction.Direction.{Direction}
 use Rattle.pam_paths.specs.Frames.{AreFrames, ahead, part, under}
 use Rattle.pam_paths.proofs.retrace.retrace.Given as goal
@@ -12,7 +12,7 @@ invariant-loop-index g l =
     let runs = runs_of l.program in
     let left = drop l.index l.codes in
     record {
-      standing : standing_of runs l.codes ≡ further l.index (standing_of (rest_of l.program l.place) left);
+      verdict : verdict_of runs l.codes ≡ further l.index (verdict_of (rest_of l.program l.place) left);
       frames : AreFrames allows l.program 0 l.frames.items;
       place : IsPlaceOf l.program l.place;
       rise : AsksRise l.index (modules_of l.program) (rest_of l.program l.place);

@@ -1,7 +1,7 @@
 use Rattle.std.proofs.Common.{◌+◌, ◌≤◌, sym, ap, arith, subst}
 use Rattle.pam_codes.proofs.Writing.{all-is, all-then, err-front, front-is, front-longer, front-then}
 use Rattle.pam_conf.specs.Stack.{Items, depth}
-use Rattle.pam_dispatch.proofs.FlatLists.{shallow-behind}
+use Rattle.pam_dispatch.proofs.FlatLists.{shallow-after}
 use Rattle.pam_report.proofs.ItemTexts.{inner-is, items-all, module-failed, module-written, shallow-sub, sub-failed, sub-written}
 use Rattle.pam_report.specs.Show.{items_text}
 use Rattle.pam_report.proofs.report.show.+put_items.Goals.{in-Module+in_ok-put_module-in-Module, in-Sub+in_ok-put_sub-in-Sub+in_ok-put_items-in-Sub}
@@ -46,7 +46,7 @@ pub loop-item-preserved : goal.loop-item-preserved
 loop-item-preserved g t c =
     let items = c.args.items.now in
     let index = c.loop-item.item-index in
-    let shallow = shallow-behind c.args.level index items c.loop-item.invariant.shallow in
+    let shallow = shallow-after c.args.level index items c.loop-item.invariant.shallow in
     elim c.match-item.branch [
       | in-Module+in_ok-put_module-in-Module w ↦ record {
         written = rw w.out-is
