@@ -1,5 +1,5 @@
 -- A list of items as a tree: pam.conf(5).
-use Rattle.std.specs.Prelude.{ℕ, ◌+◌, List, [], ◌∷◌, map}
+use Rattle.std.specs.Prelude.{ℕ, ◌+◌, List, [], ◌∷◌}
 use Rattle.pam_conf.specs.declared.stack.Module.{Module}
 use Rattle.pam_conf.specs.declared.stack.Item.{Item}
 use Rattle.pam_conf.specs.declared.stack.Item.TheVariants.{Module as ModuleItem, Sub as SubItem}
@@ -14,7 +14,7 @@ module_text m =
       dashed = m.dashed;
       control = m.control;
       path = m.path.items;
-      arguments = map (λ a. a.items) m.arguments.items;
+      arguments = m.arguments;
       file = m.file;
       line = m.line;
     }

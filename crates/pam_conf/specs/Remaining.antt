@@ -1,13 +1,8 @@
 -- For proofs alone: the remaining words of a line, part of which is read: pam.conf(5), on brackets in arguments.
-use Rattle.std.specs.Prelude.{ℕ, List, map, Vec}
-use Rattle.std.specs.Global.{Global}
+use Rattle.std.specs.Prelude.{ℕ, List}
 use Rattle.pam_conf.specs.FirstWord.{words_left}
 use Rattle.pam_conf.specs.declared.words.OwnedWords.{OwnedWords}
 use Rattle.pam_conf.specs.declared.words.Words.{Words}
-
--- words without their layout in memory
-abbrev pub texts : Vec (Vec ℕ Global) Global → List (List ℕ)
-texts words = map (λ w. w.items) words.items
 
 -- the words that are not read yet
 abbrev pub words_to_come : Words → List (List ℕ)

@@ -34,7 +34,7 @@ pub record RuleText : Type 0 where
   pub body : RuleBody
 
 abbrev pub body_view : Body → RuleBody
-body_view (bodies.Module control path arguments) = Module control path.items (map (λ a. a.items) arguments.items)
+body_view (bodies.Module control path arguments) = Module control path.items arguments
 body_view (bodies.Include target) = Include target.items
 body_view (bodies.Sub target) = Sub target.items
 

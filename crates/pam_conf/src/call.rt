@@ -1,10 +1,11 @@
 //! The call of a module by a rule, kept as it is written: in one piece, and small.
 ghost use Rattle.std.specs.Prelude.{◌≡◌, IfOk, true};
 ghost use Rattle.pam_conf.specs.Calls.{arguments_in, control_in, is_call, path_in};
-ghost use Rattle.pam_conf.specs.Remaining.{owned_words, texts, words_to_come};
+ghost use Rattle.pam_conf.specs.Remaining.{owned_words, words_to_come};
 
 use crate::words::{OwnedWords, Words, word_text};
 use pam_codes::Control;
+use pam_text::Texts;
 use std::alloc::{AllocError, Global};
 
 /// The words of a call: a control without a fault, a path and arguments.
@@ -25,13 +26,10 @@ impl Call {
     }
 
     /// The control, the path and the arguments.
-    pub(crate) fn parts(
-        &self,
-        alloc: Global,
-    ) -> Result<(Control, Vec<u8>, Vec<Vec<u8>>), AllocError>
+    pub(crate) fn parts(&self, alloc: Global) -> Result<(Control, Vec<u8>, Texts), AllocError>
         ensures control { IfOk result (λ p. p.0 ≡ control_in (owned_words self.now.words)) }
         ensures path { IfOk result (λ p. p.1.items ≡ path_in (owned_words self.now.words)) }
-        ensures arguments { IfOk result (λ p. texts p.2 ≡ arguments_in (owned_words self.now.words)) }
+        ensures arguments { IfOk result (λ p. p.2 ≡ arguments_in (owned_words self.now.words)) }
     {
         let Some((control, words)) = self.words.words().split_first() else {
             unreachable!()
@@ -40,7 +38,7 @@ impl Call {
             unreachable!()
         };
         let Some((path, arguments)) = words.split_first() else {
-            return Ok((control, Vec::new(alloc), Vec::new(alloc)));
+            return Ok((control, Vec::new(alloc), Texts::new(alloc)));
         };
         Ok((control, word_text(alloc, path)?, arguments.texts(alloc)?))
     }

@@ -17,6 +17,7 @@ use crate::error::FaultKind;
 use crate::kept::{KeptBody, KeptRule};
 use crate::words::{Words, word_text};
 use pam_codes::{Control, is_name};
+use pam_text::Texts;
 use std::alloc::{AllocError, Global};
 
 /// The management group of a rule: pam.conf(5), `type`.
@@ -41,7 +42,7 @@ pub enum Form {
 #[derive(Debug, Drop)]
 pub enum Body {
     /// Calls a module: the control, path and arguments.
-    Module(Control, Vec<u8>, Vec<Vec<u8>>),
+    Module(Control, Vec<u8>, Texts),
     /// Includes the rules of the file with this name, as if they were written here.
     Include(Vec<u8>),
     /// Includes the rules of the file with this name as one item.

@@ -6,6 +6,7 @@ ghost use Rattle.pam_conf.specs.ItemsOf.{items_of, module_text};
 ghost use Rattle.pam_conf.specs.declared.trail.TheConstants.{MAX_OPEN_FILES};
 
 use pam_codes::Control;
+use pam_text::Texts;
 use std::marker::Model;
 
 /// The maximum number of modules of a stack; one more is `TooManyModules`.
@@ -20,7 +21,7 @@ pub struct Module {
     pub dashed: bool,
     pub control: Control,
     pub path: Vec<u8>,
-    pub arguments: Vec<Vec<u8>>,
+    pub arguments: Texts,
     /// The position of the rule's file in `Files`.
     pub file: usize,
     pub line: usize,

@@ -10,6 +10,7 @@ ghost use Rattle.pam_conf.specs.Words.{unescaped, text_of_word};
 
 use crate::error::FaultKind;
 use pam_codes::{ControlError, is_blank_byte};
+use pam_text::Texts;
 use std::alloc::{AllocError, Global};
 
 /// The number of leading blanks.
@@ -110,7 +111,7 @@ pub(crate) struct Words<'a> {
 }
 
 impl<'a> Words<'a> {
-    ghost use Rattle.pam_conf.specs.Remaining.{words_to_come, texts};
+    ghost use Rattle.pam_conf.specs.Remaining.{words_to_come};
 
     /// The words of a line, or its fault if a bracket stays open.
     pub(crate) fn of(line: &'a [u8]) -> Result<Words<'a>, FaultKind>
@@ -134,13 +135,14 @@ impl<'a> Words<'a> {
     }
 
     /// The texts of the words.
-    pub(crate) fn texts(self, alloc: Global) -> Result<Vec<Vec<u8>>, AllocError>
-        ensures { IfOk result (λ v. texts v ≡ map text_of_word (words_to_come self.entry)) }
+    pub(crate) fn texts(self, alloc: Global) -> Result<Texts, AllocError>
+        ensures { IfOk result (λ texts. texts ≡ map text_of_word (words_to_come self.entry)) }
     {
-        let mut texts = Vec::new(alloc);
+        let mut texts = Texts::new(alloc);
+        let mut inside = Vec::new(alloc);
         let mut words = self;
         while let Some((word, after)) = words.split_first() {
-            texts.push(word_text(alloc, word)?)?;
+            texts.push(text_of(word, &mut inside)?)?;
             words = after;
         }
         Ok(texts)
@@ -203,15 +205,25 @@ fn unescape(word: &mut Vec<u8>)
     word.truncate(kept);
 }
 
-/// The text of a word: the unescaped text between its brackets, if it has them.
+/// The text of a word: itself, or if it has brackets the unescaped text between them, which replaces the contents of
+/// `inside`.
+fn text_of<'a>(word: &'a [u8], inside: &'a mut Vec<u8>) -> Result<&'a [u8], AllocError>
+    ensures { IfOk result (λ text. text.now ≡ text_of_word word.now) }
+{
+    if word.is_empty() || word[0] != b'[' {
+        return Ok(word);
+    }
+    inside.clear();
+    inside.extend_from_slice(word.split_at(1).1)?;
+    inside.pop();
+    unescape(inside);
+    Ok(inside.as_slice())
+}
+
+/// Like `text_of`, as a copy.
 pub(crate) fn word_text(alloc: Global, word: &[u8]) -> Result<Vec<u8>, AllocError>
     ensures { IfOk result (λ text. text.items ≡ text_of_word word.now) }
 {
-    let mut text = word.to_vec(alloc)?;
-    if !text.is_empty() && text[0] == b'[' {
-        text.remove(0);
-        text.pop();
-        unescape(&mut text);
-    }
-    Ok(text)
+    let mut inside = Vec::new(alloc);
+    text_of(word, &mut inside)?.to_vec(alloc)
 }

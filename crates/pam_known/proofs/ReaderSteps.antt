@@ -1,7 +1,6 @@
 -- Which table tells the code of a module.
-use Rattle.std.proofs.Common.{◌≡◌, ◌<◌, ◌||◌, ◌&&◌, ℕ, Bool, true, false, not, List, [], ◌∷◌, map, refl, ap, subst, arith}
+use Rattle.std.proofs.Common.{◌≡◌, ◌<◌, ◌&&◌, ℕ, Bool, true, false, not, List, [], refl, ap, subst, arith}
 use Rattle.std.specs.Prelude.{Option, Some, None, Result, Ok, Err, is_some, if◌then◌else◌}
-use Rattle.std.specs.List.{list_any}
 use Rattle.std.specs.Option.{option_and_then, option_map, option_or}
 use Rattle.pam_conf.specs.Stack.{Items, ModuleText, module_at}
 use Rattle.pam_conf.specs.declared.rule.Kind.{Kind}
@@ -18,10 +17,6 @@ use Rattle.pam_times.specs.declared.times.TimeAnswer.TheVariants as times
 use Rattle.pam_known.specs.Answers.{access_code, access_read, access_told, name_of_path, result_map, table_answer, time_code, time_read, time_told}
 use Rattle.pam_known.specs.Knowledge.{codes_by, line_at, told_at}
 use Rattle.pam_known.specs.Tables.{TablesText, TimedText}
-
-pub any_of_map : {X Y : Type 0} (f : X → Y) (test : Y → Bool) (xs : List X) → list_any test (map f xs) ≡ list_any (λ x. test (f x)) xs
-any_of_map f test [] = refl
-any_of_map f test (x ∷ xs) = ap (λ b. test (f x) || b) (any_of_map f test xs)
 
 pub reader_is : (named keyed any : Bool) → named ≡ true → keyed ≡ any → not keyed ≡ (named && not any)
 reader_is true keyed any e f = ap not f

@@ -1,6 +1,6 @@
 //! The answer of one module, from the table that it reads.
 
-ghost use Rattle.std.specs.Prelude.{◌≡◌, ◌≤◌, ◌==◌, nat_eq, not, length, map};
+ghost use Rattle.std.specs.Prelude.{◌≡◌, ◌≤◌, ◌==◌, nat_eq, not, length};
 ghost use Rattle.std.specs.List.{list_any, starts_with, suffix_len};
 ghost use Rattle.std.specs.Option.{option_map};
 ghost use Rattle.pam_conf.specs.ItemsOf.{module_text};
@@ -15,6 +15,7 @@ use crate::tables::{Tables, TimedTable};
 use pam_codes::Code;
 use pam_conf::{Kind, Module};
 use pam_tables::{AccessAnswer, AccessOptions, AccessTable, Groups, Login};
+use pam_text::Texts;
 use pam_times::{TimeAnswer, TimeTable};
 use std::alloc::Global;
 
@@ -34,8 +35,8 @@ pub(crate) fn name_of_path(path: &[u8]) -> &[u8]
 }
 
 /// Whether an argument begins with a key.
-fn has_key(key: &[u8], arguments: &[Vec<u8>]) -> bool
-    ensures { result ≡ list_any (λ a. starts_with nat_eq a.items key.now) arguments.now }
+fn has_key(key: &[u8], arguments: &Texts) -> bool
+    ensures { result ≡ list_any (λ a. starts_with nat_eq a key.now) arguments.now }
 {
     arguments.iter().any(|argument| argument.starts_with(key))
 }
@@ -100,10 +101,10 @@ pub(crate) fn access_told(
     alloc: Global,
     login: &Login<'_>,
     groups: &Groups,
-    arguments: &[Vec<u8>],
+    arguments: &Texts,
     bytes: &[u8],
 ) -> Result<Code, KnownError>
-    ensures { Gives (λ e. TellsError e) (λ code. code) result (access_told (login_view login.now) groups.now (map (λ a. a.items) arguments.now) bytes.now) }
+    ensures { Gives (λ e. TellsError e) (λ code. code) result (access_told (login_view login.now) groups.now arguments.now bytes.now) }
 {
     match AccessTable::read(alloc, bytes, &AccessOptions::of(arguments)) {
         Ok(table) => Ok(access_code(table.decide(login, groups))),

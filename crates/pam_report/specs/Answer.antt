@@ -120,7 +120,7 @@ AnswersFrom contents old new result service (Show source kind) files inputs =
 AnswersFrom contents old new result service (Decide source kind answered) files inputs =
     Leaves contents old new result (with_stack (resolved files service kind) (decided_by service kind answered.items))
 AnswersFrom contents old new result service (Access table groups login arguments) files inputs =
-    Leaves contents old new result (looked_up (login_at service login) (map (λ a. a.items) arguments.items) inputs)
+    Leaves contents old new result (looked_up (login_at service login) arguments inputs)
 AnswersFrom contents old new result service (Time table login moment) files inputs =
     (at : Result DateTime MomentError) × IsMoment moment at
     × Leaves contents old new result (timed (login_at service login) (time_given inputs) at)

@@ -1,5 +1,5 @@
 -- An argument among arguments.
-use Rattle.std.proofs.Common.{◌≡◌, ◌||◌, ℕ, not, Bool, List, [], ◌∷◌, Option, codes, map, refl, ap}
+use Rattle.std.proofs.Common.{◌≡◌, ℕ, not, Bool, List, [], ◌∷◌, Option, codes, refl}
 use Rattle.std.specs.List.{list_any}
 use Rattle.std.specs.Str.{bytes_eq}
 use Rattle.pam_tables.specs.Options.{given_or, last_value, options_of}
@@ -15,8 +15,3 @@ pub options_are : (arguments : List (List ℕ)) (f l : List ℕ) (o p : Option (
     } ≡ options_of arguments
 unfolding options_of
 options_are arguments f l o p h e g i j k = rw (e, g, i, j, k) refl
-
-pub any_items : {X : Type 0} (f : X → List ℕ) (text : List ℕ) (xs : List X) →
-    list_any (λ a. bytes_eq a text) (map f xs) ≡ list_any (λ x. bytes_eq (f x) text) xs
-any_items f text [] = refl
-any_items f text (x ∷ xs) = ap (λ b. bytes_eq (f x) text || b) (any_items f text xs)

@@ -1,11 +1,12 @@
 //! The options of pam_access(8).
 
-ghost use Rattle.std.specs.Prelude.{◌≡◌, map, codes};
+ghost use Rattle.std.specs.Prelude.{◌≡◌, codes};
 ghost use Rattle.std.specs.List.{list_any};
 ghost use Rattle.std.specs.Option.{option_map};
 ghost use Rattle.std.specs.Str.{bytes_eq};
 ghost use Rattle.pam_tables.specs.Options.{value_of, last_value as last_value_of, given_or, options_of};
 
+use pam_text::Texts;
 use std::marker::Model;
 
 /// The options of an access table, from the arguments of pam_access(8): `fieldsep=`, `listsep=` and `nodefgroup`.
@@ -32,12 +33,12 @@ fn value<'a>(argument: &'a [u8], key: &[u8]) -> Option<&'a [u8]>
 }
 
 /// Returns the value of the last argument with this key.
-fn last_value<'a>(arguments: &'a [Vec<u8>], key: &[u8]) -> Option<&'a [u8]>
-    ensures { option_map (λ v. v.now) result ≡ last_value_of key.now (map (λ a. a.items) arguments.now) }
+fn last_value<'a>(arguments: &'a Texts, key: &[u8]) -> Option<&'a [u8]>
+    ensures { option_map (λ v. v.now) result ≡ last_value_of key.now arguments.now }
 {
     let mut last = None;
-    for argument in arguments {
-        if let Some(found) = value(argument.as_slice(), key) {
+    for argument in arguments.iter() {
+        if let Some(found) = value(argument, key) {
             last = Some(found);
         }
     }
@@ -54,16 +55,16 @@ fn given<'a>(value: Option<&'a [u8]>, default: &'a [u8]) -> &'a [u8]
     }
 }
 
-fn has_argument(arguments: &[Vec<u8>], text: &[u8]) -> bool
-    ensures { result ≡ list_any (λ a. bytes_eq a.items text.now) arguments.now }
+fn has_argument(arguments: &Texts, text: &[u8]) -> bool
+    ensures { result ≡ list_any (λ a. bytes_eq a text.now) arguments.now }
 {
-    arguments.iter().any(|argument| argument.as_slice() == text)
+    arguments.iter().any(|argument| argument == text)
 }
 
 impl<'a> AccessOptions<'a> {
     /// Reads the options from a module's arguments. Ignores other arguments.
-    pub fn of(arguments: &'a [Vec<u8>]) -> Self
-        ensures { result ≡ options_of (map (λ a. a.items) arguments.now) }
+    pub fn of(arguments: &'a Texts) -> Self
+        ensures { result ≡ options_of arguments.now }
     {
         AccessOptions {
             field_separators: given(last_value(arguments, b"fieldsep="), b":"),

@@ -5,4 +5,5 @@ pub mod Runs
 pub mod Sources
 pub mod TextLines
 pub mod TextSteps
+pub mod TextsCut
 pub mod Writing

@@ -8,6 +8,7 @@ mod out;
 mod piece;
 mod source;
 mod text;
+mod texts;
 
 pub use blanks::{is_table_blank, is_text_blank, text_blank_len};
 pub use cuts::{ByteSet, cut, cut_among};
@@ -15,3 +16,4 @@ pub use out::{Device, Out};
 pub use piece::Piece;
 pub use source::{MAX_FILE_BYTES, Source, SourceFault};
 pub use text::{Line, Text};
+pub use texts::{Texts, TextsIter};

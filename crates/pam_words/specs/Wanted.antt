@@ -1,5 +1,5 @@
 -- The command line: results of the library's functions, against the request that the words spell.
-use Rattle.std.specs.Prelude.{◌≡◌, ◌≢◌, ⊤, Result, Ok, Err, [], map, option_map}
+use Rattle.std.specs.Prelude.{◌≡◌, ◌≢◌, ⊤, Result, Ok, Err, [], option_map}
 use Rattle.std.specs.Option.{option_copied}
 use Rattle.clap.specs.Words.{IsAmong, Kinds, kind_of}
 use Rattle.clap.specs.declared.Error.{Error}
@@ -44,7 +44,7 @@ task_view (Access table groups login arguments) = spec.access (record {
   table = table.now;
   groups = option_copied groups;
   login = login_view login;
-  arguments = map (λ a. a.items) arguments.items;
+  arguments = arguments;
 })
 task_view (Time table login moment) = spec.time (record {
   table = table.now;

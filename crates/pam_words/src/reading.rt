@@ -20,6 +20,7 @@ use clap::error::ErrorKind;
 use clap::{ArgMatches, Error};
 use pam_codes::Code;
 use pam_conf::Kind;
+use pam_text::Texts;
 use std::alloc::{AllocError, Global};
 use std::convert::AsStr;
 
@@ -147,22 +148,22 @@ fn login<'a>(matches: &ArgMatches<'a>) -> Login<'a>
 }
 
 /// Copies the bytes of each text.
-fn copies(alloc: Global, texts: &[&str]) -> Result<Vec<Vec<u8>>, AllocError>
-    ensures { IfOk result (λ v. map (λ t. t.items) v.items ≡ map (λ s. s.now) texts.now) }
+fn copies(alloc: Global, texts: &[&str]) -> Result<Texts, AllocError>
+    ensures { IfOk result (λ copies. copies ≡ map (λ s. s.now) texts.now) }
 {
-    let mut copies = Vec::new(alloc);
+    let mut copies = Texts::new(alloc);
     for text in texts {
-        copies.push(text.as_bytes().to_vec(alloc)?)?;
+        copies.push(text.as_bytes())?;
     }
     Ok(copies)
 }
 
-fn arguments(alloc: Global, matches: &ArgMatches<'_>) -> Result<Vec<Vec<u8>>, AllocError>
-    ensures { IfOk result (λ v. map (λ t. t.items) v.items ≡ texts_of (codes "argument") (rows_of (found_of matches.now))) }
+fn arguments(alloc: Global, matches: &ArgMatches<'_>) -> Result<Texts, AllocError>
+    ensures { IfOk result (λ texts. texts ≡ texts_of (codes "argument") (rows_of (found_of matches.now))) }
 {
     match values(matches, "argument") {
         Some(texts) => copies(alloc, texts),
-        None => Ok(Vec::new(alloc)),
+        None => Ok(Texts::new(alloc)),
     }
 }
 

@@ -2,6 +2,7 @@
 
 use pam_codes::Code;
 use pam_conf::Kind;
+use pam_text::Texts;
 use thiserror::Error;
 
 /// The source of the configuration.
@@ -60,7 +61,7 @@ pub enum Task<'a> {
         table: &'a str,
         groups: Option<&'a str>,
         login: Login<'a>,
-        arguments: Vec<Vec<u8>>,
+        arguments: Texts,
     },
     /// Looks up a login, without a remote host, in a time table.
     Time {

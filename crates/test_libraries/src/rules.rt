@@ -1,6 +1,7 @@
 //! The rules of a configuration file, in either form.
 
 use pam_conf::{Body, FaultKind, Form, Kind, Rule, RuleFault, rules};
+use pam_text::Texts;
 use std::alloc::Global;
 use std::process::Abort;
 use std::test::Fail;
@@ -8,10 +9,10 @@ use std::test::Fail;
 const THREE_LINES: &[u8] =
     b"auth required a.so [query=a \\] b] \\\n  debug # note \\\n-auth optional c.so";
 
-fn are(rt: &impl Abort, words: &[Vec<u8>], wanted: &[&[u8]]) {
+fn are(rt: &impl Abort, words: &Texts, wanted: &[&[u8]]) {
     assert_eq!(rt; words.len(), wanted.len());
     for (word, text) in words.iter().zip(wanted) {
-        assert_eq!(rt; word.as_slice(), *text);
+        assert_eq!(rt; word, *text);
     }
 }
 

@@ -1,6 +1,6 @@
 //! The `access` command: the line of an access table that decides.
 
-ghost use Rattle.std.specs.Prelude.{◌≡◌, map, option_map};
+ghost use Rattle.std.specs.Prelude.{◌≡◌, option_map};
 ghost use Rattle.pam_codes.specs.Out.{Writes};
 ghost use Rattle.pam_tables.specs.Error.{Gives};
 ghost use Rattle.pam_tables.specs.Login.{login_view};
@@ -17,6 +17,7 @@ use pam_codes::{Device, Out, Piece};
 use pam_tables::{
     AccessAnswer, AccessOptions, AccessTable, Groups, Login as TableLogin, Table, TableError,
 };
+use pam_text::Texts;
 use pam_words::Login;
 use std::alloc::Global;
 use std::io::Write;
@@ -70,10 +71,10 @@ fn groups(alloc: Global, bytes: Option<&[u8]>) -> Result<Groups, TableError>
 fn look_up(
     alloc: Global,
     login: &TableLogin<'_>,
-    arguments: &[Vec<u8>],
+    arguments: &Texts,
     inputs: &Inputs,
 ) -> Result<AccessAnswer, Fault>
-    ensures { FindsAccess result (looked_up (login_view login.now) (map (λ a. a.items) arguments.now) inputs.now) }
+    ensures { FindsAccess result (looked_up (login_view login.now) arguments.now inputs.now) }
 {
     let groups = match groups(alloc, inputs.groups()) {
         Ok(groups) => groups,
@@ -96,12 +97,11 @@ fn write_answer<W: Write>(answer: AccessAnswer, out: &mut Out<W>) -> Result<(), 
 fn answer_login<W: Write>(
     alloc: Global,
     login: &TableLogin<'_>,
-    arguments: &[Vec<u8>],
+    arguments: &Texts,
     inputs: &Inputs,
     out: &mut Out<W>,
 ) -> Result<Status, Fault>
-    ensures { let texts = map (λ a. a.items) arguments.now in
-        Leaves W.contents out.old out.new result (looked_up (login_view login.now) texts inputs.now) }
+    ensures { Leaves W.contents out.old out.new result (looked_up (login_view login.now) arguments.now inputs.now) }
 {
     let answer = match look_up(alloc, login, arguments, inputs) {
         Ok(answer) => answer,
@@ -117,12 +117,11 @@ pub(super) fn answer_access<W: Write>(
     alloc: Global,
     service: &str,
     login: Login<'_>,
-    arguments: &[Vec<u8>],
+    arguments: &Texts,
     inputs: &Inputs,
     out: &mut Out<W>,
 ) -> Result<Status, Fault>
-    ensures { let texts = map (λ a. a.items) arguments.now in
-        Leaves W.contents out.old out.new result (looked_up (login_at service.now login.entry) texts inputs.now) }
+    ensures { Leaves W.contents out.old out.new result (looked_up (login_at service.now login.entry) arguments.now inputs.now) }
 {
     match lowered(alloc, service) {
         Ok(service) => answer_login(alloc, &login_to(&service, login), arguments, inputs, out),

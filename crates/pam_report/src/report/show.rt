@@ -1,6 +1,6 @@
 //! The `show` command: the stack, rule by rule.
 
-ghost use Rattle.std.specs.Prelude.{◌≡◌, ◌≤◌, ◌+◌, ◌++◌, codes, map};
+ghost use Rattle.std.specs.Prelude.{◌≡◌, ◌≤◌, ◌+◌, ◌++◌, codes};
 ghost use Rattle.pam_codes.specs.Out.{Writes};
 ghost use Rattle.pam_conf.specs.ItemsOf.{items_of, module_text};
 ghost use Rattle.pam_conf.specs.Resolution.{resolved};
@@ -17,6 +17,7 @@ use super::word::put_word;
 use crate::fault::Fault;
 use pam_codes::{Device, Out, Piece};
 use pam_conf::{Files, Item, Kind, Module, Stack, Sub, resolve};
+use pam_text::Texts;
 use std::alloc::Global;
 use std::io::Write;
 
@@ -67,10 +68,10 @@ fn put_one_word<W: Write>(word: &[u8], out: &mut Out<W>) -> Result<(), Device>
 }
 
 /// Writes words, with a space before each.
-fn put_words<W: Write>(words: &[Vec<u8>], out: &mut Out<W>) -> Result<(), Device>
-    ensures { Writes W.contents out.old out.new result (words_text (map (λ w. w.items) words.now)) }
+fn put_words<W: Write>(words: &Texts, out: &mut Out<W>) -> Result<(), Device>
+    ensures { Writes W.contents out.old out.new result (words_text words.now) }
 {
-    for word in words {
+    for word in words.iter() {
         put_one_word(word, out)?;
     }
     Ok(())

@@ -3,4 +3,4 @@ use Rattle.std.proofs.Common.{◌≡◌, map, take}
 use Rattle.pam_words.proofs.reading.copies.Given as goal
 
 abbrev pub invariant-loop-text : goal.invariant-loop-text
-invariant-loop-text l = map (λ t. t.items) l.copies.items ≡ map (λ s. s.now) (take l.text-index l.texts)
+invariant-loop-text l = l.copies ≡ map (λ s. s.now) (take l.text-index l.texts)

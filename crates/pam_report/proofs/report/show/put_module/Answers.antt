@@ -1,5 +1,4 @@
-use Rattle.std.proofs.Common.{ℕ, List, codes, map, ap, refl, Vec}
-use Rattle.std.specs.Global.{Global}
+use Rattle.std.proofs.Common.{codes, refl}
 use Rattle.pam_codes.proofs.Writing.{all-then, err-front, front-is, front-longer, front-then, writes-is, writes-then}
 use Rattle.pam_conf.specs.ItemsOf.{module_text}
 use Rattle.pam_report.proofs.ShowTexts.{module_line-is}
@@ -22,18 +21,16 @@ returns-in_err-put_one_word g c =
 pub returns-in_err-put_words : goal.returns-in_err-put_words
 returns-in_err-put_words g c =
     let m = module_text c.args.module.now in
-    let arguments = λ (vs : List (Vec ℕ Global)). map (λ v. v.items) vs in
     err-front _ c.from_residual-in_err-put_words.ensures.0
     (front-is
     (front-longer (codes "\n") (front-then (all-then (all-then c.in_ok-put_front.ensures c.in_ok-write_text.ensures) c.in_ok-put_one_word.ensures) c.in_err-put_words.ensures))
-    (module_line-is c.args.files.now c.args.level m c.deref.result.now (arguments c.deref-2.result.now) c.deref.ensures.value (ap arguments c.deref-2.ensures.value)))
+    (module_line-is c.args.files.now c.args.level m c.deref.result.now m.arguments c.deref.ensures.value refl))
 
 pub returns : goal.returns
 returns g c =
     let m = module_text c.args.module.now in
-    let arguments = λ (vs : List (Vec ℕ Global)). map (λ v. v.items) vs in
     writes-is _ _ _ _ _ _
     (writes-then _ (codes "\n") _
     (all-then (all-then (all-then c.in_ok-put_front.ensures c.in_ok-write_text.ensures) c.in_ok-put_one_word.ensures) c.in_ok-put_words.ensures)
     c.put.ensures)
-    (module_line-is c.args.files.now c.args.level m c.deref.result.now (arguments c.deref-2.result.now) c.deref.ensures.value (ap arguments c.deref-2.ensures.value))
+    (module_line-is c.args.files.now c.args.level m c.deref.result.now m.arguments c.deref.ensures.value refl)

@@ -1,18 +1,27 @@
-use Rattle.std.proofs.Common.{ℕ, ◌+◌, List, ◌++◌, codes, map, drop, ap, ◌∙◌, Vec}
-use Rattle.std.specs.Global.{Global}
-use Rattle.pam_codes.proofs.Writing.{err-front, front-is, front-longer, front-then}
-use Rattle.pam_report.proofs.ShowTexts.{flat_map-viewed_at}
+use Rattle.std.proofs.Common.{◌≡◌, ◌∙◌, ◌∷◌, ◌++◌, ℕ, List, ap, append_assoc, codes, sym}
+use Rattle.pam_codes.proofs.Writing.{all-then, err-front, front-is, front-longer, front-then}
 use Rattle.pam_report.specs.Show.{words_text}
 use Rattle.pam_report.specs.WordText.{word_text}
 use Rattle.pam_report.proofs.report.show.put_words.Goals as goal
 
+-- what is written, the text of the next word and those of the words after it
+next_word : (front word : List ℕ) (left after : List (List ℕ)) (text : List ℕ) → left ≡ word ∷ after → front ++ words_text left ≡ text
+    → (front ++ (codes " " ++ word_text word)) ++ words_text after ≡ text
+next_word front word left after text e h =
+    append_assoc front (codes " " ++ word_text word) (words_text after) ∙ ap (λ (ws : List (List ℕ)). front ++ words_text ws) (sym e) ∙ h
+
 pub returns-in_err-put_one_word : goal.returns-in_err-put_one_word
 returns-in_err-put_one_word g c =
-    let words = c.args.words.now in
-    let index = c.loop-word.word-index in
-    let items = λ (w : Vec ℕ Global). w.items in
-    let text = λ (word : List ℕ). codes " " ++ word_text word in
-    let word = ap text (c.deref.ensures.value ∙ ap items c.word-item.is) in
+    let l = c.loop-word.invariant in
     err-front _ c.from_residual.ensures.0
-    (front-is (front-longer (words_text (map items (drop (index + 1) words))) (front-then c.loop-word.invariant (front-is c.in_err-put_one_word.ensures word)))
-    (flat_map-viewed_at text items words index _ c.loop-word-test.true))
+    (front-is (front-longer (words_text c.next.new.self) (front-then l.took c.in_err-put_one_word.ensures))
+    (next_word l.front _ _ _ _ c.in-Some.ensures.steps l.parts))
+
+pub loop-word-preserved : goal.loop-word-preserved
+loop-word-preserved g c =
+    let l = c.loop-word.invariant in
+    record {
+      front = l.front ++ (codes " " ++ word_text c.in-Some.word.now);
+      parts = next_word l.front _ _ _ _ c.in-Some.ensures.steps l.parts;
+      took = all-then l.took c.in_ok-put_one_word.ensures;
+    }
