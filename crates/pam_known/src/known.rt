@@ -46,7 +46,11 @@ fn some_reads_access(stack: &Stack, tables: &Tables<'_>) -> bool
 
 /// Returns the groups. Reads the group file only if a module reads the access table.
 #[tactic(auto, unfolding(crate::specs::Knowledge::groups_read))]
-fn groups_read(alloc: Global, stack: &Stack, tables: &Tables<'_>) -> Result<Groups, KnownError>
+fn groups_read<'a>(
+    alloc: Global,
+    stack: &Stack,
+    tables: &Tables<'a>,
+) -> Result<Groups<'a>, KnownError>
     ensures { Gives (λ e. TellsError e) (λ groups. groups) result (groups_read (tables_view tables.now) stack.now) }
 {
     if !some_reads_access(stack, tables) {
@@ -64,7 +68,7 @@ struct Lookup<'x, 'l, 't> {
     kind: Kind,
     login: &'x Login<'l>,
     tables: &'x Tables<'t>,
-    groups: Groups,
+    groups: Groups<'t>,
 }
 
 impl Lookup<'_, '_, '_> {

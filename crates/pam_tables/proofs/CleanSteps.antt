@@ -1,14 +1,16 @@
 -- Lists without bytes that a fault needs.
-use Rattle.std.proofs.Common.{◌≡◌, ◌∙◌, ◌||◌, ◌==◌, ℕ, zero, suc, Bool, true, false, List, [], ◌∷◌, take, drop, map, filter, cond}
+use Rattle.std.proofs.Common.{◌≡◌, ◌∙◌, ◌||◌, ◌==◌, ℕ, zero, suc, length, arith, one-add, Bool, true, false, List, [], ◌∷◌, take, drop, map, filter, cond}
 use Rattle.std.proofs.Common.{codes, nat_eq, Option, Some, None, Result, Ok, Err, refl, sym, ap}
-use Rattle.std.proofs.lemmas.Bool.{eqb-true}
-use Rattle.std.specs.List.{list_any, slice_split, onto_first, starts_with}
+use Rattle.std.proofs.lemmas.Bool.{eqb-true, le-ltb}
+use Rattle.std.specs.List.{list_any, position_or_len, slice_split, onto_first, starts_with}
 use Rattle.pam_tables.specs.Error.{verdict}
 use Rattle.pam_tables.specs.Lines.{has_bytes, is_among, trimmed, trimmed_start}
-use Rattle.pam_tables.specs.Tokens.{UserPattern, each_token, group_name, tokens_of, user_token}
+use Rattle.pam_tables.specs.Network.{network_of}
+use Rattle.pam_tables.specs.Tokens.{UserPattern, each_token, group_name, origin_token, tokens_of, user_token}
 use Rattle.pam_tables.specs.declared.error.TableFault.{TableFault}
 use Rattle.pam_tables.proofs.Cutting.{FirstPart, split_parts}
 use Rattle.pam_tables.proofs.MarkSteps.{group_passes, plain_passes}
+use Rattle.pam_tables.proofs.Searching.{same_byte}
 use Rattle.pam_tables.proofs.TokenSteps.{neither, passes}
 
 module _ (bad : ℕ → Bool) where
@@ -80,3 +82,29 @@ no_at_passes token h =
       | Some name ↦ λ e. group_passes token (at_first token h) name e
       | None ↦ λ e. plain_passes token (at_first token h) e h
     ] refl
+
+-- a token of origins without `@` and slashes has no fault
+abbrev is_mark : ℕ → Bool
+is_mark b = b == 64 || b == 47
+
+only_at : (token : List ℕ) → list_any is_mark token ≡ false → list_any (λ b. b == 64) token ≡ false
+only_at [] h = refl
+only_at (b ∷ bs) h =
+    let both = neither (is_mark b) (list_any is_mark bs) h in
+    ap (λ (t : Bool). t || list_any (λ c. c == 64) bs) (neither (b == 64) (b == 47) both.0).0 ∙ only_at bs both.1
+
+no_slash : (token : List ℕ) → list_any is_mark token ≡ false → position_or_len (is_among (codes "/")) token ≡ length token
+no_slash [] h = refl
+no_slash (b ∷ bs) h =
+    let both = neither (is_mark b) (list_any is_mark bs) h in
+    let kept : is_among (codes "/") b ≡ false = same_byte 47 b ∙ (neither (b == 64) (b == 47) both.0).1 in
+    rw (kept, no_slash bs both.1, one-add) refl
+
+no_network : (token : List ℕ) → list_any is_mark token ≡ false → network_of token ≡ Ok None
+unfolding network_of
+no_network token h =
+    rw (no_slash token h, le-ltb (length token) (length token) (omega arith)) refl
+
+pub no_mark_passes : (token : List ℕ) → list_any is_mark token ≡ false → Ok tt ≡ verdict (origin_token token)
+unfolding origin_token
+no_mark_passes token h = rw (at_first token (only_at token h), no_network token h) refl

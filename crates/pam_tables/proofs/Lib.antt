@@ -13,4 +13,5 @@ pub mod OptionSteps
 pub mod PieceSteps
 pub mod ReadSteps
 pub mod ReturnSteps
+pub mod Searching
 pub mod TokenSteps

@@ -1,7 +1,8 @@
 -- The first token of a list, and tokens one after another.
-use Rattle.std.proofs.Common.{◌≡◌, ◌∙◌, ◌+◌, ◌-◌, ◌≤◌, ◌||◌, ℕ, suc, Bool, true, false, not, List, [], ◌∷◌, length, take, drop, map, filter, cond, eqb}
+use Rattle.std.proofs.Common.{◌≡◌, ◌∙◌, ◌+◌, ◌-◌, ◌≤◌, ◌||◌, ℕ, suc, Bool, true, false, not, List, [], ◌∷◌, length, take, drop, map, filter, cond, eqb, nat_lt, ◌==◌, length-drop}
 use Rattle.std.proofs.Common.{reverse, Result, Ok, Err, refl, sym, ap, ap₂, arith, one-add}
 use Rattle.std.specs.List.{slice_split, onto_first, prefix_len, suffix_len}
+use Rattle.std.proofs.lemmas.Bool.{eqb-true, ltb-true, ltb-false}
 use Rattle.std.proofs.lemmas.List.{length-reverse, reverse-append}
 use Rattle.std.proofs.lemmas.List.Folds.{prefix_len-append}
 use Rattle.std.proofs.lemmas.List.Sums.{prefix_len-le-length}
@@ -145,6 +146,28 @@ token_first s (b ∷ bs) part after h z e f =
     ∙ ap (λ (p : List ℕ). filter has_bytes (p ∷ map trimmed split.others)) whole
     ∙ ap (λ (t : Bool). cond t (trimmed_end (b ∷ q) ∷ tokens_in split.others) (tokens_in split.others)) (kept b q tests.1)
     ∙ ap₂ (λ (x : List ℕ) (y : List (List ℕ)). x ∷ y) (ap trimmed_end (sym (e ∙ front))) (split.tokens ∙ ap (tokens_of s) (sym f))
+
+some_tokens : (k : ℕ) → true ≡ not (suc k == 0)
+some_tokens k =
+    elim (suc k == 0) as (λ (t : Bool). (suc k == 0) ≡ t → true ≡ not t) [
+      | true ↦ λ e. let wrong : suc k ≡ 0 = eqb-true (suc k) 0 e in absurd (omega arith)
+      | false ↦ λ e. refl
+    ] refl
+
+-- a list has a token if more than separators and blanks are in it
+pub gap_ends : (s text : List ℕ) (n : ℕ) → n ≡ prefix_len (is_gap s) text → nat_lt n (length text) ≡ not (length (tokens_of s text) == 0)
+gap_ends s text n e =
+    let rest : List ℕ = drop n text in
+    let skipped : tokens_of s text ≡ tokens_of s rest = gap_skipped s text ∙ ap (λ k. tokens_of s (drop k text)) (sym e) in
+    elim (nat_lt n (length text)) as (λ (t : Bool). nat_lt n (length text) ≡ t → t ≡ not (length (tokens_of s text) == 0)) [
+      | true ↦ λ f.
+          let long : length rest ≡ 0 → ⊥ = λ none. omega (arith, ltb-true n (length text) f, length-drop n text, none) in
+          let stop : prefix_len (is_gap s) rest ≡ 0 = ap (λ k. prefix_len (is_gap s) (drop k text)) e ∙ none_after (is_gap s) text in
+          some_tokens _ ∙ sym (ap (λ ts. not (length ts == 0)) (skipped ∙ token_first s rest _ _ long stop refl refl))
+      | false ↦ λ f.
+          let none : length rest ≡ 0 = omega (arith, ltb-false n (length text) f, length-drop n text) in
+          sym (ap (λ ts. not (length ts == 0)) (skipped ∙ no_tokens s rest none))
+    ] refl
 
 -- ---- tokens one after another
 

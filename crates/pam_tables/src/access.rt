@@ -13,7 +13,8 @@ use crate::groups::Groups;
 use crate::lines::{Lines, is_blank_text, source, trim};
 use crate::login::Origin;
 use crate::options::AccessOptions;
-use crate::tokens::{check_tokens, has_token, list_matches};
+use crate::origins::check_origins;
+use crate::tokens::{has_token, list_matches};
 use crate::users::{UserMatcher, check_users};
 use pam_text::{ByteSet, Source, cut_among};
 use pam_times::Login;
@@ -125,7 +126,7 @@ fn check_fields(fields: Fields<'_>, separators: &ByteSet<'_>) -> Result<(), Tabl
     }
     Permission::read(trim(fields.permission))?;
     check_users(fields.users, separators)?;
-    check_tokens::<Origin<'_>>(fields.origins, separators)
+    check_origins(fields.origins, separators)
 }
 
 fn check_line(line: &[u8], separators: &Separators<'_>) -> Result<(), TableFault>
@@ -238,7 +239,7 @@ impl<'a> AccessTable<'a> {
     }
 
     /// Returns the table's answer for a login. Allocates nothing.
-    pub fn decide(&self, login: &Login<'_>, groups: &Groups) -> AccessAnswer
+    pub fn decide(&self, login: &Login<'_>, groups: &Groups<'_>) -> AccessAnswer
         ensures { result ≡ access_answer self.now (login_view login.now) groups.now }
     {
         let origin = Origin::of(login);

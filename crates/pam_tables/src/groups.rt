@@ -17,20 +17,20 @@ use pam_text::cut;
 use std::alloc::Global;
 use std::marker::Model;
 
-/// The members of groups, by group name, as in group(5).
+/// The members of groups, by group name, as in group(5). Borrows the bytes it was read from.
 #[derive(Drop)]
-pub struct Groups {
+pub struct Groups<'a> {
     // the last field of the group's line: names joined by commas
-    members: IndexMap<Vec<u8>, Vec<u8>>,
+    members: IndexMap<&'a [u8], &'a [u8]>,
 }
 
-impl Model for Groups {
+impl<'a> Model for Groups<'a> {
     ghost use Rattle.std.specs.Prelude.{List, map};
     ghost use Rattle.pam_tables.specs.Groups.{Group, members_of};
 
     ghost Value = { List Group };
 
-    ghost view = { λ g. map (λ e. (e.0.items, members_of e.1.items)) g.members.entries };
+    ghost view = { λ g. map (λ e. (e.0.now, members_of e.1.now)) g.members.entries };
 }
 
 /// The name and the members of a group, as written in its line.
@@ -73,7 +73,7 @@ fn has_member(members: &[u8], user: &[u8]) -> bool
     rest == user
 }
 
-impl Groups {
+impl<'a> Groups<'a> {
     /// Returns an empty table: no group has members.
     pub fn new(alloc: Global) -> Self
         ensures { result ≡ [] }
@@ -87,7 +87,7 @@ impl Groups {
     ///
     /// `TableTooLong` (line 0) comes first, then `NulByte`, then `BadGroup` in the lines from the top. A failed
     /// allocation is `Memory`, with line 0.
-    pub fn read(alloc: Global, bytes: &[u8]) -> Result<Groups, TableError>
+    pub fn read(alloc: Global, bytes: &'a [u8]) -> Result<Groups<'a>, TableError>
         ensures { Gives Table.Group (λ groups. groups) result (groups_of bytes.now) }
     {
         read_entries(alloc, Table::Group, bytes, Groups::new(alloc))
@@ -107,7 +107,7 @@ impl Groups {
     }
 }
 
-impl Entries for Groups {
+impl<'a> Entries<'a> for Groups<'a> {
     ghost use Rattle.std.specs.Prelude.{ℕ, List};
     ghost use Rattle.pam_tables.specs.Groups.{group_at};
 
@@ -117,7 +117,7 @@ impl Entries for Groups {
 
     ghost entries = { λ groups. groups };
 
-    fn add_line(&mut self, alloc: Global, line: &[u8]) -> Result<(), TableFault>
+    fn add_line(&mut self, alloc: Global, line: &'a [u8]) -> Result<(), TableFault>
         ensures { GivesPart (λ _. self.new) result (with_line self.old (group_at line.now)) }
     {
         if is_blank_text(line) {
@@ -130,9 +130,7 @@ impl Entries for Groups {
         if self.members.contains_key(group.name) {
             return Ok(());
         }
-        let name = Vec::from_slice(alloc, group.name)?;
-        let members = Vec::from_slice(alloc, group.members)?;
-        self.members.insert(name, members)?;
+        self.members.insert(group.name, group.members)?;
         Ok(())
     }
 }

@@ -1,14 +1,16 @@
 //! The lines of a table, and the parts of a line.
 
-ghost use Rattle.std.specs.Prelude.{◌≡◌, ◌+◌, ◌^◌, ◌<◌, ◌≤◌, IfOk, length};
+ghost use Rattle.std.specs.Prelude.{◌≡◌, ◌+◌, ◌^◌, ◌<◌, ◌≤◌, codes, position, IfOk, IfSome, length};
 ghost use Rattle.std.specs.List.{prefix_len, suffix_len};
+ghost use Rattle.std.specs.Option.{option_map};
 ghost use Rattle.std.specs.Iterator.{YieldsFirstBy, item_count};
 ghost use Rattle.pam_tables.specs.Error.{Gives};
 ghost use Rattle.pam_tables.specs.Lines.{fault_at_line, sound, without_return, lines_from, lines_left, is_blank, is_blank_line};
-ghost use Rattle.pam_tables.specs.Lines.{trimmed_end, trimmed};
+ghost use Rattle.pam_tables.specs.Lines.{cut_at, is_among, trimmed_end, trimmed};
 
 use crate::error::{Table, TableError, TableFault};
-use pam_text::{MAX_FILE_BYTES, Source, SourceFault, cut};
+use memchr::memchr;
+use pam_text::{MAX_FILE_BYTES, Source, SourceFault};
 
 /// The maximum length of a table, in bytes. A longer one is `TableTooLong`.
 pub const MAX_TABLE_BYTES: usize = MAX_FILE_BYTES;
@@ -87,6 +89,23 @@ fn drop_return(line: &[u8]) -> &[u8]
     }
 }
 
+fn line_feed(text: &[u8]) -> Option<usize>
+    ensures value { result ≡ position (is_among (codes "\n")) text.now }
+    ensures bound { IfSome result (λ i. i < length text.now) }
+{
+    memchr(b'\n', text)
+}
+
+/// The bytes before and after the first line feed.
+fn cut_line(text: &[u8]) -> Option<(&[u8], &[u8])>
+    ensures value { option_map (λ p. (p.0.now, p.1.now)) result ≡ cut_at (is_among (codes "\n")) text.now }
+    ensures shorter { IfSome result (λ p. length p.1.now < length text.now) }
+{
+    let index = line_feed(text)?;
+    let (line, rest) = text.split_at(index);
+    Some((line, rest.split_at(1).1))
+}
+
 /// The remaining lines of a table, with their numbers, without line ends.
 #[derive(Drop)]
 pub(crate) struct Lines<'a> {
@@ -121,7 +140,7 @@ impl<'a> Iterator for Lines<'a> {
             return None;
         }
         let number = self.number;
-        match cut(self.rest, b'\n') {
+        match cut_line(self.rest) {
             Some((line, rest)) => {
                 self.rest = rest;
                 self.number = number + 1;

@@ -10,7 +10,7 @@ use crate::lines::{Lines, source};
 use std::alloc::Global;
 
 /// Entries by name, to which a file adds its own.
-pub(crate) trait Entries: Drop {
+pub(crate) trait Entries<'a>: Drop {
     ghost use Rattle.std.specs.Prelude.{ℕ, List, Option, Result};
     ghost use Rattle.pam_tables.specs.Error.{GivesPart};
     ghost use Rattle.pam_tables.specs.Named.{with_line};
@@ -23,15 +23,15 @@ pub(crate) trait Entries: Drop {
     ghost entries: { Self → List (List ℕ × Value) };
 
     /// Adds the entry of a line, if its name is new.
-    fn add_line(&mut self, alloc: Global, line: &[u8]) -> Result<(), TableFault>
+    fn add_line(&mut self, alloc: Global, line: &'a [u8]) -> Result<(), TableFault>
         ensures { GivesPart (λ _. entries self.new) result (with_line (entries self.old) (meant line.now)) };
 }
 
 /// Adds the entries of a file to none, or returns the file's first fault.
-pub(crate) fn read_entries<E: Entries>(
+pub(crate) fn read_entries<'a, E: Entries<'a>>(
     alloc: Global,
     table: Table,
-    bytes: &[u8],
+    bytes: &'a [u8],
     none: E,
 ) -> Result<E, TableError>
     requires { E.entries none ≡ [] }

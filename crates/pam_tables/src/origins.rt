@@ -1,10 +1,12 @@
 //! The tokens of origins, as in access.conf(5).
 
-ghost use Rattle.std.specs.Prelude.{◌≡◌, false, Ok};
+ghost use Rattle.std.specs.Prelude.{◌≡◌, ◌==◌, ◌||◌, false, Ok};
+ghost use Rattle.std.specs.List.{list_any};
 ghost use Rattle.std.specs.Option.{option_map_or};
 ghost use Rattle.pam_tables.specs.Error.{verdict};
 ghost use Rattle.pam_tables.specs.Network.{is_in_network};
-ghost use Rattle.pam_tables.specs.Tokens.{OriginPattern, plain_origin, origin_token, known_mark, host_mark as host_mark_of, place_mark as place_mark_of};
+ghost use Rattle.pam_tables.specs.Tokens.{OriginPattern, each_token, plain_origin, tokens_of, origin_token, known_mark};
+ghost use Rattle.pam_tables.specs.Tokens.{host_mark as host_mark_of, place_mark as place_mark_of};
 ghost use Rattle.pam_tables.specs.Tokens.{ends_with_name as ends_with_name_of, same_address as same_address_of, is_v4 as is_v4_of};
 
 use crate::address::Address;
@@ -12,8 +14,10 @@ use crate::error::TableFault;
 use crate::lists::Mark;
 use crate::login::Origin;
 use crate::network::Network;
-use crate::tokens::Matcher;
+use crate::tokens::{Matcher, check_tokens};
+use memchr::memchr2;
 use pam_codes::is_name;
+use pam_text::ByteSet;
 
 fn ends_with_name(text: &[u8], end: &[u8]) -> bool
     ensures { result ≡ ends_with_name_of text.now end.now }
@@ -127,6 +131,23 @@ fn place_mark(token: &[u8], place: &[u8]) -> Mark
         Ok(Some(_)) => Mark::Miss,
         Ok(None) => plain_place_mark(token, place),
         Err(_) => Mark::Miss,
+    }
+}
+
+fn has_at_or_slash(text: &[u8]) -> bool
+    ensures { result ≡ list_any (λ b. b == 64 || b == 47) text.now }
+{
+    memchr2(b'@', b'/', text).is_some()
+}
+
+/// Checks a list of origins. Only a token with an `@` or a slash can have a fault.
+pub(crate) fn check_origins(text: &[u8], separators: &ByteSet<'_>) -> Result<(), TableFault>
+    ensures { result ≡ verdict (each_token origin_token (tokens_of separators.now.bytes.now text.now)) }
+{
+    if has_at_or_slash(text) {
+        check_tokens::<Origin<'_>>(text, separators)
+    } else {
+        Ok(())
     }
 }
 

@@ -149,7 +149,7 @@ struct ReturnReader<'s> {
     ghost blank: { blanks.bytes.now ≡ codes " \t" },
 }
 
-impl<'s> Entries for ReturnReader<'s> {
+impl<'a, 's> Entries<'a> for ReturnReader<'s> {
     ghost use Rattle.std.specs.Prelude.{ℕ, List};
     ghost use Rattle.pam_tables.specs.Returns.{return_at};
 
@@ -159,7 +159,7 @@ impl<'s> Entries for ReturnReader<'s> {
 
     ghost entries = { λ reader. reader.table };
 
-    fn add_line(&mut self, alloc: Global, line: &[u8]) -> Result<(), TableFault>
+    fn add_line(&mut self, alloc: Global, line: &'a [u8]) -> Result<(), TableFault>
         ensures { GivesPart (λ _. self.new.table) result (with_line self.old.table (return_at line.now)) }
     {
         self.table.add_line(alloc, line, &self.blanks)

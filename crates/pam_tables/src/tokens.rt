@@ -51,10 +51,7 @@ pub(crate) fn first_token<'a>(
 pub(crate) fn has_token(text: &[u8], separators: &ByteSet<'_>) -> bool
     ensures { result ≡ not (length (tokens_of separators.now.bytes.now text.now) == 0) }
 {
-    match first_token(text, separators) {
-        Some(_) => true,
-        None => false,
-    }
+    gap_len(text, separators) < text.len()
 }
 
 /// An iterator over the tokens of a list.

@@ -19,7 +19,7 @@ use pam_text::ByteSet;
 #[derive(Clone, Copy)]
 pub(crate) struct UserMatcher<'a> {
     pub(crate) user: &'a [u8],
-    pub(crate) groups: &'a Groups,
+    pub(crate) groups: &'a Groups<'a>,
     pub(crate) by_name: bool,
 }
 

@@ -58,7 +58,7 @@ fn status_of(answer: AccessAnswer) -> Status
 }
 
 /// Reads the groups, if a file is given.
-fn groups(alloc: Global, bytes: Option<&[u8]>) -> Result<Groups, TableError>
+fn groups(alloc: Global, bytes: Option<&[u8]>) -> Result<Groups<'_>, TableError>
     ensures { Gives Table.Group (λ groups. groups) result (groups_in (option_map (λ b. b.now) bytes.entry)) }
 {
     match bytes {

@@ -26,6 +26,6 @@ returns-in_err-check_users c = λ n.
 
 pub returns : goal.returns
 returns c = λ n.
-    c.check_tokens.ensures ∙ good_users _ n _ _ _ (sym c.has_token.ensures ∙ c.if-not-has_token.false)
+    c.check_origins.ensures ∙ good_users _ n _ _ _ (sym c.has_token.ensures ∙ c.if-not-has_token.false)
     (sym c.has_token-2.ensures ∙ c.if-not-has_token-2.false) _ (c.in_ok-read.ensures ∙ ap permission_of c.trim.ensures)
     (sym c.in_ok-check_users.was ∙ c.check_users.ensures)

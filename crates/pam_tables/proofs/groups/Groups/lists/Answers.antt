@@ -9,14 +9,13 @@ use Rattle.pam_tables.proofs.groups.Groups.lists.Goals as goal
 pub returns-in-Some : goal.returns-in-Some
 returns-in-Some c =
     let user = c.args.user.now in
-    c.has_member.ensures ∙ ap (λ (bs : List ℕ). list_any (λ m. bytes_eq m user) (members_of bs)) c.deref.ensures.value
-    ∙ ap (λ o. option_map_or (λ v. list_any (λ m. bytes_eq m user) (members_of v.items)) o false) c.in-Some.ensures.value
-    ∙ sym (lists_user-map (λ k. k.items) (λ v. members_of v.items) c.args.group.now user c.self.inside.members.entries)
+    c.has_member.ensures ∙ ap (λ o. option_map_or (λ v. list_any (λ m. bytes_eq m user) (members_of v.now)) o false) c.in-Some.ensures.value
+    ∙ sym (lists_user-map (λ k. k.now) (λ v. members_of v.now) c.args.group.now user c.self.inside.members.entries)
     ∙ ap (λ gs. lists_user gs c.args.group.now user) c.self.view_is
 
 pub returns-in-None : goal.returns-in-None
 returns-in-None c =
     let user = c.args.user.now in
-    ap (λ o. option_map_or (λ v. list_any (λ m. bytes_eq m user) (members_of v.items)) o false) c.in-None.ensures.value
-    ∙ sym (lists_user-map (λ k. k.items) (λ v. members_of v.items) c.args.group.now user c.self.inside.members.entries)
+    ap (λ o. option_map_or (λ v. list_any (λ m. bytes_eq m user) (members_of v.now)) o false) c.in-None.ensures.value
+    ∙ sym (lists_user-map (λ k. k.now) (λ v. members_of v.now) c.args.group.now user c.self.inside.members.entries)
     ∙ ap (λ gs. lists_user gs c.args.group.now user) c.self.view_is
