@@ -12,30 +12,17 @@ use Rattle.pam_words.specs.declared.wanted.Usage.{Usage}
 use Rattle.pam_words.specs.declared.wanted.Usage.TheVariants as usage
 
 pub answers-clean : (kinds : Kinds) (asked : Result RequestText Refusal) (r : Result Request Usage) → Answers asked r → kinds ≡ [] → RefusesBy kinds r
-answers-clean kinds asked (Ok request) h e = e
-answers-clean kinds asked (Err usage.Source) h e = e
-answers-clean kinds asked (Err usage.KindName) h e = e
-answers-clean kinds asked (Err usage.CodeName) h e = e
-answers-clean kinds asked (Err usage.Login) h e = e
-answers-clean kinds asked (Err usage.Moment) h e = e
-answers-clean kinds asked (Err usage.BothEnds) h e = e
 answers-clean kinds asked (Err usage.Memory) h e = tt
 answers-clean kinds asked (Err (usage.Help error)) h e = absurd h
 answers-clean kinds asked (Err (usage.Words error)) h e = absurd h
 answers-clean kinds asked (Err usage.NotUtf8) h e = absurd h
+answers-clean kinds asked _ h e = e
 
 pub answers-reads : (asked : Result RequestText Refusal) (r : Result Request Usage) → Answers asked r → Reads asked r
-answers-reads asked (Ok request) h = h
-answers-reads asked (Err usage.Source) h = h
-answers-reads asked (Err usage.KindName) h = h
-answers-reads asked (Err usage.CodeName) h = h
-answers-reads asked (Err usage.Login) h = h
-answers-reads asked (Err usage.Moment) h = h
-answers-reads asked (Err usage.BothEnds) h = h
 answers-reads asked (Err usage.Memory) h = tt
-answers-reads asked (Err (usage.Help error)) h = absurd h
-answers-reads asked (Err (usage.Words error)) h = absurd h
-answers-reads asked (Err usage.NotUtf8) h = absurd h
+answers-reads asked (Err (usage.Help error)) h = tt
+answers-reads asked (Err (usage.Words error)) h = tt
+answers-reads asked _ h = h
 
 among : (kinds : Kinds) (k : ErrorKind) (error : Error) → k ≡ kind_of error → IsAmong (kind_of error) kinds → IsAmong k kinds
 among kinds k error e h = subst (λ (x : ErrorKind). IsAmong x kinds) (sym e) h
@@ -46,39 +33,20 @@ refused-by kinds error (usage.Help e) h (inl m) = let a = h.0 in let b = h.1 in 
 refused-by kinds error (usage.Help e) h (inr k) = (among kinds _ error (sym h.1 ∙ h.0) k, h.1)
 refused-by kinds error (usage.Words e) h (inl m) = absurd (h.2 (h.0 ∙ m))
 refused-by kinds error (usage.Words e) h (inr k) = (among kinds _ error h.0 k, h.1)
-refused-by kinds error usage.Source h k = absurd h
-refused-by kinds error usage.NotUtf8 h k = absurd h
-refused-by kinds error usage.KindName h k = absurd h
-refused-by kinds error usage.CodeName h k = absurd h
-refused-by kinds error usage.Login h k = absurd h
-refused-by kinds error usage.Moment h k = absurd h
-refused-by kinds error usage.BothEnds h k = absurd h
+refused-by kinds error _ h k = absurd h
 
 pub answers-read : (asked : Result RequestText Refusal) (r : Result Request Usage) → Answers asked r → IsRead r
-answers-read asked (Ok request) h = tt
-answers-read asked (Err usage.Source) h = tt
-answers-read asked (Err usage.KindName) h = tt
-answers-read asked (Err usage.CodeName) h = tt
-answers-read asked (Err usage.Login) h = tt
-answers-read asked (Err usage.Moment) h = tt
-answers-read asked (Err usage.BothEnds) h = tt
-answers-read asked (Err usage.Memory) h = tt
 answers-read asked (Err (usage.Help error)) h = absurd h
 answers-read asked (Err (usage.Words error)) h = absurd h
 answers-read asked (Err usage.NotUtf8) h = absurd h
+answers-read asked _ h = tt
 
 -- if `clap` accepts the words, it fails only for an allocation
 pub refused-read : (error : Error) (u : Usage) → IsRefusalOf error u → kind_of error ≡ OutOfMemory → IsRead (Err u)
 refused-read error usage.Memory h m = tt
 refused-read error (usage.Help e) h m = let a = h.0 in let b = h.1 in cc
 refused-read error (usage.Words e) h m = absurd (h.2 (h.0 ∙ m))
-refused-read error usage.Source h m = absurd h
-refused-read error usage.NotUtf8 h m = absurd h
-refused-read error usage.KindName h m = absurd h
-refused-read error usage.CodeName h m = absurd h
-refused-read error usage.Login h m = absurd h
-refused-read error usage.Moment h m = absurd h
-refused-read error usage.BothEnds h m = absurd h
+refused-read error _ h m = absurd h
 
 pub refused-reads : (o : Option (Text × List Row)) (error : Error) (u : Usage) → IsRefusalOf error u
     → MatchOption o (IsRefusal (Err u)) (λ p. Reads (request_of p.0 p.1) (Err u))
@@ -88,10 +56,4 @@ refused-reads None error (usage.Words e) h = tt
 refused-reads (Some p) error usage.Memory h = tt
 refused-reads (Some p) error (usage.Help e) h = tt
 refused-reads (Some p) error (usage.Words e) h = tt
-refused-reads o error usage.Source h = absurd h
-refused-reads o error usage.NotUtf8 h = absurd h
-refused-reads o error usage.KindName h = absurd h
-refused-reads o error usage.CodeName h = absurd h
-refused-reads o error usage.Login h = absurd h
-refused-reads o error usage.Moment h = absurd h
-refused-reads o error usage.BothEnds h = absurd h
+refused-reads o error _ h = absurd h

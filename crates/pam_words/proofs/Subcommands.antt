@@ -1,9 +1,11 @@
 -- A command with one more argument or subcommand, from the contract of `clap`.
-use Rattle.std.proofs.Common.{◌≡◌, ◌||◌, Bool, true, false, Result, Ok, Err, IfOk, ap₂, refl, ◌∙◌}
-use Rattle.clap.specs.Words.{AddsArg, AddsSubcommand, App, Rule, app_of, rule_of, with_rule, with_subcommand}
+use Rattle.std.proofs.Common.{◌≡◌, ℕ, ◌+◌, ◌<◌, ◌||◌, Bool, true, false, List, Result, Ok, Err, IfOk, ap₂, refl, subst, ◌∙◌}
+use Rattle.std.proofs.Common.{add-one, drop, drop-cons, get_or, length, map}
+use Rattle.clap.specs.Words.{AddsArg, AddsSubcommand, App, Rule, Text, app_of, rule_of, with_rule, with_subcommand}
 use Rattle.clap.specs.declared.builder.Arg.{Arg}
 use Rattle.clap.specs.declared.builder.Command.{Command}
 use Rattle.clap.specs.declared.builder.Command.TheViews.{out-Command}
+use Rattle.pam_words.specs.Words.{option_rule, with_options}
 
 pub add-app : (old sub new : Command) (a b : App) → AddsSubcommand old sub new → (out-Command sub).has_globals ≡ false → app_of old ≡ a → app_of sub ≡ b
     → app_of new ≡ with_subcommand a b.top
@@ -28,6 +30,16 @@ pub add-rule-local : {globals : Bool} (old new : Command) (arg : Arg) → AddsAr
     → (out-Command old).has_globals ≡ globals → (out-Command new).has_globals ≡ globals
 add-rule-local {globals} old new arg h local e = h.globals ∙ (kept _ _ local ∙ e)
 
+-- a command with the option at an index has the others still to come
+pub add-option : {X : Type 0} {all : App} (id : X → Text) (options : List X) (i : ℕ) (option : X) (old new : App) → i < length options
+    → new ≡ with_rule old (option_rule (id (get_or options i option))) → with_options old (map id (drop i options)) ≡ all
+    → with_options new (map id (drop (i + 1) options)) ≡ all
+add-option id options i option old new h e before = rw (e, add-one) (rw (drop-cons options i option) at before)
+
 pub IfOk-then : {X E : Type 0} (r : Result X E) (P Q : X → Type 0) → ((x : X) → P x → Q x) → IfOk r P → IfOk r Q
 IfOk-then (Ok x) P Q f h = f x h
 IfOk-then (Err e) P Q f h = tt
+
+-- what is said of a result for a value holds for an equal one
+pub IfOk-of : {A X E : Type 0} {one other : A} (r : Result X E) (P : A → X → Type 0) → one ≡ other → IfOk r (P one) → IfOk r (P other)
+IfOk-of {A} r P e h = subst (λ (a : A). IfOk r (P a)) e h

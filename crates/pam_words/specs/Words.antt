@@ -1,5 +1,5 @@
 -- The command line: the words that each command accepts.
-use Rattle.std.specs.Prelude.{ℕ, Some, codes, true}
+use Rattle.std.specs.Prelude.{ℕ, List, [], ◌∷◌, Some, codes, true}
 use Rattle.clap.specs.Words.{App, Rule, Text, new_app, new_rule, with_rule, with_subcommand}
 use Rattle.clap.specs.declared.builder.ArgAction.TheVariants.{Append}
 use Rattle.clap.specs.declared.builder.value_parser.ValueParser.{ValueParser}
@@ -35,12 +35,16 @@ limit_parser = Unsigned least_limit most_limit
 abbrev pub limit_rule : Rule
 limit_rule = record (option_rule (codes "limit")) { parser = Some limit_parser }
 
+-- with `--ID VALUE` for each of these
+abbrev pub with_options : App → List Text → App
+with_options app [] = app
+with_options app (id ∷ ids) = with_options (with_rule app (option_rule id)) ids
+
 -- `NAME SERVICE KIND`, with `--dir` and `--conf`
 abbrev pub stack_app : Text → App
 stack_app name =
-    with_rule (with_rule (with_rule (with_rule (new_app name)
-    (required_rule (codes "service"))) (required_rule (codes "kind")))
-    (option_rule (codes "dir"))) (option_rule (codes "conf"))
+    with_options (with_rule (with_rule (new_app name) (required_rule (codes "service"))) (required_rule (codes "kind")))
+    (codes "dir" ∷ codes "conf" ∷ [])
 
 -- `show SERVICE KIND`
 unfoldable pub show_app : App
@@ -52,26 +56,17 @@ decide_app = with_rule (stack_app (codes "decide")) (repeated_rule (codes "code"
 
 -- the options that choose a page of a listing
 abbrev pub with_page : App → App
-with_page app =
-    with_rule (with_rule (with_rule app
-    limit_rule) (option_rule (codes "after"))) (option_rule (codes "before"))
+with_page app = with_options (with_rule app limit_rule) (codes "after" ∷ codes "before" ∷ [])
 
 -- the options of a login: the user, the remote host and the terminal
 abbrev pub with_login : App → App
-with_login app =
-    with_rule (with_rule (with_rule app
-    (option_rule (codes "user"))) (option_rule (codes "rhost"))) (option_rule (codes "tty"))
+with_login app = with_options app (codes "user" ∷ codes "rhost" ∷ codes "tty" ∷ [])
 
 abbrev pub with_tables : App → App
-with_tables app =
-    with_rule (with_rule (with_rule (with_rule app
-    (option_rule (codes "access"))) (option_rule (codes "time")))
-    (option_rule (codes "group"))) (option_rule (codes "returns"))
+with_tables app = with_options app (codes "access" ∷ codes "time" ∷ codes "group" ∷ codes "returns" ∷ [])
 
 abbrev pub with_moment : App → App
-with_moment app =
-    with_rule (with_rule (with_rule app
-    (option_rule (codes "at"))) (option_rule (codes "at-unix"))) (option_rule (codes "zone"))
+with_moment app = with_options app (codes "at" ∷ codes "at-unix" ∷ codes "zone" ∷ [])
 
 -- `paths SERVICE KIND`
 unfoldable pub paths_app : App
@@ -87,9 +82,7 @@ login_app name =
 -- `access SERVICE [ARGUMENT]...`
 unfoldable pub access_app : App
 access_app =
-    with_rule (with_rule (with_rule (login_app (codes "access"))
-    (option_rule (codes "group"))) (option_rule (codes "rhost")))
-    (repeated_rule (codes "argument"))
+    with_rule (with_options (login_app (codes "access")) (codes "group" ∷ codes "rhost" ∷ [])) (repeated_rule (codes "argument"))
 
 -- `time SERVICE`
 unfoldable pub time_app : App

@@ -1,9 +1,12 @@
 //! The `clap` command of `pamcheck`.
 
-ghost use Rattle.std.specs.Prelude.{◌≡◌, IfOk, false};
+ghost use Rattle.std.specs.Prelude.{◌≡◌, IfOk, false, map};
 ghost use Rattle.clap.specs.Words.{app_of, new_app, rule_of};
 ghost use Rattle.clap.specs.declared.builder.Command.TheViews.{out-Command as fields_of};
-ghost use Rattle.pam_words.specs.Words.{access_app, bare_app, decide_app, limit_rule, login_app, option_rule, pamcheck_app, paths_app, repeated_rule, required_option_rule, required_rule, show_app, stack_app, time_app, with_login as with_login_rules, with_moment as with_moment_rules, with_page as with_page_rules, with_stacks as with_stack_commands, with_tables as with_table_rules};
+ghost use Rattle.pam_words.specs.Words.{access_app, bare_app, decide_app, limit_rule, login_app, option_rule, pamcheck_app, paths_app};
+ghost use Rattle.pam_words.specs.Words.{repeated_rule, required_option_rule, required_rule, show_app, stack_app, time_app};
+ghost use Rattle.pam_words.specs.Words.{with_login as with_login_rules, with_moment as with_moment_rules, with_options as with_option_rules};
+ghost use Rattle.pam_words.specs.Words.{with_page as with_page_rules, with_stacks as with_stack_commands, with_tables as with_table_rules};
 
 use crate::limit::limit_parser;
 use clap::{Arg, ArgAction, Command};
@@ -68,6 +71,22 @@ fn limit<'a>(alloc: Global) -> Arg<'a>
     .value_parser(limit_parser())
 }
 
+/// Adds an option `--ID NAME` for each ID, NAME and help.
+fn with_options<'a>(
+    alloc: Global,
+    command: Command<'a>,
+    options: &[(&'a str, &'a str, &'a str)],
+) -> Result<Command<'a>, AllocError>
+    ensures app { IfOk result (λ c. app_of c ≡ with_option_rules (app_of command.entry) (map (λ o. o.0.now) options.now)) }
+    ensures local { IfOk result (λ c. (fields_of c).has_globals ≡ (fields_of command.entry).has_globals) }
+{
+    let mut command = command;
+    for (id, name, help) in options {
+        command = command.arg(option(alloc, id, name, help))?;
+    }
+    Ok(command)
+}
+
 /// A command with SERVICE, KIND and a source.
 fn stack_command<'a>(
     alloc: Global,
@@ -77,16 +96,14 @@ fn stack_command<'a>(
     ensures app { IfOk result (λ c. app_of c ≡ stack_app name.entry.now) }
     ensures local { IfOk result (λ c. (fields_of c).has_globals ≡ false) }
 {
-    named(alloc, name, about)
+    let command = named(alloc, name, about)
         .arg(positional(alloc, "service", "SERVICE", "The service"))?
-        .arg(positional(alloc, "kind", "KIND", "auth, account, password or session"))?
-        .arg(option(
-            alloc,
-            "dir",
-            "DIR",
-            "The folder with a file for each service",
-        ))?
-        .arg(option(alloc, "conf", "FILE", "The file for all services"))
+        .arg(positional(alloc, "kind", "KIND", "auth, account, password or session"))?;
+    let options = [
+        ("dir", "DIR", "The folder with a file for each service"),
+        ("conf", "FILE", "The file for all services"),
+    ];
+    with_options(alloc, command, &options)
 }
 
 #[tactic(auto, unfolding(crate::specs::Words::show_app))]
@@ -115,20 +132,15 @@ fn with_page<'a>(alloc: Global, command: Command<'a>) -> Result<Command<'a>, All
     ensures app { IfOk result (λ c. app_of c ≡ with_page_rules (app_of command.entry)) }
     ensures local { IfOk result (λ c. (fields_of c).has_globals ≡ (fields_of command.entry).has_globals) }
 {
-    command
-        .arg(limit(alloc))?
-        .arg(option(
-            alloc,
-            "after",
-            "CURSOR",
-            "Lists the paths after this cursor",
-        ))?
-        .arg(option(
-            alloc,
+    let options = [
+        ("after", "CURSOR", "Lists the paths after this cursor"),
+        (
             "before",
             "CURSOR",
             "Lists the paths before this cursor, the last first",
-        ))
+        ),
+    ];
+    with_options(alloc, command.arg(limit(alloc))?, &options)
 }
 
 /// Adds the options of a login: the user, the remote host and the terminal.
@@ -136,10 +148,12 @@ fn with_login<'a>(alloc: Global, command: Command<'a>) -> Result<Command<'a>, Al
     ensures app { IfOk result (λ c. app_of c ≡ with_login_rules (app_of command.entry)) }
     ensures local { IfOk result (λ c. (fields_of c).has_globals ≡ (fields_of command.entry).has_globals) }
 {
-    command
-        .arg(option(alloc, "user", "NAME", "The user"))?
-        .arg(option(alloc, "rhost", "HOST", "The remote host"))?
-        .arg(option(alloc, "tty", "TTY", "The terminal"))
+    let options = [
+        ("user", "NAME", "The user"),
+        ("rhost", "HOST", "The remote host"),
+        ("tty", "TTY", "The terminal"),
+    ];
+    with_options(alloc, command, &options)
 }
 
 /// Adds the options that name tables and a returns file.
@@ -147,26 +161,21 @@ fn with_tables<'a>(alloc: Global, command: Command<'a>) -> Result<Command<'a>, A
     ensures app { IfOk result (λ c. app_of c ≡ with_table_rules (app_of command.entry)) }
     ensures local { IfOk result (λ c. (fields_of c).has_globals ≡ (fields_of command.entry).has_globals) }
 {
-    command
-        .arg(option(
-            alloc,
+    let options = [
+        (
             "access",
             "FILE",
             "The access table of pam_access.so; needs --user",
-        ))?
-        .arg(option(
-            alloc,
+        ),
+        (
             "time",
             "FILE",
             "The time table of pam_time.so; needs --user and a moment",
-        ))?
-        .arg(option(alloc, "group", "FILE", "The group file"))?
-        .arg(option(
-            alloc,
-            "returns",
-            "FILE",
-            "The codes that other modules can return",
-        ))
+        ),
+        ("group", "FILE", "The group file"),
+        ("returns", "FILE", "The codes that other modules can return"),
+    ];
+    with_options(alloc, command, &options)
 }
 
 /// Adds the options that give the moment of a login.
@@ -174,20 +183,16 @@ fn with_moment<'a>(alloc: Global, command: Command<'a>) -> Result<Command<'a>, A
     ensures app { IfOk result (λ c. app_of c ≡ with_moment_rules (app_of command.entry)) }
     ensures local { IfOk result (λ c. (fields_of c).has_globals ≡ (fields_of command.entry).has_globals) }
 {
-    command
-        .arg(option(alloc, "at", "CIVIL", "The moment, as 2024-05-06T10:00"))?
-        .arg(option(
-            alloc,
-            "at-unix",
-            "SECONDS",
-            "The moment, in seconds since 1970",
-        ))?
-        .arg(option(
-            alloc,
+    let options = [
+        ("at", "CIVIL", "The moment, as 2024-05-06T10:00"),
+        ("at-unix", "SECONDS", "The moment, in seconds since 1970"),
+        (
             "zone",
             "RULE",
             "The POSIX zone rule of --at-unix; UTC0 if left out",
-        ))
+        ),
+    ];
+    with_options(alloc, command, &options)
 }
 
 #[tactic(auto, unfolding(crate::specs::Words::paths_app))]
@@ -222,15 +227,17 @@ fn access_command<'a>(alloc: Global) -> Result<Command<'a>, AllocError>
     ensures app { IfOk result (λ c. app_of c ≡ access_app) }
     ensures local { IfOk result (λ c. (fields_of c).has_globals ≡ false) }
 {
-    login_command(alloc, "access", "Looks a login up in an access table")?
-        .arg(option(alloc, "group", "FILE", "The group file"))?
-        .arg(option(alloc, "rhost", "HOST", "The remote host"))?
-        .arg(repeated(
-            alloc,
-            "argument",
-            "ARGUMENT",
-            "The arguments of pam_access.so",
-        ))
+    let command = login_command(alloc, "access", "Looks a login up in an access table")?;
+    let options = [
+        ("group", "FILE", "The group file"),
+        ("rhost", "HOST", "The remote host"),
+    ];
+    with_options(alloc, command, &options)?.arg(repeated(
+        alloc,
+        "argument",
+        "ARGUMENT",
+        "The arguments of pam_access.so",
+    ))
 }
 
 #[tactic(auto, unfolding(crate::specs::Words::time_app))]

@@ -9,6 +9,9 @@ use std::io::{BufWriter, ErrorKind, Write};
 use std::process::ExitCode;
 use std::{env, io};
 
+/// The size of the buffer for standard output, in bytes: one system call writes as much of a long answer.
+const BUFFER_BYTES: usize = 64 * 1024;
+
 /// Returns the words of the command line. It is an error if one is not UTF-8.
 fn words(rt: &HostRuntime) -> io::Result<Vec<String>> {
     let words: Vec<String> = env::args(rt)?.collect(rt.alloc())?;
@@ -26,7 +29,7 @@ fn usage_of(error: &io::Error) -> Usage {
 
 /// Runs the program with a buffer for standard output, and returns the exit status.
 fn status<V: Write>(rt: &HostRuntime, alloc: Global, words: &[String], err: &mut Out<V>) -> u8 {
-    match BufWriter::new(alloc, io::writer(rt)) {
+    match BufWriter::with_capacity(alloc, BUFFER_BYTES, io::writer(rt)) {
         Ok(writer) => run(rt, alloc, words, &mut Out::new(writer), err),
         Err(_) => refuse_without_memory(alloc, err),
     }

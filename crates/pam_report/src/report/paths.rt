@@ -16,9 +16,11 @@ ghost use Rattle.pam_paths.specs.Paths.{path_through};
 ghost use Rattle.pam_report.specs.Answer.{login_at};
 ghost use Rattle.pam_report.specs.Header.{header_text};
 ghost use Rattle.pam_report.specs.Leaves.{LeavesSome};
-ghost use Rattle.pam_report.specs.PageView.{page_view};
-ghost use Rattle.pam_report.specs.Paths.{IsPage, IsPageAt, IsPageOf, IsPart, IsStackPage, IsTaken, side_of};
+ghost use Rattle.pam_report.specs.PageView.{AnswersPart, page_view, page_with};
+ghost use Rattle.pam_report.specs.Paths.{IsPage, IsPageAt, IsPageOf, IsPart, IsStackPage, side_of};
 ghost use Rattle.pam_tables.specs.Login.{login_view};
+ghost use Rattle.pam_words.specs.declared.wanted.Part.{Part};
+ghost use Rattle.pam_words.specs.declared.wanted.Part.TheVariants.{After, Before, Whole};
 
 use super::Status;
 use super::header::put_header;
@@ -31,7 +33,7 @@ use pam_conf::{Files, Kind, Stack, resolve};
 use pam_dispatch::Program;
 use pam_known::known_answers;
 use pam_page::{LineTexts, Listing, put_page};
-use pam_paths::{Cursor, CursorError, Explorer, Known};
+use pam_paths::{Cursor, Explorer, Known};
 use pam_tables::Login as TableLogin;
 use pam_times::MomentError;
 use pam_words::{Login, Part};
@@ -44,70 +46,6 @@ pub(super) struct PageRequest<'a> {
     pub kind: Kind,
     pub limit: u32,
     pub part: Part<'a>,
-}
-
-/// Returns the paths after a cursor.
-// Apart, and never inlined: else the stack has room for the listings of all three calls, of 27 kB each.
-#[inline(never)]
-fn paths_after<'a>(
-    program: &'a Program,
-    known: &'a Known,
-    text: &str,
-) -> Result<Listing<'a, Known>, CursorError>
-    ensures part { (items : Items) → runs_of program.now ≡ runs_of_stack items → modules_of program.now ≡ module_count items
-        → let rest = IsListingAfter (may_answer known.now) (module_count items) (path_through items) in
-        MatchResult result (λ l. IsTaken rest items text.now (Ok (coming l))) (λ e. IsTaken rest items text.now (Err e)) }
-    ensures side { IfOk result (λ l. side l ≡ codes "after") }
-{
-    let cursor = match Cursor::read(text.as_bytes()) {
-        Ok(cursor) => cursor,
-        Err(error) => return Err(error),
-    };
-    match Explorer::after(program, known, &cursor) {
-        Ok(explorer) => Ok(Listing::Forward(explorer)),
-        Err(error) => Err(error),
-    }
-}
-
-/// Returns the paths before a cursor, the last one first.
-#[inline(never)]
-fn paths_before<'a>(
-    program: &'a Program,
-    known: &'a Known,
-    text: &str,
-) -> Result<Listing<'a, Known>, CursorError>
-    ensures part { (items : Items) → runs_of program.now ≡ runs_of_stack items → modules_of program.now ≡ module_count items
-        → let rest = IsListingBefore (may_answer known.now) (module_count items) (path_through items) in
-        MatchResult result (λ l. IsTaken rest items text.now (Ok (coming l))) (λ e. IsTaken rest items text.now (Err e)) }
-    ensures side { IfOk result (λ l. side l ≡ codes "before") }
-{
-    let cursor = match Cursor::read(text.as_bytes()) {
-        Ok(cursor) => cursor,
-        Err(error) => return Err(error),
-    };
-    match Explorer::before(program, known, &cursor) {
-        Ok(before) => Ok(Listing::Backward(before)),
-        Err(error) => Err(error),
-    }
-}
-
-/// Returns the part of the listing that a page is taken from.
-#[inline(never)]
-fn listing_of<'a>(
-    program: &'a Program,
-    known: &'a Known,
-    part: Part<'_>,
-) -> Result<Listing<'a, Known>, CursorError>
-    ensures part { (items : Items) → runs_of program.now ≡ runs_of_stack items → modules_of program.now ≡ module_count items
-        → MatchResult result (λ l. IsPart (may_answer known.now) items part.entry (Ok (coming l)))
-        (λ e. IsPart (may_answer known.now) items part.entry (Err e)) }
-    ensures side { IfOk result (λ l. side l ≡ side_of part.entry) }
-{
-    match part {
-        Part::Whole => Ok(Listing::Forward(Explorer::start(program, known))),
-        Part::After(text) => paths_after(program, known, text),
-        Part::Before(text) => paths_before(program, known, text),
-    }
 }
 
 fn write_page<W: Write>(
@@ -126,6 +64,89 @@ fn write_page<W: Write>(
     out.finish()
 }
 
+/// A page that is requested, and what its paths are explored by.
+#[derive(Clone, Copy)]
+struct Paging<'a> {
+    alloc: Global,
+    request: &'a PageRequest<'a>,
+    program: &'a Program,
+    known: &'a Known,
+}
+
+/// Answers with a page of a listing.
+fn answer_listing<W: Write>(
+    paging: &Paging<'_>,
+    listing: &mut Listing<'_, Known>,
+    out: &mut Out<W>,
+) -> Result<Status, Fault>
+    ensures { (items : Items) (allows : Allowance) (part : Part) → modules_of paging.now.program.now ≡ module_count items
+        → side listing.old ≡ side_of part → IsPart allows items part (Ok (coming listing.old))
+        → LeavesSome W.contents out.old out.new result (IsPageOf (page_with paging.now.request.now part) items allows) }
+{
+    let texts = match LineTexts::new(paging.alloc) {
+        Ok(texts) => texts,
+        Err(_) => return Err(Fault::Memory),
+    };
+    match write_page(
+        paging.request,
+        paging.program.modules(),
+        listing,
+        texts,
+        out,
+    ) {
+        Ok(()) => Ok(Status::Success),
+        Err(Device) => Err(Fault::Device),
+    }
+}
+
+/// Answers with a page from the first path on.
+// Apart, and never inlined, as the next two: else the stack has room for the listings of all three, of 27 kB each.
+#[inline(never)]
+fn answer_whole<W: Write>(paging: &Paging<'_>, out: &mut Out<W>) -> Result<Status, Fault>
+    ensures { AnswersPart W.contents out.old out.new result paging.now Whole }
+{
+    let explorer = Explorer::start(paging.program, paging.known);
+    answer_listing(paging, &mut Listing::Forward(explorer), out)
+}
+
+/// Answers with a page of the paths after a cursor.
+#[inline(never)]
+fn answer_after<W: Write>(
+    paging: &Paging<'_>,
+    text: &str,
+    out: &mut Out<W>,
+) -> Result<Status, Fault>
+    ensures { AnswersPart W.contents out.old out.new result paging.now (After text.entry) }
+{
+    let cursor = match Cursor::read(text.as_bytes()) {
+        Ok(cursor) => cursor,
+        Err(error) => return Err(Fault::Cursor(error)),
+    };
+    match Explorer::after(paging.program, paging.known, &cursor) {
+        Ok(explorer) => answer_listing(paging, &mut Listing::Forward(explorer), out),
+        Err(error) => Err(Fault::Cursor(error)),
+    }
+}
+
+/// Answers with a page of the paths before a cursor, the last one first.
+#[inline(never)]
+fn answer_before<W: Write>(
+    paging: &Paging<'_>,
+    text: &str,
+    out: &mut Out<W>,
+) -> Result<Status, Fault>
+    ensures { AnswersPart W.contents out.old out.new result paging.now (Before text.entry) }
+{
+    let cursor = match Cursor::read(text.as_bytes()) {
+        Ok(cursor) => cursor,
+        Err(error) => return Err(Fault::Cursor(error)),
+    };
+    match Explorer::before(paging.program, paging.known, &cursor) {
+        Ok(before) => answer_listing(paging, &mut Listing::Backward(before), out),
+        Err(error) => Err(Fault::Cursor(error)),
+    }
+}
+
 /// Answers `paths` for a resolved stack, with the codes that its modules may return.
 fn answer_known<W: Write>(
     alloc: Global,
@@ -141,18 +162,16 @@ fn answer_known<W: Write>(
         Ok(program) => program,
         Err(_) => return Err(Fault::Memory),
     };
-    let mut listing = listing_of(&program, known, request.part);
-    let listing = match &mut listing {
-        Ok(listing) => listing,
-        Err(error) => return Err(Fault::Cursor(*error)),
+    let paging = Paging {
+        alloc,
+        request,
+        program: &program,
+        known,
     };
-    let texts = match LineTexts::new(alloc) {
-        Ok(texts) => texts,
-        Err(_) => return Err(Fault::Memory),
-    };
-    match write_page(request, stack.modules(), listing, texts, out) {
-        Ok(()) => Ok(Status::Success),
-        Err(Device) => Err(Fault::Device),
+    match request.part {
+        Part::Whole => answer_whole(&paging, out),
+        Part::After(text) => answer_after(&paging, text, out),
+        Part::Before(text) => answer_before(&paging, text, out),
     }
 }
 

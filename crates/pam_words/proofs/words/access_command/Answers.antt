@@ -1,22 +1,14 @@
-use Rattle.std.proofs.Common.{◌≡◌, false}
-use Rattle.clap.specs.Words.{AddsArg, app_of}
+use Rattle.std.proofs.Common.{◌≡◌, ◌∙◌, [], ◌∷◌, ap, codes}
+use Rattle.clap.specs.Words.{AddsArg, App, app_of}
 use Rattle.clap.specs.declared.builder.Command.{Command}
-use Rattle.clap.specs.declared.builder.Command.TheViews.{out-Command}
-use Rattle.pam_words.specs.Words.{access_app}
-use Rattle.pam_words.proofs.Subcommands.{IfOk-then, add-rule, add-rule-local}
+use Rattle.pam_words.specs.Words.{access_app, with_options}
+use Rattle.pam_words.proofs.Subcommands.{IfOk-then, add-rule}
 use Rattle.pam_words.proofs.words.access_command.Goals as goal
 
 pub returns-clause-app : goal.returns-clause-app
 unfolding access_app
 returns-clause-app c =
-    let with-1 = add-rule _ c.in_ok-arg.field-0 _ _ _ c.in_ok-arg.ensures c.option.ensures.local c.in_ok-login_command.ensures.app c.option.ensures.rule in
-    let with-2 = add-rule _ c.in_ok-arg-2.field-0 _ _ _ c.in_ok-arg-2.ensures c.option-2.ensures.local with-1 c.option-2.ensures.rule in
-    IfOk-then c.arg-3.result (AddsArg c.in_ok-arg-2.field-0 c.repeated.result) (λ (n : Command). app_of n ≡ access_app)
-    (λ n h. add-rule _ n _ _ _ h c.repeated.ensures.local with-2 c.repeated.ensures.rule) c.arg-3.ensures
-
-pub returns-clause-local : goal.returns-clause-local
-returns-clause-local c =
-    let with-1 = add-rule-local _ c.in_ok-arg.field-0 _ c.in_ok-arg.ensures c.option.ensures.local c.in_ok-login_command.ensures.local in
-    let with-2 = add-rule-local _ c.in_ok-arg-2.field-0 _ c.in_ok-arg-2.ensures c.option-2.ensures.local with-1 in
-    IfOk-then c.arg-3.result (AddsArg c.in_ok-arg-2.field-0 c.repeated.result) (λ (n : Command). (out-Command n).has_globals ≡ false)
-    (λ n h. add-rule-local _ n _ h c.repeated.ensures.local with-2) c.arg-3.ensures
+    let options = c.in_ok-with_options.ensures.app
+    ∙ ap (λ (a : App). with_options a (codes "group" ∷ codes "rhost" ∷ [])) c.in_ok-command.ensures.app in
+    IfOk-then c.arg.result (AddsArg c.in_ok-with_options.field-0 c.repeated.result) (λ (n : Command). app_of n ≡ access_app)
+    (λ n h. add-rule _ n _ _ _ h c.repeated.ensures.local options c.repeated.ensures.rule) c.arg.ensures
