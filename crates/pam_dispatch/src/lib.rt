@@ -2,6 +2,7 @@
 //! asked next, and at the end what the stack decides.
 #![tactic(auto)]
 
+mod asked;
 mod decision;
 mod entered;
 mod entry;
@@ -15,6 +16,7 @@ mod state;
 mod step;
 mod work;
 
+pub use asked::Asked;
 pub use decision::Decision;
 pub use error::{Memory, WrongCount};
 pub use pam_conf::MAX_MODULES;

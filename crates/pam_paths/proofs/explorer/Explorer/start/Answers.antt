@@ -1,10 +1,7 @@
 use Rattle.std.proofs.Common.{◌≤◌, ◌∙◌, List, ap, arith, length, map, subst, sym, take}
 use Rattle.pam_dispatch.specs.Flat.{modules_of, runs_of}
-use Rattle.pam_dispatch.specs.Runs.{AsksRise, Runs}
-use Rattle.pam_paths.specs.Computed.{listing}
 use Rattle.pam_paths.specs.Frames.{AreFrames, coming, step_in}
-use Rattle.pam_paths.specs.Listing.{IsListing}
-use Rattle.pam_paths.specs.Paths.{StepValue, path_of}
+use Rattle.pam_paths.specs.Paths.{StepValue}
 use Rattle.pam_paths.proofs.Listings.{listing-is, some_assignment}
 use Rattle.pam_paths.proofs.Trees.{listing-tree}
 use Rattle.pam_paths.proofs.explorer.Explorer.start.Goals as goal
