@@ -186,7 +186,8 @@ impl Lookup<'_, '_, '_> {
     /// Adds the codes of a returns file, for the modules that read no table.
     fn add_returns(&self, stack: &Stack, returns: &ReturnTable, known: &mut Known)
         requires { (m : ℕ) → 1 ≤ m → m ≤ module_count stack.now → IsTableSet (told_of_number self.now stack.now) m (set_for known.old m) }
-        ensures { (m : ℕ) → 1 ≤ m → m ≤ module_count stack.now → IsLineSet (told_of_number self.now stack.now) (line_at returns.now stack.now) m (set_for known.new m) }
+        ensures { (m : ℕ) → 1 ≤ m → m ≤ module_count stack.now
+            → IsLineSet (told_of_number self.now stack.now) (line_at returns.now stack.now) m (set_for known.new m) }
     {
         for index in 0..stack.modules() {
             if let Some(codes) = self.codes_at(stack, index + 1, returns) {

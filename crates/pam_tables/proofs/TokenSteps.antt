@@ -1,6 +1,6 @@
 -- The first token of a list, and tokens one after another.
-use Rattle.std.proofs.Common.{◌≡◌, ◌∙◌, ◌+◌, ◌-◌, ◌≤◌, ◌||◌, ℕ, suc, Bool, true, false, not, List, [], ◌∷◌, length, take, drop, map, filter, cond, eqb, nat_lt, ◌==◌, length-drop}
-use Rattle.std.proofs.Common.{reverse, Result, Ok, Err, refl, sym, ap, ap₂, arith, one-add}
+use Rattle.std.proofs.Common.{◌≡◌, ◌∙◌, ◌+◌, ◌-◌, ◌≤◌, ◌||◌, ℕ, suc, Bool, true, false, not, List, [], ◌∷◌, length, take, drop, map, filter, cond, eqb}
+use Rattle.std.proofs.Common.{◌==◌, nat_lt, length-drop, reverse, Result, Ok, Err, refl, sym, ap, ap₂, arith, one-add}
 use Rattle.std.specs.List.{slice_split, onto_first, prefix_len, suffix_len}
 use Rattle.std.proofs.lemmas.Bool.{eqb-true, ltb-true, ltb-false}
 use Rattle.std.proofs.lemmas.List.{length-reverse, reverse-append}

@@ -1,7 +1,8 @@
 //! Groups of users, as in group(5).
 
-ghost use Rattle.std.specs.Prelude.{◌≡◌, ◌==◌, [], codes, MatchOption, Ok, Err};
+ghost use Rattle.std.specs.Prelude.{◌≡◌, ◌==◌, ℕ, [], codes, false, List, MatchOption, Ok, Err};
 ghost use Rattle.std.specs.List.{list_any};
+ghost use Rattle.std.specs.Option.{option_map_or};
 ghost use Rattle.std.specs.Str.{bytes_eq};
 ghost use Rattle.pam_tables.specs.Error.{Gives, GivesPart};
 ghost use Rattle.pam_tables.specs.Groups.{lists_user, members_of, group_of_fields, group_at, groups_of};
@@ -17,11 +18,38 @@ use pam_text::cut;
 use std::alloc::Global;
 use std::marker::Model;
 
+/// The length of a text of members from which on a group counts as long, in bytes.
+const LONG: usize = 1024;
+
+/// The last field of a group's line: names joined by commas.
+#[derive(Clone, Copy, Drop)]
+pub(crate) struct Members<'a> {
+    pub(crate) text: &'a [u8],
+    /// The number of long groups before this one.
+    slot: u16,
+}
+
+impl Members<'_> {
+    fn is_long(&self) -> bool {
+        self.text.len() >= LONG
+    }
+
+    /// Returns the number of long groups before this one, if it is long.
+    pub(crate) fn long_slot(&self) -> Option<usize> {
+        if self.is_long() {
+            Some(usize::from(self.slot))
+        } else {
+            None
+        }
+    }
+}
+
 /// The members of groups, by group name, as in group(5). Borrows the bytes it was read from.
 #[derive(Drop)]
 pub struct Groups<'a> {
-    // the last field of the group's line: names joined by commas
-    members: IndexMap<&'a [u8], &'a [u8]>,
+    members: IndexMap<&'a [u8], Members<'a>>,
+    /// The number of groups with a long text of members, up to the greatest number of the type.
+    long: u16,
 }
 
 impl<'a> Model for Groups<'a> {
@@ -30,7 +58,7 @@ impl<'a> Model for Groups<'a> {
 
     ghost Value = { List Group };
 
-    ghost view = { λ g. map (λ e. (e.0.now, members_of e.1.now)) g.members.entries };
+    ghost view = { λ g. map (λ e. (e.0.now, members_of e.1.text.now)) g.members.entries };
 }
 
 /// The name and the members of a group, as written in its line.
@@ -57,7 +85,7 @@ fn group_line(line: &[u8]) -> Option<GroupLine<'_>>
     }
 }
 
-fn has_member(members: &[u8], user: &[u8]) -> bool
+pub(crate) fn has_member(members: &[u8], user: &[u8]) -> bool
     ensures { result ≡ list_any (λ m. bytes_eq m user.now) (members_of members.now) }
 {
     if user.is_empty() {
@@ -80,6 +108,7 @@ impl<'a> Groups<'a> {
     {
         Groups {
             members: IndexMap::new(alloc),
+            long: 0,
         }
     }
 
@@ -97,13 +126,33 @@ impl<'a> Groups<'a> {
     pub fn lists(&self, group: &[u8], user: &[u8]) -> bool
         ensures { result ≡ lists_user self.now group.now user.now }
     {
-        if self.members.is_empty() {
-            return false;
-        }
-        match self.members.get(group) {
-            Some(members) => has_member(members, user),
+        match self.find(group) {
+            Some(members) => has_member(members.text, user),
             None => false,
         }
+    }
+
+    /// Returns the members of the group named exactly `group`.
+    pub(crate) fn find(&self, group: &[u8]) -> Option<Members<'a>>
+        ensures { (user : List ℕ) → lists_user self.now group.now user
+            ≡ option_map_or (λ m. list_any (λ x. bytes_eq x user) (members_of m.text.now)) result false }
+    {
+        if self.members.is_empty() {
+            return None;
+        }
+        self.members.get(group).copied()
+    }
+
+    /// The number of groups.
+    pub(crate) fn len(&self) -> usize {
+        self.members.len()
+    }
+
+    /// Returns the name and the slot of the group at an index, if it is long.
+    pub(crate) fn long_at(&self, index: usize) -> Option<(&'a [u8], usize)> {
+        let (name, members) = self.members.get_index(index)?;
+        let slot = members.long_slot()?;
+        Some((*name, slot))
     }
 }
 
@@ -130,7 +179,12 @@ impl<'a> Entries<'a> for Groups<'a> {
         if self.members.contains_key(group.name) {
             return Ok(());
         }
-        self.members.insert(group.name, group.members)?;
+        let members = Members {
+            text: group.members,
+            slot: self.long,
+        };
+        self.long = self.long.saturating_add(u16::from(members.is_long()));
+        self.members.insert(group.name, members)?;
         Ok(())
     }
 }

@@ -9,9 +9,9 @@ use Rattle.pam_times.specs.Logic.{ItemOf, is_true, is_true_of, item_value, items
 use Rattle.pam_times.specs.Login.{LoginText, without_dev}
 use Rattle.pam_times.specs.Pattern.{has_two_stars, matches}
 use Rattle.pam_times.specs.Reading.{FieldTexts, cut_fields, each, each_of, entry_or_fault, fields_of, full_fields, has_empty, is_blank_text}
-use Rattle.pam_times.specs.Reading.{is_netgroup, name_of}
+use Rattle.pam_times.specs.Reading.{and_then, is_netgroup, name_of, semicolon_cut}
 use Rattle.pam_times.specs.Reading.{names_of, onto_list, rule_from, rule_of, rule_of_fields, times_of, with_meaning}
-use Rattle.pam_times.specs.RuleLines.{fields_deny, name_holds, time_holds, with_line}
+use Rattle.pam_times.specs.RuleLines.{fields_deny, name_holds, others_deny, time_holds, with_line}
 use Rattle.pam_times.specs.Times.{NameList, TimeList, Rule, denies, names_hold, times_hold}
 use Rattle.pam_times.specs.declared.error.TimeError.{TimeError}
 use Rattle.pam_times.specs.declared.entry.Entry.{Entry}
@@ -140,6 +140,44 @@ module _ (number : ℕ) (rule : Rule) (line : List ℕ) (is : rule_of number lin
     where
       some_is : (a b : FieldTexts) → Some a ≡ Some b → a ≡ b
       some_is a b e = cc
+
+  -- the services are the text before the first semicolon
+  services_of : (a : List ℕ) (b c : Option (List ℕ × List ℕ)) (f : FieldTexts) →
+      and_then b (λ x. and_then (semicolon_cut x.1) (λ y. Some (record { services = a; terminals = x.0; users = y.0; times = y.1 }))) ≡ Some f →
+      f.services ≡ a
+  services_of a None c f h = absurd (cc)
+  services_of a (Some x) c f h = go (semicolon_cut x.1) h
+    where
+      go : (o : Option (List ℕ × List ℕ)) →
+          and_then o (λ y. Some (record { services = a; terminals = x.0; users = y.0; times = y.1 })) ≡ Some f → f.services ≡ a
+      go None e = absurd (cc)
+      go (Some y) e =
+          let same : record { services = a; terminals = x.0; users = y.0; times = y.1 } ≡ f = cc in sym (ap (λ (g : FieldTexts). g.services) same)
+
+  module _ (services rest : List ℕ) (e : Some (services, rest) ≡ semicolon_cut line) where
+    first_field : (f : FieldTexts) → cut_fields line ≡ Some f → f.services ≡ services
+    first_field f h = services_of services (semicolon_cut rest) None f (rw (← e) at h)
+
+    serves : (f : FieldTexts) (t : Bool) → cut_fields line ≡ Some f → name_holds services login.service ≡ t → name_holds f.services login.service ≡ t
+    serves f t h k = ap (λ (text : List ℕ). name_holds text login.service) (first_field f h) ∙ k
+
+    pub not_served : name_holds services login.service ≡ false → false ≡ denies rule login day minute
+    not_served k =
+        let p = rule_fields number rule line is in
+        sym (ap (λ (t : Bool). (t && (name_holds p.0.terminals (without_dev login.tty) && name_holds p.0.users login.user))
+        && not (time_holds p.0.times day minute)) (serves p.0 false p.1 k)) ∙ of_parts p.0 p.2
+
+    pub others_decide : (f : FieldTexts) (denied : Bool) → name_holds services login.service ≡ true → Some f ≡ cut_fields line →
+        denied ≡ others_deny f login day minute → denied ≡ denies rule login day minute
+    others_decide f denied k g h =
+        line_denies f denied g (h ∙ sym (ap (λ (t : Bool). (t && (name_holds f.terminals (without_dev login.tty) && name_holds f.users login.user))
+        && not (time_holds f.times day minute)) (serves f true (sym g) k)))
+
+  pub no_cut : None ≡ semicolon_cut line → ⊥
+  no_cut e = let p = rule_fields number rule line is in none_is p.0 (rw (← e) at p.1)
+    where
+      none_is : (f : FieldTexts) → ◌≡◌ {A = Option FieldTexts} None (Some f) → ⊥
+      none_is f e = absurd (cc)
 
   pub has_cut : None ≡ cut_fields line → ⊥
   has_cut e = let p = rule_fields number rule line is in none_some p.0 (e ∙ p.1)

@@ -47,3 +47,8 @@ abbrev pub fields_deny : FieldTexts → LoginText → ℕ → ℕ → Bool
 fields_deny f login day minute =
     (name_holds f.services login.service && (name_holds f.terminals (without_dev login.tty) && name_holds f.users login.user))
     && not (time_holds f.times day minute)
+
+-- the same, for a service that matches
+abbrev pub others_deny : FieldTexts → LoginText → ℕ → ℕ → Bool
+others_deny f login day minute =
+    (name_holds f.terminals (without_dev login.tty) && name_holds f.users login.user) && not (time_holds f.times day minute)

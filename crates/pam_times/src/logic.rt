@@ -42,10 +42,16 @@ pub(crate) enum Sign<'a> {
     Token(&'a [u8]),
 }
 
+/// Most bytes of tokens are greater than `&`, so that two comparisons are enough.
+#[inline(always)]
 fn is_token_byte(byte: u8) -> bool
     ensures { result ≡ is_token_byte byte }
 {
-    !(is_blank_byte(byte) || byte == b'!' || byte == b'&' || byte == b'|')
+    if byte > b'&' {
+        byte != b'|'
+    } else {
+        !(is_blank_byte(byte) || byte == b'!' || byte == b'&')
+    }
 }
 
 fn blank_len(bytes: &[u8]) -> usize

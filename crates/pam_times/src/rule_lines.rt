@@ -5,7 +5,7 @@ ghost use Rattle.pam_text.specs.Gives.{Gives};
 ghost use Rattle.pam_times.specs.Error.{Tells};
 ghost use Rattle.pam_times.specs.Login.{login_view};
 ghost use Rattle.pam_times.specs.Reading.{fields_view, rule_of};
-ghost use Rattle.pam_times.specs.RuleLines.{fields_deny, with_line};
+ghost use Rattle.pam_times.specs.RuleLines.{others_deny, with_line};
 ghost use Rattle.pam_times.specs.Times.{Rule, denies, answer_at};
 ghost use Rattle.pam_times.specs.Stored.{stored, AreStored};
 
@@ -16,7 +16,7 @@ use crate::login::{Login, drop_dev};
 use crate::reading::{Fields, check_line, cut_fields};
 use crate::times::TimeAnswer;
 use crate::week_time::WeekTime;
-use pam_text::Line;
+use pam_text::{Line, cut};
 use std::alloc::Global;
 
 /// The number and the length of a line.
@@ -34,23 +34,29 @@ pub(crate) struct RuleLines {
     pub(crate) lines: Vec<RuleLine>,
 }
 
-/// Whether the names in the fields match a login, and the times do not include this time.
-fn fields_deny(fields: Fields<'_>, login: &Login<'_>, time: WeekTime) -> bool
-    ensures { result ≡ fields_deny (fields_view fields.entry) (login_view login.now) time.day time.minute }
+/// Whether the terminals and users in the fields match a login, and the times do not include this time.
+fn others_deny(fields: Fields<'_>, login: &Login<'_>, time: WeekTime) -> bool
+    ensures { result ≡ others_deny (fields_view fields.entry) (login_view login.now) time.day time.minute }
 {
-    is_true(fields.services, &Fact::Name(login.service))
-        && is_true(fields.terminals, &Fact::Name(drop_dev(login.tty)))
+    is_true(fields.terminals, &Fact::Name(drop_dev(login.tty)))
         && is_true(fields.users, &Fact::Name(login.user))
         && !is_true(fields.times, &Fact::Time(time))
 }
 
-/// Whether the rule of a line denies a login at a time.
+/// Whether the rule of a line denies a login at a time. Most rules are for other services, so that the other fields are
+/// looked for only if the services match.
 fn denies(line: &[u8], login: &Login<'_>, time: WeekTime) -> bool
     ensures { (number : ℕ) (rule : Rule) → rule_of number line.now ≡ Ok (Some rule)
         → result ≡ denies rule (login_view login.now) time.day time.minute }
 {
+    let Some((services, _)) = cut(line, b';') else {
+        return false;
+    };
+    if !is_true(services, &Fact::Name(login.service)) {
+        return false;
+    }
     match cut_fields(line) {
-        Some(fields) => fields_deny(fields, login, time),
+        Some(fields) => others_deny(fields, login, time),
         None => false,
     }
 }

@@ -1,12 +1,22 @@
+use Rattle.std.proofs.Common.{◌∙◌, sym}
 use Rattle.pam_times.specs.Login.{login_view}
 use Rattle.pam_times.specs.Reading.{fields_view}
-use Rattle.pam_times.proofs.RuleSteps.{has_cut, line_denies}
+use Rattle.pam_times.proofs.RuleSteps.{has_cut, no_cut, not_served, others_decide}
 use Rattle.pam_times.proofs.rule_lines.denies.Goals as goal
 
-pub returns-in-Some : goal.returns-in-Some
-returns-in-Some c = λ number rule is.
-    line_denies number rule c.args.line.now is (login_view c.args.login.now) c.args.time.day c.args.time.minute (fields_view c.in-Some.fields) _
-    c.in-Some.ensures c.fields_deny.ensures
+pub returns-in_default : goal.returns-in_default
+returns-in_default c = λ number rule is.
+    absurd (no_cut number rule c.args.line.now is (login_view c.args.login.now) c.args.time.day c.args.time.minute c.in_default.ensures.value)
+
+pub returns-then-not-is_true : goal.returns-then-not-is_true
+returns-then-not-is_true c = λ number rule is.
+    not_served number rule c.args.line.now is (login_view c.args.login.now) c.args.time.day c.args.time.minute _ _ c.in-Some.ensures.value
+    (sym c.is_true.ensures ∙ c.if-not-is_true.true)
+
+pub returns-in-Some-cut_fields : goal.returns-in-Some-cut_fields
+returns-in-Some-cut_fields c = λ number rule is.
+    others_decide number rule c.args.line.now is (login_view c.args.login.now) c.args.time.day c.args.time.minute _ _ c.in-Some.ensures.value
+    (fields_view c.in-Some-cut_fields.fields) _ (sym c.is_true.ensures ∙ c.if-not-is_true.false) c.in-Some-cut_fields.ensures c.others_deny.ensures
 
 pub returns-in-None : goal.returns-in-None
 returns-in-None c = λ number rule is.

@@ -19,7 +19,8 @@ loop-index-preserved c =
     let AreSo : Known → Type 0 = λ k. AreDone n (IsTableSet told) (IsLineSet told line) (set_for k) (i + 1) in
     elim c.match-codes_at.branch [
       | in-Some w ↦ subst AreSo (sym w.known-is)
-          (changes n (IsTableSet told) (IsLineSet told line) (set_for c.loop-index.known) i within c.loop-index.invariant (set_for w.set.new.self) w.in-Some.codes
+          (changes n (IsTableSet told) (IsLineSet told line) (set_for c.loop-index.known) i within c.loop-index.invariant
+          (set_for w.set.new.self) w.in-Some.codes
           (λ m low high. w.set.ensures m low (omega (arith, most, high))) (line_put (told (i + 1)) (line (i + 1)) w.in-Some.codes w.in-Some.ensures))
       | in_default w ↦ subst AreSo (sym w.known-is)
           (stays n (IsTableSet told) (IsLineSet told line) (set_for c.loop-index.known) i within c.loop-index.invariant
