@@ -13,6 +13,7 @@ mod program;
 mod settle;
 mod state;
 mod step;
+mod tail;
 mod work;
 
 pub use decision::Decision;
