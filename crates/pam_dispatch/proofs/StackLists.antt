@@ -14,21 +14,27 @@ use Rattle.pam_conf.specs.declared.stack.TheConstants.{MAX_MODULES}
 use Rattle.pam_dispatch.specs.declared.entry.Entry.{Entry}
 use Rattle.pam_dispatch.specs.declared.entry.Entry.TheVariants.{Module, Substack}
 use Rattle.pam_dispatch.specs.Tree.{count, controls_of}
-use Rattle.pam_dispatch.specs.Flat.{flat_list, controls_in, control_at, modules_of, positions_from, IsNumbered, IsShallow}
+use Rattle.pam_dispatch.specs.Flat.{flat_list, controls_in, control_at, modules_of, positions_from, IsBounded, IsNumbered}
 use Rattle.pam_dispatch.specs.Program.{IsProgram}
 use Rattle.pam_dispatch.specs.Tail.{KeepFailure}
 
--- LEVELS
+-- LEVELS AND NUMBERS
 
-pub shallow-flat_list : (level : ℕ) (items : Items) → level + depth items ≤ 16 → All IsShallow (flat_list level items)
+pub bounded-flat_list : (level first : ℕ) (items : Items) → level + depth items ≤ 16 → IsNumberedFrom first items → first + module_count items ≤ 257
+    → All IsBounded (flat_list level items)
 unfolding flat_list
-shallow-flat_list level End h = All-nil IsShallow
-shallow-flat_list level (ThenModule m rest) h =
-    All-cons IsShallow (Module level m.number m.control (count rest)) (flat_list level rest) (omega (arith, h, depth-pos rest)) (shallow-flat_list level rest h)
-shallow-flat_list level (ThenSub sub inner rest) h =
-    All-cons IsShallow (Substack level) (flat_list (level + 1) inner ++ flat_list level rest) (omega (arith, h, depth-pos inner))
-    (All-append IsShallow (flat_list (level + 1) inner) (flat_list level rest) (shallow-flat_list (level + 1) inner (omega (arith, h)))
-    (shallow-flat_list level rest (omega (arith, h))))
+bounded-flat_list level first End h numbered few = All-nil IsBounded
+bounded-flat_list level first (ThenModule m rest) h numbered few =
+    let parts = numbered-module_parts first m rest numbered in
+    All-cons IsBounded (Module level m.number m.control (count rest)) (flat_list level rest)
+    (omega (arith, h, depth-pos rest), omega (arith, parts.0, few))
+    (bounded-flat_list level (first + 1) rest h parts.1 (omega (arith, few)))
+bounded-flat_list level first (ThenSub sub inner rest) h numbered few =
+    let parts = numbered-sub_parts first sub inner rest numbered in
+    All-cons IsBounded (Substack level) (flat_list (level + 1) inner ++ flat_list level rest) (omega (arith, h, depth-pos inner))
+    (All-append IsBounded (flat_list (level + 1) inner) (flat_list level rest)
+    (bounded-flat_list (level + 1) first inner (omega (arith, h)) parts.0 (omega (arith, few)))
+    (bounded-flat_list level (first + module_count inner) rest (omega (arith, h)) parts.1 (omega (arith, few))))
 
 -- CONTROLS
 
@@ -146,7 +152,7 @@ program-flat_list items positions parts tail few shallow numbered found divided 
     let levels : 0 + depth items ≤ 16 = omega (arith, shallow) in
     let first : 1 ≡ 0 + 1 = omega arith in
     record {
-      shallow = shallow-flat_list 0 items levels;
+      bounded = bounded-flat_list 0 1 items levels numbered (omega (arith, few));
       numbered = numbered-flat_list 0 0 items (subst (λ (n : ℕ). IsNumberedFrom n items) first numbered);
       few = omega (arith, few, modules_of-flat_list 0 items);
       found = found;

@@ -99,7 +99,7 @@ numbered-drop (Substack level ∷ rest) before (suc n) numbered = numbered-drop 
 
 -- THE REST OF A FAILED RUN, from a place past the last entry that could change it
 
-pub record Rest (program : List Entry) (place : Place) (count : ℕ) : Type 0 where
+pub record IsRest (program : List Entry) (place : Place) (count : ℕ) : Type 0 where
   pub settled : IsSettled (modules_of program + 1 - count) count (state_in (rest_of program place)) (rest_of program place)
   pub within : count ≤ modules_of program
 
@@ -111,7 +111,7 @@ module _ (program : List Entry) (tail : ℕ) (numbered : IsNumbered 0 program) (
       subst KeepFailure (drop-drop (place.position - tail) tail program ∙ ap (λ (n : ℕ). drop n program) far)
       (kept-drop (drop tail program) (place.position - tail) kept)
 
-  pub rest-settled : (count : ℕ) → count ≡ length program - place.position → place.state.impression ≡ Negative → Rest program place count
+  pub rest-settled : (count : ℕ) → count ≡ length program - place.position → place.state.impression ≡ Negative → IsRest program place count
   unfolding rest_of
   rest-settled count is negative =
       let left = drop place.position program in

@@ -1,8 +1,9 @@
 -- The flat list of a stack's items, each with its level, in the order of pam.conf(5), DESCRIPTION.
-use Rattle.std.specs.Prelude.{◌≡◌, ℕ, ◌+◌, ◌-◌, ◌<◌, ◌==◌, nat_lt, ◌&&◌, if◌then◌else◌}
+use Rattle.std.specs.Prelude.{◌≡◌, ℕ, ◌+◌, ◌-◌, ◌<◌, ◌≤◌, ◌==◌, nat_lt, ◌&&◌, if◌then◌else◌}
 use Rattle.std.specs.Prelude.{List, [], ◌∷◌, ◌++◌, length, take, drop, slice_index_or, Option, Some, None}
 use Rattle.pam_codes.specs.declared.action.Action.{Action}
 use Rattle.pam_conf.specs.Stack.{Items, End, ThenModule, ThenSub}
+use Rattle.pam_conf.specs.declared.stack.TheConstants.{MAX_MODULES}
 use Rattle.pam_dispatch.specs.declared.state.State.{State}
 use Rattle.pam_dispatch.specs.declared.entry.Entry.{Entry}
 use Rattle.pam_dispatch.specs.declared.entry.Entry.TheVariants.{Module, Substack}
@@ -49,10 +50,10 @@ IsNumbered before [] = Unit {0}
 IsNumbered before (Module level number control after ∷ rest) = (number ≡ before + 1) × IsNumbered (before + 1) rest
 IsNumbered before (Substack level ∷ rest) = IsNumbered before rest
 
--- at most 16 lists are open at a module, or in a substack
-abbrev pub IsShallow : Entry → Type 0
-IsShallow (Module level number control after) = level < LISTS
-IsShallow (Substack level) = level + 1 < LISTS
+-- at most 16 lists are open at a module, or in a substack, and a module's number is at most that of modules in a stack
+abbrev pub IsBounded : Entry → Type 0
+IsBounded (Module level number control after) = (level < LISTS) × (number ≤ MAX_MODULES)
+IsBounded (Substack level) = level + 1 < LISTS
 
 -- the open run of a flat list: skips the entries deeper than `level` and `skip` items of that level; `entered` has
 -- the entry states of the open lists, outermost first, and `s` is the state

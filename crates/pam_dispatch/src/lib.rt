@@ -23,4 +23,5 @@ pub use place::Place;
 pub use program::Program;
 pub use state::{Impression, State};
 pub use step::{Outcome, Step};
+pub use tail::Rest;
 pub use work::Work;

@@ -10,10 +10,10 @@ use crate::state::State;
 #[derive(Clone, Copy, Debug)]
 pub struct Place {
     pub(crate) position: usize,
-    pub(crate) depth: usize,
     pub(crate) entered: Entered,
+    pub(crate) module_number: Option<u16>,
     pub(crate) state: State,
-    pub(crate) module_number: Option<usize>,
+    pub(crate) depth: u8,
     pub ghost shallow: { depth ≤ LISTS },
 }
 
@@ -28,12 +28,12 @@ impl Default for Place {
     fn default() -> Place {
         Place {
             position: 0,
-            depth: 0,
             entered: Entered {
                 states: [State::start(); LISTS],
             },
-            state: State::start(),
             module_number: None,
+            state: State::start(),
+            depth: 0,
         }
     }
 }
@@ -48,7 +48,10 @@ impl Place {
     pub fn module(&self) -> Option<usize>
         ensures { (program : List Entry) → IsPlaceOf program self.now → result ≡ asked_module (rest_of program self.now) }
     {
-        self.module_number
+        match self.module_number {
+            Some(number) => Some(usize::from(number)),
+            None => None,
+        }
     }
 
     /// The state of the run here.

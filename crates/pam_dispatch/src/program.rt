@@ -7,7 +7,7 @@ ghost use Rattle.pam_codes.specs.Parts.{IsParts};
 ghost use Rattle.pam_conf.specs.Stack.{Items, module_at, module_count};
 ghost use Rattle.pam_conf.specs.declared.stack.TheConstants.{MAX_MODULES};
 ghost use Rattle.pam_dispatch.specs.Decision.{decision_of};
-ghost use Rattle.pam_dispatch.specs.Flat.{IsPlaceOf, IsShallow, control_at, controls_in, modules_of, positions_from, resume, rest_of, runs_of};
+ghost use Rattle.pam_dispatch.specs.Flat.{IsBounded, IsPlaceOf, control_at, controls_in, modules_of, positions_from, resume, rest_of, runs_of};
 ghost use Rattle.pam_dispatch.specs.Runs.{AsksRise, Assignment, after_answer, answers_of, asked_by, asked_module, final_state, next_ask, outcome_in, state_in};
 ghost use Rattle.pam_dispatch.specs.Tail.{IsSettled};
 ghost use Rattle.pam_dispatch.specs.Tree.{decided, runs_of_stack};
@@ -21,7 +21,7 @@ use crate::place::Place;
 use crate::settle::settle;
 use crate::state::State;
 use crate::step::{Outcome, Step};
-use crate::tail::tail_of;
+use crate::tail::{Rest, tail_of};
 use crate::work::Work;
 use pam_codes::{Code, Control, Parts};
 use pam_conf::Stack;
@@ -93,7 +93,7 @@ struct Answered {
 
 /// Answers the module at `place` with `code`.
 fn answer_at(entries: &[Entry], place: &Place, code: Code) -> Answered
-    requires entries { All IsShallow entries.now }
+    requires entries { All IsBounded entries.now }
     requires place { IsPlaceOf entries.now place.now }
     requires asking { IsSome (asked_module (rest_of entries.now place.now)) }
     ensures outcome { outcome_in (rest_of entries.now place.now) code ≡ result.outcome }
@@ -121,30 +121,22 @@ fn answer_at(entries: &[Entry], place: &Place, code: Code) -> Answered
     }
 }
 
-/// The step from `place` with the answer `code`.
-fn step_in(entries: &[Entry], place: &Place, code: Code) -> Step
-    requires entries { All IsShallow entries.now }
-    requires place { IsPlaceOf entries.now place.now }
-    requires asking { IsSome (asked_module (rest_of entries.now place.now)) }
-    ensures place { IsPlaceOf entries.now result.place }
-    ensures rest { rest_of entries.now result.place ≡ after_answer (rest_of entries.now place.now) code }
-    ensures outcome { outcome_in (rest_of entries.now place.now) code ≡ result.outcome }
-    ensures state { result.place.state ≡ result.outcome.state }
+/// Makes the step from `place` with the answer `code`.
+fn step_in(entries: &[Entry], place: &mut Place, code: Code) -> Outcome
+    requires entries { All IsBounded entries.now }
+    requires place { IsPlaceOf entries.now place.old }
+    requires asking { IsSome (asked_module (rest_of entries.now place.old)) }
+    ensures place { IsPlaceOf entries.now place.new }
+    ensures rest { rest_of entries.now place.new ≡ after_answer (rest_of entries.now place.old) code }
+    ensures outcome { outcome_in (rest_of entries.now place.old) code ≡ result }
+    ensures state { place.new.state ≡ result.state }
 {
     let answered = answer_at(entries, place, code);
-    let next = settle(
-        entries,
-        place.position + 1,
-        answered.level,
-        answered.skip,
-        place.depth,
-        place.entered,
-        &answered.outcome.state,
-    );
-    Step {
-        place: next,
-        outcome: answered.outcome,
-    }
+    let outcome = answered.outcome;
+    place.position = place.position + 1;
+    place.state = outcome.state;
+    settle(entries, place, answered.level, answered.skip);
+    outcome
 }
 
 impl Program {
@@ -213,10 +205,17 @@ impl Program {
         ensures rise { AsksRise 0 (modules_of self.now) (runs_of self.now) }
     {
         let start = State::start();
-        let entered = Entered {
-            states: [start; LISTS],
+        let mut place = Place {
+            position: 0,
+            entered: Entered {
+                states: [start; LISTS],
+            },
+            module_number: None,
+            state: start,
+            depth: 1,
         };
-        settle(&self.entries, 0, 0, 0, 1, entered, &start)
+        settle(&self.entries, &mut place, 0, 0);
+        place
     }
 
     /// The outcome of answering the module at `place` with `code`, without making the step.
@@ -246,39 +245,64 @@ impl Program {
             → asked_by (rest_of self.now place.now) answers ≡ next_ask (rest_of self.now place.now) ∷ asked_by (rest_of self.now result.place) answers }
         ensures counted { work.new ≡ min (work.old + 1) (2 ^ 64 - 1) }
     {
+        let mut next = *place;
+        let outcome = self.step_on(&mut next, code, work);
+        Step {
+            place: next,
+            outcome,
+        }
+    }
+
+    /// Makes the step from `place` with the answer `code`, as `step` does, and moves `place` there.
+    pub fn step_on(&self, place: &mut Place, code: Code, work: &mut Work) -> Outcome
+        requires place { IsPlaceOf self.now place.old }
+        requires asking { IsSome (asked_module (rest_of self.now place.old)) }
+        ensures place { IsPlaceOf self.now place.new }
+        ensures outcome { outcome_in (rest_of self.now place.old) code ≡ result }
+        ensures state { state_in (rest_of self.now place.new) ≡ result.state }
+        ensures rest { rest_of self.now place.new ≡ after_answer (rest_of self.now place.old) code }
+        ensures counted { work.new ≡ min (work.old + 1) (2 ^ 64 - 1) }
+    {
         work.count();
         self.step_by(place, code)
     }
 
-    /// Like `step`, without counting.
-    fn step_by(&self, place: &Place, code: Code) -> Step
-        requires place { IsPlaceOf self.now place.now }
-        requires asking { IsSome (asked_module (rest_of self.now place.now)) }
-        ensures place { IsPlaceOf self.now result.place }
-        ensures rest { rest_of self.now result.place ≡ after_answer (rest_of self.now place.now) code }
-        ensures outcome { outcome_in (rest_of self.now place.now) code ≡ result.outcome }
-        ensures state { result.place.state ≡ result.outcome.state }
+    /// Like `step_on`, without counting.
+    fn step_by(&self, place: &mut Place, code: Code) -> Outcome
+        requires place { IsPlaceOf self.now place.old }
+        requires asking { IsSome (asked_module (rest_of self.now place.old)) }
+        ensures place { IsPlaceOf self.now place.new }
+        ensures rest { rest_of self.now place.new ≡ after_answer (rest_of self.now place.old) code }
+        ensures outcome { outcome_in (rest_of self.now place.old) code ≡ result }
+        ensures state { place.new.state ≡ result.state }
     {
         step_in(&self.entries, place, code)
     }
 
-    /// The number of modules that are still asked, if the run is settled: none at the end, and all remaining ones if the
-    /// stack has failed and none of them can change that. Looks only at modules of the outermost list; returns `None`
-    /// where a substack, a jump, `die` or `reset` follows, even if no answer leads there.
-    pub fn settled(&self, place: &Place) -> Option<usize>
+    /// The rest of the run from `place`, if it is settled: it is at its end, or the stack has failed and no remaining
+    /// module can change that. Returns `None` too if a substack, a jump, `die` or `reset` remains that no answer reaches.
+    pub fn settled(&self, place: &Place) -> Option<Rest>
         requires place { IsPlaceOf self.now place.now }
-        ensures settled { IfSome result (λ count.
-            IsSettled (modules_of self.now + 1 - count) count (state_in (rest_of self.now place.now)) (rest_of self.now place.now)) }
-        ensures within { IfSome result (λ count. count ≤ modules_of self.now) }
+        ensures settled { IfSome result (λ rest. IsSettled (modules_of self.now + 1 - rest.modules) rest.modules
+            (state_in (rest_of self.now place.now)) (rest_of self.now place.now)) }
+        ensures decision { IfSome result (λ rest. rest.decision ≡ decision_of (state_in (rest_of self.now place.now))) }
+        ensures within { IfSome result (λ rest. rest.modules ≤ modules_of self.now) }
         ensures asking { IfNone result (IsSome (asked_module (rest_of self.now place.now))) }
     {
+        let decision = Decision::of(place.state());
         if place.module().is_none() {
-            return Some(0);
+            return Some(Rest {
+                modules: 0,
+                decision,
+            });
         }
         if place.position < self.tail || !place.state.has_failed() {
             return None;
         }
-        Some(self.entries.len() - place.position)
+        Some(Rest {
+            modules: self.entries.len() - place.position,
+            decision,
+        })
     }
 
     /// The decision at the end of a run.
@@ -310,7 +334,7 @@ impl Program {
     {
         let mut place = self.first();
         while let Some(number) = place.module() {
-            place = self.step_by(&place, codes[number - 1]).place;
+            self.step_by(&mut place, codes[number - 1]);
         }
         self.decision(&place)
     }

@@ -1,32 +1,23 @@
 //! Moves to the next module that is asked.
 
-ghost use Rattle.std.specs.Prelude.{◌≡◌, ◌<◌, ◌≤◌, All, drop, take};
-ghost use Rattle.pam_dispatch.specs.Flat.{IsPlaceOf, IsShallow, resume, rest_of};
-ghost use Rattle.pam_dispatch.specs.declared.entered.TheConstants.{LISTS};
+ghost use Rattle.std.specs.Prelude.{◌≡◌, ◌<◌, All, drop, take};
+ghost use Rattle.pam_dispatch.specs.Flat.{IsBounded, IsPlaceOf, resume, rest_of};
 
-use crate::entered::Entered;
 use crate::entry::Entry;
 use crate::place::Place;
-use crate::state::State;
 
-/// Moves from `position` to the next module asked, or to the end. Skips the entries deeper than `level` and `skip`
-/// items of that level, and then enters substacks.
-pub fn settle(
-    program: &[Entry],
-    mut position: usize,
-    mut level: usize,
-    mut skip: usize,
-    mut depth: usize,
-    mut entered: Entered,
-    state: &State,
-) -> Place
-    requires below { level < depth }
-    requires shallow { depth ≤ LISTS }
-    requires entries { All IsShallow program.now }
-    ensures place { IsPlaceOf program.now result }
-    ensures state { result.state ≡ state.now }
-    ensures rest { rest_of program.now result ≡ resume (drop position program.now) level skip (take depth entered.states) state.now }
+/// Moves `place` from its position to the next module asked, or to the end. Skips the entries deeper than `level` and
+/// `skip` items of that level, and then enters substacks.
+pub(crate) fn settle(program: &[Entry], place: &mut Place, mut level: usize, mut skip: usize)
+    requires below { level < place.old.depth }
+    requires entries { All IsBounded program.now }
+    ensures place { IsPlaceOf program.now place.new }
+    ensures state { place.new.state ≡ place.old.state }
+    ensures rest { rest_of program.now place.new
+        ≡ resume (drop place.old.position program.now) level skip (take place.old.depth place.old.entered.states) place.old.state }
 {
+    let mut position = place.position;
+    let mut depth = usize::from(place.depth);
     while position < program.len() {
         let entry = &program[position];
         let here = entry.level();
@@ -38,16 +29,14 @@ pub fn settle(
         } else {
             match entry {
                 Entry::Module { number, .. } => {
-                    return Place {
-                        position,
-                        depth: here + 1,
-                        entered,
-                        state: *state,
-                        module_number: Some(*number),
-                    };
+                    place.position = position;
+                    place.depth = (here + 1) as u8;
+                    place.module_number = Some(*number as u16);
+                    return;
                 }
                 Entry::Substack { .. } => {
-                    entered.enter(here + 1, state);
+                    let state = place.state;
+                    place.entered.enter(here + 1, &state);
                     depth = here + 2;
                     level = here + 1;
                     skip = 0;
@@ -56,11 +45,7 @@ pub fn settle(
             }
         }
     }
-    Place {
-        position,
-        depth,
-        entered,
-        state: *state,
-        module_number: None,
-    }
+    place.position = position;
+    place.depth = depth as u8;
+    place.module_number = None;
 }

@@ -3,8 +3,18 @@
 ghost use Rattle.std.specs.Prelude.{◌≡◌, [], ◌∷◌, IsTrue, drop};
 ghost use Rattle.pam_dispatch.specs.Tail.{AllKeepFailure, KeepFailure, keeps_failure};
 
+use crate::decision::Decision;
 use crate::entry::Entry;
 use pam_codes::{Action, CODES, Code, Control};
+
+/// The rest of a run that no answer changes.
+#[derive(Clone, Copy, Debug)]
+pub struct Rest {
+    /// The number of modules that are still asked: the last ones of the program.
+    pub modules: usize,
+    /// The decision at the end.
+    pub decision: Decision,
+}
 
 /// Whether `action` leaves a failed stack as it is, and continues with the next item.
 fn keeps_failure(action: Action) -> bool

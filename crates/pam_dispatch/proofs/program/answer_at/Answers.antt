@@ -2,7 +2,7 @@ use Rattle.std.proofs.Common.{rules, ◌≡◌, ◌∙◌, sym, arith, subst}
 use Rattle.std.proofs.lemmas.Option.{get_or_from_slice_get}
 use Rattle.pam_codes.specs.declared.action.Action.TheVariants.{Ignore}
 use Rattle.pam_dispatch.specs.State.{action_of}
-use Rattle.pam_dispatch.specs.Flat.{IsShallow}
+use Rattle.pam_dispatch.specs.Flat.{IsBounded}
 use Rattle.pam_dispatch.proofs.Places.{place_within, place_no_substack, place_depth, answer_rest, answer_outcome}
 use Rattle.pam_dispatch.proofs.program.answer_at.Goals as goal
 
@@ -17,7 +17,7 @@ pub at-entry-requires : goal.at-entry-requires
 at-entry-requires c =
     let e = c.index-entries-place in
     let within = place_within c.args.entries.now c.args.place.now c.requires.place c.requires.asking in
-    subst IsShallow (sym e.is ∙ c.in-Module.is) (c.requires.entries c.args.place.now.position e.result within)
+    (subst IsBounded (sym e.is ∙ c.in-Module.is) (c.requires.entries c.args.place.now.position e.result within)).0
 
 pub unreachable-requires : goal.unreachable-requires
 unreachable-requires c =

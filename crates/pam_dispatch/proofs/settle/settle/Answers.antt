@@ -2,7 +2,7 @@ use Rattle.std.proofs.Common.{◌≡◌, ◌+◌, ◌<◌, ◌≤◌, ℕ, lengt
 use Rattle.std.proofs.lemmas.List.{drop_all, length-set}
 use Rattle.pam_dispatch.specs.declared.state.State.{State}
 use Rattle.pam_dispatch.specs.declared.entry.Entry.TheVariants.{Module, Substack}
-use Rattle.pam_dispatch.specs.Flat.{resume, rest_of, IsPlaceOf, IsShallow, level_of}
+use Rattle.pam_dispatch.specs.Flat.{IsBounded, IsPlaceOf, level_of, resume, rest_of}
 use Rattle.pam_dispatch.proofs.Resume.{at_index, at_index-deeper, at_index-item, at_substack, at_module}
 use Rattle.pam_dispatch.proofs.settle.settle.Goals as goal
 use Rattle.pam_dispatch.proofs.settle.settle.Goals.{else-here-level-2-via-then-here-level-2+else-skip-gt0, else-here-level-2-via-else-here-level-2}
@@ -13,8 +13,9 @@ loop-position-preserved-then-here-level c =
     let e = l.invariant.rest in
     record {
       rest = at_index-deeper c.args.program.now l.position c.index-program-position.result c.index-program-position.result c.loop-position-test.true
-          (sym c.index-program-position.is) l.level l.skip _ c.args.state.now (omega (arith, c.level-here.ensures))
+          (sym c.index-program-position.is) l.level l.skip _ c.loop-position.place.state (omega (arith, c.level-here.ensures))
           ∙ e;
+      state = l.invariant.state;
       below = l.invariant.below;
       shallow = l.invariant.shallow;
       full = l.invariant.full;
@@ -25,8 +26,9 @@ loop-position-preserved-then-skip-gt0 c =
     let l = c.loop-position in
     record {
       rest = at_index-item c.args.program.now l.position c.index-program-position.result c.index-program-position.result c.loop-position-test.true
-          (sym c.index-program-position.is) l.level l.skip _ c.args.state.now (omega (arith, c.level-here.ensures)) c.if-skip-gt0.true
+          (sym c.index-program-position.is) l.level l.skip _ c.loop-position.place.state (omega (arith, c.level-here.ensures)) c.if-skip-gt0.true
           ∙ l.invariant.rest;
+      state = l.invariant.state;
       below = l.invariant.below;
       shallow = l.invariant.shallow;
       full = l.invariant.full;
@@ -39,20 +41,21 @@ loop-position-preserved c =
     let h : here ≡ c.in-Substack.level = c.level-here.ensures ∙ ap level_of c.in-Substack.is in
     let is = sym c.index-program-position.is ∙ c.in-Substack.is ∙ ap (λ (x : ℕ). Substack x) (sym h) in
     let low : here ≤ l.level = c.if-here-level.false in
-    let fits : here + 1 < 16 = subst IsShallow is (c.requires.entries l.position c.index-program-position.result c.loop-position-test.true) in
+    let fits : here + 1 < 16 = subst IsBounded is (c.requires.entries l.position c.index-program-position.result c.loop-position-test.true) in
     let stays : here ≡ l.level → 0 < l.skip → ⊥ =
     elim c.else-here-level-2.branch [
       | else-here-level-2-via-then-here-level-2+else-skip-gt0 w ↦ λ e p. omega arith
       | else-here-level-2-via-else-here-level-2 w ↦ λ e p. w.if-here-level-2.false e
     ] in
     record {
-      rest = ap (λ (x : List State). resume (drop (l.position + 1) c.args.program.now) (here + 1) 0 (take (here + 2) x) c.args.state.now) c.enter.ensures
-          ∙ at_substack c.args.program.now l.position c.index-program-position.result here c.loop-position-test.true is l.entered.states l.depth
-          l.level l.skip c.args.state.now
+      rest = ap (λ (x : List State). resume (drop (l.position + 1) c.args.program.now) (here + 1) 0 (take (here + 2) x) c.loop-position.place.state) c.enter.ensures
+          ∙ at_substack c.args.program.now l.position c.index-program-position.result here c.loop-position-test.true is l.place.entered.states l.depth
+          l.level l.skip c.loop-position.place.state
           low stays l.invariant.below (omega (arith, l.invariant.full)) ∙ l.invariant.rest;
+      state = l.invariant.state;
       below = omega arith;
       shallow = omega arith;
-      full = ap (λ (x : List State). length x) c.enter.ensures ∙ length-set l.entered.states (here + 1) c.args.state.now ∙ l.invariant.full;
+      full = ap (λ (x : List State). length x) c.enter.ensures ∙ length-set l.place.entered.states (here + 1) c.loop-position.place.state ∙ l.invariant.full;
     }
 
 pub returns-in-Module-clause-place : goal.returns-in-Module-clause-place
@@ -78,7 +81,7 @@ returns-in-Module-clause-rest c =
       | else-here-level-2-via-else-here-level-2 w ↦ λ e p. w.if-here-level-2.false e
     ] in
     at_module c.args.program.now l.position c.index-program-position.result here m.number m.control m.items_after c.loop-position-test.true is
-    l.entered.states c.args.state.now
+    l.place.entered.states c.loop-position.place.state
     l.depth l.level l.skip c.if-here-level.false stays l.invariant.below ∙ l.invariant.rest
 
 pub returns-clause-place : goal.returns-clause-place

@@ -30,12 +30,12 @@ loop-number-smaller c =
     let code = c.index-codes-number in
     let within : c.in-Some.number - 1 < length c.args.codes.now = omega (arith, range.0, range.1, c.requires) in
     let is = get_or_default c.args.codes.now (c.in-Some.number - 1) 0 code.result within ∙ sym code.is in
-    asked_by-follows (answers_of c.args.codes.now) _ _ c.in-Some.number code.result asked is c.step_by-place.ensures.rest
+    asked_by-follows (answers_of c.args.codes.now) _ _ c.in-Some.number code.result asked is c.step_by.ensures.rest
 
 pub loop-number-preserved : goal.loop-number-preserved
 loop-number-preserved c =
     let l = c.loop-number in
-    let step = c.step_by-place.ensures in
+    let step = c.step_by.ensures in
     let asked = sym (c.module.ensures c.args.self.now l.invariant.place) ∙ c.in-Some.is in
     let range = AsksRise-step 0 _ _ c.in-Some.number l.invariant.rise asked in
     let code = c.index-codes-number in

@@ -9,7 +9,7 @@ pub returns-clause-whole : goal.returns-clause-whole
 unfolding runs_of
 returns-clause-whole c =
     let v = c.deref.ensures.value ∙ c.self.view_is in
-    ap (λ (x : List Entry). rest_of x c.settle.result) (sym v)
+    ap (λ (x : List Entry). rest_of x c.settle.new.place) (sym v)
     ∙ c.settle.ensures.rest
     ∙ ap (λ (s : State). resume c.deref.result.now 0 0 (s ∷ []) s) c.start-start.ensures
     ∙ ap (λ (x : List Entry). runs_of x) v

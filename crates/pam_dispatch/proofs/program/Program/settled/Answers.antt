@@ -4,7 +4,7 @@ use Rattle.pam_dispatch.specs.declared.entry.Entry.{Entry}
 use Rattle.pam_dispatch.specs.Flat.{IsNumbered}
 use Rattle.pam_dispatch.specs.Tail.{KeepFailure}
 use Rattle.pam_dispatch.proofs.Places.{place_within}
-use Rattle.pam_dispatch.proofs.Tails.{Rest, none-asked, rest-settled, settled-end}
+use Rattle.pam_dispatch.proofs.Tails.{IsRest, none-asked, rest-settled, settled-end}
 use Rattle.pam_dispatch.proofs.program.Program.settled.Goals as goal
 
 pub returns-then-is_none-clause-settled : goal.returns-then-is_none-clause-settled
@@ -19,7 +19,7 @@ overflow_sub-result c =
     let all = ap (λ (ts : List Entry). length ts) c.self.view_is in
     omega (arith, within, all, c.len.ensures)
 
-rest-is : (c : goal.After-len) → Rest c.args.self.now c.args.place.now (c.len.result - c.args.place.now.position)
+rest-is : (c : goal.After-len) → IsRest c.args.self.now c.args.place.now (c.len.result - c.args.place.now.position)
 rest-is c =
     let all = ap (λ (ts : List Entry). length ts) c.self.view_is in
     let tail = c.self.inside.tail in
