@@ -15,6 +15,7 @@ use crate::explorer::{Explorer, follow, frames_at};
 use crate::frames::Frames;
 use crate::knowledge::Knowledge;
 use crate::path::Path;
+use crate::tail::AlikeSteps;
 use arrayvec::ArrayVec;
 use pam_dispatch::{Program, Work};
 use std::marker::Model;
@@ -28,6 +29,8 @@ pub struct Before<'a, K: Knowledge> {
     frames: Frames,
     /// The path returned last.
     path: Path,
+    /// The steps at which the answers no longer matter are copied from here.
+    alike: AlikeSteps,
     work: Work,
 }
 
@@ -83,6 +86,7 @@ impl<'a, K: Knowledge> Explorer<'a, K> {
                 knowledge,
                 frames,
                 path: Path::empty(),
+                alike: AlikeSteps::new(),
                 work,
             }),
         }
@@ -105,6 +109,7 @@ impl<'a, K: Knowledge> Before<'a, K> {
             None,
             &mut self.frames,
             &mut self.path,
+            &self.alike,
             &mut self.work,
         )
     }

@@ -21,6 +21,7 @@ use crate::frames::{Frames, advance, descend, retell};
 use crate::knowledge::Knowledge;
 use crate::path::Path;
 use crate::retrace::retrace;
+use crate::tail::AlikeSteps;
 use arrayvec::ArrayVec;
 use pam_dispatch::{Place, Program, Work};
 use std::marker::Model;
@@ -36,6 +37,8 @@ pub struct Explorer<'a, K: Knowledge> {
     frames: Frames,
     /// The path returned last.
     path: Path,
+    /// The steps at which the answers no longer matter are copied from here.
+    alike: AlikeSteps,
     work: Work,
 }
 
@@ -105,6 +108,7 @@ pub(crate) fn follow<K: Knowledge>(
     first: Option<Place>,
     frames: &mut Frames,
     path: &mut Path,
+    alike: &AlikeSteps,
     work: &mut Work,
 ) -> Option<usize>
     requires exploring { IsExploring (K.allows knowledge.now) program.now first frames.old.items }
@@ -120,12 +124,15 @@ pub(crate) fn follow<K: Knowledge>(
 {
     let Some(place) = go_on(program, knowledge, direction, first, frames, work) else {
         path.steps.truncate(0);
+        path.tail = 0;
         return None;
     };
     let shared = shared_count(path.steps.len(), frames.len());
-    let end = descend(program, knowledge, direction, frames, place, work);
-    retell(&mut path.steps, frames.as_slice(), shared);
-    path.decision = program.decision(&end).code();
+    let rest = descend(program, knowledge, direction, frames, place, work);
+    let tail = alike.last(program.modules(), rest.modules);
+    retell(&mut path.steps, frames.as_slice(), tail, shared);
+    path.tail = rest.modules;
+    path.decision = rest.decision.code();
     Some(shared)
 }
 
@@ -172,6 +179,7 @@ impl<'a, K: Knowledge> Explorer<'a, K> {
             first: Some(program.first()),
             frames: ArrayVec::new(),
             path: Path::empty(),
+            alike: AlikeSteps::new(),
             work: Work::new(),
         }
     }
@@ -210,6 +218,7 @@ impl<'a, K: Knowledge> Explorer<'a, K> {
                 first: None,
                 frames,
                 path: Path::empty(),
+                alike: AlikeSteps::new(),
                 work,
             }),
         }
@@ -231,6 +240,7 @@ impl<'a, K: Knowledge> Explorer<'a, K> {
             first,
             &mut self.frames,
             &mut self.path,
+            &self.alike,
             &mut self.work,
         )
     }
