@@ -10,3 +10,4 @@ pub mod Positions
 pub mod Resume
 pub mod Retelling
 pub mod StackLists
+pub mod Tails

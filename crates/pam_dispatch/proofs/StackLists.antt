@@ -1,6 +1,6 @@
 -- The flat list of a stack is a program's, with the stack's modules and controls.
 use Rattle.std.proofs.Common.{◌≡◌, ℕ, ◌+◌, ◌-◌, ◌≤◌, List, [], ◌∷◌, ◌++◌, Option, Some, None, IsSome, IfSome, All, eqb, suc, refl, ◌∙◌, ap, subst}
-use Rattle.std.proofs.Common.{arith, length, get_or}
+use Rattle.std.proofs.Common.{arith, drop, length, get_or}
 use Rattle.std.proofs.lemmas.Bool.{cond_both, eqb-true}
 use Rattle.std.proofs.lemmas.List.{length-append, get_or-append_right, get_or_append_left}
 use Rattle.std.proofs.lemmas.List.Elements.{All-append, All-cons, All-nil}
@@ -16,6 +16,7 @@ use Rattle.pam_dispatch.specs.declared.entry.Entry.TheVariants.{Module, Substack
 use Rattle.pam_dispatch.specs.Tree.{count, controls_of}
 use Rattle.pam_dispatch.specs.Flat.{flat_list, controls_in, control_at, modules_of, positions_from, IsBounded, IsNumbered}
 use Rattle.pam_dispatch.specs.Program.{IsProgram}
+use Rattle.pam_dispatch.specs.Tail.{KeepFailure}
 
 -- LEVELS AND NUMBERS
 
@@ -143,11 +144,11 @@ control_at-flat_list items number h =
 
 -- A STACK'S PROGRAM
 
-pub program-flat_list : (items : Items) (positions : List ℕ) (parts : List (List Part)) → module_count items ≤ MAX_MODULES → depth items ≤ 16
+pub program-flat_list : (items : Items) (positions : List ℕ) (parts : List (List Part)) (tail : ℕ) → module_count items ≤ MAX_MODULES → depth items ≤ 16
     → IsNumberedFrom 1 items →
     positions ≡ positions_from 0 (flat_list 0 items) → AllZip IsParts (controls_in (flat_list 0 items)) parts →
-    IsProgram (flat_list 0 items) positions parts
-program-flat_list items positions parts few shallow numbered found divided =
+    KeepFailure (drop tail (flat_list 0 items)) → IsProgram (flat_list 0 items) positions parts tail
+program-flat_list items positions parts tail few shallow numbered found divided settled =
     let levels : 0 + depth items ≤ 16 = omega (arith, shallow) in
     let first : 1 ≡ 0 + 1 = omega arith in
     record {
@@ -156,6 +157,7 @@ program-flat_list items positions parts few shallow numbered found divided =
       few = omega (arith, few, modules_of-flat_list 0 items);
       found = found;
       divided = divided;
+      settled = settled;
     }
 
 -- the flat list, appended to an empty list

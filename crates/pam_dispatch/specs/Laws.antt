@@ -1,11 +1,14 @@
 -- Laws of runs and of open runs, in the words of pam.conf(5), DESCRIPTION.
-use Rattle.std.specs.Prelude.{◌≡◌, ◌≤◌, ◌⊎◌, ℕ, false, IsTrue, [], ◌∷◌, ◌++◌}
+use Rattle.std.specs.Prelude.{◌≡◌, ◌<◌, ◌≤◌, ◌⊎◌, ℕ, false, IsTrue, [], ◌∷◌, ◌++◌, map}
+use Rattle.std.specs.List.{range_with_len}
+use Rattle.pam_codes.specs.declared.code.TheConstants.{CODES}
 use Rattle.pam_conf.specs.Stack.{Items, End, ThenModule, ThenSub, ModuleText, SubText}
 use Rattle.pam_dispatch.specs.declared.state.State.{State}
-use Rattle.pam_dispatch.specs.Runs.{Ask, Assignment, outcome_of, final_state, asked_by}
+use Rattle.pam_dispatch.specs.Runs.{Ask, Assignment, Runs, outcome_of, final_state, asked_by}
 use Rattle.pam_dispatch.specs.Decision.{decision_of}
 use Rattle.pam_dispatch.specs.State.{action_of, start_state}
 use Rattle.pam_dispatch.specs.Alike.{IsDenial, looks_at_code, retold}
+use Rattle.pam_dispatch.specs.Tail.{IsSettled}
 use Rattle.pam_dispatch.specs.Tree.{count, ask_of, last_items, run, asked, decided, runs_of_stack}
 
 -- an empty list leaves the state as it is, and asks nothing
@@ -83,3 +86,14 @@ OutcomesDiffer =
     IsTrue (looks_at_code (action_of ask.control one) ask.state) → IsTrue (looks_at_code (action_of ask.control other) ask.state) →
     outcome_of ask one ≡ outcome_of ask other →
     (one ≡ other) ⊎ (IsDenial (action_of ask.control one) one × IsDenial (action_of ask.control other) other)
+
+-- whatever the modules of a settled run answer, they are asked in order, and the run ends in its state
+abbrev pub SettledAsks : Type 0
+SettledAsks =
+    (first count : ℕ) (s : State) (runs : Runs) (answers : Assignment) → IsSettled first count s runs →
+    ((number : ℕ) → answers number < CODES) → map (λ ask. ask.module_number) (asked_by runs answers) ≡ range_with_len first count
+
+abbrev pub SettledEnds : Type 0
+SettledEnds =
+    (first count : ℕ) (s : State) (runs : Runs) (answers : Assignment) → IsSettled first count s runs →
+    ((number : ℕ) → answers number < CODES) → final_state runs answers ≡ s

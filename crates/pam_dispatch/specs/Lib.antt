@@ -5,4 +5,5 @@ pub mod Laws
 pub mod Program
 pub mod Runs
 pub mod State
+pub mod Tail
 pub mod Tree

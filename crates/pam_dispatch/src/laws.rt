@@ -2,7 +2,7 @@
 
 ghost use Rattle.pam_dispatch.specs.Laws.{RunOfModule, RunOfNothing, RunOfSubstack, AskedOfModule, AskedOfNothing, AskedOfSubstack};
 ghost use Rattle.pam_dispatch.specs.Laws.{LastItemsCount, LeftFits, OpenRunAsks, OpenRunDecides, OpenRunEnds};
-ghost use Rattle.pam_dispatch.specs.Laws.{OutcomeIsRetold, OutcomeIsShared, OutcomesDiffer};
+ghost use Rattle.pam_dispatch.specs.Laws.{OutcomeIsRetold, OutcomeIsShared, OutcomesDiffer, SettledAsks, SettledEnds};
 
 /// The run of a list of items: empty, or beginning with a substack or a module.
 pub fn run_of_items()
@@ -40,4 +40,10 @@ pub fn outcomes_of_one_action()
 /// Codes whose actions look at the code have different outcomes, unless both fail as perm_denied.
 pub fn outcomes_that_differ()
     ensures { OutcomesDiffer }
+{}
+
+/// A settled run asks its modules in order and ends in its state, whatever they answer.
+pub fn settled_run()
+    ensures asks { SettledAsks }
+    ensures ends { SettledEnds }
 {}

@@ -14,6 +14,7 @@ mod program;
 mod settle;
 mod state;
 mod step;
+mod tail;
 mod work;
 
 pub use asked::Asked;
@@ -24,4 +25,5 @@ pub use place::Place;
 pub use program::Program;
 pub use state::{Impression, State};
 pub use step::{Outcome, Step};
+pub use tail::Rest;
 pub use work::Work;

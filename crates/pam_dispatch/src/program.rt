@@ -1,6 +1,7 @@
 //! The program of a stack, and the steps of its runs.
 
-ghost use Rattle.std.specs.Prelude.{◌≡◌, ◌+◌, ◌-◌, ◌≤◌, ◌^◌, ◌<◌, ℕ, All, IfErr, IfOk, IfSome, IsSome, None, OnOk, Some, drop, length, min, take, ◌≢◌, ◌∷◌};
+ghost use Rattle.std.specs.Prelude.{◌≡◌, ◌≢◌, ◌∷◌, ◌+◌, ◌-◌, ◌≤◌, ◌^◌, ◌<◌, ℕ, All, drop, length, min, take};
+ghost use Rattle.std.specs.Prelude.{IfErr, IfNone, IfOk, IfSome, IsSome, None, OnOk, Some};
 ghost use Rattle.std.specs.List.{AllZip};
 ghost use Rattle.pam_codes.specs.Parts.{IsParts};
 ghost use Rattle.pam_conf.specs.Stack.{Items, module_at, module_count};
@@ -8,6 +9,7 @@ ghost use Rattle.pam_conf.specs.declared.stack.TheConstants.{MAX_MODULES};
 ghost use Rattle.pam_dispatch.specs.Decision.{decision_of};
 ghost use Rattle.pam_dispatch.specs.Flat.{IsBounded, IsPlaceOf, control_at, controls_in, modules_of, positions_from, resume, rest_of, runs_of};
 ghost use Rattle.pam_dispatch.specs.Runs.{AsksRise, Assignment, after_answer, answers_of, asked_by, asked_module, final_state, next_ask, outcome_in, state_in};
+ghost use Rattle.pam_dispatch.specs.Tail.{IsSettled};
 ghost use Rattle.pam_dispatch.specs.Tree.{decided, runs_of_stack};
 
 use crate::asked::Asked;
@@ -20,6 +22,7 @@ use crate::place::Place;
 use crate::settle::settle;
 use crate::state::State;
 use crate::step::{Outcome, Step};
+use crate::tail::{Rest, tail_of};
 use crate::work::Work;
 use pam_codes::{Code, Control, Parts};
 use pam_conf::Stack;
@@ -34,6 +37,8 @@ pub struct Program {
     positions: Vec<usize>,
     /// The parts of the modules' controls, in the same order.
     parts: Vec<Parts>,
+    /// The index in `entries` from which on no answer changes a failed stack.
+    tail: usize,
 }
 
 impl Model for Program {
@@ -46,7 +51,7 @@ impl Model for Program {
 
     ghost view = { λ p. p.entries.items };
 
-    ghost invariant = { λ p. IsProgram p.entries.items p.positions.items p.parts.items };
+    ghost invariant = { λ p. IsProgram p.entries.items p.positions.items p.parts.items p.tail };
 }
 
 /// The indices of the modules in a flat list.
@@ -170,10 +175,12 @@ impl Program {
         flatten(stack.items(), 0, &mut entries)?;
         let positions = module_positions(alloc, &entries)?;
         let parts = module_parts(alloc, &entries)?;
+        let tail = tail_of(&entries);
         Ok(Program {
             entries,
             positions,
             parts,
+            tail,
         })
     }
 
@@ -304,6 +311,32 @@ impl Program {
         ensures state { place.new.state ≡ result.state }
     {
         step_in(&self.entries, place, code)
+    }
+
+    /// The rest of the run from `place`, if it is settled: it is at its end, or the stack has failed and no remaining
+    /// module can change that. Returns `None` too if a substack, a jump, `die` or `reset` remains that no answer reaches.
+    pub fn settled(&self, place: &Place) -> Option<Rest>
+        requires place { IsPlaceOf self.now place.now }
+        ensures settled { IfSome result (λ rest. IsSettled (modules_of self.now + 1 - rest.modules) rest.modules
+            (state_in (rest_of self.now place.now)) (rest_of self.now place.now)) }
+        ensures decision { IfSome result (λ rest. rest.decision ≡ decision_of (state_in (rest_of self.now place.now))) }
+        ensures within { IfSome result (λ rest. rest.modules ≤ modules_of self.now) }
+        ensures asking { IfNone result (IsSome (asked_module (rest_of self.now place.now))) }
+    {
+        let decision = Decision::of(place.state());
+        if place.module().is_none() {
+            return Some(Rest {
+                modules: 0,
+                decision,
+            });
+        }
+        if place.position < self.tail || !place.state.has_failed() {
+            return None;
+        }
+        Some(Rest {
+            modules: self.entries.len() - place.position,
+            decision,
+        })
     }
 
     /// The decision at the end of a run.

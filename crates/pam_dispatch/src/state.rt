@@ -1,8 +1,9 @@
 //! The state of a run.
 
-ghost use Rattle.std.specs.Prelude.{◌≡◌};
+ghost use Rattle.std.specs.Prelude.{◌≡◌, IsTrue};
 ghost use Rattle.pam_dispatch.specs.Alike.{looks_at_code, takes_refused, takes_accepted};
 ghost use Rattle.pam_dispatch.specs.State.{start_state, accepted, refused};
+ghost use Rattle.pam_dispatch.specs.declared.state.Impression.TheVariants.{Negative};
 
 use pam_codes::{Action, Code};
 
@@ -40,6 +41,16 @@ impl State {
             Action::Ignore | Action::Reset | Action::Jump(_) => false,
             Action::Ok | Action::Done => self.takes_accepted(),
             Action::Bad | Action::Die => self.takes_refused(),
+        }
+    }
+
+    /// Whether the stack has failed.
+    pub(crate) fn has_failed(self) -> bool
+        ensures { IsTrue result → self.impression ≡ Negative }
+    {
+        match self.impression {
+            Impression::Negative => true,
+            Impression::Undef | Impression::Positive => false,
         }
     }
 

@@ -1,9 +1,9 @@
 -- The kept texts, step by step.
 use Rattle.std.proofs.Common.{◌≡◌, ℕ, ◌+◌, ◌-◌, ◌<◌, ◌≤◌, zero, suc, List, [], ◌∷◌, ◌++◌, length, take, drop, map, get_or, refl, sym, ap, subst, ◌∙◌, arith}
-use Rattle.std.proofs.Common.{Some, None, slice_get, length-drop, codes, decimal, append_assoc, append-nil, length-append}
+use Rattle.std.proofs.Common.{Some, None, slice_get, length-drop, codes, decimal, append_assoc, append-nil, length-append, min}
 use Rattle.std.specs.List.{flat_map}
 use Rattle.std.proofs.lemmas.Grind.{flat_map-append}
-use Rattle.std.proofs.lemmas.List.{get_or-drop, map-append, take-append-drop, take-append-le, take-map, take-take}
+use Rattle.std.proofs.lemmas.List.{get_or-drop, length-map, map-append, take-append-drop, take-append-le, take-map, take-take}
 use Rattle.std.proofs.lemmas.List.{length-take, take_all, take_at, take_more, take_rest}
 use Rattle.std.proofs.lemmas.Option.{slice_get-get_or, slice_get_within}
 use Rattle.pam_page.proofs.FlatTexts.{flat_map-push, flat_map-seen}
@@ -170,6 +170,46 @@ kept_shared kept before steps shared first same =
     ∙ ap cut first ∙ take-take (length front) (length kept) before (omega (arith, count))
     ∙ sym (take-take (length front) shared before (omega (arith, count))) ∙ ap cut (sym same)
     ∙ take-take (length front) shared steps (omega (arith, count))
+
+-- the same of the steps before the tail
+pub kept_own : (kept before : List StepValue) (steps : List PathStep) (shared own least : ℕ) → take shared kept ≡ take (length (take shared kept)) before
+    → map step_seen steps ≡ before → least ≡ min shared own
+    → take least kept ≡ take (length (take least kept)) (map step_seen (take own steps))
+kept_own kept before steps shared own least same seen is_least =
+    let front = take least kept in
+    let all = take shared kept in
+    let count = length-take least kept in
+    let whole = length-take shared kept in
+    let cut = λ (l : List StepValue). take (length front) l in
+    let inside : least ≤ shared = omega (arith, is_least) in
+    let within : length front ≤ own = omega (arith, is_least, count) in
+    sym (take_all (length front) front (omega arith)) ∙ take-take (length front) least kept (omega (arith, count))
+    ∙ sym (take-take (length front) shared kept (omega (arith, count, inside))) ∙ ap cut same
+    ∙ take-take (length front) (length all) before (omega (arith, count, whole, inside)) ∙ ap cut (sym seen)
+    ∙ sym (take-take (length front) own (map step_seen steps) within) ∙ ap cut (take-map step_seen own steps)
+
+pub own_kept : (kept before : List StepValue) (steps : List PathStep) (own : ℕ) → kept ≡ take (length kept) (map step_seen (take own steps))
+    → map step_seen steps ≡ before → kept ≡ take (length kept) before
+own_kept kept before steps own is seen =
+    let within : length kept ≤ length (map step_seen (take own steps)) =
+    omega (arith, ap length is, length-take (length kept) (map step_seen (take own steps))) in
+    let fits : length kept ≤ own =
+    omega (arith, within, length-map (take own steps) step_seen, length-take own steps) in
+    is ∙ ap (take (length kept)) (sym (take-map step_seen own steps)) ∙ take-take (length kept) own (map step_seen steps) fits
+    ∙ ap (take (length kept)) seen
+
+-- the texts of the kept steps and of the tail are those of the path
+pub whole_text : (text : StepValue → List ℕ) (marks : List Mark) (kept steps : List StepValue) (tail : List PathStep) (texts : List ℕ)
+    → texts ≡ flat_map text (map marked marks) → map marked marks ≡ kept → kept ≡ take (length kept) steps
+    → map step_seen tail ≡ drop (length steps - length tail) steps → length kept ≡ length steps - length tail
+    → texts ++ flat_map text (map step_seen tail) ≡ flat_map text steps
+whole_text text marks kept steps tail texts is seen first last own =
+    let front = is ∙ ap (flat_map text) (seen ∙ first) in
+    ap (λ (l : List ℕ). l ++ flat_map text (map step_seen tail)) front
+    ∙ ap (λ (l : List StepValue). flat_map text (take (length kept) steps) ++ flat_map text l) last
+    ∙ ap (λ (n : ℕ). flat_map text (take (length kept) steps) ++ flat_map text (drop n steps)) (sym own)
+    ∙ sym (flat_map-append text (take (length kept) steps) (drop (length kept) steps))
+    ∙ ap (flat_map text) (take-append-drop (length kept) steps)
 
 -- ---- the line
 

@@ -1,3 +1,4 @@
+pub mod AlikeTexts
 pub mod Coming
 pub mod Laws
 pub mod Marks

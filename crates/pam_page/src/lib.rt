@@ -2,6 +2,7 @@
 //! A line copies the text of the steps it shares with the line before it.
 #![tactic(auto)]
 
+mod alike;
 mod buffer;
 pub mod laws;
 mod line;

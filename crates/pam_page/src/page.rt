@@ -32,7 +32,7 @@ pub fn put_page<K: Knowledge, W: Write>(
             return put_end(listing.side(), u64::from(count), out);
         };
         let path = listing.path();
-        texts.replace(path.steps(), shared);
+        texts.replace(path, shared);
         texts.put_path(path, out)?;
     }
     put_rest(listing, limit - 1, &mut texts, out)
@@ -54,7 +54,7 @@ fn put_rest<K: Knowledge, W: Write>(
         return put_end(listing.side(), u64::from(count), out);
     };
     let path = listing.path();
-    texts.replace(path.steps(), shared);
+    texts.replace(path, shared);
     texts.put_path(path, out)?;
     let cursor = path.cursor();
     match listing.follow() {

@@ -7,7 +7,9 @@ ghost use Rattle.pam_codes.specs.SetText.{set_text};
 ghost use Rattle.pam_page.specs.Marks.{code_text, undotted};
 ghost use Rattle.pam_page.specs.Page.{code_name, path_line, step_text};
 ghost use Rattle.pam_paths.specs.Steps.{step_seen};
+ghost use Rattle.pam_paths.specs.Tail.{AreAlike};
 
+use crate::alike::AlikeTexts;
 use crate::buffer::Buffer;
 use crate::line::put_path;
 use itoa::Buffer as Digits;
@@ -44,6 +46,8 @@ pub struct LineTexts {
     cursor: Buffer,
     /// ` NUMBER=CLASS` for each step.
     steps: Buffer,
+    /// The texts of the steps after those, at which the answers no longer matter.
+    alike: AlikeTexts,
 }
 
 /// Seen as the steps whose texts are kept.
@@ -99,7 +103,7 @@ fn append_class(steps: &mut Buffer, class: CodeSet) -> bool
 }
 
 /// Appends ` NUMBER=`. Returns whether there was room.
-fn append_number(steps: &mut Buffer, number: usize) -> bool
+pub(crate) fn append_number(steps: &mut Buffer, number: usize) -> bool
     ensures { IsTrue result → steps.new.bytes.items ≡ steps.old.bytes.items ++ concat (codes " " ∷ decimal number ∷ codes "=" ∷ []) }
 {
     let mut digits = Digits::new();
@@ -145,6 +149,29 @@ fn put_texts<W: Write>(
     out.put(steps.as_slice())
 }
 
+/// Writes the line of a path, whose last steps are `tail`, by the texts of the steps before them.
+fn put_parts<W: Write>(
+    cursor: &mut Buffer,
+    steps: &mut Buffer,
+    alike: &mut AlikeTexts,
+    tail: &[PathStep],
+    path: &Path,
+    out: &mut Out<W>,
+) -> Result<(), Device>
+    requires some { 1 ≤ length path.now.steps }
+    requires alike { AreAlike (map step_seen tail.now) }
+    requires cursor { cursor.old.bytes.items ++ flat_map code_text (map step_seen tail.now) ≡ flat_map code_text path.now.steps }
+    requires steps { steps.old.bytes.items ++ flat_map step_text (map step_seen tail.now) ≡ flat_map step_text path.now.steps }
+    ensures cursor { take (length cursor.old.bytes.items) cursor.new.bytes.items ≡ cursor.old.bytes.items }
+    ensures steps { take (length steps.old.bytes.items) steps.new.bytes.items ≡ steps.old.bytes.items }
+    ensures written { Writes W.contents out.old out.new result (path_line path.now) }
+{
+    if !alike.append_to(cursor, steps, tail) {
+        return put_path(path, out);
+    }
+    put_texts(cursor, steps, path, out)
+}
+
 /// Appends a mark if there is room. Returns whether there was.
 fn push_mark(marks: &mut Vec<Mark>, mark: Mark) -> bool
     ensures { marks.new.items ≡ (if result then marks.old.items ++ mark ∷ [] else marks.old.items) }
@@ -172,6 +199,7 @@ impl LineTexts {
             marks: Vec::with_capacity(alloc, MAX_MODULES)?,
             cursor: Buffer::with_capacity(alloc, CODE_BYTES * MAX_MODULES)?,
             steps: Buffer::with_capacity(alloc, STEP_BYTES * MAX_MODULES)?,
+            alike: AlikeTexts::new(alloc)?,
         })
     }
 
@@ -209,9 +237,20 @@ impl LineTexts {
         false
     }
 
+    /// Replaces the kept texts by those of the steps of `path` at which the answers matter, as many as there is room for.
+    /// The first `shared` of the kept steps are the first of the path.
+    pub(crate) fn replace(&mut self, path: &Path, shared: usize)
+        requires { take shared self.old ≡ take (length (take shared self.old)) path.now.steps }
+        ensures { self.new ≡ take (length self.new) path.now.steps }
+    {
+        let steps = path.steps();
+        let own = steps.len() - path.tail().len();
+        self.replace_steps(&steps[..own], shared.min(own));
+    }
+
     /// Replaces the kept texts by those of these steps, as many as there is room for. The first `shared` of the kept
     /// steps are the first of these.
-    pub(crate) fn replace(&mut self, steps: &[PathStep], shared: usize)
+    fn replace_steps(&mut self, steps: &[PathStep], shared: usize)
         requires { take shared self.old ≡ take (length (take shared self.old)) (map step_seen steps.now) }
         ensures { self.new ≡ take (length self.new) (map step_seen steps.now) }
     {
@@ -231,12 +270,20 @@ impl LineTexts {
         ensures kept { self.new ≡ self.old }
         ensures written { Writes W.contents out.old out.new result (path_line path.now) }
     {
+        let tail = path.tail();
         let count = path.steps().len();
-        if count == 0 || self.marks.len() < count {
+        if count == 0 || self.marks.len() != count - tail.len() {
             return put_path(path, out);
         }
         let (cursor_end, steps_end) = (self.cursor.len(), self.steps.len());
-        let result = put_texts(&mut self.cursor, &mut self.steps, path, out);
+        let result = put_parts(
+            &mut self.cursor,
+            &mut self.steps,
+            &mut self.alike,
+            tail,
+            path,
+            out,
+        );
         self.cursor.truncate(cursor_end);
         self.steps.truncate(steps_end);
         result

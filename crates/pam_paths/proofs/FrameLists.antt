@@ -6,21 +6,18 @@ use Rattle.std.proofs.lemmas.List.{map-append, reverse-reverse}
 use Rattle.pam_codes.specs.Code.{all_codes}
 use Rattle.pam_dispatch.specs.declared.entry.Entry.{Entry}
 use Rattle.pam_dispatch.specs.declared.place.Place.{Place}
-use Rattle.pam_dispatch.specs.Decision.{decision_of}
 use Rattle.pam_dispatch.specs.Flat.{IsPlaceOf, modules_of, rest_of, runs_of}
-use Rattle.pam_dispatch.specs.Runs.{AsksRise, Runs, after_answer, asked_module, asks, ends, next_ask, outcome_of, state_in}
+use Rattle.pam_dispatch.specs.Runs.{AsksRise, Runs, after_answer, asked_module, asks, ends, next_ask, outcome_of}
 use Rattle.pam_paths.specs.declared.classes.Classes.{Classes}
 use Rattle.pam_paths.specs.declared.direction.Direction.{Direction}
 use Rattle.pam_paths.specs.declared.direction.Direction.TheVariants.{Forward, Backward}
 use Rattle.pam_paths.specs.declared.frames.Frame.{Frame}
-use Rattle.pam_paths.specs.declared.path.PathStep.{PathStep}
 use Rattle.pam_paths.specs.Classes.{Member}
 use Rattle.pam_paths.specs.Computed.{after_step, listing}
 use Rattle.pam_paths.specs.Directions.{ordered, outset, past}
 use Rattle.pam_paths.specs.Frames.{AreClasses, AreFrames, IsExploring, IsFrame, ahead, ahead_of, coming, offered_at, step_in, under}
 use Rattle.pam_paths.specs.Listing.{Allowance, IsLawful}
 use Rattle.pam_paths.specs.Paths.{PathValue, StepValue, path_of}
-use Rattle.pam_paths.specs.Steps.{step_seen}
 use Rattle.pam_paths.proofs.Listings.{some_assignment, listing-has}
 
 abbrev path : List StepValue → ℕ → PathValue
@@ -43,19 +40,6 @@ pub under-nil : (fs : List Frame) → under fs [] ≡ []
 unfolding under
 under-nil [] = refl
 under-nil (f ∷ fs) = ap (map (after_step (step_in f))) (under-nil fs)
-
--- at an end the one path is that of the frames
-ordered-end : (d : Direction) (allows : Allowance) (r : Runs) → asked_module r ≡ None →
-    ordered d (listing allows r) ≡ path [] (decision_of (state_in r)) ∷ []
-unfolding listing
-ordered-end Forward allows (ends s) e = refl
-ordered-end Backward allows (ends s) e = refl
-ordered-end d allows (asks ask next) e = absurd (let k : ⊥ = cc in k)
-
-under-path : (fs : List Frame) (decision : ℕ) → under fs (path [] decision ∷ []) ≡ path (map step_in fs) decision ∷ []
-unfolding under
-under-path [] decision = refl
-under-path (f ∷ fs) decision = ap (map (after_step (step_in f))) (under-path fs decision)
 
 -- THE FRAMES OF A PROGRAM
 
@@ -202,19 +186,6 @@ module _ (d : Direction) (allows : Allowance) (program : List Entry) where
       ∙ ap (λ (x : List ℕ). map (after_step (record { module_number = g.module_number; class = x })) below ++ ahead_of d allows r (past d c)) (sym same)
       ∙ ap (λ (x : ℕ). map (after_step (step_in g)) below ++ ahead_of d allows r (past d x)) (sym code)
       ∙ ap (λ (x : Runs). map (after_step (step_in g)) below ++ ahead_of d allows x (past d g.code)) here
-
-  -- the path at an end under some frames comes first
-  pub first_path : (before : List PathValue) (gs : List Frame) (q : Runs) (steps : List PathStep) (decision : ℕ) →
-      before ≡ under gs (ordered d (listing allows q)) ++ ahead d allows program gs →
-      asked_module q ≡ None → map step_seen steps ≡ map step_in gs → decision ≡ decision_of (state_in q) →
-      before ≡ record { steps = map step_seen steps; decision = decision } ∷ coming d allows program false gs
-  unfolding coming path
-  first_path before gs q steps decision b e s t =
-      b
-      ∙ ap (λ (x : List PathValue). under gs x ++ ahead d allows program gs) (ordered-end d allows q e)
-      ∙ ap (λ (x : List PathValue). x ++ ahead d allows program gs) (under-path gs (decision_of (state_in q)))
-      ∙ ap (λ (x : List StepValue). path x (decision_of (state_in q)) ∷ ahead d allows program gs) (sym s)
-      ∙ ap (λ (x : ℕ). path (map step_seen steps) x ∷ ahead d allows program gs) (sym t)
 
   -- at the start the paths are all from the first place on
   pub coming-all : (at_start : Bool) (fs : List Frame) (place : Place) → at_start ≡ true → IsExploring allows program at_start fs →

@@ -62,10 +62,12 @@ pub shared_steps : (steps : List StepValue) (before mid after : List Frame) (sha
     → take (length mid - 1) mid ≡ take (length mid - 1) before → take (length mid) after ≡ mid → shared ≤ length steps → shared ≤ length mid - 1
     → take shared steps ≡ take shared (map step_in after)
 shared_steps steps before mid after shared first changed added few within =
-    let cut = λ (fs : List Frame). take shared (map step_in fs) in
+    let kept : length mid - 1 ≤ length before =
+    omega (arith, ap length changed, length-take (length mid - 1) mid, length-take (length mid - 1) before) in
     let whole = take-take shared (length steps) (map step_in before) few in
+    let own = sym (take-take shared (length before) steps (omega (arith, kept, within))) in
     let same : take shared before ≡ take shared mid =
     sym (take-take shared (length mid - 1) before within) ∙ ap (take shared) (sym changed) ∙ take-take shared (length mid - 1) mid within in
     let longer : take shared mid ≡ take shared after =
     ap (take shared) (sym added) ∙ take-take shared (length mid) after (omega (arith, within)) in
-    ap (take shared) first ∙ whole ∙ take-map step_in shared before ∙ ap (map step_in) (same ∙ longer) ∙ sym (take-map step_in shared after)
+    own ∙ ap (take shared) first ∙ whole ∙ take-map step_in shared before ∙ ap (map step_in) (same ∙ longer) ∙ sym (take-map step_in shared after)

@@ -18,5 +18,6 @@ pub mod Retracing
 pub mod Sets
 pub mod Sharing
 pub mod Verdicts
+pub mod Tails
 pub mod Trees
 pub mod WrittenCursors

@@ -5,6 +5,7 @@ use Rattle.std.specs.List.{range_with_len}
 use Rattle.pam_codes.specs.Set.{codes_where, is_in}
 use Rattle.pam_conf.specs.declared.stack.TheConstants.{MAX_MODULES}
 use Rattle.pam_dispatch.specs.declared.entry.Entry.{Entry}
+use Rattle.pam_dispatch.specs.declared.tail.Rest.{Rest}
 use Rattle.pam_dispatch.specs.declared.step.Outcome.{Outcome}
 use Rattle.pam_dispatch.specs.Flat.{IsPlaceOf, modules_of, rest_of, runs_of}
 use Rattle.pam_dispatch.specs.Runs.{Ask, Runs, ends, asks, AsksRise, asked_module, next_ask, outcome_of}
@@ -17,6 +18,7 @@ use Rattle.pam_paths.specs.Computed.{after_step, branches, is_offered, listing}
 use Rattle.pam_paths.specs.Directions.{ordered, past}
 use Rattle.pam_paths.specs.Listing.{Allowance}
 use Rattle.pam_paths.specs.Paths.{PathValue, StepValue, step_of}
+use Rattle.pam_paths.specs.Tail.{alike_from}
 
 -- the paths that begin at a module with codes ahead of a bound
 abbrev pub branches_in : Direction → Allowance → Ask → (Outcome → List PathValue) → ℕ → List PathValue
@@ -31,9 +33,16 @@ ahead_of direction allows (asks ask next) bound = branches_in direction allows a
 abbrev pub step_in : Frame → StepValue
 step_in frame = record { module_number = frame.module_number; class = frame.class }
 
--- steps are those of the first frames
+-- steps are those of the frames, as far as there are both
 abbrev pub AreFirstSteps : List Frame → List StepValue → Type 0
-AreFirstSteps frames steps = steps ≡ take (length steps) (map step_in frames)
+AreFirstSteps frames steps = take (length frames) steps ≡ take (length steps) (map step_in frames)
+
+-- the path of frames, and then of the rest of a settled run through `modules` modules
+abbrev pub path_to : ℕ → List Frame → Rest → PathValue
+path_to modules frames rest = record {
+  steps = map step_in frames ++ alike_from (modules + 1 - rest.modules) rest.modules;
+  decision = rest.decision;
+}
 
 -- the paths, each with the steps of the frames before it
 unfoldable pub under : List Frame → List PathValue → List PathValue

@@ -13,3 +13,4 @@ pub mod Paths
 pub mod Retrace
 pub mod Sharing
 pub mod Steps
+pub mod Tail

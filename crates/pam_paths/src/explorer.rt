@@ -21,6 +21,7 @@ use crate::frames::{Frames, advance, descend, retell};
 use crate::knowledge::Knowledge;
 use crate::path::Path;
 use crate::retrace::retrace;
+use crate::tail::AlikeSteps;
 use arrayvec::ArrayVec;
 use pam_dispatch::{MAX_MODULES, Place, Program, Work};
 use std::marker::Model;
@@ -38,6 +39,8 @@ pub struct Explorer<'a, K: Knowledge> {
     frames: Frames,
     /// The path returned last.
     path: Path,
+    /// The steps at which the answers no longer matter are copied from here.
+    alike: AlikeSteps,
     work: Work,
 }
 
@@ -106,6 +109,7 @@ fn follow<K: Knowledge>(
     at_start: bool,
     frames: &mut Frames,
     path: &mut Path,
+    alike: &AlikeSteps,
     work: &mut Work,
 ) -> Option<usize>
     requires exploring { IsExploring (K.allows knowledge.now) program.now at_start frames.old.items }
@@ -121,12 +125,15 @@ fn follow<K: Knowledge>(
 {
     let Some(place) = go_on(program, knowledge, direction, at_start, frames, work) else {
         path.steps.truncate(0);
+        path.tail = 0;
         return None;
     };
     let shared = shared_count(path.steps.len(), frames.len());
-    let end = descend(program, knowledge, direction, frames, place, work);
-    retell(&mut path.steps, frames.as_slice(), shared);
-    path.decision = program.decision(&end).code();
+    let rest = descend(program, knowledge, direction, frames, place, work);
+    let tail = alike.last(program.modules(), rest.modules);
+    retell(&mut path.steps, frames.as_slice(), tail, shared);
+    path.tail = rest.modules;
+    path.decision = rest.decision.code();
     Some(shared)
 }
 
@@ -175,6 +182,7 @@ impl<'a, K: Knowledge> Explorer<'a, K> {
             at_start: true,
             frames: ArrayVec::new(),
             path: Path::empty(),
+            alike: AlikeSteps::new(),
             work: Work::new(),
         }
     }
@@ -239,6 +247,7 @@ impl<'a, K: Knowledge> Explorer<'a, K> {
                 at_start: false,
                 frames,
                 path: Path::empty(),
+                alike: AlikeSteps::new(),
                 work,
             }),
         }
@@ -261,6 +270,7 @@ impl<'a, K: Knowledge> Explorer<'a, K> {
             at_start,
             &mut self.frames,
             &mut self.path,
+            &self.alike,
             &mut self.work,
         )
     }

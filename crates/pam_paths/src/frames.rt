@@ -1,13 +1,13 @@
 //! The frames of an explorer: the modules asked on the path that it returned last.
 
-ghost use Rattle.std.specs.Prelude.{◌≡◌, ◌+◌, ◌-◌, ◌<◌, ◌≤◌, ◌++◌, [], ℕ, length, map, take, None, Some, IfSome, IfNone};
+ghost use Rattle.std.specs.Prelude.{◌≡◌, ◌+◌, ◌-◌, ◌<◌, ◌≤◌, ◌∷◌, ◌++◌, [], ℕ, length, map, take, None, Some, IfSome, IfNone};
 ghost use Rattle.pam_conf.specs.declared.stack.TheConstants.{MAX_MODULES};
 ghost use Rattle.pam_dispatch.specs.Flat.{IsPlaceOf, modules_of, rest_of};
 ghost use Rattle.pam_dispatch.specs.Runs.{AsksRise, after_answer, asked_module, next_ask};
 ghost use Rattle.pam_paths.specs.Classes.{class_of};
 ghost use Rattle.pam_paths.specs.Computed.{after_step, listing};
 ghost use Rattle.pam_paths.specs.Directions.{ordered, past};
-ghost use Rattle.pam_paths.specs.Frames.{AreClasses, AreFrames, IsFrame, ahead, ahead_of, offered_at, step_in, under};
+ghost use Rattle.pam_paths.specs.Frames.{AreClasses, AreFrames, IsFrame, ahead, ahead_of, offered_at, path_to, step_in, under};
 ghost use Rattle.pam_paths.specs.Listing.{Allowance};
 ghost use Rattle.pam_paths.specs.Steps.{step_seen};
 
@@ -17,7 +17,7 @@ use crate::knowledge::Knowledge;
 use crate::path::PathStep;
 use arrayvec::ArrayVec;
 use pam_codes::{Code, CodeSet};
-use pam_dispatch::{MAX_MODULES, Place, Program, Work};
+use pam_dispatch::{MAX_MODULES, Place, Program, Rest, Work};
 
 /// The frames of a path, outermost first.
 pub(crate) type Frames = ArrayVec<Frame, MAX_MODULES>;
@@ -208,7 +208,7 @@ pub(crate) fn advance<K: Knowledge>(
     None
 }
 
-/// Follows the first branch of each module, from `from` to the end of the run.
+/// Follows the first branch of each module, from `from` on, until the run is settled. Returns the rest of it.
 pub(crate) fn descend<K: Knowledge>(
     program: &Program,
     knowledge: &K,
@@ -216,23 +216,27 @@ pub(crate) fn descend<K: Knowledge>(
     frames: &mut Frames,
     from: Place,
     work: &mut Work,
-) -> Place
+) -> Rest
     requires few { modules_of program.now ≤ MAX_MODULES }
     requires frames { AreFrames (K.allows knowledge.now) program.now 0 frames.old.items }
     requires place { IsPlaceOf program.now from }
     requires rise { AsksRise (length frames.old.items) (modules_of program.now) (rest_of program.now from) }
-    ensures place { IsPlaceOf program.now result }
-    ensures ended { asked_module (rest_of program.now result) ≡ None }
     ensures frames { AreFrames (K.allows knowledge.now) program.now 0 frames.new.items }
-    ensures paths { under frames.old.items (ordered direction (listing (K.allows knowledge.now) (rest_of program.now from)))
+    ensures path { under frames.old.items (ordered direction (listing (K.allows knowledge.now) (rest_of program.now from)))
         ++ ahead direction (K.allows knowledge.now) program.now frames.old.items
-        ≡ under frames.new.items (ordered direction (listing (K.allows knowledge.now) (rest_of program.now result)))
-        ++ ahead direction (K.allows knowledge.now) program.now frames.new.items }
+        ≡ path_to (modules_of program.now) frames.new.items result ∷ ahead direction (K.allows knowledge.now) program.now frames.new.items }
+    ensures within { length frames.new.items + result.modules ≤ modules_of program.now }
     ensures earlier { take (length frames.old.items) frames.new.items ≡ frames.old.items }
     ensures work { work.new + length frames.old.items ≤ work.old + length frames.new.items }
 {
     let mut place = from;
-    while let Some(module_number) = place.module() {
+    loop {
+        if let Some(rest) = program.settled(&place) {
+            return rest;
+        }
+        let Some(module_number) = place.module() else {
+            unreachable!()
+        };
         let frame = Frame::at(program, knowledge, place, module_number);
         match frame.branch_ahead(program, direction, direction.outset(), work) {
             Some(branch) => {
@@ -242,15 +246,19 @@ pub(crate) fn descend<K: Knowledge>(
             None => unreachable!(),
         }
     }
-    place
 }
 
-/// Makes `steps` the steps of `frames`. The first `shared` of them stay.
-pub(crate) fn retell(steps: &mut ArrayVec<PathStep, MAX_MODULES>, frames: &[Frame], shared: usize)
-    requires few { length frames.now ≤ MAX_MODULES }
+/// Makes `steps` the steps of `frames` and then those of `tail`. The first `shared` of them stay.
+pub(crate) fn retell(
+    steps: &mut ArrayVec<PathStep, MAX_MODULES>,
+    frames: &[Frame],
+    tail: &[PathStep],
+    shared: usize,
+)
+    requires few { length frames.now + length tail.now ≤ MAX_MODULES }
     requires within { shared ≤ length frames.now }
     requires same { take shared (map step_seen steps.old.items) ≡ take shared (map step_in frames.now) }
-    ensures { map step_seen steps.new.items ≡ map step_in frames.now }
+    ensures { map step_seen steps.new.items ≡ map step_in frames.now ++ map step_seen tail.now }
 {
     steps.truncate(shared);
     let added = &frames[shared..];
@@ -259,5 +267,8 @@ pub(crate) fn retell(steps: &mut ArrayVec<PathStep, MAX_MODULES>, frames: &[Fram
             number: frame.module_number,
             class: frame.class,
         });
+    }
+    if steps.try_extend_from_slice(tail).is_err() {
+        unreachable!();
     }
 }

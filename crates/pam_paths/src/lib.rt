@@ -13,6 +13,7 @@ mod knowledge;
 pub mod laws;
 mod path;
 mod retrace;
+mod tail;
 
 pub use before::Before;
 pub use cursor::{Cursor, CursorError};

@@ -1,8 +1,9 @@
 //! The paths through a stack.
 
-ghost use Rattle.std.specs.Prelude.{◌≡◌, ◌<◌, ◌≤◌, length, map};
+ghost use Rattle.std.specs.Prelude.{◌≡◌, ◌-◌, ◌<◌, ◌≤◌, drop, length, map};
 ghost use Rattle.pam_paths.specs.CursorText.{IsCursor};
 ghost use Rattle.pam_paths.specs.Paths.{key};
+ghost use Rattle.pam_paths.specs.Tail.{AreAlike};
 
 use crate::cursor::Cursor;
 use arrayvec::ArrayVec;
@@ -46,6 +47,8 @@ impl PathStep {
 #[derive(Drop)]
 pub struct Path {
     pub(crate) steps: ArrayVec<PathStep, MAX_MODULES>,
+    /// The number of last steps at which the answers no longer matter.
+    pub(crate) tail: usize,
     pub(crate) decision: Code,
 }
 
@@ -58,6 +61,10 @@ impl Model for Path {
     ghost use Rattle.pam_paths.specs.Steps.{step_seen};
 
     ghost view = { λ p. record { steps = map step_seen p.steps.items; decision = p.decision } };
+
+    ghost use Rattle.pam_paths.specs.Tail.{EndAlike};
+
+    ghost invariant = { λ p. EndAlike p.tail (map step_seen p.steps.items) };
 }
 
 impl Path {
@@ -70,6 +77,7 @@ impl Path {
     {
         Path {
             steps: ArrayVec::new(),
+            tail: 0,
             decision: Code::SUCCESS,
         }
     }
@@ -84,6 +92,7 @@ impl Path {
         }
         Path {
             steps,
+            tail: self.tail,
             decision: self.decision,
         }
     }
@@ -93,6 +102,16 @@ impl Path {
         ensures { map step_seen result.now ≡ self.now.steps }
     {
         self.steps.as_slice()
+    }
+
+    /// The last steps, from one on after which no answer changes the path. Each has every code in its class.
+    pub fn tail(&self) -> &[PathStep]
+        ensures within { length result.now ≤ length self.now.steps }
+        ensures last { map step_seen result.now ≡ drop (length self.now.steps - length result.now) self.now.steps }
+        ensures alike { AreAlike (map step_seen result.now) }
+    {
+        let steps = self.steps.as_slice();
+        &steps[steps.len() - self.tail..]
     }
 
     /// The decision of the stack.

@@ -35,7 +35,7 @@ loop-count-preserved g c =
       left = sym next.after;
       side = c.in-Some.ensures.side ∙ l.invariant.side;
       kept = subst (λ (l : List StepValue). l ≡ take (length l) (followed c.follow.new.self).steps) (sym c.in_ok-put_path.ensures.kept)
-          (c.replace.ensures ∙ ap (take _) (c.steps.ensures ∙ ap (λ (p : PathValue). p.steps) c.path-path.ensures));
+          (c.replace.ensures ∙ ap (take _) (ap (λ (p : PathValue). p.steps) c.path-path.ensures));
       within = omega (arith, next.inside);
     }
 
@@ -50,4 +50,4 @@ pub replace-requires : goal.replace-requires
 replace-requires g c =
     let l = c.loop-count in
     kept_shared l.texts _ _ c.in-Some.shared l.invariant.kept
-    (ap (take c.in-Some.shared) (c.steps.ensures ∙ ap (λ (p : PathValue). p.steps) c.path-path.ensures) ∙ c.in-Some.ensures.shared)
+    (ap (take c.in-Some.shared) (ap (λ (p : PathValue). p.steps) c.path-path.ensures) ∙ c.in-Some.ensures.shared)

@@ -28,4 +28,4 @@ returns-in-Some-follow g c =
 pub replace-requires : goal.replace-requires
 replace-requires g c =
     kept_shared c.args.texts.now _ _ c.in-Some.shared c.requires.kept
-    (ap (take c.in-Some.shared) (c.steps.ensures ∙ ap (λ (p : PathValue). p.steps) c.path-path.ensures) ∙ c.in-Some.ensures.shared)
+    (ap (take c.in-Some.shared) (ap (λ (p : PathValue). p.steps) c.path-path.ensures) ∙ c.in-Some.ensures.shared)

@@ -1,10 +1,11 @@
 use Rattle.std.proofs.Common.{◌≡◌, ◌-◌, ◌≤◌, ◌∙◌, arith, ap, length, map, refl, subst, sym, take}
-use Rattle.std.proofs.lemmas.List.{length-map}
-use Rattle.pam_dispatch.specs.Flat.{rest_of}
+use Rattle.std.proofs.lemmas.List.{length-map, length-take, take-append-le}
+use Rattle.pam_dispatch.specs.Flat.{modules_of}
 use Rattle.pam_paths.specs.Frames.{AreFirstSteps, ahead, coming, step_in}
 use Rattle.pam_paths.specs.Paths.{PathValue}
 use Rattle.pam_paths.specs.Steps.{step_seen}
-use Rattle.pam_paths.proofs.FrameLists.{AreFrames-length, first_path}
+use Rattle.pam_paths.proofs.FrameLists.{AreFrames-length}
+use Rattle.pam_paths.proofs.Tails.{end-alike, end-none, first-path, first-steps, steps-told, tail-room}
 use Rattle.pam_paths.proofs.Fronts.{shared_steps}
 use Rattle.pam_paths.proofs.explorer.follow.Goals as goal
 
@@ -24,14 +25,33 @@ retell-requires-clause-same g c =
     omega (arith, c.shared_count-shared.ensures.within, told, length-map steps step_seen) in
     let within : c.shared_count-shared.result ≤ length mid - 1 = omega (arith, c.shared_count-shared.ensures.unchanged, followed) in
     shared_steps _ c.args.frames.now.items mid c.as_slice.result.now c.shared_count-shared.result first
-    c.in-Some.ensures.earlier (ap (take _) c.as_slice.ensures.value ∙ c.descend-end.ensures.earlier) few within
+    c.in-Some.ensures.earlier (ap (take _) c.as_slice.ensures.value ∙ c.descend-rest.ensures.earlier) few within
 
 pub returns-clause-path : goal.returns-clause-path
 returns-clause-path g c =
-    first_path c.args.direction (g.K.Knowledge.allows c.args.knowledge.now) c.args.program.now _ c.descend-end.new.frames.items
-    (rest_of c.args.program.now c.descend-end.result) _ _
-    (c.in-Some.ensures.paths ∙ c.descend-end.ensures.paths) c.descend-end.ensures.ended
-    (c.retell.ensures ∙ ap (map step_in) c.as_slice.ensures.value) (c.code-path-inside.ensures ∙ c.decision.ensures)
+    first-path c.args.direction (g.K.Knowledge.allows c.args.knowledge.now) c.args.program.now _ c.descend-rest.new.frames.items
+    c.descend-rest.result c.retell.new.steps.items _ (c.in-Some.ensures.paths ∙ c.descend-rest.ensures.path)
+    (steps-told _ c.as_slice.result.now c.descend-rest.new.frames.items c.last-tail.result.now c.modules.result (modules_of c.args.program.now) _
+    c.retell.ensures c.as_slice.ensures.value c.last-tail.ensures c.modules.ensures.count)
+    c.code-path-inside.ensures
+
+pub returns-clause-steps : goal.returns-clause-steps
+returns-clause-steps g c =
+    first-steps (map step_seen c.retell.new.steps.items) c.descend-rest.new.frames.items _
+    (steps-told _ c.as_slice.result.now c.descend-rest.new.frames.items c.last-tail.result.now c.modules.result (modules_of c.args.program.now) _
+    c.retell.ensures c.as_slice.ensures.value c.last-tail.ensures c.modules.ensures.count)
+
+pub invariant_of-path : goal.invariant_of-path
+invariant_of-path g c = end-none _
+
+pub invariant_of-path-2 : goal.invariant_of-path-2
+invariant_of-path-2 g c =
+    end-alike _ (map step_in c.as_slice.result.now) (map step_seen c.last-tail.result.now) _ _ c.retell.ensures c.last-tail.ensures
+
+pub retell-requires-clause-few : goal.retell-requires-clause-few
+retell-requires-clause-few g c =
+    let long = tail-room c.last-tail.result.now _ _ c.last-tail.ensures in
+    omega (arith, long, ap length c.as_slice.ensures.value, c.descend-rest.ensures.within, c.requires.exploring.few)
 
 pub returns-clause-shared : goal.returns-clause-shared
 returns-clause-shared g c =
@@ -44,13 +64,19 @@ returns-clause-shared g c =
     let few : c.shared_count-shared.result ≤ length (map step_seen steps) =
     omega (arith, c.shared_count-shared.ensures.within, told, length-map steps step_seen) in
     let within : c.shared_count-shared.result ≤ length mid - 1 = omega (arith, c.shared_count-shared.ensures.unchanged, followed) in
-    ap (take _) c.retell.ensures ∙ sym
+    let own = map step_in c.as_slice.result.now in
+    let front : length mid ≤ length c.descend-rest.new.frames.items =
+    omega (arith, ap length c.descend-rest.ensures.earlier, length-take (length mid) c.descend-rest.new.frames.items) in
+    let inside : c.shared_count-shared.result ≤ length own =
+    omega (arith, front, within, ap length c.as_slice.ensures.value, length-map c.as_slice.result.now step_in) in
+    ap (take c.shared_count-shared.result) c.retell.ensures
+    ∙ take-append-le c.shared_count-shared.result own (map step_seen c.last-tail.result.now) inside ∙ sym
     (shared_steps _ c.args.frames.now.items mid c.as_slice.result.now c.shared_count-shared.result first
-    c.in-Some.ensures.earlier (ap (take _) c.as_slice.ensures.value ∙ c.descend-end.ensures.earlier) few within) ∙ ap (take _) seen
+    c.in-Some.ensures.earlier (ap (take _) c.as_slice.ensures.value ∙ c.descend-rest.ensures.earlier) few within) ∙ ap (take _) seen
 
 pub returns-clause-work : goal.returns-clause-work
 returns-clause-work g c =
     let program = c.args.program.now in
-    let k = AreFrames-length (g.K.Knowledge.allows c.args.knowledge.now) program 0 c.descend-end.new.frames.items
-    (omega arith) c.descend-end.ensures.frames in
-    omega (arith, c.go_on.ensures.work, c.descend-end.ensures.work, k)
+    let k = AreFrames-length (g.K.Knowledge.allows c.args.knowledge.now) program 0 c.descend-rest.new.frames.items
+    (omega arith) c.descend-rest.ensures.frames in
+    omega (arith, c.go_on.ensures.work, c.descend-rest.ensures.work, k)

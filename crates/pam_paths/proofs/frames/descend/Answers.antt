@@ -1,4 +1,6 @@
-use Rattle.std.proofs.Common.{◌<◌, ◌++◌, length, List, arith, ap, sym, ◌∙◌, subst, lit<}
+use Rattle.std.proofs.Common.{◌<◌, ◌++◌, ℕ, Option, length, List, arith, ap, sym, ◌∙◌, subst, lit<}
+use Rattle.std.specs.Prelude.{IsSome}
+use Rattle.std.proofs.lemmas.Bool.{false≢true}
 use Rattle.pam_dispatch.specs.Flat.{rest_of, modules_of}
 use Rattle.pam_dispatch.specs.Runs.{AsksRise}
 use Rattle.pam_dispatch.specs.declared.place.Place.{Place}
@@ -6,50 +8,58 @@ use Rattle.pam_paths.specs.declared.frames.Frame.{Frame}
 use Rattle.pam_paths.specs.Computed.{listing}
 use Rattle.pam_paths.specs.Directions.{ordered}
 use Rattle.pam_paths.specs.Frames.{ahead, ahead_of, under, AreFrames, IsFrame}
-use Rattle.pam_paths.proofs.FrameLists.{ahead-enter, branch_followed, frame_after, frame_number, frame_same, listing-ahead, ordered-some, pushed, rise_after}
+use Rattle.pam_paths.proofs.FrameLists.{AreFrames-length, ahead-enter, branch_followed, frame_after, frame_number, frame_same, listing-ahead, ordered-some, pushed, rise_after}
 use Rattle.pam_paths.proofs.Fronts.{front_pushed}
+use Rattle.pam_paths.proofs.Tails.{settled-path, settled-room}
 use Rattle.pam_paths.proofs.frames.descend.Goals as goal
 
 pub push-requires : goal.push-requires
 push-requires g c =
-    let i = c.loop-module_number.invariant in
+    let i = c.loop-rest.invariant in
     let program = c.args.program.now in
-    let asked = sym (c.in-Some.ensures program i.place) in
+    let asked = sym (c.in-Some-module.ensures program i.place) in
     let k = rise_after _ (modules_of program) _ 0 _ i.rise asked in
-    let room : length c.loop-module_number.frames.items < 256 = omega (arith, k.0, k.1, c.requires.few) in
+    let room : length c.loop-rest.frames.items < 256 = omega (arith, k.0, k.1, c.requires.few) in
     (lit< tt, room)
 
-pub loop-module_number-smaller : goal.loop-module_number-smaller
-loop-module_number-smaller g c =
-    let i = c.loop-module_number.invariant in
+pub loop-rest-smaller : goal.loop-rest-smaller
+loop-rest-smaller g c =
+    let i = c.loop-rest.invariant in
     let program = c.args.program.now in
-    let asked = sym (c.in-Some.ensures program i.place) in
+    let asked = sym (c.in-Some-module.ensures program i.place) in
     let k = rise_after _ (modules_of program) _ 0 _ i.rise asked in
     omega (arith, c.push.ensures.len, k.0, k.1)
 
+-- a run that is not settled asks a module
 pub unreachable-requires : goal.unreachable-requires
 unreachable-requires g c =
-    let i = c.loop-module_number.invariant in
+    let i = c.loop-rest.invariant in
+    let none = sym (c.module.ensures c.args.program.now i.place) ∙ c.in_default-module.is in
+    false≢true (subst (λ (o : Option ℕ). IsSome o) none c.in_default.ensures.asking)
+
+pub unreachable-requires-in-None : goal.unreachable-requires-in-None
+unreachable-requires-in-None g c =
+    let i = c.loop-rest.invariant in
     let allows = g.K.Knowledge.allows c.args.knowledge.now in
     let program = c.args.program.now in
     let d = c.args.direction in
-    let r = rest_of program c.loop-module_number.place in
-    let asked = sym (c.in-Some.ensures program i.place) in
-    let is = c.at-frame.ensures.frame (length c.loop-module_number.frames.items) i.rise in
+    let r = rest_of program c.loop-rest.place in
+    let asked = sym (c.in-Some-module.ensures program i.place) in
+    let is = c.at-frame.ensures.frame (length c.loop-rest.frames.items) i.rise in
     ordered-some d allows _ (modules_of program) r i.rise
     (λ m first last. g.met.K.Knowledge.lawful c.args.knowledge.now m first (omega (arith, last, c.requires.few)))
-    (listing-ahead d allows r c.in-Some.module_number asked
+    (listing-ahead d allows r c.in-Some-module.module_number asked
     ∙ ap (ahead_of d allows r) (sym c.outset.ensures.value)
     ∙ ap (λ (x : Place). ahead_of d allows (rest_of program x) c.outset.result) (sym c.at-frame.ensures.place)
     ∙ c.in-None.ensures.none allows is.offered)
 
-pub loop-module_number-preserved : goal.loop-module_number-preserved
-loop-module_number-preserved g c =
-    let i = c.loop-module_number.invariant in
+pub loop-rest-preserved : goal.loop-rest-preserved
+loop-rest-preserved g c =
+    let i = c.loop-rest.invariant in
     let allows = g.K.Knowledge.allows c.args.knowledge.now in
     let program = c.args.program.now in
     let d = c.args.direction in
-    let fs = c.loop-module_number.frames.items in
+    let fs = c.loop-rest.frames.items in
     let b = c.in-Some-branch_ahead.branch in
     let e = c.in-Some-branch_ahead.ensures in
     let f : Frame = c.at-frame.result in
@@ -67,7 +77,7 @@ loop-module_number-preserved g c =
           (frame_after allows program (length fs) f b.code b.place is e.rest);
       earlier = front_pushed c.args.frames.now.items fs _ h i.earlier c.push.ensures.items;
       same = i.same
-          ∙ ahead-enter d allows program fs h below (ordered d (listing allows (rest_of program c.loop-module_number.place)))
+          ∙ ahead-enter d allows program fs h below (ordered d (listing allows (rest_of program c.loop-rest.place)))
           (ap (λ (x : Place). ordered d (listing allows (rest_of program x))) (sym c.at-frame.ensures.place)
           ∙ listing-ahead d allows r f.module_number is.asking
           ∙ ap (ahead_of d allows r) (sym c.outset.ensures.value)
@@ -80,25 +90,43 @@ loop-module_number-preserved g c =
 
 pub branch_ahead-requires-clause-classes : goal.branch_ahead-requires-clause-classes
 branch_ahead-requires-clause-classes g c =
-    (c.at-frame.ensures.frame (length c.loop-module_number.frames.items) c.loop-module_number.invariant.rise).classes
+    (c.at-frame.ensures.frame (length c.loop-rest.frames.items) c.loop-rest.invariant.rise).classes
 
 pub branch_ahead-requires-clause-first : goal.branch_ahead-requires-clause-first
 branch_ahead-requires-clause-first g c =
-    let i = c.loop-module_number.invariant in
-    omega (arith, (frame_number _ _ _ _ (c.at-frame.ensures.frame (length c.loop-module_number.frames.items) i.rise)).0)
+    let i = c.loop-rest.invariant in
+    omega (arith, (frame_number _ _ _ _ (c.at-frame.ensures.frame (length c.loop-rest.frames.items) i.rise)).0)
 
 pub branch_ahead-requires-clause-last : goal.branch_ahead-requires-clause-last
 branch_ahead-requires-clause-last g c =
-    let i = c.loop-module_number.invariant in
-    (frame_number _ _ _ _ (c.at-frame.ensures.frame (length c.loop-module_number.frames.items) i.rise)).1
+    let i = c.loop-rest.invariant in
+    (frame_number _ _ _ _ (c.at-frame.ensures.frame (length c.loop-rest.frames.items) i.rise)).1
 
 pub at-frame-requires-clause-first : goal.at-frame-requires-clause-first
 at-frame-requires-clause-first g c =
-    let i = c.loop-module_number.invariant in
-    let k = rise_after _ (modules_of c.args.program.now) _ 0 _ i.rise (sym (c.in-Some.ensures c.args.program.now i.place)) in
+    let i = c.loop-rest.invariant in
+    let k = rise_after _ (modules_of c.args.program.now) _ 0 _ i.rise (sym (c.in-Some-module.ensures c.args.program.now i.place)) in
     omega (arith, k.0)
 
 pub at-frame-requires-clause-last : goal.at-frame-requires-clause-last
 at-frame-requires-clause-last g c =
-    let i = c.loop-module_number.invariant in
-    (rise_after _ (modules_of c.args.program.now) _ 0 _ i.rise (sym (c.in-Some.ensures c.args.program.now i.place))).1
+    let i = c.loop-rest.invariant in
+    (rise_after _ (modules_of c.args.program.now) _ 0 _ i.rise (sym (c.in-Some-module.ensures c.args.program.now i.place))).1
+
+pub returns-in-Some-clause-path : goal.returns-in-Some-clause-path
+returns-in-Some-clause-path g c =
+    let i = c.loop-rest.invariant in
+    let program = c.args.program.now in
+    i.same
+    ∙ settled-path c.args.direction (g.K.Knowledge.allows c.args.knowledge.now) program c.loop-rest.frames.items (rest_of program c.loop-rest.place)
+    c.in-Some.rest
+    (λ m first last. g.met.K.Knowledge.lawful c.args.knowledge.now m first (omega (arith, last, c.requires.few)))
+    c.in-Some.ensures.settled c.in-Some.ensures.decision c.in-Some.ensures.within
+
+pub returns-in-Some-clause-within : goal.returns-in-Some-clause-within
+returns-in-Some-clause-within g c =
+    let i = c.loop-rest.invariant in
+    let program = c.args.program.now in
+    let fs = c.loop-rest.frames.items in
+    settled-room (length fs) (modules_of program) c.in-Some.rest.modules _ (rest_of program c.loop-rest.place) i.rise c.in-Some.ensures.settled
+    c.in-Some.ensures.within (AreFrames-length (g.K.Knowledge.allows c.args.knowledge.now) program 0 fs (omega arith) i.frames)

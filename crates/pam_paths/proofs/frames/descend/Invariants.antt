@@ -6,8 +6,8 @@ use Rattle.pam_paths.specs.Directions.{ordered}
 use Rattle.pam_paths.specs.Frames.{ahead, under, AreFrames}
 use Rattle.pam_paths.proofs.frames.descend.Given as goal
 
-abbrev pub invariant-loop-module_number : goal.invariant-loop-module_number
-invariant-loop-module_number g l =
+abbrev pub invariant-loop-rest : goal.invariant-loop-rest
+invariant-loop-rest g l =
     let allows = g.K.Knowledge.allows l.knowledge in
     let d = l.direction in
     record {
@@ -20,5 +20,5 @@ invariant-loop-module_number g l =
       work : l.work + length l.initial.frames.items ≤ l.initial.work + length l.frames.items;
     }
 
-abbrev pub decreases-loop-module_number : goal.decreases-loop-module_number
-decreases-loop-module_number g l = modules_of l.program - length l.frames.items
+abbrev pub decreases-loop-rest : goal.decreases-loop-rest
+decreases-loop-rest g l = modules_of l.program - length l.frames.items

@@ -1,21 +1,13 @@
-use Rattle.std.proofs.Common.{◌∙◌, ◌∷◌, ◌++◌, ◌≤◌, [], Bool, ap, arith, cond, length, map, take}
-use Rattle.std.proofs.lemmas.List.{length-map, length-take}
-use Rattle.pam_page.proofs.MarkedTexts.{added_more}
-use Rattle.pam_page.specs.Marks.{marked}
-use Rattle.pam_paths.specs.Steps.{step_seen}
+use Rattle.std.proofs.Common.{◌-◌, length}
+use Rattle.pam_page.proofs.MarkedTexts.{kept_own, own_kept}
 use Rattle.pam_page.proofs.texts.LineTexts.replace.Goals as goal
 
-pub loop-step-preserved : goal.loop-step-preserved
-loop-step-preserved c =
-    let l = c.loop-step in
-    let step = c.step-item.result in
-    let marks = c.self.inside.marks.items in
-    let steps = c.args.steps.now in
-    let viewed = ap length c.self.view_is in
-    let first = ap length (c.cut.ensures ∙ c.requires) in
-    let taken = length-take (length (take c.args.shared c.args.self.now)) (map step_seen steps) in
-    let within : c.len-kept.result ≤ length steps =
-    omega (arith, c.len-kept.ensures, viewed, first, taken, length-map marks marked, length-map steps step_seen) in
-    c.append.ensures ∙ ap (λ (fits : Bool). cond fits (l.self ++ step_seen step ∷ []) []) c.if-not-append.false
-    ∙ added_more c.args.steps.now c.len-kept.result l.step-index step l.self
-    within c.loop-step-test.true c.step-item.is l.invariant
+pub replace_steps-requires : goal.replace_steps-requires
+replace_steps-requires c =
+    let own = length c.steps-steps.result.now - length c.tail.result.now in
+    kept_own c.args.self.now c.args.path.now.steps c.steps-steps.result.now c.args.shared own c.min.result c.requires c.steps-steps.ensures c.min.ensures
+
+pub returns : goal.returns
+returns c =
+    let own = length c.steps-steps.result.now - length c.tail.result.now in
+    own_kept c.replace_steps.new.self c.args.path.now.steps c.steps-steps.result.now own c.replace_steps.ensures c.steps-steps.ensures

@@ -1,8 +1,8 @@
-use Rattle.std.proofs.Common.{◌≤◌, ◌∙◌, List, ap, arith, length, map, subst, sym, take}
+use Rattle.std.proofs.Common.{◌≤◌, arith, subst, sym}
 use Rattle.pam_dispatch.specs.Flat.{modules_of, runs_of}
-use Rattle.pam_paths.specs.Frames.{AreFrames, coming, step_in}
-use Rattle.pam_paths.specs.Paths.{StepValue}
+use Rattle.pam_paths.specs.Frames.{AreFrames, coming}
 use Rattle.pam_paths.proofs.Listings.{listing-is, some_assignment}
+use Rattle.pam_paths.proofs.Tails.{no-steps}
 use Rattle.pam_paths.proofs.Trees.{listing-tree}
 use Rattle.pam_paths.proofs.explorer.Explorer.start.Goals as goal
 
@@ -10,14 +10,13 @@ pub invariant_of-result : goal.invariant_of-result
 unfolding AreFrames
 invariant_of-result g c =
     let program = c.args.program.now in
-    let allows = g.K.Knowledge.allows c.args.knowledge.now in
-    let steps = ap (λ (l : List StepValue). take (length l) (map step_in c.new.result.items)) c.empty.ensures in (
+    let allows = g.K.Knowledge.allows c.args.knowledge.now in (
       record {
         few = omega (arith, c.modules-modules.ensures.count, c.modules-modules.ensures.most);
         valid = subst (λ x. AreFrames allows program 0 x) (sym c.new.ensures) tt;
         start = λ at_start. c.new.ensures;
       },
-      c.empty.ensures ∙ sym steps,
+      no-steps c.empty.result.steps c.new.result.items c.empty.ensures,
     )
 
 pub returns-clause-listing : goal.returns-clause-listing

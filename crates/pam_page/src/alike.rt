@@ -1,0 +1,153 @@
+//! The texts of steps at which the answers no longer matter.
+
+ghost use Rattle.std.specs.List.{flat_map};
+ghost use Rattle.std.specs.Prelude.{◌≡◌, ◌+◌, ◌-◌, ◌≤◌, ◌∷◌, ◌++◌, [], if◌then◌else◌, length, map, take, IfOk, IsTrue};
+ghost use Rattle.pam_page.specs.AlikeTexts.{steps_to};
+ghost use Rattle.pam_page.specs.Marks.{code_text};
+ghost use Rattle.pam_page.specs.Page.{step_text};
+ghost use Rattle.pam_paths.specs.Steps.{step_seen};
+ghost use Rattle.pam_paths.specs.Tail.{AreAlike, alike_from};
+
+use crate::buffer::Buffer;
+use crate::texts::append_number;
+use pam_dispatch::MAX_MODULES;
+use pam_paths::PathStep;
+use std::alloc::{AllocError, Global};
+use std::marker::Model;
+
+/// `.0`, the text of success, which is the least code of a class of all codes.
+const CODE: &[u8] = b".0";
+
+/// The greatest length of ` NUMBER=any`, in bytes.
+const STEP_BYTES: usize = 8;
+
+/// The texts of steps that have every code, for the modules 1, 2 and so on.
+#[derive(Drop)]
+pub(crate) struct AlikeTexts {
+    /// `.0` for each module.
+    cursor: Buffer,
+    /// ` NUMBER=any` for each module.
+    steps: Buffer,
+    /// The end of the text of each module in `steps`.
+    ends: Vec<usize>,
+}
+
+/// Seen as the number of modules.
+impl Model for AlikeTexts {
+    ghost use Rattle.std.specs.Prelude.{ℕ, length};
+    ghost use Rattle.pam_page.specs.AlikeTexts.{AreAlikeTexts};
+
+    ghost Value = { ℕ };
+
+    ghost view = { λ t. length t.ends.items };
+
+    ghost invariant = { λ t. AreAlikeTexts t.ends.items t.cursor.bytes.items t.steps.bytes.items };
+}
+
+impl AlikeTexts {
+    /// Returns no texts, with room for those of each module. Fails if an allocation does.
+    pub(crate) fn new(alloc: Global) -> Result<AlikeTexts, AllocError>
+        ensures { IfOk result (λ texts. texts ≡ 0) }
+    {
+        Ok(AlikeTexts {
+            cursor: Buffer::with_capacity(alloc, CODE.len() * MAX_MODULES)?,
+            steps: Buffer::with_capacity(alloc, STEP_BYTES * MAX_MODULES)?,
+            ends: Vec::with_capacity(alloc, MAX_MODULES)?,
+        })
+    }
+
+    /// Appends the texts of the next module. Returns whether there was room; if not, no texts are left.
+    fn push(&mut self) -> bool
+        ensures { self.new ≡ (if result then self.old + 1 else 0) }
+    {
+        let number = self.ends.len() + 1;
+        if self.cursor.append(CODE)
+            && append_number(&mut self.steps, number)
+            && self.steps.append(b"any")
+            && push_end(&mut self.ends, self.steps.len())
+        {
+            return true;
+        }
+        self.ends.clear();
+        self.cursor.truncate(0);
+        self.steps.truncate(0);
+        false
+    }
+
+    /// Appends texts until there are those of `count` modules. Returns whether there was room.
+    pub(crate) fn reach(&mut self, count: usize) -> bool
+        ensures { IsTrue result → count ≤ self.new }
+    {
+        while self.ends.len() < count {
+            if !self.push() {
+                return false;
+            }
+        }
+        true
+    }
+
+    /// `.0` for `count` modules.
+    pub(crate) fn codes(&self, count: usize) -> &[u8]
+        requires { count ≤ self.now }
+        ensures { result.now ≡ flat_map code_text (alike_from 1 count) }
+    {
+        &self.cursor.as_slice()[..CODE.len() * count]
+    }
+
+    /// The end of the texts of the first `count` modules in `steps`.
+    fn end(&self, count: usize) -> usize
+        requires { count ≤ self.now }
+        ensures end { result ≡ length (steps_to count) }
+        ensures within { result ≤ length (steps_to self.now) }
+    {
+        match count.checked_sub(1) {
+            Some(index) => self.ends[index],
+            None => 0,
+        }
+    }
+
+    /// ` NUMBER=any` for the modules after the first `before`, up to the module `last`.
+    pub(crate) fn steps(&self, before: usize, last: usize) -> &[u8]
+        requires order { before ≤ last }
+        requires within { last ≤ self.now }
+        ensures { result.now ≡ flat_map step_text (alike_from (before + 1) (last - before)) }
+    {
+        let (start, end) = (self.end(before), self.end(last));
+        &self.steps.as_slice()[start..end]
+    }
+
+    /// Appends the texts of the last steps of a path to those of the earlier ones. Returns whether there was room.
+    pub(crate) fn append_to(
+        &mut self,
+        cursor: &mut Buffer,
+        steps: &mut Buffer,
+        tail: &[PathStep],
+    ) -> bool
+        requires { AreAlike (map step_seen tail.now) }
+        ensures cursor { take (length cursor.old.bytes.items) cursor.new.bytes.items ≡ cursor.old.bytes.items }
+        ensures steps { take (length steps.old.bytes.items) steps.new.bytes.items ≡ steps.old.bytes.items }
+        ensures codes { IsTrue result → cursor.new.bytes.items ≡ cursor.old.bytes.items ++ flat_map code_text (map step_seen tail.now) }
+        ensures texts { IsTrue result → steps.new.bytes.items ≡ steps.old.bytes.items ++ flat_map step_text (map step_seen tail.now) }
+    {
+        let Some(first) = tail.first() else {
+            return true;
+        };
+        let Some(before) = first.number().checked_sub(1) else {
+            return false;
+        };
+        let Some(last) = before.checked_add(tail.len()) else {
+            return false;
+        };
+        if !self.reach(last) || !cursor.append(self.codes(last - before)) {
+            return false;
+        }
+        steps.append(self.steps(before, last))
+    }
+}
+
+/// Appends an end if there is room. Returns whether there was.
+fn push_end(ends: &mut Vec<usize>, end: usize) -> bool
+    ensures { ends.new.items ≡ (if result then ends.old.items ++ end ∷ [] else ends.old.items) }
+{
+    ends.len() < ends.capacity() && ends.push(end).is_ok()
+}
