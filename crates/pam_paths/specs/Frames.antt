@@ -68,11 +68,12 @@ part direction allows (asks ask next) (code ∷ codes) =
 abbrev pub offered_at : Allowance → Runs → List ℕ
 offered_at allows runs = codes_where (is_offered allows (next_ask runs))
 
--- the classes computed for a module that is asked: any other code is alone in its class, and the class computed
--- last is the class of each of its codes
+-- the classes computed for a module that is asked: any other code is alone in its class, and the two classes computed
+-- last are the classes of their codes
 pub record AreClasses (ask : Ask) (classes : Classes) : Type 0 where
   pub alone : (code : ℕ) → code < 31 → is_in code classes.shared ≡ false → class_of ask code ≡ code ∷ []
   pub whole : (code : ℕ) → code < 31 → is_in code classes.known ≡ true → class_of ask code ≡ classes.known
+  pub earlier : (code : ℕ) → code < 31 → is_in code classes.earlier ≡ true → class_of ask code ≡ classes.earlier
 
 -- a frame is at a module of the program; this module and those asked later have numbers above `low`
 pub record IsFrame (allows : Allowance) (program : List Entry) (low : ℕ) (frame : Frame) : Type 0 where

@@ -25,6 +25,8 @@ pub(crate) struct Classes {
     pub(crate) shared: CodeSet,
     /// The class computed last.
     pub(crate) known: CodeSet,
+    /// The class computed before it.
+    pub(crate) earlier: CodeSet,
 }
 
 impl Default for Classes {
@@ -33,6 +35,7 @@ impl Default for Classes {
             offered: CodeSet::empty(),
             shared: CodeSet::empty(),
             known: CodeSet::empty(),
+            earlier: CodeSet::empty(),
         }
     }
 }
@@ -193,12 +196,14 @@ impl Classes {
             else is_in d allowed) }
         ensures shared { result.shared ≡ all_codes }
         ensures known { result.known ≡ all_codes }
+        ensures earlier { result.earlier ≡ all_codes }
     {
         let every = CodeSet::all();
         Classes {
             offered: with_least(allowed, every),
             shared: every,
             known: every,
+            earlier: every,
         }
     }
 
@@ -213,11 +218,13 @@ impl Classes {
         let mut offered = allowed;
         let mut shared = CodeSet::empty();
         let mut known = CodeSet::empty();
+        let mut earlier = CodeSet::empty();
         for part in parts {
             if let Some(code) = unseen_code(part, asked.state(), shared) {
                 let class = class_at(asked, parts, &asked.outcome(part.action, code));
                 offered = with_least(offered, class);
                 shared = shared.union(class);
+                earlier = known;
                 known = class;
             }
         }
@@ -225,6 +232,7 @@ impl Classes {
             offered,
             shared,
             known,
+            earlier,
         }
     }
 
@@ -270,6 +278,9 @@ impl Classes {
     {
         if self.known.contains(code) {
             return self.known;
+        }
+        if self.earlier.contains(code) {
+            return self.earlier;
         }
         if !self.shared.contains(code) {
             return CodeSet::single(code);

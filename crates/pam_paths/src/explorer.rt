@@ -215,6 +215,7 @@ impl<'a, K: Knowledge> Explorer<'a, K> {
     }
 
     /// Explores the paths after `cursor`, or those before it. Refuses it like `after`.
+    #[inline(never)]
     pub(crate) fn at(
         program: &'a Program,
         knowledge: &'a K,

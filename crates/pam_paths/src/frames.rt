@@ -27,10 +27,10 @@ pub(crate) type Frames = ArrayVec<Frame, MAX_MODULES>;
 pub(crate) struct Frame {
     pub(crate) place: Place,
     pub(crate) module_number: u16,
-    pub(crate) classes: Classes,
     /// The least code of the class that is followed.
     pub(crate) code: Code,
     pub(crate) class: CodeSet,
+    pub(crate) classes: Classes,
 }
 
 impl Default for Frame {

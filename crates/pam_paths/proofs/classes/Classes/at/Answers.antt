@@ -40,6 +40,8 @@ returns-then-all_keep_failure-clause-classes c =
           absurd (false≢true (sym h ∙ ap (is_in d) (c.of_one.ensures.shared ∙ everything) ∙ is_in-codes_where (λ x. true) d low));
       whole = λ d low h.
           class-every (next_ask r) parts divided failed (c.all_keep_failure.ensures c.if-all_keep_failure.true) d low ∙ sym c.of_one.ensures.known;
+      earlier = λ d low h.
+          class-every (next_ask r) parts divided failed (c.all_keep_failure.ensures c.if-all_keep_failure.true) d low ∙ sym c.of_one.ensures.earlier;
     }
 
 pub returns-clause-offered : goal.returns-clause-offered

@@ -17,6 +17,7 @@ loop-part-init c =
       offered = past-first ask c.args.allowed c.args.parts.now c.requires.allowed;
       shared = nothing_passes c.empty-shared.result (λ d. list_any (is_shared ask d) (take 0 c.args.parts.now)) c.empty-shared.ensures (λ d low. refl);
       whole = λ d low h. absurd (false≢true (sym (ap (is_in d) c.empty-known.ensures) ∙ h));
+      earlier = λ d low h. absurd (false≢true (sym (ap (is_in d) c.empty-earlier.ensures) ∙ h));
     }
 
 pub loop-part-preserved : goal.loop-part-preserved
@@ -42,6 +43,7 @@ loop-part-preserved c =
                 w.union-shared.ensures;
             whole = λ d low h.
                 class-whole ask class code d is low (sym (ap (is_in d) w.known-is) ∙ h) ∙ sym w.known-is;
+            earlier = λ d low h. l.whole d low (sym (ap (is_in d) w.earlier-is) ∙ h) ∙ sym w.earlier-is;
           }
       | in_default w ↦
           let seen : IfSome (shared_code part ask.state) (λ d. IsTrue (is_in d c.loop-part.shared)) =
@@ -52,6 +54,7 @@ loop-part-preserved c =
                 ∙ past-kept ask parts i part c.loop-part.shared c.loop-part-test.true c.part-item.is l.shared c.args.allowed c.loop-part.offered seen l.offered;
             shared = w.shared-is ∙ seen-kept ask parts i part c.loop-part.shared c.loop-part-test.true c.part-item.is l.shared seen;
             whole = λ d low h. l.whole d low (sym (ap (is_in d) w.known-is) ∙ h) ∙ sym w.known-is;
+            earlier = λ d low h. l.earlier d low (sym (ap (is_in d) w.earlier-is) ∙ h) ∙ sym w.earlier-is;
           }
     ]
 
@@ -65,4 +68,5 @@ returns-clause-classes c = record {
   alone = class-alone c.args.asked.now c.args.parts.now c.requires.parts c.loop-part.shared c.loop-part.part-index
       c.loop-part-test.false c.loop-part.invariant.shared;
   whole = c.loop-part.invariant.whole;
+  earlier = c.loop-part.invariant.earlier;
 }

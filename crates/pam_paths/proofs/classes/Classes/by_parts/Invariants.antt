@@ -12,4 +12,5 @@ invariant-loop-part l =
       offered : l.offered ≡ codes_where (past_parts l.initial.offered ask (take l.part-index l.parts));
       shared : l.shared ≡ codes_where (λ d. list_any (is_shared ask d) (take l.part-index l.parts));
       whole : (d : ℕ) → d < 31 → is_in d l.known ≡ true → class_of ask d ≡ l.known;
+      earlier : (d : ℕ) → d < 31 → is_in d l.earlier ≡ true → class_of ask d ≡ l.earlier;
     }
