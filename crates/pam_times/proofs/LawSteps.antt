@@ -32,7 +32,8 @@ turned : (joint : Joint) (t : List ℕ) (signs : List SignText) (o : Option Item
 turned joint t signs None h = tt
 turned joint t signs (Some items) h = (refl, refl, ap (λ (ss : List SignText). Token t ∷ ss) h)
 
-after_not_items : (joint : Joint) (signs : List SignText) (items : Items) → From (expects.Token joint) signs items → From (expects.Item joint) (Not ∷ signs) items
+after_not_items : (joint : Joint) (signs : List SignText) (items : Items) → From (expects.Token joint) signs items →
+    From (expects.Item joint) (Not ∷ signs) items
 after_not_items joint signs [] h = h
 after_not_items joint signs (item ∷ items) h =
     (h.0, ap (λ (ss : List SignText). Not ∷ ss) h.2 ∙ ap (λ (b : Bool). written_item b item.2 (written_after items)) (sym h.1))
