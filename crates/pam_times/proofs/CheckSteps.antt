@@ -2,7 +2,7 @@
 use Rattle.std.proofs.Common.{◌≡◌, ◌∙◌, ℕ, Bool, true, false, List, [], ◌∷◌, cond, Option, Some, None, Result, Ok, Err, refl, sym, ap}
 use Rattle.pam_times.specs.Checks.{checked, first_fault, line_checked, list_checked, sign_checked, token_checked}
 use Rattle.pam_times.specs.Entry.{entry_of}
-use Rattle.pam_times.specs.Logic.{ItemOf, SignText, Not, Join, Token, items_from, items_of, items_or_fault, onto_items, place_after, signs_of}
+use Rattle.pam_times.specs.Logic.{ItemOf, SignText, Not, Join, Token, items_from, items_of, items_or_fault, onto_items, expected_after, signs_of}
 use Rattle.pam_times.specs.Reading.{FieldTexts, each, each_of, entry_or_fault, fields_of, is_blank_text, name_of, names_of, onto_list, rule_from}
 use Rattle.pam_times.specs.Reading.{rule_of, rule_of_fields}
 use Rattle.pam_times.specs.Reading.{times_of, with_meaning}
@@ -11,8 +11,8 @@ use Rattle.pam_times.specs.declared.error.TimeFault.{TimeFault}
 use Rattle.pam_times.specs.declared.error.TimeFault.TheVariants.{BadLogic, MissingField}
 use Rattle.pam_times.specs.declared.logic.Joint.{Joint}
 use Rattle.pam_times.specs.declared.logic.Joint.TheVariants.{First}
-use Rattle.pam_times.specs.declared.logic.Place.{Place}
-use Rattle.pam_times.specs.declared.logic.Place.TheVariants as places
+use Rattle.pam_times.specs.declared.logic.Expected.{Expected}
+use Rattle.pam_times.specs.declared.logic.Expected.TheVariants as expects
 use Rattle.pam_times.specs.declared.reading.Field.{Field}
 use Rattle.pam_times.specs.declared.reading.Field.TheVariants.{Services, Terminals, Users, Times}
 use Rattle.pam_times.proofs.LogicSteps.{stuck}
@@ -28,7 +28,7 @@ abbrev pub all_checked : (List ℕ → Checked) → Items → Checked
 all_checked check [] = Ok tt
 all_checked check (item ∷ items) = first_fault (check item.2) (all_checked check items)
 
--- the first fault of a list, from that of the tokens before a place
+-- the first fault of a list, from that of the tokens before
 abbrev pub fault_from : (List ℕ → Checked) → Checked → Option Items → Checked
 fault_from check before None = Err BadLogic
 fault_from check before (Some items) = first_fault before (all_checked check items)
@@ -53,12 +53,12 @@ each_fault meaning None = refl
 each_fault meaning (Some items) = each_checked meaning items
 
 pub list_fault : (field : Field) (text : List ℕ) →
-    fault_from (token_checked field) (Ok tt) (items_from (places.Item First) (signs_of text)) ≡ list_checked field text
+    fault_from (token_checked field) (Ok tt) (items_from (expects.Item First) (signs_of text)) ≡ list_checked field text
 unfolding names_of times_of items_of
-list_fault Services text = sym (each_fault (name_of Services) (items_from (places.Item First) (signs_of text)))
-list_fault Terminals text = sym (each_fault (name_of Terminals) (items_from (places.Item First) (signs_of text)))
-list_fault Users text = sym (each_fault (name_of Users) (items_from (places.Item First) (signs_of text)))
-list_fault Times text = sym (each_fault (λ token. entry_or_fault (entry_of token)) (items_from (places.Item First) (signs_of text)))
+list_fault Services text = sym (each_fault (name_of Services) (items_from (expects.Item First) (signs_of text)))
+list_fault Terminals text = sym (each_fault (name_of Terminals) (items_from (expects.Item First) (signs_of text)))
+list_fault Users text = sym (each_fault (name_of Users) (items_from (expects.Item First) (signs_of text)))
+list_fault Times text = sym (each_fault (λ token. entry_or_fault (entry_of token)) (items_from (expects.Item First) (signs_of text)))
 
 -- ---- one sign after another
 
@@ -68,41 +68,41 @@ token_fault check before joint is_inverted t None = refl
 token_fault check (Ok u) joint is_inverted t (Some items) = refl
 token_fault check (Err fault) joint is_inverted t (Some items) = refl
 
-module _ (field : Field) (before : Checked) (next : Place) (rest : List SignText) where
-  pub fault_step : (place : Place) (sign : SignText) → place_after place sign ≡ Some next →
-      fault_from (token_checked field) before (items_from place (sign ∷ rest))
+module _ (field : Field) (before : Checked) (next : Expected) (rest : List SignText) where
+  pub fault_step : (expected : Expected) (sign : SignText) → expected_after expected sign ≡ Some next →
+      fault_from (token_checked field) before (items_from expected (sign ∷ rest))
       ≡ fault_from (token_checked field) (sign_checked field before sign) (items_from next rest)
   unfolding items_from
-  fault_step places.Joint Not h = absurd (cc)
-  fault_step places.Joint (Join joint) h =
-      let same : places.Item joint ≡ next = cc in ap (λ (p : Place). fault_from (token_checked field) before (items_from p rest)) same
-  fault_step places.Joint (Token t) h = absurd (cc)
-  fault_step (places.Item joint) Not h =
-      let same : places.Token joint ≡ next = cc in ap (λ (p : Place). fault_from (token_checked field) before (items_from p rest)) same
-  fault_step (places.Item joint) (Join other) h = absurd (cc)
-  fault_step (places.Item joint) (Token t) h =
-      let same : places.Joint ≡ next = cc in
+  fault_step expects.Joint Not h = absurd (cc)
+  fault_step expects.Joint (Join joint) h =
+      let same : expects.Item joint ≡ next = cc in ap (λ (p : Expected). fault_from (token_checked field) before (items_from p rest)) same
+  fault_step expects.Joint (Token t) h = absurd (cc)
+  fault_step (expects.Item joint) Not h =
+      let same : expects.Token joint ≡ next = cc in ap (λ (p : Expected). fault_from (token_checked field) before (items_from p rest)) same
+  fault_step (expects.Item joint) (Join other) h = absurd (cc)
+  fault_step (expects.Item joint) (Token t) h =
+      let same : expects.Joint ≡ next = cc in
       token_fault (token_checked field) before joint false t _
-      ∙ ap (λ (p : Place). fault_from (token_checked field) (first_fault before (token_checked field t)) (items_from p rest)) same
-  fault_step (places.Token joint) Not h = absurd (cc)
-  fault_step (places.Token joint) (Join other) h = absurd (cc)
-  fault_step (places.Token joint) (Token t) h =
-      let same : places.Joint ≡ next = cc in
+      ∙ ap (λ (p : Expected). fault_from (token_checked field) (first_fault before (token_checked field t)) (items_from p rest)) same
+  fault_step (expects.Token joint) Not h = absurd (cc)
+  fault_step (expects.Token joint) (Join other) h = absurd (cc)
+  fault_step (expects.Token joint) (Token t) h =
+      let same : expects.Joint ≡ next = cc in
       token_fault (token_checked field) before joint true t _
-      ∙ ap (λ (p : Place). fault_from (token_checked field) (first_fault before (token_checked field t)) (items_from p rest)) same
+      ∙ ap (λ (p : Expected). fault_from (token_checked field) (first_fault before (token_checked field t)) (items_from p rest)) same
 
-pub fault_next : (field : Field) (before more : Checked) (place next : Place) (signs rest : List SignText) (sign : SignText) (all : Checked) →
-    signs ≡ sign ∷ rest → place_after place sign ≡ Some next → more ≡ sign_checked field before sign →
-    fault_from (token_checked field) before (items_from place signs) ≡ all → fault_from (token_checked field) more (items_from next rest) ≡ all
-fault_next field before more place next signs rest sign all e h k same =
-    ap (λ (c : Checked). fault_from (token_checked field) c (items_from next rest)) k ∙ sym (fault_step field before next rest place sign h)
-    ∙ sym (ap (λ (ss : List SignText). fault_from (token_checked field) before (items_from place ss)) e) ∙ same
+pub fault_next : (field : Field) (before more : Checked) (expected next : Expected) (signs rest : List SignText) (sign : SignText) (all : Checked) →
+    signs ≡ sign ∷ rest → expected_after expected sign ≡ Some next → more ≡ sign_checked field before sign →
+    fault_from (token_checked field) before (items_from expected signs) ≡ all → fault_from (token_checked field) more (items_from next rest) ≡ all
+fault_next field before more expected next signs rest sign all e h k same =
+    ap (λ (c : Checked). fault_from (token_checked field) c (items_from next rest)) k ∙ sym (fault_step field before next rest expected sign h)
+    ∙ sym (ap (λ (ss : List SignText). fault_from (token_checked field) before (items_from expected ss)) e) ∙ same
 
-pub fault_stuck : (field : Field) (before : Checked) (place : Place) (signs : List SignText) (sign : SignText) (rest : List SignText) →
-    signs ≡ sign ∷ rest → place_after place sign ≡ None → fault_from (token_checked field) before (items_from place signs) ≡ Err BadLogic
-fault_stuck field before place signs sign rest e h =
-    ap (λ (ss : List SignText). fault_from (token_checked field) before (items_from place ss)) e
-    ∙ ap (fault_from (token_checked field) before) (stuck place sign rest h)
+pub fault_stuck : (field : Field) (before : Checked) (expected : Expected) (signs : List SignText) (sign : SignText) (rest : List SignText) →
+    signs ≡ sign ∷ rest → expected_after expected sign ≡ None → fault_from (token_checked field) before (items_from expected signs) ≡ Err BadLogic
+fault_stuck field before expected signs sign rest e h =
+    ap (λ (ss : List SignText). fault_from (token_checked field) before (items_from expected ss)) e
+    ∙ ap (fault_from (token_checked field) before) (stuck expected sign rest h)
 
 -- no sign is left
 ok_then : (before : Checked) → first_fault before (Ok tt) ≡ before
@@ -110,17 +110,17 @@ ok_then (Ok u) = refl
 ok_then (Err fault) = refl
 
 module _ (field : Field) (before : Checked) (signs : List SignText) (none : signs ≡ []) where
-  pub fault_at_end : fault_from (token_checked field) before (items_from places.Joint signs) ≡ before
+  pub fault_at_end : fault_from (token_checked field) before (items_from expects.Joint signs) ≡ before
   unfolding items_from
-  fault_at_end = ap (λ (ss : List SignText). fault_from (token_checked field) before (items_from places.Joint ss)) none ∙ ok_then before
+  fault_at_end = ap (λ (ss : List SignText). fault_from (token_checked field) before (items_from expects.Joint ss)) none ∙ ok_then before
 
-  pub item_missing : (joint : Joint) → fault_from (token_checked field) before (items_from (places.Item joint) signs) ≡ Err BadLogic
+  pub item_missing : (joint : Joint) → fault_from (token_checked field) before (items_from (expects.Item joint) signs) ≡ Err BadLogic
   unfolding items_from
-  item_missing joint = ap (λ (ss : List SignText). fault_from (token_checked field) before (items_from (places.Item joint) ss)) none
+  item_missing joint = ap (λ (ss : List SignText). fault_from (token_checked field) before (items_from (expects.Item joint) ss)) none
 
-  pub token_missing : (joint : Joint) → fault_from (token_checked field) before (items_from (places.Token joint) signs) ≡ Err BadLogic
+  pub token_missing : (joint : Joint) → fault_from (token_checked field) before (items_from (expects.Token joint) signs) ≡ Err BadLogic
   unfolding items_from
-  token_missing joint = ap (λ (ss : List SignText). fault_from (token_checked field) before (items_from (places.Token joint) ss)) none
+  token_missing joint = ap (λ (ss : List SignText). fault_from (token_checked field) before (items_from (expects.Token joint) ss)) none
 
 -- ---- the fault of a line is the first of its fields
 

@@ -6,11 +6,11 @@ use Rattle.std.specs.List.{list_all, prefix_len}
 use Rattle.pam_codes.specs.Tokens.{is_blank}
 use Rattle.pam_times.specs.Entry.{differ}
 use Rattle.pam_times.specs.Logic.{ItemOf, may_begin, keeps, is_true_of, item_value, is_true, join, SignText, Not, Join, Token, is_token_byte, begins_token}
-use Rattle.pam_times.specs.Logic.{onto_token, signs_of, onto_items, items_from, items_of, items_or_fault, list_value, place_after, value_after}
+use Rattle.pam_times.specs.Logic.{onto_token, signs_of, onto_items, items_from, items_of, items_or_fault, list_value, expected_after, value_after}
 use Rattle.pam_times.specs.declared.logic.Joint.{Joint}
 use Rattle.pam_times.specs.declared.logic.Joint.TheVariants.{First, And, Or}
-use Rattle.pam_times.specs.declared.logic.Place.{Place}
-use Rattle.pam_times.specs.declared.logic.Place.TheVariants as places
+use Rattle.pam_times.specs.declared.logic.Expected.{Expected}
+use Rattle.pam_times.specs.declared.logic.Expected.TheVariants as expects
 
 -- ---- the value of a list
 
@@ -169,19 +169,19 @@ abbrev Items : Type 0
 Items = List (ItemOf (List ℕ))
 
 -- a sign that may not come next
-pub stuck : (place : Place) (sign : SignText) (rest : List SignText) → place_after place sign ≡ None → items_from place (sign ∷ rest) ≡ None
+pub stuck : (expected : Expected) (sign : SignText) (rest : List SignText) → expected_after expected sign ≡ None → items_from expected (sign ∷ rest) ≡ None
 unfolding items_from
-stuck places.Joint Not rest h = refl
-stuck places.Joint (Join joint) rest h = absurd (cc)
-stuck places.Joint (Token t) rest h = refl
-stuck (places.Item joint) Not rest h = absurd (cc)
-stuck (places.Item joint) (Join other) rest h = refl
-stuck (places.Item joint) (Token t) rest h = absurd (cc)
-stuck (places.Token joint) Not rest h = refl
-stuck (places.Token joint) (Join other) rest h = refl
-stuck (places.Token joint) (Token t) rest h = absurd (cc)
+stuck expects.Joint Not rest h = refl
+stuck expects.Joint (Join joint) rest h = absurd (cc)
+stuck expects.Joint (Token t) rest h = refl
+stuck (expects.Item joint) Not rest h = absurd (cc)
+stuck (expects.Item joint) (Join other) rest h = refl
+stuck (expects.Item joint) (Token t) rest h = absurd (cc)
+stuck (expects.Token joint) Not rest h = refl
+stuck (expects.Token joint) (Join other) rest h = refl
+stuck (expects.Token joint) (Token t) rest h = absurd (cc)
 
--- the value of a list, from the value of the items before a place
+-- the value of a list, from the value of the items before
 abbrev pub value_from : (List ℕ → Bool) → Bool → Option Items → Option Bool
 value_from f value None = None
 value_from f value (Some items) = Some (folded_items f value items)
@@ -191,25 +191,25 @@ one_item : (f : List ℕ → Bool) (value is_inverted : Bool) (joint : Joint) (t
 one_item f value is_inverted joint t None = refl
 one_item f value is_inverted joint t (Some items) = refl
 
-module _ (f : List ℕ → Bool) (value : Bool) (next : Place) (rest : List SignText) where
-  pub value_step : (place : Place) (sign : SignText) → place_after place sign ≡ Some next →
-      value_from f value (items_from place (sign ∷ rest)) ≡ value_from f (value_after f value place sign) (items_from next rest)
+module _ (f : List ℕ → Bool) (value : Bool) (next : Expected) (rest : List SignText) where
+  pub value_step : (expected : Expected) (sign : SignText) → expected_after expected sign ≡ Some next →
+      value_from f value (items_from expected (sign ∷ rest)) ≡ value_from f (value_after f value expected sign) (items_from next rest)
   unfolding items_from
-  value_step places.Joint Not h = absurd (cc)
-  value_step places.Joint (Join joint) h =
-      let same : places.Item joint ≡ next = cc in ap (λ (p : Place). value_from f value (items_from p rest)) same
-  value_step places.Joint (Token t) h = absurd (cc)
-  value_step (places.Item joint) Not h =
-      let same : places.Token joint ≡ next = cc in ap (λ (p : Place). value_from f value (items_from p rest)) same
-  value_step (places.Item joint) (Join other) h = absurd (cc)
-  value_step (places.Item joint) (Token t) h =
-      let same : places.Joint ≡ next = cc in
-      one_item f value false joint t _ ∙ ap (λ (p : Place). value_from f (join joint value (differ false (f t))) (items_from p rest)) same
-  value_step (places.Token joint) Not h = absurd (cc)
-  value_step (places.Token joint) (Join other) h = absurd (cc)
-  value_step (places.Token joint) (Token t) h =
-      let same : places.Joint ≡ next = cc in
-      one_item f value true joint t _ ∙ ap (λ (p : Place). value_from f (join joint value (differ true (f t))) (items_from p rest)) same
+  value_step expects.Joint Not h = absurd (cc)
+  value_step expects.Joint (Join joint) h =
+      let same : expects.Item joint ≡ next = cc in ap (λ (p : Expected). value_from f value (items_from p rest)) same
+  value_step expects.Joint (Token t) h = absurd (cc)
+  value_step (expects.Item joint) Not h =
+      let same : expects.Token joint ≡ next = cc in ap (λ (p : Expected). value_from f value (items_from p rest)) same
+  value_step (expects.Item joint) (Join other) h = absurd (cc)
+  value_step (expects.Item joint) (Token t) h =
+      let same : expects.Joint ≡ next = cc in
+      one_item f value false joint t _ ∙ ap (λ (p : Expected). value_from f (join joint value (differ false (f t))) (items_from p rest)) same
+  value_step (expects.Token joint) Not h = absurd (cc)
+  value_step (expects.Token joint) (Join other) h = absurd (cc)
+  value_step (expects.Token joint) (Token t) h =
+      let same : expects.Joint ≡ next = cc in
+      one_item f value true joint t _ ∙ ap (λ (p : Expected). value_from f (join joint value (differ true (f t))) (items_from p rest)) same
 
 none_some : (b : Bool) → ◌≡◌ {A = Option Bool} None (Some b) → ⊥
 none_some b h = absurd (cc)
@@ -218,44 +218,44 @@ abbrev pub or_false_value : Option Bool → Bool
 or_false_value None = false
 or_false_value (Some value) = value
 
--- the value of a list, from the value of the items before a place, or false if the signs are no list
-abbrev pub value_left : (List ℕ → Bool) → Bool → Place → List SignText → Bool
-value_left f value place signs = or_false_value (value_from f value (items_from place signs))
+-- the value of a list, from the value of the items before, or false if the signs are no list
+abbrev pub value_left : (List ℕ → Bool) → Bool → Expected → List SignText → Bool
+value_left f value expected signs = or_false_value (value_from f value (items_from expected signs))
 
-pub value_whole : (f : List ℕ → Bool) (text : List ℕ) → value_left f false (places.Item First) (signs_of text) ≡ list_value f (items_of text)
+pub value_whole : (f : List ℕ → Bool) (text : List ℕ) → value_left f false (expects.Item First) (signs_of text) ≡ list_value f (items_of text)
 unfolding items_of
 value_whole f text =
-    elim (items_from (places.Item First) (signs_of text)) as
+    elim (items_from (expects.Item First) (signs_of text)) as
     (λ (o : Option Items). or_false_value (value_from f false o) ≡ list_value f (items_or_fault o)) [
       | None ↦ refl
       | Some items ↦ folded_is_true f items
     ]
 
-module _ (f : List ℕ → Bool) (value : Bool) (place : Place) (signs rest : List SignText) (sign : SignText) (first : signs ≡ sign ∷ rest) where
-  pub value_next : (new : Bool) (next : Place) (all : Bool) → place_after place sign ≡ Some next → new ≡ value_after f value place sign →
-      value_left f value place signs ≡ all → value_left f new next rest ≡ all
+module _ (f : List ℕ → Bool) (value : Bool) (expected : Expected) (signs rest : List SignText) (sign : SignText) (first : signs ≡ sign ∷ rest) where
+  pub value_next : (new : Bool) (next : Expected) (all : Bool) → expected_after expected sign ≡ Some next → new ≡ value_after f value expected sign →
+      value_left f value expected signs ≡ all → value_left f new next rest ≡ all
   value_next new next all h k same =
-      ap (λ (v : Bool). value_left f v next rest) k ∙ sym (ap or_false_value (value_step f value next rest place sign h))
-      ∙ sym (ap (λ (ss : List SignText). value_left f value place ss) first) ∙ same
+      ap (λ (v : Bool). value_left f v next rest) k ∙ sym (ap or_false_value (value_step f value next rest expected sign h))
+      ∙ sym (ap (λ (ss : List SignText). value_left f value expected ss) first) ∙ same
 
-  pub value_stuck : place_after place sign ≡ None → false ≡ value_left f value place signs
+  pub value_stuck : expected_after expected sign ≡ None → false ≡ value_left f value expected signs
   value_stuck h =
-      sym (ap (λ (ss : List SignText). value_left f value place ss) first
-      ∙ ap (λ (o : Option Items). or_false_value (value_from f value o)) (stuck place sign rest h))
+      sym (ap (λ (ss : List SignText). value_left f value expected ss) first
+      ∙ ap (λ (o : Option Items). or_false_value (value_from f value o)) (stuck expected sign rest h))
 
 -- no sign is left
-module _ (f : List ℕ → Bool) (value : Bool) (place : Place) (signs : List SignText) (none : signs ≡ []) where
-  at : (p : Place) → place ≡ p → value_left f value place signs ≡ value_left f value p []
-  at p e = ap (λ (q : Place). value_left f value q signs) e ∙ ap (λ (ss : List SignText). value_left f value p ss) none
+module _ (f : List ℕ → Bool) (value : Bool) (expected : Expected) (signs : List SignText) (none : signs ≡ []) where
+  at : (p : Expected) → expected ≡ p → value_left f value expected signs ≡ value_left f value p []
+  at p e = ap (λ (q : Expected). value_left f value q signs) e ∙ ap (λ (ss : List SignText). value_left f value p ss) none
 
-  pub value_at_end : place ≡ places.Joint → value ≡ value_left f value place signs
+  pub value_at_end : expected ≡ expects.Joint → value ≡ value_left f value expected signs
   unfolding items_from
-  value_at_end e = sym (at places.Joint e)
+  value_at_end e = sym (at expects.Joint e)
 
-  pub no_item : (joint : Joint) → place ≡ places.Item joint → false ≡ value_left f value place signs
+  pub no_item : (joint : Joint) → expected ≡ expects.Item joint → false ≡ value_left f value expected signs
   unfolding items_from
-  no_item joint e = sym (at (places.Item joint) e)
+  no_item joint e = sym (at (expects.Item joint) e)
 
-  pub no_token : (joint : Joint) → place ≡ places.Token joint → false ≡ value_left f value place signs
+  pub no_token : (joint : Joint) → expected ≡ expects.Token joint → false ≡ value_left f value expected signs
   unfolding items_from
-  no_token joint e = sym (at (places.Token joint) e)
+  no_token joint e = sym (at (expects.Token joint) e)

@@ -6,10 +6,10 @@ ghost use Rattle.std.specs.List.{prefix_len};
 ghost use Rattle.pam_codes.specs.Tokens.{is_blank};
 ghost use Rattle.pam_times.specs.Entry.{differ};
 ghost use Rattle.pam_times.specs.Fact.{meets};
-ghost use Rattle.pam_times.specs.Logic.{join, list_value, is_token_byte, signs_of, sign_view, place_after, value_after, items_of};
+ghost use Rattle.pam_times.specs.Logic.{join, list_value, is_token_byte, signs_of, sign_view, expected_after, value_after, items_of};
 
 use crate::fact::Fact;
-use pam_codes::is_blank_byte;
+use pam_text::{is_text_blank, text_blank_len};
 
 /// The operator before an item of a list.
 #[derive(Clone, Copy)]
@@ -50,15 +50,8 @@ fn is_token_byte(byte: u8) -> bool
     if byte > b'&' {
         byte != b'|'
     } else {
-        !(is_blank_byte(byte) || byte == b'!' || byte == b'&')
+        !(is_text_blank(byte) || byte == b'!' || byte == b'&')
     }
-}
-
-fn blank_len(bytes: &[u8]) -> usize
-    ensures value { result ≡ prefix_len is_blank bytes.now }
-    ensures bound { result ≤ length bytes.now }
-{
-    bytes.iter().take_while(|b| is_blank_byte(**b)).count()
 }
 
 fn token_len(bytes: &[u8]) -> usize
@@ -72,7 +65,7 @@ fn skip_blanks(bytes: &[u8]) -> &[u8]
     ensures signs { signs_of bytes.now ≡ signs_of result.now }
     ensures first { prefix_len is_blank result.now ≡ 0 }
 {
-    bytes.split_at(blank_len(bytes)).1
+    bytes.split_at(text_blank_len(bytes)).1
 }
 
 /// Splits off the first sign. Returns it and the text after it.
@@ -118,7 +111,7 @@ impl<'a> Iterator for Signs<'a> {
 
 /// What may come next in a list.
 #[derive(Clone, Copy)]
-pub(crate) enum Place {
+pub(crate) enum Expected {
     /// An item, after this operator.
     Item(Joint),
     /// The token of an inverted item.
@@ -127,40 +120,40 @@ pub(crate) enum Place {
     Joint,
 }
 
-impl Place {
-    /// Returns the place after a sign, or `None` if the sign may not come next.
-    pub(crate) fn after(self, sign: Sign<'_>) -> Option<Place>
-        ensures { result ≡ place_after self (sign_view sign.entry) }
+impl Expected {
+    /// Returns what may come after a sign, or `None` if the sign may not come next.
+    pub(crate) fn after(self, sign: Sign<'_>) -> Option<Expected>
+        ensures { result ≡ expected_after self (sign_view sign.entry) }
     {
         match self {
-            Place::Item(joint) => match sign {
-                Sign::Not => Some(Place::Token(joint)),
+            Expected::Item(joint) => match sign {
+                Sign::Not => Some(Expected::Token(joint)),
                 Sign::Joint(_) => None,
-                Sign::Token(_) => Some(Place::Joint),
+                Sign::Token(_) => Some(Expected::Joint),
             },
-            Place::Token(_) => match sign {
+            Expected::Token(_) => match sign {
                 Sign::Not => None,
                 Sign::Joint(_) => None,
-                Sign::Token(_) => Some(Place::Joint),
+                Sign::Token(_) => Some(Expected::Joint),
             },
-            Place::Joint => match sign {
+            Expected::Joint => match sign {
                 Sign::Not => None,
-                Sign::Joint(joint) => Some(Place::Item(joint)),
+                Sign::Joint(joint) => Some(Expected::Item(joint)),
                 Sign::Token(_) => None,
             },
         }
     }
 }
 
-/// Returns the value of a list up to a sign at this place, given its value before the sign.
-fn value_after(value: bool, place: Place, sign: Sign<'_>, fact: &Fact<'_>) -> bool
-    ensures { result ≡ value_after (meets fact.now) value place (sign_view sign.entry) }
+/// Returns the value of a list up to a sign that may come next, given its value before the sign.
+fn value_after(value: bool, expected: Expected, sign: Sign<'_>, fact: &Fact<'_>) -> bool
+    ensures { result ≡ value_after (meets fact.now) value expected (sign_view sign.entry) }
 {
     match sign {
-        Sign::Token(token) => match place {
-            Place::Item(joint) => joint.join(value, false, token, fact),
-            Place::Token(joint) => joint.join(value, true, token, fact),
-            Place::Joint => value,
+        Sign::Token(token) => match expected {
+            Expected::Item(joint) => joint.join(value, false, token, fact),
+            Expected::Token(joint) => joint.join(value, true, token, fact),
+            Expected::Joint => value,
         },
         Sign::Not => value,
         Sign::Joint(_) => value,
@@ -172,19 +165,19 @@ pub(crate) fn is_true(text: &[u8], fact: &Fact<'_>) -> bool
     ensures { result ≡ list_value (meets fact.now) (items_of text.now) }
 {
     let mut value = false;
-    let mut place = Place::Item(Joint::First);
+    let mut expected = Expected::Item(Joint::First);
     for sign in (Signs { rest: text }) {
-        match place.after(sign) {
+        match expected.after(sign) {
             Some(next) => {
-                value = value_after(value, place, sign, fact);
-                place = next;
+                value = value_after(value, expected, sign, fact);
+                expected = next;
             }
             None => return false,
         }
     }
-    match place {
-        Place::Joint => value,
-        Place::Item(_) => false,
-        Place::Token(_) => false,
+    match expected {
+        Expected::Joint => value,
+        Expected::Item(_) => false,
+        Expected::Token(_) => false,
     }
 }

@@ -10,10 +10,9 @@ ghost use Rattle.pam_times.specs.Checks.{name_checked, entry_checked, token_chec
 
 use crate::entry::Entry;
 use crate::error::TimeFault;
-use crate::logic::{Joint, Place, Sign, Signs};
+use crate::logic::{Expected, Joint, Sign, Signs};
 use crate::pattern;
-use pam_codes::is_blank_byte;
-use pam_text::cut;
+use pam_text::{cut, is_text_blank};
 
 /// A field of a line.
 #[derive(Clone, Copy)]
@@ -36,7 +35,7 @@ pub(crate) struct Fields<'a> {
 fn is_blank_text(text: &[u8]) -> bool
     ensures { result ≡ list_all is_blank text.now }
 {
-    text.iter().all(|b| is_blank_byte(*b))
+    text.iter().all(|b| is_text_blank(*b))
 }
 
 fn has_empty(fields: Fields<'_>) -> bool
@@ -138,20 +137,20 @@ fn check_list(field: Field, text: &[u8]) -> Result<(), TimeFault>
     ensures { result ≡ list_checked field text.now }
 {
     let mut checked = Ok(());
-    let mut place = Place::Item(Joint::First);
+    let mut expected = Expected::Item(Joint::First);
     for sign in (Signs { rest: text }) {
-        match place.after(sign) {
+        match expected.after(sign) {
             Some(next) => {
                 checked = check_sign(checked, field, sign);
-                place = next;
+                expected = next;
             }
             None => return Err(TimeFault::BadLogic),
         }
     }
-    match place {
-        Place::Joint => checked,
-        Place::Item(_) => Err(TimeFault::BadLogic),
-        Place::Token(_) => Err(TimeFault::BadLogic),
+    match expected {
+        Expected::Joint => checked,
+        Expected::Item(_) => Err(TimeFault::BadLogic),
+        Expected::Token(_) => Err(TimeFault::BadLogic),
     }
 }
 

@@ -14,23 +14,23 @@ pub loop-sign-preserved : goal.loop-sign-preserved
 loop-sign-preserved c = record {
   can = tt;
   finite = tt;
-  same = value_next (meets c.args.fact.now) c.loop-sign.value c.loop-sign.place _ _ _ c.in-Some.ensures.steps _ _ _ (sym c.in-Some-after.ensures)
+  same = value_next (meets c.args.fact.now) c.loop-sign.value c.loop-sign.expected _ _ _ c.in-Some.ensures.steps _ _ _ (sym c.in-Some-after.ensures)
       c.value_after-value.ensures c.loop-sign.invariant.same;
 }
 
 pub returns-in-None-after : goal.returns-in-None-after
 returns-in-None-after c =
-    value_stuck (meets c.args.fact.now) c.loop-sign.value c.loop-sign.place _ _ _ c.in-Some.ensures.steps (sym c.in-None-after.ensures)
+    value_stuck (meets c.args.fact.now) c.loop-sign.value c.loop-sign.expected _ _ _ c.in-Some.ensures.steps (sym c.in-None-after.ensures)
     ∙ c.loop-sign.invariant.same
 
 pub returns-in-Joint : goal.returns-in-Joint
 returns-in-Joint c =
-    value_at_end (meets c.args.fact.now) c.loop-sign.value c.loop-sign.place _ c.in-None.ensures.steps.0 c.in-Joint.is ∙ c.loop-sign.invariant.same
+    value_at_end (meets c.args.fact.now) c.loop-sign.value c.loop-sign.expected _ c.in-None.ensures.steps.0 c.in-Joint.is ∙ c.loop-sign.invariant.same
 
 pub returns-in-Item : goal.returns-in-Item
 returns-in-Item c =
-    no_item (meets c.args.fact.now) c.loop-sign.value c.loop-sign.place _ c.in-None.ensures.steps.0 _ c.in-Item.is ∙ c.loop-sign.invariant.same
+    no_item (meets c.args.fact.now) c.loop-sign.value c.loop-sign.expected _ c.in-None.ensures.steps.0 _ c.in-Item.is ∙ c.loop-sign.invariant.same
 
 pub returns-in-Token : goal.returns-in-Token
 returns-in-Token c =
-    no_token (meets c.args.fact.now) c.loop-sign.value c.loop-sign.place _ c.in-None.ensures.steps.0 _ c.in-Token.is ∙ c.loop-sign.invariant.same
+    no_token (meets c.args.fact.now) c.loop-sign.value c.loop-sign.expected _ c.in-None.ensures.steps.0 _ c.in-Token.is ∙ c.loop-sign.invariant.same

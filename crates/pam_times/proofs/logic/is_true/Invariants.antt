@@ -8,5 +8,5 @@ abbrev pub invariant-loop-sign : goal.invariant-loop-sign
 invariant-loop-sign l = record {
   can : (goal.iterator-loop-sign).can_next l.sign-iterator;
   finite : (goal.iterator-loop-sign).is_finite l.sign-iterator;
-  same : value_left (meets l.fact) l.value l.place (signs_of l.sign-iterator.rest.now) ≡ list_value (meets l.fact) (items_of l.text);
+  same : value_left (meets l.fact) l.value l.expected (signs_of l.sign-iterator.rest.now) ≡ list_value (meets l.fact) (items_of l.text);
 }

@@ -8,5 +8,5 @@ abbrev pub invariant-loop-sign : goal.invariant-loop-sign
 invariant-loop-sign l = record {
   can : (goal.iterator-loop-sign).can_next l.sign-iterator;
   finite : (goal.iterator-loop-sign).is_finite l.sign-iterator;
-  same : fault_from (token_checked l.field) l.checked (items_from l.place (signs_of l.sign-iterator.rest.now)) ≡ list_checked l.field l.text;
+  same : fault_from (token_checked l.field) l.checked (items_from l.expected (signs_of l.sign-iterator.rest.now)) ≡ list_checked l.field l.text;
 }
