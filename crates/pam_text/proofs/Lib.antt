@@ -1,4 +1,5 @@
 pub mod Cutting
+pub mod FirstBytes
 pub mod Pieces
 pub mod Prefixes
 pub mod Runs

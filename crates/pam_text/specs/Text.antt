@@ -51,7 +51,7 @@ first_marks (m ∷ ms) = if m.1 == 10 then [] else m ∷ first_marks ms
 
 -- a byte that means itself everywhere: no line feed, no `#` and no backslash
 abbrev pub is_plain : ℕ → Bool
-is_plain b = not (b == 10 || (b == 35 || b == 92))
+is_plain b = not (b == 10 || b == 35 || b == 92)
 
 -- the lines of a text with their numbers, without their ends: a text that a line feed ends has none after it
 abbrev pub onto_line : Mark → List (ℕ × List ℕ) → List (ℕ × List ℕ)

@@ -5,7 +5,12 @@ ghost use Rattle.std.specs.List.{prefix_len};
 ghost use Rattle.pam_text.specs.Text.{text_of, past_comment, is_plain};
 
 use crate::source::Source;
+use memchr::{memchr, memchr3};
 use std::alloc::AllocError;
+
+/// The number of bytes that are looked at one by one before a search by vectors, which costs more than a look at a few:
+/// most blank lines and empty comments end within these.
+const NEAR_BYTES: usize = 4;
 
 /// The remaining text of a file, as pam.conf(5) reads it, line by line.
 #[derive(Drop)]
@@ -119,15 +124,37 @@ impl<'a> Text<'a> {
     }
 }
 
+/// Whether `byte` means itself everywhere: it is no line feed, `#` or backslash.
+#[inline(always)]
+fn is_plain(byte: u8) -> bool
+    ensures { result ≡ is_plain byte }
+{
+    !(byte == b'\n' || byte == b'#' || byte == b'\\')
+}
+
 /// The number of plain bytes before the first line feed, `#` or backslash.
+#[inline(always)]
 fn plain_len(bytes: &[u8]) -> usize
     ensures value { result ≡ prefix_len is_plain bytes.now }
     ensures bound { result ≤ length bytes.now }
 {
-    bytes
-        .iter()
-        .take_while(|b| !(**b == b'\n' || (**b == b'#' || **b == b'\\')))
-        .count()
+    for index in 0..NEAR_BYTES {
+        if index == bytes.len() || !is_plain(bytes[index]) {
+            return index;
+        }
+    }
+    NEAR_BYTES + far_plain_len(bytes.split_at(NEAR_BYTES).1)
+}
+
+/// Like `plain_len`, for many bytes.
+fn far_plain_len(bytes: &[u8]) -> usize
+    ensures value { result ≡ prefix_len is_plain bytes.now }
+    ensures bound { result ≤ length bytes.now }
+{
+    match memchr3(b'\n', b'#', b'\\', bytes) {
+        Some(index) => index,
+        None => bytes.len(),
+    }
 }
 
 /// A byte of the text, the bytes of the file after it, and the number of line feeds that it takes up.
@@ -202,9 +229,26 @@ fn skip_comment(bytes: &[u8]) -> &[u8]
 }
 
 /// The number of bytes before the first line feed.
+#[inline(always)]
 fn comment_len(bytes: &[u8]) -> usize
     ensures value { result ≡ prefix_len (λ b. not (b == 10)) bytes.now }
     ensures bound { result ≤ length bytes.now }
 {
-    bytes.iter().take_while(|b| **b != b'\n').count()
+    for index in 0..NEAR_BYTES {
+        if index == bytes.len() || bytes[index] == b'\n' {
+            return index;
+        }
+    }
+    NEAR_BYTES + far_comment_len(bytes.split_at(NEAR_BYTES).1)
+}
+
+/// Like `comment_len`, for many bytes.
+fn far_comment_len(bytes: &[u8]) -> usize
+    ensures value { result ≡ prefix_len (λ b. not (b == 10)) bytes.now }
+    ensures bound { result ≤ length bytes.now }
+{
+    match memchr(b'\n', bytes) {
+        Some(index) => index,
+        None => bytes.len(),
+    }
 }

@@ -1,6 +1,7 @@
 //! Tables that are too long, and groups.
 
 use pam_tables::{AccessOptions, AccessTable, Groups, Table, TableError, TableFault};
+use pam_text::Texts;
 use pam_times::{TimeError, TimeFault, TimeTable};
 use std::test::Fail;
 
@@ -15,7 +16,8 @@ fn too_long(table: Table) -> Option<TableError> {
 #[test]
 fn tables_of_one_byte_too_many(rt: HostRuntime) -> Result<(), Fail> {
     let long = vec![in rt.alloc(); 0; 1_048_577]?;
-    let options = AccessOptions::of(&[]);
+    let arguments = Texts::new(rt.alloc());
+    let options = AccessOptions::of(&arguments);
     let access = AccessTable::read(rt.alloc(), &long, &options).err();
     assert_eq!(rt; access, too_long(Table::Access));
     let groups = Groups::read(rt.alloc(), &long).err();
