@@ -56,7 +56,10 @@ fn trailing_blanks(text: &[u8]) -> usize
     ensures value { result ≡ suffix_len is_blank text.now }
     ensures bound { result ≤ length text.now }
 {
-    text.iter().rev().take_while(|b| is_table_blank(**b)).count()
+    text.iter()
+        .rev()
+        .take_while(|b| is_table_blank(**b))
+        .count()
 }
 
 /// Removes spaces and tabs from the end.
