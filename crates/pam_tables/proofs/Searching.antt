@@ -30,6 +30,12 @@ pub same_byte : (n b : ℕ) → is_among (n ∷ []) b ≡ (b == n)
 unfolding is_among
 same_byte n b = or_false (n == b) ∙ turned n b
 
+-- a byte is among bytes of which there is one if it is that byte
+pub only_byte : (bytes : List ℕ) → length bytes ≡ 1 → (b : ℕ) → is_among bytes b ≡ (b == get_or bytes 0 0)
+only_byte [] h b = absurd (omega arith)
+only_byte (n ∷ []) h b = same_byte n b
+only_byte (n ∷ m ∷ ns) h b = absurd (omega arith)
+
 none_passes : (q : ℕ → Bool) (text : List ℕ) → ((k : ℕ) → k < length text → q (get_or text k 0) ≡ false) → list_any q text ≡ false
 none_passes q [] h = refl
 none_passes q (b ∷ bs) h =

@@ -108,7 +108,7 @@ abbrev pub answer_with : Permission → ℕ → AccessAnswer
 answer_with Grant number = Granted (Some number)
 answer_with Deny number = Denied number
 
--- the permission of an entry that matches a user and an origin, which marks the tokens of origins
+-- for private contracts and proofs alone: the permission of an entry that matches a user and an origin, which marks the tokens of origins
 abbrev pub permission_for : List Group → Bool → List ℕ → (OriginPattern → Mark) → Option LineText → Option Permission
 permission_for groups by_name user marked None = None
 permission_for groups by_name user marked (Some line) =

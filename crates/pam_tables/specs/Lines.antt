@@ -4,6 +4,8 @@ use Rattle.std.specs.List.{list_all, slice_split, prefix_len, suffix_len, ends_w
 use Rattle.std.specs.Option.{option_map, option_map_or}
 unfoldable pub use Rattle.pam_text.specs.Cut.{is_among}
 pub use Rattle.pam_text.specs.Cut.{cut_at}
+-- a space or a tab
+pub use Rattle.pam_text.specs.Blanks.{is_table_blank as is_blank}
 use Rattle.pam_text.specs.Source.{source_fault}
 use Rattle.pam_text.specs.declared.source.SourceFault.{SourceFault}
 use Rattle.pam_text.specs.declared.source.SourceFault.TheVariants as sources
@@ -44,14 +46,10 @@ numbered number (line ∷ lines) = (number, without_return line) ∷ numbered (n
 unfoldable pub lines_from : ℕ → List ℕ → List (ℕ × List ℕ)
 lines_from number bytes = numbered number (slice_split (is_among (10 ∷ [])) bytes)
 
--- the remaining lines, of which there are none after the last was yielded
+-- for private contracts and proofs alone: the remaining lines, of which there are none after the last was yielded
 unfoldable pub lines_left : Bool → ℕ → List ℕ → List (ℕ × List ℕ)
 lines_left true number bytes = []
 lines_left false number bytes = lines_from number bytes
-
--- a space or a tab
-abbrev pub is_blank : ℕ → Bool
-is_blank b = b == 32 || b == 9
 
 -- a line of blanks only
 abbrev pub is_blank_line : List ℕ → Bool

@@ -25,7 +25,7 @@ abbrev pub mark_of : Bool → Mark
 mark_of true = Match
 mark_of false = Miss
 
--- whether a number plus n is odd, where is_odd says whether the number is
+-- for private contracts and proofs alone: whether a number plus n is odd, where is_odd says whether the number is
 abbrev pub odd_after : Bool → ℕ → Bool
 odd_after is_odd n = if n % 2 == 1 then not is_odd else is_odd
 
@@ -36,6 +36,6 @@ odd_with is_odd holds [] = is_odd
 odd_with is_odd holds (part ∷ parts) =
     if holds || part_holds part then odd_after (not is_odd) (prefix_len part_holds parts) else is_odd
 
--- whether the list matches, if these are the remaining tokens
+-- for private contracts and proofs alone: whether the list matches, if these are the remaining tokens
 unfoldable pub matches_after : Parts → List Mark → Bool
 matches_after parts rest = if parts.is_decided then parts.is_odd else odd_with parts.is_odd parts.holds (slice_split is_except rest)

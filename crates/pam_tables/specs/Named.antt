@@ -15,12 +15,12 @@ abbrev pub first_of_each_read : {V : Type 0} → Result (List (List ℕ × V)) (
 first_of_each_read (Ok entries) = Ok (first_of_each [] entries)
 first_of_each_read (Err e) = Err e
 
--- entries with one more, if its name is new
+-- for private contracts and proofs alone: entries with one more, if its name is new
 abbrev pub with_entry : {V : Type 0} → List (List ℕ × V) → Option (List ℕ × V) → List (List ℕ × V)
 with_entry entries None = entries
 with_entry entries (Some entry) = if list_any (λ e. bytes_eq entry.0 e.0) entries then entries else entries ++ entry ∷ []
 
--- entries with that of one more line
+-- for private contracts and proofs alone: entries with that of one more line
 abbrev pub with_line : {V : Type 0} → List (List ℕ × V) → Result (Option (List ℕ × V)) TableFault → Result (List (List ℕ × V)) TableFault
 with_line entries (Ok entry) = Ok (with_entry entries entry)
 with_line entries (Err fault) = Err fault

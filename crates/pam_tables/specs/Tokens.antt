@@ -127,7 +127,7 @@ unfoldable pub origin_mark : OriginText → OriginPattern → Mark
 origin_mark (Remote host) token = host_mark host (address_of host) token
 origin_mark (Local place) token = place_mark place token
 
--- how a token matches an origin with its address
+-- for private contracts and proofs alone: how a token matches an origin with its address
 abbrev pub known_mark : Origin → OriginPattern → Mark
 known_mark (places.Remote host address) token = host_mark host.now address token
 known_mark (places.Local place) token = place_mark place.now token

@@ -10,7 +10,7 @@ ghost use Rattle.pam_tables.specs.Lines.{cut_at, is_among, trimmed_end, trimmed}
 
 use crate::error::{Table, TableError, TableFault};
 use memchr::memchr;
-use pam_text::{MAX_FILE_BYTES, Source, SourceFault};
+use pam_text::{MAX_FILE_BYTES, Source, SourceFault, is_table_blank};
 
 /// The maximum length of a table, in bytes. A longer one is `TableTooLong`.
 pub const MAX_TABLE_BYTES: usize = MAX_FILE_BYTES;
@@ -38,31 +38,28 @@ pub(crate) fn source(table: Table, bytes: &[u8]) -> Result<Source<'_>, TableErro
     }
 }
 
-pub(crate) fn is_blank_byte(byte: u8) -> bool
-    ensures { result ≡ is_blank byte }
-{
-    byte == b' ' || byte == b'\t'
-}
-
 /// Whether a text is empty or only spaces and tabs.
 pub(crate) fn is_blank_text(text: &[u8]) -> bool
     ensures { result ≡ is_blank_line text.now }
 {
-    text.iter().all(|b| is_blank_byte(*b))
+    text.iter().all(|b| is_table_blank(*b))
 }
 
 fn leading_blanks(text: &[u8]) -> usize
     ensures value { result ≡ prefix_len is_blank text.now }
     ensures bound { result ≤ length text.now }
 {
-    text.iter().take_while(|b| is_blank_byte(**b)).count()
+    text.iter().take_while(|b| is_table_blank(**b)).count()
 }
 
 fn trailing_blanks(text: &[u8]) -> usize
     ensures value { result ≡ suffix_len is_blank text.now }
     ensures bound { result ≤ length text.now }
 {
-    text.iter().rev().take_while(|b| is_blank_byte(**b)).count()
+    text.iter()
+        .rev()
+        .take_while(|b| is_table_blank(**b))
+        .count()
 }
 
 /// Removes spaces and tabs from the end.

@@ -9,9 +9,9 @@ ghost use Rattle.pam_tables.specs.Lists.{list_matches as list_matches_of};
 ghost use Rattle.pam_tables.specs.Tokens.{tokens_of, each_token};
 
 use crate::error::TableFault;
-use crate::lines::{is_blank_byte, trim_end};
+use crate::lines::trim_end;
 use crate::lists::{Mark, Parts};
-use pam_text::ByteSet;
+use pam_text::{ByteSet, is_table_blank};
 
 /// The length of the leading separators and blanks.
 fn gap_len(text: &[u8], separators: &ByteSet<'_>) -> usize
@@ -19,7 +19,7 @@ fn gap_len(text: &[u8], separators: &ByteSet<'_>) -> usize
     ensures bound { result ≤ length text.now }
 {
     text.iter()
-        .take_while(|b| separators.has(**b) || is_blank_byte(**b))
+        .take_while(|b| separators.has(**b) || is_table_blank(**b))
         .count()
 }
 

@@ -1,4 +1,4 @@
--- time.conf(5): the faults of a line, without its rule.
+-- For private contracts and proofs alone: the faults of a line of time.conf(5), without its rule.
 use Rattle.std.specs.Prelude.{Bool, true, false, ℕ, List, Option, Some, None, Result, Ok, Err}
 use Rattle.pam_times.specs.Entry.{entry_of}
 use Rattle.pam_times.specs.Logic.{SignText, Token}

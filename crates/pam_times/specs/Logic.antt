@@ -110,7 +110,7 @@ list_value f (Err fault) = false
 
 -- ---- sign by sign
 
--- what may come after a sign, if the sign may come next
+-- for private contracts and proofs alone: what may come after a sign, if the sign may come next
 abbrev pub expected_after : Expected → SignText → Option Expected
 expected_after (expects.Item joint) Not = Some (expects.Token joint)
 expected_after (expects.Item joint) (Token t) = Some expects.Joint
@@ -118,7 +118,7 @@ expected_after (expects.Token joint) (Token t) = Some expects.Joint
 expected_after expects.Joint (Join joint) = Some (expects.Item joint)
 expected_after _ _ = None
 
--- the value up to a sign that may come next, from the value before it
+-- for private contracts and proofs alone: the value up to a sign that may come next, from the value before it
 abbrev pub value_after : (List ℕ → Bool) → Bool → Expected → SignText → Bool
 value_after f value (expects.Item joint) (Token t) = join joint value (differ false (f t))
 value_after f value (expects.Token joint) (Token t) = join joint value (differ true (f t))

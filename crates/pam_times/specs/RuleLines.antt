@@ -1,4 +1,4 @@
--- The lines of a time.conf(5) table that have a rule, one after another in a text.
+-- For private contracts and proofs alone: the lines of a time.conf(5) table that have a rule, one after another in a text.
 use Rattle.std.specs.Prelude.{ℕ, ◌++◌, ◌==◌, ◌&&◌, Bool, true, false, not, List, [], ◌∷◌, length, take, drop, nat_le, Option, Some, None, Result, Ok, Err}
 use Rattle.std.specs.Option.{option_map_or}
 use Rattle.pam_times.specs.Entry.{entry_of, holds}

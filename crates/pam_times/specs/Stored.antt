@@ -1,4 +1,4 @@
--- The rules that a table of time.conf(5) holds.
+-- For private contracts and proofs alone, and the view of a table: the rules that a table of time.conf(5) holds.
 use Rattle.std.specs.Prelude.{◌≡◌, true, List}
 use Rattle.pam_times.specs.RuleLines.{are_rules, rules_at}
 use Rattle.pam_times.specs.Times.{Rule}
