@@ -10,8 +10,8 @@ use Rattle.pam_paths.specs.Listing.{Allowance}
 use Rattle.pam_paths.specs.Paths.{PathValue, path_through}
 use Rattle.pam_paths.specs.declared.cursor.CursorError.{CursorError}
 use Rattle.pam_paths.specs.declared.cursor.CursorError.TheVariants.{Syntax, NotLeast, TooShort, TooLong}
-use Rattle.pam_words.specs.declared.wanted.Part.{Part}
-use Rattle.pam_words.specs.declared.wanted.Part.TheVariants.{Whole, After, Before}
+use Rattle.pam_words.specs.declared.wanted.PagePart.{PagePart}
+use Rattle.pam_words.specs.declared.wanted.PagePart.TheVariants.{Whole, After, Before}
 use Rattle.pam_known.specs.declared.error.KnownError.{KnownError}
 use Rattle.pam_report.specs.Leaves.{LeavesSome}
 use Rattle.pam_report.specs.Paths.{IsKnownPage, IsPageOf, IsPart, IsTaken, PageRequest}
@@ -28,7 +28,7 @@ module _ (one other : Allowance) (items : Items) (agree : Agree (module_count it
   taken-same IsRest IsOther same text (Err TooShort) h = h
   taken-same IsRest IsOther same text (Err TooLong) h = h
 
-  pub part-same : (part : Part) (given : Result (List PathValue) CursorError) → IsPart one items part given → IsPart other items part given
+  pub part-same : (part : PagePart) (given : Result (List PathValue) CursorError) → IsPart one items part given → IsPart other items part given
   part-same Whole (Ok paths) h = same_listing (module_count items) one other (path_through items) paths agree h
   part-same Whole (Err e) h = h
   part-same (After text) given h =

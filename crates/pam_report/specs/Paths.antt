@@ -16,8 +16,8 @@ use Rattle.pam_paths.specs.declared.cursor.CursorError.TheVariants.{Syntax, NotL
 use Rattle.pam_tables.specs.Login.{LoginText}
 use Rattle.pam_known.specs.declared.error.KnownError.{KnownError}
 use Rattle.pam_times.specs.declared.moments.MomentError.{MomentError}
-use Rattle.pam_words.specs.declared.wanted.Part.{Part}
-use Rattle.pam_words.specs.declared.wanted.Part.TheVariants.{Whole, After, Before}
+use Rattle.pam_words.specs.declared.wanted.PagePart.{PagePart}
+use Rattle.pam_words.specs.declared.wanted.PagePart.TheVariants.{Whole, After, Before}
 use Rattle.pam_report.specs.Fault.{known_fault}
 use Rattle.pam_report.specs.Header.{header_text}
 use Rattle.pam_report.specs.Inputs.{tables_given}
@@ -35,14 +35,14 @@ IsTaken IsRest items text (Ok paths) =
     (cursor : List ℕ) × IsCursor cursor × (cursor_text cursor ≡ text) × IsAccepted (module_count items) (path_through items) cursor × IsRest cursor paths
 
 -- the part of the listing of a stack, if these codes are allowed, or the reason why its cursor is refused
-abbrev pub IsPart : Allowance → Items → Part → Result (List PathValue) CursorError → Type 0
+abbrev pub IsPart : Allowance → Items → PagePart → Result (List PathValue) CursorError → Type 0
 IsPart allows items Whole (Ok paths) = IsListing allows (module_count items) (path_through items) paths
 IsPart allows items Whole (Err e) = ⊥
 IsPart allows items (After text) given = IsTaken (IsListingAfter allows (module_count items) (path_through items)) items text.now given
 IsPart allows items (Before text) given = IsTaken (IsListingBefore allows (module_count items) (path_through items)) items text.now given
 
 -- the option that, with the last cursor of a page, lists the next page
-abbrev pub side_of : Part → List ℕ
+abbrev pub side_of : PagePart → List ℕ
 side_of Whole = codes "after"
 side_of (After text) = codes "after"
 side_of (Before text) = codes "before"
@@ -52,7 +52,7 @@ pub record PageRequest : Type 0 where
   pub service : List ℕ
   pub kind : Kind
   pub limit : ℕ
-  pub part : Part
+  pub part : PagePart
 
 -- the page with its header, or the reason why its cursor is refused. It has room for at least one path
 abbrev pub paged : PageRequest → ℕ → Result (List PathValue) CursorError → Answer

@@ -7,7 +7,7 @@ ghost use Rattle.pam_known.specs.Tables.{tables_view, timed_view};
 use jiff::civil::DateTime;
 use pam_conf::{Files, Form};
 use pam_known::{Tables, TimedTable};
-use pam_words::{Request, Source, Task};
+use pam_words::{ConfSource, Request, Task};
 use std::alloc::{AllocError, AllocFailed, Global};
 use std::io::{Error, ErrorKind, Read};
 use std::path::Path;
@@ -132,11 +132,11 @@ fn folder_files<R: std::rt::Files + AllocGlobal + Clone + Drop>(
 fn source_files<R: std::rt::Files + AllocGlobal + Clone + Drop>(
     rt: &R,
     alloc: Global,
-    source: Source<'_>,
+    source: ConfSource<'_>,
 ) -> Result<Files, InputError> {
     match source {
-        Source::Dir(folder) => folder_files(rt, alloc, folder),
-        Source::Conf(name) => {
+        ConfSource::Dir(folder) => folder_files(rt, alloc, folder),
+        ConfSource::Conf(name) => {
             let mut files = Files::new(alloc, Form::Single);
             let bytes = named_file(rt, alloc, name)?;
             files.put(Vec::from_slice(alloc, b"pam.conf")?, bytes)?;

@@ -5,7 +5,7 @@ use mathlib.Core.Bool.{beq}
 use Rattle.pam_tables.specs.Lists.{is_except, part_holds, list_matches, odd_after, odd_with, matches_after}
 use Rattle.pam_tables.specs.declared.lists.Mark.{Mark}
 use Rattle.pam_tables.specs.declared.lists.Mark.TheVariants.{Except, Match, Miss}
-use Rattle.pam_tables.specs.declared.lists.Parts.{Parts}
+use Rattle.pam_tables.specs.declared.lists.ListState.{ListState}
 use Rattle.pam_tables.proofs.Cutting.{split_parts}
 
 odd_next : (n : ℕ) → nat_eq ((1 + n) % 2) 1 ≡ not (nat_eq (n % 2) 1)
@@ -35,12 +35,12 @@ pub list_begins : (rest : List Mark) → matches_after record { is_odd = false; 
 unfolding matches_after list_matches
 list_begins rest = parts_after false (slice_split is_except rest) ∙ odd_of _
 
-pub decided : (s : Parts) (mark : Mark) → s.is_decided ≡ true → (rest : List Mark) → matches_after s rest ≡ matches_after s (mark ∷ rest)
+pub decided : (s : ListState) (mark : Mark) → s.is_decided ≡ true → (rest : List Mark) → matches_after s rest ≡ matches_after s (mark ∷ rest)
 unfolding matches_after
 decided s mark e rest = rw e refl
 
 -- a token that matches
-pub list_match : (s : Parts) (mark : Mark) → s.is_decided ≡ false → mark ≡ Match → (rest : List Mark) →
+pub list_match : (s : ListState) (mark : Mark) → s.is_decided ≡ false → mark ≡ Match → (rest : List Mark) →
     matches_after record { is_odd = s.is_odd; holds = true; is_decided = s.is_decided } rest ≡ matches_after s (mark ∷ rest)
 unfolding matches_after
 list_match s mark e m rest =
@@ -53,7 +53,7 @@ list_match s mark e m rest =
     already o false p ps = refl
 
 -- a token that does not match
-pub list_miss : (s : Parts) (mark : Mark) → s.is_decided ≡ false → mark ≡ Miss → (rest : List Mark) → matches_after s rest ≡ matches_after s (mark ∷ rest)
+pub list_miss : (s : ListState) (mark : Mark) → s.is_decided ≡ false → mark ≡ Miss → (rest : List Mark) → matches_after s rest ≡ matches_after s (mark ∷ rest)
 unfolding matches_after
 list_miss s mark e m rest =
     let ps = split_parts is_except rest in
@@ -67,12 +67,12 @@ closed true false ps = refl
 closed false false ps = refl
 
 -- the word EXCEPT
-pub list_except : (s : Parts) (mark : Mark) → s.is_decided ≡ false → mark ≡ Except → (rest : List Mark) →
+pub list_except : (s : ListState) (mark : Mark) → s.is_decided ≡ false → mark ≡ Except → (rest : List Mark) →
     matches_after record { is_odd = not (beq s.is_odd s.holds); holds = false; is_decided = not s.holds } rest ≡ matches_after s (mark ∷ rest)
 unfolding matches_after
 list_except s mark e m rest = rw (m, e) (closed s.is_odd s.holds (slice_split is_except rest))
 
-pub list_ends : (s : Parts) → s.is_decided ≡ false → not (beq s.is_odd s.holds) ≡ matches_after s []
+pub list_ends : (s : ListState) → s.is_decided ≡ false → not (beq s.is_odd s.holds) ≡ matches_after s []
 unfolding matches_after
 list_ends s e = rw e (last s.is_odd s.holds)
   where
@@ -82,6 +82,6 @@ list_ends s e = rw e (last s.is_odd s.holds)
     last false true = refl
     last false false = refl
 
-pub list_was_decided : (s : Parts) → s.is_decided ≡ true → s.is_odd ≡ matches_after s []
+pub list_was_decided : (s : ListState) → s.is_decided ≡ true → s.is_odd ≡ matches_after s []
 unfolding matches_after
 list_was_decided s e = rw e refl

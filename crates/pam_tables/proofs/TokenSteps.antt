@@ -13,7 +13,7 @@ use Rattle.pam_tables.proofs.Cutting.{split_parts}
 use Rattle.pam_tables.specs.Error.{verdict}
 use Rattle.pam_tables.specs.Lists.{matches_after}
 use Rattle.pam_tables.specs.declared.lists.Mark.{Mark}
-use Rattle.pam_tables.specs.declared.lists.Parts.{Parts}
+use Rattle.pam_tables.specs.declared.lists.ListState.{ListState}
 
 abbrev tokens_in : List (List ℕ) → List (List ℕ)
 tokens_in parts = filter has_bytes (map trimmed parts)
@@ -195,7 +195,7 @@ all_read (Ok x) (Err fault) all h = absurd (cc)
 all_read (Err fault) others all h = absurd (cc)
 
 -- the meanings of the remaining tokens, after which the list has this answer
-pub record Left {A : Type 0} (read : List ℕ → Result A TableFault) (mark : A → Mark) (parts : Parts) (tokens : List (List ℕ)) (answer : Bool) : Type 0 where
+pub record Left {A : Type 0} (read : List ℕ → Result A TableFault) (mark : A → Mark) (parts : ListState) (tokens : List (List ℕ)) (answer : Bool) : Type 0 where
   pub rest : List A
   pub are : each_token read tokens ≡ Ok rest
   pub same : answer ≡ matches_after parts (map mark rest)
@@ -205,7 +205,7 @@ module _ {A : Type 0} (read : List ℕ → Result A TableFault) where
   unfolding each_token
   no_token all e = sym (ap (λ (ts : List (List ℕ)). verdict (each_token read ts)) e)
 
-  pub last_token : (mark : A → Mark) (parts : Parts) (all : List (List ℕ)) (answer : Bool) → all ≡ [] → Left read mark parts all answer →
+  pub last_token : (mark : A → Mark) (parts : ListState) (all : List (List ℕ)) (answer : Bool) → all ≡ [] → Left read mark parts all answer →
       matches_after parts [] ≡ answer
   unfolding each_token
   last_token mark parts all answer e left =
@@ -224,7 +224,7 @@ module _ {A : Type 0} (read : List ℕ → Result A TableFault) where
     token_fails fault h =
         fails fault (read token) (each_token read tokens) h ∙ sym (ap (λ (ts : List (List ℕ)). verdict (each_token read ts)) first)
 
-    pub token_marked : (mark : A → Mark) (parts new : Parts) (m : Mark) (answer : Bool) → ((x : A) → read token ≡ Ok x → m ≡ mark x) →
+    pub token_marked : (mark : A → Mark) (parts new : ListState) (m : Mark) (answer : Bool) → ((x : A) → read token ≡ Ok x → m ≡ mark x) →
         ((ms : List Mark) → matches_after new ms ≡ matches_after parts (m ∷ ms)) → Left read mark parts all answer → Left read mark new tokens answer
     unfolding each_token
     token_marked mark parts new m answer marked then left =

@@ -2,7 +2,7 @@
 use Rattle.std.specs.Prelude.{ℕ, ◌%◌, ◌==◌, ◌||◌, not, Bool, true, false, List, [], ◌∷◌, if◌then◌else◌}
 use Rattle.std.specs.List.{list_any, slice_split, prefix_len}
 use Rattle.pam_tables.specs.declared.lists.Mark.{Mark}
-use Rattle.pam_tables.specs.declared.lists.Parts.{Parts}
+use Rattle.pam_tables.specs.declared.lists.ListState.{ListState}
 use Rattle.pam_tables.specs.declared.lists.Mark.TheVariants.{Except, Match, Miss}
 
 abbrev pub is_except : Mark → Bool
@@ -37,5 +37,5 @@ odd_with is_odd holds (part ∷ parts) =
     if holds || part_holds part then odd_after (not is_odd) (prefix_len part_holds parts) else is_odd
 
 -- for private contracts and proofs alone: whether the list matches, if these are the remaining tokens
-unfoldable pub matches_after : Parts → List Mark → Bool
+unfoldable pub matches_after : ListState → List Mark → Bool
 matches_after parts rest = if parts.is_decided then parts.is_odd else odd_with parts.is_odd parts.holds (slice_split is_except rest)

@@ -24,7 +24,7 @@ impl Mark {
 
 /// The state of matching a list, whose parts are separated by EXCEPT.
 #[derive(Clone, Copy)]
-pub(crate) struct Parts {
+pub(crate) struct ListState {
     /// Whether the number of closed parts is odd.
     is_odd: bool,
     /// Whether a token of the open part matches.
@@ -33,11 +33,11 @@ pub(crate) struct Parts {
     is_decided: bool,
 }
 
-impl Parts {
-    pub(crate) fn new() -> Parts
+impl ListState {
+    pub(crate) fn new() -> ListState
         ensures { (rest : List MarkOf) → matches_after result rest ≡ list_matches rest }
     {
-        Parts {
+        ListState {
             is_odd: false,
             holds: false,
             is_decided: false,
@@ -45,19 +45,19 @@ impl Parts {
     }
 
     /// Returns the state after one more token.
-    pub(crate) fn then(self, mark: Mark) -> Parts
+    pub(crate) fn then(self, mark: Mark) -> ListState
         ensures { (rest : List MarkOf) → matches_after result rest ≡ matches_after self (mark ∷ rest) }
     {
         if self.is_decided {
             return self;
         }
         match mark {
-            Mark::Match => Parts {
+            Mark::Match => ListState {
                 holds: true,
                 ..self
             },
             Mark::Miss => self,
-            Mark::Except => Parts {
+            Mark::Except => ListState {
                 is_odd: self.is_odd != self.holds,
                 holds: false,
                 is_decided: !self.holds,

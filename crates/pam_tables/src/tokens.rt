@@ -10,7 +10,7 @@ ghost use Rattle.pam_tables.specs.Tokens.{tokens_of, each_token};
 
 use crate::error::TableFault;
 use crate::lines::trim_end;
-use crate::lists::{Mark, Parts};
+use crate::lists::{ListState, Mark};
 use pam_text::{ByteSet, is_table_blank};
 
 /// The length of the leading separators and blanks.
@@ -123,7 +123,7 @@ pub(crate) fn list_matches<M: Matcher>(matcher: &M, text: &[u8], separators: &By
     ensures { (meanings : List M.Meaning) → each_token M.meant (tokens_of separators.now.bytes.now text.now) ≡ Ok meanings
         → result ≡ list_matches_of (map (M.marked matcher.now) meanings) }
 {
-    let mut parts = Parts::new();
+    let mut parts = ListState::new();
     for token in Tokens::of(text, separators) {
         parts = parts.then(matcher.mark(token));
     }

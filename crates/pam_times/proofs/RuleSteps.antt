@@ -14,7 +14,7 @@ use Rattle.pam_times.specs.Reading.{names_of, onto_list, rule_from, rule_of, rul
 use Rattle.pam_times.specs.RuleLines.{fields_deny, name_holds, others_deny, time_holds, with_line}
 use Rattle.pam_times.specs.Times.{NameList, TimeList, Rule, denies, names_hold, times_hold}
 use Rattle.pam_times.specs.declared.error.TimeError.{TimeError}
-use Rattle.pam_times.specs.declared.entry.Entry.{Entry}
+use Rattle.pam_times.specs.declared.entry.TimeEntry.{TimeEntry}
 use Rattle.pam_times.specs.declared.error.TimeFault.{TimeFault}
 use Rattle.pam_times.specs.declared.error.TimeFault.TheVariants.{MissingField, Netgroup, BadTimes, TwoWildcards, BadLogic, NulByte, Memory, TooLong}
 use Rattle.pam_times.specs.declared.reading.Field.{Field}
@@ -30,10 +30,10 @@ pub record HasFields (number : ℕ) (f : FieldTexts) (rule : Rule) : Type 0 wher
   pub times : times_of f.times ≡ Ok rule.times
 
 module _ (number : ℕ) (rule : Rule) where
-  abbrev Parts : Result NameList TimeFault → Result NameList TimeFault → Result NameList TimeFault → Result TimeList TimeFault → Type 0
-  Parts a b c d = (rule.line ≡ number) × (a ≡ Ok rule.services) × (b ≡ Ok rule.terminals) × (c ≡ Ok rule.users) × (d ≡ Ok rule.times)
+  abbrev RuleParts : Result NameList TimeFault → Result NameList TimeFault → Result NameList TimeFault → Result TimeList TimeFault → Type 0
+  RuleParts a b c d = (rule.line ≡ number) × (a ≡ Ok rule.services) × (b ≡ Ok rule.terminals) × (c ≡ Ok rule.users) × (d ≡ Ok rule.times)
 
-  parts : (a b c : Result NameList TimeFault) (d : Result TimeList TimeFault) → rule_from number a b c d ≡ Ok (Some rule) → Parts a b c d
+  parts : (a b c : Result NameList TimeFault) (d : Result TimeList TimeFault) → rule_from number a b c d ≡ Ok (Some rule) → RuleParts a b c d
   parts (Err fault) b c d h = absurd (cc)
   parts (Ok services) (Err fault) c d h = absurd (cc)
   parts (Ok services) (Ok terminals) (Err fault) d h = absurd (cc)
@@ -104,7 +104,8 @@ one_name false false t x e f h = cc
 same_name : (field : Field) (word t x : List ℕ) → name_of field t ≡ Ok x → matches t word ≡ matches x word
 same_name field word t x h = ap (λ n. matches n word) (one_name (is_netgroup field t) (has_two_stars t) t x Netgroup TwoWildcards h)
 
-same_entry : (day minute : ℕ) (o : Option Entry) (x : Entry) → entry_or_fault o ≡ Ok x → option_map_or (λ e. holds e day minute) o false ≡ holds x day minute
+same_entry : (day minute : ℕ) (o : Option TimeEntry) (x : TimeEntry) → entry_or_fault o ≡ Ok x →
+    option_map_or (λ e. holds e day minute) o false ≡ holds x day minute
 same_entry day minute None x h = absurd (cc)
 same_entry day minute (Some entry) x h = let same : entry ≡ x = cc in ap (λ e. holds e day minute) same
 

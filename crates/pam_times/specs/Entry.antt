@@ -7,7 +7,7 @@ use Rattle.std.specs.Option.{option_map}
 use Rattle.pam_codes.specs.Code.{same_name}
 use Rattle.pam_times.specs.Moments.{pair_at}
 use Rattle.pam_times.specs.declared.entry.DayRun.{DayRun}
-use Rattle.pam_times.specs.declared.entry.Entry.{Entry}
+use Rattle.pam_times.specs.declared.entry.TimeEntry.{TimeEntry}
 
 -- ---- days
 
@@ -88,21 +88,21 @@ finish_at text i =
 
 -- ---- entries
 
-abbrev pub entry_from : Option (List Bool) → Option ℕ → Bool → Option ℕ → Option Entry
+abbrev pub entry_from : Option (List Bool) → Option ℕ → Bool → Option ℕ → Option TimeEntry
 entry_from (Some days) (Some start) true (Some finish) = Some (record { days = days; start = start; finish = finish })
 entry_from _ _ _ _ = None
 
 -- an entry: one or more days, and HHMM-HHMM
-unfoldable pub entry_of : List ℕ → Option Entry
+unfoldable pub entry_of : List ℕ → Option TimeEntry
 entry_of text = if nat_lt (length text) 11 then None
     else let at = length text - 9 in
     entry_from (days_of (take at text)) (time_at text at) (slice_index text (at + 4) == 45) (finish_at text (at + 5))
 
-abbrev pub is_on : Entry → ℕ → Bool
+abbrev pub is_on : TimeEntry → ℕ → Bool
 is_on e day = slice_index_or e.days day false
 
 -- whether an entry covers a minute of a day. A range that goes past midnight belongs to the day on which it starts
-unfoldable pub holds : Entry → ℕ → ℕ → Bool
+unfoldable pub holds : TimeEntry → ℕ → ℕ → Bool
 holds e day minute =
     if nat_lt e.start e.finish then is_on e day && (nat_le e.start minute && nat_lt minute e.finish)
     else (is_on e day && nat_le e.start minute) || (is_on e (day_before day) && nat_lt minute e.finish)

@@ -5,7 +5,7 @@ use Rattle.std.specs.Char.{is_ascii_digit}
 use Rattle.jiff.specs.Placed.{IsPosixZone}
 use Rattle.jiff.specs.Types.{DateTime, TimeZone}
 use Rattle.jiff.specs.Words.{IsDate, IsTime, IsYmd, IsHms, IsTimestampNanos, civil_nanos, nanos_of_seconds, offset_at}
-use Rattle.pam_times.specs.declared.moments.Parts.{Parts}
+use Rattle.pam_times.specs.declared.moments.CivilParts.{CivilParts}
 
 abbrev pub two_digits : ℕ → ℕ → Option ℕ
 two_digits a b = if is_ascii_digit a && is_ascii_digit b then Some (10 * (a - 48) + (b - 48)) else None
@@ -23,7 +23,7 @@ abbrev pub seconds_of : List ℕ → Option ℕ
 seconds_of text = if length text == 16 then Some 0
     else if length text == 19 && slice_index text 16 == 58 then pair_at text 17 else None
 
-abbrev pub parts_from : Option ℕ → Option ℕ → Option ℕ → Option ℕ → Option ℕ → Option ℕ → Option ℕ → Option Parts
+abbrev pub parts_from : Option ℕ → Option ℕ → Option ℕ → Option ℕ → Option ℕ → Option ℕ → Option ℕ → Option CivilParts
 parts_from (Some century) (Some year) (Some month) (Some day) (Some hour) (Some minute) (Some second) = Some (record {
   year = 100 * century + year;
   month = month;
@@ -35,22 +35,22 @@ parts_from (Some century) (Some year) (Some month) (Some day) (Some hour) (Some 
 parts_from _ _ _ _ _ _ _ = None
 
 -- the fields of a text in this format
-abbrev pub parts_of : List ℕ → Option Parts
+abbrev pub parts_of : List ℕ → Option CivilParts
 parts_of text = if has_marks text
     then parts_from (pair_at text 0) (pair_at text 2) (pair_at text 5) (pair_at text 8) (pair_at text 11) (pair_at text 14) (seconds_of text) else None
 
 -- the calendar and the clock have such a date and time
-abbrev pub Exist : Option Parts → Type 0
+abbrev pub Exist : Option CivilParts → Type 0
 Exist None = ⊥
 Exist (Some p) = IsDate (pos p.year) (pos p.month) (pos p.day) × IsTime (pos p.hour) (pos p.minute) (pos p.second) (pos 0)
 
 -- the civil time with these fields
-abbrev pub HasParts : Option Parts → DateTime → Type 0
+abbrev pub HasParts : Option CivilParts → DateTime → Type 0
 HasParts None d = ⊥
 HasParts (Some p) d = IsYmd (pos p.year) (pos p.month) (pos p.day) d.date × IsHms (pos p.hour) (pos p.minute) (pos p.second) (pos 0) d.time
 
 -- the year has four digits, and each other field two
-abbrev pub IsShort : Parts → Type 0
+abbrev pub IsShort : CivilParts → Type 0
 IsShort p = (p.year < 10000) × (p.month < 100) × (p.day < 100) × (p.hour < 100) × (p.minute < 100) × (p.second < 100)
 
 -- ---- an instant on the clock of a POSIX zone rule

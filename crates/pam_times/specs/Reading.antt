@@ -11,7 +11,7 @@ use Rattle.pam_times.specs.Error.{source_error}
 use Rattle.pam_times.specs.Logic.{ItemOf, items_of}
 use Rattle.pam_times.specs.Pattern.{has_two_stars}
 use Rattle.pam_times.specs.Times.{NameList, TimeList, Rule}
-use Rattle.pam_times.specs.declared.entry.Entry.{Entry}
+use Rattle.pam_times.specs.declared.entry.TimeEntry.{TimeEntry}
 use Rattle.pam_times.specs.declared.error.TimeError.{TimeError}
 use Rattle.pam_times.specs.declared.error.TimeFault.{TimeFault}
 use Rattle.pam_times.specs.declared.error.TimeFault.TheVariants.{MissingField, Netgroup, BadTimes, TwoWildcards}
@@ -51,7 +51,7 @@ is_netgroup _ name = false
 abbrev pub name_of : Field → List ℕ → Result (List ℕ) TimeFault
 name_of field name = if is_netgroup field name then Err Netgroup else if has_two_stars name then Err TwoWildcards else Ok name
 
-abbrev pub entry_or_fault : Option Entry → Result Entry TimeFault
+abbrev pub entry_or_fault : Option TimeEntry → Result TimeEntry TimeFault
 entry_or_fault (Some entry) = Ok entry
 entry_or_fault None = Err BadTimes
 

@@ -7,7 +7,7 @@ use Rattle.pam_times.specs.Login.{LoginText, without_dev}
 use Rattle.pam_times.specs.Entry.{holds, weekday_of_day}
 use Rattle.pam_times.specs.Logic.{ItemOf, is_true}
 use Rattle.pam_times.specs.Pattern.{matches}
-use Rattle.pam_times.specs.declared.entry.Entry.{Entry}
+use Rattle.pam_times.specs.declared.entry.TimeEntry.{TimeEntry}
 use Rattle.pam_times.specs.declared.times.TimeAnswer.{TimeAnswer}
 use Rattle.pam_times.specs.declared.times.TimeAnswer.TheVariants.{Granted, Denied}
 
@@ -17,7 +17,7 @@ abbrev pub NameList : Type 0
 NameList = List (ItemOf (List ℕ))
 
 abbrev pub TimeList : Type 0
-TimeList = List (ItemOf Entry)
+TimeList = List (ItemOf TimeEntry)
 
 -- a rule, with the number of its line
 pub record Rule : Type 0 where

@@ -116,16 +116,16 @@ fn finish(text: &[u8], at: usize) -> Option<u16>
 /// The days of the week from Monday on, and the range of minutes of the day. The finish is excluded; if it is not after
 /// the start, the range goes past midnight and belongs to the day on which it starts.
 #[derive(Clone, Copy)]
-pub(crate) struct Entry {
+pub(crate) struct TimeEntry {
     days: [bool; 7],
     start: u16,
     finish: u16,
 }
 
-impl Entry {
+impl TimeEntry {
     /// Parses one or more days and `HHMM-HHMM`.
     #[tactic(auto, unfolding(crate::specs::Entry::entry_of))]
-    pub(crate) fn read(text: &[u8]) -> Option<Entry>
+    pub(crate) fn read(text: &[u8]) -> Option<TimeEntry>
         ensures { result ≡ entry_of text.now }
     {
         if text.len() < 11 {
@@ -138,7 +138,7 @@ impl Entry {
             return None;
         }
         let finish = finish(text, at + 5)?;
-        Some(Entry {
+        Some(TimeEntry {
             days,
             start,
             finish,

@@ -3,7 +3,7 @@
 ghost use Rattle.std.specs.Prelude.{◌≡◌};
 ghost use Rattle.pam_times.specs.Fact.{meets};
 
-use crate::entry::Entry;
+use crate::entry::TimeEntry;
 use crate::pattern;
 use crate::week_time::WeekTime;
 
@@ -21,7 +21,7 @@ impl Fact<'_> {
     {
         match self {
             Fact::Name(name) => pattern::matches(token, name),
-            Fact::Time(time) => match Entry::read(token) {
+            Fact::Time(time) => match TimeEntry::read(token) {
                 Some(entry) => entry.holds(time.day, time.minute),
                 None => false,
             },

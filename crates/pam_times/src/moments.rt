@@ -27,7 +27,7 @@ pub enum MomentError {
 
 /// The fields of a civil time, not yet checked against the calendar.
 #[derive(Clone, Copy)]
-struct Parts {
+struct CivilParts {
     year: u16,
     month: u8,
     day: u8,
@@ -78,7 +78,7 @@ fn has_marks(text: &[u8]) -> bool
     16 <= text.len() && text[4] == b'-' && text[7] == b'-' && text[10] == b'T' && text[13] == b':'
 }
 
-fn written_parts(text: &[u8]) -> Option<Parts>
+fn written_parts(text: &[u8]) -> Option<CivilParts>
     ensures value { result ≡ parts_of text.now }
     ensures short { IfSome result IsShort }
 {
@@ -92,7 +92,7 @@ fn written_parts(text: &[u8]) -> Option<Parts>
     let hour = pair(text, 11)?;
     let minute = pair(text, 14)?;
     let second = seconds(text)?;
-    Some(Parts {
+    Some(CivilParts {
         year: 100 * u16::from(century) + u16::from(year),
         month,
         day,
@@ -103,7 +103,7 @@ fn written_parts(text: &[u8]) -> Option<Parts>
 }
 
 /// Returns the civil time with these fields, if there is one.
-fn datetime(parts: Parts) -> Result<DateTime, MomentError>
+fn datetime(parts: CivilParts) -> Result<DateTime, MomentError>
     requires { IsShort parts }
     ensures accepts { IsOk result ↔ Exist (Some parts) }
     ensures value { IfOk result (HasParts (Some parts)) }

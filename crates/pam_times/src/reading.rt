@@ -8,7 +8,7 @@ ghost use Rattle.pam_times.specs.Logic.{sign_view};
 ghost use Rattle.pam_times.specs.Reading.{is_netgroup, has_empty, cut_fields, fields_of, fields_view, rule_of};
 ghost use Rattle.pam_times.specs.Checks.{name_checked, entry_checked, token_checked, sign_checked, list_checked, line_checked};
 
-use crate::entry::Entry;
+use crate::entry::TimeEntry;
 use crate::error::TimeFault;
 use crate::logic::{Expected, Joint, Sign, Signs};
 use crate::pattern;
@@ -101,7 +101,7 @@ fn check_name(field: Field, name: &[u8]) -> Result<(), TimeFault>
 fn check_entry(token: &[u8]) -> Result<(), TimeFault>
     ensures { result ≡ entry_checked token.now }
 {
-    match Entry::read(token) {
+    match TimeEntry::read(token) {
         Some(_) => Ok(()),
         None => Err(TimeFault::BadTimes),
     }

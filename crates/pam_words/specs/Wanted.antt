@@ -6,13 +6,13 @@ use Rattle.clap.specs.declared.Error.{Error}
 use Rattle.clap.specs.declared.error.ErrorKind.TheVariants.{DisplayHelp, OutOfMemory}
 use Rattle.pam_words.specs.Request.{LoginText, MomentText, PartText, Refusal, RequestText, SourceText, TaskText}
 use Rattle.pam_words.specs.Request as spec
-use Rattle.pam_words.specs.declared.wanted.Source.{Source}
-use Rattle.pam_words.specs.declared.wanted.Source.TheVariants.{Dir, Conf}
+use Rattle.pam_words.specs.declared.wanted.ConfSource.{ConfSource}
+use Rattle.pam_words.specs.declared.wanted.ConfSource.TheVariants.{Dir, Conf}
 use Rattle.pam_words.specs.declared.wanted.Login.{Login}
 use Rattle.pam_words.specs.declared.wanted.Moment.{Moment}
 use Rattle.pam_words.specs.declared.wanted.Moment.TheVariants.{Civil, Instant}
-use Rattle.pam_words.specs.declared.wanted.Part.{Part}
-use Rattle.pam_words.specs.declared.wanted.Part.TheVariants.{Whole, After, Before}
+use Rattle.pam_words.specs.declared.wanted.PagePart.{PagePart}
+use Rattle.pam_words.specs.declared.wanted.PagePart.TheVariants.{Whole, After, Before}
 use Rattle.pam_words.specs.declared.wanted.Task.{Task}
 use Rattle.pam_words.specs.declared.wanted.Task.TheVariants.{Show, Decide, Access, Time, Paths}
 use Rattle.pam_words.specs.declared.wanted.Request.{Request}
@@ -21,7 +21,7 @@ use Rattle.pam_words.specs.declared.wanted.Usage.TheVariants as usage
 
 -- ---- a request as its texts
 
-abbrev pub source_view : Source → SourceText
+abbrev pub source_view : ConfSource → SourceText
 source_view (Dir name) = spec.dir name.now
 source_view (Conf name) = spec.conf name.now
 
@@ -29,7 +29,7 @@ abbrev pub moment_view : Moment → MomentText
 moment_view (Civil text) = spec.civil text.now
 moment_view (Instant seconds zone) = spec.instant seconds zone.now
 
-abbrev pub part_view : Part → PartText
+abbrev pub part_view : PagePart → PartText
 part_view Whole = spec.whole
 part_view (After cursor) = spec.after cursor.now
 part_view (Before cursor) = spec.before cursor.now

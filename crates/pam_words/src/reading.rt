@@ -14,7 +14,7 @@ ghost use Rattle.pam_words.specs.Words.{pamcheck_app};
 
 mod paths;
 
-use crate::wanted::{Login, Moment, Request, Source, Task, Usage};
+use crate::wanted::{ConfSource, Login, Moment, Request, Task, Usage};
 use crate::words::pamcheck_command;
 use clap::error::ErrorKind;
 use clap::{ArgMatches, Error};
@@ -46,12 +46,12 @@ fn values<'m, 'a>(matches: &'m ArgMatches<'a>, id: &str) -> Option<&'m [&'a str]
 }
 
 /// Returns the source, if exactly one is given.
-fn source<'a>(matches: &ArgMatches<'a>) -> Option<Source<'a>>
+fn source<'a>(matches: &ArgMatches<'a>) -> Option<ConfSource<'a>>
     ensures { option_map source_view result ≡ source_of (rows_of (found_of matches.now)) }
 {
     match (value(matches, "dir"), value(matches, "conf")) {
-        (Some(dir), None) => Some(Source::Dir(dir)),
-        (None, Some(conf)) => Some(Source::Conf(conf)),
+        (Some(dir), None) => Some(ConfSource::Dir(dir)),
+        (None, Some(conf)) => Some(ConfSource::Conf(conf)),
         (Some(_), Some(_)) => None,
         (None, None) => None,
     }
@@ -168,7 +168,7 @@ fn arguments(alloc: Global, matches: &ArgMatches<'_>) -> Result<Texts, AllocErro
 }
 
 /// Reads the source and the kind.
-fn stack<'a>(matches: &ArgMatches<'a>) -> Result<(Source<'a>, Kind), Usage>
+fn stack<'a>(matches: &ArgMatches<'a>) -> Result<(ConfSource<'a>, Kind), Usage>
     ensures { Gives (λ p. (source_view p.0, p.1)) (stack_of (rows_of (found_of matches.now))) result }
 {
     let Some(source) = source(matches) else {

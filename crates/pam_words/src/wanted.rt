@@ -7,7 +7,7 @@ use thiserror::Error;
 
 /// The source of the configuration.
 #[derive(Clone, Copy, Debug)]
-pub enum Source<'a> {
+pub enum ConfSource<'a> {
     /// A folder with a file for each service, as `/etc/pam.d`.
     Dir(&'a str),
     /// One file for all services, as `/etc/pam.conf`.
@@ -33,7 +33,7 @@ pub struct Login<'a> {
 
 /// The part of a listing that a page is taken from.
 #[derive(Clone, Copy, Debug)]
-pub enum Part<'a> {
+pub enum PagePart<'a> {
     /// All paths, in ascending order of cursors.
     Whole,
     /// The paths after this cursor, in ascending order.
@@ -47,12 +47,12 @@ pub enum Part<'a> {
 pub enum Task<'a> {
     /// Lists the stack.
     Show {
-        source: Source<'a>,
+        source: ConfSource<'a>,
         kind: Kind,
     },
     /// Runs the stack with one code for each of its modules, in order.
     Decide {
-        source: Source<'a>,
+        source: ConfSource<'a>,
         kind: Kind,
         codes: Vec<Code>,
     },
@@ -71,10 +71,10 @@ pub enum Task<'a> {
     },
     /// Lists one page of the paths through the stack.
     Paths {
-        source: Source<'a>,
+        source: ConfSource<'a>,
         kind: Kind,
         limit: u32,
-        part: Part<'a>,
+        part: PagePart<'a>,
         login: Login<'a>,
         access: Option<&'a str>,
         time: Option<&'a str>,

@@ -107,11 +107,13 @@ fn texts_of_sets(rt: HostRuntime) -> Result<(), Fail> {
         ),
         (
             first_codes(15),
-            "success,open_err,symbol_err,service_err,system_err,buf_err,perm_denied,auth_err,cred_insufficient,authinfo_unavail,user_unknown,maxtries,new_authtok_reqd,acct_expired,session_err",
+            "success,open_err,symbol_err,service_err,system_err,buf_err,perm_denied,auth_err,\
+             cred_insufficient,authinfo_unavail,user_unknown,maxtries,new_authtok_reqd,acct_expired,session_err",
         ),
         (
             first_codes(16),
-            "but:cred_expired,cred_err,no_module_data,conv_err,authtok_err,authtok_recover_err,authtok_lock_busy,authtok_disable_aging,try_again,ignore,abort,authtok_expired,module_unknown,bad_item,conv_again",
+            "but:cred_expired,cred_err,no_module_data,conv_err,authtok_err,authtok_recover_err,authtok_lock_busy,\
+             authtok_disable_aging,try_again,ignore,abort,authtok_expired,module_unknown,bad_item,conv_again",
         ),
     ];
     for (set, text) in rows {

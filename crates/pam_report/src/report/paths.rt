@@ -19,8 +19,8 @@ ghost use Rattle.pam_report.specs.Leaves.{LeavesSome};
 ghost use Rattle.pam_report.specs.PageView.{AnswersPart, page_view, page_with};
 ghost use Rattle.pam_report.specs.Paths.{IsPage, IsPageAt, IsPageOf, IsPart, IsStackPage, side_of};
 ghost use Rattle.pam_tables.specs.Login.{login_view};
-ghost use Rattle.pam_words.specs.declared.wanted.Part.{Part};
-ghost use Rattle.pam_words.specs.declared.wanted.Part.TheVariants.{After, Before, Whole};
+ghost use Rattle.pam_words.specs.declared.wanted.PagePart.{PagePart};
+ghost use Rattle.pam_words.specs.declared.wanted.PagePart.TheVariants.{After, Before, Whole};
 
 use super::Status;
 use super::header::put_header;
@@ -36,7 +36,7 @@ use pam_page::{LineTexts, Listing, put_page};
 use pam_paths::{Cursor, Explorer, Known};
 use pam_tables::Login as TableLogin;
 use pam_times::MomentError;
-use pam_words::{Login, Part};
+use pam_words::{Login, PagePart};
 use std::alloc::Global;
 use std::io::Write;
 
@@ -45,7 +45,7 @@ pub(super) struct PageRequest<'a> {
     pub service: &'a str,
     pub kind: Kind,
     pub limit: u32,
-    pub part: Part<'a>,
+    pub part: PagePart<'a>,
 }
 
 fn write_page<W: Write>(
@@ -79,7 +79,7 @@ fn answer_listing<W: Write>(
     listing: &mut Listing<'_, Known>,
     out: &mut Out<W>,
 ) -> Result<Status, Fault>
-    ensures { (items : Items) (allows : Allowance) (part : Part) → modules_of paging.now.program.now ≡ module_count items
+    ensures { (items : Items) (allows : Allowance) (part : PagePart) → modules_of paging.now.program.now ≡ module_count items
         → side listing.old ≡ side_of part → IsPart allows items part (Ok (coming listing.old))
         → LeavesSome W.contents out.old out.new result (IsPageOf (page_with paging.now.request.now part) items allows) }
 {
@@ -169,9 +169,9 @@ fn answer_known<W: Write>(
         known,
     };
     match request.part {
-        Part::Whole => answer_whole(&paging, out),
-        Part::After(text) => answer_after(&paging, text, out),
-        Part::Before(text) => answer_before(&paging, text, out),
+        PagePart::Whole => answer_whole(&paging, out),
+        PagePart::After(text) => answer_after(&paging, text, out),
+        PagePart::Before(text) => answer_before(&paging, text, out),
     }
 }
 

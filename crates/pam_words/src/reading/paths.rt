@@ -8,7 +8,7 @@ ghost use Rattle.pam_words.specs.Wanted.{Gives, GivesTask, moment_view, part_vie
 
 use crate::limit::{DEFAULT_LIMIT, limit_in};
 use crate::reading::{login, moment, stack, value};
-use crate::wanted::{Moment, Part, Task, Usage};
+use crate::wanted::{Moment, PagePart, Task, Usage};
 use clap::ArgMatches;
 
 fn has(matches: &ArgMatches<'_>, id: &str) -> bool
@@ -27,13 +27,13 @@ fn limit(matches: &ArgMatches<'_>) -> u32
 }
 
 /// Returns the part of the listing, or `None` if both `--after` and `--before` are given.
-fn part<'a>(matches: &ArgMatches<'a>) -> Option<Part<'a>>
+fn part<'a>(matches: &ArgMatches<'a>) -> Option<PagePart<'a>>
     ensures { option_map part_view result ≡ part_of (rows_of (found_of matches.now)) }
 {
     match (value(matches, "after"), value(matches, "before")) {
-        (None, None) => Some(Part::Whole),
-        (Some(cursor), None) => Some(Part::After(cursor)),
-        (None, Some(cursor)) => Some(Part::Before(cursor)),
+        (None, None) => Some(PagePart::Whole),
+        (Some(cursor), None) => Some(PagePart::After(cursor)),
+        (None, Some(cursor)) => Some(PagePart::Before(cursor)),
         (Some(_), Some(_)) => None,
     }
 }

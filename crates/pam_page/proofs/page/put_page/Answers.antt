@@ -22,7 +22,8 @@ returns-in_err-put_path g c =
     let page = page_front (side c.args.listing.now) (coming c.args.listing.now) l.count c.args.limit (followed c.follow.new.self) (coming c.follow.new.self)
     (omega (arith, c.loop-count-test.true)) (sym l.invariant.left ∙ c.in-Some.ensures.path) in
     let line = ap path_line c.path-path.ensures in
-    err-front _ c.from_residual.ensures.0 (front-is (front-longer page.0 (front-then l.invariant.written (front-is c.in_err-put_path.ensures.written line))) page.1)
+    err-front _ c.from_residual.ensures.0
+    (front-is (front-longer page.0 (front-then l.invariant.written (front-is c.in_err-put_path.ensures.written line))) page.1)
 
 pub loop-count-preserved : goal.loop-count-preserved
 loop-count-preserved g c =

@@ -22,7 +22,8 @@ returns-in-Some-follow g c =
     let more = coming c.follow-2.new.self in
     writes-is _ _ _ _ _ _ (writes-then _ _ _ (all-is c.in_ok-put_path.ensures.written (ap path_line c.path-path.ensures)) c.put_more.ensures)
     (rest_more-is (side c.args.listing.now) _ c.args.count _ c.cursor-cursor.result (followed c.follow.new.self) (followed c.follow-2.new.self) all left more
-    (c.side-in-Some-follow.ensures ∙ c.in-Some-follow.ensures.side ∙ c.in-Some.ensures.side) c.from-in-Some-follow.ensures (c.cursor-cursor.ensures.key ∙ ap key c.path-path.ensures)
+    (c.side-in-Some-follow.ensures ∙ c.in-Some-follow.ensures.side ∙ c.in-Some.ensures.side) c.from-in-Some-follow.ensures
+    (c.cursor-cursor.ensures.key ∙ ap key c.path-path.ensures)
     c.in-Some.ensures.path c.in-Some-follow.ensures.path)
 
 pub replace-requires : goal.replace-requires

@@ -8,7 +8,8 @@ use Rattle.pam_paths.specs.declared.frames.Frame.{Frame}
 use Rattle.pam_paths.specs.Computed.{listing}
 use Rattle.pam_paths.specs.Directions.{ordered}
 use Rattle.pam_paths.specs.Frames.{ahead, ahead_of, under, AreFrames, IsFrame}
-use Rattle.pam_paths.proofs.FrameLists.{AreFrames-length, ahead-enter, branch_followed, frame_after, frame_number, frame_same, listing-ahead, ordered-some, pushed, rise_after}
+use Rattle.pam_paths.proofs.FrameLists.{AreFrames-length, ahead-enter, branch_followed, frame_after, frame_number, frame_same}
+use Rattle.pam_paths.proofs.FrameLists.{listing-ahead, ordered-some, pushed, rise_after}
 use Rattle.pam_paths.proofs.Fronts.{front_pushed}
 use Rattle.pam_paths.proofs.Tails.{settled-path, settled-room}
 use Rattle.pam_paths.proofs.frames.descend.Goals as goal

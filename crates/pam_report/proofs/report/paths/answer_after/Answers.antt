@@ -3,7 +3,7 @@ use Rattle.pam_conf.specs.Stack.{module_count}
 use Rattle.pam_paths.specs.Known.{may_answer}
 use Rattle.pam_paths.specs.Listing.{IsListingAfter}
 use Rattle.pam_paths.specs.Paths.{path_through}
-use Rattle.pam_words.specs.declared.wanted.Part.TheVariants.{After}
+use Rattle.pam_words.specs.declared.wanted.PagePart.TheVariants.{After}
 use Rattle.pam_report.proofs.PageParts.{cursor-refused, cursor-taken, part-same, text-refused}
 use Rattle.pam_report.proofs.report.paths.answer_after.Goals as goal
 

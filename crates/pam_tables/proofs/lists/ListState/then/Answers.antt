@@ -1,5 +1,5 @@
 use Rattle.pam_tables.proofs.ListSteps.{decided, list_match, list_miss, list_except}
-use Rattle.pam_tables.proofs.lists.Parts.then.Goals as goal
+use Rattle.pam_tables.proofs.lists.ListState.then.Goals as goal
 
 pub returns-then-self : goal.returns-then-self
 returns-then-self c = decided c.args.self c.args.mark c.if-self.true

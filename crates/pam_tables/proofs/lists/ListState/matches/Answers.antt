@@ -1,5 +1,5 @@
 use Rattle.pam_tables.proofs.ListSteps.{list_ends, list_was_decided}
-use Rattle.pam_tables.proofs.lists.Parts.matches.Goals as goal
+use Rattle.pam_tables.proofs.lists.ListState.matches.Goals as goal
 
 pub returns-then-self : goal.returns-then-self
 returns-then-self c = list_was_decided c.args.self c.if-self.true
