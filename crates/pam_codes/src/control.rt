@@ -65,7 +65,7 @@ impl Control {
     }
 
     /// The control of a keyword, ignoring ASCII case.
-    #[tactic(auto, unfolding(crate::specs::Control::keywords, crate::specs::Control::keyword_pairs, crate::specs::Control::actions_of, crate::specs::Code::all_codes))]
+    #[tactic(auto, unfolding(crate::specs::Control::keywords, crate::specs::Control::keyword_pairs, crate::specs::Control::actions_of))]
     fn from_keyword(word: &[u8]) -> Option<Control>
         ensures { result ≡ option_map actions_of (keyword_pairs word.now) }
     {

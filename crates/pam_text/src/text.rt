@@ -109,7 +109,7 @@ impl<'a> Text<'a> {
             (λ _. length self.new.rest.now < length self.old.rest.now)) }
     {
         let (front, after) = self.rest.split_at(plain_len(self.rest));
-        joined.extend_from_slice(front)?;
+        append(joined, front)?;
         match first_step(after) {
             None => {
                 self.rest = after;
@@ -122,6 +122,16 @@ impl<'a> Text<'a> {
             }
         }
     }
+}
+
+/// Appends `bytes`. Between joints there are often none, and then no copy is made.
+fn append(joined: &mut Vec<u8>, bytes: &[u8]) -> Result<(), AllocError>
+    ensures { OnOk result (joined.new.items ≡ joined.old.items ++ bytes.now) }
+{
+    if bytes.is_empty() {
+        return Ok(());
+    }
+    joined.extend_from_slice(bytes)
 }
 
 /// Whether `byte` means itself everywhere: it is no line feed, `#` or backslash.
