@@ -1,22 +1,41 @@
 -- Places, and the runs from them on.
 use Rattle.std.proofs.Common.{◌≡◌, ℕ, ◌+◌, ◌-◌, ◌<◌, ◌&&◌, List, [], ◌∷◌, ◌++◌, eqb, ltb, refl, sym, ◌∙◌, ap, subst, inl, inr, arith, take, drop}
-use Rattle.std.proofs.Common.{length, get_or, Option}
+use Rattle.std.proofs.Common.{length, get_or, slice_get, Option, Some}
+use Rattle.std.proofs.lemmas.Option.{get_or_from_slice_get}
 use Rattle.std.specs.Prelude.{IsSome}
 use Rattle.std.proofs.lemmas.Bool.{cases_lt, cond_both, false≢true}
 use Rattle.std.proofs.lemmas.List.{drop_all}
 use Rattle.pam_dispatch.specs.declared.state.State.{State}
 use Rattle.pam_dispatch.specs.declared.place.Place.{Place}
 use Rattle.pam_codes.specs.declared.action.Action.{Action}
+use Rattle.pam_codes.specs.declared.action.Action.TheVariants.{Ignore}
 use Rattle.pam_dispatch.specs.declared.entry.Entry.{Entry}
 use Rattle.pam_dispatch.specs.declared.entry.Entry.TheVariants.{Module, Substack}
 use Rattle.pam_dispatch.specs.State.{start_state, act, left_of, action_of}
 use Rattle.pam_dispatch.specs.declared.step.Outcome.{Outcome}
-use Rattle.pam_dispatch.specs.Runs.{Ask, outcome_of, Runs, asked_module, state_in, after_answer, outcome_in}
+use Rattle.pam_dispatch.specs.Runs.{Ask, outcome_of, Runs, asked_module, state_in, after_answer, next_ask, outcome_in}
 use Rattle.pam_dispatch.specs.Flat.{resume, IsAt, IsPlaceOf, rest_of}
 use Rattle.pam_dispatch.proofs.Resume.{resume-module, ask_at, asked_module-ask_at, at_index, at_module-asks}
 
 abbrev outcome : State → ℕ → Outcome
 outcome s l = record { state = s; left = l }
+
+abbrev pub asked_with : ℕ → List Action → State → State → ℕ → Ask
+asked_with m control s entry after = record { module_number = m; control = control; state = s; entry = entry; after = after }
+
+-- the outcome of an action for a code is that of the code
+pub outcome-made : (ask : Ask) (state entry : State) (after code : ℕ) (action : Action) (made : Outcome) →
+    state ≡ ask.state → entry ≡ ask.entry → after ≡ ask.after → slice_get ask.control code ≡ Some action →
+    made.state ≡ act action code state entry after → made.left ≡ left_of action code state after → outcome_of ask code ≡ made
+unfolding outcome_of
+outcome-made ask state entry after code action made s e a acts new left =
+    ap (λ (x : Action). outcome (act x code ask.state ask.entry ask.after) (left_of x code ask.state ask.after))
+    (get_or_from_slice_get ask.control code action Ignore acts)
+    ∙ ap (λ (x : State). outcome (act action code x ask.entry ask.after) (left_of action code x ask.after)) (sym s)
+    ∙ ap (λ (x : State). outcome (act action code state x ask.after) (left_of action code state ask.after)) (sym e)
+    ∙ ap (λ (x : ℕ). outcome (act action code state entry x) (left_of action code state x)) (sym a)
+    ∙ ap (λ (x : State). outcome x (left_of action code state after)) (sym new)
+    ∙ ap (λ (x : ℕ). outcome made.state x) (sym left)
 
 -- a run begins in its state
 pub state_in-resume : (ts : List Entry) (level skip : ℕ) (es : List State) (s : State) → state_in (resume ts level skip es s) ≡ s
@@ -85,6 +104,13 @@ module _ (program : List Entry) (place : Place) (valid : IsPlaceOf program place
     place_asks =
         at_module-asks program place.position d l m control after within is place.entered.states place.state place.depth place.depth 0
         (omega (arith, place_depth)) (λ e z. omega arith) (omega (arith, place_depth))
+
+    pub place_asked : (entry : State) → entry ≡ get_or place.entered.states l start_state →
+        asked_with m control place.state entry after ≡ next_ask (rest_of program place)
+    unfolding ask_at
+    place_asked entry is =
+        ap (λ (x : State). asked_with m control place.state x after) is
+        ∙ sym (ap next_ask place_asks)
 
     module _ (code left : ℕ) (state entry : State) (action : Action)
         (action_is : action_of control code ≡ action)

@@ -2,6 +2,7 @@
 //! asked next, and at the end what the stack decides.
 #![tactic(auto)]
 
+mod asked;
 mod decision;
 mod entered;
 mod entry;
@@ -16,6 +17,7 @@ mod step;
 mod tail;
 mod work;
 
+pub use asked::Asked;
 pub use decision::Decision;
 pub use error::{Memory, WrongCount};
 pub use pam_conf::MAX_MODULES;

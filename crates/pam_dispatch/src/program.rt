@@ -12,6 +12,7 @@ ghost use Rattle.pam_dispatch.specs.Runs.{AsksRise, Assignment, after_answer, an
 ghost use Rattle.pam_dispatch.specs.Tail.{IsSettled};
 ghost use Rattle.pam_dispatch.specs.Tree.{decided, runs_of_stack};
 
+use crate::asked::Asked;
 use crate::decision::Decision;
 use crate::entered::{Entered, LISTS};
 use crate::entry::Entry;
@@ -79,6 +80,30 @@ fn module_parts(alloc: Global, entries: &[Entry]) -> Result<Vec<Parts>, Memory>
         }
     }
     Ok(parts)
+}
+
+/// The module asked at `place`.
+fn asked_at<'a>(entries: &'a [Entry], place: &Place) -> Asked<'a>
+    requires entries { All IsBounded entries.now }
+    requires place { IsPlaceOf entries.now place.now }
+    requires asking { IsSome (asked_module (rest_of entries.now place.now)) }
+    ensures { result ≡ next_ask (rest_of entries.now place.now) }
+{
+    match &entries[place.position] {
+        Entry::Module {
+            level,
+            number,
+            control,
+            items_after,
+        } => Asked {
+            module_number: *number,
+            control,
+            state: place.state,
+            entry: place.entered.at(*level),
+            items_after: *items_after,
+        },
+        Entry::Substack { .. } => unreachable!(),
+    }
 }
 
 /// The outcome of an answer, and where the run continues.
@@ -216,6 +241,15 @@ impl Program {
         };
         settle(&self.entries, &mut place, 0, 0);
         place
+    }
+
+    /// The module asked at `place`.
+    pub fn asked(&self, place: &Place) -> Asked<'_>
+        requires place { IsPlaceOf self.now place.now }
+        requires asking { IsSome (asked_module (rest_of self.now place.now)) }
+        ensures { result ≡ next_ask (rest_of self.now place.now) }
+    {
+        asked_at(&self.entries, place)
     }
 
     /// The outcome of answering the module at `place` with `code`, without making the step.

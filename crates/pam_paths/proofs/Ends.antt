@@ -1,5 +1,6 @@
 -- How a cursor is accepted or refused, and the paths after and before it.
-use Rattle.std.proofs.Common.{◌≡◌, ◌≢◌, ℕ, ◌<◌, ◌≤◌, List, All, sym, ◌∙◌, subst, Option, Some, None, Result, Ok, Err}
+use Rattle.std.proofs.Common.{◌≡◌, ◌≢◌, ℕ, ◌<◌, ◌≤◌, List, All, sym, ◌∙◌, subst, Option, Some, None, Result, Ok, Err, false}
+use Rattle.std.proofs.lemmas.Bool.{false≢true}
 use Rattle.std.specs.Prelude.{IfSome, MatchResult, OnOk}
 use Rattle.pam_conf.specs.declared.stack.TheConstants.{MAX_MODULES}
 use Rattle.pam_dispatch.specs.Flat.{modules_of}
@@ -11,6 +12,7 @@ use Rattle.pam_paths.specs.declared.direction.Direction.TheVariants.{Forward, Ba
 use Rattle.pam_paths.specs.declared.frames.Frame.{Frame}
 use Rattle.pam_paths.specs.Cursor.{IsAccepted, IsRefusal, Verdict, HasVerdict, accepted, verdict_told}
 use Rattle.pam_paths.specs.Computed.{listing}
+use Rattle.pam_paths.specs.Directions.{IsListingFrom}
 use Rattle.pam_paths.specs.Frames.{AreFrames, IsExploring, part}
 use Rattle.pam_paths.specs.Listing.{Allowance, IsLawful, IsListingAfter, IsListingBefore}
 use Rattle.pam_paths.specs.Paths.{PathValue, path_of}
@@ -35,14 +37,12 @@ told_refused n runs k e rise ok is = told_by (verdict_told e) n runs k (verdict_
 
 module _ (allows : Allowance) (n : ℕ) (runs : Runs) (k : List ℕ) (paths : List PathValue)
     (rise : AsksRise 0 n runs) (lawful : IsLawful allows n) (e : verdict_of runs k ≡ accepted) where
-  listing_after : paths ≡ part Forward allows runs k → IsListingAfter allows n (path_of runs) k paths
-  listing_after is =
+  listing_from : (d : Direction) → paths ≡ part d allows runs k → IsListingFrom d allows n (path_of runs) k paths
+  listing_from Forward is =
       let a = some_assignment allows n lawful in
       subst (IsListingAfter allows n (path_of runs) k) (sym (is ∙ part-after allows runs k e))
       (after-is allows n (path_of runs) k (listing allows runs) (listing-is allows n runs rise a.0 a.1))
-
-  listing_before : paths ≡ part Backward allows runs k → IsListingBefore allows n (path_of runs) k paths
-  listing_before is =
+  listing_from Backward is =
       let a = some_assignment allows n lawful in
       subst (IsListingBefore allows n (path_of runs) k) (sym (is ∙ part-before allows runs k e))
       (before-is allows n (path_of runs) k (listing allows runs) (listing-is allows n runs rise a.0 a.1))
@@ -56,18 +56,16 @@ module _ (n : ℕ) (runs : Runs) (codes k : List ℕ) (same : codes ≡ k) (rise
   pub accepted_at : All (λ code. code < 31) codes → verdict_of runs codes ≡ accepted → HasVerdict n (path_of runs) k accepted
   accepted_at ok is = subst (λ (x : List ℕ). HasVerdict n (path_of runs) x accepted) same (told_accepted n runs codes rise ok is)
 
-  module _ (allows : Allowance) (paths : List PathValue) (lawful : IsLawful allows n) (is : verdict_of runs codes ≡ accepted) where
-    pub after_at : paths ≡ part Forward allows runs codes → IsListingAfter allows n (path_of runs) k paths
-    after_at e = subst (λ (x : List ℕ). IsListingAfter allows n (path_of runs) x paths) same (listing_after allows n runs codes paths rise lawful is e)
-
-    pub before_at : paths ≡ part Backward allows runs codes → IsListingBefore allows n (path_of runs) k paths
-    before_at e = subst (λ (x : List ℕ). IsListingBefore allows n (path_of runs) x paths) same (listing_before allows n runs codes paths rise lawful is e)
+  pub from_at : (d : Direction) (allows : Allowance) (paths : List PathValue) → IsLawful allows n → verdict_of runs codes ≡ accepted →
+      paths ≡ part d allows runs codes → IsListingFrom d allows n (path_of runs) k paths
+  from_at d allows paths lawful is e =
+      subst (λ (x : List ℕ). IsListingFrom d allows n (path_of runs) x paths) same (listing_from allows n runs codes paths rise lawful is d e)
 
 -- THE SAME, OF A CALL THAT MAY REFUSE THE CURSOR
 
 pub exploring_on : (r : Result (Unit {0}) CursorError) (allows : Allowance) (program : List Entry) (frames : List Frame) → modules_of program ≤ MAX_MODULES
-    → OnOk r (AreFrames allows program 0 frames) → OnOk r (IsExploring allows program None frames)
-exploring_on (Ok x) allows program frames few valid = record { few = few; valid = valid; start = tt }
+    → OnOk r (AreFrames allows program 0 frames) → OnOk r (IsExploring allows program false frames)
+exploring_on (Ok x) allows program frames few valid = record { few = few; valid = valid; start = λ e. absurd (false≢true e) }
 exploring_on (Err e) allows program frames few valid = tt
 
 module _ (n : ℕ) (runs : Runs) (codes k : List ℕ) (same : codes ≡ k) (rise : AsksRise 0 n runs) where
@@ -83,10 +81,7 @@ module _ (n : ℕ) (runs : Runs) (codes k : List ℕ) (same : codes ≡ k) (rise
     abbrev Lists : Result (Unit {0}) CursorError → Type 0
     Lists r = OnOk r ((direction : Direction) → paths direction ≡ part direction allows runs codes)
 
-    pub after_on : (r : Result (Unit {0}) CursorError) → IsJudged r → Lists r → OnOk r (IsListingAfter allows n (path_of runs) k (paths Forward))
-    after_on (Ok x) h lists = after_at n runs codes k same rise allows (paths Forward) lawful h (lists Forward)
-    after_on (Err e) h lists = tt
-
-    pub before_on : (r : Result (Unit {0}) CursorError) → IsJudged r → Lists r → OnOk r (IsListingBefore allows n (path_of runs) k (paths Backward))
-    before_on (Ok x) h lists = before_at n runs codes k same rise allows (paths Backward) lawful h (lists Backward)
-    before_on (Err e) h lists = tt
+    pub from_on : (r : Result (Unit {0}) CursorError) → IsJudged r → Lists r →
+        (d : Direction) → OnOk r (IsListingFrom d allows n (path_of runs) k (paths d))
+    from_on (Ok x) h lists d = from_at n runs codes k same rise d allows (paths d) lawful h (lists d)
+    from_on (Err e) h lists d = tt

@@ -1,11 +1,12 @@
 -- Frames, and the paths that are ahead of them.
 use Rattle.std.proofs.Common.{◌≡◌, ℕ, ◌+◌, ◌<◌, ◌≤◌, List, [], ◌∷◌, ◌++◌, map, refl, sym, ◌∙◌, ap, subst, arith, append_assoc, append-nil, length, reverse}
-use Rattle.std.proofs.Common.{Option, Some, None}
+use Rattle.std.proofs.Common.{Bool, Some, None, false, true}
+use Rattle.std.proofs.lemmas.Bool.{false≢true}
 use Rattle.std.proofs.lemmas.List.{map-append, reverse-reverse}
 use Rattle.pam_codes.specs.Code.{all_codes}
 use Rattle.pam_dispatch.specs.declared.entry.Entry.{Entry}
 use Rattle.pam_dispatch.specs.declared.place.Place.{Place}
-use Rattle.pam_dispatch.specs.Flat.{IsPlaceOf, modules_of, rest_of}
+use Rattle.pam_dispatch.specs.Flat.{IsPlaceOf, modules_of, rest_of, runs_of}
 use Rattle.pam_dispatch.specs.Runs.{AsksRise, Runs, after_answer, asked_module, asks, ends, next_ask, outcome_of}
 use Rattle.pam_paths.specs.declared.classes.Classes.{Classes}
 use Rattle.pam_paths.specs.declared.direction.Direction.{Direction}
@@ -186,20 +187,20 @@ module _ (d : Direction) (allows : Allowance) (program : List Entry) where
       ∙ ap (λ (x : ℕ). map (after_step (step_in g)) below ++ ahead_of d allows r (past d x)) (sym code)
       ∙ ap (λ (x : Runs). map (after_step (step_in g)) below ++ ahead_of d allows x (past d g.code)) here
 
-  -- at a first place the paths are all from there on
-  pub coming-first : (first : Option Place) (fs : List Frame) (place : Place) → first ≡ Some place → IsExploring allows program first fs →
-      coming d allows program first fs ≡ under fs (ordered d (listing allows (rest_of program place))) ++ ahead d allows program fs
+  -- at the start the paths are all from the first place on
+  pub coming-all : (at_start : Bool) (fs : List Frame) (place : Place) → at_start ≡ true → IsExploring allows program at_start fs →
+      rest_of program place ≡ runs_of program →
+      coming d allows program at_start fs ≡ under fs (ordered d (listing allows (rest_of program place))) ++ ahead d allows program fs
   unfolding coming under ahead
-  coming-first None fs place e is = absurd (let k : ⊥ = cc in k)
-  coming-first (Some p) fs place e is =
-      let same : p ≡ place = cc in
-      let none : fs ≡ [] = is.start.2 in
+  coming-all false fs place e is whole = absurd (false≢true e)
+  coming-all true fs place e is whole =
+      let none : fs ≡ [] = is.start refl in
       let all = ordered d (listing allows (rest_of program place)) in
-      ap (λ (x : Place). ordered d (listing allows (rest_of program x))) same
+      ap (λ (x : Runs). ordered d (listing allows x)) (sym whole)
       ∙ sym (append-nil all)
       ∙ ap (λ (x : List Frame). under x all ++ ahead d allows program x) (sym none)
 
-  pub coming-none : (first : Option Place) (fs : List Frame) → first ≡ None → coming d allows program first fs ≡ ahead d allows program fs
+  pub coming-ahead : (at_start : Bool) (fs : List Frame) → at_start ≡ false → coming d allows program at_start fs ≡ ahead d allows program fs
   unfolding coming
-  coming-none None fs e = refl
-  coming-none (Some p) fs e = absurd (let k : ⊥ = cc in k)
+  coming-ahead false fs e = refl
+  coming-ahead true fs e = absurd (false≢true (sym e))

@@ -1,12 +1,13 @@
 -- Classes of codes, computed part by part of a control.
 use Rattle.std.proofs.Common.{◌≡◌, ◌≢◌, ℕ, ◌+◌, ◌<◌, ◌≤◌, ◌==◌, ◌&&◌, ◌||◌, Bool, true, false, not, List, [], ◌∷◌, cond, refl, sym, ◌∙◌, ap, subst, inl}
-use Rattle.std.proofs.Common.{inr, arith, length, take, get_or, zero, suc, Some, None}
+use Rattle.std.proofs.Common.{inr, arith, length, take, get_or, zero, suc, Option, Some, None}
 use Rattle.std.specs.Prelude.{filter, slice_get}
 use Rattle.std.specs.List.{list_any, range_with_len}
 use Rattle.std.proofs.lemmas.Bool.{and_from, and_parts, cases_Bool, cases_eq, cond-false, cond-true, eq-eqb, eqb-true, false≢true, ne_eqb, or_cases, or_left}
 use Rattle.std.proofs.lemmas.Bool.{or_right}
 use Rattle.std.proofs.lemmas.List.{take_all}
 use Rattle.std.proofs.lemmas.List.Folds.{list_any_more, list_any-from_Any}
+use Rattle.std.specs.Prelude.{IfSome}
 use Rattle.pam_codes.specs.declared.parts.Part.{Part}
 use Rattle.pam_codes.specs.Code.{all_codes}
 use Rattle.pam_codes.specs.Parts.{IsPart, IsParts}
@@ -36,6 +37,10 @@ is_in-Member codes c h = list_any_from (λ k. k == c) codes c h (eq-eqb c c refl
 pub first-in : (codes : List ℕ) (c : ℕ) → slice_get codes 0 ≡ Some c → is_in c codes ≡ true
 first-in [] c h = absurd (let x : ⊥ = cc in x)
 first-in (d ∷ codes) c h = let e : d ≡ c = cc in or_left (d == c) _ (eq-eqb d c e)
+
+pub first-inside : (codes : List ℕ) (found : Option ℕ) → found ≡ slice_get codes 0 → IfSome found (λ code. is_in code codes ≡ true)
+first-inside codes None e = tt
+first-inside codes (Some c) e = first-in codes c (sym e)
 
 pub filled-first : (codes : List ℕ) → 0 < length codes → slice_get codes 0 ≡ None → ⊥
 filled-first [] h e = omega (arith, h)

@@ -1,6 +1,6 @@
 -- The end of a path on which the answers no longer matter.
 use Rattle.std.proofs.Common.{◌≡◌, ◌≢◌, ℕ, ◌+◌, ◌-◌, ◌<◌, ◌≤◌, true, false, List, [], ◌∷◌, ◌++◌, zero, suc, refl, sym, ◌∙◌, ap}
-use Rattle.std.proofs.Common.{arith, append-nil, drop, length, length-append, length-drop, map, reverse, take, None}
+use Rattle.std.proofs.Common.{arith, append-nil, drop, length, length-append, length-drop, map, reverse, take}
 use Rattle.std.specs.Prelude.{◌==◌}
 use Rattle.std.specs.List.{list_any}
 use Rattle.std.proofs.Math.Seq.{drop-append_seam, take-nil}
@@ -270,7 +270,7 @@ tail-room last first count alike = sym (length-map last step_seen) ∙ ap length
 pub first-path : (d : Direction) (allows : Allowance) (program : List Entry) (before : List PathValue) (frames : List Frame) (rest : Rest)
     (steps : List PathStep) (decision : ℕ) → before ≡ path_to (modules_of program) frames rest ∷ ahead d allows program frames →
     map step_seen steps ≡ map step_in frames ++ alike_from (modules_of program + 1 - rest.modules) rest.modules → decision ≡ rest.decision →
-    before ≡ record { steps = map step_seen steps; decision = decision } ∷ coming d allows program None frames
+    before ≡ record { steps = map step_seen steps; decision = decision } ∷ coming d allows program false frames
 unfolding coming
 first-path d allows program before frames rest steps decision is told decided =
     is ∙ ap (λ (l : List StepValue). record { steps = l; decision = rest.decision } ∷ ahead d allows program frames) (sym told)

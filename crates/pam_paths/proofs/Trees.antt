@@ -11,7 +11,10 @@ use Rattle.pam_paths.specs.Cursor.{IsAccepted, IsNotLeast, IsRefusal, IsTooLong,
 use Rattle.pam_paths.specs.declared.cursor.CursorError.{CursorError}
 use Rattle.pam_paths.specs.declared.cursor.CursorError.TheVariants.{Syntax, NotLeast, TooShort, TooLong}
 use Rattle.pam_paths.specs.Laws.{PathOfStack}
-use Rattle.pam_paths.specs.Listing.{Allowance, IsListing, IsListingAfter, IsListingBefore}
+use Rattle.pam_paths.specs.declared.direction.Direction.{Direction}
+use Rattle.pam_paths.specs.declared.direction.Direction.TheVariants.{Forward, Backward}
+use Rattle.pam_paths.specs.Directions.{IsListingFrom}
+use Rattle.pam_paths.specs.Listing.{Allowance, IsAllowedPath, IsListing}
 use Rattle.pam_paths.specs.Paths.{PathValue, StepValue, key, path_of, path_through, step_by}
 
 value : List StepValue → ℕ → PathValue
@@ -27,33 +30,27 @@ path_of-tree : (runs : Runs) (items : Items) → runs ≡ runs_of_stack items �
 path_of-tree runs items is answers = ap (λ (r : Runs). path_of r answers) is ∙ path_of-stack items answers
 
 module _ (allows : Allowance) (n : ℕ) (runs : Runs) (items : Items) (is : runs ≡ runs_of_stack items) where
+  on_tree : (p : PathValue) → IsAllowedPath allows n (path_of runs) p → IsAllowedPath allows n (path_through items) p
+  on_tree p w = (w.0, w.1, w.2 ∙ path_of-tree runs items is w.0)
+
+  on_run : (p : PathValue) → IsAllowedPath allows n (path_through items) p → IsAllowedPath allows n (path_of runs) p
+  on_run p w = (w.0, w.1, w.2 ∙ sym (path_of-tree runs items is w.0))
+
   pub listing-tree : (paths : List PathValue) → IsListing allows n (path_of runs) paths → IsListing allows n (path_through items) paths
   listing-tree paths h = record {
     rising = h.rising;
-    members = λ p. (
-      λ m. let w = (h.members p).0 m in (w.0, w.1, w.2 ∙ path_of-tree runs items is w.0),
-      λ w. (h.members p).1 (w.0, w.1, w.2 ∙ sym (path_of-tree runs items is w.0)),
-    );
+    members = λ p. (λ m. on_tree p ((h.members p).0 m), λ w. (h.members p).1 (on_run p w));
   }
 
-  pub after-tree : (k : List ℕ) (paths : List PathValue) →
-      IsListingAfter allows n (path_of runs) k paths → IsListingAfter allows n (path_through items) k paths
-  after-tree k paths h = record {
+  pub from-tree : (d : Direction) (k : List ℕ) (paths : List PathValue) →
+      IsListingFrom d allows n (path_of runs) k paths → IsListingFrom d allows n (path_through items) k paths
+  from-tree Forward k paths h = record {
     rising = h.rising;
-    members = λ p. (
-      λ m. let w = (h.members p).0 m in ((w.0.0, w.0.1, w.0.2 ∙ path_of-tree runs items is w.0.0), w.1),
-      λ w. (h.members p).1 ((w.0.0, w.0.1, w.0.2 ∙ sym (path_of-tree runs items is w.0.0)), w.1),
-    );
+    members = λ p. (λ m. let w = (h.members p).0 m in (on_tree p w.0, w.1), λ w. (h.members p).1 (on_run p w.0, w.1));
   }
-
-  pub before-tree : (k : List ℕ) (paths : List PathValue) →
-      IsListingBefore allows n (path_of runs) k paths → IsListingBefore allows n (path_through items) k paths
-  before-tree k paths h = record {
+  from-tree Backward k paths h = record {
     falling = h.falling;
-    members = λ p. (
-      λ m. let w = (h.members p).0 m in ((w.0.0, w.0.1, w.0.2 ∙ path_of-tree runs items is w.0.0), w.1),
-      λ w. (h.members p).1 ((w.0.0, w.0.1, w.0.2 ∙ sym (path_of-tree runs items is w.0.0)), w.1),
-    );
+    members = λ p. (λ m. let w = (h.members p).0 m in (on_tree p w.0, w.1), λ w. (h.members p).1 (on_run p w.0, w.1));
   }
 
 -- codes have the same verdict among the paths through an open run and through its tree

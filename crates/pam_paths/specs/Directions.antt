@@ -2,12 +2,19 @@
 use Rattle.std.specs.Prelude.{ℕ, ◌+◌, ◌<◌, ◌≤◌, List, reverse}
 use Rattle.pam_paths.specs.declared.direction.Direction.{Direction}
 use Rattle.pam_paths.specs.declared.direction.Direction.TheVariants.{Forward, Backward}
+use Rattle.pam_dispatch.specs.Runs.{Assignment}
+use Rattle.pam_paths.specs.Listing.{Allowance, IsListingAfter, IsListingBefore}
 use Rattle.pam_paths.specs.Paths.{PathValue}
 
 -- paths in the order of a direction
 abbrev pub ordered : Direction → List PathValue → List PathValue
 ordered Forward paths = paths
 ordered Backward paths = reverse paths
+
+-- the part of a listing after a key, or before it
+abbrev pub IsListingFrom : Direction → Allowance → ℕ → (Assignment → PathValue) → List ℕ → List PathValue → Type 0
+IsListingFrom Forward allows n path_by k paths = IsListingAfter allows n path_by k paths
+IsListingFrom Backward allows n path_by k paths = IsListingBefore allows n path_by k paths
 
 -- the bound with every code ahead, and the bound with the codes after a code ahead
 abbrev pub outset : Direction → ℕ

@@ -1,14 +1,13 @@
 -- For proofs alone: the part of a listing that is left, by the frames of the path that an explorer returned last.
-use Rattle.std.specs.Prelude.{◌≡◌, ℕ, true, false, ◌+◌, ◌-◌, ◌<◌, ◌≤◌, if◌then◌else◌, List, [], ◌∷◌, ◌++◌, length, map, reverse, take}
-use Rattle.std.specs.Prelude.{Option, None, Some, IfSome}
+use Rattle.std.specs.Prelude.{◌≡◌, ℕ, Bool, true, false, ◌+◌, ◌-◌, ◌<◌, ◌≤◌, if◌then◌else◌, List, [], ◌∷◌, ◌++◌, length, map, reverse, take}
+use Rattle.std.specs.Prelude.{Some}
 use Rattle.std.specs.List.{range_with_len}
 use Rattle.pam_codes.specs.Set.{codes_where, is_in}
 use Rattle.pam_conf.specs.declared.stack.TheConstants.{MAX_MODULES}
 use Rattle.pam_dispatch.specs.declared.entry.Entry.{Entry}
-use Rattle.pam_dispatch.specs.declared.place.Place.{Place}
 use Rattle.pam_dispatch.specs.declared.tail.Rest.{Rest}
 use Rattle.pam_dispatch.specs.declared.step.Outcome.{Outcome}
-use Rattle.pam_dispatch.specs.Flat.{rest_of, IsPlaceOf, modules_of}
+use Rattle.pam_dispatch.specs.Flat.{IsPlaceOf, modules_of, rest_of, runs_of}
 use Rattle.pam_dispatch.specs.Runs.{Ask, Runs, ends, asks, AsksRise, asked_module, next_ask, outcome_of}
 use Rattle.pam_paths.specs.declared.classes.Classes.{Classes}
 use Rattle.pam_paths.specs.declared.direction.Direction.{Direction}
@@ -69,11 +68,12 @@ part direction allows (asks ask next) (code ∷ codes) =
 abbrev pub offered_at : Allowance → Runs → List ℕ
 offered_at allows runs = codes_where (is_offered allows (next_ask runs))
 
--- the classes computed for a module that is asked: any other code is alone in its class, and the class computed
--- last is the class of each of its codes
+-- the classes computed for a module that is asked: any other code is alone in its class, and the two classes computed
+-- last are the classes of their codes
 pub record AreClasses (ask : Ask) (classes : Classes) : Type 0 where
   pub alone : (code : ℕ) → code < 31 → is_in code classes.shared ≡ false → class_of ask code ≡ code ∷ []
   pub whole : (code : ℕ) → code < 31 → is_in code classes.known ≡ true → class_of ask code ≡ classes.known
+  pub earlier : (code : ℕ) → code < 31 → is_in code classes.earlier ≡ true → class_of ask code ≡ classes.earlier
 
 -- a frame is at a module of the program; this module and those asked later have numbers above `low`
 pub record IsFrame (allows : Allowance) (program : List Entry) (low : ℕ) (frame : Frame) : Type 0 where
@@ -89,18 +89,13 @@ unfoldable pub AreFrames : Allowance → List Entry → ℕ → List Frame → T
 AreFrames allows program low [] = Unit {0}
 AreFrames allows program low (frame ∷ frames) = IsFrame allows program low frame × AreFrames allows program (low + 1) frames
 
--- the paths left: those from the first place on until it is left, and then those ahead of the frames
-unfoldable pub coming : Direction → Allowance → List Entry → Option Place → List Frame → List PathValue
-coming direction allows program (Some place) frames = ordered direction (listing allows (rest_of program place))
-coming direction allows program None frames = ahead direction allows program frames
+-- the paths left: at the start all, then those ahead of the frames
+unfoldable pub coming : Direction → Allowance → List Entry → Bool → List Frame → List PathValue
+coming direction allows program true frames = ordered direction (listing allows (runs_of program))
+coming direction allows program false frames = ahead direction allows program frames
 
--- a first place is a place of the program, with no frames before it
-abbrev pub IsFirst : List Entry → List Frame → Place → Type 0
-IsFirst program frames place =
-    IsPlaceOf program place × AsksRise 0 (modules_of program) (rest_of program place) × (frames ≡ [])
-
--- a first place, or frames of a program
-pub record IsExploring (allows : Allowance) (program : List Entry) (first : Option Place) (frames : List Frame) : Type 0 where
+-- the frames of an explorer are of its program; there are none at the start
+pub record IsExploring (allows : Allowance) (program : List Entry) (at_start : Bool) (frames : List Frame) : Type 0 where
   pub few : modules_of program ≤ MAX_MODULES
   pub valid : AreFrames allows program 0 frames
-  pub start : IfSome first (IsFirst program frames)
+  pub start : at_start ≡ true → frames ≡ []

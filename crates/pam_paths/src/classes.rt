@@ -1,6 +1,6 @@
 //! Classes of codes that a run does not tell apart, computed part by part of a control.
 
-ghost use Rattle.std.specs.Prelude.{◌≡◌, ◌<◌, ◌≤◌, ◌==◌, ◌&&◌, ℕ, All, IfNone, IfSome, IsSome, IsTrue, Some, if◌then◌else◌};
+ghost use Rattle.std.specs.Prelude.{◌≡◌, ◌<◌, ◌≤◌, ◌==◌, ◌&&◌, ℕ, All, IfNone, IfSome, IsTrue, Some, if◌then◌else◌, slice_get};
 ghost use Rattle.std.specs.List.{list_any};
 ghost use Rattle.pam_codes.specs.Code.{all_codes};
 ghost use Rattle.pam_codes.specs.Parts.{IsPart, IsParts};
@@ -14,7 +14,7 @@ ghost use Rattle.pam_paths.specs.Listing.{Allowance};
 ghost use Rattle.pam_paths.specs.Sharing.{is_offered_by, keeps_failure, shared_code};
 
 use pam_codes::{Action, Code, CodeSet, Part};
-use pam_dispatch::{Impression, Outcome, Place, Program, State};
+use pam_dispatch::{Asked, Impression, Outcome, Place, Program, State};
 
 /// The classes computed for a module that is asked.
 #[derive(Clone, Copy, Debug)]
@@ -25,6 +25,8 @@ pub(crate) struct Classes {
     pub(crate) shared: CodeSet,
     /// The class computed last.
     pub(crate) known: CodeSet,
+    /// The class computed before it.
+    pub(crate) earlier: CodeSet,
 }
 
 impl Default for Classes {
@@ -33,6 +35,7 @@ impl Default for Classes {
             offered: CodeSet::empty(),
             shared: CodeSet::empty(),
             known: CodeSet::empty(),
+            earlier: CodeSet::empty(),
         }
     }
 }
@@ -56,30 +59,21 @@ fn is_same(one: &Outcome, other: &Outcome) -> bool
         && one.left == other.left
 }
 
-/// Whether `code` leads to `outcome`.
+/// Whether `code`, whose action is `action`, leads to `outcome`.
 #[inline(always)]
-fn leads_to(program: &Program, place: &Place, code: Code, outcome: &Outcome) -> bool
-    requires place { IsPlaceOf program.now place.now }
-    requires asking { IsSome (asked_module (rest_of program.now place.now)) }
-    ensures { result ≡ same_outcome outcome.now (outcome_of (next_ask (rest_of program.now place.now)) code) }
+fn leads_to(asked: &Asked<'_>, action: Action, code: Code, outcome: &Outcome) -> bool
+    requires { slice_get asked.now.control code ≡ Some action }
+    ensures { result ≡ same_outcome outcome.now (outcome_of asked.now code) }
 {
-    is_same(outcome, &program.outcome(place, code))
+    is_same(outcome, &asked.outcome(action, code))
 }
 
 /// The set with `code` alone if it is in `part` and leads to `outcome`; else the empty set.
-fn code_alike(
-    program: &Program,
-    place: &Place,
-    part: &Part,
-    code: Code,
-    outcome: &Outcome,
-) -> CodeSet
-    requires place { IsPlaceOf program.now place.now }
-    requires asking { IsSome (asked_module (rest_of program.now place.now)) }
-    ensures { result ≡ codes_where (λ d. (d == code)
-        && (is_in d part.now.codes && same_outcome outcome.now (outcome_of (next_ask (rest_of program.now place.now)) d))) }
+fn code_alike(asked: &Asked<'_>, part: &Part, code: Code, outcome: &Outcome) -> CodeSet
+    requires { IsPart asked.now.control part.now }
+    ensures { result ≡ codes_where (λ d. (d == code) && (is_in d part.now.codes && same_outcome outcome.now (outcome_of asked.now d))) }
 {
-    if part.codes.contains(code) && leads_to(program, place, code, outcome) {
+    if part.codes.contains(code) && leads_to(asked, part.action, code, outcome) {
         return CodeSet::single(code);
     }
     CodeSet::empty()
@@ -87,19 +81,17 @@ fn code_alike(
 
 /// The codes of `part` that lead to `outcome`. If the action of the part looks at the code, the status determines the
 /// code, except that ignore can count as perm_denied.
-fn codes_alike(program: &Program, place: &Place, part: &Part, outcome: &Outcome) -> CodeSet
-    requires place { IsPlaceOf program.now place.now }
-    requires asking { IsSome (asked_module (rest_of program.now place.now)) }
-    requires part { IsPart (next_ask (rest_of program.now place.now)).control part.now }
-    ensures { result ≡ codes_where (λ d. is_in d part.now.codes && same_outcome outcome.now (outcome_of (next_ask (rest_of program.now place.now)) d)) }
+fn codes_alike(asked: &Asked<'_>, part: &Part, outcome: &Outcome) -> CodeSet
+    requires { IsPart asked.now.control part.now }
+    ensures { result ≡ codes_where (λ d. is_in d part.now.codes && same_outcome outcome.now (outcome_of asked.now d)) }
 {
-    if place.state().looks_at_code(part.action) {
-        let told = code_alike(program, place, part, outcome.state.status, outcome);
-        return told.union(code_alike(program, place, part, Code::IGNORE, outcome));
+    if asked.state().looks_at_code(part.action) {
+        let told = code_alike(asked, part, outcome.state.status, outcome);
+        return told.union(code_alike(asked, part, Code::IGNORE, outcome));
     }
     match part.codes.least() {
         Some(code) => {
-            if leads_to(program, place, code, outcome) {
+            if leads_to(asked, part.action, code, outcome) {
                 part.codes
             } else {
                 CodeSet::empty()
@@ -110,15 +102,13 @@ fn codes_alike(program: &Program, place: &Place, part: &Part, outcome: &Outcome)
 }
 
 /// The codes that lead to `outcome`.
-fn class_at(program: &Program, place: &Place, parts: &[Part], outcome: &Outcome) -> CodeSet
-    requires place { IsPlaceOf program.now place.now }
-    requires asking { IsSome (asked_module (rest_of program.now place.now)) }
-    requires parts { IsParts (next_ask (rest_of program.now place.now)).control parts.now }
-    ensures { result ≡ class_at (next_ask (rest_of program.now place.now)) outcome.now }
+fn class_at(asked: &Asked<'_>, parts: &[Part], outcome: &Outcome) -> CodeSet
+    requires { IsParts asked.now.control parts.now }
+    ensures { result ≡ class_at asked.now outcome.now }
 {
     let mut class = CodeSet::empty();
     for part in parts {
-        class = class.union(codes_alike(program, place, part, outcome));
+        class = class.union(codes_alike(asked, part, outcome));
     }
     class
 }
@@ -126,7 +116,8 @@ fn class_at(program: &Program, place: &Place, parts: &[Part], outcome: &Outcome)
 /// A code of `part` whose class can have further codes: any code if the action of the part does not look at it,
 /// otherwise perm_denied, since ignore can count as perm_denied.
 fn shared_code(part: &Part, state: State) -> Option<Code>
-    ensures { result ≡ shared_code part.now state }
+    ensures code { result ≡ shared_code part.now state }
+    ensures inside { IfSome result (λ code. IsTrue (is_in code part.now.codes)) }
 {
     if !state.looks_at_code(part.action) {
         return part.codes.least();
@@ -156,6 +147,7 @@ fn with_least(codes: CodeSet, class: CodeSet) -> CodeSet
 /// The shared code of `part`, unless it is in `seen`, the classes computed so far.
 fn unseen_code(part: &Part, state: State, seen: CodeSet) -> Option<Code>
     ensures some { IfSome result (λ code. shared_code part.now state ≡ Some code) }
+    ensures inside { IfSome result (λ code. IsTrue (is_in code part.now.codes)) }
     ensures none { IfNone result (IfSome (shared_code part.now state) (λ code. IsTrue (is_in code seen))) }
 {
     match shared_code(part, state) {
@@ -204,33 +196,35 @@ impl Classes {
             else is_in d allowed) }
         ensures shared { result.shared ≡ all_codes }
         ensures known { result.known ≡ all_codes }
+        ensures earlier { result.earlier ≡ all_codes }
     {
         let every = CodeSet::all();
         Classes {
             offered: with_least(allowed, every),
             shared: every,
             known: every,
+            earlier: every,
         }
     }
 
-    /// The classes at `place`. At first every allowed code is offered; then, part by part, only one code of each class
-    /// that can have further ones.
-    fn by_parts(program: &Program, place: &Place, parts: &[Part], allowed: CodeSet) -> Classes
-        requires place { IsPlaceOf program.now place.now }
-        requires asking { IsSome (asked_module (rest_of program.now place.now)) }
-        requires parts { IsParts (next_ask (rest_of program.now place.now)).control parts.now }
+    /// The classes of the answers of a module. At first every allowed code is offered; then, part by part, only one code
+    /// of each class that can have further ones.
+    fn by_parts(asked: &Asked<'_>, parts: &[Part], allowed: CodeSet) -> Classes
+        requires parts { IsParts asked.now.control parts.now }
         requires allowed { IsCodeSet allowed }
-        ensures offered { result.offered ≡ codes_where (is_offered_by allowed (next_ask (rest_of program.now place.now))) }
-        ensures classes { AreClasses (next_ask (rest_of program.now place.now)) result }
+        ensures offered { result.offered ≡ codes_where (is_offered_by allowed asked.now) }
+        ensures classes { AreClasses asked.now result }
     {
         let mut offered = allowed;
         let mut shared = CodeSet::empty();
         let mut known = CodeSet::empty();
+        let mut earlier = CodeSet::empty();
         for part in parts {
-            if let Some(code) = unseen_code(part, place.state(), shared) {
-                let class = class_at(program, place, parts, &program.outcome(place, code));
+            if let Some(code) = unseen_code(part, asked.state(), shared) {
+                let class = class_at(asked, parts, &asked.outcome(part.action, code));
                 offered = with_least(offered, class);
                 shared = shared.union(class);
+                earlier = known;
                 known = class;
             }
         }
@@ -238,6 +232,7 @@ impl Classes {
             offered,
             shared,
             known,
+            earlier,
         }
     }
 
@@ -258,10 +253,11 @@ impl Classes {
         ensures classes { AreClasses (next_ask (rest_of program.now place.now)) result }
     {
         let parts = program.parts(module_number).as_slice();
-        if has_failed(place.state()) && all_keep_failure(parts) {
+        let asked = program.asked(place);
+        if has_failed(asked.state()) && all_keep_failure(parts) {
             return Classes::of_one(allowed);
         }
-        Classes::by_parts(program, place, parts, allowed)
+        Classes::by_parts(&asked, parts, allowed)
     }
 
     /// The class of `code` for the module asked at `place`.
@@ -283,10 +279,13 @@ impl Classes {
         if self.known.contains(code) {
             return self.known;
         }
+        if self.earlier.contains(code) {
+            return self.earlier;
+        }
         if !self.shared.contains(code) {
             return CodeSet::single(code);
         }
         let parts = program.parts(module_number).as_slice();
-        class_at(program, place, parts, &program.outcome(place, code))
+        class_at(&program.asked(place), parts, &program.outcome(place, code))
     }
 }

@@ -1,7 +1,7 @@
 //! The explorer of the paths that allowed answers can follow.
 
 ghost use Rattle.std.specs.Prelude.{◌≡◌, ◌+◌, ◌-◌, ◌*◌, ◌≤◌, ◌∷◌, ◌++◌, [], length, take};
-ghost use Rattle.std.specs.Prelude.{None, IfSome, IfNone, IfOk, MatchOption, MatchResult, OnOk};
+ghost use Rattle.std.specs.Prelude.{false, IfSome, IfNone, IfOk, MatchOption, MatchResult, OnOk};
 ghost use Rattle.std.specs.Iterator.{MakesProgress, YieldsFirst, item_count};
 ghost use Rattle.pam_conf.specs.Stack.{Items};
 ghost use Rattle.pam_dispatch.specs.Flat.{IsPlaceOf, modules_of, rest_of, runs_of};
@@ -10,9 +10,9 @@ ghost use Rattle.pam_dispatch.specs.Tree.{runs_of_stack};
 ghost use Rattle.pam_paths.specs.declared.direction.Direction.{Direction};
 ghost use Rattle.pam_paths.specs.Computed.{listing};
 ghost use Rattle.pam_paths.specs.Cursor.{IsAccepted, IsRefusal};
-ghost use Rattle.pam_paths.specs.Directions.{ordered};
+ghost use Rattle.pam_paths.specs.Directions.{IsListingFrom, ordered};
 ghost use Rattle.pam_paths.specs.Frames.{AreFirstSteps, AreFrames, IsExploring, ahead, coming, under};
-ghost use Rattle.pam_paths.specs.Listing.{IsListing, IsListingAfter, IsListingBefore};
+ghost use Rattle.pam_paths.specs.Listing.{IsListing, IsListingAfter};
 ghost use Rattle.pam_paths.specs.Paths.{path_of, path_through};
 
 use crate::cursor::{Cursor, CursorError};
@@ -23,17 +23,19 @@ use crate::path::Path;
 use crate::retrace::retrace;
 use crate::tail::AlikeSteps;
 use arrayvec::ArrayVec;
-use pam_dispatch::{Place, Program, Work};
+use pam_dispatch::{MAX_MODULES, Place, Program, Work};
 use std::marker::Model;
 
-/// An iterator over the paths that allowed answers can follow, in the order of the least codes of their classes.
+/// An iterator over the paths that allowed answers can follow: all of them or those after a cursor, in the order of the
+/// least codes of their classes, or those before a cursor, last first.
 #[derive(Drop)]
 pub struct Explorer<'a, K: Knowledge> {
     program: &'a Program,
     knowledge: &'a K,
-    /// The place at which the first path begins, until that path is returned.
-    first: Option<Place>,
-    /// The modules asked on the path returned last.
+    direction: Direction,
+    /// Whether the next path is the first of all.
+    at_start: bool,
+    /// The modules asked on the path returned last, at first on that of the cursor.
     frames: Frames,
     /// The path returned last.
     path: Path,
@@ -44,20 +46,19 @@ pub struct Explorer<'a, K: Knowledge> {
 
 impl<'a, K: Knowledge> Model for Explorer<'a, K> {
     ghost use Rattle.pam_dispatch.specs.Flat.{modules_of};
-    ghost use Rattle.pam_paths.specs.declared.direction.Direction.{Direction};
     ghost use Rattle.pam_paths.specs.Exploration.{Exploration};
     ghost use Rattle.pam_paths.specs.Frames.{AreFirstSteps, IsExploring, coming};
 
     ghost Value = { Exploration };
 
     ghost view = { λ e. record {
-      coming = coming Direction.Forward (K.allows e.knowledge.now) e.program.now e.first e.frames.items;
+      coming = coming e.direction (K.allows e.knowledge.now) e.program.now e.at_start e.frames.items;
       path = e.path;
       work = e.work;
       modules = modules_of e.program.now;
     } };
 
-    ghost invariant = { λ e. IsExploring (K.allows e.knowledge.now) e.program.now e.first e.frames.items
+    ghost invariant = { λ e. IsExploring (K.allows e.knowledge.now) e.program.now e.at_start e.frames.items
         × AreFirstSteps e.frames.items e.path.steps };
 }
 
@@ -66,26 +67,26 @@ fn go_on<K: Knowledge>(
     program: &Program,
     knowledge: &K,
     direction: Direction,
-    first: Option<Place>,
+    at_start: bool,
     frames: &mut Frames,
     work: &mut Work,
 ) -> Option<Place>
-    requires exploring { IsExploring (K.allows knowledge.now) program.now first frames.old.items }
-    ensures none { IfNone result (coming direction (K.allows knowledge.now) program.now first frames.old.items ≡ []) }
+    requires exploring { IsExploring (K.allows knowledge.now) program.now at_start frames.old.items }
+    ensures none { IfNone result (coming direction (K.allows knowledge.now) program.now at_start frames.old.items ≡ []) }
     ensures emptied { IfNone result (frames.new.items ≡ []) }
     ensures place { IfSome result (λ p. IsPlaceOf program.now p) }
     ensures frames { AreFrames (K.allows knowledge.now) program.now 0 frames.new.items }
     ensures rise { IfSome result (λ p. AsksRise (length frames.new.items) (modules_of program.now) (rest_of program.now p)) }
     ensures earlier { take (length frames.new.items - 1) frames.new.items ≡ take (length frames.new.items - 1) frames.old.items }
-    ensures paths { IfSome result (λ p. coming direction (K.allows knowledge.now) program.now first frames.old.items
+    ensures paths { IfSome result (λ p. coming direction (K.allows knowledge.now) program.now at_start frames.old.items
         ≡ under frames.new.items (ordered direction (listing (K.allows knowledge.now) (rest_of program.now p)))
         ++ ahead direction (K.allows knowledge.now) program.now frames.new.items) }
     ensures work { work.new ≤ work.old + modules_of program.now }
 {
-    match first {
-        Some(place) => Some(place),
-        None => advance(program, knowledge, direction, frames, work),
+    if at_start {
+        return Some(program.first());
     }
+    advance(program, knowledge, direction, frames, work)
 }
 
 /// The number of first steps that stay, of `steps` steps, if only the last of `frames` frames may have changed.
@@ -101,28 +102,28 @@ fn shared_count(steps: usize, frames: usize) -> usize
 
 /// Makes `path` the next path in `direction`. Returns the number of its first steps that it shares with the path before
 /// it; `None` if no path is left, and then `path` has no steps.
-pub(crate) fn follow<K: Knowledge>(
+fn follow<K: Knowledge>(
     program: &Program,
     knowledge: &K,
     direction: Direction,
-    first: Option<Place>,
+    at_start: bool,
     frames: &mut Frames,
     path: &mut Path,
     alike: &AlikeSteps,
     work: &mut Work,
 ) -> Option<usize>
-    requires exploring { IsExploring (K.allows knowledge.now) program.now first frames.old.items }
+    requires exploring { IsExploring (K.allows knowledge.now) program.now at_start frames.old.items }
     requires steps { AreFirstSteps frames.old.items path.old.steps }
-    ensures exploring { IsExploring (K.allows knowledge.now) program.now None frames.new.items }
+    ensures exploring { IsExploring (K.allows knowledge.now) program.now false frames.new.items }
     ensures steps { AreFirstSteps frames.new.items path.new.steps }
-    ensures none { IfNone result (coming direction (K.allows knowledge.now) program.now first frames.old.items ≡ []) }
-    ensures stays { IfNone result (coming direction (K.allows knowledge.now) program.now None frames.new.items ≡ []) }
-    ensures path { IfSome result (λ _. coming direction (K.allows knowledge.now) program.now first frames.old.items
-        ≡ path.new ∷ coming direction (K.allows knowledge.now) program.now None frames.new.items) }
+    ensures none { IfNone result (coming direction (K.allows knowledge.now) program.now at_start frames.old.items ≡ []) }
+    ensures stays { IfNone result (coming direction (K.allows knowledge.now) program.now false frames.new.items ≡ []) }
+    ensures path { IfSome result (λ _. coming direction (K.allows knowledge.now) program.now at_start frames.old.items
+        ≡ path.new ∷ coming direction (K.allows knowledge.now) program.now false frames.new.items) }
     ensures shared { IfSome result (λ shared. take shared path.new.steps ≡ take shared path.old.steps) }
     ensures work { work.new ≤ work.old + 64 * (modules_of program.now + 1) }
 {
-    let Some(place) = go_on(program, knowledge, direction, first, frames, work) else {
+    let Some(place) = go_on(program, knowledge, direction, at_start, frames, work) else {
         path.steps.truncate(0);
         path.tail = 0;
         return None;
@@ -137,7 +138,7 @@ pub(crate) fn follow<K: Knowledge>(
 }
 
 /// Pushes the frames from which the paths after `cursor` follow, and those before it. Refuses it like `after`.
-pub(crate) fn frames_at<K: Knowledge>(
+fn frames_at<K: Knowledge>(
     program: &Program,
     knowledge: &K,
     cursor: &Cursor,
@@ -151,11 +152,9 @@ pub(crate) fn frames_at<K: Knowledge>(
     ensures tree { (items : Items) → runs_of program.now ≡ runs_of_stack items → MatchResult result
         (λ _. IsAccepted (modules_of program.now) (path_through items) cursor.now)
         (IsRefusal (modules_of program.now) (path_through items) cursor.now) }
-    ensures exploring { OnOk result (IsExploring (K.allows knowledge.now) program.now None frames.new.items) }
-    ensures after { OnOk result (IsListingAfter (K.allows knowledge.now) (modules_of program.now) (path_of (runs_of program.now))
-        cursor.now (coming Direction.Forward (K.allows knowledge.now) program.now None frames.new.items)) }
-    ensures before { OnOk result (IsListingBefore (K.allows knowledge.now) (modules_of program.now) (path_of (runs_of program.now))
-        cursor.now (coming Direction.Backward (K.allows knowledge.now) program.now None frames.new.items)) }
+    ensures exploring { OnOk result (IsExploring (K.allows knowledge.now) program.now false frames.new.items) }
+    ensures listing { (direction : Direction) → OnOk result (IsListingFrom direction (K.allows knowledge.now) (modules_of program.now)
+        (path_of (runs_of program.now)) cursor.now (coming direction (K.allows knowledge.now) program.now false frames.new.items)) }
     ensures work { work.new ≤ work.old + 64 * (modules_of program.now + 1) }
 {
     retrace(program, knowledge, cursor.codes(), frames, work)
@@ -173,10 +172,14 @@ impl<'a, K: Knowledge> Explorer<'a, K> {
         ensures modules { result.modules ≡ modules_of program.now }
         ensures work { result.work ≡ 0 }
     {
+        // So there is room for the frames of each path.
+        let modules = program.modules();
+        prove!(modules <= MAX_MODULES);
         Explorer {
             program,
             knowledge,
-            first: Some(program.first()),
+            direction: Direction::Forward,
+            at_start: true,
             frames: ArrayVec::new(),
             path: Path::empty(),
             alike: AlikeSteps::new(),
@@ -208,6 +211,32 @@ impl<'a, K: Knowledge> Explorer<'a, K> {
         ensures modules { IfOk result (λ e. e.modules ≡ modules_of program.now) }
         ensures work { IfOk result (λ e. e.work ≤ 64 * (modules_of program.now + 1)) }
     {
+        Explorer::at(program, knowledge, Direction::Forward, cursor)
+    }
+
+    /// Explores the paths after `cursor`, or those before it. Refuses it like `after`.
+    #[inline(never)]
+    pub(crate) fn at(
+        program: &'a Program,
+        knowledge: &'a K,
+        direction: Direction,
+        cursor: &Cursor,
+    ) -> Result<Explorer<'a, K>, CursorError>
+        ensures verdict { MatchResult result
+            (λ _. IsAccepted (modules_of program.now) (path_of (runs_of program.now)) cursor.now)
+            (IsRefusal (modules_of program.now) (path_of (runs_of program.now)) cursor.now) }
+        ensures listing { IfOk result (λ e. IsListingFrom direction (K.allows knowledge.now) (modules_of program.now) (path_of (runs_of program.now))
+            cursor.now e.coming) }
+
+        // The same for the tree of the program's stack.
+        ensures tree { (items : Items) → runs_of program.now ≡ runs_of_stack items → MatchResult result
+            (λ _. IsAccepted (modules_of program.now) (path_through items) cursor.now)
+            (IsRefusal (modules_of program.now) (path_through items) cursor.now) }
+        ensures stack { (items : Items) → runs_of program.now ≡ runs_of_stack items → IfOk result (λ e.
+            IsListingFrom direction (K.allows knowledge.now) (modules_of program.now) (path_through items) cursor.now e.coming) }
+        ensures modules { IfOk result (λ e. e.modules ≡ modules_of program.now) }
+        ensures work { IfOk result (λ e. e.work ≤ 64 * (modules_of program.now + 1)) }
+    {
         let mut frames = ArrayVec::new();
         let mut work = Work::new();
         match frames_at(program, knowledge, cursor, &mut frames, &mut work) {
@@ -215,7 +244,8 @@ impl<'a, K: Knowledge> Explorer<'a, K> {
             Ok(()) => Ok(Explorer {
                 program,
                 knowledge,
-                first: None,
+                direction,
+                at_start: false,
                 frames,
                 path: Path::empty(),
                 alike: AlikeSteps::new(),
@@ -232,12 +262,13 @@ impl<'a, K: Knowledge> Explorer<'a, K> {
         ensures modules { self.new.modules ≡ self.old.modules }
         ensures work { self.new.work ≤ self.old.work + 64 * (self.old.modules + 1) }
     {
-        let first = self.first.take();
+        let at_start = self.at_start;
+        self.at_start = false;
         follow(
             self.program,
             self.knowledge,
-            Direction::Forward,
-            first,
+            self.direction,
+            at_start,
             &mut self.frames,
             &mut self.path,
             &self.alike,

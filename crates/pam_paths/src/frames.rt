@@ -27,10 +27,10 @@ pub(crate) type Frames = ArrayVec<Frame, MAX_MODULES>;
 pub(crate) struct Frame {
     pub(crate) place: Place,
     pub(crate) module_number: u16,
-    pub(crate) classes: Classes,
     /// The least code of the class that is followed.
     pub(crate) code: Code,
     pub(crate) class: CodeSet,
+    pub(crate) classes: Classes,
 }
 
 impl Default for Frame {
@@ -144,6 +144,19 @@ impl Frame {
         }
     }
 
+    /// Follows `branch`.
+    #[inline(always)]
+    fn follow(&mut self, branch: &Branch)
+        ensures place { self.new.place ≡ self.old.place }
+        ensures number { self.new.module_number ≡ self.old.module_number }
+        ensures classes { self.new.classes ≡ self.old.classes }
+        ensures code { self.new.code ≡ branch.now.code }
+        ensures class { self.new.class ≡ branch.now.class }
+    {
+        self.code = branch.code;
+        self.class = branch.class;
+    }
+
     /// The frame with `branch` followed.
     #[inline(always)]
     pub(crate) fn following(self, branch: &Branch) -> Frame
@@ -182,12 +195,15 @@ pub(crate) fn advance<K: Knowledge>(
         ++ ahead direction (K.allows knowledge.now) program.now frames.new.items) }
     ensures work { work.new ≤ work.old + length frames.old.items }
 {
-    while let Some(frame) = frames.pop() {
+    while !frames.is_empty() {
+        let last = frames.len() - 1;
+        let frame = &frames.as_slice()[last];
         let bound = direction.past(frame.code);
         if let Some(branch) = frame.branch_ahead(program, direction, bound, work) {
-            frames.push(frame.following(&branch));
+            frames.as_mut_slice()[last].follow(&branch);
             return Some(branch.place);
         }
+        frames.truncate(last);
     }
     None
 }

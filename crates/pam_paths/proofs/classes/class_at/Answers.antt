@@ -1,19 +1,17 @@
-use Rattle.pam_dispatch.specs.Flat.{rest_of}
-use Rattle.pam_dispatch.specs.Runs.{next_ask}
 use Rattle.pam_paths.proofs.Sharing.{class-all, class-more, class-none}
 use Rattle.pam_paths.proofs.classes.class_at.Goals as goal
 
 pub loop-part-init : goal.loop-part-init
-loop-part-init c = class-none (next_ask (rest_of c.args.program.now c.args.place.now)) c.args.outcome.now c.empty-class.result c.args.parts.now
+loop-part-init c = class-none c.args.asked.now c.args.outcome.now c.empty-class.result c.args.parts.now
     c.empty-class.ensures
 
 pub loop-part-preserved : goal.loop-part-preserved
 loop-part-preserved c =
-    class-more (next_ask (rest_of c.args.program.now c.args.place.now)) c.args.outcome.now c.args.parts.now c.loop-part.part-index c.part-item.result
+    class-more c.args.asked.now c.args.outcome.now c.args.parts.now c.loop-part.part-index c.part-item.result
     c.loop-part.class c.codes_alike.result c.union-class.result c.loop-part-test.true c.part-item.is c.loop-part.invariant c.codes_alike.ensures
     c.union-class.ensures
 
 pub returns : goal.returns
 returns c =
-    class-all (next_ask (rest_of c.args.program.now c.args.place.now)) c.args.outcome.now c.args.parts.now c.loop-part.part-index c.loop-part.class
-    c.requires.parts c.loop-part-test.false c.loop-part.invariant
+    class-all c.args.asked.now c.args.outcome.now c.args.parts.now c.loop-part.part-index c.loop-part.class
+    c.requires c.loop-part-test.false c.loop-part.invariant

@@ -1,12 +1,11 @@
 use Rattle.std.proofs.Common.{◌≡◌, ◌&&◌, take}
 use Rattle.std.specs.List.{list_any}
 use Rattle.pam_codes.specs.Set.{codes_where, is_in}
-use Rattle.pam_dispatch.specs.Flat.{rest_of}
-use Rattle.pam_dispatch.specs.Runs.{next_ask, outcome_of}
+use Rattle.pam_dispatch.specs.Runs.{outcome_of}
 use Rattle.pam_paths.specs.Classes.{same_outcome}
 use Rattle.pam_paths.proofs.classes.class_at.Given as goal
 
 abbrev pub invariant-loop-part : goal.invariant-loop-part
 invariant-loop-part l =
     l.class ≡ codes_where (λ d. list_any (λ p. is_in d p.codes) (take l.part-index l.parts) && same_outcome l.outcome
-    (outcome_of (next_ask (rest_of l.program l.place)) d))
+    (outcome_of l.asked d))

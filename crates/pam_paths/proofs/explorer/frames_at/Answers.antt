@@ -1,7 +1,7 @@
 use Rattle.std.proofs.Common.{arith}
 use Rattle.pam_dispatch.specs.Flat.{modules_of, runs_of}
 use Rattle.pam_paths.specs.Frames.{ahead, coming}
-use Rattle.pam_paths.proofs.Ends.{after_on, before_on, exploring_on, verdict_on}
+use Rattle.pam_paths.proofs.Ends.{exploring_on, from_on, verdict_on}
 use Rattle.pam_paths.proofs.Trees.{verdict-tree}
 use Rattle.pam_paths.proofs.explorer.frames_at.Goals as goal
 
@@ -16,20 +16,11 @@ returns-clause-tree g c items is = verdict-tree _ _ items is c.args.cursor.now c
 pub returns-clause-exploring : goal.returns-clause-exploring
 returns-clause-exploring g c = exploring_on c.retrace.result _ _ _ c.retrace.ensures.few c.retrace.ensures.frames
 
-pub returns-clause-after : goal.returns-clause-after
+pub returns-clause-listing : goal.returns-clause-listing
 unfolding coming
-returns-clause-after g c =
+returns-clause-listing g c direction =
     let allows = g.K.Knowledge.allows c.args.knowledge.now in
-    after_on (modules_of c.args.program.now) (runs_of c.args.program.now) c.codes.result.now c.args.cursor.now c.codes.ensures.value
+    from_on (modules_of c.args.program.now) (runs_of c.args.program.now) c.codes.result.now c.args.cursor.now c.codes.ensures.value
     c.retrace.ensures.rise allows (λ d. ahead d allows c.args.program.now c.retrace.new.frames.items)
     (λ m first last. g.met.K.Knowledge.lawful c.args.knowledge.now m first (omega (arith, last, c.retrace.ensures.few)))
-    c.retrace.result c.retrace.ensures.verdict c.retrace.ensures.paths
-
-pub returns-clause-before : goal.returns-clause-before
-unfolding coming
-returns-clause-before g c =
-    let allows = g.K.Knowledge.allows c.args.knowledge.now in
-    before_on (modules_of c.args.program.now) (runs_of c.args.program.now) c.codes.result.now c.args.cursor.now c.codes.ensures.value
-    c.retrace.ensures.rise allows (λ d. ahead d allows c.args.program.now c.retrace.new.frames.items)
-    (λ m first last. g.met.K.Knowledge.lawful c.args.knowledge.now m first (omega (arith, last, c.retrace.ensures.few)))
-    c.retrace.result c.retrace.ensures.verdict c.retrace.ensures.paths
+    c.retrace.result c.retrace.ensures.verdict c.retrace.ensures.paths direction

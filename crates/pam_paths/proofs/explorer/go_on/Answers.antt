@@ -1,24 +1,24 @@
 use Rattle.std.proofs.Common.{arith}
-use Rattle.pam_paths.proofs.FrameLists.{AreFrames-length, coming-first, coming-none}
+use Rattle.pam_paths.proofs.FrameLists.{AreFrames-length, coming-ahead, coming-all}
 use Rattle.pam_paths.proofs.explorer.go_on.Goals as goal
 
-pub returns-in-Some-clause-paths : goal.returns-in-Some-clause-paths
-returns-in-Some-clause-paths g c =
-    coming-first c.args.direction (g.K.Knowledge.allows c.args.knowledge.now) c.args.program.now c.args.first c.args.frames.now.items
-    c.in-Some.place c.in-Some.is c.requires.exploring
+pub returns-then-at_start-clause-paths : goal.returns-then-at_start-clause-paths
+returns-then-at_start-clause-paths g c =
+    coming-all c.args.direction (g.K.Knowledge.allows c.args.knowledge.now) c.args.program.now c.args.at_start c.args.frames.now.items
+    c.first.result c.if-at_start.true c.requires.exploring c.first.ensures.whole
 
-pub returns-in-None-clause-none : goal.returns-in-None-clause-none
-returns-in-None-clause-none g c =
-    rw (coming-none c.args.direction (g.K.Knowledge.allows c.args.knowledge.now) c.args.program.now c.args.first c.args.frames.now.items c.in-None.is)
+pub returns-clause-none : goal.returns-clause-none
+returns-clause-none g c =
+    rw (coming-ahead c.args.direction (g.K.Knowledge.allows c.args.knowledge.now) c.args.program.now c.args.at_start c.args.frames.now.items c.if-at_start.false)
     c.advance.ensures.none
 
-pub returns-in-None-clause-paths : goal.returns-in-None-clause-paths
-returns-in-None-clause-paths g c =
-    rw (coming-none c.args.direction (g.K.Knowledge.allows c.args.knowledge.now) c.args.program.now c.args.first c.args.frames.now.items c.in-None.is)
+pub returns-clause-paths : goal.returns-clause-paths
+returns-clause-paths g c =
+    rw (coming-ahead c.args.direction (g.K.Knowledge.allows c.args.knowledge.now) c.args.program.now c.args.at_start c.args.frames.now.items c.if-at_start.false)
     c.advance.ensures.paths
 
-pub returns-in-None-clause-work : goal.returns-in-None-clause-work
-returns-in-None-clause-work g c =
+pub returns-clause-work : goal.returns-clause-work
+returns-clause-work g c =
     let k = AreFrames-length (g.K.Knowledge.allows c.args.knowledge.now) c.args.program.now 0 c.args.frames.now.items
     (omega arith) c.requires.exploring.valid in
     omega (arith, c.advance.ensures.work, k)

@@ -2,8 +2,8 @@ use Rattle.std.proofs.Common.{◌≡◌, ◌+◌, ◌≤◌, length, take}
 use Rattle.pam_paths.specs.Frames.{ahead, AreFrames}
 use Rattle.pam_paths.proofs.frames.advance.Given as goal
 
-abbrev pub invariant-loop-frame : goal.invariant-loop-frame
-invariant-loop-frame g l =
+abbrev pub invariant-loop-direction : goal.invariant-loop-direction
+invariant-loop-direction g l =
     let allows = g.K.Knowledge.allows l.knowledge in
     record {
       frames : AreFrames allows l.program 0 l.frames.items;
@@ -12,5 +12,5 @@ invariant-loop-frame g l =
       work : l.work + length l.frames.items ≤ l.initial.work + length l.initial.frames.items;
     }
 
-abbrev pub decreases-loop-frame : goal.decreases-loop-frame
-decreases-loop-frame g l = length l.frames.items
+abbrev pub decreases-loop-direction : goal.decreases-loop-direction
+decreases-loop-direction g l = length l.frames.items

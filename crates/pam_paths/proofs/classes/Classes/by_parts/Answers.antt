@@ -3,40 +3,37 @@ use Rattle.std.specs.Prelude.{IfSome, IsTrue}
 use Rattle.std.specs.List.{list_any}
 use Rattle.std.proofs.lemmas.Bool.{false≢true}
 use Rattle.pam_codes.specs.Set.{is_in}
-use Rattle.pam_dispatch.specs.Flat.{rest_of}
-use Rattle.pam_dispatch.specs.Runs.{next_ask}
 use Rattle.pam_paths.specs.Classes.{class_at}
 use Rattle.pam_paths.specs.Sharing.{is_shared, shared_code}
-use Rattle.pam_paths.proofs.OfferedCodes.{class-alone, class-whole, outcome-asked, past-all, past-first, past-kept, past-more, past-some, seen-kept, seen-more}
-use Rattle.pam_paths.proofs.OfferedCodes.{shared-asked}
+use Rattle.pam_paths.proofs.OfferedCodes.{class-alone, class-whole, past-all, past-first, past-kept, past-more, past-some, seen-kept, seen-more}
 use Rattle.pam_paths.proofs.Sharing.{nothing_passes}
 use Rattle.pam_paths.proofs.classes.Classes.by_parts.Goals as goal
 use Rattle.pam_paths.proofs.classes.Classes.by_parts.Goals.{in-Some, in_default}
 
 pub loop-part-init : goal.loop-part-init
 loop-part-init c =
-    let ask = next_ask (rest_of c.args.program.now c.args.place.now) in
+    let ask = c.args.asked.now in
     record {
       offered = past-first ask c.args.allowed c.args.parts.now c.requires.allowed;
       shared = nothing_passes c.empty-shared.result (λ d. list_any (is_shared ask d) (take 0 c.args.parts.now)) c.empty-shared.ensures (λ d low. refl);
       whole = λ d low h. absurd (false≢true (sym (ap (is_in d) c.empty-known.ensures) ∙ h));
+      earlier = λ d low h. absurd (false≢true (sym (ap (is_in d) c.empty-earlier.ensures) ∙ h));
     }
 
 pub loop-part-preserved : goal.loop-part-preserved
 loop-part-preserved c =
-    let r = rest_of c.args.program.now c.args.place.now in
-    let ask = next_ask r in
+    let ask = c.args.asked.now in
     let parts = c.args.parts.now in
     let i = c.loop-part.part-index in
     let part = c.part-item.result in
     let l = c.loop-part.invariant in
-    let at = c.state.ensures c.args.program.now c.requires.place in
+    let at = c.state.ensures in
     elim c.match-unseen_code.branch [
       | in-Some w ↦
           let code = w.in-Some.code in
           let class = w.class_at-class.result in
-          let of : shared_code part ask.state ≡ Some code = shared-asked r part c.state.result (Some code) at (sym w.in-Some.ensures.some) in
-          let is = w.class_at-class.ensures ∙ ap (class_at ask) (sym w.outcome.ensures ∙ outcome-asked r code c.requires.asking) in
+          let of : shared_code part ask.state ≡ Some code = ap (shared_code part) (sym at) ∙ w.in-Some.ensures.some in
+          let is = w.class_at-class.ensures ∙ ap (class_at ask) (sym w.outcome.ensures) in
           record {
             offered = w.offered-is
                 ∙ past-more ask c.args.allowed parts i part c.loop-part.offered w.with_least-offered.result c.loop-part-test.true c.part-item.is l.offered
@@ -46,27 +43,30 @@ loop-part-preserved c =
                 w.union-shared.ensures;
             whole = λ d low h.
                 class-whole ask class code d is low (sym (ap (is_in d) w.known-is) ∙ h) ∙ sym w.known-is;
+            earlier = λ d low h. l.whole d low (sym (ap (is_in d) w.earlier-is) ∙ h) ∙ sym w.earlier-is;
           }
       | in_default w ↦
           let seen : IfSome (shared_code part ask.state) (λ d. IsTrue (is_in d c.loop-part.shared)) =
           subst (λ (x : Option ℕ). IfSome x (λ d. IsTrue (is_in d c.loop-part.shared)))
-          (sym (shared-asked r part c.state.result (shared_code part c.state.result) at refl)) w.in_default.ensures.none in
+          (ap (shared_code part) at) w.in_default.ensures.none in
           record {
             offered = w.offered-is
                 ∙ past-kept ask parts i part c.loop-part.shared c.loop-part-test.true c.part-item.is l.shared c.args.allowed c.loop-part.offered seen l.offered;
             shared = w.shared-is ∙ seen-kept ask parts i part c.loop-part.shared c.loop-part-test.true c.part-item.is l.shared seen;
             whole = λ d low h. l.whole d low (sym (ap (is_in d) w.known-is) ∙ h) ∙ sym w.known-is;
+            earlier = λ d low h. l.earlier d low (sym (ap (is_in d) w.earlier-is) ∙ h) ∙ sym w.earlier-is;
           }
     ]
 
 pub returns-clause-offered : goal.returns-clause-offered
 returns-clause-offered c =
-    past-all (next_ask (rest_of c.args.program.now c.args.place.now)) c.args.parts.now c.requires.parts c.args.allowed c.loop-part.offered
+    past-all c.args.asked.now c.args.parts.now c.requires.parts c.args.allowed c.loop-part.offered
     c.loop-part.part-index c.loop-part-test.false c.loop-part.invariant.offered
 
 pub returns-clause-classes : goal.returns-clause-classes
 returns-clause-classes c = record {
-  alone = class-alone (next_ask (rest_of c.args.program.now c.args.place.now)) c.args.parts.now c.requires.parts c.loop-part.shared c.loop-part.part-index
+  alone = class-alone c.args.asked.now c.args.parts.now c.requires.parts c.loop-part.shared c.loop-part.part-index
       c.loop-part-test.false c.loop-part.invariant.shared;
   whole = c.loop-part.invariant.whole;
+  earlier = c.loop-part.invariant.earlier;
 }

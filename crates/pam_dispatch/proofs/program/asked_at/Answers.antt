@@ -1,0 +1,31 @@
+use Rattle.std.proofs.Common.{rules, ◌∙◌, sym, subst}
+use Rattle.pam_dispatch.specs.Flat.{IsBounded}
+use Rattle.pam_dispatch.proofs.Places.{place_within, place_no_substack, place_asked}
+use Rattle.pam_dispatch.proofs.program.asked_at.Goals as goal
+
+pub bounds-entries-place : goal.bounds-entries-place
+bounds-entries-place c = place_within c.args.entries.now c.args.place.now c.requires.place c.requires.asking
+
+pub offset_bounds-entries-place : goal.offset_bounds-entries-place
+offset_bounds-entries-place c =
+    let within = place_within c.args.entries.now c.args.place.now c.requires.place c.requires.asking in search rules
+
+pub at-requires : goal.at-requires
+at-requires c =
+    let e = c.index-entries-place in
+    let within = place_within c.args.entries.now c.args.place.now c.requires.place c.requires.asking in
+    (subst IsBounded (sym e.is ∙ c.in-Module.is) (c.requires.entries c.args.place.now.position e.result within)).0
+
+pub unreachable-requires : goal.unreachable-requires
+unreachable-requires c =
+    let e = c.index-entries-place in
+    let within = place_within c.args.entries.now c.args.place.now c.requires.place c.requires.asking in
+    place_no_substack c.args.entries.now c.args.place.now c.requires.place e.result _ within (sym e.is ∙ c.in-Substack.is)
+
+pub returns : goal.returns
+returns c =
+    let e = c.index-entries-place in
+    let m = c.in-Module in
+    let within = place_within c.args.entries.now c.args.place.now c.requires.place c.requires.asking in
+    place_asked c.args.entries.now c.args.place.now c.requires.place e.result m.level m.number m.control m.items_after within (sym e.is ∙ m.is)
+    c.at.result c.at.ensures

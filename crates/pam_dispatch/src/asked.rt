@@ -1,0 +1,51 @@
+//! A module that is asked.
+
+ghost use Rattle.std.specs.Prelude.{◌≡◌, Some, slice_get};
+ghost use Rattle.pam_dispatch.specs.Runs.{outcome_of};
+
+use crate::state::State;
+use crate::step::Outcome;
+use pam_codes::{Action, Code, Control};
+use std::marker::Model;
+
+/// A module as it is asked: what the outcomes of its answers depend on.
+#[derive(Debug, Drop)]
+pub struct Asked<'a> {
+    pub(crate) module_number: usize,
+    pub(crate) control: &'a Control,
+    pub(crate) state: State,
+    /// The state in which its list was entered.
+    pub(crate) entry: State,
+    pub(crate) items_after: usize,
+}
+
+impl<'a> Model for Asked<'a> {
+    ghost use Rattle.pam_dispatch.specs.Runs.{Ask};
+
+    ghost Value = { Ask };
+
+    ghost view = { λ a. record {
+      module_number = a.module_number;
+      control = a.control.now;
+      state = a.state;
+      entry = a.entry;
+      after = a.items_after;
+    } };
+}
+
+impl Asked<'_> {
+    /// The state of the run before the answer.
+    pub fn state(&self) -> State
+        ensures { result ≡ self.now.state }
+    {
+        self.state
+    }
+
+    /// The outcome of `code`, whose action is `action`.
+    pub fn outcome(&self, action: Action, code: Code) -> Outcome
+        requires { slice_get self.now.control code ≡ Some action }
+        ensures { outcome_of self.now code ≡ result }
+    {
+        Outcome::of(action, code, self.state, self.entry, self.items_after)
+    }
+}
