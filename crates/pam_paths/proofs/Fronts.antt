@@ -1,8 +1,5 @@
 -- The first elements of a list that grows or shrinks at its end.
-use Rattle.std.specs.List.{refill}
-use Rattle.std.specs.Prelude.{slice_set}
-use Rattle.std.proofs.Common.{◌≡◌, ℕ, ◌+◌, ◌-◌, ◌<◌, ◌≤◌, ◌∷◌, ◌++◌, [], List, get_or, length, map, take, arith, ap, sym, ◌∙◌, length-append, append-nil, drop_of_length-le}
-use Rattle.std.proofs.lemmas.List.{get_or_default, length-set, take_all, take_more, take_more_set}
+use Rattle.std.proofs.Common.{◌≡◌, ℕ, ◌-◌, ◌≤◌, ◌∷◌, ◌++◌, [], List, length, map, take, arith, ap, sym, ◌∙◌, length-append}
 use Rattle.std.proofs.lemmas.List.{length-take, length-take-le, take-append-le, take-map, take-take, take_at}
 use Rattle.pam_paths.specs.declared.frames.Frame.{Frame}
 use Rattle.pam_paths.specs.Frames.{AreFirstSteps, step_in}
@@ -28,34 +25,6 @@ module _ {A : Type 0} (all xs : List A) where
   front_pushed ys x front pushed =
       let within : length all ≤ length xs = omega (arith, ap length front, length-take (length all) xs) in
       ap (take (length all)) pushed ∙ take-append-le (length all) xs (x ∷ []) within ∙ front
-
--- a list that is refilled by one of its own length is that one
-refill_same : {A : Type 0} (xs ws : List A) → length ws ≡ length xs → refill (length xs) xs ws ≡ ws
-refill_same xs ws same =
-    ap (λ rest. take (length xs) (ws ++ rest)) (drop_of_length-le xs (omega arith))
-    ∙ ap (take (length xs)) (append-nil ws) ∙ take_all (length xs) ws (omega arith)
-
--- the last element of a list, read, replaced and read again
-module _ {A : Type 0} (items : List A) (n : ℕ) (count : n ≡ length items) (some : 0 < n) where
-  pub last_split : (now : List A) (x : A) → now ≡ items → x ≡ get_or now (n - 1) x → items ≡ take (n - 1) items ++ x ∷ []
-  last_split now x same at =
-      sym (take_all ((n - 1) + 1) items (omega (arith, count, some)))
-      ∙ take_more items (n - 1) x (omega (arith, count, some))
-      ∙ ap (λ (y : A). take (n - 1) items ++ y ∷ []) (sym (at ∙ ap (λ (l : List A). get_or l (n - 1) x) same))
-
-  pub last_put : (now : List A) (x : A) → now ≡ items → refill (length items) items (slice_set now (n - 1) x) ≡ take (n - 1) items ++ x ∷ []
-  last_put now x same =
-      let long : length (slice_set items (n - 1) x) ≡ length items = length-set items (n - 1) x in
-      ap (λ (l : List A). refill (length items) items (slice_set l (n - 1) x)) same
-      ∙ refill_same items (slice_set items (n - 1) x) long
-      ∙ sym (take_all ((n - 1) + 1) (slice_set items (n - 1) x) (omega (arith, long, count, some)))
-      ∙ take_more_set items (n - 1) x (omega (arith, count, some))
-
-  pub last_same : (now later : List A) (x y : A) → now ≡ items → later ≡ items → x ≡ get_or now (n - 1) x → get_or later (n - 1) y ≡ x
-  last_same now later x y first second at =
-      ap (λ (l : List A). get_or l (n - 1) y) second
-      ∙ get_or_default items (n - 1) y x (omega (arith, count, some))
-      ∙ sym (at ∙ ap (λ (l : List A). get_or l (n - 1) x) first)
 
 -- the steps that a path shares with the one before it: those of the frames that were neither changed nor added
 pub shared_steps : (steps : List StepValue) (before mid after : List Frame) (shared : ℕ) → AreFirstSteps before steps

@@ -7,6 +7,7 @@ pub mod FrameLists
 pub mod Fronts
 pub mod Keys
 pub mod KnownCodes
+pub mod LastFrames
 pub mod LawProofs
 pub mod Listings
 pub mod Narrowing
@@ -17,7 +18,7 @@ pub mod Parts
 pub mod Retracing
 pub mod Sets
 pub mod Sharing
-pub mod Verdicts
 pub mod Tails
 pub mod Trees
+pub mod Verdicts
 pub mod WrittenCursors

@@ -215,7 +215,8 @@ impl<'a, K: Knowledge> Explorer<'a, K> {
     }
 
     /// Explores the paths after `cursor`, or those before it. Refuses it like `after`.
-    #[inline(never)]
+    // Inlined: else the stack has room for the explorer twice.
+    #[inline(always)]
     pub(crate) fn at(
         program: &'a Program,
         knowledge: &'a K,

@@ -13,7 +13,7 @@ loop-position-preserved-then-here-level c =
     let e = l.invariant.rest in
     record {
       rest = at_index-deeper c.args.program.now l.position c.index-program-position.result c.index-program-position.result c.loop-position-test.true
-          (sym c.index-program-position.is) l.level l.skip _ c.loop-position.place.state (omega (arith, c.level-here.ensures))
+          (sym c.index-program-position.is) l.level l.skip _ l.place.state (omega (arith, c.level-here.ensures))
           ∙ e;
       state = l.invariant.state;
       below = l.invariant.below;
@@ -26,7 +26,7 @@ loop-position-preserved-then-skip-gt0 c =
     let l = c.loop-position in
     record {
       rest = at_index-item c.args.program.now l.position c.index-program-position.result c.index-program-position.result c.loop-position-test.true
-          (sym c.index-program-position.is) l.level l.skip _ c.loop-position.place.state (omega (arith, c.level-here.ensures)) c.if-skip-gt0.true
+          (sym c.index-program-position.is) l.level l.skip _ l.place.state (omega (arith, c.level-here.ensures)) c.if-skip-gt0.true
           ∙ l.invariant.rest;
       state = l.invariant.state;
       below = l.invariant.below;
@@ -48,14 +48,14 @@ loop-position-preserved c =
       | else-here-level-2-via-else-here-level-2 w ↦ λ e p. w.if-here-level-2.false e
     ] in
     record {
-      rest = ap (λ (x : List State). resume (drop (l.position + 1) c.args.program.now) (here + 1) 0 (take (here + 2) x) c.loop-position.place.state) c.enter.ensures
+      rest = ap (λ (x : List State). resume (drop (l.position + 1) c.args.program.now) (here + 1) 0 (take (here + 2) x) l.place.state) c.enter.ensures
           ∙ at_substack c.args.program.now l.position c.index-program-position.result here c.loop-position-test.true is l.place.entered.states l.depth
-          l.level l.skip c.loop-position.place.state
+          l.level l.skip l.place.state
           low stays l.invariant.below (omega (arith, l.invariant.full)) ∙ l.invariant.rest;
       state = l.invariant.state;
       below = omega arith;
       shallow = omega arith;
-      full = ap (λ (x : List State). length x) c.enter.ensures ∙ length-set l.place.entered.states (here + 1) c.loop-position.place.state ∙ l.invariant.full;
+      full = ap (λ (x : List State). length x) c.enter.ensures ∙ length-set l.place.entered.states (here + 1) l.place.state ∙ l.invariant.full;
     }
 
 pub returns-in-Module-clause-place : goal.returns-in-Module-clause-place
@@ -81,7 +81,7 @@ returns-in-Module-clause-rest c =
       | else-here-level-2-via-else-here-level-2 w ↦ λ e p. w.if-here-level-2.false e
     ] in
     at_module c.args.program.now l.position c.index-program-position.result here m.number m.control m.items_after c.loop-position-test.true is
-    l.place.entered.states c.loop-position.place.state
+    l.place.entered.states l.place.state
     l.depth l.level l.skip c.if-here-level.false stays l.invariant.below ∙ l.invariant.rest
 
 pub returns-clause-place : goal.returns-clause-place

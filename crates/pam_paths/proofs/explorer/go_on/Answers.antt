@@ -9,13 +9,13 @@ returns-then-at_start-clause-paths g c =
 
 pub returns-clause-none : goal.returns-clause-none
 returns-clause-none g c =
-    rw (coming-ahead c.args.direction (g.K.Knowledge.allows c.args.knowledge.now) c.args.program.now c.args.at_start c.args.frames.now.items c.if-at_start.false)
-    c.advance.ensures.none
+    let allows = g.K.Knowledge.allows c.args.knowledge.now in
+    rw (coming-ahead c.args.direction allows c.args.program.now c.args.at_start c.args.frames.now.items c.if-at_start.false) c.advance.ensures.none
 
 pub returns-clause-paths : goal.returns-clause-paths
 returns-clause-paths g c =
-    rw (coming-ahead c.args.direction (g.K.Knowledge.allows c.args.knowledge.now) c.args.program.now c.args.at_start c.args.frames.now.items c.if-at_start.false)
-    c.advance.ensures.paths
+    let allows = g.K.Knowledge.allows c.args.knowledge.now in
+    rw (coming-ahead c.args.direction allows c.args.program.now c.args.at_start c.args.frames.now.items c.if-at_start.false) c.advance.ensures.paths
 
 pub returns-clause-work : goal.returns-clause-work
 returns-clause-work g c =
