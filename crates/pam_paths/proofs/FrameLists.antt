@@ -1,6 +1,6 @@
 -- Frames, and the paths that are ahead of them.
 use Rattle.std.proofs.Common.{◌≡◌, ℕ, ◌+◌, ◌<◌, ◌≤◌, List, [], ◌∷◌, ◌++◌, map, refl, sym, ◌∙◌, ap, subst, arith, append_assoc, append-nil, length, reverse}
-use Rattle.std.proofs.Common.{Bool, Some, None, false, true}
+use Rattle.std.proofs.Common.{Bool, Some, false, true}
 use Rattle.std.proofs.lemmas.Bool.{false≢true}
 use Rattle.std.proofs.lemmas.List.{map-append, reverse-reverse}
 use Rattle.pam_codes.specs.Code.{all_codes}

@@ -7,8 +7,8 @@ pub mod FrameLists
 pub mod Fronts
 pub mod Keys
 pub mod KnownCodes
-pub mod LawProofs
 pub mod LastFrames
+pub mod LawProofs
 pub mod Listings
 pub mod Narrowing
 pub mod OfferedCodes

@@ -1,5 +1,4 @@
-use Rattle.std.proofs.Common.{ℕ, ap}
-use Rattle.pam_dispatch.specs.declared.state.State.{State}
+use Rattle.std.proofs.Common.{ap}
 use Rattle.pam_dispatch.specs.Runs.{Ask}
 use Rattle.pam_dispatch.proofs.Places.{outcome-made}
 use Rattle.pam_dispatch.proofs.asked.Asked.outcome.Goals as goal
