@@ -1,22 +1,23 @@
-//! The number of steps of a run.
+//! The number of steps of a run, and where no answer changes it any more.
 
 use crate::files::put;
 use pam_codes::Code;
 use pam_conf::{Files, Form, Kind, Stack, resolve};
 use pam_dispatch::{Program, Work};
+use pam_paths::{Explorer, Free};
 use std::alloc::Global;
 use std::test::Fail;
 
-fn stack_of_one(alloc: Global) -> Result<Stack, Fail> {
+fn stack_of(alloc: Global, text: &[u8]) -> Result<Stack, Fail> {
     let mut files = Files::new(alloc, Form::Dir);
-    put(alloc, &mut files, b"login", b"auth required a.so")?;
+    put(alloc, &mut files, b"login", text)?;
     let stack = resolve(alloc, &files, b"login", Kind::Auth)?;
     Ok(stack)
 }
 
 #[test]
 fn work_counts_steps(rt: HostRuntime) -> Result<(), Fail> {
-    let stack = stack_of_one(rt.alloc())?;
+    let stack = stack_of(rt.alloc(), b"auth required a.so")?;
     let program = Program::of(rt.alloc(), &stack)?;
     let place = program.first();
     let mut work = Work::new();
@@ -25,5 +26,39 @@ fn work_counts_steps(rt: HostRuntime) -> Result<(), Fail> {
         program.step(&place, code, &mut work);
     }
     assert_eq!(rt; work.steps(), 2);
+    Ok(())
+}
+
+/// The number of modules that are still asked, if the run of these rules is settled after `code`.
+fn settled_after(alloc: Global, rules: &[u8], code: u8) -> Result<Option<usize>, Fail> {
+    let stack = stack_of(alloc, rules)?;
+    let program = Program::of(alloc, &stack)?;
+    let place = program.first();
+    let (Some(_), Some(code)) = (place.module(), Code::new(code)) else {
+        return Ok(None);
+    };
+    let next = program.step(&place, code, &mut Work::new()).place();
+    Ok(program.settled(&next).map(|rest| rest.modules))
+}
+
+#[test]
+fn no_answer_changes_a_failed_stack(rt: HostRuntime) -> Result<(), Fail> {
+    let rules = b"auth required a.so\nauth required b.so\nauth optional c.so";
+    assert_eq!(rt; settled_after(rt.alloc(), rules, 7)?, Some(2));
+    assert_eq!(rt; settled_after(rt.alloc(), rules, 0)?, None);
+    let rules = b"auth required a.so\nauth requisite b.so\nauth required c.so";
+    assert_eq!(rt; settled_after(rt.alloc(), rules, 7)?, None);
+    Ok(())
+}
+
+#[test]
+fn the_tail_of_a_path_begins_after_a_failure(rt: HostRuntime) -> Result<(), Fail> {
+    let stack = stack_of(rt.alloc(), b"auth required a.so\nauth required b.so")?;
+    let program = Program::of(rt.alloc(), &stack)?;
+    let mut longest = 0;
+    for path in Explorer::start(&program, &Free) {
+        longest = longest.max(path.tail().len());
+    }
+    assert_eq!(rt; longest, 1);
     Ok(())
 }
