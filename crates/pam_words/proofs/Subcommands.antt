@@ -1,10 +1,13 @@
 -- A command with one more argument or subcommand, from the contract of `clap`.
-use Rattle.std.proofs.Common.{◌≡◌, ℕ, ◌+◌, ◌<◌, ◌||◌, Bool, true, false, List, Result, Ok, Err, IfOk, ap₂, refl, subst, ◌∙◌}
+use Rattle.std.proofs.Common.{◌≡◌, ℕ, ◌+◌, ◌<◌, ◌≤◌, ◌||◌, Bool, true, false, List, Result, Ok, Err, IfOk, ap₂, refl, subst, ◌∙◌}
 use Rattle.std.proofs.Common.{add-one, drop, drop-cons, get_or, length, map}
 use Rattle.clap.specs.Words.{AddsArg, AddsSubcommand, App, Rule, Text, app_of, rule_of, with_rule, with_subcommand}
 use Rattle.clap.specs.declared.builder.Arg.{Arg}
 use Rattle.clap.specs.declared.builder.Command.{Command}
 use Rattle.clap.specs.declared.builder.Command.TheViews.{out-Command}
+use Rattle.std.specs.declared.alloc.AllocError.{AllocError}
+use Rattle.std.proofs.lemmas.List.{drop_all}
+use Rattle.pam_words.specs.Building.{IsBuilt}
 use Rattle.pam_words.specs.Words.{option_rule, with_options}
 
 pub add-app : (old sub new : Command) (a b : App) → AddsSubcommand old sub new → (out-Command sub).has_globals ≡ false → app_of old ≡ a → app_of sub ≡ b
@@ -40,6 +43,12 @@ pub IfOk-then : {X E : Type 0} (r : Result X E) (P Q : X → Type 0) → ((x : X
 IfOk-then (Ok x) P Q f h = f x h
 IfOk-then (Err e) P Q f h = tt
 
--- what is said of a result for a value holds for an equal one
-pub IfOk-of : {A X E : Type 0} {one other : A} (r : Result X E) (P : A → X → Type 0) → one ≡ other → IfOk r (P one) → IfOk r (P other)
-IfOk-of {A} r P e h = subst (λ (a : A). IfOk r (P a)) e h
+pub IfOk-at : {X E : Type 0} (r : Result X E) (x : X) (P : X → Type 0) → r ≡ Ok x → IfOk r P → P x
+IfOk-at {X} {E} r x P e h = subst (λ (q : Result X E). IfOk q P) e h
+
+-- a command to which no option is left to add has them all
+pub no-option : {X : Type 0} {all : App} (id : X → Text) (options : List X) (i : ℕ) (app : App) (built : Result Command AllocError) → length options ≤ i
+    → IsBuilt built app → with_options app (map id (drop i options)) ≡ all → IsBuilt built all
+no-option id options i app built none is same =
+    let last = rw (drop_all i options none) at same in
+    subst (λ (a : App). IsBuilt built a) last is

@@ -1,3 +1,4 @@
+pub mod Building
 pub mod Request
 pub mod Wanted
 pub mod Words

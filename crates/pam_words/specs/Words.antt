@@ -40,11 +40,13 @@ abbrev pub with_options : App → List Text → App
 with_options app [] = app
 with_options app (id ∷ ids) = with_options (with_rule app (option_rule id)) ids
 
+-- `NAME SERVICE`
+abbrev pub service_app : Text → App
+service_app name = with_rule (new_app name) (required_rule (codes "service"))
+
 -- `NAME SERVICE KIND`, with `--dir` and `--conf`
 abbrev pub stack_app : Text → App
-stack_app name =
-    with_options (with_rule (with_rule (new_app name) (required_rule (codes "service"))) (required_rule (codes "kind")))
-    (codes "dir" ∷ codes "conf" ∷ [])
+stack_app name = with_options (with_rule (service_app name) (required_rule (codes "kind"))) (codes "dir" ∷ codes "conf" ∷ [])
 
 -- `show SERVICE KIND`
 unfoldable pub show_app : App
@@ -75,9 +77,9 @@ paths_app = with_moment (with_tables (with_login (with_page (stack_app (codes "p
 -- `NAME SERVICE`, with the table given by `--NAME`, a user and a terminal
 abbrev pub login_app : Text → App
 login_app name =
-    with_rule (with_rule (with_rule (with_rule (new_app name)
-    (required_rule (codes "service"))) (required_option_rule name))
-    (required_option_rule (codes "user"))) (option_rule (codes "tty"))
+    with_rule (with_rule (with_rule (service_app name)
+    (required_option_rule name)) (required_option_rule (codes "user")))
+    (option_rule (codes "tty"))
 
 -- `access SERVICE [ARGUMENT]...`
 unfoldable pub access_app : App

@@ -1,16 +1,20 @@
 //! The `clap` command of `pamcheck`.
 
-ghost use Rattle.std.specs.Prelude.{◌≡◌, IfOk, false, map};
-ghost use Rattle.clap.specs.Words.{app_of, new_app, rule_of};
+ghost use Rattle.std.specs.Prelude.{◌≡◌, false, map};
+ghost use Rattle.clap.specs.Words.{App, Rule, app_of, new_app, rule_of, with_rule, with_subcommand};
 ghost use Rattle.clap.specs.declared.builder.Command.TheViews.{out-Command as fields_of};
+ghost use Rattle.pam_words.specs.Building.{IsBuilt};
 ghost use Rattle.pam_words.specs.Words.{access_app, bare_app, decide_app, limit_rule, login_app, option_rule, pamcheck_app, paths_app};
-ghost use Rattle.pam_words.specs.Words.{repeated_rule, required_option_rule, required_rule, show_app, stack_app, time_app};
+ghost use Rattle.pam_words.specs.Words.{repeated_rule, required_option_rule, required_rule, service_app, show_app, stack_app, time_app};
 ghost use Rattle.pam_words.specs.Words.{with_login as with_login_rules, with_moment as with_moment_rules, with_options as with_option_rules};
 ghost use Rattle.pam_words.specs.Words.{with_page as with_page_rules, with_stacks as with_stack_commands, with_tables as with_table_rules};
 
 use crate::limit::limit_parser;
 use clap::{Arg, ArgAction, Command};
 use std::alloc::{AllocError, Global};
+
+/// A command that is built step by step, unless an allocation failed.
+type Built<'a> = Result<Command<'a>, AllocError>;
 
 fn named<'a>(alloc: Global, name: &'a str, about: &'a str) -> Command<'a>
     ensures app { app_of result ≡ new_app name.entry.now }
@@ -71,34 +75,50 @@ fn limit<'a>(alloc: Global) -> Arg<'a>
     .value_parser(limit_parser())
 }
 
+/// Adds an argument.
+fn with_arg<'a>(command: Built<'a>, arg: Arg<'a>) -> Built<'a>
+    requires { arg.global ≡ false }
+    ensures { (app : App) (rule : Rule) → rule_of arg.entry ≡ rule → IsBuilt command.entry app → IsBuilt result (with_rule app rule) }
+{
+    command?.arg(arg)
+}
+
 /// Adds an option `--ID NAME` for each ID, NAME and help.
 fn with_options<'a>(
     alloc: Global,
-    command: Command<'a>,
+    command: Built<'a>,
     options: &[(&'a str, &'a str, &'a str)],
-) -> Result<Command<'a>, AllocError>
-    ensures app { IfOk result (λ c. app_of c ≡ with_option_rules (app_of command.entry) (map (λ o. o.0.now) options.now)) }
-    ensures local { IfOk result (λ c. (fields_of c).has_globals ≡ (fields_of command.entry).has_globals) }
+) -> Built<'a>
+    ensures { (app : App) → IsBuilt command.entry app → IsBuilt result (with_option_rules app (map (λ o. o.0.now) options.now)) }
 {
     let mut command = command;
     for (id, name, help) in options {
-        command = command.arg(option(alloc, id, name, help))?;
+        command = with_arg(command, option(alloc, id, name, help));
     }
-    Ok(command)
+    command
+}
+
+/// Adds a command.
+fn with_command<'a>(command: Built<'a>, added: Built<'a>) -> Built<'a>
+    ensures { (app sub : App) → IsBuilt command.entry app → IsBuilt added.entry sub → IsBuilt result (with_subcommand app sub.top) }
+{
+    command?.subcommand(added?)
+}
+
+/// A command with SERVICE.
+fn service_command<'a>(alloc: Global, name: &'a str, about: &'a str) -> Built<'a>
+    ensures { IsBuilt result (service_app name.entry.now) }
+{
+    let service = positional(alloc, "service", "SERVICE", "The service");
+    with_arg(Ok(named(alloc, name, about)), service)
 }
 
 /// A command with SERVICE, KIND and a source.
-fn stack_command<'a>(
-    alloc: Global,
-    name: &'a str,
-    about: &'a str,
-) -> Result<Command<'a>, AllocError>
-    ensures app { IfOk result (λ c. app_of c ≡ stack_app name.entry.now) }
-    ensures local { IfOk result (λ c. (fields_of c).has_globals ≡ false) }
+fn stack_command<'a>(alloc: Global, name: &'a str, about: &'a str) -> Built<'a>
+    ensures { IsBuilt result (stack_app name.entry.now) }
 {
-    let command = named(alloc, name, about)
-        .arg(positional(alloc, "service", "SERVICE", "The service"))?
-        .arg(positional(alloc, "kind", "KIND", "auth, account, password or session"))?;
+    let kind = positional(alloc, "kind", "KIND", "auth, account, password or session");
+    let command = with_arg(service_command(alloc, name, about), kind);
     let options = [
         ("dir", "DIR", "The folder with a file for each service"),
         ("conf", "FILE", "The file for all services"),
@@ -107,30 +127,23 @@ fn stack_command<'a>(
 }
 
 #[tactic(auto, unfolding(crate::specs::Words::show_app))]
-fn show_command<'a>(alloc: Global) -> Result<Command<'a>, AllocError>
-    ensures app { IfOk result (λ c. app_of c ≡ show_app) }
-    ensures local { IfOk result (λ c. (fields_of c).has_globals ≡ false) }
+fn show_command<'a>(alloc: Global) -> Built<'a>
+    ensures { IsBuilt result show_app }
 {
     stack_command(alloc, "show", "Shows the modules of a stack")
 }
 
-#[tactic(auto, unfolding(crate::specs::Words::decide_app))]
-fn decide_command<'a>(alloc: Global) -> Result<Command<'a>, AllocError>
-    ensures app { IfOk result (λ c. app_of c ≡ decide_app) }
-    ensures local { IfOk result (λ c. (fields_of c).has_globals ≡ false) }
+fn decide_command<'a>(alloc: Global) -> Built<'a>
+    ensures { IsBuilt result decide_app }
 {
-    stack_command(alloc, "decide", "Runs a stack with given return codes")?.arg(repeated(
-        alloc,
-        "code",
-        "CODE",
-        "The return code of each module, in turn",
-    ))
+    let command = stack_command(alloc, "decide", "Runs a stack with given return codes");
+    let codes = "The return code of each module, in turn";
+    with_arg(command, repeated(alloc, "code", "CODE", codes))
 }
 
 /// Adds the options that choose a page of a listing.
-fn with_page<'a>(alloc: Global, command: Command<'a>) -> Result<Command<'a>, AllocError>
-    ensures app { IfOk result (λ c. app_of c ≡ with_page_rules (app_of command.entry)) }
-    ensures local { IfOk result (λ c. (fields_of c).has_globals ≡ (fields_of command.entry).has_globals) }
+fn with_page<'a>(alloc: Global, command: Built<'a>) -> Built<'a>
+    ensures { (app : App) → IsBuilt command.entry app → IsBuilt result (with_page_rules app) }
 {
     let options = [
         ("after", "CURSOR", "Lists the paths after this cursor"),
@@ -140,13 +153,12 @@ fn with_page<'a>(alloc: Global, command: Command<'a>) -> Result<Command<'a>, All
             "Lists the paths before this cursor, the last first",
         ),
     ];
-    with_options(alloc, command.arg(limit(alloc))?, &options)
+    with_options(alloc, with_arg(command, limit(alloc)), &options)
 }
 
 /// Adds the options of a login: the user, the remote host and the terminal.
-fn with_login<'a>(alloc: Global, command: Command<'a>) -> Result<Command<'a>, AllocError>
-    ensures app { IfOk result (λ c. app_of c ≡ with_login_rules (app_of command.entry)) }
-    ensures local { IfOk result (λ c. (fields_of c).has_globals ≡ (fields_of command.entry).has_globals) }
+fn with_login<'a>(alloc: Global, command: Built<'a>) -> Built<'a>
+    ensures { (app : App) → IsBuilt command.entry app → IsBuilt result (with_login_rules app) }
 {
     let options = [
         ("user", "NAME", "The user"),
@@ -157,9 +169,8 @@ fn with_login<'a>(alloc: Global, command: Command<'a>) -> Result<Command<'a>, Al
 }
 
 /// Adds the options that name tables and a returns file.
-fn with_tables<'a>(alloc: Global, command: Command<'a>) -> Result<Command<'a>, AllocError>
-    ensures app { IfOk result (λ c. app_of c ≡ with_table_rules (app_of command.entry)) }
-    ensures local { IfOk result (λ c. (fields_of c).has_globals ≡ (fields_of command.entry).has_globals) }
+fn with_tables<'a>(alloc: Global, command: Built<'a>) -> Built<'a>
+    ensures { (app : App) → IsBuilt command.entry app → IsBuilt result (with_table_rules app) }
 {
     let options = [
         (
@@ -179,9 +190,8 @@ fn with_tables<'a>(alloc: Global, command: Command<'a>) -> Result<Command<'a>, A
 }
 
 /// Adds the options that give the moment of a login.
-fn with_moment<'a>(alloc: Global, command: Command<'a>) -> Result<Command<'a>, AllocError>
-    ensures app { IfOk result (λ c. app_of c ≡ with_moment_rules (app_of command.entry)) }
-    ensures local { IfOk result (λ c. (fields_of c).has_globals ≡ (fields_of command.entry).has_globals) }
+fn with_moment<'a>(alloc: Global, command: Built<'a>) -> Built<'a>
+    ensures { (app : App) → IsBuilt command.entry app → IsBuilt result (with_moment_rules app) }
 {
     let options = [
         ("at", "CIVIL", "The moment, as 2024-05-06T10:00"),
@@ -195,58 +205,44 @@ fn with_moment<'a>(alloc: Global, command: Command<'a>) -> Result<Command<'a>, A
     with_options(alloc, command, &options)
 }
 
-#[tactic(auto, unfolding(crate::specs::Words::paths_app))]
-fn paths_command<'a>(alloc: Global) -> Result<Command<'a>, AllocError>
-    ensures app { IfOk result (λ c. app_of c ≡ paths_app) }
-    ensures local { IfOk result (λ c. (fields_of c).has_globals ≡ false) }
+fn paths_command<'a>(alloc: Global) -> Built<'a>
+    ensures { IsBuilt result paths_app }
 {
-    let command = stack_command(alloc, "paths", "Lists the paths through a stack")?;
-    let command = with_page(alloc, command)?;
-    let command = with_login(alloc, command)?;
-    let command = with_tables(alloc, command)?;
-    with_moment(alloc, command)
+    let command = stack_command(alloc, "paths", "Lists the paths through a stack");
+    let command = with_login(alloc, with_page(alloc, command));
+    with_moment(alloc, with_tables(alloc, command))
 }
 
 /// A command with SERVICE, a user, a terminal and the table, given by `--NAME`.
-fn login_command<'a>(
-    alloc: Global,
-    name: &'a str,
-    about: &'a str,
-) -> Result<Command<'a>, AllocError>
-    ensures app { IfOk result (λ c. app_of c ≡ login_app name.entry.now) }
-    ensures local { IfOk result (λ c. (fields_of c).has_globals ≡ false) }
+fn login_command<'a>(alloc: Global, name: &'a str, about: &'a str) -> Built<'a>
+    ensures { IsBuilt result (login_app name.entry.now) }
 {
-    named(alloc, name, about)
-        .arg(positional(alloc, "service", "SERVICE", "The service"))?
-        .arg(required_option(alloc, name, "FILE", "The table"))?
-        .arg(required_option(alloc, "user", "NAME", "The user"))?
-        .arg(option(alloc, "tty", "TTY", "The terminal"))
+    let table = required_option(alloc, name, "FILE", "The table");
+    let command = with_arg(service_command(alloc, name, about), table);
+    let command = with_arg(command, required_option(alloc, "user", "NAME", "The user"));
+    with_arg(command, option(alloc, "tty", "TTY", "The terminal"))
 }
 
-fn access_command<'a>(alloc: Global) -> Result<Command<'a>, AllocError>
-    ensures app { IfOk result (λ c. app_of c ≡ access_app) }
-    ensures local { IfOk result (λ c. (fields_of c).has_globals ≡ false) }
+fn access_command<'a>(alloc: Global) -> Built<'a>
+    ensures { IsBuilt result access_app }
 {
-    let command = login_command(alloc, "access", "Looks a login up in an access table")?;
+    let command = login_command(alloc, "access", "Looks a login up in an access table");
     let options = [
         ("group", "FILE", "The group file"),
         ("rhost", "HOST", "The remote host"),
     ];
-    with_options(alloc, command, &options)?.arg(repeated(
-        alloc,
-        "argument",
-        "ARGUMENT",
-        "The arguments of pam_access.so",
-    ))
+    let command = with_options(alloc, command, &options);
+    let arguments = "The arguments of pam_access.so";
+    with_arg(command, repeated(alloc, "argument", "ARGUMENT", arguments))
 }
 
-#[tactic(auto, unfolding(crate::specs::Words::time_app))]
-fn time_command<'a>(alloc: Global) -> Result<Command<'a>, AllocError>
-    ensures app { IfOk result (λ c. app_of c ≡ time_app) }
-    ensures local { IfOk result (λ c. (fields_of c).has_globals ≡ false) }
+fn time_command<'a>(alloc: Global) -> Built<'a>
+    ensures { IsBuilt result time_app }
 {
-    let command = login_command(alloc, "time", "Looks a login up in a time table")?;
-    with_moment(alloc, command)
+    with_moment(
+        alloc,
+        login_command(alloc, "time", "Looks a login up in a time table"),
+    )
 }
 
 /// The program, without its commands. One of them is required.
@@ -259,24 +255,19 @@ fn bare_command<'a>(alloc: Global) -> Command<'a>
 }
 
 /// Adds the commands that read a stack.
-fn with_stacks<'a>(alloc: Global, command: Command<'a>) -> Result<Command<'a>, AllocError>
-    requires { (fields_of command).has_globals ≡ false }
-    ensures app { IfOk result (λ c. app_of c ≡ with_stack_commands (app_of command.entry)) }
-    ensures local { IfOk result (λ c. (fields_of c).has_globals ≡ false) }
+fn with_stacks<'a>(alloc: Global, command: Built<'a>) -> Built<'a>
+    ensures { (app : App) → IsBuilt command.entry app → IsBuilt result (with_stack_commands app) }
 {
-    command
-        .subcommand(show_command(alloc)?)?
-        .subcommand(decide_command(alloc)?)?
-        .subcommand(paths_command(alloc)?)
+    let command = with_command(command, show_command(alloc));
+    let command = with_command(command, decide_command(alloc));
+    with_command(command, paths_command(alloc))
 }
 
 /// Returns the whole command line, as a `clap` command.
-#[tactic(auto, unfolding(crate::specs::Words::pamcheck_app))]
 pub fn pamcheck_command<'a>(alloc: Global) -> Result<Command<'a>, AllocError>
-    ensures app { IfOk result (λ c. app_of c ≡ pamcheck_app) }
-    ensures local { IfOk result (λ c. (fields_of c).has_globals ≡ false) }
+    ensures { IsBuilt result pamcheck_app }
 {
-    with_stacks(alloc, bare_command(alloc))?
-        .subcommand(access_command(alloc)?)?
-        .subcommand(time_command(alloc)?)
+    let command = with_stacks(alloc, Ok(bare_command(alloc)));
+    let command = with_command(command, access_command(alloc));
+    with_command(command, time_command(alloc))
 }

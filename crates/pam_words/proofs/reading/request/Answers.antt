@@ -11,7 +11,7 @@ use Rattle.pam_words.proofs.reading.request.Goals as goal
 pub returns-in-Err-clause-refused : goal.returns-in-Err-clause-refused
 returns-in-Err-clause-refused g c =
     let words = map g.S.AsStr.text c.args.words.now in
-    let same : app_of c.in-Ok.command ≡ pamcheck_app = c.in-Ok.ensures.app in
+    let same : app_of c.in-Ok.command ≡ pamcheck_app = c.in-Ok.ensures.0 in
     let kinds = c.in-Err.ensures.kinds (ap is_simple_and_free same ∙ is_simple_and_free-pamcheck) in
     refused-by (fault_of pamcheck_app words) c.in-Err.error c.refused.result c.refused.ensures
     (subst (λ (a : App). HasKind (fault_of a words) c.in-Err.error) same kinds)
@@ -20,7 +20,7 @@ pub unreachable-requires : goal.unreachable-requires
 unreachable-requires g c =
     let words = map g.S.AsStr.text c.args.words.now in
     let m = c.in-Ok-try_get_matches_from.matches in
-    let same : app_of c.in-Ok.command ≡ pamcheck_app = c.in-Ok.ensures.app in
+    let same : app_of c.in-Ok.command ≡ pamcheck_app = c.in-Ok.ensures.0 in
     let rows = (c.in-Ok-try_get_matches_from.ensures.matches (ap is_simple same ∙ is_simple-pamcheck)).1 ∙ ap (λ (a : App). subcommand_of a words) same in
     let kinds = c.in-Ok-try_get_matches_from.ensures.kinds (ap is_simple_and_free same ∙ is_simple_and_free-pamcheck) in
     no_command words
@@ -31,7 +31,7 @@ pub returns-clause-reads : goal.returns-clause-reads
 returns-clause-reads g c =
     let words = map g.S.AsStr.text c.args.words.now in
     let m = c.in-Ok-try_get_matches_from.matches in
-    let same : app_of c.in-Ok.command ≡ pamcheck_app = c.in-Ok.ensures.app in
+    let same : app_of c.in-Ok.command ≡ pamcheck_app = c.in-Ok.ensures.0 in
     let rows = (c.in-Ok-try_get_matches_from.ensures.matches (ap is_simple same ∙ is_simple-pamcheck)).1 ∙ ap (λ (a : App). subcommand_of a words) same in
     let o = subcommand_of pamcheck_app words in
     let name = c.in-Some.ensures.name ∙ name-is m ∙ ap name_in rows in
@@ -42,7 +42,7 @@ returns-clause-reads g c =
 pub returns-clause-refused : goal.returns-clause-refused
 returns-clause-refused g c =
     let words = map g.S.AsStr.text c.args.words.now in
-    let same : app_of c.in-Ok.command ≡ pamcheck_app = c.in-Ok.ensures.app in
+    let same : app_of c.in-Ok.command ≡ pamcheck_app = c.in-Ok.ensures.0 in
     let kinds = c.in-Ok-try_get_matches_from.ensures.kinds (ap is_simple_and_free same ∙ is_simple_and_free-pamcheck) in
     answers-clean (fault_of pamcheck_app words) _ c.read.result c.read.ensures (sym (ap (λ (a : App). fault_of a words) same) ∙ kinds)
 
@@ -52,7 +52,7 @@ returns-in-Err-clause-reads g c =
 
 pub returns-in-Err-clause-taken : goal.returns-in-Err-clause-taken
 returns-in-Err-clause-taken g c = λ t.
-    let same : app_of c.in-Ok.command ≡ pamcheck_app = c.in-Ok.ensures.app in
+    let same : app_of c.in-Ok.command ≡ pamcheck_app = c.in-Ok.ensures.0 in
     refused-read c.in-Err.error c.refused.result c.refused.ensures
     (c.in-Err.ensures.passes (ap (λ (a : App). takes a (map g.S.AsStr.text c.args.words.now)) same ∙ t))
 

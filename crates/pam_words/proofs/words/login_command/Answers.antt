@@ -1,23 +1,7 @@
-use Rattle.std.proofs.Common.{◌≡◌, false}
-use Rattle.clap.specs.Words.{AddsArg, app_of}
-use Rattle.clap.specs.declared.builder.Command.{Command}
-use Rattle.clap.specs.declared.builder.Command.TheViews.{out-Command}
-use Rattle.pam_words.specs.Words.{login_app}
-use Rattle.pam_words.proofs.Subcommands.{IfOk-then, add-rule, add-rule-local}
+use Rattle.pam_words.specs.Words.{service_app}
 use Rattle.pam_words.proofs.words.login_command.Goals as goal
 
-pub returns-clause-app : goal.returns-clause-app
-returns-clause-app c =
-    let with-1 = add-rule _ c.in_ok-arg.field-0 _ _ _ c.in_ok-arg.ensures c.positional.ensures.local c.named.ensures.app c.positional.ensures.rule in
-    let with-2 = add-rule _ c.in_ok-arg-2.field-0 _ _ _ c.in_ok-arg-2.ensures c.required_option.ensures.local with-1 c.required_option.ensures.rule in
-    let with-3 = add-rule _ c.in_ok-arg-3.field-0 _ _ _ c.in_ok-arg-3.ensures c.required_option-2.ensures.local with-2 c.required_option-2.ensures.rule in
-    IfOk-then c.arg-4.result (AddsArg c.in_ok-arg-3.field-0 c.option.result) (λ (n : Command). app_of n ≡ login_app c.args.name.now)
-    (λ n h. add-rule _ n _ _ _ h c.option.ensures.local with-3 c.option.ensures.rule) c.arg-4.ensures
-
-pub returns-clause-local : goal.returns-clause-local
-returns-clause-local c =
-    let with-1 = add-rule-local _ c.in_ok-arg.field-0 _ c.in_ok-arg.ensures c.positional.ensures.local c.named.ensures.local in
-    let with-2 = add-rule-local _ c.in_ok-arg-2.field-0 _ c.in_ok-arg-2.ensures c.required_option.ensures.local with-1 in
-    let with-3 = add-rule-local _ c.in_ok-arg-3.field-0 _ c.in_ok-arg-3.ensures c.required_option-2.ensures.local with-2 in
-    IfOk-then c.arg-4.result (AddsArg c.in_ok-arg-3.field-0 c.option.result) (λ (n : Command). (out-Command n).has_globals ≡ false)
-    (λ n h. add-rule-local _ n _ h c.option.ensures.local with-3) c.arg-4.ensures
+pub returns : goal.returns
+returns c =
+    let table = c.with_arg-command.ensures (service_app c.args.name.now) _ c.required_option-table.ensures.rule c.service_command.ensures in
+    c.with_arg.ensures _ _ c.option.ensures.rule (c.with_arg-command-2.ensures _ _ c.required_option.ensures.rule table)
