@@ -14,4 +14,5 @@ not_ok both = cc
 pub written-is : (read : Result DateTime MomentError) (text bytes : List ℕ) → bytes ≡ text → IsOk read ↔ Exist (parts_of bytes)
     → IfOk read (HasParts (parts_of bytes)) → IfErr read (λ e. e ≡ moments.Syntax) → IsWritten text read
 written-is (Ok moment) text bytes same accepts value refusal = let P : List ℕ → Type 0 = λ t. HasParts (parts_of t) moment in subst P same value
-written-is (Err e) text bytes same accepts value refusal = let P : List ℕ → Type 0 = λ t. Exist (parts_of t) → ⊥ in (refusal, subst P same (λ exist. not_ok (accepts.1 exist)))
+written-is (Err e) text bytes same accepts value refusal = let P : List ℕ → Type 0 = λ t. Exist (parts_of t) → ⊥ in
+    (refusal, subst P same (λ exist. not_ok (accepts.1 exist)))

@@ -1,5 +1,6 @@
 -- The lines of a list, item by item.
-use Rattle.std.proofs.Common.{◌≡◌, ℕ, ◌+◌, ◌<◌, ◌≤◌, List, [], ◌++◌, suc, length, drop, get_or, sym, ap, ◌∙◌, arith, append_assoc, append-nil, drop_of_length-le, max, Option}
+use Rattle.std.proofs.Common.{◌≡◌, ℕ, ◌+◌, ◌<◌, ◌≤◌, List, [], ◌++◌, suc, length}
+use Rattle.std.proofs.Common.{drop, get_or, sym, ap, ◌∙◌, arith, append_assoc, append-nil, drop_of_length-le, max, Option}
 use Rattle.pam_codes.proofs.Writing.{all-is, all-then, front-is, front-longer, front-then}
 use Rattle.pam_codes.specs.Out.{Out, TookAll, TookFront}
 use Rattle.pam_conf.proofs.StackTree.{items_of-drop_module, items_of-drop_sub}
@@ -31,7 +32,8 @@ at-module files level i xs d m h e =
     ∙ ap (λ (k : ℕ). module_line files level (module_text m) ++ items_text files level (items_of (drop k xs))) next
 
 at-sub : (files : Folder) (level i : ℕ) (xs : List Item) (d : Item) (s : SubList) → i < length xs → get_or xs i d ≡ SubItem s →
-    items_text files level (items_of (drop i xs)) ≡ (sub_line files level s.text ++ items_text files (level + 1) s.inner) ++ items_text files level (items_of (drop (i + 1) xs))
+    items_text files level (items_of (drop i xs)) ≡ (sub_line files level s.text ++ items_text files (level + 1) s.inner)
+    ++ items_text files level (items_of (drop (i + 1) xs))
 unfolding items_text
 at-sub files level i xs d s h e =
     let next : suc i ≡ i + 1 = omega arith in
@@ -45,7 +47,8 @@ at-end files level i xs h = ap (λ (ys : List Item). items_text files level (ite
 
 module _ {W : Type 0} {contents : W → Option (List ℕ)} where
   -- one more piece
-  partly-more : {old mid new : Out W} {whole rest : List ℕ} (piece after : List ℕ) → Partly contents old mid whole rest → rest ≡ piece ++ after → TookAll contents mid new piece →
+  partly-more : {old mid new : Out W} {whole rest : List ℕ} (piece after : List ℕ) → Partly contents old mid whole rest → rest ≡ piece ++ after
+      → TookAll contents mid new piece →
       Partly contents old new whole after
   partly-more piece after p e t = record {
     front = p.front ++ piece;
@@ -54,7 +57,8 @@ module _ {W : Type 0} {contents : W → Option (List ℕ)} where
   }
 
   -- a piece that failed
-  partly-failed : {old mid new : Out W} {whole rest : List ℕ} (piece after : List ℕ) → Partly contents old mid whole rest → rest ≡ piece ++ after → TookFront contents mid new piece →
+  partly-failed : {old mid new : Out W} {whole rest : List ℕ} (piece after : List ℕ) → Partly contents old mid whole rest → rest ≡ piece ++ after
+      → TookFront contents mid new piece →
       TookFront contents old new whole
   partly-failed piece after p e t =
       front-is (front-longer after (front-then p.took t)) (append_assoc p.front piece after ∙ ap (λ (l : List ℕ). p.front ++ l) (sym e) ∙ p.parts)
@@ -64,36 +68,48 @@ module _ {W : Type 0} {contents : W → Option (List ℕ)} where
   items-all files level i xs h p =
       all-is p.took (sym (append-nil p.front) ∙ ap (λ (l : List ℕ). p.front ++ l) (sym (at-end files level i xs h)) ∙ p.parts)
 
-  pub module-written : {old mid new : Out W} (files : Folder) (level i : ℕ) (xs : List Item) (d : Item) (m : Module) → i < length xs → d ≡ get_or xs i d → d ≡ ModuleItem m →
-      ItemsBefore contents old mid files level xs i → TookAll contents mid new (module_line files level (module_text m)) → ItemsBefore contents old new files level xs (i + 1)
+  pub module-written : {old mid new : Out W} (files : Folder) (level i : ℕ) (xs : List Item) (d : Item) (m : Module) → i < length xs → d ≡ get_or xs i d
+      → d ≡ ModuleItem m →
+      ItemsBefore contents old mid files level xs i → TookAll contents mid new (module_line files level (module_text m))
+      → ItemsBefore contents old new files level xs (i + 1)
   module-written files level i xs d m h is e p t =
-      partly-more (module_line files level (module_text m)) (items_text files level (items_of (drop (i + 1) xs))) p (at-module files level i xs d m h (sym is ∙ e)) t
+      partly-more (module_line files level (module_text m)) (items_text files level (items_of (drop (i + 1) xs))) p
+      (at-module files level i xs d m h (sym is ∙ e)) t
 
-  pub module-failed : {old mid new : Out W} (files : Folder) (level i : ℕ) (xs : List Item) (d : Item) (m : Module) → i < length xs → d ≡ get_or xs i d → d ≡ ModuleItem m →
-      ItemsBefore contents old mid files level xs i → TookFront contents mid new (module_line files level (module_text m)) → TookFront contents old new (items_text files level (items_of xs))
+  pub module-failed : {old mid new : Out W} (files : Folder) (level i : ℕ) (xs : List Item) (d : Item) (m : Module) → i < length xs → d ≡ get_or xs i d
+      → d ≡ ModuleItem m →
+      ItemsBefore contents old mid files level xs i → TookFront contents mid new (module_line files level (module_text m))
+      → TookFront contents old new (items_text files level (items_of xs))
   module-failed files level i xs d m h is e p t =
-      partly-failed (module_line files level (module_text m)) (items_text files level (items_of (drop (i + 1) xs))) p (at-module files level i xs d m h (sym is ∙ e)) t
+      partly-failed (module_line files level (module_text m)) (items_text files level (items_of (drop (i + 1) xs))) p
+      (at-module files level i xs d m h (sym is ∙ e)) t
 
   -- a substack: its own line, and its items one level deeper
-  pub sub-written : {old mid new : Out W} (files : Folder) (level i : ℕ) (xs : List Item) (d : Item) (s : SubList) → i < length xs → d ≡ get_or xs i d → d ≡ SubItem s →
+  pub sub-written : {old mid new : Out W} (files : Folder) (level i : ℕ) (xs : List Item) (d : Item) (s : SubList) → i < length xs → d ≡ get_or xs i d
+      → d ≡ SubItem s →
       ItemsBefore contents old mid files level xs i → TookAll contents mid new (sub_line files level s.text ++ items_text files (level + 1) s.inner) →
       ItemsBefore contents old new files level xs (i + 1)
   sub-written files level i xs d s h is e p t =
-      partly-more (sub_line files level s.text ++ items_text files (level + 1) s.inner) (items_text files level (items_of (drop (i + 1) xs))) p (at-sub files level i xs d s h (sym is ∙ e)) t
+      partly-more (sub_line files level s.text ++ items_text files (level + 1) s.inner) (items_text files level (items_of (drop (i + 1) xs))) p
+      (at-sub files level i xs d s h (sym is ∙ e)) t
 
-  pub sub-failed : {old mid new : Out W} (files : Folder) (level i : ℕ) (xs : List Item) (d : Item) (s : SubList) → i < length xs → d ≡ get_or xs i d → d ≡ SubItem s →
+  pub sub-failed : {old mid new : Out W} (files : Folder) (level i : ℕ) (xs : List Item) (d : Item) (s : SubList) → i < length xs → d ≡ get_or xs i d
+      → d ≡ SubItem s →
       ItemsBefore contents old mid files level xs i → TookFront contents mid new (sub_line files level s.text ++ items_text files (level + 1) s.inner) →
       TookFront contents old new (items_text files level (items_of xs))
   sub-failed files level i xs d s h is e p t =
-      partly-failed (sub_line files level s.text ++ items_text files (level + 1) s.inner) (items_text files level (items_of (drop (i + 1) xs))) p (at-sub files level i xs d s h (sym is ∙ e)) t
+      partly-failed (sub_line files level s.text ++ items_text files (level + 1) s.inner) (items_text files level (items_of (drop (i + 1) xs))) p
+      (at-sub files level i xs d s h (sym is ∙ e)) t
 
 -- the borrowed items of a substack
 pub inner-is : (items : List Item) (inside : Inside) (s : SubList) → items ≡ inside.items.items → sub_list inside ≡ s → items_of items ≡ s.inner
 inner-is items inside s e v = ap items_of e ∙ ap (λ (x : SubList). x.inner) v
 
 -- a substack is one level deeper
-pub shallow-sub : (level i : ℕ) (xs : List Item) (d : Item) (s : SubList) → i < length xs → d ≡ get_or xs i d → d ≡ SubItem s → level + depth (items_of (drop i xs)) ≤ 16 →
+pub shallow-sub : (level i : ℕ) (xs : List Item) (d : Item) (s : SubList) → i < length xs → d ≡ get_or xs i d → d ≡ SubItem s
+    → level + depth (items_of (drop i xs)) ≤ 16 →
     level + 1 + depth s.inner ≤ 16
 shallow-sub level i xs d s h is e b =
-    let deep : depth (items_of (drop i xs)) ≡ max (depth s.inner + 1) (depth (items_of (drop (suc i) xs))) = ap depth (items_of-drop_sub xs i d s h (sym is ∙ e)) in
+    let deep : depth (items_of (drop i xs)) ≡ max (depth s.inner + 1) (depth (items_of (drop (suc i) xs))) =
+    ap depth (items_of-drop_sub xs i d s h (sym is ∙ e)) in
     omega (arith, b, deep)

@@ -116,7 +116,8 @@ decide_text-is service kind items answered runs modules decision trace m r t d =
     let all = t ∙ ap (λ (x : List Ask). asked_modules items answers x) asks in
     ap (λ (n : ℕ). header_text service kind n ++ trace_text trace ++ decision_text decision) m
     ∙ ap (λ (x : List AskedModule). header_text service kind (module_count items) ++ trace_text x ++ decision_text decision) all
-    ∙ ap (λ (n : ℕ). header_text service kind (module_count items) ++ trace_text (asked_modules items answers (asked items start_state start_state answers)) ++ decision_text n) d
+    ∙ ap (λ (n : ℕ). header_text service kind (module_count items)
+    ++ trace_text (asked_modules items answers (asked items start_state start_state answers)) ++ decision_text n) d
 
 -- the decision of a run is that of the stack
 decision-is : (items : Items) (answers : Assignment) (runs : Runs) (decision : ℕ) → runs ≡ runs_of_stack items →

@@ -70,10 +70,10 @@ level_fault-wanted s names h words has below required none e =
     let check = check_fault s (finished s.rules end) has in
     let defaults = defaults_fault (settled s.rules end).rows s.rules in
     let settle = settle_fault s.rules s.args_override_self end in
-    let behind-walk = or_else-last (walk_fault s names (walk_from h) words) (or_else below (or_else settle (or_else defaults check))) e in
-    let behind-below = or_else-last below (or_else settle (or_else defaults check)) behind-walk in
-    let behind-settle = or_else-last settle (or_else defaults check) behind-below in
-    check_fault-wanted s (finished s.rules end) has required none (or_else-last defaults check behind-settle)
+    let after-walk = or_else-last (walk_fault s names (walk_from h) words) (or_else below (or_else settle (or_else defaults check))) e in
+    let after-below = or_else-last below (or_else settle (or_else defaults check)) after-walk in
+    let after-settle = or_else-last settle (or_else defaults check) after-below in
+    check_fault-wanted s (finished s.rules end) has required none (or_else-last defaults check after-settle)
 
 fault_of-wanted : (a : App) (words : List Text) → (built a).top.subcommand_required ≡ true → subcommand_of a words ≡ None → fault_of a words ≡ [] → ⊥
 fault_of-wanted a words required none e =

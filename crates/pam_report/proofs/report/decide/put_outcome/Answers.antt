@@ -8,7 +8,8 @@ returns-in_err-put_code g c = err-front _ c.from_residual.ensures.0 (front-longe
 
 pub returns-in_err-put_action : goal.returns-in_err-put_action
 unfolding outcome_text
-returns-in_err-put_action g c = err-front _ c.from_residual-in_err-put_action.ensures.0 (front-longer _ (front-then c.in_ok-put_code.ensures c.in_err-put_action.ensures))
+returns-in_err-put_action g c = err-front _ c.from_residual-in_err-put_action.ensures.0
+    (front-longer _ (front-then c.in_ok-put_code.ensures c.in_err-put_action.ensures))
 
 pub returns : goal.returns
 unfolding outcome_text

@@ -10,7 +10,8 @@ use Rattle.pam_report.proofs.report.show.+put_items.Goals as goal
 pub returns-in_err-put_module-in-Module : goal.returns-in_err-put_module-in-Module
 returns-in_err-put_module-in-Module g t c =
     err-front _ c.from_residual.ensures.0
-    (module-failed c.args.files.now c.args.level c.loop-item.item-index c.args.items.now c.item-item.result c.in-Module.module c.loop-item-test.true c.item-item.is c.in-Module.is
+    (module-failed c.args.files.now c.args.level c.loop-item.item-index c.args.items.now c.item-item.result c.in-Module.module c.loop-item-test.true
+    c.item-item.is c.in-Module.is
     c.loop-item.invariant.written c.in_err-put_module-in-Module.ensures)
 
 pub returns-in_err-put_sub-in-Sub : goal.returns-in_err-put_sub-in-Sub
@@ -25,7 +26,8 @@ put_items-requires g t c κs within =
     let s = c.in-Sub.sub in
     let inner = inner-is c.deref.result.now c.sub.inside s c.deref.ensures.value c.sub.view_is in
     let shallow : c.args.level + 1 + depth s.inner ≤ 16 =
-    shallow-sub c.args.level c.loop-item.item-index c.args.items.now c.item-item.result s c.loop-item-test.true c.item-item.is c.in-Sub.is c.loop-item.invariant.shallow in (
+    shallow-sub c.args.level c.loop-item.item-index c.args.items.now c.item-item.result s c.loop-item-test.true c.item-item.is c.in-Sub.is
+    c.loop-item.invariant.shallow in (
       omega (arith, shallow),
       (
         within,
@@ -50,7 +52,8 @@ loop-item-preserved g t c =
     elim c.match-item.branch [
       | in-Module+in_ok-put_module-in-Module w ↦ record {
         written = rw w.out-is
-            (module-written c.args.files.now c.args.level index items c.item-item.result w.in-Module.module c.loop-item-test.true c.item-item.is w.in-Module.is c.loop-item.invariant.written
+            (module-written c.args.files.now c.args.level index items c.item-item.result w.in-Module.module c.loop-item-test.true c.item-item.is
+            w.in-Module.is c.loop-item.invariant.written
             w.in_ok-put_module-in-Module.ensures);
         shallow = shallow;
       }
@@ -60,7 +63,8 @@ loop-item-preserved g t c =
           let lines = λ (x : Items). items_text c.args.files.now (c.args.level + 1) x in
           record {
             written = rw w.out-is
-                (sub-written c.args.files.now c.args.level index items c.item-item.result s c.loop-item-test.true c.item-item.is w.in-Sub.is c.loop-item.invariant.written
+                (sub-written c.args.files.now c.args.level index items c.item-item.result s c.loop-item-test.true c.item-item.is w.in-Sub.is
+                c.loop-item.invariant.written
                 (all-then w.in_ok-put_sub-in-Sub.ensures (all-is w.in_ok-put_items-in-Sub.ensures (ap lines inner))));
             shallow = shallow;
           }

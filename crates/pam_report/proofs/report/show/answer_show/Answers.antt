@@ -12,7 +12,8 @@ use Rattle.pam_report.proofs.report.show.answer_show.Goals as goal
 shown-of : (files : Folder) (service bytes : List ℕ) (kind : Kind) (stack : Items) → bytes ≡ service → resolved files bytes kind ≡ Ok stack →
     with_stack (resolved files service kind) (shown service kind files) ≡ Ok (record { text = show_text service kind files stack; status = Success })
 shown-of files service bytes kind stack e h =
-    ap (λ (b : List ℕ). with_stack (resolved files b kind) (shown service kind files)) (sym e) ∙ ap (λ (r : Result Items ConfError). with_stack r (shown service kind files)) h
+    ap (λ (b : List ℕ). with_stack (resolved files b kind) (shown service kind files)) (sym e)
+    ∙ ap (λ (r : Result Items ConfError). with_stack r (shown service kind files)) h
 
 pub returns : goal.returns
 returns g c =

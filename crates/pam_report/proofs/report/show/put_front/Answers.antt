@@ -10,7 +10,8 @@ returns-in_err-put_line g c =
 pub returns-in_err-put_place : goal.returns-in_err-put_place
 unfolding module_front
 returns-in_err-put_place g c =
-    err-front _ c.from_residual-in_err-put_place.ensures.0 (front-longer _ (front-then (all-then c.in_ok-put_indent.ensures c.in_ok-put_line.ensures) c.in_err-put_place.ensures))
+    err-front _ c.from_residual-in_err-put_place.ensures.0
+    (front-longer _ (front-then (all-then c.in_ok-put_indent.ensures c.in_ok-put_line.ensures) c.in_err-put_place.ensures))
 
 pub returns : goal.returns
 unfolding module_front

@@ -9,14 +9,16 @@ use Rattle.pam_report.proofs.report.show.put_module.Goals as goal
 pub returns-in_err-write_text : goal.returns-in_err-write_text
 unfolding module_line
 returns-in_err-write_text g c =
-    err-front _ c.from_residual-in_err-write_text.ensures.0 (front-longer _ (front-longer _ (front-longer _ (front-then c.in_ok-put_front.ensures c.in_err-write_text.ensures))))
+    err-front _ c.from_residual-in_err-write_text.ensures.0
+    (front-longer _ (front-longer _ (front-longer _ (front-then c.in_ok-put_front.ensures c.in_err-write_text.ensures))))
 
 pub returns-in_err-put_one_word : goal.returns-in_err-put_one_word
 returns-in_err-put_one_word g c =
     let m = module_text c.args.module.now in
     err-front _ c.from_residual-in_err-put_one_word.ensures.0
     (front-is
-    (front-longer (codes "\n") (front-longer (words_text m.arguments) (front-then (all-then c.in_ok-put_front.ensures c.in_ok-write_text.ensures) c.in_err-put_one_word.ensures)))
+    (front-longer (codes "\n")
+    (front-longer (words_text m.arguments) (front-then (all-then c.in_ok-put_front.ensures c.in_ok-write_text.ensures) c.in_err-put_one_word.ensures)))
     (module_line-is c.args.files.now c.args.level m c.deref.result.now m.arguments c.deref.ensures.value refl))
 
 pub returns-in_err-put_words : goal.returns-in_err-put_words
@@ -25,8 +27,10 @@ returns-in_err-put_words g c =
     let arguments = λ (vs : List (Vec ℕ Global)). map (λ v. v.items) vs in
     err-front _ c.from_residual-in_err-put_words.ensures.0
     (front-is
-    (front-longer (codes "\n") (front-then (all-then (all-then c.in_ok-put_front.ensures c.in_ok-write_text.ensures) c.in_ok-put_one_word.ensures) c.in_err-put_words.ensures))
-    (module_line-is c.args.files.now c.args.level m c.deref.result.now (arguments c.deref-2.result.now) c.deref.ensures.value (ap arguments c.deref-2.ensures.value)))
+    (front-longer (codes "\n") (front-then (all-then (all-then c.in_ok-put_front.ensures c.in_ok-write_text.ensures) c.in_ok-put_one_word.ensures)
+    c.in_err-put_words.ensures))
+    (module_line-is c.args.files.now c.args.level m c.deref.result.now (arguments c.deref-2.result.now) c.deref.ensures.value
+    (ap arguments c.deref-2.ensures.value)))
 
 pub returns : goal.returns
 returns g c =
@@ -36,4 +40,5 @@ returns g c =
     (writes-then _ (codes "\n") _
     (all-then (all-then (all-then c.in_ok-put_front.ensures c.in_ok-write_text.ensures) c.in_ok-put_one_word.ensures) c.in_ok-put_words.ensures)
     c.put.ensures)
-    (module_line-is c.args.files.now c.args.level m c.deref.result.now (arguments c.deref-2.result.now) c.deref.ensures.value (ap arguments c.deref-2.ensures.value))
+    (module_line-is c.args.files.now c.args.level m c.deref.result.now (arguments c.deref-2.result.now) c.deref.ensures.value
+    (ap arguments c.deref-2.ensures.value))

@@ -9,7 +9,8 @@ pub returns-in_err-put_header : goal.returns-in_err-put_header
 unfolding show_text
 returns-in_err-put_header g c =
     let header = λ (modules : ℕ). header_text c.args.service.now c.args.kind modules in
-    err-front _ c.from_residual.ensures.0 (front-longer (items_text c.args.files.now 0 c.args.stack.now) (front-is c.in_err-put_header.ensures (ap header c.modules.ensures.count)))
+    err-front _ c.from_residual.ensures.0 (front-longer (items_text c.args.files.now 0 c.args.stack.now)
+    (front-is c.in_err-put_header.ensures (ap header c.modules.ensures.count)))
 
 pub returns-in_err-put_items : goal.returns-in_err-put_items
 unfolding show_text

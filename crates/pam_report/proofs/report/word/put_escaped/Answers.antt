@@ -6,7 +6,8 @@ use Rattle.pam_report.specs.WordText.{escaped, escaped_byte}
 use Rattle.pam_report.proofs.report.word.put_escaped.Goals as goal
 
 -- the byte whose writing failed, between those before it and those after it
-at_byte : (text : List ℕ) (i : ℕ) (piece : List ℕ) → i < length text → piece ≡ escaped_byte (get_or text i 0) → (escaped (take i text) ++ piece) ++ escaped (drop (i + 1) text) ≡ escaped text
+at_byte : (text : List ℕ) (i : ℕ) (piece : List ℕ) → i < length text → piece ≡ escaped_byte (get_or text i 0)
+    → (escaped (take i text) ++ piece) ++ escaped (drop (i + 1) text) ≡ escaped text
 at_byte text i piece h e = ap (λ l. (escaped (take i text) ++ l) ++ escaped (drop (i + 1) text)) e ∙ flat_map-at escaped_byte text i 0 h
 
 closing : (b : ℕ) → b ≡ 93 → codes "\\]" ≡ escaped_byte b

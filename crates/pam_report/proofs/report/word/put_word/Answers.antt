@@ -26,7 +26,8 @@ pub returns-in_err-put_escaped : goal.returns-in_err-put_escaped
 returns-in_err-put_escaped g c =
     let text = c.args.text.now in
     err-front _ c.from_residual-in_err-put_escaped.ensures.0
-    (front-is (front-longer (codes "]") (front-then c.in_ok-put.ensures c.in_err-put_escaped.ensures)) (bracketed text (sym c.is_plain.ensures ∙ c.if-is_plain.false)))
+    (front-is (front-longer (codes "]") (front-then c.in_ok-put.ensures c.in_err-put_escaped.ensures))
+    (bracketed text (sym c.is_plain.ensures ∙ c.if-is_plain.false)))
 
 pub returns : goal.returns
 returns g c =
