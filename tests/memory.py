@@ -59,7 +59,7 @@ def first_start(program):
 
 
 def judge(words, whole, got, kibibytes):
-    """Whether an answer is whole; any other must be a refusal for want of memory."""
+    """Whether an answer is whole; any other must be a refusal because memory ran out."""
     if agrees(whole, got):
         return True
     refused = got.status == 6 and not got.stdout and got.stderr in LINES

@@ -52,7 +52,7 @@ def library():
 
 
 def judge(words, whole, got, number, later):
-    """An answer must be whole, or a refusal for want of memory; its line may be missing where that was refused too."""
+    """An answer must be whole, or a refusal because memory ran out; its line may be missing where that was refused too."""
     refusals = LINES if later or whole.status > 1 else LINES[1:]
     refused = got.status == 6 and not got.stdout and got.stderr in refusals
     without_line = whole.status > 1 and got == Answer(b"", b"", whole.status)

@@ -171,8 +171,8 @@ module_at-there first number (ThenModule m rest) h low high =
 module_at-there first number (ThenSub s inner rest) h low high =
     let parts = numbered-sub_parts first s inner rest h in
     ⊎_elim (λ within. some_first (module_at number inner) (module_at number rest) (module_at-there first number inner parts.0 low within))
-    (λ behind. some_second (module_at number inner) (module_at number rest)
-    (module_at-there (first + module_count inner) number rest parts.1 behind (omega (arith, high))))
+    (λ later. some_second (module_at number inner) (module_at number rest)
+    (module_at-there (first + module_count inner) number rest parts.1 later (omega (arith, high))))
     (cases_lt number (first + module_count inner))
 
 pub module_at-range : (first number : ℕ) (items : Items) → IsNumberedFrom first items → IsSome (module_at number items) →
