@@ -140,7 +140,7 @@ all_codes-rising k h =
     let at_next : k + 1 < 31 = omega (arith, length-range_with_len 0 31) in
     omega (arith, get_or-range_with_len 0 31 k 0 at_k, get_or-range_with_len 0 31 (k + 1) 0 at_next)
 
-all_codes-within : All (λ code. code < 31) all_codes
+pub all_codes-within : All (λ code. code < 31) all_codes
 unfolding all_codes
 all_codes-within =
     All-from_get_or (λ code. code < 31) (range_with_len 0 31) 0

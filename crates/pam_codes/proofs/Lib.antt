@@ -1,5 +1,6 @@
 pub mod Closing
 pub mod CodeByCode
+pub mod CodeNames
 pub mod CodeSets
 pub mod ControlParts
 pub mod Dividing

@@ -1,7 +1,8 @@
 //! Return codes and their names.
 
 ghost use Rattle.std.specs.Prelude.{◌≡◌, ◌<◌, ◌^◌, Some, None, position, option_and_then, slice_get, nat_lt, if◌then◌else◌};
-ghost use Rattle.pam_codes.specs.Code.{code_names, same_name};
+ghost use Rattle.pam_codes.specs.Code.{code_names, has_len, same_name};
+ghost use Rattle.pam_codes.specs.Set.{codes_where};
 
 use std::marker::Model;
 
@@ -126,12 +127,36 @@ impl Code {
         }
     }
 
+    /// The numbers of the codes whose names have `len` bytes.
+    #[tactic(auto, unfolding(crate::specs::Code::all_codes, crate::specs::Code::code_names))]
+    fn numbers_of_len(len: usize) -> &'static [u8]
+        ensures { result.now ≡ codes_where (has_len len) }
+    {
+        match len {
+            5 => &[26],
+            6 => &[25],
+            7 => &[0, 5],
+            8 => &[1, 7, 11, 17, 19, 29],
+            9 => &[24],
+            10 => &[2, 4, 30],
+            11 => &[3, 6, 14, 20],
+            12 => &[10, 13, 15, 16],
+            14 => &[18, 28],
+            15 => &[27],
+            16 => &[9, 12],
+            17 => &[8, 22],
+            19 => &[21],
+            21 => &[23],
+            _ => &[],
+        }
+    }
+
     /// The code with this name, ignoring ASCII case; `None` for `incomplete` and `default`.
     pub fn from_name(name: &[u8]) -> Option<Code>
         ensures { result ≡ position (λ n. same_name n name.now) code_names }
     {
-        for number in 0..CODES as u8 {
-            let code = Code { number };
+        for number in Code::numbers_of_len(name.len()) {
+            let code = Code::of_number(*number);
             if code.name().as_bytes().eq_ignore_ascii_case(name) {
                 return Some(code);
             }
