@@ -5,7 +5,7 @@ ghost use Rattle.std.specs.Prelude.{false, length, map, slice_get, slice_index_o
 ghost use Rattle.std.specs.Option.{option_map};
 ghost use Rattle.pam_codes.specs.Action.{IsAction};
 ghost use Rattle.pam_codes.specs.Code.{all_codes, code_names};
-ghost use Rattle.pam_codes.specs.Control.{IsControl, actions_of, bracket_actions, closing_at, control_of, equals_sign as equals_sign_of};
+ghost use Rattle.pam_codes.specs.Control.{IsControl, actions_of, bracket_actions, closing_at, control_of, equals_sign as equals_sign_of, escaped_at};
 ghost use Rattle.pam_codes.specs.Control.{granting_pairs, keyword_pairs, pairs_of, token_actions, with_front};
 ghost use Rattle.pam_codes.specs.ControlText.{control_text, default_of, keyword_of, list_text, mention, mentions, same_actions};
 ghost use Rattle.pam_text.specs.Out.{Writes};
@@ -16,6 +16,7 @@ use crate::code::{CODES, Code, is_name};
 use crate::error::ControlError;
 use crate::subject::Subject;
 use crate::tokens::Tokens;
+use memchr::memchr;
 use pam_text::{Device, Out, Piece};
 use std::io::Write;
 use std::marker::Model;
@@ -230,17 +231,27 @@ fn write_mention<W: Write>(
     ])
 }
 
+/// Whether the byte before an index is a backslash.
+fn is_escaped(text: &[u8], index: usize) -> bool
+    requires { index < length text.now }
+    ensures { result ≡ escaped_at text.now index }
+{
+    index > 0 && text[index - 1] == b'\\'
+}
+
 /// The index of the first unescaped `]`: the byte before it is not a backslash.
 fn closing(text: &[u8]) -> Option<usize>
     ensures found { result ≡ closing_at false text.now }
     ensures bound { IfSome result (λ n. n < length text.now) }
 {
-    let mut escaped = false;
-    for (i, byte) in text.iter().enumerate() {
-        if *byte == b']' && !escaped {
-            return Some(i);
+    let mut passed = 0;
+    let mut rest = text;
+    while let Some(index) = memchr(b']', rest) {
+        if !is_escaped(rest, index) {
+            return Some(passed + index);
         }
-        escaped = *byte == b'\\';
+        rest = rest.split_at(index + 1).1;
+        passed += index + 1;
     }
     None
 }
