@@ -1,8 +1,10 @@
--- The first fault of a list, sign by sign.
+-- The first fault of a list, item by item.
 use Rattle.std.proofs.Common.{◌≡◌, ◌∙◌, ℕ, Bool, true, false, List, [], ◌∷◌, cond, Option, Some, None, Result, Ok, Err, refl, sym, ap}
-use Rattle.pam_times.specs.Checks.{checked, first_fault, line_checked, list_checked, sign_checked, token_checked}
+use Rattle.pam_times.specs.Checks.{checked, first_fault, line_checked, list_checked, token_checked}
 use Rattle.pam_times.specs.Entry.{entry_of}
-use Rattle.pam_times.specs.Logic.{ItemOf, SignText, Not, Join, Token, items_from, items_of, items_or_fault, onto_items, expected_after, signs_of}
+use Rattle.pam_times.specs.Items.{IsFirstItem, items_after, items_left}
+use Rattle.pam_times.specs.Logic.{ItemOf, SignText, Not, Join, Token, ExpectItem, items_from, items_of, items_or_fault, onto_items, signs_of}
+use Rattle.pam_times.specs.declared.logic.Item.{Item}
 use Rattle.pam_times.specs.Reading.{FieldTexts, each, each_of, entry_or_fault, fields_of, is_blank_text, name_of, names_of, onto_list, rule_from}
 use Rattle.pam_times.specs.Reading.{rule_of, rule_of_fields}
 use Rattle.pam_times.specs.Reading.{times_of, with_meaning}
@@ -11,11 +13,8 @@ use Rattle.pam_times.specs.declared.error.TimeFault.{TimeFault}
 use Rattle.pam_times.specs.declared.error.TimeFault.TheVariants.{BadLogic, MissingField}
 use Rattle.pam_times.specs.declared.logic.Joint.{Joint}
 use Rattle.pam_times.specs.declared.logic.Joint.TheVariants.{First}
-use Rattle.pam_times.specs.declared.logic.Expected.{Expected}
-use Rattle.pam_times.specs.declared.logic.Expected.TheVariants as expects
 use Rattle.pam_times.specs.declared.reading.Field.{Field}
 use Rattle.pam_times.specs.declared.reading.Field.TheVariants.{Services, Terminals, Users, Times}
-use Rattle.pam_times.proofs.LogicSteps.{stuck}
 
 abbrev Items : Type 0
 Items = List (ItemOf (List ℕ))
@@ -53,14 +52,14 @@ each_fault meaning None = refl
 each_fault meaning (Some items) = each_checked meaning items
 
 pub list_fault : (field : Field) (text : List ℕ) →
-    fault_from (token_checked field) (Ok tt) (items_from (expects.Item First) (signs_of text)) ≡ list_checked field text
+    fault_from (token_checked field) (Ok tt) (items_from (ExpectItem First) (signs_of text)) ≡ list_checked field text
 unfolding names_of times_of items_of
-list_fault Services text = sym (each_fault (name_of Services) (items_from (expects.Item First) (signs_of text)))
-list_fault Terminals text = sym (each_fault (name_of Terminals) (items_from (expects.Item First) (signs_of text)))
-list_fault Users text = sym (each_fault (name_of Users) (items_from (expects.Item First) (signs_of text)))
-list_fault Times text = sym (each_fault (λ token. entry_or_fault (entry_of token)) (items_from (expects.Item First) (signs_of text)))
+list_fault Services text = sym (each_fault (name_of Services) (items_from (ExpectItem First) (signs_of text)))
+list_fault Terminals text = sym (each_fault (name_of Terminals) (items_from (ExpectItem First) (signs_of text)))
+list_fault Users text = sym (each_fault (name_of Users) (items_from (ExpectItem First) (signs_of text)))
+list_fault Times text = sym (each_fault (λ token. entry_or_fault (entry_of token)) (items_from (ExpectItem First) (signs_of text)))
 
--- ---- one sign after another
+-- ---- one item after another
 
 token_fault : (check : List ℕ → Checked) (before : Checked) (joint : Joint) (is_inverted : Bool) (t : List ℕ) (o : Option Items) →
     fault_from check before (onto_items joint is_inverted t o) ≡ fault_from check (first_fault before (check t)) o
@@ -68,59 +67,32 @@ token_fault check before joint is_inverted t None = refl
 token_fault check (Ok u) joint is_inverted t (Some items) = refl
 token_fault check (Err fault) joint is_inverted t (Some items) = refl
 
-module _ (field : Field) (before : Checked) (next : Expected) (rest : List SignText) where
-  pub fault_step : (expected : Expected) (sign : SignText) → expected_after expected sign ≡ Some next →
-      fault_from (token_checked field) before (items_from expected (sign ∷ rest))
-      ≡ fault_from (token_checked field) (sign_checked field before sign) (items_from next rest)
-  unfolding items_from
-  fault_step expects.Joint Not h = absurd (cc)
-  fault_step expects.Joint (Join joint) h =
-      let same : expects.Item joint ≡ next = cc in ap (λ (p : Expected). fault_from (token_checked field) before (items_from p rest)) same
-  fault_step expects.Joint (Token t) h = absurd (cc)
-  fault_step (expects.Item joint) Not h =
-      let same : expects.Token joint ≡ next = cc in ap (λ (p : Expected). fault_from (token_checked field) before (items_from p rest)) same
-  fault_step (expects.Item joint) (Join other) h = absurd (cc)
-  fault_step (expects.Item joint) (Token t) h =
-      let same : expects.Joint ≡ next = cc in
-      token_fault (token_checked field) before joint false t _
-      ∙ ap (λ (p : Expected). fault_from (token_checked field) (first_fault before (token_checked field t)) (items_from p rest)) same
-  fault_step (expects.Token joint) Not h = absurd (cc)
-  fault_step (expects.Token joint) (Join other) h = absurd (cc)
-  fault_step (expects.Token joint) (Token t) h =
-      let same : expects.Joint ≡ next = cc in
-      token_fault (token_checked field) before joint true t _
-      ∙ ap (λ (p : Expected). fault_from (token_checked field) (first_fault before (token_checked field t)) (items_from p rest)) same
+-- the operator before the first item changes no fault
+any_joint : (check : List ℕ → Checked) (before : Checked) (j k : Joint) (signs : List SignText) →
+    fault_from check before (items_from (ExpectItem j) signs) ≡ fault_from check before (items_from (ExpectItem k) signs)
+unfolding items_from
+any_joint check before j k [] = refl
+any_joint check before j k (Join joint ∷ signs) = refl
+any_joint check before j k (Token t ∷ signs) = token_fault check before j false t _ ∙ sym (token_fault check before k false t _)
+any_joint check before j k (Not ∷ []) = refl
+any_joint check before j k (Not ∷ Not ∷ signs) = refl
+any_joint check before j k (Not ∷ Join joint ∷ signs) = refl
+any_joint check before j k (Not ∷ Token t ∷ signs) = token_fault check before j true t _ ∙ sym (token_fault check before k true t _)
 
-pub fault_next : (field : Field) (before more : Checked) (expected next : Expected) (signs rest : List SignText) (sign : SignText) (all : Checked) →
-    signs ≡ sign ∷ rest → expected_after expected sign ≡ Some next → more ≡ sign_checked field before sign →
-    fault_from (token_checked field) before (items_from expected signs) ≡ all → fault_from (token_checked field) more (items_from next rest) ≡ all
-fault_next field before more expected next signs rest sign all e h k same =
-    ap (λ (c : Checked). fault_from (token_checked field) c (items_from next rest)) k ∙ sym (fault_step field before next rest expected sign h)
-    ∙ sym (ap (λ (ss : List SignText). fault_from (token_checked field) before (items_from expected ss)) e) ∙ same
+module _ (field : Field) (before : Checked) (text : List ℕ) (all : Checked)
+    (same : fault_from (token_checked field) before (items_after First text) ≡ all) where
+  module _ (item : Item) (first : IsFirstItem text item) (more : Checked) (is : more ≡ first_fault before (token_checked field item.token.now)) where
+    one_more : (left : Option Items) → items_left item.rest.now ≡ left → fault_from (token_checked field) more left ≡ all
+    one_more left after =
+        sym (ap (fault_from (token_checked field) more) after)
+        ∙ ap (λ (c : Checked). fault_from (token_checked field) c (items_left item.rest.now)) is
+        ∙ sym (token_fault (token_checked field) before First item.is_inverted item.token.now (items_left item.rest.now))
+        ∙ sym (ap (fault_from (token_checked field) before) (first First)) ∙ same
 
-pub fault_stuck : (field : Field) (before : Checked) (expected : Expected) (signs : List SignText) (sign : SignText) (rest : List SignText) →
-    signs ≡ sign ∷ rest → expected_after expected sign ≡ None → fault_from (token_checked field) before (items_from expected signs) ≡ Err BadLogic
-fault_stuck field before expected signs sign rest e h =
-    ap (λ (ss : List SignText). fault_from (token_checked field) before (items_from expected ss)) e
-    ∙ ap (fault_from (token_checked field) before) (stuck expected sign rest h)
-
--- no sign is left
-ok_then : (before : Checked) → first_fault before (Ok tt) ≡ before
-ok_then (Ok u) = refl
-ok_then (Err fault) = refl
-
-module _ (field : Field) (before : Checked) (signs : List SignText) (none : signs ≡ []) where
-  pub fault_at_end : fault_from (token_checked field) before (items_from expects.Joint signs) ≡ before
-  unfolding items_from
-  fault_at_end = ap (λ (ss : List SignText). fault_from (token_checked field) before (items_from expects.Joint ss)) none ∙ ok_then before
-
-  pub item_missing : (joint : Joint) → fault_from (token_checked field) before (items_from (expects.Item joint) signs) ≡ Err BadLogic
-  unfolding items_from
-  item_missing joint = ap (λ (ss : List SignText). fault_from (token_checked field) before (items_from (expects.Item joint) ss)) none
-
-  pub token_missing : (joint : Joint) → fault_from (token_checked field) before (items_from (expects.Token joint) signs) ≡ Err BadLogic
-  unfolding items_from
-  token_missing joint = ap (λ (ss : List SignText). fault_from (token_checked field) before (items_from (expects.Token joint) ss)) none
+    pub fault_next : (joint : Joint) (rest : List ℕ) → items_left item.rest.now ≡ items_after joint rest →
+        fault_from (token_checked field) more (items_after First rest) ≡ all
+    fault_next joint rest after =
+        any_joint (token_checked field) more First joint (signs_of rest) ∙ one_more (items_after joint rest) after
 
 -- ---- the fault of a line is the first of its fields
 

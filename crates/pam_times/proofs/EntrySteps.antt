@@ -1,8 +1,10 @@
 -- Days that are covered twice, and pairs of letters.
-use Rattle.std.proofs.Common.{◌≡◌, ◌∙◌, ◌+◌, ◌<◌, ◌≤◌, ℕ, Bool, true, false, not, List, [], ◌∷◌, length, take, drop, map, cond, Option, Some, None, refl, sym}
+use Rattle.std.proofs.Common.{◌≡◌, ◌∙◌, ◌+◌, ◌<◌, ◌≤◌, ◌&&◌, ℕ, get_or, Bool, true, false, not, List, [], ◌∷◌, length, take, drop, map, cond, Option, Some, None, refl, sym}
 use Rattle.std.proofs.Common.{ap, arith, count_by}
 use Rattle.std.proofs.lemmas.List.Sums.{sum_by-cons}
+use Rattle.std.specs.Char.{eq_ignore_ascii_case}
 use Rattle.std.specs.Option.{option_map}
+use Rattle.pam_codes.specs.Code.{same_name}
 use Rattle.pam_times.specs.Entry.{weekdays, covers, named_days, onto, mentions, is_odd, day_set, differ, toggled}
 use Rattle.pam_times.specs.declared.entry.DayRun.{DayRun}
 
@@ -90,3 +92,18 @@ pub unnamed : (days : List Bool) (rest name after : List ℕ) → 2 ≤ length r
 unnamed days rest name after h e f g =
     ap (λ (o : Option (List DayRun)). option_map (flips days) o) (two_letters rest name after h e f)
     ∙ ap (λ (o : Option DayRun). option_map (flips days) (onto o (mentions after))) (sym g)
+
+and_true : (b : Bool) → (b && true) ≡ b
+and_true true = refl
+and_true false = refl
+
+-- two names of two letters, letter by letter
+pub day_letters : (name day : List ℕ) → length name ≡ 2 → length day ≡ 2 →
+    same_name name day ≡ (eq_ignore_ascii_case (get_or name 0 0) (get_or day 0 0) && eq_ignore_ascii_case (get_or name 1 0) (get_or day 1 0))
+day_letters [] day h k = absurd (omega arith)
+day_letters (a ∷ []) day h k = absurd (omega arith)
+day_letters (a ∷ b ∷ c ∷ name) day h k = absurd (omega arith)
+day_letters (a ∷ b ∷ []) [] h k = absurd (omega arith)
+day_letters (a ∷ b ∷ []) (x ∷ []) h k = absurd (omega arith)
+day_letters (a ∷ b ∷ []) (x ∷ y ∷ z ∷ day) h k = absurd (omega arith)
+day_letters (a ∷ b ∷ []) (x ∷ y ∷ []) h k = ap (λ (t : Bool). eq_ignore_ascii_case a x && t) (and_true (eq_ignore_ascii_case b y))

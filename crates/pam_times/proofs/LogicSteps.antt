@@ -1,16 +1,15 @@
 -- The value of a list from the left, and the signs of a text one after another.
 use Rattle.std.proofs.Common.{◌≡◌, ◌∙◌, ◌+◌, ◌&&◌, ◌||◌, ℕ, Bool, true, false, not, List, [], ◌∷◌, length, get_or, take, drop, map, cond, eqb, Option}
-use Rattle.std.proofs.Common.{Some, None, refl, sym, ap, arith, one-add}
+use Rattle.std.proofs.Common.{Some, None, MatchOption, refl, sym, ap, arith, one-add}
 use Rattle.std.proofs.lemmas.Bool.{eqb-true}
 use Rattle.std.specs.List.{list_all, prefix_len}
 use Rattle.pam_codes.specs.Tokens.{is_blank}
-use Rattle.pam_times.specs.Entry.{differ}
-use Rattle.pam_times.specs.Logic.{ItemOf, may_begin, keeps, is_true_of, item_value, is_true, join, SignText, Not, Join, Token, is_token_byte, begins_token}
-use Rattle.pam_times.specs.Logic.{onto_token, signs_of, onto_items, items_from, items_of, items_or_fault, list_value, expected_after, value_after}
+use Rattle.pam_times.specs.Logic.{ItemOf, may_begin, keeps, is_true_of, item_value, is_true, join, ExpectItem, ExpectToken, ExpectJoint, SignText, Not, Join, Token, is_token_byte, begins_token}
+use Rattle.pam_times.specs.Logic.{onto_token, signs_of, onto_items, items_from, items_of, items_or_fault, list_value}
+use Rattle.pam_times.specs.Items.{HasNoItem, HasNoToken, IsFirstItem, IsInvertedItem, items_after, items_inverted, items_left}
+use Rattle.pam_times.specs.declared.logic.Item.{Item}
 use Rattle.pam_times.specs.declared.logic.Joint.{Joint}
 use Rattle.pam_times.specs.declared.logic.Joint.TheVariants.{First, And, Or}
-use Rattle.pam_times.specs.declared.logic.Expected.{Expected}
-use Rattle.pam_times.specs.declared.logic.Expected.TheVariants as expects
 
 -- ---- the value of a list
 
@@ -163,99 +162,80 @@ pub token_first : (bs a r : List ℕ) → (length bs ≡ 0 → ⊥) → prefix_l
 token_first [] a r n z h k l p q = absurd (n refl)
 token_first (b ∷ bs) a r n z h k l p q = rw (p, q) (signs_token (b ∷ bs) (no_mark b bs z h k l))
 
--- ---- one sign after another
+-- ---- one item after another
 
-abbrev Items : Type 0
-Items = List (ItemOf (List ℕ))
+module _ (text rest : List ℕ) where
+  pub empty_inverted : signs_of text ≡ [] → HasNoToken text
+  unfolding items_from
+  empty_inverted e joint = rw e refl
 
--- a sign that may not come next
-pub stuck : (expected : Expected) (sign : SignText) (rest : List SignText) → expected_after expected sign ≡ None → items_from expected (sign ∷ rest) ≡ None
-unfolding items_from
-stuck expects.Joint Not rest h = refl
-stuck expects.Joint (Join joint) rest h = absurd (cc)
-stuck expects.Joint (Token t) rest h = refl
-stuck (expects.Item joint) Not rest h = absurd (cc)
-stuck (expects.Item joint) (Join other) rest h = refl
-stuck (expects.Item joint) (Token t) rest h = absurd (cc)
-stuck (expects.Token joint) Not rest h = refl
-stuck (expects.Token joint) (Join other) rest h = refl
-stuck (expects.Token joint) (Token t) rest h = absurd (cc)
+  pub inverted_token : (t : List ℕ) → signs_of text ≡ Token t ∷ signs_of rest → (joint : Joint) →
+      items_inverted joint text ≡ onto_items joint true t (items_left rest)
+  unfolding items_from
+  inverted_token t e joint = ap (items_from (ExpectToken joint)) e
+
+  pub not_inverted : signs_of text ≡ Not ∷ signs_of rest → HasNoToken text
+  unfolding items_from
+  not_inverted e joint = ap (items_from (ExpectToken joint)) e
+
+  pub joint_inverted : (other : Joint) → signs_of text ≡ Join other ∷ signs_of rest → HasNoToken text
+  unfolding items_from
+  joint_inverted other e joint = ap (items_from (ExpectToken joint)) e
+
+  pub empty_item : signs_of text ≡ [] → HasNoItem text
+  unfolding items_from
+  empty_item e joint = ap (items_from (ExpectItem joint)) e
+
+  pub token_item : (t : List ℕ) → signs_of text ≡ Token t ∷ signs_of rest → (joint : Joint) →
+      items_after joint text ≡ onto_items joint false t (items_left rest)
+  unfolding items_from
+  token_item t e joint = ap (items_from (ExpectItem joint)) e
+
+  turned_item : signs_of text ≡ Not ∷ signs_of rest → (joint : Joint) → items_after joint text ≡ items_inverted joint rest
+  unfolding items_from
+  turned_item e joint = ap (items_from (ExpectItem joint)) e
+
+  pub turned : signs_of text ≡ Not ∷ signs_of rest → (result : Option Item) →
+      MatchOption result (HasNoToken rest) (λ item. IsInvertedItem rest item) → MatchOption result (HasNoItem text) (λ item. IsFirstItem text item)
+  turned e None none = λ joint. turned_item e joint ∙ none joint
+  turned e (Some item) is = λ joint.
+      turned_item e joint ∙ is.1 joint ∙ ap (λ (b : Bool). onto_items joint b item.token.now (items_left item.rest.now)) (sym is.0)
+
+  pub joint_item : (other : Joint) → signs_of text ≡ Join other ∷ signs_of rest → HasNoItem text
+  unfolding items_from
+  joint_item other e joint = ap (items_from (ExpectItem joint)) e
+
+  pub empty_next : signs_of text ≡ [] → items_left text ≡ Some []
+  unfolding items_from
+  empty_next e = ap (items_from ExpectJoint) e
+
+  pub joint_next : (joint : Joint) → signs_of text ≡ Join joint ∷ signs_of rest → items_left text ≡ items_after joint rest
+  unfolding items_from
+  joint_next joint e = ap (items_from ExpectJoint) e
+
+  pub not_next : signs_of text ≡ Not ∷ signs_of rest → items_left text ≡ None
+  unfolding items_from
+  not_next e = ap (items_from ExpectJoint) e
+
+  pub token_next : (t : List ℕ) → signs_of text ≡ Token t ∷ signs_of rest → items_left text ≡ None
+  unfolding items_from
+  token_next t e = ap (items_from ExpectJoint) e
+
+-- ---- the value of the items that are left
+
+abbrev ItemList : Type 0
+ItemList = List (ItemOf (List ℕ))
 
 -- the value of a list, from the value of the items before
-abbrev pub value_from : (List ℕ → Bool) → Bool → Option Items → Option Bool
-value_from f value None = None
-value_from f value (Some items) = Some (folded_items f value items)
+abbrev pub value_from : (List ℕ → Bool) → Bool → Option ItemList → Bool
+value_from f value None = false
+value_from f value (Some items) = folded_items f value items
 
-one_item : (f : List ℕ → Bool) (value is_inverted : Bool) (joint : Joint) (t : List ℕ) (o : Option Items) →
-    value_from f value (onto_items joint is_inverted t o) ≡ value_from f (join joint value (differ is_inverted (f t))) o
-one_item f value is_inverted joint t None = refl
-one_item f value is_inverted joint t (Some items) = refl
-
-module _ (f : List ℕ → Bool) (value : Bool) (next : Expected) (rest : List SignText) where
-  pub value_step : (expected : Expected) (sign : SignText) → expected_after expected sign ≡ Some next →
-      value_from f value (items_from expected (sign ∷ rest)) ≡ value_from f (value_after f value expected sign) (items_from next rest)
-  unfolding items_from
-  value_step expects.Joint Not h = absurd (cc)
-  value_step expects.Joint (Join joint) h =
-      let same : expects.Item joint ≡ next = cc in ap (λ (p : Expected). value_from f value (items_from p rest)) same
-  value_step expects.Joint (Token t) h = absurd (cc)
-  value_step (expects.Item joint) Not h =
-      let same : expects.Token joint ≡ next = cc in ap (λ (p : Expected). value_from f value (items_from p rest)) same
-  value_step (expects.Item joint) (Join other) h = absurd (cc)
-  value_step (expects.Item joint) (Token t) h =
-      let same : expects.Joint ≡ next = cc in
-      one_item f value false joint t _ ∙ ap (λ (p : Expected). value_from f (join joint value (differ false (f t))) (items_from p rest)) same
-  value_step (expects.Token joint) Not h = absurd (cc)
-  value_step (expects.Token joint) (Join other) h = absurd (cc)
-  value_step (expects.Token joint) (Token t) h =
-      let same : expects.Joint ≡ next = cc in
-      one_item f value true joint t _ ∙ ap (λ (p : Expected). value_from f (join joint value (differ true (f t))) (items_from p rest)) same
-
-none_some : (b : Bool) → ◌≡◌ {A = Option Bool} None (Some b) → ⊥
-none_some b h = absurd (cc)
-
-abbrev pub or_false_value : Option Bool → Bool
-or_false_value None = false
-or_false_value (Some value) = value
-
--- the value of a list, from the value of the items before, or false if the signs are no list
-abbrev pub value_left : (List ℕ → Bool) → Bool → Expected → List SignText → Bool
-value_left f value expected signs = or_false_value (value_from f value (items_from expected signs))
-
-pub value_whole : (f : List ℕ → Bool) (text : List ℕ) → value_left f false (expects.Item First) (signs_of text) ≡ list_value f (items_of text)
+pub value_whole : (f : List ℕ → Bool) (text : List ℕ) → value_from f false (items_after First text) ≡ list_value f (items_of text)
 unfolding items_of
 value_whole f text =
-    elim (items_from (expects.Item First) (signs_of text)) as
-    (λ (o : Option Items). or_false_value (value_from f false o) ≡ list_value f (items_or_fault o)) [
+    elim (items_from (ExpectItem First) (signs_of text)) as
+    (λ (o : Option ItemList). value_from f false o ≡ list_value f (items_or_fault o)) [
       | None ↦ refl
       | Some items ↦ folded_is_true f items
     ]
-
-module _ (f : List ℕ → Bool) (value : Bool) (expected : Expected) (signs rest : List SignText) (sign : SignText) (first : signs ≡ sign ∷ rest) where
-  pub value_next : (new : Bool) (next : Expected) (all : Bool) → expected_after expected sign ≡ Some next → new ≡ value_after f value expected sign →
-      value_left f value expected signs ≡ all → value_left f new next rest ≡ all
-  value_next new next all h k same =
-      ap (λ (v : Bool). value_left f v next rest) k ∙ sym (ap or_false_value (value_step f value next rest expected sign h))
-      ∙ sym (ap (λ (ss : List SignText). value_left f value expected ss) first) ∙ same
-
-  pub value_stuck : expected_after expected sign ≡ None → false ≡ value_left f value expected signs
-  value_stuck h =
-      sym (ap (λ (ss : List SignText). value_left f value expected ss) first
-      ∙ ap (λ (o : Option Items). or_false_value (value_from f value o)) (stuck expected sign rest h))
-
--- no sign is left
-module _ (f : List ℕ → Bool) (value : Bool) (expected : Expected) (signs : List SignText) (none : signs ≡ []) where
-  at : (p : Expected) → expected ≡ p → value_left f value expected signs ≡ value_left f value p []
-  at p e = ap (λ (q : Expected). value_left f value q signs) e ∙ ap (λ (ss : List SignText). value_left f value p ss) none
-
-  pub value_at_end : expected ≡ expects.Joint → value ≡ value_left f value expected signs
-  unfolding items_from
-  value_at_end e = sym (at expects.Joint e)
-
-  pub no_item : (joint : Joint) → expected ≡ expects.Item joint → false ≡ value_left f value expected signs
-  unfolding items_from
-  no_item joint e = sym (at (expects.Item joint) e)
-
-  pub no_token : (joint : Joint) → expected ≡ expects.Token joint → false ≡ value_left f value expected signs
-  unfolding items_from
-  no_token joint e = sym (at (expects.Token joint) e)

@@ -11,7 +11,6 @@ use Rattle.pam_times.specs.RuleLines.{are_rules, has_rule, onto, rules_at}
 use Rattle.pam_times.specs.Times.{Rule, answer_at, denies}
 use Rattle.pam_times.specs.declared.error.TimeFault.{TimeFault}
 use Rattle.pam_times.specs.declared.rule_lines.RuleLine.{RuleLine}
-use Rattle.pam_times.specs.declared.times.TimeAnswer.{TimeAnswer}
 use Rattle.pam_times.specs.declared.times.TimeAnswer.TheVariants.{Granted, Denied}
 use Rattle.pam_times.proofs.RuleSteps.{number_kept}
 

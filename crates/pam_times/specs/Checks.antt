@@ -1,7 +1,6 @@
 -- For private contracts and proofs alone: the faults of a line of time.conf(5), without its rule.
 use Rattle.std.specs.Prelude.{Bool, true, false, ℕ, List, Option, Some, None, Result, Ok, Err}
 use Rattle.pam_times.specs.Entry.{entry_of}
-use Rattle.pam_times.specs.Logic.{SignText, Token}
 use Rattle.pam_times.specs.Reading.{entry_or_fault, name_of, names_of, times_of}
 use Rattle.pam_times.specs.Times.{Rule}
 use Rattle.pam_times.specs.declared.error.TimeFault.{TimeFault}
@@ -31,11 +30,6 @@ list_checked field text = checked (names_of field text)
 abbrev pub first_fault : Result (Unit {0}) TimeFault → Result (Unit {0}) TimeFault → Result (Unit {0}) TimeFault
 first_fault (Ok u) other = other
 first_fault (Err fault) other = Err fault
-
--- the first fault up to a sign, from that of the signs before it
-abbrev pub sign_checked : Field → Result (Unit {0}) TimeFault → SignText → Result (Unit {0}) TimeFault
-sign_checked field before (Token t) = first_fault before (token_checked field t)
-sign_checked field before _ = before
 
 -- whether a line has a rule, or its fault
 abbrev pub line_checked : Result (Option Rule) TimeFault → Result Bool TimeFault

@@ -1,5 +1,5 @@
 -- time.conf(5): a logic list has items joined by `&` and `|`; `!` inverts an item.
-use Rattle.std.specs.Prelude.{◌≡◌, ℕ, ◌==◌, ◌&&◌, ◌||◌, Bool, true, false, not, List, [], ◌∷◌, map, if◌then◌else◌, Option, Some, None, Result, Ok, Err}
+use Rattle.std.specs.Prelude.{ℕ, ◌==◌, ◌&&◌, ◌||◌, Bool, true, false, not, List, [], ◌∷◌, map, if◌then◌else◌, Option, Some, None, Result, Ok, Err}
 use Rattle.std.specs.List.{list_all}
 use Rattle.pam_codes.specs.Tokens.{is_blank}
 use Rattle.pam_times.specs.declared.error.TimeFault.{TimeFault}
@@ -7,8 +7,6 @@ use Rattle.pam_times.specs.declared.error.TimeFault.TheVariants.{BadLogic}
 use Rattle.pam_times.specs.Entry.{differ}
 use Rattle.pam_times.specs.declared.logic.Joint.{Joint}
 use Rattle.pam_times.specs.declared.logic.Joint.TheVariants.{First, And, Or}
-use Rattle.pam_times.specs.declared.logic.Expected.{Expected}
-use Rattle.pam_times.specs.declared.logic.Expected.TheVariants as expects
 use Rattle.pam_times.specs.declared.logic.Sign.{Sign}
 use Rattle.pam_times.specs.declared.logic.Sign.TheVariants as signs
 
@@ -85,14 +83,20 @@ abbrev pub onto_items : Joint → Bool → List ℕ → Option (List (ItemOf (Li
 onto_items joint is_inverted token (Some items) = Some ((joint, is_inverted, token) ∷ items)
 onto_items joint is_inverted token None = None
 
+-- what may come next in a list: an item after this operator, the token of an inverted item, or an operator or the end
+pub data Expected : Type 0 where
+  ExpectItem : Joint → Expected
+  ExpectToken : Joint → Expected
+  ExpectJoint : Expected
+
 -- the items that may come next, if the signs are a list: an item is a token, with at most one `!` before it,
 -- and there is an operator between two items
 unfoldable pub items_from : Expected → List SignText → Option (List (ItemOf (List ℕ)))
-items_from (expects.Item joint) (Not ∷ signs) = items_from (expects.Token joint) signs
-items_from (expects.Item joint) (Token t ∷ signs) = onto_items joint false t (items_from expects.Joint signs)
-items_from (expects.Token joint) (Token t ∷ signs) = onto_items joint true t (items_from expects.Joint signs)
-items_from expects.Joint (Join joint ∷ signs) = items_from (expects.Item joint) signs
-items_from expects.Joint [] = Some []
+items_from (ExpectItem joint) (Not ∷ signs) = items_from (ExpectToken joint) signs
+items_from (ExpectItem joint) (Token t ∷ signs) = onto_items joint false t (items_from ExpectJoint signs)
+items_from (ExpectToken joint) (Token t ∷ signs) = onto_items joint true t (items_from ExpectJoint signs)
+items_from ExpectJoint (Join joint ∷ signs) = items_from (ExpectItem joint) signs
+items_from ExpectJoint [] = Some []
 items_from _ _ = None
 
 abbrev pub items_or_fault : Option (List (ItemOf (List ℕ))) → Result (List (ItemOf (List ℕ))) TimeFault
@@ -101,25 +105,9 @@ items_or_fault None = Err BadLogic
 
 -- the items of a text
 unfoldable pub items_of : List ℕ → Result (List (ItemOf (List ℕ))) TimeFault
-items_of text = items_or_fault (items_from (expects.Item First) (signs_of text))
+items_of text = items_or_fault (items_from (ExpectItem First) (signs_of text))
 
 -- the value of a text, which is false if the text is no list
 abbrev pub list_value : (List ℕ → Bool) → Result (List (ItemOf (List ℕ))) TimeFault → Bool
 list_value f (Ok items) = is_true f items
 list_value f (Err fault) = false
-
--- ---- sign by sign
-
--- for private contracts and proofs alone: what may come after a sign, if the sign may come next
-abbrev pub expected_after : Expected → SignText → Option Expected
-expected_after (expects.Item joint) Not = Some (expects.Token joint)
-expected_after (expects.Item joint) (Token t) = Some expects.Joint
-expected_after (expects.Token joint) (Token t) = Some expects.Joint
-expected_after expects.Joint (Join joint) = Some (expects.Item joint)
-expected_after _ _ = None
-
--- for private contracts and proofs alone: the value up to a sign that may come next, from the value before it
-abbrev pub value_after : (List ℕ → Bool) → Bool → Expected → SignText → Bool
-value_after f value (expects.Item joint) (Token t) = join joint value (differ false (f t))
-value_after f value (expects.Token joint) (Token t) = join joint value (differ true (f t))
-value_after f value _ _ = value

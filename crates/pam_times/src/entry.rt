@@ -2,10 +2,10 @@
 
 ghost use Rattle.std.specs.Prelude.{◌≡◌, ◌+◌, ◌<◌, ◌≤◌, ◌&&◌, nat_le, length, slice_index, slice_index_or, false, IfSome};
 ghost use Rattle.std.specs.Option.{option_map};
+ghost use Rattle.pam_codes.specs.Code.{same_name};
 ghost use Rattle.pam_times.specs.Entry.{covers, named_days, toggled, days_of, time_at, finish_at, entry_of, holds};
 
 use crate::moments::pair;
-use pam_codes::is_name;
 
 /// A range of days of the week, both ends included. Monday is 0.
 #[derive(Clone, Copy)]
@@ -28,30 +28,41 @@ impl DayRun {
     }
 }
 
+/// Whether two letters are those of a name, in either case.
+#[inline(always)]
+#[tactic(auto, using(crate::proofs::EntrySteps::day_letters))]
+fn is_day(name: &[u8], day: &[u8; 2]) -> bool
+    requires { length name.now ≡ 2 }
+    ensures { result ≡ same_name name.now day.now }
+{
+    name[0].eq_ignore_ascii_case(&day[0]) && name[1].eq_ignore_ascii_case(&day[1])
+}
+
 /// Returns the days that two letters name, in either case.
 #[tactic(auto, unfolding(crate::specs::Entry::named_days))]
 fn named_days(name: &[u8]) -> Option<DayRun>
+    requires { length name.now ≡ 2 }
     ensures { result ≡ named_days name.now }
 {
-    if is_name(name, b"mo") {
+    if is_day(name, b"mo") {
         Some(DayRun::new(0, 0))
-    } else if is_name(name, b"tu") {
+    } else if is_day(name, b"tu") {
         Some(DayRun::new(1, 1))
-    } else if is_name(name, b"we") {
+    } else if is_day(name, b"we") {
         Some(DayRun::new(2, 2))
-    } else if is_name(name, b"th") {
+    } else if is_day(name, b"th") {
         Some(DayRun::new(3, 3))
-    } else if is_name(name, b"fr") {
+    } else if is_day(name, b"fr") {
         Some(DayRun::new(4, 4))
-    } else if is_name(name, b"sa") {
+    } else if is_day(name, b"sa") {
         Some(DayRun::new(5, 5))
-    } else if is_name(name, b"su") {
+    } else if is_day(name, b"su") {
         Some(DayRun::new(6, 6))
-    } else if is_name(name, b"wk") {
+    } else if is_day(name, b"wk") {
         Some(DayRun::new(0, 4))
-    } else if is_name(name, b"wd") {
+    } else if is_day(name, b"wd") {
         Some(DayRun::new(5, 6))
-    } else if is_name(name, b"al") {
+    } else if is_day(name, b"al") {
         Some(DayRun::new(0, 6))
     } else {
         None

@@ -1,12 +1,12 @@
 //! Logic lists of time.conf(5): items joined by `&` and `|`.
 
-ghost use Rattle.std.specs.Prelude.{◌≡◌, ◌∷◌, ◌≤◌, [], length, MatchOption};
-ghost use Rattle.std.specs.Iterator.{YieldsFirstBy, item_count};
+ghost use Rattle.std.specs.Prelude.{◌≡◌, ◌∷◌, ◌<◌, ◌≤◌, [], length, IfSome, MatchOption};
 ghost use Rattle.std.specs.List.{prefix_len};
 ghost use Rattle.pam_codes.specs.Tokens.{is_blank};
 ghost use Rattle.pam_times.specs.Entry.{differ};
 ghost use Rattle.pam_times.specs.Fact.{meets};
-ghost use Rattle.pam_times.specs.Logic.{join, list_value, is_token_byte, signs_of, sign_view, expected_after, value_after, items_of};
+ghost use Rattle.pam_times.specs.Logic.{join, list_value, is_token_byte, signs_of, sign_view, items_of};
+ghost use Rattle.pam_times.specs.Items.{HasNoItem, HasNoToken, IsFirstItem, IsInvertedItem, IsShorter, items_left, items_of_next, sign_count};
 
 use crate::fact::Fact;
 use pam_text::{is_text_blank, text_blank_len};
@@ -69,6 +69,7 @@ fn skip_blanks(bytes: &[u8]) -> &[u8]
 }
 
 /// Splits off the first sign. Returns it and the text after it.
+#[inline(always)]
 fn first_sign(bytes: &[u8]) -> Option<(Sign<'_>, &[u8])>
     ensures { MatchOption result (signs_of bytes.now ≡ []) (λ p. signs_of bytes.now ≡ sign_view p.0 ∷ signs_of p.1.now) }
 {
@@ -89,74 +90,74 @@ fn first_sign(bytes: &[u8]) -> Option<(Sign<'_>, &[u8])>
     Some((Sign::Token(token), after))
 }
 
-/// An iterator over the signs of a text.
-#[derive(Drop)]
-pub(crate) struct Signs<'a> {
+/// An item of a list, without the operator before it.
+#[derive(Clone, Copy)]
+pub(crate) struct Item<'a> {
+    pub(crate) is_inverted: bool,
+    pub(crate) token: &'a [u8],
+    /// The text after the item.
     pub(crate) rest: &'a [u8],
 }
 
-impl<'a> Iterator for Signs<'a> {
-    type Item = Sign<'a>;
-
-    ghost next_gives = { YieldsFirstBy sign_view (λ s. signs_of s.rest.now) };
-
-    ghost remaining = { item_count (λ s. signs_of s.rest.now) };
-
-    fn next(&mut self) -> Option<Sign<'a>> {
-        let (sign, rest) = first_sign(self.rest)?;
-        self.rest = rest;
-        Some(sign)
-    }
-}
-
-/// What may come next in a list.
+/// What comes after an item.
 #[derive(Clone, Copy)]
-pub(crate) enum Expected {
-    /// An item, after this operator.
-    Item(Joint),
-    /// The token of an inverted item.
-    Token(Joint),
-    /// An operator, or the end.
-    Joint,
+pub(crate) enum Next<'a> {
+    End,
+    /// An operator, and the text after it.
+    Joint(Joint, &'a [u8]),
+    /// Neither an operator nor the end.
+    Fault,
 }
 
-impl Expected {
-    /// Returns what may come after a sign, or `None` if the sign may not come next.
-    pub(crate) fn after(self, sign: Sign<'_>) -> Option<Expected>
-        ensures { result ≡ expected_after self (sign_view sign.entry) }
-    {
-        match self {
-            Expected::Item(joint) => match sign {
-                Sign::Not => Some(Expected::Token(joint)),
-                Sign::Joint(_) => None,
-                Sign::Token(_) => Some(Expected::Joint),
-            },
-            Expected::Token(_) => match sign {
-                Sign::Not => None,
-                Sign::Joint(_) => None,
-                Sign::Token(_) => Some(Expected::Joint),
-            },
-            Expected::Joint => match sign {
-                Sign::Not => None,
-                Sign::Joint(joint) => Some(Expected::Item(joint)),
-                Sign::Token(_) => None,
-            },
-        }
+/// Splits off the token of an inverted item, if it comes first.
+#[inline(always)]
+fn inverted_item(text: &[u8]) -> Option<Item<'_>>
+    ensures item { MatchOption result (HasNoToken text.now) (λ item. IsInvertedItem text.now item) }
+    ensures shorter { IfSome result (λ item. sign_count item.rest.now < sign_count text.now) }
+{
+    let (sign, rest) = first_sign(text)?;
+    match sign {
+        Sign::Token(token) => Some(Item {
+            is_inverted: true,
+            token,
+            rest,
+        }),
+        Sign::Not => None,
+        Sign::Joint(_) => None,
     }
 }
 
-/// Returns the value of a list up to a sign that may come next, given its value before the sign.
-fn value_after(value: bool, expected: Expected, sign: Sign<'_>, fact: &Fact<'_>) -> bool
-    ensures { result ≡ value_after (meets fact.now) value expected (sign_view sign.entry) }
+/// Splits off the first item. Returns `None` if no item comes first.
+#[inline(always)]
+pub(crate) fn first_item(text: &[u8]) -> Option<Item<'_>>
+    ensures item { MatchOption result (HasNoItem text.now) (λ item. IsFirstItem text.now item) }
+    ensures shorter { IfSome result (λ item. sign_count item.rest.now < sign_count text.now) }
 {
+    let (sign, rest) = first_sign(text)?;
     match sign {
-        Sign::Token(token) => match expected {
-            Expected::Item(joint) => joint.join(value, false, token, fact),
-            Expected::Token(joint) => joint.join(value, true, token, fact),
-            Expected::Joint => value,
-        },
-        Sign::Not => value,
-        Sign::Joint(_) => value,
+        Sign::Token(token) => Some(Item {
+            is_inverted: false,
+            token,
+            rest,
+        }),
+        Sign::Not => inverted_item(rest),
+        Sign::Joint(_) => None,
+    }
+}
+
+/// Returns what comes next in a text after an item.
+#[inline(always)]
+pub(crate) fn next_joint(text: &[u8]) -> Next<'_>
+    ensures items { items_left text.now ≡ items_of_next result }
+    ensures shorter { IsShorter result text.now }
+{
+    let Some((sign, rest)) = first_sign(text) else {
+        return Next::End;
+    };
+    match sign {
+        Sign::Joint(joint) => Next::Joint(joint, rest),
+        Sign::Not => Next::Fault,
+        Sign::Token(_) => Next::Fault,
     }
 }
 
@@ -165,19 +166,18 @@ pub(crate) fn is_true(text: &[u8], fact: &Fact<'_>) -> bool
     ensures { result ≡ list_value (meets fact.now) (items_of text.now) }
 {
     let mut value = false;
-    let mut expected = Expected::Item(Joint::First);
-    for sign in (Signs { rest: text }) {
-        match expected.after(sign) {
-            Some(next) => {
-                value = value_after(value, expected, sign, fact);
-                expected = next;
+    let mut joint = Joint::First;
+    let mut rest = text;
+    while let Some(item) = first_item(rest) {
+        value = joint.join(value, item.is_inverted, item.token, fact);
+        match next_joint(item.rest) {
+            Next::End => return value,
+            Next::Joint(next, after) => {
+                joint = next;
+                rest = after;
             }
-            None => return false,
+            Next::Fault => return false,
         }
     }
-    match expected {
-        Expected::Joint => value,
-        Expected::Item(_) => false,
-        Expected::Token(_) => false,
-    }
+    false
 }

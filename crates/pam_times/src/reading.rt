@@ -4,13 +4,12 @@ ghost use Rattle.std.specs.Prelude.{◌≡◌, ℕ};
 ghost use Rattle.std.specs.List.{list_all};
 ghost use Rattle.std.specs.Option.{option_map};
 ghost use Rattle.pam_codes.specs.Tokens.{is_blank};
-ghost use Rattle.pam_times.specs.Logic.{sign_view};
 ghost use Rattle.pam_times.specs.Reading.{is_netgroup, has_empty, cut_fields, fields_of, fields_view, rule_of};
-ghost use Rattle.pam_times.specs.Checks.{name_checked, entry_checked, token_checked, sign_checked, list_checked, line_checked};
+ghost use Rattle.pam_times.specs.Checks.{name_checked, entry_checked, first_fault, token_checked, list_checked, line_checked};
 
 use crate::entry::TimeEntry;
 use crate::error::TimeFault;
-use crate::logic::{Expected, Joint, Sign, Signs};
+use crate::logic::{Next, first_item, next_joint};
 use crate::pattern;
 use pam_text::{cut, is_text_blank};
 
@@ -118,17 +117,13 @@ fn check_token(field: Field, token: &[u8]) -> Result<(), TimeFault>
     }
 }
 
-/// Returns the first fault of the tokens of a list up to a sign, given that of the signs before it.
-fn check_sign(before: Result<(), TimeFault>, field: Field, sign: Sign<'_>) -> Result<(), TimeFault>
-    ensures { result ≡ sign_checked field before (sign_view sign.entry) }
+/// Returns the first fault of the tokens of a list up to a token, given that of the tokens before it.
+fn check_next(before: Result<(), TimeFault>, field: Field, token: &[u8]) -> Result<(), TimeFault>
+    ensures { result ≡ first_fault before (token_checked field token.now) }
 {
-    match sign {
-        Sign::Token(token) => match before {
-            Ok(()) => check_token(field, token),
-            Err(fault) => Err(fault),
-        },
-        Sign::Not => before,
-        Sign::Joint(_) => before,
+    match before {
+        Ok(()) => check_token(field, token),
+        Err(fault) => Err(fault),
     }
 }
 
@@ -137,21 +132,16 @@ fn check_list(field: Field, text: &[u8]) -> Result<(), TimeFault>
     ensures { result ≡ list_checked field text.now }
 {
     let mut checked = Ok(());
-    let mut expected = Expected::Item(Joint::First);
-    for sign in (Signs { rest: text }) {
-        match expected.after(sign) {
-            Some(next) => {
-                checked = check_sign(checked, field, sign);
-                expected = next;
-            }
-            None => return Err(TimeFault::BadLogic),
+    let mut rest = text;
+    while let Some(item) = first_item(rest) {
+        checked = check_next(checked, field, item.token);
+        match next_joint(item.rest) {
+            Next::End => return checked,
+            Next::Joint(_, after) => rest = after,
+            Next::Fault => return Err(TimeFault::BadLogic),
         }
     }
-    match expected {
-        Expected::Joint => checked,
-        Expected::Item(_) => Err(TimeFault::BadLogic),
-        Expected::Token(_) => Err(TimeFault::BadLogic),
-    }
+    Err(TimeFault::BadLogic)
 }
 
 /// Checks a line. Returns whether it has a rule: a blank line has none.

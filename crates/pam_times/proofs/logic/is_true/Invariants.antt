@@ -1,12 +1,12 @@
 use Rattle.std.proofs.Common.{◌≡◌}
 use Rattle.pam_times.specs.Fact.{meets}
-use Rattle.pam_times.specs.Logic.{items_of, list_value, signs_of}
-use Rattle.pam_times.proofs.LogicSteps.{value_left}
+use Rattle.pam_times.specs.Items.{items_after, sign_count}
+use Rattle.pam_times.specs.Logic.{items_of, list_value}
+use Rattle.pam_times.proofs.LogicSteps.{value_from}
 use Rattle.pam_times.proofs.logic.is_true.Given as goal
 
-abbrev pub invariant-loop-sign : goal.invariant-loop-sign
-invariant-loop-sign l = record {
-  can : (goal.iterator-loop-sign).can_next l.sign-iterator;
-  finite : (goal.iterator-loop-sign).is_finite l.sign-iterator;
-  same : value_left (meets l.fact) l.value l.expected (signs_of l.sign-iterator.rest.now) ≡ list_value (meets l.fact) (items_of l.text);
-}
+abbrev pub invariant-loop-item : goal.invariant-loop-item
+invariant-loop-item l = value_from (meets l.fact) l.value (items_after l.joint l.rest) ≡ list_value (meets l.fact) (items_of l.text)
+
+abbrev pub decreases-loop-item : goal.decreases-loop-item
+decreases-loop-item l = sign_count l.rest

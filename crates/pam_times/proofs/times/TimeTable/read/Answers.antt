@@ -1,7 +1,5 @@
 use Rattle.std.proofs.Common.{◌∙◌}
 use Rattle.std.proofs.lemmas.Result.{err_from_is_err_and}
-use Rattle.pam_text.specs.Left.{text_left}
-use Rattle.pam_text.specs.Text.{text_lines}
 use Rattle.pam_times.specs.Stored.{stored}
 use Rattle.pam_times.proofs.ReadingSteps.{all_read, line_error, next_line, source_told}
 use Rattle.pam_times.proofs.times.TimeTable.read.Goals as goal
