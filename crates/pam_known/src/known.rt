@@ -161,7 +161,7 @@ impl Lookup<'_, '_, '_> {
     }
 
     /// Returns the codes of the module's line in a returns file, if it has one and reads no table.
-    fn codes_of(&self, module: &Module, returns: &ReturnTable) -> Option<CodeSet>
+    fn codes_of(&self, module: &Module, returns: &ReturnTable<'_>) -> Option<CodeSet>
         ensures { Adds result (told_of self.now (module_text «module».now)) (codes_for returns.now (name_of_path «module».now.path.items)) }
     {
         if self.is_told(module) {
@@ -174,7 +174,7 @@ impl Lookup<'_, '_, '_> {
     }
 
     /// Like `codes_of`, for the module of a number.
-    fn codes_at(&self, stack: &Stack, number: usize, returns: &ReturnTable) -> Option<CodeSet>
+    fn codes_at(&self, stack: &Stack, number: usize, returns: &ReturnTable<'_>) -> Option<CodeSet>
         ensures { Adds result (told_of_number self.now stack.now number) (line_at returns.now stack.now number) }
     {
         match stack.module(number) {
@@ -184,7 +184,7 @@ impl Lookup<'_, '_, '_> {
     }
 
     /// Adds the codes of a returns file, for the modules that read no table.
-    fn add_returns(&self, stack: &Stack, returns: &ReturnTable, known: &mut Known)
+    fn add_returns(&self, stack: &Stack, returns: &ReturnTable<'_>, known: &mut Known)
         requires { (m : ℕ) → 1 ≤ m → m ≤ module_count stack.now → IsTableSet (told_of_number self.now stack.now) m (set_for known.old m) }
         ensures { (m : ℕ) → 1 ≤ m → m ≤ module_count stack.now
             → IsLineSet (told_of_number self.now stack.now) (line_at returns.now stack.now) m (set_for known.new m) }

@@ -23,21 +23,21 @@ const BLANKS: &[u8] = b" \t";
 ///
 /// A line of a returns file is a module name and one or more code names, separated by spaces and tabs, as in
 /// `pam_unix.so success auth_err`. The case of code names is ignored. Lines that begin with `#` and blank lines are
-/// skipped. If several lines have the same name, the first counts.
+/// skipped. If several lines have the same name, the first counts. The table borrows the bytes it was read from.
 #[derive(Drop)]
-pub struct ReturnTable {
-    codes: IndexMap<Vec<u8>, CodeSet>,
+pub struct ReturnTable<'a> {
+    codes: IndexMap<&'a [u8], CodeSet>,
 }
 
-impl Model for ReturnTable {
+impl<'a> Model for ReturnTable<'a> {
     ghost use Rattle.std.specs.Prelude.{List, map};
     ghost use Rattle.pam_tables.specs.Returns.{ReturnLine, HaveCodes};
 
     ghost Value = { List ReturnLine };
 
-    ghost view = { λ t. map (λ e. (e.0.items, e.1)) t.codes.entries };
+    ghost view = { λ t. map (λ e. (e.0.now, e.1)) t.codes.entries };
 
-    ghost invariant = { λ t. HaveCodes (map (λ e. (e.0.items, e.1)) t.codes.entries) };
+    ghost invariant = { λ t. HaveCodes (map (λ e. (e.0.now, e.1)) t.codes.entries) };
 }
 
 /// The name of a module, and the codes that it may return.
@@ -85,7 +85,7 @@ fn read_line<'a>(line: &'a [u8], blanks: &ByteSet<'_>) -> Result<Option<ReturnLi
     Ok(Some(ReturnLine { name, codes }))
 }
 
-impl ReturnTable {
+impl<'a> ReturnTable<'a> {
     fn empty(alloc: Global) -> Self
         ensures { result ≡ [] }
     {
@@ -99,7 +99,7 @@ impl ReturnTable {
     /// `TableTooLong` (line 0) comes first, then `NulByte`, then the lines from the top. Within a line `BadModule` (a
     /// slash in the module name) comes first, then `MissingField` (no code), then `BadCode` (a word that is no code).
     /// A failed allocation is `Memory`, with line 0.
-    pub fn read(alloc: Global, bytes: &[u8]) -> Result<ReturnTable, TableError>
+    pub fn read(alloc: Global, bytes: &'a [u8]) -> Result<ReturnTable<'a>, TableError>
         ensures { Gives Table.Returns (λ table. table) result (returns_of bytes.now) }
     {
         let none = ReturnReader {
@@ -110,12 +110,7 @@ impl ReturnTable {
     }
 
     /// Adds the codes of a line, if its name is new.
-    fn add_line(
-        &mut self,
-        alloc: Global,
-        line: &[u8],
-        blanks: &ByteSet<'_>,
-    ) -> Result<(), TableFault>
+    fn add_line(&mut self, line: &'a [u8], blanks: &ByteSet<'_>) -> Result<(), TableFault>
         requires { blanks.now.bytes.now ≡ codes " \t" }
         ensures { GivesPart (λ _. self.new) result (with_line self.old (return_at line.now)) }
     {
@@ -127,8 +122,9 @@ impl ReturnTable {
         if self.codes.contains_key(line.name) {
             return Ok(());
         }
-        let name = Vec::from_slice(alloc, line.name)?;
-        self.codes.insert(name, line.codes)?;
+        let Ok(_) = self.codes.insert(line.name, line.codes) else {
+            return Err(TableFault::Memory);
+        };
         Ok(())
     }
 
@@ -143,13 +139,13 @@ impl ReturnTable {
 
 /// A table to which lines are added.
 #[derive(Drop)]
-struct ReturnReader<'s> {
-    table: ReturnTable,
+struct ReturnReader<'a, 's> {
+    table: ReturnTable<'a>,
     blanks: ByteSet<'s>,
     ghost blank: { blanks.bytes.now ≡ codes " \t" },
 }
 
-impl<'a, 's> Entries<'a> for ReturnReader<'s> {
+impl<'a, 's> Entries<'a> for ReturnReader<'a, 's> {
     ghost use Rattle.std.specs.Prelude.{ℕ, List};
     ghost use Rattle.pam_tables.specs.Returns.{return_at};
 
@@ -159,9 +155,9 @@ impl<'a, 's> Entries<'a> for ReturnReader<'s> {
 
     ghost entries = { λ reader. reader.table };
 
-    fn add_line(&mut self, alloc: Global, line: &'a [u8]) -> Result<(), TableFault>
+    fn add_line(&mut self, _alloc: Global, line: &'a [u8]) -> Result<(), TableFault>
         ensures { GivesPart (λ _. self.new.table) result (with_line self.old.table (return_at line.now)) }
     {
-        self.table.add_line(alloc, line, &self.blanks)
+        self.table.add_line(line, &self.blanks)
     }
 }
