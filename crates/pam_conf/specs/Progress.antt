@@ -1,5 +1,5 @@
 -- For proofs alone: the progress of a walk, by its effect on any continuation: pam.conf(5), on include and substack.
-use Rattle.std.specs.Prelude.{◌≡◌, ℕ, Bool, ◌+◌, List, ◌++◌, length, map, filter, slice_index_or, Option, Some, None, Result, Ok, Err, Vec}
+use Rattle.std.specs.Prelude.{◌≡◌, ℕ, Bool, ◌+◌, List, ◌++◌, length, map, filter, slice_index_or, Option, Some, None, Result, Ok, Err, MatchResult, Vec}
 use Rattle.std.specs.Global.{Global}
 use Rattle.pam_conf.specs.Files.{Folder}
 use Rattle.pam_conf.specs.Kept.{kept_view}
@@ -21,6 +21,11 @@ pub record Passes (modules follows : ℕ) (items : Items) (w : Walk) (new_module
 -- the walk is refused, whatever follows it
 abbrev pub Refuses : ℕ → ℕ → Walk → ConfError → Type 0
 Refuses modules follows w error = UnlessMemory error error.kind ((rest : List Event) → refusal modules follows (w.events ++ rest) ≡ Some error)
+
+-- what a walk comes to: it leads on, or it is refused
+abbrev pub Walks : ℕ → ℕ → Items → Walk → ℕ → ℕ → Items → Result (Unit {0}) ConfError → Type 0
+Walks modules follows items w new_modules new_follows new_items result =
+    MatchResult result (λ _. Passes modules follows items w new_modules new_follows new_items) (λ error. Refuses modules follows w error)
 
 -- the rules that pass a test
 abbrev pub only : (RuleText → Bool) → Result (List RuleText) RuleFault → Result (List RuleText) RuleFault

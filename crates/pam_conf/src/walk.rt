@@ -3,7 +3,7 @@ ghost use Rattle.std.specs.Prelude.{◌≡◌, ◌<◌, ◌≤◌, ◌+◌, ◌-
 ghost use Rattle.std.specs.Option.{option_map};
 ghost use Rattle.pam_conf.specs.Files.{position_of};
 ghost use Rattle.pam_conf.specs.ItemsOf.{items_of, module_text};
-ghost use Rattle.pam_conf.specs.Progress.{IsRead, IsTable, Passes, Refuses, in_file, of_kind};
+ghost use Rattle.pam_conf.specs.Progress.{IsRead, IsTable, Passes, Refuses, Walks, in_file, of_kind};
 ghost use Rattle.pam_conf.specs.Calls.{arguments_in, control_in, path_in};
 ghost use Rattle.pam_conf.specs.Kept.{call_words, kept_view};
 ghost use Rattle.pam_conf.specs.Tells.{ErrorTells, UnlessMemory};
@@ -179,12 +179,9 @@ impl Walker<'_> {
         requires table { IsTable self.now.files.now self.now.kind progress.old.table.items }
         requires within { file < length self.now.files.now.entries }
         ensures table { OnOk result (IsTable self.now.files.now self.now.kind progress.new.table.items) }
-        ensures walked { let w = walk self.now.files.now self.now.kind (option_map (λ s. s.now) self.now.service)
-            (MAX_OPEN_FILES - length trail.now) trail.now file in
-            MatchResult result
-            (λ _. Passes progress.old.modules progress.old.follows (items_of items.old.items) w progress.new.modules progress.new.follows
-            (items_of items.new.items))
-            (λ e. Refuses progress.old.modules progress.old.follows w e) }
+        ensures walked { Walks progress.old.modules progress.old.follows (items_of items.old.items)
+            (walk self.now.files.now self.now.kind (option_map (λ s. s.now) self.now.service) (MAX_OPEN_FILES - length trail.now) trail.now file)
+            progress.new.modules progress.new.follows (items_of items.new.items) result }
     {
         let rules = self.take_rules(&mut progress.table, file)?;
         self.walk_rules(progress, trail, file, rules.as_slice(), items)?;
@@ -205,12 +202,9 @@ impl Walker<'_> {
         requires within { file < length self.now.files.now.entries }
         requires read { IsRead self.now.files.now self.now.kind (option_map (λ s. s.now) self.now.service) file (option_map (λ r. r.now) read) }
         ensures table { OnOk result (IsTable self.now.files.now self.now.kind progress.new.table.items) }
-        ensures walked { let w = walk self.now.files.now self.now.kind (option_map (λ s. s.now) self.now.service)
-            (MAX_OPEN_FILES - length trail.now) trail.now file in
-            MatchResult result
-            (λ _. Passes progress.old.modules progress.old.follows (items_of items.old.items) w progress.new.modules progress.new.follows
-            (items_of items.new.items))
-            (λ e. Refuses progress.old.modules progress.old.follows w e) }
+        ensures walked { Walks progress.old.modules progress.old.follows (items_of items.old.items)
+            (walk self.now.files.now self.now.kind (option_map (λ s. s.now) self.now.service) (MAX_OPEN_FILES - length trail.now) trail.now file)
+            progress.new.modules progress.new.follows (items_of items.new.items) result }
     {
         match read {
             None => self.walk_file(progress, trail, file, items),
@@ -231,12 +225,9 @@ impl Walker<'_> {
         requires table { IsTable self.now.files.now self.now.kind progress.old.table.items }
         ensures table { OnOk result (IsTable self.now.files.now self.now.kind progress.new.table.items) }
         ensures walked { let service = option_map (λ s. s.now) self.now.service in
-            let w = rules_walk self.now.files.now self.now.kind service (deeper self.now.files.now self.now.kind service
-            (MAX_OPEN_FILES - length trail.now)) trail.now file (map kept_view rules.now) in
-            MatchResult result
-            (λ _. Passes progress.old.modules progress.old.follows (items_of items.old.items) w progress.new.modules progress.new.follows
-            (items_of items.new.items))
-            (λ e. Refuses progress.old.modules progress.old.follows w e) }
+            Walks progress.old.modules progress.old.follows (items_of items.old.items) (rules_walk self.now.files.now self.now.kind service
+            (deeper self.now.files.now self.now.kind service (MAX_OPEN_FILES - length trail.now)) trail.now file (map kept_view rules.now))
+            progress.new.modules progress.new.follows (items_of items.new.items) result }
     {
         for rule in rules {
             self.walk_rule(progress, trail, file, rule, items)?;
@@ -257,12 +248,9 @@ impl Walker<'_> {
         requires table { IsTable self.now.files.now self.now.kind progress.old.table.items }
         ensures table { OnOk result (IsTable self.now.files.now self.now.kind progress.new.table.items) }
         ensures walked { let service = option_map (λ s. s.now) self.now.service in
-            let w = rule_walk self.now.files.now self.now.kind service (deeper self.now.files.now self.now.kind service
-            (MAX_OPEN_FILES - length trail.now)) trail.now file (kept_view rule.now) in
-            MatchResult result
-            (λ _. Passes progress.old.modules progress.old.follows (items_of items.old.items) w progress.new.modules progress.new.follows
-            (items_of items.new.items))
-            (λ e. Refuses progress.old.modules progress.old.follows w e) }
+            Walks progress.old.modules progress.old.follows (items_of items.old.items) (rule_walk self.now.files.now self.now.kind service
+            (deeper self.now.files.now self.now.kind service (MAX_OPEN_FILES - length trail.now)) trail.now file (kept_view rule.now))
+            progress.new.modules progress.new.follows (items_of items.new.items) result }
     {
         if !self.counts(rule) {
             return Ok(());

@@ -1,6 +1,6 @@
 -- Runs over trees: their laws, and their open form under an assignment.
 use Rattle.std.proofs.Common.{◌≡◌, ℕ, ◌-◌, ◌≤◌, List, ◌∷◌, ◌++◌, zero, suc, refl, sym, ◌∙◌, ap, arith, leb, append_assoc, append-nil}
-use Rattle.pam_conf.specs.Stack.{Items, End, ThenModule, ThenSub}
+use Rattle.pam_conf.specs.Stack.{Items, End, ThenModule, ThenSub, ModuleText, SubText}
 use Rattle.pam_dispatch.specs.declared.state.State.{State}
 use Rattle.std.proofs.lemmas.Bool.{cond_both}
 use Rattle.pam_codes.specs.declared.action.Action.{Action}
@@ -12,26 +12,29 @@ use Rattle.pam_dispatch.specs.State.{start_state, action_of, accepted, left_of, 
 use Rattle.pam_dispatch.specs.Runs.{Ask, Assignment, Runs, outcome_of, final_state, asked_by}
 use Rattle.pam_dispatch.specs.Tree.{count, items_after, ask_of, run_after, asked_after, run, asked, runs_after, runs_of_stack, decided}
 
+-- what passes over the first items takes the items after them
+module _ {X : Type 0} (after : ℕ → Items → X) (end : (skip : ℕ) → after (suc skip) End ≡ after zero End)
+    (module_first : (skip : ℕ) (m : ModuleText) (rest : Items) → after (suc skip) (ThenModule m rest) ≡ after skip rest)
+    (sub_first : (skip : ℕ) (sub : SubText) (inner rest : Items) → after (suc skip) (ThenSub sub inner rest) ≡ after skip rest) where
+  after-items_after : (skip : ℕ) (items : Items) → after skip items ≡ after zero (items_after skip items)
+  unfolding items_after
+  after-items_after zero items = refl
+  after-items_after (suc skip) End = end skip
+  after-items_after (suc skip) (ThenModule m rest) = module_first skip m rest ∙ after-items_after skip rest
+  after-items_after (suc skip) (ThenSub sub inner rest) = sub_first skip sub inner rest ∙ after-items_after skip rest
+
 -- a run after the first items is the run of the items after them
 pub run_after-items_after : (skip : ℕ) (items : Items) (s entry : State) (answers : Assignment) →
     run_after skip items s entry answers ≡ run (items_after skip items) s entry answers
-unfolding run_after items_after
-run_after-items_after zero End s entry answers = refl
-run_after-items_after zero (ThenModule m rest) s entry answers = refl
-run_after-items_after zero (ThenSub sub inner rest) s entry answers = refl
-run_after-items_after (suc skip) End s entry answers = refl
-run_after-items_after (suc skip) (ThenModule m rest) s entry answers = run_after-items_after skip rest s entry answers
-run_after-items_after (suc skip) (ThenSub sub inner rest) s entry answers = run_after-items_after skip rest s entry answers
+unfolding run_after
+run_after-items_after skip items s entry answers =
+    after-items_after (λ k is. run_after k is s entry answers) (λ k. refl) (λ k m rest. refl) (λ k sub inner rest. refl) skip items
 
 pub asked_after-items_after : (skip : ℕ) (items : Items) (s entry : State) (answers : Assignment) →
     asked_after skip items s entry answers ≡ asked (items_after skip items) s entry answers
-unfolding asked_after items_after
-asked_after-items_after zero End s entry answers = refl
-asked_after-items_after zero (ThenModule m rest) s entry answers = refl
-asked_after-items_after zero (ThenSub sub inner rest) s entry answers = refl
-asked_after-items_after (suc skip) End s entry answers = refl
-asked_after-items_after (suc skip) (ThenModule m rest) s entry answers = asked_after-items_after skip rest s entry answers
-asked_after-items_after (suc skip) (ThenSub sub inner rest) s entry answers = asked_after-items_after skip rest s entry answers
+unfolding asked_after
+asked_after-items_after skip items s entry answers =
+    after-items_after (λ k is. asked_after k is s entry answers) (λ k. refl) (λ k m rest. refl) (λ k sub inner rest. refl) skip items
 
 -- the number of items after the first `skip`
 pub count-items_after : (skip : ℕ) (items : Items) → count (items_after skip items) ≡ count items - skip

@@ -1,5 +1,5 @@
 -- Places, and the runs from them on.
-use Rattle.std.proofs.Common.{◌≡◌, ℕ, ◌+◌, ◌-◌, ◌<◌, ◌&&◌, List, [], ◌∷◌, ◌++◌, eqb, ltb, refl, sym, ◌∙◌, ap, subst, inl, inr, arith, take, drop}
+use Rattle.std.proofs.Common.{◌≡◌, ℕ, ◌+◌, ◌-◌, ◌<◌, ◌≤◌, ◌&&◌, List, [], ◌∷◌, ◌++◌, eqb, ltb, refl, sym, ◌∙◌, ap, subst, inl, inr, arith, take, drop}
 use Rattle.std.proofs.Common.{length, get_or, slice_get, Option, Some}
 use Rattle.std.proofs.lemmas.Option.{get_or_from_slice_get}
 use Rattle.std.specs.Prelude.{IsSome}
@@ -11,9 +11,9 @@ use Rattle.pam_codes.specs.declared.action.Action.{Action}
 use Rattle.pam_codes.specs.declared.action.Action.TheVariants.{Ignore}
 use Rattle.pam_dispatch.specs.declared.entry.Entry.{Entry}
 use Rattle.pam_dispatch.specs.declared.entry.Entry.TheVariants.{Module, Substack}
-use Rattle.pam_dispatch.specs.State.{start_state, act, left_of, action_of}
+use Rattle.pam_dispatch.specs.State.{start_state, act, left_of}
 use Rattle.pam_dispatch.specs.declared.step.Outcome.{Outcome}
-use Rattle.pam_dispatch.specs.Runs.{Ask, outcome_of, Runs, asked_module, state_in, after_answer, next_ask, outcome_in}
+use Rattle.pam_dispatch.specs.Runs.{Ask, outcome_of, Runs, asked_module, state_in, after_answer, next_ask}
 use Rattle.pam_dispatch.specs.Flat.{resume, IsAt, IsPlaceOf, rest_of}
 use Rattle.pam_dispatch.proofs.Resume.{resume-module, ask_at, asked_module-ask_at, at_index, at_module-asks}
 
@@ -112,37 +112,37 @@ module _ (program : List Entry) (place : Place) (valid : IsPlaceOf program place
         ap (λ (x : State). asked_with m control place.state x after) is
         ∙ sym (ap next_ask place_asks)
 
-    module _ (code left : ℕ) (state entry : State) (action : Action)
-        (action_is : action_of control code ≡ action)
-        (entry_is : entry ≡ get_or place.entered.states l start_state)
-        (left_is : left ≡ left_of action code place.state after)
-        (state_is : state ≡ act action code place.state entry after) where
-      abbrev asked : Ask
-      asked = record {
-        module_number = m;
-        control = control;
-        state = place.state;
-        entry = get_or place.entered.states l start_state;
-        after = after;
-      }
+  module _ (asking : IsSome (asked_module (rest_of program place))) where
+    -- a place that asks is in an open list
+    pub place_deep : 1 ≤ place.depth
+    place_deep = deep (get_or program place.position (Substack 0)) refl
+      where
+        deep : (e : Entry) → get_or program place.position (Substack 0) ≡ e → 1 ≤ place.depth
+        deep (Module l m control after) is = omega (arith, place_depth (Substack 0) l m control after (place_within asking) is)
+        deep (Substack l) is = absurd (place_no_substack (Substack 0) l (place_within asking) is)
 
-      outcome_is : record { state = state; left = left } ≡ outcome_of asked code
-      unfolding outcome_of
-      outcome_is =
-          ap (λ (x : ℕ). outcome state x) left_is
-          ∙ ap (λ (x : State). outcome x (left_of action code place.state after)) state_is
-          ∙ ap (λ (x : State). outcome (act action code place.state x after) (left_of action code place.state after)) entry_is
-          ∙ sym (ap (λ (a : Action). outcome (act a code place.state asked.entry after) (left_of a code place.state after)) action_is)
-
-      pub answer_rest : resume (drop (place.position + 1) program) l (after - left) (take place.depth place.entered.states) state
-          ≡ after_answer (rest_of program place) code
+    -- the run after an answer
+    module _ (code level skip : ℕ) (made : Outcome) (is_made : outcome_of (next_ask (rest_of program place)) code ≡ made)
+        (is_level : level ≡ place.depth - 1) (is_skip : skip ≡ (next_ask (rest_of program place)).after - made.left) where
+      pub answer_rest : after_answer (rest_of program place) code
+          ≡ resume (drop (place.position + 1) program) level skip (take place.depth place.entered.states) made.state
       unfolding ask_at
-      answer_rest =
-          let rest = drop (place.position + 1) program in
-          ap (λ (x : ℕ). resume rest l (after - left) (take x place.entered.states) state) place_depth
-          ∙ ap (λ (o : Outcome). resume rest l (after - o.left) (take (l + 1) place.entered.states) o.state) outcome_is
-          ∙ sym (ap (λ (q : Runs). after_answer q code) place_asks)
-
-      pub answer_outcome : outcome_in (rest_of program place) code ≡ record { state = state; left = left }
-      unfolding ask_at
-      answer_outcome = ap (λ (q : Runs). outcome_in q code) place_asks ∙ sym outcome_is
+      answer_rest = at_entry (get_or program place.position (Substack 0)) refl
+        where
+          at_entry : (e : Entry) → get_or program place.position (Substack 0) ≡ e →
+              after_answer (rest_of program place) code
+              ≡ resume (drop (place.position + 1) program) level skip (take place.depth place.entered.states) made.state
+          at_entry (Substack l) is = absurd (place_no_substack (Substack 0) l (place_within asking) is)
+          at_entry (Module l m control after) is =
+              let rest = drop (place.position + 1) program in
+              let asks = place_asks (Substack 0) l m control after (place_within asking) is in
+              let deeper = place_depth (Substack 0) l m control after (place_within asking) is in
+              let same = ap next_ask asks in
+              let left : after - made.left ≡ skip = ap (λ (a : Ask). a.after - made.left) (sym same) ∙ sym is_skip in
+              let here : l ≡ level = omega (arith, deeper, is_level) in
+              ap (λ (q : Runs). after_answer q code) asks
+              ∙ ap (λ (o : Outcome). resume rest l (after - o.left) (take (l + 1) place.entered.states) o.state)
+              (ap (λ (a : Ask). outcome_of a code) (sym same) ∙ is_made)
+              ∙ ap (λ (x : ℕ). resume rest l x (take (l + 1) place.entered.states) made.state) left
+              ∙ ap (λ (x : ℕ). resume rest l skip (take x place.entered.states) made.state) (sym deeper)
+              ∙ ap (λ (x : ℕ). resume rest x skip (take place.depth place.entered.states) made.state) here

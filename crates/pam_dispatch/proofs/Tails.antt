@@ -37,7 +37,8 @@ failure-kept Die code status entry after k = absurd (let x : ⊥ = cc in x)
 failure-kept Reset code status entry after k = absurd (let x : ⊥ = cc in x)
 failure-kept (Jump items) code status entry after k = absurd (let x : ⊥ = cc in x)
 
-failed-outcome : (ask : Ask) (code : ℕ) → ask.state.impression ≡ Negative → IsTrue (keeps_failure (action_of ask.control code)) →
+-- if the stack has failed, a code whose action keeps that leaves the run as it is
+pub failed-outcome : (ask : Ask) (code : ℕ) → ask.state.impression ≡ Negative → IsTrue (keeps_failure (action_of ask.control code)) →
     outcome_of ask code ≡ unchanged ask ask.state
 unfolding outcome_of outcome_by
 failed-outcome ask code negative k =

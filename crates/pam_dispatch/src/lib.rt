@@ -25,5 +25,5 @@ pub use place::Place;
 pub use program::Program;
 pub use state::{Impression, State};
 pub use step::{Outcome, Step};
-pub use tail::Rest;
+pub use tail::{Rest, keeps_failure};
 pub use work::Work;

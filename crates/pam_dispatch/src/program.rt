@@ -127,22 +127,12 @@ fn answer_at(entries: &[Entry], place: &Place, code: Code) -> Answered
     ensures below { result.level < place.now.depth }
     ensures within { place.now.position < length entries.now }
 {
-    match &entries[place.position] {
-        Entry::Module {
-            level,
-            control,
-            items_after,
-            ..
-        } => {
-            let entry = place.entered.at(*level);
-            let outcome = Outcome::of(control.action(code), code, place.state, entry, *items_after);
-            Answered {
-                outcome,
-                level: *level,
-                skip: *items_after - outcome.left,
-            }
-        }
-        Entry::Substack { .. } => unreachable!(),
+    let asked = asked_at(entries, place);
+    let outcome = asked.outcome(asked.control.action(code), code);
+    Answered {
+        outcome,
+        level: usize::from(place.depth) - 1,
+        skip: asked.items_after - outcome.left,
     }
 }
 

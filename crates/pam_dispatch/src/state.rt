@@ -45,8 +45,9 @@ impl State {
     }
 
     /// Whether the stack has failed.
-    pub(crate) fn has_failed(self) -> bool
-        ensures { IsTrue result → self.impression ≡ Negative }
+    pub fn has_failed(self) -> bool
+        ensures failed { IsTrue result → self.impression ≡ Negative }
+        ensures only { self.impression ≡ Negative → IsTrue result }
     {
         match self.impression {
             Impression::Negative => true,

@@ -17,7 +17,7 @@ pub struct Rest {
 }
 
 /// Whether `action` leaves a failed stack as it is, and continues with the next item.
-fn keeps_failure(action: Action) -> bool
+pub fn keeps_failure(action: Action) -> bool
     ensures { result ≡ keeps_failure action }
 {
     match action {

@@ -1,5 +1,5 @@
 pub mod AlikeTexts
 pub mod FlatTexts
+pub mod KeptTexts
 pub mod LineParts
-pub mod MarkedTexts
 pub mod PageTexts

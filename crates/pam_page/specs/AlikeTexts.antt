@@ -1,7 +1,7 @@
 -- The texts of steps that have every code, for the modules 1, 2 and so on.
 use Rattle.std.specs.Prelude.{◌≡◌, ℕ, ◌+◌, ◌<◌, List, length, slice_index_or}
 use Rattle.std.specs.List.{flat_map}
-use Rattle.pam_page.specs.Marks.{code_text}
+use Rattle.pam_page.specs.KeptSteps.{code_text}
 use Rattle.pam_page.specs.Page.{step_text}
 use Rattle.pam_paths.specs.Tail.{alike_from}
 

@@ -1,5 +1,5 @@
 pub mod AlikeTexts
 pub mod Coming
+pub mod KeptSteps
 pub mod Laws
-pub mod Marks
 pub mod Page

@@ -3,7 +3,7 @@
 ghost use Rattle.std.specs.List.{flat_map};
 ghost use Rattle.std.specs.Prelude.{◌≡◌, ◌+◌, ◌-◌, ◌≤◌, ◌∷◌, ◌++◌, [], if◌then◌else◌, length, map, take, IfOk, IsTrue};
 ghost use Rattle.pam_page.specs.AlikeTexts.{steps_to};
-ghost use Rattle.pam_page.specs.Marks.{code_text};
+ghost use Rattle.pam_page.specs.KeptSteps.{code_text};
 ghost use Rattle.pam_page.specs.Page.{step_text};
 ghost use Rattle.pam_paths.specs.Steps.{step_seen};
 ghost use Rattle.pam_paths.specs.Tail.{AreAlike, alike_from};

@@ -4,7 +4,7 @@ ghost use Rattle.std.specs.List.{concat, flat_map};
 ghost use Rattle.std.specs.Prelude.{◌≡◌, ◌++◌, ◌∷◌, ◌-◌, ◌<◌, ◌≤◌, ◌^◌, [], if◌then◌else◌, IfOk, IsTrue, codes, decimal, length, map, take};
 ghost use Rattle.pam_codes.specs.Out.{Writes};
 ghost use Rattle.pam_codes.specs.SetText.{set_text};
-ghost use Rattle.pam_page.specs.Marks.{code_text, undotted};
+ghost use Rattle.pam_page.specs.KeptSteps.{code_text, undotted};
 ghost use Rattle.pam_page.specs.Page.{code_name, path_line, step_text};
 ghost use Rattle.pam_paths.specs.Steps.{step_seen};
 ghost use Rattle.pam_paths.specs.Tail.{AreAlike};
@@ -30,7 +30,7 @@ const STEP_BYTES: usize = 242;
 
 /// A step whose texts are kept, and their ends in the buffers.
 #[derive(Clone, Copy, Debug)]
-struct Mark {
+struct KeptStep {
     step: PathStep,
     cursor_end: usize,
     steps_end: usize,
@@ -41,7 +41,7 @@ struct Mark {
 #[derive(Drop)]
 pub struct LineTexts {
     /// The first steps of that path, as many as there was room for.
-    marks: Vec<Mark>,
+    kept: Vec<KeptStep>,
     /// `.CODE` for each step.
     cursor: Buffer,
     /// ` NUMBER=CLASS` for each step.
@@ -53,18 +53,18 @@ pub struct LineTexts {
 /// Seen as the steps whose texts are kept.
 impl Model for LineTexts {
     ghost use Rattle.std.specs.Prelude.{List, map};
-    ghost use Rattle.pam_page.specs.Marks.{AreTexts, marked};
+    ghost use Rattle.pam_page.specs.KeptSteps.{AreTexts, step_of};
     ghost use Rattle.pam_paths.specs.Paths.{StepValue};
 
     ghost Value = { List StepValue };
 
-    ghost view = { λ t. map marked t.marks.items };
+    ghost view = { λ t. map step_of t.kept.items };
 
-    ghost invariant = { λ t. AreTexts t.marks.items t.cursor.bytes.items t.steps.bytes.items };
+    ghost invariant = { λ t. AreTexts t.kept.items t.cursor.bytes.items t.steps.bytes.items };
 }
 
 /// Appends `.CODE`, the least code of the class of a step. Returns whether there was room.
-#[tactic(auto, unfolding(crate::specs::Marks::code_text))]
+#[tactic(auto, unfolding(crate::specs::KeptSteps::code_text))]
 fn append_code(cursor: &mut Buffer, step: &PathStep) -> bool
     ensures { IsTrue result → cursor.new.bytes.items ≡ cursor.old.bytes.items ++ code_text (step_seen step.now) }
 {
@@ -172,11 +172,11 @@ fn put_parts<W: Write>(
     put_texts(cursor, steps, path, out)
 }
 
-/// Appends a mark if there is room. Returns whether there was.
-fn push_mark(marks: &mut Vec<Mark>, mark: Mark) -> bool
-    ensures { marks.new.items ≡ (if result then marks.old.items ++ mark ∷ [] else marks.old.items) }
+/// Appends a step if there is room. Returns whether there was.
+fn push_kept(kept: &mut Vec<KeptStep>, step: KeptStep) -> bool
+    ensures { kept.new.items ≡ (if result then kept.old.items ++ step ∷ [] else kept.old.items) }
 {
-    marks.len() < marks.capacity() && marks.push(mark).is_ok()
+    kept.len() < kept.capacity() && kept.push(step).is_ok()
 }
 
 /// Returns the text of a cursor, from the codes with a dot before each.
@@ -196,7 +196,7 @@ impl LineTexts {
         ensures { IfOk result (λ texts. texts ≡ []) }
     {
         Ok(LineTexts {
-            marks: Vec::with_capacity(alloc, MAX_MODULES)?,
+            kept: Vec::with_capacity(alloc, MAX_MODULES)?,
             cursor: Buffer::with_capacity(alloc, CODE_BYTES * MAX_MODULES)?,
             steps: Buffer::with_capacity(alloc, STEP_BYTES * MAX_MODULES)?,
             alike: AlikeTexts::new(alloc)?,
@@ -207,14 +207,14 @@ impl LineTexts {
     pub(crate) fn cut(&mut self, count: usize)
         ensures { self.new ≡ take count self.old }
     {
-        self.marks.truncate(count);
-        let Some(mark) = self.marks.last() else {
+        self.kept.truncate(count);
+        let Some(last) = self.kept.last() else {
             self.cursor.truncate(0);
             self.steps.truncate(0);
             return;
         };
-        self.cursor.truncate(mark.cursor_end);
-        self.steps.truncate(mark.steps_end);
+        self.cursor.truncate(last.cursor_end);
+        self.steps.truncate(last.steps_end);
     }
 
     /// Appends the texts of a step. Returns whether there was room; if not, no texts are kept.
@@ -222,16 +222,16 @@ impl LineTexts {
         ensures { self.new ≡ (if result then self.old ++ step_seen step.now ∷ [] else []) }
     {
         if append_code(&mut self.cursor, step) && append_step(&mut self.steps, step) {
-            let mark = Mark {
+            let kept = KeptStep {
                 step: *step,
                 cursor_end: self.cursor.len(),
                 steps_end: self.steps.len(),
             };
-            if push_mark(&mut self.marks, mark) {
+            if push_kept(&mut self.kept, kept) {
                 return true;
             }
         }
-        self.marks.clear();
+        self.kept.clear();
         self.cursor.truncate(0);
         self.steps.truncate(0);
         false
@@ -255,8 +255,8 @@ impl LineTexts {
         ensures { self.new ≡ take (length self.new) (map step_seen steps.now) }
     {
         self.cut(shared);
-        let kept = self.marks.len();
-        let added = &steps[kept..];
+        let count = self.kept.len();
+        let added = &steps[count..];
         for step in added {
             if !self.append(step) {
                 return;
@@ -272,7 +272,7 @@ impl LineTexts {
     {
         let tail = path.tail();
         let count = path.steps().len();
-        if count == 0 || self.marks.len() != count - tail.len() {
+        if count == 0 || self.kept.len() != count - tail.len() {
             return put_path(path, out);
         }
         let (cursor_end, steps_end) = (self.cursor.len(), self.steps.len());

@@ -18,11 +18,12 @@ use Rattle.pam_dispatch.specs.declared.state.State.{State}
 use Rattle.pam_dispatch.specs.declared.step.Outcome.{Outcome}
 use Rattle.pam_dispatch.specs.Alike.{looks_at_code}
 use Rattle.pam_dispatch.specs.Runs.{Ask, Runs, asked_module, asks, ends, next_ask, outcome_in, outcome_of, state_in}
+use Rattle.pam_dispatch.specs.Tail.{keeps_failure}
 use Rattle.pam_paths.specs.Classes.{class_at, class_of, least, same_outcome}
 use Rattle.pam_paths.specs.Computed.{is_offered}
 use Rattle.pam_paths.specs.Frames.{offered_at}
 use Rattle.pam_paths.specs.Listing.{Allowance}
-use Rattle.pam_paths.specs.Sharing.{is_offered_by, is_shared, keeps_failure, past_part, past_parts, shared_code}
+use Rattle.pam_paths.specs.Sharing.{is_offered_by, is_shared, past_part, past_parts, shared_code}
 use Rattle.pam_paths.proofs.Alike.{class-same, in_class, least_of_class, list_any_back, list_any_from, of_class}
 use Rattle.pam_paths.proofs.Alike.{same_outcome-from, same_outcome-self, same_outcome-true}
 use Rattle.pam_paths.proofs.OneAction.{alike_codes, failed_outcome, one_outcome}

@@ -1,19 +1,18 @@
 -- The outcomes of codes, by their actions.
-use Rattle.std.proofs.Common.{◌≡◌, ◌≢◌, ◌⊎◌, ℕ, ◌==◌, ◌&&◌, Bool, true, false, refl, sym, ◌∙◌, ap, subst, inl, inr, Some}
+use Rattle.std.proofs.Common.{◌≡◌, ◌≢◌, ◌⊎◌, ℕ, ◌==◌, ◌&&◌, Bool, true, false, refl, sym, ◌∙◌, ap, inl, inr, Some}
 use Rattle.std.specs.Prelude.{slice_get}
-use Rattle.std.proofs.lemmas.Bool.{cond-false, cond-true, false≢true, ne_eqb}
+use Rattle.std.proofs.lemmas.Bool.{cond-false, cond-true, ne_eqb}
 use Rattle.std.proofs.lemmas.Option.{get_or_from_slice_get}
 use Rattle.pam_codes.specs.declared.action.Action.{Action}
-use Rattle.pam_codes.specs.declared.action.Action.TheVariants.{Ignore, Ok, Done, Bad, Die, Reset, Jump}
-use Rattle.pam_dispatch.specs.declared.state.Impression.{Impression}
+use Rattle.pam_codes.specs.declared.action.Action.TheVariants.{Ignore}
 use Rattle.pam_dispatch.specs.declared.state.Impression.TheVariants.{Negative}
-use Rattle.pam_dispatch.specs.declared.state.State.{State}
 use Rattle.pam_dispatch.specs.declared.step.Outcome.{Outcome}
 use Rattle.pam_dispatch.specs.Alike.{fails, looks_at_code, told_status}
 use Rattle.pam_dispatch.specs.Runs.{Ask, outcome_of}
-use Rattle.pam_dispatch.specs.State.{act, action_of, left_of, state_with}
+use Rattle.pam_dispatch.specs.State.{action_of}
+use Rattle.pam_dispatch.specs.Tail.{keeps_failure, unchanged}
 use Rattle.pam_dispatch.proofs.Retelling.{outcome-retold, outcome-shared, outcomes-differ}
-use Rattle.pam_paths.specs.Sharing.{keeps_failure}
+use Rattle.pam_dispatch.proofs.Tails.{failed-outcome}
 
 action_at : (ask : Ask) (c : ℕ) (a : Action) → slice_get ask.control c ≡ Some a → action_of ask.control c ≡ a
 action_at ask c a h = get_or_from_slice_get ask.control c a Ignore h
@@ -67,26 +66,7 @@ alike_codes ask a b c d k l h i e =
       ]
     ]
 
--- the outcome of an action for a code
-outcome_by : Action → ℕ → State → State → ℕ → Outcome
-outcome_by a c s entry after = record { state = act a c s entry after; left = left_of a c s after }
-
-failure-kept : (a : Action) (c status : ℕ) (entry : State) (after : ℕ) → keeps_failure a ≡ true →
-    outcome_by a c (state_with Negative status) entry after ≡ record { state = state_with Negative status; left = after }
-unfolding outcome_by
-failure-kept Ignore c status entry after k = refl
-failure-kept Ok c status entry after k = refl
-failure-kept Done c status entry after k = refl
-failure-kept Bad c status entry after k = refl
-failure-kept Die c status entry after k = absurd (false≢true k)
-failure-kept Reset c status entry after k = absurd (false≢true k)
-failure-kept (Jump items) c status entry after k = absurd (false≢true k)
-
 -- if the stack has failed, a code whose action keeps that leaves the run as it is
 pub failed_outcome : (ask : Ask) (a : Action) (c : ℕ) → slice_get ask.control c ≡ Some a → ask.state.impression ≡ Negative → keeps_failure a ≡ true →
-    outcome_of ask c ≡ record { state = ask.state; left = ask.after }
-unfolding outcome_of outcome_by
-failed_outcome ask a c h negative k =
-    ap (λ (x : Action). outcome_by x c ask.state ask.entry ask.after) (action_at ask c a h)
-    ∙ subst (λ (i : Impression). outcome_by a c (state_with i ask.state.status) ask.entry ask.after
-    ≡ record { state = state_with i ask.state.status; left = ask.after }) (sym negative) (failure-kept a c ask.state.status ask.entry ask.after k)
+    outcome_of ask c ≡ unchanged ask ask.state
+failed_outcome ask a c h negative k = failed-outcome ask c negative (ap keeps_failure (action_at ask c a h) ∙ k)

@@ -1,9 +1,7 @@
 -- For proofs alone: classes of codes, computed part by part of a control.
-use Rattle.std.specs.Prelude.{ℕ, ◌==◌, Bool, true, false, ◌&&◌, if◌then◌else◌, List, Option, None, Some, slice_get}
+use Rattle.std.specs.Prelude.{ℕ, ◌==◌, Bool, false, ◌&&◌, if◌then◌else◌, List, Option, None, Some, slice_get}
 use Rattle.std.specs.List.{list_any}
 use Rattle.std.specs.Option.{option_map_or}
-use Rattle.pam_codes.specs.declared.action.Action.{Action}
-use Rattle.pam_codes.specs.declared.action.Action.TheVariants.{Ignore, Ok, Done, Bad, Die, Reset, Jump}
 use Rattle.pam_codes.specs.declared.parts.Part.{Part}
 use Rattle.pam_codes.specs.Set.{is_in}
 use Rattle.pam_dispatch.specs.declared.state.State.{State}
@@ -34,13 +32,3 @@ past_part codes ask part code = if is_shared ask code part then is_offered_by co
 -- the allowed codes, after this is done for some parts
 unfoldable pub past_parts : List ℕ → Ask → List Part → ℕ → Bool
 past_parts allowed ask parts code = if list_any (is_shared ask code) parts then is_offered_by allowed ask code else is_in code allowed
-
--- whether an action leaves a failed stack as it is, and continues with the next item
-abbrev pub keeps_failure : Action → Bool
-keeps_failure Ignore = true
-keeps_failure Ok = true
-keeps_failure Done = true
-keeps_failure Bad = true
-keeps_failure Die = false
-keeps_failure Reset = false
-keeps_failure (Jump items) = false

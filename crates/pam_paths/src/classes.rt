@@ -7,14 +7,14 @@ ghost use Rattle.pam_codes.specs.Parts.{IsPart, IsParts};
 ghost use Rattle.pam_codes.specs.Set.{IsCodeSet, codes_where, is_in};
 ghost use Rattle.pam_dispatch.specs.Flat.{IsPlaceOf, modules_of, rest_of};
 ghost use Rattle.pam_dispatch.specs.Runs.{asked_module, next_ask, outcome_of};
-ghost use Rattle.pam_dispatch.specs.declared.state.Impression.TheVariants.{Negative};
+ghost use Rattle.pam_dispatch.specs.Tail.{keeps_failure};
 ghost use Rattle.pam_paths.specs.Classes.{class_at, class_of, impression_number, least, same_outcome};
 ghost use Rattle.pam_paths.specs.Frames.{AreClasses, offered_at};
 ghost use Rattle.pam_paths.specs.Listing.{Allowance};
-ghost use Rattle.pam_paths.specs.Sharing.{is_offered_by, keeps_failure, shared_code};
+ghost use Rattle.pam_paths.specs.Sharing.{is_offered_by, shared_code};
 
 use pam_codes::{Action, Code, CodeSet, Part};
-use pam_dispatch::{Asked, Impression, Outcome, Place, Program, State};
+use pam_dispatch::{Asked, Impression, Outcome, Place, Program, State, keeps_failure};
 
 /// The classes computed for a module that is asked.
 #[derive(Clone, Copy, Debug)]
@@ -162,26 +162,6 @@ fn unseen_code(part: &Part, state: State, seen: CodeSet) -> Option<Code>
     }
 }
 
-/// Whether `action` leaves a failed stack as it is, and continues with the next item.
-fn keeps_failure(action: Action) -> bool
-    ensures { result ≡ keeps_failure action }
-{
-    match action {
-        Action::Ignore | Action::Ok | Action::Done | Action::Bad => true,
-        Action::Die | Action::Reset | Action::Jump(_) => false,
-    }
-}
-
-/// Whether the stack has failed.
-fn has_failed(state: State) -> bool
-    ensures { IsTrue result → state.impression ≡ Negative }
-{
-    match state.impression {
-        Impression::Negative => true,
-        Impression::Undef | Impression::Positive => false,
-    }
-}
-
 /// Whether the action of each part leaves a failed stack as it is.
 fn all_keep_failure(parts: &[Part]) -> bool
     ensures { IsTrue result → All (λ part. IsTrue (keeps_failure part.action)) parts.now }
@@ -254,7 +234,7 @@ impl Classes {
     {
         let parts = program.parts(module_number).as_slice();
         let asked = program.asked(place);
-        if has_failed(asked.state()) && all_keep_failure(parts) {
+        if asked.state().has_failed() && all_keep_failure(parts) {
             return Classes::of_one(allowed);
         }
         Classes::by_parts(&asked, parts, allowed)

@@ -14,5 +14,4 @@ pub mod OptionSteps
 pub mod PieceSteps
 pub mod ReadSteps
 pub mod ReturnSteps
-pub mod Searching
 pub mod TokenSteps

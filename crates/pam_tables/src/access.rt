@@ -1,11 +1,10 @@
 //! Access tables, as in access.conf(5): checking them and deciding logins.
 
-ghost use Rattle.std.specs.Prelude.{◌≡◌, ◌<◌, ℕ, length, position, Ok, Option, IfOk, IfErr, IfSome};
+ghost use Rattle.std.specs.Prelude.{◌≡◌, ℕ, Ok, Option, IfOk, IfErr};
 ghost use Rattle.std.specs.Option.{option_map};
 ghost use Rattle.pam_tables.specs.Access.{LineText, permission_of, is_passed_over as is_passed_over_of, line_of_fields, fields_of as fields_of_line};
 ghost use Rattle.pam_tables.specs.Access.{access_line, lines_of, table_of, permission_for, answer_with, access_answer};
 ghost use Rattle.pam_tables.specs.Error.{Gives, verdict};
-ghost use Rattle.pam_tables.specs.Lines.{cut_at, is_among};
 ghost use Rattle.pam_tables.specs.Login.{login_view};
 ghost use Rattle.pam_tables.specs.Tokens.{known_mark};
 
@@ -18,8 +17,7 @@ use crate::options::AccessOptions;
 use crate::origins::check_origins;
 use crate::tokens::{has_token, list_matches};
 use crate::users::{UserMatcher, check_users};
-use memchr::memchr;
-use pam_text::{ByteSet, Source};
+use pam_text::{ByteSet, Source, cut_among};
 use pam_times::Login;
 use std::alloc::Global;
 use std::marker::Model;
@@ -66,7 +64,7 @@ impl Permission {
 
 /// The three fields of a line, not yet split into tokens.
 #[derive(Clone, Copy)]
-struct Fields<'a> {
+struct AccessFields<'a> {
     permission: &'a [u8],
     users: &'a [u8],
     origins: &'a [u8],
@@ -80,34 +78,13 @@ fn is_passed_over(line: &[u8]) -> bool
     line.starts_with(b"#") || is_blank_text(line)
 }
 
-/// The index of the first separator. Most tables have one separator of fields, for which there is a vector search.
-fn separator_at(text: &[u8], separators: &ByteSet<'_>) -> Option<usize>
-    ensures value { result ≡ position (is_among separators.now.bytes.now) text.now }
-    ensures bound { IfSome result (λ i. i < length text.now) }
-{
-    if separators.bytes.len() == 1 {
-        memchr(separators.bytes[0], text)
-    } else {
-        text.iter().position(|b| separators.has(*b))
-    }
-}
-
-/// The bytes before and after the first separator.
-fn cut_field<'a>(text: &'a [u8], separators: &ByteSet<'_>) -> Option<(&'a [u8], &'a [u8])>
-    ensures { option_map (λ p. (p.0.now, p.1.now)) result ≡ cut_at (is_among separators.now.bytes.now) text.now }
-{
-    let index = separator_at(text, separators)?;
-    let (field, rest) = text.split_at(index);
-    Some((field, rest.split_at(1).1))
-}
-
 #[tactic(auto, unfolding(crate::specs::Access::fields_of))]
-fn cut_fields<'a>(line: &'a [u8], separators: &ByteSet<'_>) -> Option<Fields<'a>>
+fn cut_fields<'a>(line: &'a [u8], separators: &ByteSet<'_>) -> Option<AccessFields<'a>>
     ensures { option_map (λ f. (f.permission.now, f.users.now, f.origins.now)) result ≡ fields_of_line separators.now.bytes.now line.now }
 {
-    match cut_field(line, separators) {
-        Some((permission, rest)) => match cut_field(rest, separators) {
-            Some((users, origins)) => Some(Fields {
+    match cut_among(line, separators) {
+        Some((permission, rest)) => match cut_among(rest, separators) {
+            Some((users, origins)) => Some(AccessFields {
                 permission,
                 users,
                 origins,
@@ -138,7 +115,7 @@ impl<'s> Separators<'s> {
 }
 
 /// Checks a line of three fields.
-fn check_fields(fields: Fields<'_>, separators: &ByteSet<'_>) -> Result<(), TableFault>
+fn check_fields(fields: AccessFields<'_>, separators: &ByteSet<'_>) -> Result<(), TableFault>
     ensures { (number : ℕ) → result
         ≡ verdict (line_of_fields separators.now.bytes.now number fields.entry.permission.now fields.entry.users.now fields.entry.origins.now) }
 {

@@ -93,7 +93,8 @@ fn line_feed(text: &[u8]) -> Option<usize>
     memchr(b'\n', text)
 }
 
-/// The bytes before and after the first line feed.
+/// The bytes before and after the first line feed. Uses a vector search, unlike `pam_text::cut`, since lines are longer
+/// than fields.
 fn cut_line(text: &[u8]) -> Option<(&[u8], &[u8])>
     ensures value { option_map (λ p. (p.0.now, p.1.now)) result ≡ cut_at (is_among (codes "\n")) text.now }
     ensures shorter { IfSome result (λ p. length p.1.now < length text.now) }

@@ -3,6 +3,7 @@ pub mod FirstBytes
 pub mod Pieces
 pub mod Prefixes
 pub mod Runs
+pub mod Searching
 pub mod Sources
 pub mod TextLines
 pub mod TextSteps

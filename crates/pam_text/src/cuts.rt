@@ -4,6 +4,8 @@ ghost use Rattle.std.specs.Prelude.{◌≡◌, ◌∷◌, ◌<◌, [], ℕ, IfSo
 ghost use Rattle.std.specs.Option.{option_map};
 ghost use Rattle.pam_text.specs.Cut.{is_among, cut_at};
 
+use memchr::memchr;
+
 /// A set of bytes, with a mark for each of the 256 bytes, so that a test of a byte is one access.
 #[derive(Drop)]
 pub struct ByteSet<'s> {
@@ -46,11 +48,16 @@ fn position_of(text: &[u8], separator: u8) -> Option<usize>
     text.iter().position(|b| is_same(separator, *b))
 }
 
+/// The index of the first separator. There is a vector search for one separator, which most tables have.
 fn position_among(text: &[u8], separators: &ByteSet<'_>) -> Option<usize>
     ensures value { result ≡ position (is_among separators.now.bytes.now) text.now }
     ensures bound { IfSome result (λ i. i < length text.now) }
 {
-    text.iter().position(|b| separators.has(*b))
+    if separators.bytes.len() == 1 {
+        memchr(separators.bytes[0], text)
+    } else {
+        text.iter().position(|b| separators.has(*b))
+    }
 }
 
 /// The bytes before and after the first separator.

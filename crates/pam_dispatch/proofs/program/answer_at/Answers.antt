@@ -1,56 +1,33 @@
-use Rattle.std.proofs.Common.{rules, ◌≡◌, ◌∙◌, sym, arith, subst}
-use Rattle.std.proofs.lemmas.Option.{get_or_from_slice_get}
-use Rattle.pam_codes.specs.declared.action.Action.TheVariants.{Ignore}
-use Rattle.pam_dispatch.specs.State.{action_of}
-use Rattle.pam_dispatch.specs.Flat.{IsBounded}
-use Rattle.pam_dispatch.proofs.Places.{place_within, place_no_substack, place_depth, answer_rest, answer_outcome}
+use Rattle.std.proofs.Common.{◌-◌, ◌∙◌, ℕ, ap, arith, sym}
+use Rattle.pam_dispatch.specs.declared.step.Outcome.{Outcome}
+use Rattle.pam_dispatch.specs.Runs.{Ask, outcome_of}
+use Rattle.pam_dispatch.proofs.OpenRuns.{left-fits}
+use Rattle.pam_dispatch.proofs.Places.{answer_rest, place_deep, place_within}
 use Rattle.pam_dispatch.proofs.program.answer_at.Goals as goal
 
-pub bounds-entries-place : goal.bounds-entries-place
-bounds-entries-place c = place_within c.args.entries.now c.args.place.now c.requires.place c.requires.asking
+pub overflow_sub-result : goal.overflow_sub-result
+overflow_sub-result c =
+    let deep = place_deep c.args.entries.now c.args.place.now c.requires.place c.requires.asking in omega (arith, deep, c.from.ensures)
 
-pub offset_bounds-entries-place : goal.offset_bounds-entries-place
-offset_bounds-entries-place c =
-    let within = place_within c.args.entries.now c.args.place.now c.requires.place c.requires.asking in search rules
-
-pub at-entry-requires : goal.at-entry-requires
-at-entry-requires c =
-    let e = c.index-entries-place in
-    let within = place_within c.args.entries.now c.args.place.now c.requires.place c.requires.asking in
-    (subst IsBounded (sym e.is ∙ c.in-Module.is) (c.requires.entries c.args.place.now.position e.result within)).0
-
-pub unreachable-requires : goal.unreachable-requires
-unreachable-requires c =
-    let e = c.index-entries-place in
-    let within = place_within c.args.entries.now c.args.place.now c.requires.place c.requires.asking in
-    place_no_substack c.args.entries.now c.args.place.now c.requires.place e.result _ within (sym e.is ∙ c.in-Substack.is)
-
-pub returns-clause-outcome : goal.returns-clause-outcome
-returns-clause-outcome c =
-    let e = c.index-entries-place in
-    let m = c.in-Module in
-    let within = place_within c.args.entries.now c.args.place.now c.requires.place c.requires.asking in
-    let action : action_of m.control c.args.code ≡ c.action.result = get_or_from_slice_get m.control c.args.code c.action.result Ignore (search rules) in
-    answer_outcome c.args.entries.now c.args.place.now c.requires.place e.result m.level m.number m.control m.items_after within (sym e.is ∙ m.is)
-    c.args.code c.of-outcome.result.left c.of-outcome.result.state c.at-entry.result c.action.result action
-    c.at-entry.ensures c.of-outcome.ensures.left c.of-outcome.ensures.state
+pub overflow_sub-result-2 : goal.overflow_sub-result-2
+overflow_sub-result-2 c =
+    omega (
+      arith,
+      left-fits c.asked_at-asked.result c.args.code,
+      ap (λ (o : Outcome). o.left) c.outcome-outcome.ensures,
+      ap (λ (a : Ask). a.after) c.asked.view_is,
+    )
 
 pub returns-clause-rest : goal.returns-clause-rest
 returns-clause-rest c =
-    let e = c.index-entries-place in
-    let m = c.in-Module in
-    let within = place_within c.args.entries.now c.args.place.now c.requires.place c.requires.asking in
-    let action : action_of m.control c.args.code ≡ c.action.result = get_or_from_slice_get m.control c.args.code c.action.result Ignore (search rules) in
-    sym (answer_rest c.args.entries.now c.args.place.now c.requires.place e.result m.level m.number m.control m.items_after within (sym e.is ∙ m.is)
-    c.args.code c.of-outcome.result.left c.of-outcome.result.state c.at-entry.result c.action.result action
-    c.at-entry.ensures c.of-outcome.ensures.left c.of-outcome.ensures.state)
+    let outcome = c.outcome-outcome.result in
+    answer_rest c.args.entries.now c.args.place.now c.requires.place c.requires.asking c.args.code _ _ outcome
+    (ap (λ (a : Ask). outcome_of a c.args.code) (sym c.asked_at-asked.ensures) ∙ c.outcome-outcome.ensures)
+    (ap (λ (n : ℕ). n - 1) c.from.ensures) (ap (λ (a : Ask). a.after - outcome.left) (c.asked.view_is ∙ c.asked_at-asked.ensures))
 
 pub returns-clause-below : goal.returns-clause-below
 returns-clause-below c =
-    let e = c.index-entries-place in
-    let within = place_within c.args.entries.now c.args.place.now c.requires.place c.requires.asking in
-    let d = place_depth c.args.entries.now c.args.place.now c.requires.place e.result _ _ _ _ within (sym e.is ∙ c.in-Module.is) in
-    omega arith
+    let deep = place_deep c.args.entries.now c.args.place.now c.requires.place c.requires.asking in omega (arith, deep, c.from.ensures)
 
 pub returns-clause-within : goal.returns-clause-within
 returns-clause-within c = place_within c.args.entries.now c.args.place.now c.requires.place c.requires.asking

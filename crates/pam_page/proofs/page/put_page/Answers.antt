@@ -2,7 +2,7 @@ use Rattle.std.proofs.Common.{◌≡◌, ◌-◌, ◌∙◌, List, sym, subst, a
 use Rattle.std.specs.List.{flat_map}
 use Rattle.pam_codes.proofs.Writing.{all-is, all-then, err-front, front-is, front-longer, front-then, writes-is, writes-then}
 use Rattle.pam_page.proofs.FlatTexts.{flat_map-push}
-use Rattle.pam_page.proofs.MarkedTexts.{kept_shared}
+use Rattle.pam_page.proofs.KeptTexts.{kept_shared}
 use Rattle.pam_page.proofs.PageTexts.{goes, page_front, page_none, page_rest}
 use Rattle.pam_page.specs.Coming.{coming, followed, side}
 use Rattle.pam_page.specs.Page.{path_line}

@@ -1,6 +1,6 @@
 use Rattle.std.proofs.Common.{◌∙◌, ap, take}
 use Rattle.pam_codes.proofs.Writing.{all-is, writes-is, writes-then}
-use Rattle.pam_page.proofs.MarkedTexts.{kept_shared}
+use Rattle.pam_page.proofs.KeptTexts.{kept_shared}
 use Rattle.pam_page.proofs.PageTexts.{rest_end-is, rest_more-is}
 use Rattle.pam_page.specs.Coming.{coming, followed, side}
 use Rattle.pam_page.specs.Page.{path_line}

@@ -1,8 +1,8 @@
 use Rattle.std.proofs.Common.{◌∙◌, ◌++◌, List, ap, codes, refl, ℕ}
 use Rattle.std.specs.List.{flat_map}
 use Rattle.pam_codes.proofs.Writing.{err-front, front-is, front-longer, writes-is, writes-then}
-use Rattle.pam_page.proofs.MarkedTexts.{kept_line}
-use Rattle.pam_page.specs.Marks.{code_text, undotted}
+use Rattle.pam_page.proofs.KeptTexts.{kept_line}
+use Rattle.pam_page.specs.KeptSteps.{code_text, undotted}
 use Rattle.pam_page.specs.Page.{code_name}
 use Rattle.pam_page.proofs.texts.put_texts.Goals as goal
 

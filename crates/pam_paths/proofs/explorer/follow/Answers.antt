@@ -7,25 +7,34 @@ use Rattle.pam_paths.specs.Steps.{step_seen}
 use Rattle.pam_paths.proofs.FrameLists.{AreFrames-length}
 use Rattle.pam_paths.proofs.Tails.{end-alike, end-none, first-path, first-steps, steps-told, tail-room}
 use Rattle.pam_paths.proofs.Fronts.{shared_steps}
+use Rattle.pam_paths.proofs.explorer.follow.Given.{Over}
 use Rattle.pam_paths.proofs.explorer.follow.Goals as goal
+use Rattle.pam_paths.proofs.explorer.follow.Goals.{After-as_slice}
 
 pub returns-in_default-clause-stays : goal.returns-in_default-clause-stays
 unfolding coming ahead
 returns-in_default-clause-stays g c = rw c.in_default.ensures.emptied refl
 
-pub retell-requires-clause-same : goal.retell-requires-clause-same
-retell-requires-clause-same g c =
+-- the steps that the path shares with the one before it are those of frames that stay
+within : (g : Over) (c : After-as_slice g) → c.shared_count-shared.result ≤ length c.go_on.new.frames.items - 1
+within g c =
+    let followed : c.len-2.result ≡ length c.go_on.new.frames.items = c.len-2.ensures.value in
+    omega (arith, c.shared_count-shared.ensures.unchanged, followed)
+
+same : (g : Over) (c : After-as_slice g) →
+    take c.shared_count-shared.result (map step_seen c.path.inside.steps.items) ≡ take c.shared_count-shared.result (map step_in c.as_slice.result.now)
+same g c =
     let steps = c.path.inside.steps.items in
-    let mid = c.go_on.new.frames.items in
     let seen : map step_seen steps ≡ c.args.path.now.steps = ap (λ (p : PathValue). p.steps) c.path.view_is in
     let first = subst (AreFirstSteps c.args.frames.now.items) (sym seen) c.requires.steps in
     let told : c.len.result ≡ length steps = c.len.ensures.value in
-    let followed : c.len-2.result ≡ length mid = c.len-2.ensures.value in
     let few : c.shared_count-shared.result ≤ length (map step_seen steps) =
     omega (arith, c.shared_count-shared.ensures.within, told, length-map steps step_seen) in
-    let within : c.shared_count-shared.result ≤ length mid - 1 = omega (arith, c.shared_count-shared.ensures.unchanged, followed) in
-    shared_steps _ c.args.frames.now.items mid c.as_slice.result.now c.shared_count-shared.result first
-    c.in-Some.ensures.earlier (ap (take _) c.as_slice.ensures.value ∙ c.descend-rest.ensures.earlier) few within
+    shared_steps _ c.args.frames.now.items c.go_on.new.frames.items c.as_slice.result.now c.shared_count-shared.result first
+    c.in-Some.ensures.earlier (ap (take _) c.as_slice.ensures.value ∙ c.descend-rest.ensures.earlier) few (within g c)
+
+pub retell-requires-clause-same : goal.retell-requires-clause-same
+retell-requires-clause-same g c = same g (goal.at.retell-requires-clause-same g c).After-as_slice
 
 pub returns-clause-path : goal.returns-clause-path
 returns-clause-path g c =
@@ -55,24 +64,16 @@ retell-requires-clause-few g c =
 
 pub returns-clause-shared : goal.returns-clause-shared
 returns-clause-shared g c =
-    let steps = c.path.inside.steps.items in
+    let told = (goal.at.returns-clause-shared g c).After-as_slice in
     let mid = c.go_on.new.frames.items in
-    let seen : map step_seen steps ≡ c.args.path.now.steps = ap (λ (p : PathValue). p.steps) c.path.view_is in
-    let first = subst (AreFirstSteps c.args.frames.now.items) (sym seen) c.requires.steps in
-    let told : c.len.result ≡ length steps = c.len.ensures.value in
-    let followed : c.len-2.result ≡ length mid = c.len-2.ensures.value in
-    let few : c.shared_count-shared.result ≤ length (map step_seen steps) =
-    omega (arith, c.shared_count-shared.ensures.within, told, length-map steps step_seen) in
-    let within : c.shared_count-shared.result ≤ length mid - 1 = omega (arith, c.shared_count-shared.ensures.unchanged, followed) in
     let own = map step_in c.as_slice.result.now in
     let front : length mid ≤ length c.descend-rest.new.frames.items =
     omega (arith, ap length c.descend-rest.ensures.earlier, length-take (length mid) c.descend-rest.new.frames.items) in
     let inside : c.shared_count-shared.result ≤ length own =
-    omega (arith, front, within, ap length c.as_slice.ensures.value, length-map c.as_slice.result.now step_in) in
+    omega (arith, front, within g told, ap length c.as_slice.ensures.value, length-map c.as_slice.result.now step_in) in
     ap (take c.shared_count-shared.result) c.retell.ensures
-    ∙ take-append-le c.shared_count-shared.result own (map step_seen c.last-tail.result.now) inside ∙ sym
-    (shared_steps _ c.args.frames.now.items mid c.as_slice.result.now c.shared_count-shared.result first
-    c.in-Some.ensures.earlier (ap (take _) c.as_slice.ensures.value ∙ c.descend-rest.ensures.earlier) few within) ∙ ap (take _) seen
+    ∙ take-append-le c.shared_count-shared.result own (map step_seen c.last-tail.result.now) inside ∙ sym (same g told)
+    ∙ ap (λ (p : PathValue). take c.shared_count-shared.result p.steps) c.path.view_is
 
 pub returns-clause-work : goal.returns-clause-work
 returns-clause-work g c =

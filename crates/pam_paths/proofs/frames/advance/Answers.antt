@@ -9,14 +9,22 @@ use Rattle.pam_paths.specs.Directions.{ordered}
 use Rattle.pam_paths.specs.Frames.{ahead, ahead_of, under, AreFrames}
 use Rattle.pam_paths.proofs.FrameLists.{ahead-next, ahead-none, branch_followed, frame_after}
 use Rattle.pam_paths.proofs.Fronts.{front_changed, front_popped}
-use Rattle.pam_paths.proofs.LastFrames.{followed_last, last_frame}
+use Rattle.pam_paths.proofs.LastFrames.{LastFrame, followed_last, last_frame}
+use Rattle.pam_paths.proofs.frames.advance.Given.{Over}
 use Rattle.pam_paths.proofs.frames.advance.Goals as goal
+use Rattle.pam_paths.proofs.frames.advance.Goals.{After-past-bound}
+
+-- the last of the frames that are left
+last : (g : Over) (c : After-past-bound g) → LastFrame (g.K.Knowledge.allows c.args.knowledge.now) c.args.program.now c.loop-direction.frames.items
+    c.len-last.result c.index-as_slice-last.result
+last g c =
+    last_frame (g.K.Knowledge.allows c.args.knowledge.now) c.args.program.now c.loop-direction.frames.items c.len-last.result
+    c.index-as_slice-last.result c.len-last.ensures.value (search rules) c.loop-direction.invariant.frames c.as_slice.result.now
+    c.as_slice.ensures.value c.index-as_slice-last.is
 
 pub branch_ahead-requires : goal.branch_ahead-requires
 branch_ahead-requires g c =
-    let k = last_frame (g.K.Knowledge.allows c.args.knowledge.now) c.args.program.now c.loop-direction.frames.items c.len-last.result
-    c.index-as_slice-last.result c.len-last.ensures.value (search rules) c.loop-direction.invariant.frames c.as_slice.result.now
-    c.as_slice.ensures.value c.index-as_slice-last.is in
+    let k = last g (goal.at.branch_ahead-requires g c).After-past-bound in
     record { place = k.is.place; asking = k.is.asking; first = k.first; last = k.last; classes = k.is.classes; bound = c.past-bound.ensures.range }
 
 pub returns-in-Some : goal.returns-in-Some
@@ -68,16 +76,15 @@ loop-direction-smaller g c =
 
 pub loop-direction-preserved : goal.loop-direction-preserved
 loop-direction-preserved g c =
-    let allows = g.K.Knowledge.allows c.args.knowledge.now in
-    let program = c.args.program.now in
-    let d = c.args.direction in
     let i = c.loop-direction.invariant in
-    let items = c.loop-direction.frames.items in
     let n = c.len-last.result in
-    let f = c.index-as_slice-last.result in
     let some : 0 < n = search rules in
-    let k = last_frame allows program items n f c.len-last.ensures.value some i.frames c.as_slice.result.now c.as_slice.ensures.value
-    c.index-as_slice-last.is in
+    let allows = g.K.Knowledge.allows c.args.knowledge.now in
+    let k = last g (goal.at.loop-direction-preserved g c).After-past-bound in
+    let d = c.args.direction in
+    let program = c.args.program.now in
+    let items = c.loop-direction.frames.items in
+    let f = c.index-as_slice-last.result in
     let fs = c.truncate.new.self.items in
     let rest : fs ≡ take (n - 1) items = c.truncate.ensures.items in
     let at : n - 1 ≡ length items - 1 = ap (λ (x : ℕ). x - 1) c.len-last.ensures.value in

@@ -1,4 +1,4 @@
-use Rattle.pam_tables.proofs.Searching.{cut_found}
+use Rattle.pam_text.proofs.Cutting.{cut_found}
 use Rattle.pam_tables.proofs.lines.cut_line.Goals as goal
 
 pub returns-clause-value : goal.returns-clause-value

@@ -1,7 +1,7 @@
 use Rattle.std.proofs.Common.{[], ◌∷◌}
 use Rattle.memchr.specs.Find.{is_byte}
-use Rattle.pam_tables.specs.Lines.{is_among}
-use Rattle.pam_tables.proofs.Searching.{first_place, same_byte}
+use Rattle.pam_text.specs.Cut.{is_among}
+use Rattle.pam_text.proofs.Searching.{first_place, same_byte}
 use Rattle.pam_tables.proofs.lines.line_feed.Goals as goal
 
 pub returns-clause-value : goal.returns-clause-value

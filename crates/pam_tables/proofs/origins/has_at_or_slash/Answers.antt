@@ -1,6 +1,6 @@
 use Rattle.std.proofs.Common.{◌∙◌}
 use Rattle.memchr.specs.Find.{is_byte2}
-use Rattle.pam_tables.proofs.Searching.{any_place}
+use Rattle.pam_text.proofs.Searching.{any_place}
 use Rattle.pam_tables.proofs.origins.has_at_or_slash.Goals as goal
 
 pub returns : goal.returns

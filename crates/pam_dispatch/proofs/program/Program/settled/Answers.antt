@@ -25,7 +25,7 @@ rest-is c =
     let tail = c.self.inside.tail in
     rest-settled c.args.self.now tail (subst (IsNumbered 0) c.self.view_is c.self.invariant.numbered)
     (subst (λ (ts : List Entry). KeepFailure (drop tail ts)) c.self.view_is c.self.invariant.settled)
-    c.args.place.now c.requires.place c.if-place-self.false _ (omega (arith, all, c.len.ensures)) (c.has_failed.ensures c.if-not-has_failed.false)
+    c.args.place.now c.requires.place c.if-place-self.false _ (omega (arith, all, c.len.ensures)) (c.has_failed.ensures.failed c.if-not-has_failed.false)
 
 pub returns-clause-settled : goal.returns-clause-settled
 returns-clause-settled c = (rest-is c).settled

@@ -1,5 +1,5 @@
 use Rattle.std.proofs.Common.{◌-◌, length}
-use Rattle.pam_page.proofs.MarkedTexts.{kept_own, own_kept}
+use Rattle.pam_page.proofs.KeptTexts.{kept_own, own_kept}
 use Rattle.pam_page.proofs.texts.LineTexts.replace.Goals as goal
 
 pub replace_steps-requires : goal.replace_steps-requires

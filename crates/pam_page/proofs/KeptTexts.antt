@@ -7,9 +7,9 @@ use Rattle.std.proofs.lemmas.List.{get_or-drop, length-map, map-append, take-app
 use Rattle.std.proofs.lemmas.List.{length-take, take_all, take_at, take_more, take_rest}
 use Rattle.std.proofs.lemmas.Option.{slice_get-get_or, slice_get_within}
 use Rattle.pam_page.proofs.FlatTexts.{flat_map-push, flat_map-seen}
-use Rattle.pam_page.specs.Marks.{AreTexts, IsEnd, code_text, codes_of, marked, steps_of, undotted}
+use Rattle.pam_page.specs.KeptSteps.{AreTexts, IsEnd, code_text, codes_of, step_of, steps_of, undotted}
 use Rattle.pam_page.specs.Page.{code_name, path_line, step_text}
-use Rattle.pam_page.specs.declared.texts.Mark.{Mark}
+use Rattle.pam_page.specs.declared.texts.KeptStep.{KeptStep}
 use Rattle.pam_paths.specs.Classes.{least}
 use Rattle.pam_paths.specs.CursorText.{cursor_text}
 use Rattle.pam_paths.specs.Paths.{PathValue, StepValue, key, key_of}
@@ -41,58 +41,58 @@ text_cut text xs n end all e l =
     let parts = sym (flat_map-append text (take n xs) (drop n xs)) ∙ ap (flat_map text) (take-append-drop n xs) in
     ap (take end) (e ∙ sym parts) ∙ take_at (flat_map text (take n xs)) (flat_map text (drop n xs)) end (sym l)
 
--- ---- the first of the marks
+-- ---- the first kept steps
 
-module _ (marks : List Mark) (dotted text : List ℕ) (whole : AreTexts marks dotted text) where
-  ends_cut : (n i : ℕ) (mark : Mark) → slice_get (take n marks) i ≡ Some mark → IsEnd (take (i + 1) (take n marks)) mark
-  ends_cut n i mark e =
-      let f = get_front marks n i mark e in
-      let same : take (i + 1) (take n marks) ≡ take (i + 1) marks = take-take (i + 1) n marks (omega (arith, f.within)) in
-      subst (λ (ms : List Mark). IsEnd ms mark) (sym same) (whole.ends i mark f.found)
+module _ (kept : List KeptStep) (dotted text : List ℕ) (whole : AreTexts kept dotted text) where
+  ends_cut : (n i : ℕ) (one : KeptStep) → slice_get (take n kept) i ≡ Some one → IsEnd (take (i + 1) (take n kept)) one
+  ends_cut n i one e =
+      let f = get_front kept n i one e in
+      let same : take (i + 1) (take n kept) ≡ take (i + 1) kept = take-take (i + 1) n kept (omega (arith, f.within)) in
+      subst (λ (ms : List KeptStep). IsEnd ms one) (sym same) (whole.ends i one f.found)
 
-  pub texts_cut : (n : ℕ) (mark : Mark) → slice_get (take n marks) (length (take n marks) - 1) ≡ Some mark
-      → AreTexts (take n marks) (take mark.cursor_end dotted) (take mark.steps_end text)
-  texts_cut n mark e =
-      let front = take n marks in
-      let inside : length front - 1 < length front = slice_get_within front (length front - 1) mark e in
+  pub texts_cut : (n : ℕ) (one : KeptStep) → slice_get (take n kept) (length (take n kept) - 1) ≡ Some one
+      → AreTexts (take n kept) (take one.cursor_end dotted) (take one.steps_end text)
+  texts_cut n one e =
+      let front = take n kept in
+      let inside : length front - 1 < length front = slice_get_within front (length front - 1) one e in
       let count : length front - 1 + 1 ≡ length front = omega (arith, inside) in
-      let last : IsEnd front mark = subst (λ (ms : List Mark). IsEnd ms mark)
-      (ap (λ (k : ℕ). take k front) count ∙ take_all (length front) front (omega arith)) (ends_cut n (length front - 1) mark e) in
+      let last : IsEnd front one = subst (λ (ms : List KeptStep). IsEnd ms one)
+      (ap (λ (k : ℕ). take k front) count ∙ take_all (length front) front (omega arith)) (ends_cut n (length front - 1) one e) in
       record {
-        cursor = text_cut (λ (m : Mark). code_text (marked m)) marks n mark.cursor_end dotted (whole.cursor ∙ flat_map-seen code_text marked marks)
-            (last.cursor ∙ ap length (flat_map-seen code_text marked front)) ∙ sym (flat_map-seen code_text marked front);
-        steps = text_cut (λ (m : Mark). step_text (marked m)) marks n mark.steps_end text (whole.steps ∙ flat_map-seen step_text marked marks)
-            (last.steps ∙ ap length (flat_map-seen step_text marked front)) ∙ sym (flat_map-seen step_text marked front);
+        cursor = text_cut (λ (m : KeptStep). code_text (step_of m)) kept n one.cursor_end dotted (whole.cursor ∙ flat_map-seen code_text step_of kept)
+            (last.cursor ∙ ap length (flat_map-seen code_text step_of front)) ∙ sym (flat_map-seen code_text step_of front);
+        steps = text_cut (λ (m : KeptStep). step_text (step_of m)) kept n one.steps_end text (whole.steps ∙ flat_map-seen step_text step_of kept)
+            (last.steps ∙ ap length (flat_map-seen step_text step_of front)) ∙ sym (flat_map-seen step_text step_of front);
         ends = ends_cut n;
       }
 
-  pub texts_none : (n : ℕ) → slice_get (take n marks) (length (take n marks) - 1) ≡ None → AreTexts (take n marks) (take 0 dotted) (take 0 text)
+  pub texts_none : (n : ℕ) → slice_get (take n kept) (length (take n kept) - 1) ≡ None → AreTexts (take n kept) (take 0 dotted) (take 0 text)
   texts_none n e =
-      let none = no_last (take n marks) e in
+      let none = no_last (take n kept) e in
       record {
         cursor = sym (ap codes_of none);
         steps = sym (ap steps_of none);
         ends = ends_cut n;
       }
 
-pub cut_some : (marks : List Mark) (dotted text : List ℕ) (n : ℕ) (items shown : List Mark) (mark : Mark) (codes_left steps_left : List ℕ)
-    → AreTexts marks dotted text → items ≡ take n marks → shown ≡ items → Some mark ≡ slice_get shown (length shown - 1)
-    → codes_left ≡ take mark.cursor_end dotted → steps_left ≡ take mark.steps_end text → AreTexts items codes_left steps_left
-cut_some marks dotted text n items shown mark codes_left steps_left whole is_items is_shown is_last is_codes is_steps =
-    let last = sym (is_last ∙ ap (λ (l : List Mark). slice_get l (length l - 1)) (is_shown ∙ is_items)) in
-    rw (is_codes, is_steps, is_items) (texts_cut marks dotted text whole n mark last)
+pub cut_some : (kept : List KeptStep) (dotted text : List ℕ) (n : ℕ) (items shown : List KeptStep) (one : KeptStep) (codes_left steps_left : List ℕ)
+    → AreTexts kept dotted text → items ≡ take n kept → shown ≡ items → Some one ≡ slice_get shown (length shown - 1)
+    → codes_left ≡ take one.cursor_end dotted → steps_left ≡ take one.steps_end text → AreTexts items codes_left steps_left
+cut_some kept dotted text n items shown one codes_left steps_left whole is_items is_shown is_last is_codes is_steps =
+    let last = sym (is_last ∙ ap (λ (l : List KeptStep). slice_get l (length l - 1)) (is_shown ∙ is_items)) in
+    rw (is_codes, is_steps, is_items) (texts_cut kept dotted text whole n one last)
 
-pub cut_none : (marks : List Mark) (dotted text : List ℕ) (n : ℕ) (items shown : List Mark) (codes_left steps_left : List ℕ) → AreTexts marks dotted text
-    → items ≡ take n marks → shown ≡ items → None ≡ slice_get shown (length shown - 1) → codes_left ≡ [] → steps_left ≡ []
+pub cut_none : (kept : List KeptStep) (dotted text : List ℕ) (n : ℕ) (items shown : List KeptStep) (codes_left steps_left : List ℕ) → AreTexts kept dotted text
+    → items ≡ take n kept → shown ≡ items → None ≡ slice_get shown (length shown - 1) → codes_left ≡ [] → steps_left ≡ []
     → AreTexts items codes_left steps_left
-cut_none marks dotted text n items shown codes_left steps_left whole is_items is_shown is_last is_codes is_steps =
-    let last = sym (is_last ∙ ap (λ (l : List Mark). slice_get l (length l - 1)) (is_shown ∙ is_items)) in
-    rw (is_codes, is_steps, is_items) (texts_none marks dotted text whole n last)
+cut_none kept dotted text n items shown codes_left steps_left whole is_items is_shown is_last is_codes is_steps =
+    let last = sym (is_last ∙ ap (λ (l : List KeptStep). slice_get l (length l - 1)) (is_shown ∙ is_items)) in
+    rw (is_codes, is_steps, is_items) (texts_none kept dotted text whole n last)
 
-pub no_texts : (marks : List Mark) (dotted text : List ℕ) → marks ≡ [] → dotted ≡ [] → text ≡ [] → AreTexts marks dotted text
-no_texts marks dotted text m d t = rw (m, d, t) (record { cursor = refl; steps = refl; ends = λ i mark e. cc })
+pub no_texts : (kept : List KeptStep) (dotted text : List ℕ) → kept ≡ [] → dotted ≡ [] → text ≡ [] → AreTexts kept dotted text
+no_texts kept dotted text m d t = rw (m, d, t) (record { cursor = refl; steps = refl; ends = λ i one e. cc })
 
--- ---- one more mark
+-- ---- one more kept step
 
 data Place {A : Type 0} (xs : List A) (y : A) (i : ℕ) (x : A) : Type 0 where
   Earlier : slice_get xs i ≡ Some x → Place xs y i x
@@ -104,29 +104,29 @@ get_push [] y (suc i) x e = cc
 get_push (z ∷ xs) y zero x e = Earlier e
 get_push (z ∷ xs) y (suc i) x e = elim (get_push xs y i x e) [ Earlier f ↦ Earlier f | Final at same ↦ Final (omega (arith, at)) same ]
 
-codes_push : (marks : List Mark) (mark : Mark) → codes_of (marks ++ mark ∷ []) ≡ codes_of marks ++ code_text (marked mark)
-codes_push marks mark = ap (flat_map code_text) (map-append marked marks (mark ∷ [])) ∙ flat_map-push code_text (map marked marks) (marked mark)
+codes_push : (kept : List KeptStep) (one : KeptStep) → codes_of (kept ++ one ∷ []) ≡ codes_of kept ++ code_text (step_of one)
+codes_push kept one = ap (flat_map code_text) (map-append step_of kept (one ∷ [])) ∙ flat_map-push code_text (map step_of kept) (step_of one)
 
-steps_push : (marks : List Mark) (mark : Mark) → steps_of (marks ++ mark ∷ []) ≡ steps_of marks ++ step_text (marked mark)
-steps_push marks mark = ap (flat_map step_text) (map-append marked marks (mark ∷ [])) ∙ flat_map-push step_text (map marked marks) (marked mark)
+steps_push : (kept : List KeptStep) (one : KeptStep) → steps_of (kept ++ one ∷ []) ≡ steps_of kept ++ step_text (step_of one)
+steps_push kept one = ap (flat_map step_text) (map-append step_of kept (one ∷ [])) ∙ flat_map-push step_text (map step_of kept) (step_of one)
 
-pub texts_push : (marks : List Mark) (dotted text : List ℕ) (mark : Mark) (longer_dotted longer : List ℕ) → AreTexts marks dotted text
-    → longer_dotted ≡ dotted ++ code_text (marked mark) → longer ≡ text ++ step_text (marked mark)
-    → mark.cursor_end ≡ length longer_dotted → mark.steps_end ≡ length longer → AreTexts (marks ++ mark ∷ []) longer_dotted longer
-texts_push marks dotted text mark longer_dotted longer whole d t cursor_end steps_end =
-    let is_cursor = d ∙ ap (λ (l : List ℕ). l ++ code_text (marked mark)) whole.cursor ∙ sym (codes_push marks mark) in
-    let is_steps = t ∙ ap (λ (l : List ℕ). l ++ step_text (marked mark)) whole.steps ∙ sym (steps_push marks mark) in
-    let all = marks ++ mark ∷ [] in
+pub texts_push : (kept : List KeptStep) (dotted text : List ℕ) (one : KeptStep) (longer_dotted longer : List ℕ) → AreTexts kept dotted text
+    → longer_dotted ≡ dotted ++ code_text (step_of one) → longer ≡ text ++ step_text (step_of one)
+    → one.cursor_end ≡ length longer_dotted → one.steps_end ≡ length longer → AreTexts (kept ++ one ∷ []) longer_dotted longer
+texts_push kept dotted text one longer_dotted longer whole d t cursor_end steps_end =
+    let is_cursor = d ∙ ap (λ (l : List ℕ). l ++ code_text (step_of one)) whole.cursor ∙ sym (codes_push kept one) in
+    let is_steps = t ∙ ap (λ (l : List ℕ). l ++ step_text (step_of one)) whole.steps ∙ sym (steps_push kept one) in
+    let all = kept ++ one ∷ [] in
     record {
       cursor = is_cursor;
       steps = is_steps;
-      ends = λ i m e. elim (get_push marks mark i m e) [
+      ends = λ i m e. elim (get_push kept one i m e) [
         | Earlier f ↦
-            let inside : i < length marks = slice_get_within marks i m f in
-            subst (λ (ms : List Mark). IsEnd ms m) (sym (take-append-le (i + 1) marks (mark ∷ []) (omega (arith, inside)))) (whole.ends i m f)
+            let inside : i < length kept = slice_get_within kept i m f in
+            subst (λ (ms : List KeptStep). IsEnd ms m) (sym (take-append-le (i + 1) kept (one ∷ []) (omega (arith, inside)))) (whole.ends i m f)
         | Final at same ↦
-            let full : length all ≤ i + 1 = omega (arith, at, length-append marks (mark ∷ [])) in
-            let both : IsEnd all mark = record { cursor = cursor_end ∙ ap length is_cursor; steps = steps_end ∙ ap length is_steps } in
+            let full : length all ≤ i + 1 = omega (arith, at, length-append kept (one ∷ [])) in
+            let both : IsEnd all one = record { cursor = cursor_end ∙ ap length is_cursor; steps = steps_end ∙ ap length is_steps } in
             rw (same, take_all (i + 1) all full) both
       ];
     }
@@ -139,13 +139,13 @@ map_more f xs i x inside e =
     take-map f (i + 1) xs ∙ ap (map f) (take_more xs i x inside ∙ ap (λ y. take i xs ++ y ∷ []) (sym e)) ∙ map-append f (take i xs) (x ∷ [])
     ∙ ap (λ l. l ++ f x ∷ []) (sym (take-map f i xs))
 
-pub same_more : (marks : List Mark) (steps : List PathStep) (i j : ℕ) (mark : Mark) (step : PathStep) → i ≡ j → j < length marks → i < length steps
-    → mark ≡ get_or marks j mark → step ≡ get_or steps i step → marked mark ≡ step_seen step
-    → take i (map marked marks) ≡ take i (map step_seen steps) → take (i + 1) (map marked marks) ≡ take (i + 1) (map step_seen steps)
-same_more marks steps i j mark step index inside within is_mark is_step same before =
-    let at : i < length marks = omega (arith, index, inside) in
-    let here : mark ≡ get_or marks i mark = is_mark ∙ ap (λ (k : ℕ). get_or marks k mark) (sym index) in
-    map_more marked marks i mark at here ∙ ap (λ (l : List StepValue). l ++ marked mark ∷ []) before
+pub same_more : (kept : List KeptStep) (steps : List PathStep) (i j : ℕ) (one : KeptStep) (step : PathStep) → i ≡ j → j < length kept → i < length steps
+    → one ≡ get_or kept j one → step ≡ get_or steps i step → step_of one ≡ step_seen step
+    → take i (map step_of kept) ≡ take i (map step_seen steps) → take (i + 1) (map step_of kept) ≡ take (i + 1) (map step_seen steps)
+same_more kept steps i j one step index inside within is_one is_step same before =
+    let at : i < length kept = omega (arith, index, inside) in
+    let here : one ≡ get_or kept i one = is_one ∙ ap (λ (k : ℕ). get_or kept k one) (sym index) in
+    map_more step_of kept i one at here ∙ ap (λ (l : List StepValue). l ++ step_of one ∷ []) before
     ∙ ap (λ (s : StepValue). take i (map step_seen steps) ++ s ∷ []) same ∙ sym (map_more step_seen steps i step within is_step)
 
 pub added_more : (steps : List PathStep) (shared i : ℕ) (step : PathStep) (before : List StepValue) → shared ≤ length steps
@@ -199,17 +199,17 @@ own_kept kept before steps own is seen =
     ∙ ap (take (length kept)) seen
 
 -- the texts of the kept steps and of the tail are those of the path
-pub whole_text : (text : StepValue → List ℕ) (marks : List Mark) (kept steps : List StepValue) (tail : List PathStep) (texts : List ℕ)
-    → texts ≡ flat_map text (map marked marks) → map marked marks ≡ kept → kept ≡ take (length kept) steps
-    → map step_seen tail ≡ drop (length steps - length tail) steps → length kept ≡ length steps - length tail
+pub whole_text : (text : StepValue → List ℕ) (kept : List KeptStep) (viewed steps : List StepValue) (tail : List PathStep) (texts : List ℕ)
+    → texts ≡ flat_map text (map step_of kept) → map step_of kept ≡ viewed → viewed ≡ take (length viewed) steps
+    → map step_seen tail ≡ drop (length steps - length tail) steps → length viewed ≡ length steps - length tail
     → texts ++ flat_map text (map step_seen tail) ≡ flat_map text steps
-whole_text text marks kept steps tail texts is seen first last own =
+whole_text text kept viewed steps tail texts is seen first last own =
     let front = is ∙ ap (flat_map text) (seen ∙ first) in
     ap (λ (l : List ℕ). l ++ flat_map text (map step_seen tail)) front
-    ∙ ap (λ (l : List StepValue). flat_map text (take (length kept) steps) ++ flat_map text l) last
-    ∙ ap (λ (n : ℕ). flat_map text (take (length kept) steps) ++ flat_map text (drop n steps)) (sym own)
-    ∙ sym (flat_map-append text (take (length kept) steps) (drop (length kept) steps))
-    ∙ ap (flat_map text) (take-append-drop (length kept) steps)
+    ∙ ap (λ (l : List StepValue). flat_map text (take (length viewed) steps) ++ flat_map text l) last
+    ∙ ap (λ (n : ℕ). flat_map text (take (length viewed) steps) ++ flat_map text (drop n steps)) (sym own)
+    ∙ sym (flat_map-append text (take (length viewed) steps) (drop (length viewed) steps))
+    ∙ ap (flat_map text) (take-append-drop (length viewed) steps)
 
 -- ---- the line
 

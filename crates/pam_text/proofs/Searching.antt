@@ -1,22 +1,17 @@
 -- The first byte that passes a test, as a search and as a definition give it.
-use Rattle.std.proofs.Common.{◌≡◌, ◌∙◌, ◌<◌, ◌≤◌, ◌+◌, ◌||◌, ◌==◌, ℕ, suc, Bool, true, false, List, [], ◌∷◌, length, nat_lt, position, take, drop}
-use Rattle.std.proofs.Common.{Option, Some, None, refl, sym, ap, ap₂, arith, get_or, is_some}
+use Rattle.std.proofs.Common.{◌≡◌, ◌∙◌, ◌<◌, ◌||◌, ◌==◌, ℕ, suc, Bool, true, false, List, [], ◌∷◌, length, position}
+use Rattle.std.proofs.Common.{Option, Some, None, refl, sym, ap, arith, get_or, is_some}
 use Rattle.std.specs.List.{list_any, position_or_len}
-use Rattle.std.specs.Option.{option_map}
 use Rattle.std.proofs.lemmas.Bool.{eqb-true, eq-eqb, lt-ltb, le-ltb}
-use Rattle.std.proofs.lemmas.List.{drop-drop}
 use Rattle.std.proofs.lemmas.List.Folds.{list_any_at}
 use Rattle.std.proofs.lemmas.List.Sums.{position_or_len_is}
 use Rattle.memchr.specs.Find.{IsFirstByte}
-use Rattle.pam_tables.specs.Lines.{cut_at, is_among}
+use Rattle.pam_text.specs.Cut.{is_among}
+use Rattle.pam_text.proofs.Cutting.{or_false}
 
 not_true : (b : Bool) → (b ≡ true → ⊥) → b ≡ false
 not_true true h = absurd (h refl)
 not_true false h = refl
-
-or_false : (b : Bool) → (b || false) ≡ b
-or_false true = refl
-or_false false = refl
 
 turned : (n b : ℕ) → (n == b) ≡ (b == n)
 turned n b =
@@ -56,10 +51,3 @@ module _ (p q : ℕ → Bool) (same : (b : ℕ) → p b ≡ q b) (text : List �
 pub any_place : (q : ℕ → Bool) (text : List ℕ) (r : Option ℕ) → IsFirstByte q text r → is_some r ≡ list_any q text
 any_place q text None h = sym (none_passes q text (λ k l. not_true _ (h k (omega arith) l)))
 any_place q text (Some k) h = sym (list_any_at q text k 0 h.0.high h.1)
-
--- a text cut at the first byte that passes
-pub cut_found : (p : ℕ → Bool) (text front rest back : List ℕ) (i : ℕ) → Some i ≡ position p text → front ≡ take i text → rest ≡ drop i text →
-    back ≡ drop 1 rest → Some (front, back) ≡ cut_at p text
-cut_found p text front rest back i e f g h =
-    let after : back ≡ drop (i + 1) text = h ∙ ap (drop 1) g ∙ drop-drop 1 i text in
-    ap₂ (λ x y. Some (x, y)) f after ∙ ap (λ (o : Option ℕ). option_map (λ j. (take j text, drop (j + 1) text)) o) e

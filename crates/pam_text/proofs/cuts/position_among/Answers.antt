@@ -1,8 +1,8 @@
 use Rattle.std.proofs.Common.{get_or}
 use Rattle.memchr.specs.Find.{is_byte}
-use Rattle.pam_tables.specs.Lines.{is_among}
-use Rattle.pam_tables.proofs.Searching.{first_place, only_byte}
-use Rattle.pam_tables.proofs.access.separator_at.Goals as goal
+use Rattle.pam_text.specs.Cut.{is_among}
+use Rattle.pam_text.proofs.Searching.{first_place, only_byte}
+use Rattle.pam_text.proofs.cuts.position_among.Goals as goal
 
 pub returns-then-separators-eq1-clause-value : goal.returns-then-separators-eq1-clause-value
 returns-then-separators-eq1-clause-value c =
