@@ -134,16 +134,18 @@ abbrev pub Answers : {W : Type 0} → (W → Option (List ℕ)) → Out W → Ou
 Answers contents old new result service task inputs =
     AnswersFrom contents old new result service task (unwrap_or (files_given inputs) no_files) inputs
 
--- what is looked up is the answer, or its fault, unless an allocation failed
+-- for private contracts and proofs alone: what is looked up is the answer, or its fault, unless an allocation failed
 abbrev pub FindsFault : Fault → Answer → Type 0
 FindsFault (faults.Table e) answer = IsTableFault (λ given. answer ≡ given) e e.fault
 FindsFault (faults.Time e) answer = IsTimeFault (λ given. answer ≡ given) e e.fault
 FindsFault _ answer = ⊥
 
+-- for private contracts and proofs alone: an access table is looked up
 abbrev pub FindsAccess : Result AccessAnswer Fault → Answer → Type 0
 FindsAccess (Ok found) answer = answer ≡ Ok (access_report found)
 FindsAccess (Err fault) answer = FindsFault fault answer
 
+-- for private contracts and proofs alone: a time table is looked up
 abbrev pub FindsTime : Result TimeAnswer Fault → Answer → Type 0
 FindsTime (Ok found) answer = answer ≡ Ok (time_report found)
 FindsTime (Err fault) answer = FindsFault fault answer

@@ -1,4 +1,4 @@
--- A row of the table of faults, as contracts see it.
+-- For private contracts and proofs alone: a row of the table of faults, as contracts see it.
 use Rattle.pam_report.specs.FaultTable as spec
 use Rattle.pam_report.specs.declared.fault.table.Row.{Row}
 

@@ -1,4 +1,4 @@
--- The modules of a trace, as contracts see them.
+-- For private contracts and proofs alone: the modules of a trace, as contracts see them.
 use Rattle.pam_report.specs.Decide as spec
 use Rattle.pam_report.specs.declared.report.trace.AskedModule.{AskedModule}
 
