@@ -1,6 +1,6 @@
 -- The texts of steps that have every code.
 use Rattle.std.proofs.Common.{◌≡◌, ℕ, ◌+◌, ◌-◌, ◌*◌, ◌<◌, ◌≤◌, zero, suc, List, [], ◌∷◌, ◌++◌, length, take, drop, get_or, refl, sym, ap, ◌∙◌, arith, inl, inr}
-use Rattle.std.proofs.Common.{Some, append_assoc, codes, decimal, length-append, map, slice_get}
+use Rattle.std.proofs.Common.{None, Some, append_assoc, codes, decimal, length-append, map, slice_get}
 use Rattle.std.specs.Fmt.{digits}
 use Rattle.std.specs.List.{concat, flat_map}
 use Rattle.std.proofs.Math.ListN.{get_or-append}
@@ -146,21 +146,13 @@ first-number (step ∷ tail) first alike is =
     let same : first ≡ step = cc in
     ap (λ (s : PathStep). s.number) same ∙ ap head_number alike.1
 
-module _ (tail : List PathStep) (alike : AreAlike (map step_seen tail)) (before last : ℕ) (long : last ≡ before + length tail) where
-  tail-alike : map step_seen tail ≡ alike_from alike.0 (last - before)
-  tail-alike =
-      let count : length (map step_seen tail) ≡ last - before = omega (arith, long, length-map tail step_seen) in
-      alike.1 ∙ ap (alike_from alike.0) count
+pub no-tail : (tail : List PathStep) → None ≡ slice_get tail 0 → map step_seen tail ≡ alike_from 1 (length tail)
+unfolding alike_from
+no-tail [] none = refl
+no-tail (step ∷ tail) none = absurd (let x : ⊥ = cc in x)
 
-  pub tail-codes : (dotted longer text : List ℕ) → longer ≡ dotted ++ text → text ≡ flat_map code_text (alike_from 1 (last - before)) →
-      longer ≡ dotted ++ flat_map code_text (map step_seen tail)
-  tail-codes dotted longer text is shown =
-      is ∙ ap (λ (l : List ℕ). dotted ++ l) (shown ∙ codes-same 1 alike.0 (last - before) ∙ ap (flat_map code_text) (sym tail-alike))
-
-  pub tail-steps : (first : PathStep) (number : ℕ) (steps longer text : List ℕ) → Some first ≡ slice_get tail 0 → number ≡ first.number → 1 ≤ number →
-      before ≡ number - 1 → longer ≡ steps ++ text → text ≡ flat_map step_text (alike_from (before + 1) (last - before)) →
-      longer ≡ steps ++ flat_map step_text (map step_seen tail)
-  tail-steps first number steps longer text head at above less is shown =
-      let start : before + 1 ≡ alike.0 = omega (arith, at, above, less, first-number tail first alike head) in
-      is ∙ ap (λ (l : List ℕ). steps ++ l) (shown ∙ ap (λ (n : ℕ). flat_map step_text (alike_from n (last - before))) start
-      ∙ ap (flat_map step_text) (sym tail-alike))
+pub tail-from : (tail : List PathStep) (alike : AreAlike (map step_seen tail)) (first : PathStep) (number before : ℕ) → Some first ≡ slice_get tail 0 →
+    number ≡ first.number → 1 ≤ number → before ≡ number - 1 → map step_seen tail ≡ alike_from (before + 1) (length tail)
+tail-from tail alike first number before head at above less =
+    let start : before + 1 ≡ alike.0 = omega (arith, at, above, less, first-number tail first alike head) in
+    alike.1 ∙ ap (alike_from alike.0) (length-map tail step_seen) ∙ ap (λ (n : ℕ). alike_from n (length tail)) (sym start)

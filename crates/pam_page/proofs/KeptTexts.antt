@@ -223,24 +223,17 @@ unfolding key_of code_text
 undotted-is [] = refl
 undotted-is (step ∷ steps) = ap (λ (l : List ℕ). decimal (least step.class) ++ l) (dotted_rest steps)
 
--- a blank and the name of a decision after the codes
-cursor_line : (steps : List StepValue) (after name : List ℕ) → 1 ≤ length steps
-    → undotted ((flat_map code_text steps ++ after) ++ name) ≡ cursor_text (key_of steps) ++ (after ++ name)
-unfolding key_of code_text
-cursor_line [] after name some = absurd (omega (arith, some))
-cursor_line (step ∷ steps) after name some =
-    append_assoc (decimal (least step.class) ++ flat_map code_text steps) after name
-    ∙ ap (λ (l : List ℕ). l ++ (after ++ name)) (undotted-is (step ∷ steps))
+regrouped : (old a b c d e f : List ℕ) → (((((old ++ a) ++ b) ++ c) ++ d) ++ e) ++ f ≡ old ++ (((a ++ (b ++ (c ++ []))) ++ (d ++ e)) ++ f)
+regrouped old a b c d e f = simp (append_assoc, append-nil)
 
-regrouped : (a b c d e : List ℕ) → (a ++ (b ++ c)) ++ (d ++ e) ≡ ((a ++ (b ++ (c ++ []))) ++ d) ++ e
-regrouped a b c d e = simp (append_assoc, append-nil)
-
-pub kept_line : (path : PathValue) (cursor shown text : List ℕ) → 1 ≤ length path.steps
-    → cursor ≡ (flat_map code_text path.steps ++ codes " ") ++ code_name path.decision → shown ≡ undotted cursor
-    → text ≡ flat_map step_text path.steps ++ codes "\n" → shown ++ text ≡ path_line path
+-- the line after earlier lines, part by part
+pub line_parts : (path : PathValue) (old longer first_codes last_codes first_steps last_steps : List ℕ)
+    → longer ≡ (((((old ++ undotted (first_codes ++ last_codes)) ++ codes " ") ++ code_name path.decision) ++ first_steps) ++ last_steps) ++ codes "\n"
+    → first_codes ++ last_codes ≡ flat_map code_text path.steps → first_steps ++ last_steps ≡ flat_map step_text path.steps → longer ≡ old ++ path_line path
 unfolding path_line
-kept_line path cursor shown text some is_cursor is_shown is_text =
+line_parts path old longer first_codes last_codes first_steps last_steps is is_codes is_steps =
     let name = code_name path.decision in
-    let steps = flat_map step_text path.steps in
-    let begun = is_shown ∙ ap undotted is_cursor ∙ cursor_line path.steps (codes " ") name some in
-    rw (begun, is_text) (regrouped (cursor_text (key path)) (codes " ") name steps (codes "\n"))
+    let shown = ap undotted is_codes ∙ undotted-is path.steps in
+    is ∙ regrouped old (undotted (first_codes ++ last_codes)) (codes " ") name first_steps last_steps (codes "\n")
+    ∙ ap (λ (l : List ℕ). old ++ (((l ++ (codes " " ++ (name ++ []))) ++ (first_steps ++ last_steps)) ++ codes "\n")) shown
+    ∙ ap (λ (l : List ℕ). old ++ (((cursor_text (key path) ++ (codes " " ++ (name ++ []))) ++ l) ++ codes "\n")) is_steps

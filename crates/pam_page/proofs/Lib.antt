@@ -1,3 +1,4 @@
+pub mod AddedLines
 pub mod AlikeTexts
 pub mod FlatTexts
 pub mod KeptTexts

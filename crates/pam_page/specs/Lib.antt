@@ -2,4 +2,5 @@ pub mod AlikeTexts
 pub mod Coming
 pub mod KeptSteps
 pub mod Laws
+pub mod Lines
 pub mod Page

@@ -1,7 +1,7 @@
 //! The texts of steps at which the answers no longer matter.
 
 ghost use Rattle.std.specs.List.{flat_map};
-ghost use Rattle.std.specs.Prelude.{◌≡◌, ◌+◌, ◌-◌, ◌≤◌, ◌∷◌, ◌++◌, [], if◌then◌else◌, length, map, take, IfOk, IsTrue};
+ghost use Rattle.std.specs.Prelude.{◌≡◌, ◌+◌, ◌-◌, ◌≤◌, ◌∷◌, ◌++◌, [], if◌then◌else◌, length, map, IfOk, IfSome, IsTrue};
 ghost use Rattle.pam_page.specs.AlikeTexts.{steps_to};
 ghost use Rattle.pam_page.specs.KeptSteps.{code_text};
 ghost use Rattle.pam_page.specs.Page.{step_text};
@@ -116,32 +116,27 @@ impl AlikeTexts {
         &self.steps.as_slice()[start..end]
     }
 
-    /// Appends the texts of the last steps of a path to those of the earlier ones. Returns whether there was room.
-    pub(crate) fn append_to(
-        &mut self,
-        cursor: &mut Buffer,
-        steps: &mut Buffer,
-        tail: &[PathStep],
-    ) -> bool
+    /// Appends texts until there are those of the modules of `tail`, the last steps of a path. Returns the number of modules
+    /// before them and that of the last one; `None` if there is no room for all texts.
+    pub(crate) fn reach_tail(&mut self, tail: &[PathStep]) -> Option<(usize, usize)>
         requires { AreAlike (map step_seen tail.now) }
-        ensures cursor { take (length cursor.old.bytes.items) cursor.new.bytes.items ≡ cursor.old.bytes.items }
-        ensures steps { take (length steps.old.bytes.items) steps.new.bytes.items ≡ steps.old.bytes.items }
-        ensures codes { IsTrue result → cursor.new.bytes.items ≡ cursor.old.bytes.items ++ flat_map code_text (map step_seen tail.now) }
-        ensures texts { IsTrue result → steps.new.bytes.items ≡ steps.old.bytes.items ++ flat_map step_text (map step_seen tail.now) }
+        ensures within { IfSome result (λ range. range.1 ≤ self.new) }
+        ensures count { IfSome result (λ range. range.1 ≡ range.0 + length tail.now) }
+        ensures tail { IfSome result (λ range. map step_seen tail.now ≡ alike_from (range.0 + 1) (length tail.now)) }
     {
         let Some(first) = tail.first() else {
-            return true;
+            return Some((0, 0));
         };
         let Some(before) = first.number().checked_sub(1) else {
-            return false;
+            return None;
         };
         let Some(last) = before.checked_add(tail.len()) else {
-            return false;
+            return None;
         };
-        if !self.reach(last) || !cursor.append(self.codes(last - before)) {
-            return false;
+        if !self.reach(last) {
+            return None;
         }
-        steps.append(self.steps(before, last))
+        Some((before, last))
     }
 }
 

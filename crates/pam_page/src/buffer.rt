@@ -50,6 +50,9 @@ impl Buffer {
     pub(crate) fn append(&mut self, bytes: &[u8]) -> bool
         ensures { self.new.bytes.items ≡ (if result then self.old.bytes.items ++ bytes.now else self.old.bytes.items) }
     {
+        if bytes.is_empty() {
+            return true;
+        }
         if self.bytes.capacity().saturating_sub(self.bytes.len()) < bytes.len() {
             return false;
         }

@@ -6,6 +6,7 @@ mod alike;
 mod buffer;
 pub mod laws;
 mod line;
+mod lines;
 mod listing;
 mod page;
 mod texts;

@@ -1,15 +1,17 @@
 //! A page of the paths through a stack.
 
-ghost use Rattle.std.specs.Prelude.{◌≡◌, ◌-◌, ◌<◌, ◌≤◌, ◌^◌, length, take};
+ghost use Rattle.std.specs.Prelude.{◌≡◌, ◌-◌, ◌<◌, ◌≤◌, ◌^◌, [], length, take};
 ghost use Rattle.pam_codes.specs.Out.{Writes};
 ghost use Rattle.pam_page.specs.Coming.{coming, followed, side};
-ghost use Rattle.pam_page.specs.Page.{first_page, page_text, text_after};
+ghost use Rattle.pam_page.specs.Lines.{Adds};
+ghost use Rattle.pam_page.specs.Page.{first_page, page_text, path_line, text_after};
 
-use crate::line::{put_end, put_more};
+use crate::buffer::Buffer;
+use crate::line::{put_end, put_more, put_path};
 use crate::listing::Listing;
 use crate::texts::LineTexts;
 use pam_codes::{Device, Out};
-use pam_paths::Knowledge;
+use pam_paths::{Knowledge, Path};
 use std::io::Write;
 
 /// Writes a page: a line for each of the next paths, at most `limit`, and a last line. Fails if the writer does.
@@ -27,15 +29,18 @@ pub fn put_page<K: Knowledge, W: Write>(
 {
     let mut texts = texts;
     texts.cut(0);
+    let mut lines = texts.take_lines();
     for count in 0..limit - 1 {
         let Some(shared) = listing.follow() else {
+            write_lines(&mut lines, out)?;
             return put_end(listing.side(), u64::from(count), out);
         };
         let path = listing.path();
         texts.replace(path, shared);
-        texts.put_path(path, out)?;
+        add_line(&mut lines, &mut texts, path, out)?;
     }
-    put_rest(listing, limit - 1, &mut texts, out)
+    write_lines(&mut lines, out)?;
+    put_rest(listing, limit - 1, &mut texts, &mut lines, out)
 }
 
 /// Writes the rest of a page that has room for one more path.
@@ -44,8 +49,10 @@ fn put_rest<K: Knowledge, W: Write>(
     listing: &mut Listing<'_, K>,
     count: u32,
     texts: &mut LineTexts,
+    lines: &mut Buffer,
     out: &mut Out<W>,
 ) -> Result<(), Device>
+    requires empty { lines.old.bytes.items ≡ [] }
     requires kept { texts.old ≡ take (length texts.old) (followed listing.old).steps }
     requires few { count < 2 ^ 32 - 1 }
     ensures { Writes W.contents out.old out.new result (text_after (side listing.old) count (first_page 1 (coming listing.old))) }
@@ -55,10 +62,43 @@ fn put_rest<K: Knowledge, W: Write>(
     };
     let path = listing.path();
     texts.replace(path, shared);
-    texts.put_path(path, out)?;
+    add_line(lines, texts, path, out)?;
+    write_lines(lines, out)?;
     let cursor = path.cursor();
     match listing.follow() {
         None => put_end(listing.side(), u64::from(count + 1), out),
         Some(_) => put_more(listing.side(), u64::from(count + 1), &cursor, out),
     }
+}
+
+/// Writes the lines, and keeps none of them.
+fn write_lines<W: Write>(lines: &mut Buffer, out: &mut Out<W>) -> Result<(), Device>
+    ensures empty { lines.new.bytes.items ≡ [] }
+    ensures written { Writes W.contents out.old out.new result lines.old.bytes.items }
+{
+    let result = out.put(lines.as_slice());
+    lines.truncate(0);
+    result
+}
+
+/// Adds the line of a path, whose first steps are the kept ones, to `lines`. Writes those first if there is no room, and
+/// then the line too if there still is none.
+fn add_line<W: Write>(
+    lines: &mut Buffer,
+    texts: &mut LineTexts,
+    path: &Path,
+    out: &mut Out<W>,
+) -> Result<(), Device>
+    requires kept { texts.old ≡ take (length texts.old) path.now.steps }
+    ensures kept { texts.new ≡ texts.old }
+    ensures added { Adds W.contents out.old out.new lines.old.bytes.items lines.new.bytes.items result (path_line path.now) }
+{
+    if texts.append_line(path, lines) {
+        return Ok(());
+    }
+    write_lines(lines, out)?;
+    if texts.append_line(path, lines) {
+        return Ok(());
+    }
+    put_path(path, out)
 }

@@ -4,20 +4,19 @@ ghost use Rattle.std.specs.List.{concat, flat_map};
 ghost use Rattle.std.specs.Prelude.{◌≡◌, ◌++◌, ◌∷◌, ◌-◌, ◌<◌, ◌≤◌, ◌^◌, [], if◌then◌else◌, IfOk, IsTrue, codes, decimal, length, map, take};
 ghost use Rattle.pam_codes.specs.Out.{Writes};
 ghost use Rattle.pam_codes.specs.SetText.{set_text};
-ghost use Rattle.pam_page.specs.KeptSteps.{code_text, undotted};
-ghost use Rattle.pam_page.specs.Page.{code_name, path_line, step_text};
+ghost use Rattle.pam_page.specs.KeptSteps.{code_text};
+ghost use Rattle.pam_page.specs.Page.{path_line, step_text};
 ghost use Rattle.pam_paths.specs.Steps.{step_seen};
 ghost use Rattle.pam_paths.specs.Tail.{AreAlike};
 
 use crate::alike::AlikeTexts;
 use crate::buffer::Buffer;
-use crate::line::put_path;
+use crate::lines::append_line;
 use itoa::Buffer as Digits;
-use pam_codes::{CODES, Code, CodeSet, Device, Out};
+use pam_codes::{CODES, CodeSet, Out};
 use pam_dispatch::MAX_MODULES;
 use pam_paths::{Path, PathStep};
 use std::alloc::{AllocError, Global};
-use std::io::Write;
 use std::marker::Model;
 use std::mem;
 
@@ -27,6 +26,9 @@ const CODE_BYTES: usize = 3;
 /// The greatest length of the text of a step, in bytes. The names missing from a class of 16 codes, or the names in one
 /// of 15, are at most 233 bytes, after `but:`, the number and two signs.
 const STEP_BYTES: usize = 242;
+
+/// The number of bytes of lines that are written at once. It is twice as many as the longest line has.
+const LINES_BYTES: usize = 128 * 1024;
 
 /// A step whose texts are kept, and their ends in the buffers.
 #[derive(Clone, Copy, Debug)]
@@ -48,6 +50,8 @@ pub struct LineTexts {
     steps: Buffer,
     /// The texts of the steps after those, at which the answers no longer matter.
     alike: AlikeTexts,
+    /// The buffer for lines that are not written yet.
+    lines: Buffer,
 }
 
 /// Seen as the steps whose texts are kept.
@@ -120,73 +124,11 @@ fn append_step(steps: &mut Buffer, step: &PathStep) -> bool
     append_number(steps, step.number()) && append_class(steps, step.class())
 }
 
-/// Appends a blank and the name of a decision. Returns whether there was room.
-fn append_decision(cursor: &mut Buffer, decision: Code) -> bool
-    ensures kept { take (length cursor.old.bytes.items) cursor.new.bytes.items ≡ cursor.old.bytes.items }
-    ensures ok { IsTrue result → cursor.new.bytes.items ≡ (cursor.old.bytes.items ++ codes " ") ++ code_name decision }
-{
-    cursor.append(b" ") && cursor.append(decision.name().as_bytes())
-}
-
-/// Writes the line of a path by the texts of its steps. Leaves further bytes after them, so that the line is two copies.
-fn put_texts<W: Write>(
-    cursor: &mut Buffer,
-    steps: &mut Buffer,
-    path: &Path,
-    out: &mut Out<W>,
-) -> Result<(), Device>
-    requires some { 1 ≤ length path.now.steps }
-    requires cursor { cursor.old.bytes.items ≡ flat_map code_text path.now.steps }
-    requires steps { steps.old.bytes.items ≡ flat_map step_text path.now.steps }
-    ensures cursor { take (length cursor.old.bytes.items) cursor.new.bytes.items ≡ cursor.old.bytes.items }
-    ensures steps { take (length steps.old.bytes.items) steps.new.bytes.items ≡ steps.old.bytes.items }
-    ensures written { Writes W.contents out.old out.new result (path_line path.now) }
-{
-    if !append_decision(cursor, path.decision()) || !steps.append(b"\n") {
-        return put_path(path, out);
-    }
-    out.put(undotted(cursor.as_slice()))?;
-    out.put(steps.as_slice())
-}
-
-/// Writes the line of a path, whose last steps are `tail`, by the texts of the steps before them.
-fn put_parts<W: Write>(
-    cursor: &mut Buffer,
-    steps: &mut Buffer,
-    alike: &mut AlikeTexts,
-    tail: &[PathStep],
-    path: &Path,
-    out: &mut Out<W>,
-) -> Result<(), Device>
-    requires some { 1 ≤ length path.now.steps }
-    requires alike { AreAlike (map step_seen tail.now) }
-    requires cursor { cursor.old.bytes.items ++ flat_map code_text (map step_seen tail.now) ≡ flat_map code_text path.now.steps }
-    requires steps { steps.old.bytes.items ++ flat_map step_text (map step_seen tail.now) ≡ flat_map step_text path.now.steps }
-    ensures cursor { take (length cursor.old.bytes.items) cursor.new.bytes.items ≡ cursor.old.bytes.items }
-    ensures steps { take (length steps.old.bytes.items) steps.new.bytes.items ≡ steps.old.bytes.items }
-    ensures written { Writes W.contents out.old out.new result (path_line path.now) }
-{
-    if !alike.append_to(cursor, steps, tail) {
-        return put_path(path, out);
-    }
-    put_texts(cursor, steps, path, out)
-}
-
 /// Appends a step if there is room. Returns whether there was.
 fn push_kept(kept: &mut Vec<KeptStep>, step: KeptStep) -> bool
     ensures { kept.new.items ≡ (if result then kept.old.items ++ step ∷ [] else kept.old.items) }
 {
     kept.len() < kept.capacity() && kept.push(step).is_ok()
-}
-
-/// Returns the text of a cursor, from the codes with a dot before each.
-fn undotted(codes: &[u8]) -> &[u8]
-    ensures { result.now ≡ undotted codes.now }
-{
-    match codes.split_first() {
-        Some((_, cursor)) => cursor,
-        None => b"-",
-    }
 }
 
 impl LineTexts {
@@ -200,6 +142,7 @@ impl LineTexts {
             cursor: Buffer::with_capacity(alloc, CODE_BYTES * MAX_MODULES)?,
             steps: Buffer::with_capacity(alloc, STEP_BYTES * MAX_MODULES)?,
             alike: AlikeTexts::new(alloc)?,
+            lines: Buffer::with_capacity(alloc, LINES_BYTES)?,
         })
     }
 
@@ -264,28 +207,37 @@ impl LineTexts {
         }
     }
 
-    /// Writes the line of a path, whose first steps are the kept ones.
-    pub(crate) fn put_path<W: Write>(&mut self, path: &Path, out: &mut Out<W>) -> Result<(), Device>
+    /// Appends the line of a path, whose first steps are the kept ones, to `lines`. Returns whether there was room.
+    pub(crate) fn append_line(&mut self, path: &Path, lines: &mut Buffer) -> bool
         requires kept { self.old ≡ take (length self.old) path.now.steps }
         ensures kept { self.new ≡ self.old }
-        ensures written { Writes W.contents out.old out.new result (path_line path.now) }
+        ensures line { lines.new.bytes.items ≡ (if result then lines.old.bytes.items ++ path_line path.now else lines.old.bytes.items) }
     {
         let tail = path.tail();
-        let count = path.steps().len();
-        if count == 0 || self.kept.len() != count - tail.len() {
-            return put_path(path, out);
+        if self.kept.len() != path.steps().len() - tail.len() {
+            return false;
         }
-        let (cursor_end, steps_end) = (self.cursor.len(), self.steps.len());
-        let result = put_parts(
-            &mut self.cursor,
-            &mut self.steps,
-            &mut self.alike,
-            tail,
+        let Some((before, last)) = self.alike.reach_tail(tail) else {
+            return false;
+        };
+        append_line(
+            lines,
+            self.cursor.as_slice(),
+            self.alike.codes(tail.len()),
+            self.steps.as_slice(),
+            self.alike.steps(before, last),
             path,
-            out,
-        );
-        self.cursor.truncate(cursor_end);
-        self.steps.truncate(steps_end);
-        result
+        )
+    }
+
+    /// Returns the buffer for the lines that are not written yet, without bytes. Keeps none itself.
+    pub(crate) fn take_lines(&mut self) -> Buffer
+        ensures kept { self.new ≡ self.old }
+        ensures empty { result.bytes.items ≡ [] }
+    {
+        let empty = Buffer::empty(self.lines.allocator());
+        let mut lines = mem::replace(&mut self.lines, empty);
+        lines.truncate(0);
+        lines
     }
 }

@@ -1,29 +1,52 @@
-use Rattle.std.proofs.Common.{◌≡◌, ◌-◌, ◌∙◌, List, sym, subst, ap, arith, length, take}
+use Rattle.std.proofs.Common.{◌≡◌, ◌-◌, ◌∙◌, ◌++◌, List, None, refl, ℕ, drop, sym, subst, ap, arith, length, take}
 use Rattle.std.specs.List.{flat_map}
-use Rattle.pam_codes.proofs.Writing.{all-is, all-then, err-front, front-is, front-longer, front-then, writes-is, writes-then}
+use Rattle.pam_codes.proofs.Writing.{err-front, front-is, front-longer, writes-is, writes-then}
+use Rattle.pam_page.proofs.AddedLines.{holds-cut, holds-failed, holds-is, holds-more, holds-written}
 use Rattle.pam_page.proofs.FlatTexts.{flat_map-push}
 use Rattle.pam_page.proofs.KeptTexts.{kept_shared}
 use Rattle.pam_page.proofs.PageTexts.{goes, page_front, page_none, page_rest}
 use Rattle.pam_page.specs.Coming.{coming, followed, side}
-use Rattle.pam_page.specs.Page.{path_line}
+use Rattle.pam_page.specs.Page.{first_page, last_line, path_line, text_after}
 use Rattle.pam_paths.specs.Paths.{PathValue, StepValue}
 use Rattle.pam_page.proofs.page.put_page.Goals as goal
 
 pub returns-in_default : goal.returns-in_default
 returns-in_default g c =
     let l = c.loop-count in
-    writes-is _ _ _ _ _ _ (writes-then _ _ _ l.invariant.written c.put_end.ensures)
+    writes-is _ _ _ _ _ _ (writes-then _ _ _ (holds-written _ _ l.invariant.written c.in_ok-write_lines.ensures.written) c.put_end.ensures)
     (page_none (side c.args.listing.now) _ (coming c.args.listing.now) l.count _ c.args.limit (omega (arith, c.loop-count-test.true)) l.invariant.within
     (sym l.invariant.left ∙ c.in_default.ensures.path) (c.side.ensures ∙ c.in_default.ensures.side ∙ l.invariant.side) c.from.ensures)
 
-pub returns-in_err-put_path : goal.returns-in_err-put_path
-returns-in_err-put_path g c =
+pub returns-in_err-add_line : goal.returns-in_err-add_line
+returns-in_err-add_line g c =
     let l = c.loop-count in
     let page = page_front (side c.args.listing.now) (coming c.args.listing.now) l.count c.args.limit (followed c.follow.new.self) (coming c.follow.new.self)
     (omega (arith, c.loop-count-test.true)) (sym l.invariant.left ∙ c.in-Some.ensures.path) in
     let line = ap path_line c.path-path.ensures in
+    err-front _ c.from_residual-in_err-add_line.ensures.0
+    (front-is (front-longer page.0 (front-is (holds-failed _ _ _ l.invariant.written c.in_err-add_line.ensures.added)
+    (ap (λ (text : List ℕ). flat_map path_line (take l.count (coming c.args.listing.now)) ++ text) line))) page.1)
+
+pub returns-in_err-write_lines : goal.returns-in_err-write_lines
+returns-in_err-write_lines g c =
+    let l = c.loop-count in
+    let at = side c.args.listing.now in
     err-front _ c.from_residual.ensures.0
-    (front-is (front-longer page.0 (front-then l.invariant.written (front-is c.in_err-put_path.ensures.written line))) page.1)
+    (front-is (front-longer (last_line at l.count None) (holds-cut _ _ l.invariant.written c.in_err-write_lines.ensures.written))
+    (page_none at at (coming c.args.listing.now) l.count l.count c.args.limit (omega (arith, c.loop-count-test.true)) l.invariant.within
+    (sym l.invariant.left ∙ c.in_default.ensures.path) refl refl))
+
+pub returns-in_err-write_lines-2 : goal.returns-in_err-write_lines-2
+returns-in_err-write_lines-2 g c =
+    let l = c.loop-count in
+    let at = side c.args.listing.now in
+    let all = coming c.args.listing.now in
+    let left = drop l.count all in
+    err-front _ c.from_residual-in_err-write_lines-2.ensures.0
+    (front-is
+    (front-longer (text_after at (c.args.limit - 1) (first_page 1 left)) (holds-cut _ _ l.invariant.written c.in_err-write_lines-2.ensures.written))
+    (page_rest at at all left l.count (c.args.limit - 1) c.args.limit (omega (arith, c.requires.some))
+    (omega (arith, c.loop-count-test.false, l.auto.count-end)) l.invariant.within refl refl))
 
 pub loop-count-preserved : goal.loop-count-preserved
 loop-count-preserved g c =
@@ -31,11 +54,13 @@ loop-count-preserved g c =
     let all = coming c.args.listing.now in
     let next = goes all l.count (followed c.follow.new.self) (coming c.follow.new.self) (sym l.invariant.left ∙ c.in-Some.ensures.path) in
     let lines = ap (flat_map path_line) next.before ∙ flat_map-push path_line (take l.count all) (followed c.follow.new.self) in
+    let more = ap (λ (text : List ℕ). flat_map path_line (take l.count all) ++ text) (ap path_line c.path-path.ensures) in
     record {
-      written = all-is (all-then l.invariant.written (all-is c.in_ok-put_path.ensures.written (ap path_line c.path-path.ensures))) (sym lines);
+      written = holds-is _ _ _ (holds-more l.lines.bytes.items c.add_line.new.lines.bytes.items (flat_map path_line (take l.count all))
+          (path_line c.path-path.result.now) l.invariant.written c.in_ok-add_line.ensures.added) (more ∙ sym lines);
       left = sym next.after;
       side = c.in-Some.ensures.side ∙ l.invariant.side;
-      kept = subst (λ (l : List StepValue). l ≡ take (length l) (followed c.follow.new.self).steps) (sym c.in_ok-put_path.ensures.kept)
+      kept = subst (λ (l : List StepValue). l ≡ take (length l) (followed c.follow.new.self).steps) (sym c.in_ok-add_line.ensures.kept)
           (c.replace.ensures ∙ ap (take _) (ap (λ (p : PathValue). p.steps) c.path-path.ensures));
       within = omega (arith, next.inside);
     }
@@ -43,7 +68,7 @@ loop-count-preserved g c =
 pub returns : goal.returns
 returns g c =
     let l = c.loop-count in
-    writes-is _ _ _ _ _ _ (writes-then _ _ _ l.invariant.written c.put_rest.ensures)
+    writes-is _ _ _ _ _ _ (writes-then _ _ _ (holds-written _ _ l.invariant.written c.in_ok-write_lines-2.ensures.written) c.put_rest.ensures)
     (page_rest (side c.args.listing.now) _ (coming c.args.listing.now) _ l.count (c.args.limit - 1) c.args.limit (omega (arith, c.requires.some))
     (omega (arith, c.loop-count-test.false, l.auto.count-end)) l.invariant.within l.invariant.left l.invariant.side)
 

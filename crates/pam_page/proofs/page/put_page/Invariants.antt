@@ -1,14 +1,14 @@
--- the lines so far are written, and the later paths remain
+-- the lines so far are written or kept, and the later paths remain
 use Rattle.std.proofs.Common.{◌≡◌, ◌≤◌, take, drop, length}
 use Rattle.std.specs.List.{flat_map}
-use Rattle.pam_codes.specs.Out.{TookAll}
 use Rattle.pam_page.specs.Coming.{coming, followed, side}
+use Rattle.pam_page.specs.Lines.{Holds}
 use Rattle.pam_page.specs.Page.{path_line}
 use Rattle.pam_page.proofs.page.put_page.Given as goal
 
 abbrev pub invariant-loop-count : goal.invariant-loop-count
 invariant-loop-count g l = record {
-  written : TookAll g.W.Write.contents l.initial.out l.out (flat_map path_line (take l.count (coming l.fn.listing)));
+  written : Holds g.W.Write.contents l.initial.out l.out l.lines.bytes.items (flat_map path_line (take l.count (coming l.fn.listing)));
   left : coming l.listing ≡ drop l.count (coming l.fn.listing);
   side : side l.listing ≡ side l.fn.listing;
   kept : l.texts ≡ take (length l.texts) (followed l.listing).steps;

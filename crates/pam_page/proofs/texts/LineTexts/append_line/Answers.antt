@@ -1,0 +1,48 @@
+use Rattle.std.proofs.Common.{◌≡◌, ◌+◌, ◌-◌, ◌++◌, ◌∙◌, List, ap, arith, length, sym, ℕ}
+use Rattle.std.specs.List.{flat_map}
+use Rattle.std.proofs.lemmas.List.{length-map}
+use Rattle.pam_paths.specs.Steps.{step_seen}
+use Rattle.pam_paths.specs.Tail.{alike_from}
+use Rattle.pam_page.specs.KeptSteps.{code_text, step_of}
+use Rattle.pam_page.specs.Page.{step_text}
+use Rattle.pam_page.proofs.AlikeTexts.{codes-same}
+use Rattle.pam_page.proofs.KeptTexts.{whole_text}
+use Rattle.pam_page.proofs.texts.LineTexts.append_line.Goals as goal
+
+pub append_line-requires-clause-cursor : goal.append_line-requires-clause-cursor
+append_line-requires-clause-cursor c =
+    let tail = c.tail-tail.result.now in
+    let shown = c.codes.ensures ∙ codes-same 1 (c.in-Some.before + 1) (length tail) ∙ ap (flat_map code_text) (sym c.in-Some.ensures.tail) in
+    ap (λ (l : List ℕ). l ++ c.codes.result.now) c.as_slice.ensures ∙ ap (λ (l : List ℕ). c.self.inside.cursor.bytes.items ++ l) shown
+    ∙ whole_text code_text c.self.inside.kept.items c.args.self.now c.args.path.now.steps c.tail-tail.result.now c.self.inside.cursor.bytes.items
+    c.self.invariant.cursor c.self.view_is c.requires.kept c.tail-tail.ensures.last
+    (omega (
+      arith,
+      ap length c.self.view_is,
+      length-map c.self.inside.kept.items step_of,
+      c.len.ensures,
+      c.self.inside.kept.ok,
+      c.if-len-steps.false,
+      ap length c.steps.ensures,
+      length-map c.steps.result.now step_seen,
+    ))
+
+pub append_line-requires-clause-steps : goal.append_line-requires-clause-steps
+append_line-requires-clause-steps c =
+    let tail = c.tail-tail.result.now in
+    let count : c.in-Some.last - c.in-Some.before ≡ length tail = omega (arith, c.in-Some.ensures.count) in
+    let shown = c.steps-2.ensures ∙ ap (λ (n : ℕ). flat_map step_text (alike_from (c.in-Some.before + 1) n)) count
+    ∙ ap (flat_map step_text) (sym c.in-Some.ensures.tail) in
+    ap (λ (l : List ℕ). l ++ c.steps-2.result.now) c.as_slice-2.ensures ∙ ap (λ (l : List ℕ). c.self.inside.steps.bytes.items ++ l) shown
+    ∙ whole_text step_text c.self.inside.kept.items c.args.self.now c.args.path.now.steps c.tail-tail.result.now c.self.inside.steps.bytes.items
+    c.self.invariant.steps c.self.view_is c.requires.kept c.tail-tail.ensures.last
+    (omega (
+      arith,
+      ap length c.self.view_is,
+      length-map c.self.inside.kept.items step_of,
+      c.len.ensures,
+      c.self.inside.kept.ok,
+      c.if-len-steps.false,
+      ap length c.steps.ensures,
+      length-map c.steps.result.now step_seen,
+    ))
