@@ -9,11 +9,11 @@ use std::marker::Model;
 /// The number of return codes.
 pub const CODES: usize = 31;
 
-/// Whether `text` is `name`, ignoring ASCII case.
+/// Whether `text` is `name`, ignoring ASCII case. Most names are written in lowercase, and equal bytes are found sooner.
 pub fn is_name(name: &[u8], text: &[u8]) -> bool
     ensures { result ≡ same_name name.now text.now }
 {
-    name.eq_ignore_ascii_case(text)
+    name == text || name.eq_ignore_ascii_case(text)
 }
 
 /// A return code of a module: one of the 31 that pam.conf(5) names.
@@ -157,7 +157,7 @@ impl Code {
     {
         for number in Code::numbers_of_len(name.len()) {
             let code = Code::of_number(*number);
-            if code.name().as_bytes().eq_ignore_ascii_case(name) {
+            if is_name(code.name().as_bytes(), name) {
                 return Some(code);
             }
         }

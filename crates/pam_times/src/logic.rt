@@ -47,11 +47,7 @@ pub(crate) enum Sign<'a> {
 fn is_token_byte(byte: u8) -> bool
     ensures { result ≡ is_token_byte byte }
 {
-    if byte > b'&' {
-        byte != b'|'
-    } else {
-        !(is_text_blank(byte) || byte == b'!' || byte == b'&')
-    }
+    byte != b'|' && (byte > b'&' || !(is_text_blank(byte) || byte == b'!' || byte == b'&'))
 }
 
 fn token_len(bytes: &[u8]) -> usize
