@@ -1,4 +1,5 @@
-use Rattle.std.proofs.Common.{◌≡◌, ◌≤◌, zero, suc, arith, length, ◌++◌, ⊎_elim, append-nil, append_assoc, ℕ, Bool, true, false, List, [], ◌∷◌, cond, eqb, filter, ap, ◌∙◌, sym, refl, Option}
+use Rattle.std.proofs.Common.{◌≡◌, ◌++◌, ⊎_elim, append-nil, append_assoc, ℕ, Bool, true, false, List, [], ◌∷◌, cond, eqb, filter, ap, ◌∙◌, sym, refl, Option}
+use Rattle.std.proofs.Common.{◌≤◌, zero, suc, arith, length}
 use Rattle.std.proofs.Common.{Some, None, Result, Ok, Err}
 use Rattle.pam_text.specs.declared.text.Line.{Line}
 use Rattle.std.specs.Prelude.{IfOk, MatchOption, OnOk}

@@ -1,11 +1,11 @@
 //! The text of a file, with comments removed and continued lines joined: pam.conf(5).
 
-ghost use Rattle.std.specs.Prelude.{◌≡◌, ◌∷◌, ◌++◌, ◌+◌, ◌^◌, ◌≤◌, ◌<◌, [], ℕ, List, length, not, ◌==◌, MatchOption, IfOk, IfSome, OnOk, drop, true};
+ghost use Rattle.std.specs.Prelude.{◌≡◌, ◌∷◌, ◌++◌, ◌+◌, ◌^◌, ◌≤◌, ◌<◌, [], ℕ, List, length, not, ◌==◌, MatchOption, IfOk, IfSome, OnOk, ◌||◌, if◌then◌else◌, true};
 ghost use Rattle.std.specs.List.{prefix_len};
 ghost use Rattle.pam_text.specs.Blanks.{is_text_blank};
 ghost use Rattle.pam_text.specs.Text.{text_of, past_comment, is_plain};
 
-use crate::blanks::text_blank_len;
+use crate::blanks::is_text_blank;
 use crate::source::Source;
 use memchr::{memchr, memchr3};
 use std::alloc::AllocError;
@@ -94,12 +94,12 @@ impl<'a> Text<'a> {
         ensures first { begins_filled self.new.rest.now ≡ true }
         ensures shorter { length self.new.rest.now ≤ length self.old.rest.now }
     {
-        let mut rest = without_blanks(self.rest);
+        let mut rest = self.rest;
         let mut line = self.line;
         while let Some((first, after)) = rest.split_first() {
-            if *first == b'\n' {
-                rest = without_blanks(after);
-                line += 1;
+            if is_blank_or_feed(*first) {
+                rest = after;
+                line += feed_count(*first);
             } else if *first == b'#' {
                 rest = after.split_at(comment_len(after)).1;
             } else {
@@ -164,13 +164,19 @@ impl<'a> Text<'a> {
     }
 }
 
-/// Returns `bytes` without their leading blanks.
 #[inline(always)]
-fn without_blanks(bytes: &[u8]) -> &[u8]
-    ensures value { result.now ≡ drop (prefix_len is_text_blank bytes.now) bytes.now }
-    ensures bound { length result.now ≤ length bytes.now }
+fn is_blank_or_feed(byte: u8) -> bool
+    ensures { result ≡ (is_text_blank byte || byte == 10) }
 {
-    bytes.split_at(text_blank_len(bytes)).1
+    is_text_blank(byte) || byte == b'\n'
+}
+
+/// 1 for a line feed, so that a line is counted without a branch.
+#[inline(always)]
+fn feed_count(byte: u8) -> u32
+    ensures { result ≡ (if byte == 10 then 1 else 0) }
+{
+    u32::from(byte == b'\n')
 }
 
 /// Appends `bytes`. Between joints there are often none, and then no copy is made.

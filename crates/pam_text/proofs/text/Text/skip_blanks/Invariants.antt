@@ -1,14 +1,11 @@
 use Rattle.std.proofs.Common.{◌≡◌, ◌+◌, ◌≤◌, length}
 use Rattle.pam_text.specs.Text.{text_of, filled_lines, text_lines}
-use Rattle.std.specs.List.{prefix_len}
-use Rattle.pam_text.specs.Blanks.{is_text_blank}
 use Rattle.pam_text.specs.Left.{text_left}
 use Rattle.pam_text.proofs.text.Text.skip_blanks.Given as goal
 
 abbrev pub invariant-loop-first : goal.invariant-loop-first
 invariant-loop-first l = record {
   lines : filled_lines (text_lines (text_of l.line l.rest)) ≡ filled_lines (text_lines (text_left l.fn.self));
-  first : prefix_len is_text_blank l.rest ≡ 0;
   counted : l.line + length l.rest ≤ l.fn.self.line + length l.fn.self.rest.now;
   shorter : length l.rest ≤ length l.fn.self.rest.now;
 }
