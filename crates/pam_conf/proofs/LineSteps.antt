@@ -1,7 +1,10 @@
 use Rattle.std.proofs.Common.{◌≡◌, ◌++◌, ⊎_elim, append-nil, append_assoc, ℕ, Bool, true, false, List, [], ◌∷◌, cond, eqb, filter, ap, ◌∙◌, sym, refl, Option}
+use Rattle.std.proofs.Common.{◌≤◌, zero, suc, arith, length}
 use Rattle.std.proofs.Common.{Some, None, Result, Ok, Err}
-use Rattle.pam_text.specs.Text.{Mark, text_of, lines_of, first_line, first_marks, after_line}
-use Rattle.pam_text.proofs.TextLines.{HeadIs, head_is, bytes_of_marks, split_first}
+use Rattle.pam_text.specs.declared.text.Line.{Line}
+use Rattle.std.specs.Prelude.{IfOk, MatchOption, OnOk}
+use Rattle.pam_text.specs.Text.{Mark, text_of, lines_of, first_line, first_marks, after_line, text_lines, after_blanks, filled_lines}
+use Rattle.pam_text.proofs.TextLines.{HeadIs, head_is, bytes_of_marks, split_first, first_of}
 use Rattle.std.specs.List.{list_all}
 use Rattle.std.proofs.lemmas.Bool.{and_parts}
 use Rattle.pam_codes.specs.Tokens.{is_blank}
@@ -29,7 +32,7 @@ rule_at_line form l (m ∷ ms) h = elim (eqb m.1 10) as (λ (t : Bool). rule_at 
     ]
 
 -- the same for the line that a reader returns
-pub text_line : (form : Form) (l : ℕ) (rest : List ℕ) (n : ℕ) (bytes : List ℕ) → (n ≡ l) × (bytes ≡ first_line (text_of l rest)) →
+text_line : (form : Form) (l : ℕ) (rest : List ℕ) (n : ℕ) (bytes : List ℕ) → (n ≡ l) × (bytes ≡ first_line (text_of l rest)) →
     rule_at form (first_marks (text_of l rest)) ≡ at_line n (line_rule_of form n bytes)
 text_line form l rest n bytes p = rule_at_line form l (text_of l rest) (head_is l rest)
     ∙ ap (λ (m : ℕ). at_line m (line_rule_of form m (first_line (text_of l rest)))) (sym p.0)
@@ -49,6 +52,20 @@ no_words_in (b ∷ bs) h = let p = and_parts (is_blank b) (list_all is_blank bs)
 pub blank_line : (form : Form) (n : ℕ) (bytes : List ℕ) → list_all is_blank bytes ≡ true → at_line n (line_rule_of form n bytes) ≡ Ok None
 unfolding line_rule_of rule_of
 blank_line form n bytes h = ap (λ (ws : Option (List (List ℕ))). at_line n (or_open ws >>= rule_of form n)) (no_words_in bytes h)
+
+-- the blanks that a line begins with change no rule
+words_after : (bs : List ℕ) → words_in Between (after_blanks bs) ≡ words_in Between bs
+unfolding words_in
+words_after [] = refl
+words_after (b ∷ bs) =
+    elim (is_blank b) as (λ (t : Bool). is_blank b ≡ t → words_in Between (cond t (after_blanks bs) (b ∷ bs)) ≡ words_in Between (b ∷ bs)) [
+      | true ↦ λ e. rw e (words_after bs)
+      | false ↦ λ e. refl
+    ] refl
+
+rule_after : (form : Form) (n : ℕ) (bytes : List ℕ) → line_rule_of form n (after_blanks bytes) ≡ line_rule_of form n bytes
+unfolding line_rule_of
+rule_after form n bytes = ap (λ (ws : Option (List (List ℕ))). or_open ws >>= rule_of form n) (words_after bytes)
 
 -- a fault of the words of a line is the fault of the line
 pub no_words : (form : Form) (l : ℕ) (bytes : List ℕ) (kind : FaultKind) → KindTells kind (words_or_fault bytes) → KindTells kind (line_rule_of form l bytes)
@@ -82,6 +99,80 @@ rules_step form ms =
     ∙ ap (λ ts. onto_rules front (rules_in form (lines_of ts))) (sym p.1))
     (split_first ms)
 
+-- the rules of numbered lines, or the first fault
+unfoldable rules_of_lines : Form → List (ℕ × List ℕ) → Result (List RuleText) RuleFault
+rules_of_lines form [] = Ok []
+rules_of_lines form (line ∷ lines) = onto_rules (at_line line.0 (line_rule_of form line.0 line.1)) (rules_of_lines form lines)
+
+filled_first : (form : Form) (line : ℕ × List ℕ) (lines : List (ℕ × List ℕ)) →
+    onto_rules (at_line line.0 (line_rule_of form line.0 line.1)) (rules_of_lines form (filled_lines lines))
+    ≡ rules_of_lines form (filled_lines (line ∷ lines))
+unfolding rules_of_lines filled_lines
+filled_first form line lines =
+    elim (list_all is_blank line.1) as (λ (t : Bool). list_all is_blank line.1 ≡ t →
+    onto_rules (at_line line.0 (line_rule_of form line.0 line.1)) (rules_of_lines form (filled_lines lines))
+    ≡ rules_of_lines form (cond t (filled_lines lines) ((line.0, after_blanks line.1) ∷ filled_lines lines))) [
+      | true ↦ λ e. ap (λ r. onto_rules r (rules_of_lines form (filled_lines lines))) (blank_line form line.0 line.1 e)
+      | false ↦ λ e. ap (λ r. onto_rules (at_line line.0 r) (rules_of_lines form (filled_lines lines))) (sym (rule_after form line.0 line.1))
+    ] refl
+
+after_shorter : (m : Mark) (ms : List Mark) → length (after_line (m ∷ ms)) ≤ length ms
+after_shorter m [] =
+    elim (eqb m.1 10) as (λ (t : Bool). length {A = Mark} (cond t [] []) ≤ 0) [ true ↦ omega arith | false ↦ omega arith ]
+after_shorter m (k ∷ ms) =
+    elim (eqb m.1 10) as (λ (t : Bool). length {A = Mark} (cond t (k ∷ ms) (after_line (k ∷ ms))) ≤ length {A = Mark} (k ∷ ms)) [
+      | true ↦ omega arith
+      | false ↦ omega (arith, after_shorter k ms)
+    ]
+
+-- the rules of a text are those of its filled lines
+filled_up_to : (form : Form) (n : ℕ) (ms : List Mark) → length ms ≤ n → rules_in form (lines_of ms) ≡ rules_of_lines form (filled_lines (text_lines ms))
+unfolding rules_in rules_of_lines filled_lines text_lines line_rule_of words_in rule_of HeadIs
+filled_up_to form n [] h = refl
+filled_up_to form zero (m ∷ ms) h = absurd (omega arith)
+filled_up_to form (suc n) (m ∷ ms) h =
+    let rest : List Mark = after_line (m ∷ ms) in
+    let front : rule_at form (first_marks (m ∷ ms)) ≡ at_line m.0 (line_rule_of form m.0 (first_line (m ∷ ms))) = rule_at_line form m.0 (m ∷ ms) refl in
+    rules_step form (m ∷ ms)
+    ∙ ap (λ r. onto_rules r (rules_in form (lines_of rest))) front
+    ∙ ap (onto_rules (at_line m.0 (line_rule_of form m.0 (first_line (m ∷ ms))))) (filled_up_to form n rest (omega (arith, after_shorter m ms)))
+    ∙ filled_first form (m.0, first_line (m ∷ ms)) (text_lines rest)
+    ∙ ap (λ lines. rules_of_lines form (filled_lines lines)) (sym (first_of m ms))
+
+same_filled : (form : Form) (ms ts : List Mark) → filled_lines (text_lines ts) ≡ filled_lines (text_lines ms) →
+    rules_in form (lines_of ms) ≡ rules_in form (lines_of ts)
+same_filled form ms ts e =
+    filled_up_to form (length ms) ms (omega arith)
+    ∙ ap (rules_of_lines form) (sym e)
+    ∙ sym (filled_up_to form (length ts) ts (omega arith))
+
+-- the rules of a text that begins with this line
+line_first : (form : Form) (l : ℕ) (rest : List ℕ) (ts : List Mark) (n : ℕ) (bytes : List ℕ) → (n ≡ l) × (bytes ≡ first_line (text_of l rest)) →
+    ts ≡ after_line (text_of l rest) →
+    rules_in form (lines_of (text_of l rest)) ≡ onto_rules (at_line n (line_rule_of form n bytes)) (rules_in form (lines_of ts))
+line_first form l rest ts n bytes p e =
+    rules_step form (text_of l rest)
+    ∙ ap (λ r. onto_rules r (rules_in form (lines_of (after_line (text_of l rest))))) (text_line form l rest n bytes p)
+    ∙ ap (λ (us : List Mark). onto_rules (at_line n (line_rule_of form n bytes)) (rules_in form (lines_of us))) (sym e)
+
+no_line : (form : Form) (ms : List Mark) → ms ≡ [] → rules_in form (lines_of ms) ≡ Ok []
+unfolding rules_in line_rule_of words_in rule_of
+no_line form ms e = ap (λ (ts : List Mark). rules_in form (lines_of ts)) e
+
+-- the rules of a text, by the first line that a reader returns after it has passed over blank lines
+pub filled_result : {E : Type 0} (result : Result (Option Line) E) (old : List Mark) (l : ℕ) (rest : List ℕ) (new : List Mark) →
+    filled_lines (text_lines (text_of l rest)) ≡ filled_lines (text_lines old) →
+    IfOk result (λ o. MatchOption o (text_of l rest ≡ [])
+    (λ (line : Line). (line.number ≡ l) × (line.bytes.now ≡ first_line (text_of l rest)))) →
+    OnOk result (new ≡ after_line (text_of l rest)) →
+    IfOk result (λ o. MatchOption o ((form : Form) → rules_in form (lines_of old) ≡ Ok [])
+    (λ (line : Line). (form : Form) → rules_in form (lines_of old)
+    ≡ onto_rules (at_line line.number (line_rule_of form line.number line.bytes.now)) (rules_in form (lines_of new))))
+filled_result (Ok None) old l rest new same none after = λ form. same_filled form old (text_of l rest) same ∙ no_line form (text_of l rest) none
+filled_result (Ok (Some line)) old l rest new same first after =
+    λ form. same_filled form old (text_of l rest) same ∙ line_first form l rest new line.number line.bytes.now first after
+filled_result (Err error) old l rest new same first after = tt
+
 -- rules that were read before come first
 unfoldable pub with_rules : List RuleText → Result (List RuleText) RuleFault → Result (List RuleText) RuleFault
 with_rules front (Ok rules) = Ok (front ++ rules)
@@ -106,27 +197,14 @@ sifted_wanted All (Err f) = refl
 sifted_wanted (OfKind kind) r = refl
 sifted_wanted (OfServices service other) r = refl
 
-module _ (wanted : Wanted) (form : Form) (front : List RuleText) where
-  -- the wanted rules of a text, after those that were read before
+module _ (wanted : Wanted) (front : List RuleText) where
+  -- the wanted ones among rules, after those that were read before
   abbrev pub read_on : Result (List RuleText) RuleFault → Result (List RuleText) RuleFault
   read_on r = with_rules front (sifted wanted r)
 
-  pub all_read : (ms : List Mark) → ms ≡ [] → read_on (rules_in form (lines_of ms)) ≡ Ok front
-  unfolding with_rules rules_in line_rule_of words_in rule_of
-  all_read ms e = ap (λ (ts : List Mark). read_on (rules_in form (lines_of ts))) e ∙ ap Ok (append-nil front)
-
-  -- the rules of a text whose first line is read
-  first_read : (ms : List Mark) (r : Result (Option RuleText) RuleFault) → rule_at form (first_marks ms) ≡ r →
-      read_on (rules_in form (lines_of ms)) ≡ read_on (onto_rules r (rules_in form (lines_of (after_line ms))))
-  first_read ms r h = ap read_on (rules_step form ms ∙ ap (λ s. onto_rules s (rules_in form (lines_of (after_line ms)))) h)
-
-  pub step_fault : (ms : List Mark) (f : RuleFault) → rule_at form (first_marks ms) ≡ Err f → read_on (rules_in form (lines_of ms)) ≡ Err f
+  pub all_read : (whole : Result (List RuleText) RuleFault) → whole ≡ Ok [] → read_on whole ≡ Ok front
   unfolding with_rules
-  step_fault ms f h = first_read ms (Err f) h
-
-  pub step_nothing : (ms ts : List Mark) → rule_at form (first_marks ms) ≡ Ok None → ts ≡ after_line ms →
-      read_on (rules_in form (lines_of ts)) ≡ read_on (rules_in form (lines_of ms))
-  step_nothing ms ts h e = ap (λ (us : List Mark). read_on (rules_in form (lines_of us))) e ∙ sym (first_read ms (Ok None) h)
+  all_read whole e = ap read_on e ∙ ap Ok (append-nil front)
 
   filtered_apart : (x : RuleText) (xs : List RuleText) → (front ++ filter (wants wanted) (x ∷ [])) ++ filter (wants wanted) xs
       ≡ front ++ filter (wants wanted) (x ∷ xs)
@@ -142,20 +220,26 @@ module _ (wanted : Wanted) (form : Form) (front : List RuleText) where
   one_more x (Ok xs) = ap Ok (filtered_apart x xs)
   one_more x (Err f) = refl
 
-  pub step_rule : (ms ts : List Mark) (x : RuleText) → rule_at form (first_marks ms) ≡ Ok (Some x) → ts ≡ after_line ms →
-      with_rules (front ++ filter (wants wanted) (x ∷ [])) (sifted wanted (rules_in form (lines_of ts))) ≡ read_on (rules_in form (lines_of ms))
-  step_rule ms ts x h e = ap (λ (us : List Mark). with_rules (front ++ filter (wants wanted) (x ∷ [])) (sifted wanted (rules_in form (lines_of us)))) e
-      ∙ one_more x _ ∙ sym (first_read ms (Ok (Some x)) h)
+  -- the rules of a text whose first line is read
+  module _ (whole rest : Result (List RuleText) RuleFault) (r : Result (Option RuleText) RuleFault) (step : whole ≡ onto_rules r rest) where
+    pub step_fault : (f : RuleFault) → r ≡ Err f → read_on whole ≡ Err f
+    unfolding with_rules
+    step_fault f h = ap read_on (step ∙ ap (λ s. onto_rules s rest) h)
+
+    pub step_nothing : r ≡ Ok None → read_on rest ≡ read_on whole
+    step_nothing h = ap read_on (sym (step ∙ ap (λ s. onto_rules s rest) h))
+
+    step_rule : (x : RuleText) → r ≡ Ok (Some x) → with_rules (front ++ filter (wants wanted) (x ∷ [])) (sifted wanted rest) ≡ read_on whole
+    step_rule x h = one_more x rest ∙ ap read_on (sym (step ∙ ap (λ s. onto_rules s rest) h))
 
   -- the rules that were read before, and that of one more line
-  pub step_taken : (ms ts : List Mark) (r : Result (Option RuleText) RuleFault) (rules : List RuleText) → rule_at form (first_marks ms) ≡ r →
-      ts ≡ after_line ms → with_rule wanted front r ≡ Ok rules →
-      with_rules rules (sifted wanted (rules_in form (lines_of ts))) ≡ read_on (rules_in form (lines_of ms))
-  step_taken ms ts (Err f) rules h e k = absurd (cc)
-  step_taken ms ts (Ok None) rules h e k = let same : front ≡ rules = cc in ap (λ (xs : List RuleText). with_rules xs
-      (sifted wanted (rules_in form (lines_of ts)))) (sym same) ∙ step_nothing ms ts h e
-  step_taken ms ts (Ok (Some x)) rules h e k = let same : (front ++ filter (wants wanted) (x ∷ []))
-      ≡ rules = cc in ap (λ (xs : List RuleText). with_rules xs (sifted wanted (rules_in form (lines_of ts)))) (sym same) ∙ step_rule ms ts x h e
+  pub step_taken : (whole rest : Result (List RuleText) RuleFault) (r : Result (Option RuleText) RuleFault) (rules : List RuleText) →
+      whole ≡ onto_rules r rest → with_rule wanted front r ≡ Ok rules → with_rules rules (sifted wanted rest) ≡ read_on whole
+  step_taken whole rest (Err f) rules e k = absurd (cc)
+  step_taken whole rest (Ok None) rules e k = let same : front ≡ rules = cc in ap (λ (xs : List RuleText). with_rules xs
+      (sifted wanted rest)) (sym same) ∙ step_nothing whole rest (Ok None) e refl
+  step_taken whole rest (Ok (Some x)) rules e k = let same : (front ++ filter (wants wanted) (x ∷ []))
+      ≡ rules = cc in ap (λ (xs : List RuleText). with_rules xs (sifted wanted rest)) (sym same) ∙ step_rule whole rest (Ok (Some x)) e x refl
 
 pub taken_fails : (wanted : Wanted) (front : List RuleText) (f : RuleFault) (r : Result (Option RuleText) RuleFault) → with_rule wanted front r ≡ Err f →
     r ≡ Err f

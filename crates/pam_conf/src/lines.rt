@@ -1,13 +1,14 @@
 //! The rules of the lines of a file: pam.conf(5).
-ghost use Rattle.std.specs.Prelude.{◌≡◌, ◌∷◌, ◌++◌, [], OnOk, filter, map};
+ghost use Rattle.std.specs.Prelude.{◌≡◌, ◌<◌, ◌∷◌, ◌++◌, [], IfOk, IfSome, MatchOption, Ok, OnOk, filter, length, map};
 ghost use Rattle.std.specs.List.{list_all};
 ghost use Rattle.std.specs.Option.{option_map};
 ghost use Rattle.pam_codes.specs.Tokens.{is_blank};
+ghost use Rattle.pam_text.specs.Left.{text_left};
 ghost use Rattle.pam_text.specs.Text.{text_of, lines_of};
 ghost use Rattle.pam_text.specs.Gives.{Gives};
 ghost use Rattle.pam_conf.specs.Tells.{FaultTells, KindTells};
 ghost use Rattle.pam_conf.specs.Kept.{kept_view};
-ghost use Rattle.pam_conf.specs.Lines.{at_line, fault_of_source, line_rule_of, rules_in, rules_of};
+ghost use Rattle.pam_conf.specs.Lines.{at_line, fault_of_source, line_rule_of, onto_rules, rules_in, rules_of};
 ghost use Rattle.pam_conf.specs.Lines.{fault_at as fault_at_line};
 ghost use Rattle.pam_conf.specs.Rule.{rule_view};
 ghost use Rattle.pam_conf.specs.Wanted.{with_rule, only_wanted, wants};
@@ -19,7 +20,7 @@ use crate::wanted::{Wanted, is_unwanted, is_wanted};
 use crate::words::Words;
 use pam_codes::is_blank_byte;
 use pam_text::{Line, Source, SourceFault, Text};
-use std::alloc::{AllocFailed, Global};
+use std::alloc::{AllocError, AllocFailed, Global};
 
 /// Reads the rules of a file in the order of its lines: pam.conf(5). Fails with the first fault: `FileTooLong` (E16)
 /// comes before `NulByte` (E1), and that before the faults of lines. A failed allocation has line 0.
@@ -75,12 +76,26 @@ fn text_rules(
     let mut text = Text::of(source);
     let mut joined = Vec::new(alloc);
     let mut rules = Vec::new(alloc);
-    while let Some(line) = text.next_line(&mut joined)? {
+    while let Some(line) = next_filled_line(&mut text, &mut joined)? {
         if !is_blank_line(line.bytes) {
             take_rule(alloc, form, line, wanted, &mut rules)?;
         }
     }
     Ok(rules)
+}
+
+/// Passes over blank lines, which have no rule, and returns the next line.
+fn next_filled_line<'b, 'a: 'b>(
+    text: &mut Text<'a>,
+    joined: &'b mut Vec<u8>,
+) -> Result<Option<Line<'b>>, AllocError>
+    ensures rules { IfOk result (λ l. MatchOption l ((form : Form) → rules_in form (lines_of (text_left text.old)) ≡ Ok [])
+        (λ line. (form : Form) → rules_in form (lines_of (text_left text.old))
+        ≡ onto_rules (at_line line.number (line_rule_of form line.number line.bytes.now)) (rules_in form (lines_of (text_left text.new))))) }
+    ensures shorter { IfOk result (λ l. IfSome l (λ _. length text.new.rest.now < length text.old.rest.now)) }
+{
+    text.skip_blanks();
+    text.next_line(joined)
 }
 
 /// Appends `rule` if it is wanted.

@@ -207,6 +207,7 @@ fn unescape(word: &mut Vec<u8>)
 
 /// The text of a word: itself, or if it has brackets the unescaped text between them, which replaces the contents of
 /// `inside`.
+#[inline(always)]
 fn text_of<'a>(word: &'a [u8], inside: &'a mut Vec<u8>) -> Result<&'a [u8], AllocError>
     ensures { IfOk result (λ text. text.now ≡ text_of_word word.now) }
 {

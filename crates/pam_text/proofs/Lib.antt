@@ -1,4 +1,5 @@
 pub mod Cutting
+pub mod FilledLines
 pub mod FirstBytes
 pub mod Pieces
 pub mod Prefixes

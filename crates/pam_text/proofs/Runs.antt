@@ -1,10 +1,10 @@
 -- A run of plain bytes in front of a text.
-use Rattle.std.proofs.Common.{◌≡◌, ◌+◌, ◌++◌, ◌∙◌, sym, ap, refl, one-add, append-nil, append_assoc, length-append, length, arith, ℕ, Bool, true}
-use Rattle.std.proofs.Common.{false, List, [], ◌∷◌, take, drop, cond, eqb}
+use Rattle.std.proofs.Common.{◌≡◌, ◌≤◌, ◌+◌, ◌++◌, ◌∙◌, sym, ap, refl, one-add, append-nil, append_assoc, length-append, length, arith, ℕ, Bool, true}
+use Rattle.std.proofs.Common.{false, List, [], ◌∷◌, take, drop, get_or, cond, eqb}
 use Rattle.std.specs.List.{prefix_len}
 use Rattle.std.proofs.lemmas.Bool.{eqb-true, false≢true}
-use Rattle.pam_text.specs.Text.{Mark, text_of, first_line, after_line, is_plain}
-use Rattle.pam_text.proofs.TextSteps.{step_plain, past_comment-no}
+use Rattle.pam_text.specs.Text.{Mark, text_of, first_line, after_line, is_plain, past_comment}
+use Rattle.pam_text.proofs.TextSteps.{step_plain, step_joined, past_comment-no}
 
 -- a plain byte is none of the three
 not_feed : (b : ℕ) → is_plain b ≡ true → b ≡ 10 → ⊥
@@ -16,7 +16,7 @@ not_hash b h e = false≢true (sym (ap is_plain e) ∙ h)
 not_backslash : (b : ℕ) → is_plain b ≡ true → b ≡ 92 → ⊥
 not_backslash b h e = false≢true (sym (ap is_plain e) ∙ h)
 
-plain_step : (b : ℕ) (bs : List ℕ) (l : ℕ) → is_plain b ≡ true → text_of l (b ∷ bs) ≡ (l, b) ∷ text_of l bs
+pub plain_step : (b : ℕ) (bs : List ℕ) (l : ℕ) → is_plain b ≡ true → text_of l (b ∷ bs) ≡ (l, b) ∷ text_of l bs
 plain_step b bs l h = step_plain (b ∷ bs) b bs l (past_comment-no (b ∷ bs) (not_hash b h)) (not_feed b h) (not_backslash b h)
 
 first_plain : (b l : ℕ) (ms : List Mark) → is_plain b ≡ true → first_line ((l, b) ∷ ms) ≡ b ∷ first_line ms
@@ -124,6 +124,25 @@ feed_line b l ms e = ap (λ (x : ℕ). first_line ((l, x) ∷ ms)) e
 
 pub feed_rest : (b l : ℕ) (ms : List Mark) → b ≡ 10 → after_line ((l, b) ∷ ms) ≡ ms
 feed_rest b l ms e = ap (λ (x : ℕ). after_line ((l, x) ∷ ms)) e
+
+-- a backslash and a line feed are a space
+module _ (l : ℕ) (bs more : List ℕ) (h : bs ≡ 92 ∷ 10 ∷ more) where
+  joint : text_of l bs ≡ (l, 32) ∷ text_of (l + 1) more
+  unfolding past_comment
+  joint = step_joined bs (10 ∷ more) more l (ap past_comment h) refl
+
+  pub joint_line : (old new : List ℕ) → new ≡ old ++ 32 ∷ [] → new ++ first_line (text_of (l + 1) more) ≡ old ++ first_line (text_of l bs)
+  joint_line old new k =
+      kept_byte 32 l (text_of (l + 1) more) old new (λ e. absurd (cc)) k ∙ ap (λ (ms : List Mark). old ++ first_line ms) (sym joint)
+
+  pub joint_rest : after_line (text_of (l + 1) more) ≡ after_line (text_of l bs)
+  joint_rest = ap after_line (sym joint)
+
+-- two bytes at the beginning
+pub two_first : (bs more : List ℕ) → 2 ≤ length bs → get_or bs 0 0 ≡ 92 → get_or bs 1 0 ≡ 10 → more ≡ drop 2 bs → bs ≡ 92 ∷ 10 ∷ more
+two_first [] more n e f d = absurd (omega arith)
+two_first (a ∷ []) more n e f d = absurd (omega arith)
+two_first (a ∷ b ∷ bs) more n e f d = rw (e, f, d) refl
 
 -- a line that goes on after a run and one more byte
 module _ (l n : ℕ) (bs v s : List ℕ) (e : n ≡ prefix_len is_plain bs) (front : v ≡ take n bs) (back : s ≡ drop n bs) (b : ℕ) (ms : List Mark)

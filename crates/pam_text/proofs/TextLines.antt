@@ -60,7 +60,7 @@ split_first (m ∷ ms) =
       | false ↦ ⊎_elim (λ e. inl (ap (onto_first m) e)) (λ p. inr (ap (onto_first m) p.0, p.1)) (split_first ms)
     ]
 
-first_of : (m : Mark) (ms : List Mark) → text_lines (m ∷ ms) ≡ (m.0, first_line (m ∷ ms)) ∷ text_lines (after_line (m ∷ ms))
+pub first_of : (m : Mark) (ms : List Mark) → text_lines (m ∷ ms) ≡ (m.0, first_line (m ∷ ms)) ∷ text_lines (after_line (m ∷ ms))
 unfolding text_lines
 first_of m [] =
     elim (eqb m.1 10) as (λ (t : Bool). cond t ((m.0, []) ∷ []) (onto_line m []) ≡ (m.0, cond t [] (m.1 ∷ [])) ∷ text_lines (cond t [] [])) [

@@ -36,6 +36,9 @@ skip l (b ∷ bs) =
       | false ↦ λ e. rw e (rw e refl)
     ] refl
 
+pub skipped : (l : ℕ) (bs : List ℕ) → text_of l bs ≡ text_of l (past_comment bs)
+skipped l bs = ap joined (skip l bs)
+
 comment_end : (bs : List ℕ) (b : ℕ) (r : List ℕ) → drop (prefix_len (λ c. not (eqb c 10)) bs) bs ≡ b ∷ r → eqb b 35 ≡ false
 comment_end [] b r h = absurd (cc)
 comment_end (a ∷ bs) b r h =

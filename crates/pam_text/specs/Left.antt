@@ -1,5 +1,6 @@
 -- What a text that is read in part has left.
-use Rattle.std.specs.Prelude.{ℕ, List, [], ◌∷◌, Option, Some, None}
+use Rattle.std.specs.Prelude.{ℕ, Bool, true, not, ◌==◌, ◌||◌, List, [], ◌∷◌, Option, Some, None}
+use Rattle.pam_text.specs.Blanks.{is_text_blank}
 use Rattle.pam_text.specs.Text.{Mark, text_of, first_line, after_line}
 use Rattle.pam_text.specs.declared.text.Text.{Text}
 
@@ -14,3 +15,8 @@ line_from (Some b) text = first_line ((0, b) ∷ text)
 abbrev pub rest_from : Option ℕ → List Mark → List Mark
 rest_from None text = text
 rest_from (Some b) text = after_line ((0, b) ∷ text)
+
+-- no bytes, or a first byte that no blank line and no comment begins with
+abbrev pub begins_filled : List ℕ → Bool
+begins_filled [] = true
+begins_filled (b ∷ bs) = not (is_text_blank b || b == 10 || b == 35)

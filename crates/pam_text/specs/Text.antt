@@ -1,6 +1,7 @@
 -- pam.conf(5): a comment begins with `#` and goes up to the end of its line; a backslash before the end of a line continues it.
 use Rattle.std.specs.Prelude.{ℕ, ◌+◌, Bool, true, false, List, [], ◌∷◌, not, drop, ◌==◌, ◌&&◌, ◌||◌, if◌then◌else◌}
-use Rattle.std.specs.List.{slice_split, prefix_len}
+use Rattle.std.specs.List.{list_all, slice_split, prefix_len}
+use Rattle.pam_text.specs.Blanks.{is_text_blank}
 
 -- a byte of a file, with the number of its line: one more than the line feeds before it
 abbrev pub Mark : Type 0
@@ -61,3 +62,13 @@ onto_line m (line ∷ lines) = (m.0, m.1 ∷ line.1) ∷ lines
 unfoldable pub text_lines : List Mark → List (ℕ × List ℕ)
 text_lines [] = []
 text_lines (m ∷ ms) = if m.1 == 10 then (m.0, []) ∷ text_lines ms else onto_line m (text_lines ms)
+
+-- a line without the blanks that it begins with
+abbrev pub after_blanks : List ℕ → List ℕ
+after_blanks [] = []
+after_blanks (b ∷ bs) = if is_text_blank b then after_blanks bs else b ∷ bs
+
+-- the lines that have a byte other than blanks, each without the blanks that it begins with
+unfoldable pub filled_lines : List (ℕ × List ℕ) → List (ℕ × List ℕ)
+filled_lines [] = []
+filled_lines (line ∷ lines) = if list_all is_text_blank line.1 then filled_lines lines else (line.0, after_blanks line.1) ∷ filled_lines lines

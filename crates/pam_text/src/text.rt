@@ -1,9 +1,11 @@
 //! The text of a file, with comments removed and continued lines joined: pam.conf(5).
 
-ghost use Rattle.std.specs.Prelude.{◌≡◌, ◌∷◌, ◌++◌, ◌+◌, ◌^◌, ◌≤◌, ◌<◌, [], ℕ, List, length, not, ◌==◌, MatchOption, IfOk, IfSome, OnOk};
+ghost use Rattle.std.specs.Prelude.{◌≡◌, ◌∷◌, ◌++◌, ◌+◌, ◌^◌, ◌≤◌, ◌<◌, [], ℕ, List, length, not, ◌==◌, MatchOption, IfOk, IfSome, OnOk, ◌||◌, if◌then◌else◌, true};
 ghost use Rattle.std.specs.List.{prefix_len};
+ghost use Rattle.pam_text.specs.Blanks.{is_text_blank};
 ghost use Rattle.pam_text.specs.Text.{text_of, past_comment, is_plain};
 
+use crate::blanks::is_text_blank;
 use crate::source::Source;
 use memchr::{memchr, memchr3};
 use std::alloc::AllocError;
@@ -28,8 +30,8 @@ pub struct Line<'a> {
 }
 
 impl<'a> Text<'a> {
-    ghost use Rattle.pam_text.specs.Text.{first_line, after_line, text_lines};
-    ghost use Rattle.pam_text.specs.Left.{text_left, line_from, rest_from};
+    ghost use Rattle.pam_text.specs.Text.{filled_lines, first_line, after_line, text_lines};
+    ghost use Rattle.pam_text.specs.Left.{begins_filled, text_left, line_from, rest_from};
 
     /// The whole text of a file.
     pub fn of(file: Source<'a>) -> Self
@@ -86,17 +88,55 @@ impl<'a> Text<'a> {
         }
     }
 
+    /// Passes over blank lines and comments, and over the blanks that the next line with another byte begins with.
+    pub fn skip_blanks(&mut self)
+        ensures lines { filled_lines (text_lines (text_left self.new)) ≡ filled_lines (text_lines (text_left self.old)) }
+        ensures first { begins_filled self.new.rest.now ≡ true }
+        ensures shorter { length self.new.rest.now ≤ length self.old.rest.now }
+    {
+        let mut rest = self.rest;
+        let mut line = self.line;
+        while let Some((first, after)) = rest.split_first() {
+            if is_blank_or_feed(*first) {
+                rest = after;
+                line += feed_count(*first);
+            } else if *first == b'#' {
+                rest = after.split_at(comment_len(after)).1;
+            } else {
+                break;
+            }
+        }
+        self.rest = rest;
+        self.line = line;
+    }
+
     /// Appends the next line to `joined`.
     fn join_line(&mut self, joined: &mut Vec<u8>) -> Result<(), AllocError>
         ensures line { OnOk result (joined.new.items ≡ joined.old.items ++ first_line (text_left self.old)) }
         ensures rest { OnOk result (text_left self.new ≡ after_line (text_left self.old)) }
         ensures shorter { OnOk result (length self.new.rest.now ≤ length self.old.rest.now) }
     {
+        self.take_joints(joined)?;
         while let Some(byte) = self.take_run(joined)? {
             if byte == b'\n' {
                 return Ok(());
             }
             joined.push(byte)?;
+            self.take_joints(joined)?;
+        }
+        Ok(())
+    }
+
+    /// Appends a space for each leading backslash that a line feed follows.
+    fn take_joints(&mut self, joined: &mut Vec<u8>) -> Result<(), AllocError>
+        ensures line { OnOk result (joined.new.items ++ first_line (text_left self.new) ≡ joined.old.items ++ first_line (text_left self.old)) }
+        ensures rest { OnOk result (after_line (text_left self.new) ≡ after_line (text_left self.old)) }
+        ensures shorter { OnOk result (length self.new.rest.now ≤ length self.old.rest.now) }
+    {
+        while let Some(after) = after_joint(self.rest) {
+            joined.push(b' ')?;
+            self.rest = after;
+            self.line += 1;
         }
         Ok(())
     }
@@ -122,6 +162,21 @@ impl<'a> Text<'a> {
             }
         }
     }
+}
+
+#[inline(always)]
+fn is_blank_or_feed(byte: u8) -> bool
+    ensures { result ≡ (is_text_blank byte || byte == 10) }
+{
+    is_text_blank(byte) || byte == b'\n'
+}
+
+/// 1 for a line feed, so that a line is counted without a branch.
+#[inline(always)]
+fn feed_count(byte: u8) -> u32
+    ensures { result ≡ (if byte == 10 then 1 else 0) }
+{
+    u32::from(byte == b'\n')
 }
 
 /// Appends `bytes`. Between joints there are often none, and then no copy is made.
@@ -224,6 +279,19 @@ fn after_feed(bytes: &[u8]) -> Option<&[u8]>
 {
     let (first, rest) = bytes.split_first()?;
     if *first == b'\n' { Some(rest) } else { None }
+}
+
+/// The bytes after a leading backslash and line feed, if there are these.
+#[inline(always)]
+fn after_joint(bytes: &[u8]) -> Option<&[u8]>
+    ensures value { IfSome result (λ r. bytes.now ≡ 92 ∷ 10 ∷ r.now) }
+    ensures bound { IfSome result (λ r. length r.now + 1 < length bytes.now) }
+{
+    if bytes.len() >= 2 && bytes[0] == b'\\' && bytes[1] == b'\n' {
+        Some(bytes.split_at(2).1)
+    } else {
+        None
+    }
 }
 
 /// Returns `bytes` without a leading comment. The line feed of the comment stays.
