@@ -1,10 +1,38 @@
 -- A command that is being built, for private contracts and proofs alone.
-use Rattle.std.specs.Prelude.{◌≡◌, IfOk, Result, false}
+use Rattle.std.specs.Prelude.{◌≡◌, List, [], ◌∷◌, Some, IfOk, Result, false}
 use Rattle.std.specs.declared.alloc.AllocError.{AllocError}
-use Rattle.clap.specs.Words.{App, app_of}
+use Rattle.clap.specs.Words.{App, Rule, Text, app_of, new_app, with_rule, with_subcommand}
 use Rattle.clap.specs.declared.builder.Command.{Command}
 use Rattle.clap.specs.declared.builder.Command.TheViews.{out-Command as fields_of}
+use Rattle.pam_words.specs.Words.{limit_parser, option_rule, repeated_rule, required_option_rule, required_rule}
+use Rattle.pam_words.specs.declared.words.ArgForm.{ArgForm}
+use Rattle.pam_words.specs.declared.words.ArgForm.TheVariants.{Positional, Repeated, Optional, Required, Limit}
+use Rattle.pam_words.specs.declared.words.ArgRow.{ArgRow}
+use Rattle.pam_words.specs.declared.words.CommandRow.{CommandRow}
 
 -- a command that accepts these words, unless an allocation failed. None of its options is passed on to its commands
 abbrev pub IsBuilt : Result Command AllocError → App → Type 0
 IsBuilt built app = IfOk built (λ c. (app_of c ≡ app) × ((fields_of c).has_globals ≡ false))
+
+abbrev pub rule_in_form : ArgForm → Text → Rule
+rule_in_form Positional id = required_rule id
+rule_in_form Repeated id = repeated_rule id
+rule_in_form Optional id = option_rule id
+rule_in_form Required id = required_option_rule id
+rule_in_form Limit id = record (option_rule id) { parser = Some limit_parser }
+
+abbrev pub rule_of_row : ArgRow → Rule
+rule_of_row row = rule_in_form row.form row.id.now
+
+-- with the arguments of these rows
+abbrev pub with_args : App → List ArgRow → App
+with_args app [] = app
+with_args app (row ∷ rows) = with_args (with_rule app (rule_of_row row)) rows
+
+abbrev pub app_of_row : CommandRow → App
+app_of_row row = with_args (new_app row.name.now) row.args.now
+
+-- with the commands of these rows
+abbrev pub with_commands : App → List CommandRow → App
+with_commands app [] = app
+with_commands app (row ∷ rows) = with_commands (with_subcommand app (app_of_row row).top) rows

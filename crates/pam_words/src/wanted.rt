@@ -6,7 +6,7 @@ use pam_text::Texts;
 use thiserror::Error;
 
 /// The source of the configuration.
-#[derive(Clone, Copy, Debug)]
+#[derive(Clone, Copy)]
 pub enum ConfSource<'a> {
     /// A folder with a file for each service, as `/etc/pam.d`.
     Dir(&'a str),
@@ -15,7 +15,7 @@ pub enum ConfSource<'a> {
 }
 
 /// The moment of a login.
-#[derive(Clone, Copy, Debug)]
+#[derive(Clone, Copy)]
 pub enum Moment<'a> {
     /// A civil date and time, as given.
     Civil(&'a str),
@@ -24,7 +24,7 @@ pub enum Moment<'a> {
 }
 
 /// A login. A remote host or terminal that is not given is empty, and so is the user in `paths` without a table.
-#[derive(Clone, Copy, Debug)]
+#[derive(Clone, Copy)]
 pub struct Login<'a> {
     pub user: &'a str,
     pub rhost: &'a str,
@@ -32,7 +32,7 @@ pub struct Login<'a> {
 }
 
 /// The part of a listing that a page is taken from.
-#[derive(Clone, Copy, Debug)]
+#[derive(Clone, Copy)]
 pub enum PagePart<'a> {
     /// All paths, in ascending order of cursors.
     Whole,
@@ -43,7 +43,7 @@ pub enum PagePart<'a> {
 }
 
 /// A command for a service.
-#[derive(Debug, Drop)]
+#[derive(Drop)]
 pub enum Task<'a> {
     /// Lists the stack.
     Show {
@@ -85,7 +85,7 @@ pub enum Task<'a> {
 }
 
 /// A command with its service. The service is as given, not lowercased.
-#[derive(Debug, Drop)]
+#[derive(Drop)]
 pub struct Request<'a> {
     pub service: &'a str,
     pub task: Task<'a>,

@@ -1,0 +1,224 @@
+//! Reads the files that a request names.
+
+use super::{InputError, Inputs};
+use pam_conf::{Files, Form};
+use pam_words::{ConfSource, Request, Task};
+use std::alloc::{AllocError, Global};
+use std::io::{ErrorKind, Read};
+use std::path::Path;
+use std::{fs, io};
+
+/// The most bytes read from a file: one more than a table or configuration file may have, so that a longer file is
+/// noticed.
+const MOST: u64 = 1_048_577;
+
+/// Converts a failed read of this name, which may be a failed allocation too.
+fn unread(alloc: Global, name: &str, error: &io::Error) -> InputError {
+    if error.kind() == ErrorKind::OutOfMemory {
+        return InputError::Memory;
+    }
+    match String::from_str(alloc, name) {
+        Ok(name) => InputError::Read(name),
+        Err(_) => InputError::Memory,
+    }
+}
+
+fn bytes_at<R: std::rt::Files>(rt: &R, alloc: Global, path: Path<'_>) -> io::Result<Vec<u8>> {
+    let mut bytes = Vec::new(alloc);
+    let mut reader = fs::open(rt, path)?.take(MOST);
+    reader.read_to_end(&mut bytes)?;
+    Ok(bytes)
+}
+
+/// Reads a file that the request names.
+fn named_file<R: std::rt::Files>(rt: &R, alloc: Global, name: &str) -> Result<Vec<u8>, InputError> {
+    bytes_at(rt, alloc, Path::new(name)).map_err(|error| unread(alloc, name, &error))
+}
+
+/// Whether an entry is a regular file, after links are followed. A dangling or circular link is not.
+fn is_regular<R: std::rt::Files>(rt: &R, path: Path<'_>) -> io::Result<bool> {
+    match fs::metadata(rt, path) {
+        Ok(metadata) => Ok(metadata.is_file()),
+        Err(error) => match error.kind() {
+            ErrorKind::NotFound | ErrorKind::FilesystemLoop | ErrorKind::NotADirectory => Ok(false),
+            _ => Err(error),
+        },
+    }
+}
+
+fn push_name(alloc: Global, names: &mut Vec<String>, name: &str) -> Result<(), AllocError> {
+    let name = String::from_str(alloc, name)?;
+    names.push(name)?;
+    Ok(())
+}
+
+/// Returns the names of the entries of a folder, in ascending byte order.
+fn entry_names<R: std::rt::Files + AllocGlobal + Clone + Drop>(
+    rt: &R,
+    alloc: Global,
+    folder: &str,
+) -> io::Result<Vec<String>> {
+    let mut names = Vec::new(alloc);
+    for entry in fs::read_dir(rt, folder)? {
+        push_name(alloc, &mut names, entry?.file_name())?;
+    }
+    names.sort()?;
+    Ok(names)
+}
+
+/// Reads an entry of a folder, if it is a regular file.
+fn entry_bytes<R: std::rt::Files>(
+    rt: &R,
+    alloc: Global,
+    folder: &str,
+    name: &str,
+) -> io::Result<Option<Vec<u8>>> {
+    let path = Path::new(folder).join(alloc, name)?;
+    if !is_regular(rt, path.as_path())? {
+        return Ok(None);
+    }
+    Ok(Some(bytes_at(rt, alloc, path.as_path())?))
+}
+
+/// Reads an entry of a folder, and adds it if it is a regular file.
+fn put_entry<R: std::rt::Files>(
+    rt: &R,
+    alloc: Global,
+    folder: &str,
+    name: String,
+    files: &mut Files,
+) -> Result<(), InputError> {
+    match entry_bytes(rt, alloc, folder, name.as_str()) {
+        Ok(None) => Ok(()),
+        Ok(Some(bytes)) => Ok(files.put(name.into_bytes(), bytes)?),
+        Err(error) => Err(unread(alloc, name.as_str(), &error)),
+    }
+}
+
+fn folder_files<R: std::rt::Files + AllocGlobal + Clone + Drop>(
+    rt: &R,
+    alloc: Global,
+    folder: &str,
+) -> Result<Files, InputError> {
+    let names = match entry_names(rt, alloc, folder) {
+        Ok(names) => names,
+        Err(error) => return Err(unread(alloc, folder, &error)),
+    };
+    let mut files = Files::new(alloc, Form::Dir);
+    for name in names {
+        put_entry(rt, alloc, folder, name, &mut files)?;
+    }
+    Ok(files)
+}
+
+/// Adds the file in place of `pam.conf`.
+fn put_conf(alloc: Global, bytes: Vec<u8>, files: &mut Files) -> Result<(), InputError> {
+    let name = Vec::from_slice(alloc, b"pam.conf")?;
+    Ok(files.put(name, bytes)?)
+}
+
+fn conf_file<R: std::rt::Files>(rt: &R, alloc: Global, name: &str) -> Result<Files, InputError> {
+    let bytes = named_file(rt, alloc, name)?;
+    let mut files = Files::new(alloc, Form::Single);
+    put_conf(alloc, bytes, &mut files)?;
+    Ok(files)
+}
+
+/// Reads the regular files of a folder, after links are followed, or one file in place of `pam.conf`.
+fn source_files<R: std::rt::Files + AllocGlobal + Clone + Drop>(
+    rt: &R,
+    alloc: Global,
+    source: ConfSource<'_>,
+) -> Result<Files, InputError> {
+    match source {
+        ConfSource::Dir(folder) => folder_files(rt, alloc, folder),
+        ConfSource::Conf(name) => conf_file(rt, alloc, name),
+    }
+}
+
+/// Reads a file, if one is named.
+fn optional_file<R: std::rt::Files>(
+    rt: &R,
+    alloc: Global,
+    name: Option<&str>,
+) -> Result<Option<Vec<u8>>, InputError> {
+    match name {
+        Some(name) => Ok(Some(named_file(rt, alloc, name)?)),
+        None => Ok(None),
+    }
+}
+
+/// Reads two files in turn, each if it is named.
+fn optional_files<R: std::rt::Files>(
+    rt: &R,
+    alloc: Global,
+    first: Option<&str>,
+    second: Option<&str>,
+) -> Result<(Option<Vec<u8>>, Option<Vec<u8>>), InputError> {
+    let first = optional_file(rt, alloc, first)?;
+    let second = optional_file(rt, alloc, second)?;
+    Ok((first, second))
+}
+
+/// Reads the group file, if one is named, then the access table.
+fn access_inputs<R: std::rt::Files>(
+    rt: &R,
+    alloc: Global,
+    table: &str,
+    groups: Option<&str>,
+) -> Result<Inputs, InputError> {
+    let groups = optional_file(rt, alloc, groups)?;
+    let table = named_file(rt, alloc, table)?;
+    Ok(Inputs::Access { table, groups })
+}
+
+/// Reads the tables of `paths` that are named, after its configuration: the group file, the access table, the time
+/// table and the returns file.
+fn paths_inputs<R: std::rt::Files>(
+    rt: &R,
+    alloc: Global,
+    files: Files,
+    access_named: (Option<&str>, Option<&str>),
+    others_named: (Option<&str>, Option<&str>),
+) -> Result<Inputs, InputError> {
+    let (groups, access) = access_named;
+    let of_access = optional_files(rt, alloc, groups, access)?;
+    let (time, returns) = others_named;
+    let others = optional_files(rt, alloc, time, returns)?;
+    Ok(Inputs::Paths {
+        files,
+        groups: of_access.0,
+        access: of_access.1,
+        time: others.0,
+        returns: others.1,
+    })
+}
+
+/// Reads the files of a request: the configuration, then the group file, the access table, the time table and the
+/// returns file.
+pub(crate) fn inputs_of<R: std::rt::Files + AllocGlobal + Clone + Drop>(
+    rt: &R,
+    alloc: Global,
+    request: &Request<'_>,
+) -> Result<Inputs, InputError> {
+    match &request.task {
+        Task::Show { source, .. } | Task::Decide { source, .. } => {
+            Ok(Inputs::Stack(source_files(rt, alloc, *source)?))
+        }
+        Task::Access { table, groups, .. } => access_inputs(rt, alloc, table, *groups),
+        Task::Time { table, .. } => Ok(Inputs::Time {
+            table: named_file(rt, alloc, table)?,
+        }),
+        Task::Paths {
+            source,
+            access,
+            time,
+            groups,
+            returns,
+            ..
+        } => {
+            let files = source_files(rt, alloc, *source)?;
+            paths_inputs(rt, alloc, files, (*groups, *access), (*time, *returns))
+        }
+    }
+}
