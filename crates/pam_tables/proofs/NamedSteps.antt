@@ -51,6 +51,27 @@ module _ {K X V : Type 0} (name : K → List ℕ) (value : X → V) where
       let absent : has_name (name k) (map entry_view es) ≡ false = rw (e, f) h in
       ap (map entry_view) i ∙ new_name_last k v es absent ∙ rw (e, f, g) refl
 
+module _ {K : Type 0} (name : K → List ℕ) where
+  abbrev pub same_key : K → K → Bool
+  same_key a b = bytes_eq (name a) (name b)
+
+  put_back : {X : Type 0} (k : K) (new old : X) (es : List (K × X)) → lookup {K = K} {X = X} (same_key k) es ≡ Some old →
+      insert_entry same_key (insert_entry same_key es k new) k old ≡ es
+  put_back k new old [] h = absurd (cc)
+  put_back {X} k new old (e ∷ es) h =
+      elim (same_key k e.0) as (λ (t : Bool). same_key k e.0 ≡ t → cond t (Some e.1) (lookup {K = K} {X = X} (same_key k) es) ≡ Some old →
+      insert_entry same_key (cond t ((e.0, new) ∷ es) (e ∷ insert_entry same_key es k new)) k old ≡ e ∷ es) [
+        | true ↦ λ q f. let same : e.1 ≡ old = cc in rw q (ap (λ (x : X). (e.0, x) ∷ es) (sym same))
+        | false ↦ λ q f. rw q (ap (λ (gs : List (K × X)). e ∷ gs) (put_back k new old es f))
+      ] refl h
+
+  -- a value that was replaced is put back
+  pub restored : {X : Type 0} (k : K) (new old : X) (es more last : List (K × X)) (found : Option X) →
+      found ≡ lookup {K = K} {X = X} (same_key k) es → found ≡ Some old → more ≡ insert_entry same_key es k new →
+      last ≡ insert_entry same_key more k old → last ≡ es
+  restored {X} k new old es more last found f g h i =
+      i ∙ ap (λ (gs : List (K × X)). insert_entry same_key gs k old) h ∙ put_back k new old es (sym f ∙ g)
+
 -- ---- entries line by line
 
 module _ {V : Type 0} where

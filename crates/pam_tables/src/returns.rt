@@ -119,10 +119,14 @@ impl<'a> ReturnTable<'a> {
             Ok(None) => return Ok(()),
             Err(fault) => return Err(fault),
         };
-        if self.codes.contains_key(line.name) {
+        let Ok(replaced) = self.codes.insert(line.name, line.codes) else {
+            return Err(TableFault::Memory);
+        };
+        let Some(first) = replaced else {
             return Ok(());
-        }
-        let Ok(_) = self.codes.insert(line.name, line.codes) else {
+        };
+        // Names are rarely repeated, so that one search is enough for most lines.
+        let Ok(_) = self.codes.insert(line.name, first) else {
             return Err(TableFault::Memory);
         };
         Ok(())
