@@ -4,3 +4,4 @@ pub mod FlatTexts
 pub mod LineParts
 pub mod MarkedTexts
 pub mod PageTexts
+pub mod SameSets
