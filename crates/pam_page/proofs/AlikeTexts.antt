@@ -1,6 +1,6 @@
 -- The texts of steps that have every code.
 use Rattle.std.proofs.Common.{◌≡◌, ℕ, ◌+◌, ◌-◌, ◌*◌, ◌<◌, ◌≤◌, zero, suc, List, [], ◌∷◌, ◌++◌, length, take, drop, get_or, refl, sym, ap, ◌∙◌, arith, inl, inr}
-use Rattle.std.proofs.Common.{None, Some, append_assoc, codes, decimal, length-append, map, slice_get}
+use Rattle.std.proofs.Common.{None, Some, append-nil, append_assoc, codes, decimal, length-append, map, slice_get}
 use Rattle.std.specs.Fmt.{digits}
 use Rattle.std.specs.List.{concat, flat_map}
 use Rattle.std.proofs.Math.ListN.{get_or-append}
@@ -94,6 +94,23 @@ steps-between all before last start end text shown is same order within is_start
     omega (arith, is_start, is_end, ap length (alike-parts step_text before last order), length-append front part) in
     ap (λ (n : ℕ). take (end - start) (drop n shown)) is_start ∙ ap (λ (l : List ℕ). take (end - start) (drop (length front) l)) parts
     ∙ ap (take (end - start)) (drop-append_seam front (part ++ rest)) ∙ take_at part rest (end - start) long
+
+-- ` NUMBER=` alone
+
+pub number-shown : (number : ℕ) (text : List ℕ) → 1 ≤ number → text ≡ flat_map step_text (alike_from (number - 1 + 1) (number - (number - 1))) →
+    (take (length text - 3) text ≡ concat (codes " " ∷ decimal number ∷ codes "=" ∷ [])) × (3 ≤ length text)
+unfolding alike_from
+number-shown number text some is =
+    let numbered = concat (codes " " ∷ decimal number ∷ codes "=" ∷ []) in
+    let at : number - 1 + 1 ≡ number = omega (arith, some) in
+    let one : number - (number - 1) ≡ 1 = omega (arith, some) in
+    let whole : text ≡ numbered ++ codes "any" =
+    is ∙ ap (λ (n : ℕ). flat_map step_text (alike_from n (number - (number - 1)))) at ∙ ap (λ (n : ℕ). flat_map step_text (alike_from number n)) one
+    ∙ append-nil (step_text (record { module_number = number; class = all_codes })) ∙ step-alike number in
+    let count : length text ≡ length numbered + 3 = ap length whole ∙ length-append numbered (codes "any") in (
+      ap (take (length text - 3)) whole ∙ take_at numbered (codes "any") (length text - 3) (omega (arith, count)),
+      omega (arith, count),
+    )
 
 -- ONE MORE MODULE
 

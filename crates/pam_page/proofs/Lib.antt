@@ -4,3 +4,4 @@ pub mod FlatTexts
 pub mod KeptTexts
 pub mod LineParts
 pub mod PageTexts
+pub mod SameSets

@@ -1,7 +1,7 @@
 //! The texts of steps at which the answers no longer matter.
 
-ghost use Rattle.std.specs.List.{flat_map};
-ghost use Rattle.std.specs.Prelude.{◌≡◌, ◌+◌, ◌-◌, ◌≤◌, ◌∷◌, ◌++◌, [], if◌then◌else◌, length, map, IfOk, IfSome, IsTrue};
+ghost use Rattle.std.specs.List.{concat, flat_map};
+ghost use Rattle.std.specs.Prelude.{◌≡◌, ◌+◌, ◌-◌, ◌≤◌, ◌∷◌, ◌++◌, [], if◌then◌else◌, length, codes, decimal, map, IfOk, IfSome, IsTrue};
 ghost use Rattle.pam_page.specs.AlikeTexts.{steps_to};
 ghost use Rattle.pam_page.specs.KeptSteps.{code_text};
 ghost use Rattle.pam_page.specs.Page.{step_text};
@@ -9,7 +9,7 @@ ghost use Rattle.pam_paths.specs.Steps.{step_seen};
 ghost use Rattle.pam_paths.specs.Tail.{AreAlike, alike_from};
 
 use crate::buffer::Buffer;
-use crate::texts::append_number;
+use itoa::Buffer as Digits;
 use pam_dispatch::MAX_MODULES;
 use pam_paths::PathStep;
 use std::alloc::{AllocError, Global};
@@ -17,6 +17,9 @@ use std::marker::Model;
 
 /// `.0`, the text of success, which is the least code of a class of all codes.
 const CODE: &[u8] = b".0";
+
+/// The text of a class of all codes.
+const ANY: &[u8] = b"any";
 
 /// The greatest length of ` NUMBER=any`, in bytes.
 const STEP_BYTES: usize = 8;
@@ -63,7 +66,7 @@ impl AlikeTexts {
         let number = self.ends.len() + 1;
         if self.cursor.append(CODE)
             && append_number(&mut self.steps, number)
-            && self.steps.append(b"any")
+            && self.steps.append(ANY)
             && push_end(&mut self.ends, self.steps.len())
         {
             return true;
@@ -116,6 +119,16 @@ impl AlikeTexts {
         &self.steps.as_slice()[start..end]
     }
 
+    /// ` NUMBER=` for a module.
+    pub(crate) fn number_text(&self, number: usize) -> &[u8]
+        requires first { 1 ≤ number }
+        requires within { number ≤ self.now }
+        ensures { result.now ≡ concat (codes " " ∷ decimal number ∷ codes "=" ∷ []) }
+    {
+        let text = self.steps(number - 1, number);
+        &text[..text.len() - ANY.len()]
+    }
+
     /// Appends texts until there are those of the modules of `tail`, the last steps of a path. Returns the number of modules
     /// before them and that of the last one; `None` if there is no room for all texts.
     pub(crate) fn reach_tail(&mut self, tail: &[PathStep]) -> Option<(usize, usize)>
@@ -138,6 +151,17 @@ impl AlikeTexts {
         }
         Some((before, last))
     }
+}
+
+/// Appends ` NUMBER=`. Returns whether there was room.
+fn append_number(steps: &mut Buffer, number: usize) -> bool
+    ensures { IsTrue result → steps.new.bytes.items ≡ steps.old.bytes.items ++ concat (codes " " ∷ decimal number ∷ codes "=" ∷ []) }
+{
+    let mut digits = Digits::new();
+    if !steps.append(b" ") || !steps.append(digits.format(number).as_bytes()) {
+        return false;
+    }
+    steps.append(b"=")
 }
 
 /// Appends an end if there is room. Returns whether there was.

@@ -4,6 +4,7 @@
 
 mod alike;
 mod buffer;
+mod classes;
 pub mod laws;
 mod line;
 mod lines;

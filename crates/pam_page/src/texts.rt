@@ -11,9 +11,10 @@ ghost use Rattle.pam_paths.specs.Tail.{AreAlike};
 
 use crate::alike::AlikeTexts;
 use crate::buffer::Buffer;
+use crate::classes::ClassTexts;
 use crate::lines::append_line;
 use itoa::Buffer as Digits;
-use pam_codes::{CODES, CodeSet, Out};
+use pam_codes::{CODES, CodeSet};
 use pam_dispatch::MAX_MODULES;
 use pam_paths::{Path, PathStep};
 use std::alloc::{AllocError, Global};
@@ -50,6 +51,8 @@ pub struct LineTexts {
     steps: Buffer,
     /// The texts of the steps after those, at which the answers no longer matter.
     alike: AlikeTexts,
+    /// The texts of the classes of more than one code that were appended last.
+    classes: ClassTexts,
     /// The buffer for lines that are not written yet.
     lines: Buffer,
 }
@@ -80,20 +83,8 @@ fn append_code(cursor: &mut Buffer, step: &PathStep) -> bool
     cursor.append(b".") && cursor.append(digits.format(number).as_bytes())
 }
 
-/// Appends the text of a class by a writer. Returns whether there was room.
-#[inline(never)]
-fn append_set(steps: &mut Buffer, class: CodeSet) -> bool
-    ensures { IsTrue result → steps.new.bytes.items ≡ steps.old.bytes.items ++ set_text class }
-{
-    let empty = Buffer::empty(steps.allocator());
-    let mut out = Out::new(mem::replace(steps, empty));
-    let fits = class.write_text(&mut out).is_ok();
-    *steps = out.into_inner();
-    fits
-}
-
-/// Appends the text of a class. Returns whether there was room. The commonest classes need no writer.
-fn append_class(steps: &mut Buffer, class: CodeSet) -> bool
+/// Appends the text of a class. Returns whether there was room.
+fn append_class(steps: &mut Buffer, classes: &mut ClassTexts, class: CodeSet) -> bool
     ensures { IsTrue result → steps.new.bytes.items ≡ steps.old.bytes.items ++ set_text class }
 {
     match class.len() {
@@ -102,26 +93,27 @@ fn append_class(steps: &mut Buffer, class: CodeSet) -> bool
             None => unreachable!(),
         },
         CODES => steps.append(b"any"),
-        _ => append_set(steps, class),
+        _ => classes.append_to(steps, class),
     }
-}
-
-/// Appends ` NUMBER=`. Returns whether there was room.
-pub(crate) fn append_number(steps: &mut Buffer, number: usize) -> bool
-    ensures { IsTrue result → steps.new.bytes.items ≡ steps.old.bytes.items ++ concat (codes " " ∷ decimal number ∷ codes "=" ∷ []) }
-{
-    let mut digits = Digits::new();
-    if !steps.append(b" ") || !steps.append(digits.format(number).as_bytes()) {
-        return false;
-    }
-    steps.append(b"=")
 }
 
 /// Appends the text of a step. Returns whether there was room.
-fn append_step(steps: &mut Buffer, step: &PathStep) -> bool
+fn append_step(
+    steps: &mut Buffer,
+    alike: &mut AlikeTexts,
+    classes: &mut ClassTexts,
+    step: &PathStep,
+) -> bool
     ensures { IsTrue result → steps.new.bytes.items ≡ steps.old.bytes.items ++ step_text (step_seen step.now) }
 {
-    append_number(steps, step.number()) && append_class(steps, step.class())
+    let number = step.number();
+    if number == 0 {
+        return false;
+    }
+    if !alike.reach(number) {
+        return false;
+    }
+    steps.append(alike.number_text(number)) && append_class(steps, classes, step.class())
 }
 
 /// Appends a step if there is room. Returns whether there was.
@@ -142,6 +134,7 @@ impl LineTexts {
             cursor: Buffer::with_capacity(alloc, CODE_BYTES * MAX_MODULES)?,
             steps: Buffer::with_capacity(alloc, STEP_BYTES * MAX_MODULES)?,
             alike: AlikeTexts::new(alloc)?,
+            classes: ClassTexts::new(alloc)?,
             lines: Buffer::with_capacity(alloc, LINES_BYTES)?,
         })
     }
@@ -164,7 +157,9 @@ impl LineTexts {
     fn append(&mut self, step: &PathStep) -> bool
         ensures { self.new ≡ (if result then self.old ++ step_seen step.now ∷ [] else []) }
     {
-        if append_code(&mut self.cursor, step) && append_step(&mut self.steps, step) {
+        if append_code(&mut self.cursor, step)
+            && append_step(&mut self.steps, &mut self.alike, &mut self.classes, step)
+        {
             let kept = KeptStep {
                 step: *step,
                 cursor_end: self.cursor.len(),

@@ -1,0 +1,134 @@
+//! The texts of the classes that were appended last.
+
+ghost use Rattle.std.specs.Prelude.{◌≡◌, ◌++◌, ◌&&◌, [], not, IsTrue};
+ghost use Rattle.pam_codes.specs.Set.{IsCodeSet, codes_where, is_in};
+ghost use Rattle.pam_codes.specs.SetText.{set_text};
+
+use crate::buffer::Buffer;
+use pam_codes::{CodeSet, Out};
+use std::alloc::{AllocError, Global};
+use std::marker::Model;
+use std::mem;
+
+/// The greatest length of the text of a class, in bytes: `but:` and 15 names.
+const CLASS_BYTES: usize = 237;
+
+/// A class and its text.
+#[derive(Drop)]
+struct ClassText {
+    class: CodeSet,
+    text: Buffer,
+}
+
+/// Seen as the class.
+impl Model for ClassText {
+    ghost use Rattle.std.specs.Prelude.{◌≡◌, ℕ, List};
+    ghost use Rattle.pam_codes.specs.SetText.{set_text};
+
+    ghost Value = { List ℕ };
+
+    ghost view = { λ t. t.class };
+
+    ghost invariant = { λ t. t.text.bytes.items ≡ set_text t.class };
+}
+
+/// Appends the text of a class by a writer. Returns whether there was room.
+#[inline(never)]
+fn append_set(text: &mut Buffer, class: CodeSet) -> bool
+    ensures { IsTrue result → text.new.bytes.items ≡ text.old.bytes.items ++ set_text class }
+{
+    let empty = Buffer::empty(text.allocator());
+    let mut out = Out::new(mem::replace(text, empty));
+    let fits = class.write_text(&mut out).is_ok();
+    *text = out.into_inner();
+    fits
+}
+
+/// Whether each code of `class` is in `other`.
+fn has_no_more(class: CodeSet, other: CodeSet) -> bool
+    ensures { IsTrue result → codes_where (λ c. is_in c class && not (is_in c other)) ≡ [] }
+{
+    class.without(other).is_empty()
+}
+
+/// Whether the sets have the same codes.
+fn is_same(class: CodeSet, other: CodeSet) -> bool
+    requires class { IsCodeSet class }
+    requires other { IsCodeSet other }
+    ensures { IsTrue result → class ≡ other }
+{
+    has_no_more(class, other) && has_no_more(other, class)
+}
+
+impl ClassText {
+    /// The text of the empty class.
+    fn new(alloc: Global) -> Result<ClassText, AllocError> {
+        Ok(ClassText {
+            class: CodeSet::empty(),
+            text: Buffer::with_capacity(alloc, CLASS_BYTES)?,
+        })
+    }
+
+    fn is_of(&self, class: CodeSet) -> bool
+        ensures { IsTrue result → self.now ≡ class }
+    {
+        self.class.len() == class.len() && is_same(self.class, class)
+    }
+
+    fn text(&self) -> &[u8]
+        ensures { result.now ≡ set_text self.now }
+    {
+        self.text.as_slice()
+    }
+
+    /// Replaces the text by that of `class`. Returns whether there was room.
+    fn replace(&mut self, class: CodeSet) -> bool
+        ensures { IsTrue result → self.new ≡ class }
+    {
+        self.text.truncate(0);
+        if append_set(&mut self.text, class) {
+            self.class = class;
+            return true;
+        }
+        self.text.truncate(0);
+        self.class = CodeSet::empty();
+        false
+    }
+}
+
+/// The texts of two classes. Modules with one control often have no others of more than one code.
+#[derive(Drop)]
+pub(crate) struct ClassTexts {
+    last: ClassText,
+    earlier: ClassText,
+}
+
+impl ClassTexts {
+    pub(crate) fn new(alloc: Global) -> Result<ClassTexts, AllocError> {
+        Ok(ClassTexts {
+            last: ClassText::new(alloc)?,
+            earlier: ClassText::new(alloc)?,
+        })
+    }
+
+    /// Makes `class` the last one. Returns whether there was room for its text.
+    fn find(&mut self, class: CodeSet) -> bool
+        ensures { IsTrue result → self.new.last ≡ class }
+    {
+        if self.last.is_of(class) {
+            return true;
+        }
+        mem::swap(&mut self.last, &mut self.earlier);
+        self.last.is_of(class) || self.last.replace(class)
+    }
+
+    /// Appends the text of `class`. Returns whether there was room.
+    pub(crate) fn append_to(&mut self, steps: &mut Buffer, class: CodeSet) -> bool
+        ensures { IsTrue result → steps.new.bytes.items ≡ steps.old.bytes.items ++ set_text class }
+    {
+        if !self.find(class) {
+            return false;
+        }
+        steps.append(self.last.text())
+    }
+}
