@@ -117,6 +117,7 @@ struct Answered {
 }
 
 /// Answers the module at `place` with `code`.
+#[inline(always)]
 fn answer_at(entries: &[Entry], place: &Place, code: Code) -> Answered
     requires entries { All IsBounded entries.now }
     requires place { IsPlaceOf entries.now place.now }
