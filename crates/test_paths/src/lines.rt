@@ -1,26 +1,18 @@
 //! A path as a line of text.
 
-ghost use Rattle.std.specs.Prelude.{◌<◌, ◌-◌, ◌^◌};
-
 use anyhow::Error;
-use pam_codes::{Device, Out, Piece};
+use pam_codes::Out;
 use pam_paths::{Cursor, Path, PathStep};
 use std::alloc::Global;
-use std::io::Write;
-
-fn put_step<W: Write>(step: &PathStep, out: &mut Out<W>) -> Result<(), Device> {
-    out.put_line(&[
-        Piece::Bytes(b" "),
-        Piece::Number(step.number() as u64),
-        Piece::Bytes(b"="),
-    ])?;
-    step.class().write_text(out)
-}
 
 /// The text of a step, with a leading blank.
 fn step_text(alloc: Global, step: &PathStep) -> Result<Vec<u8>, Error> {
     let mut text = Vec::new(alloc);
-    put_step(step, &mut Out::new(&mut text))?;
+    let mut out = Out::new(&mut text);
+    out.put(b" ")?;
+    out.put_number(step.number() as u64)?;
+    out.put(b"=")?;
+    step.class().write_text(&mut out)?;
     Ok(text)
 }
 
