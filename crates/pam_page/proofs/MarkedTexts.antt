@@ -211,6 +211,12 @@ whole_text text marks kept steps tail texts is seen first last own =
     ∙ sym (flat_map-append text (take (length kept) steps) (drop (length kept) steps))
     ∙ ap (flat_map text) (take-append-drop (length kept) steps)
 
+-- as many steps are kept as the path has before its tail
+pub own_count : (marks : List Mark) (kept steps : List StepValue) (shown tail : List PathStep) (count : ℕ) → map marked marks ≡ kept
+    → map step_seen shown ≡ steps → count ≡ length marks → count ≡ length shown - length tail → length kept ≡ length steps - length tail
+own_count marks kept steps shown tail count seen is is_count own =
+    omega (arith, ap length seen, length-map marks marked, is_count, own, ap length is, length-map shown step_seen)
+
 -- ---- the line
 
 dotted_rest : (steps : List StepValue) → flat_map code_text steps ≡ flat_map (λ (code : ℕ). codes "." ++ decimal code) (key_of steps)
