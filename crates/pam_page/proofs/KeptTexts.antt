@@ -211,6 +211,12 @@ whole_text text kept viewed steps tail texts is seen first last own =
     ∙ sym (flat_map-append text (take (length viewed) steps) (drop (length viewed) steps))
     ∙ ap (flat_map text) (take-append-drop (length viewed) steps)
 
+-- as many steps are kept as the path has before its tail
+pub own_count : (kept : List KeptStep) (viewed steps : List StepValue) (shown tail : List PathStep) (count : ℕ) → map step_of kept ≡ viewed
+    → map step_seen shown ≡ steps → count ≡ length kept → count ≡ length shown - length tail → length viewed ≡ length steps - length tail
+own_count kept viewed steps shown tail count seen is is_count own =
+    omega (arith, ap length seen, length-map kept step_of, is_count, own, ap length is, length-map shown step_seen)
+
 -- ---- the line
 
 dotted_rest : (steps : List StepValue) → flat_map code_text steps ≡ flat_map (λ (code : ℕ). codes "." ++ decimal code) (key_of steps)

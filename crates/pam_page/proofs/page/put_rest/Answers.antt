@@ -20,7 +20,9 @@ pub returns-in-None : goal.returns-in-None
 returns-in-None g c =
     let all = coming c.args.listing.now in
     let left = coming c.follow.new.self in
-    writes-is _ _ _ _ _ _ (writes-then _ _ _ (holds-none _ _ _ _ c.requires.empty (ap path_line c.path-path.ensures) c.in_ok-add_line.ensures.added c.in_ok-write_lines.ensures.written) c.put_end-in-None.ensures)
+    writes-is _ _ _ _ _ _ (writes-then _ _ _
+    (holds-none _ _ _ _ c.requires.empty (ap path_line c.path-path.ensures) c.in_ok-add_line.ensures.added
+    c.in_ok-write_lines.ensures.written) c.put_end-in-None.ensures)
     (rest_end-is (side c.args.listing.now) _ c.args.count _ (followed c.follow.new.self) all left
     (c.side-in-None.ensures ∙ c.in-None.ensures.side ∙ c.in-Some.ensures.side) c.from-in-None.ensures c.in-Some.ensures.path c.in-None.ensures.path)
 
@@ -29,7 +31,9 @@ returns-in-Some-follow g c =
     let all = coming c.args.listing.now in
     let left = coming c.follow.new.self in
     let more = coming c.follow-2.new.self in
-    writes-is _ _ _ _ _ _ (writes-then _ _ _ (holds-none _ _ _ _ c.requires.empty (ap path_line c.path-path.ensures) c.in_ok-add_line.ensures.added c.in_ok-write_lines.ensures.written) c.put_more.ensures)
+    writes-is _ _ _ _ _ _ (writes-then _ _ _
+    (holds-none _ _ _ _ c.requires.empty (ap path_line c.path-path.ensures) c.in_ok-add_line.ensures.added
+    c.in_ok-write_lines.ensures.written) c.put_more.ensures)
     (rest_more-is (side c.args.listing.now) _ c.args.count _ c.cursor-cursor.result (followed c.follow.new.self) (followed c.follow-2.new.self) all left more
     (c.side-in-Some-follow.ensures ∙ c.in-Some-follow.ensures.side ∙ c.in-Some.ensures.side) c.from-in-Some-follow.ensures
     (c.cursor-cursor.ensures.key ∙ ap key c.path-path.ensures)

@@ -1,12 +1,10 @@
 use Rattle.std.proofs.Common.{◌≡◌, ◌+◌, ◌-◌, ◌++◌, ◌∙◌, List, ap, arith, length, sym, ℕ}
 use Rattle.std.specs.List.{flat_map}
-use Rattle.std.proofs.lemmas.List.{length-map}
-use Rattle.pam_paths.specs.Steps.{step_seen}
 use Rattle.pam_paths.specs.Tail.{alike_from}
-use Rattle.pam_page.specs.KeptSteps.{code_text, step_of}
+use Rattle.pam_page.specs.KeptSteps.{code_text}
 use Rattle.pam_page.specs.Page.{step_text}
 use Rattle.pam_page.proofs.AlikeTexts.{codes-same}
-use Rattle.pam_page.proofs.KeptTexts.{whole_text}
+use Rattle.pam_page.proofs.KeptTexts.{own_count, whole_text}
 use Rattle.pam_page.proofs.texts.LineTexts.append_line.Goals as goal
 
 pub append_line-requires-clause-cursor : goal.append_line-requires-clause-cursor
@@ -16,16 +14,8 @@ append_line-requires-clause-cursor c =
     ap (λ (l : List ℕ). l ++ c.codes.result.now) c.as_slice.ensures ∙ ap (λ (l : List ℕ). c.self.inside.cursor.bytes.items ++ l) shown
     ∙ whole_text code_text c.self.inside.kept.items c.args.self.now c.args.path.now.steps c.tail-tail.result.now c.self.inside.cursor.bytes.items
     c.self.invariant.cursor c.self.view_is c.requires.kept c.tail-tail.ensures.last
-    (omega (
-      arith,
-      ap length c.self.view_is,
-      length-map c.self.inside.kept.items step_of,
-      c.len.ensures,
-      c.self.inside.kept.ok,
-      c.if-len-steps.false,
-      ap length c.steps.ensures,
-      length-map c.steps.result.now step_seen,
-    ))
+    (own_count c.self.inside.kept.items c.args.self.now c.args.path.now.steps c.steps.result.now c.tail-tail.result.now c.len.result c.self.view_is
+    c.steps.ensures (omega (arith, c.len.ensures, c.self.inside.kept.ok)) (omega (arith, c.if-len-steps.false)))
 
 pub append_line-requires-clause-steps : goal.append_line-requires-clause-steps
 append_line-requires-clause-steps c =
@@ -36,13 +26,5 @@ append_line-requires-clause-steps c =
     ap (λ (l : List ℕ). l ++ c.steps-2.result.now) c.as_slice-2.ensures ∙ ap (λ (l : List ℕ). c.self.inside.steps.bytes.items ++ l) shown
     ∙ whole_text step_text c.self.inside.kept.items c.args.self.now c.args.path.now.steps c.tail-tail.result.now c.self.inside.steps.bytes.items
     c.self.invariant.steps c.self.view_is c.requires.kept c.tail-tail.ensures.last
-    (omega (
-      arith,
-      ap length c.self.view_is,
-      length-map c.self.inside.kept.items step_of,
-      c.len.ensures,
-      c.self.inside.kept.ok,
-      c.if-len-steps.false,
-      ap length c.steps.ensures,
-      length-map c.steps.result.now step_seen,
-    ))
+    (own_count c.self.inside.kept.items c.args.self.now c.args.path.now.steps c.steps.result.now c.tail-tail.result.now c.len.result c.self.view_is
+    c.steps.ensures (omega (arith, c.len.ensures, c.self.inside.kept.ok)) (omega (arith, c.if-len-steps.false)))
