@@ -1,6 +1,6 @@
 -- The index of the first unescaped closing bracket, bracket by bracket.
-use Rattle.std.proofs.Common.{◌≡◌, ◌≢◌, ◌<◌, ◌≤◌, ◌+◌, ◌-◌, ◌&&◌, ℕ, zero, suc, Bool, true, false, not, List, ◌∷◌, length, get_or, drop, Option, Some, None, cond, eqb, ltb}
-use Rattle.std.proofs.Common.{ap, ◌∙◌, sym, subst, refl, arith, add-one, eq-eqb}
+use Rattle.std.proofs.Common.{◌≡◌, ◌≢◌, ◌<◌, ◌≤◌, ◌+◌, ◌-◌, ◌&&◌, ℕ, zero, suc, Bool, true, false, not, List, ◌∷◌, length, get_or, drop}
+use Rattle.std.proofs.Common.{Option, Some, None, cond, eqb, ltb, ap, ◌∙◌, sym, subst, refl, arith, add-one, eq-eqb}
 use Rattle.std.specs.Option.{option_map}
 use Rattle.std.proofs.lemmas.Bool.{eqb-true, false≢true, lt-ltb}
 use Rattle.std.proofs.lemmas.List.{drop_all}
@@ -57,7 +57,8 @@ after_others text (suc i) h none =
     let next = closing_next text i (escaped_at text i) (omega arith) before (λ e. absurd (none i (omega arith) e)) in
     let same : suc i - 1 ≡ i = omega arith in
     let positive : ltb 0 (suc i) ≡ true = lt-ltb _ _ (omega arith) in
-    rw (same, positive) (subst (λ (j : ℕ). closing_at false text ≡ option_map (λ n. j + n) (closing_at (eqb (get_or text i 0) 92) (drop j text))) (add-one i) next)
+    rw (same, positive)
+    (subst (λ (j : ℕ). closing_at false text ≡ option_map (λ n. j + n) (closing_at (eqb (get_or text i 0) 92) (drop j text))) (add-one i) next)
 
 module _ (text : List ℕ) where
   others : (i : ℕ) → IsFirstByte (is_byte 93) text (Some i) → (k : ℕ) → k < i → get_or text k 0 ≢ 93

@@ -1,6 +1,6 @@
 -- Days that are covered twice, and pairs of letters.
-use Rattle.std.proofs.Common.{◌≡◌, ◌∙◌, ◌+◌, ◌<◌, ◌≤◌, ◌&&◌, ℕ, get_or, Bool, true, false, not, List, [], ◌∷◌, length, take, drop, map, cond, Option, Some, None, refl, sym}
-use Rattle.std.proofs.Common.{ap, arith, count_by}
+use Rattle.std.proofs.Common.{◌≡◌, ◌∙◌, ◌+◌, ◌<◌, ◌≤◌, ◌&&◌, ℕ, get_or, Bool, true, false, not, List, [], ◌∷◌, length, take, drop, map, cond}
+use Rattle.std.proofs.Common.{Option, Some, None, refl, sym, ap, arith, count_by}
 use Rattle.std.proofs.lemmas.List.Sums.{sum_by-cons}
 use Rattle.std.specs.Char.{eq_ignore_ascii_case}
 use Rattle.std.specs.Option.{option_map}

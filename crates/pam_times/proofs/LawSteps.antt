@@ -1,7 +1,8 @@
 -- A logic list and its signs.
 use Rattle.std.proofs.Common.{◌≡◌, ◌∙◌, ℕ, Bool, true, false, List, [], ◌∷◌, Option, Some, None, Ok, refl, sym, ap, subst}
 use Rattle.pam_times.specs.Laws.{written_item, written_after, IsWritten}
-use Rattle.pam_times.specs.Logic.{Expected, ExpectItem, ExpectToken, ExpectJoint, ItemOf, SignText, Not, Join, Token, signs_of, onto_items, items_from, items_or_fault, items_of}
+use Rattle.pam_times.specs.Logic.{Expected, ExpectItem, ExpectToken, ExpectJoint, ItemOf, SignText, Not, Join, Token}
+use Rattle.pam_times.specs.Logic.{signs_of, onto_items, items_from, items_or_fault, items_of}
 use Rattle.pam_times.specs.declared.logic.Joint.{Joint}
 use Rattle.pam_times.specs.declared.logic.Joint.TheVariants.{First}
 
