@@ -2,8 +2,8 @@
 
 ghost use Rattle.std.specs.Prelude.{◌<◌, ◌-◌, ◌^◌};
 
-use crate::files::put;
-use crate::halting::{FULL, Halting, INTERRUPTED, NOTHING};
+use crate::tests::files::put;
+use crate::tests::halting::{FULL, Halting, INTERRUPTED, NOTHING};
 use pam_codes::Out;
 use pam_conf::{Files, Form};
 use pam_report::{Fault, Inputs, answer, fault_status};

@@ -1,6 +1,6 @@
 //! Faults that no command returns for a file of the tree.
 
-use crate::files::put;
+use crate::tests::files::put;
 use pam_conf::{ConfError, FaultKind, Files, Form};
 use pam_report::{Fault, fault_status, fault_text};
 use pam_tables::{Table, TableError, TableFault};

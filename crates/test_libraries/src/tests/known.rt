@@ -1,6 +1,6 @@
 //! The codes that modules may return, from tables and a returns file.
 
-use crate::files::put;
+use crate::tests::files::put;
 use pam_codes::{Code, CodeSet};
 use pam_conf::{Files, Form, Kind, Stack, resolve};
 use pam_known::{KnownError, Tables, TimedTable, known_answers};

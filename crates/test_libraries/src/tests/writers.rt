@@ -2,7 +2,7 @@
 
 ghost use Rattle.std.specs.Prelude.{◌<◌, ◌-◌, ◌^◌};
 
-use crate::halting::{End, FULL, Halting, INTERRUPTED, NOTHING};
+use crate::tests::halting::{End, FULL, Halting, INTERRUPTED, NOTHING};
 use pam_codes::{Device, Out, Piece};
 use std::io::Write;
 use std::process::Abort;

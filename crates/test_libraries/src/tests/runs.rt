@@ -1,6 +1,6 @@
 //! The number of steps of a run, and where no answer changes it any more.
 
-use crate::files::put;
+use crate::tests::files::put;
 use pam_codes::{CODES, Code};
 use pam_conf::{Files, Form, Kind, Stack, resolve};
 use pam_dispatch::{Program, Work};

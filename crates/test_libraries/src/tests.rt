@@ -1,0 +1,15 @@
+//! The tests, by what they test.
+
+mod answers;
+mod faults;
+mod files;
+mod halting;
+mod known;
+mod returns;
+mod rules;
+mod runs;
+mod sets;
+mod tables;
+mod texts;
+mod words;
+mod writers;
