@@ -124,19 +124,28 @@ fn asked(alloc: Global, words: &'static [&'static str]) -> Result<Request<'stati
     }
 }
 
-/// Returns the result of a command: its exit status or its fault.
+/// Returns the result of a request: its exit status or its fault.
+fn result_of(
+    alloc: Global,
+    request: &Request<'_>,
+    inputs: &Inputs,
+    halting: &mut Halting,
+) -> Result<u8, Fault> {
+    match answer(alloc, request, inputs, &mut Out::new(halting)) {
+        Ok(status) => Ok(status.number()),
+        Err(fault) => Err(fault),
+    }
+}
+
+/// Like `result_of`, for a command.
 fn answered(
     alloc: Global,
     command: &Command,
     halting: &mut Halting,
 ) -> Result<Result<u8, Fault>, Fail> {
-    let inputs = inputs(alloc, command)?;
     let request = asked(alloc, command.words)?;
-    let mut out = Out::new(halting);
-    match answer(alloc, &request, &inputs, &mut out) {
-        Ok(status) => Ok(Ok(status.number())),
-        Err(fault) => Ok(Err(fault)),
-    }
+    let inputs = inputs(alloc, command)?;
+    Ok(result_of(alloc, &request, &inputs, halting))
 }
 
 /// Asserts that the whole text is written, then flushed once, whether or not the flush succeeds.

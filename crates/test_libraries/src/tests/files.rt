@@ -32,10 +32,13 @@ fn is_named(rt: &impl Abort, files: &Files, position: usize, name: Option<&[u8]>
 }
 
 #[test]
+fn new_files_have_their_form_and_no_names(rt: HostRuntime) {
+    let files = Files::new(rt.alloc(), Form::Dir);
+    assert_eq!(rt; (files.form(), files.name(0)), (Form::Dir, None));
+}
+
+#[test]
 fn a_name_that_is_there_keeps_its_position(rt: HostRuntime) -> Result<(), Fail> {
-    let none = Files::new(rt.alloc(), Form::Dir);
-    assert_eq!(rt; none.form(), Form::Dir);
-    is_named(&rt, &none, 0, None);
     let files = two_files(rt.alloc())?;
     is_named(&rt, &files, 0, Some(b"login"));
     is_named(&rt, &files, 1, Some(b"other"));

@@ -24,6 +24,23 @@ static ROWS: [(&[u8], &[(u32, &[u8])]); 9] = [
     (b"# a\n\n#\nb\n", &[(1, b""), (2, b""), (3, b""), (4, b"b")]),
 ];
 
+/// Asserts that this is the next line of a file.
+fn expect_line(
+    rt: &impl Abort,
+    file: &[u8],
+    text: &mut Text<'_>,
+    joined: &mut Vec<u8>,
+    wanted: Option<(u32, &[u8])>,
+) -> Result<(), Fail> {
+    let line = text.next_line(joined)?;
+    assert_eq!(rt;
+        line.map(|line| (line.number, line.bytes)),
+        wanted,
+        "{file:?}"
+    );
+    Ok(())
+}
+
 /// Asserts that a file has these lines.
 fn expect_lines(
     rt: &impl Abort,
@@ -33,16 +50,10 @@ fn expect_lines(
 ) -> Result<(), Fail> {
     let mut text = Text::of(Source::of(file)?);
     let mut joined = Vec::new(alloc);
-    for (number, bytes) in lines {
-        let line = text.next_line(&mut joined)?;
-        assert_eq!(rt;
-            line.map(|l| (l.number, l.bytes)),
-            Some((*number, *bytes)),
-            "{file:?}"
-        );
+    for line in lines {
+        expect_line(rt, file, &mut text, &mut joined, Some(*line))?;
     }
-    assert!(rt; text.next_line(&mut joined)?.is_none(), "{file:?}");
-    Ok(())
+    expect_line(rt, file, &mut text, &mut joined, None)
 }
 
 #[test]

@@ -4,6 +4,7 @@ ghost use Rattle.std.specs.Prelude.{◌<◌, ◌-◌, ◌^◌};
 
 use crate::tests::halting::{End, FULL, Halting, INTERRUPTED, NOTHING};
 use pam_codes::{Device, Out, Piece};
+use std::io;
 use std::io::Write;
 use std::process::Abort;
 use std::test::Fail;
@@ -55,9 +56,10 @@ fn ended(
     room: usize,
     is_ok: bool,
 ) {
-    assert_eq!(rt; answer.is_ok(), is_ok);
-    assert_eq!(rt; out.taken(), room as u64);
-    assert_eq!(rt; out.failures(), if is_ok { 0 } else { 1 });
+    assert_eq!(rt;
+        (answer.is_ok(), out.taken(), out.failures()),
+        (is_ok, room as u64, if is_ok { 0 } else { 1 })
+    );
 }
 
 fn has_taken(rt: &impl Abort, writer: &Halting, bytes: &[u8]) {
@@ -86,27 +88,34 @@ fn writers_that_halt_in_pieces(rt: HostRuntime) {
     }
 }
 
+fn in_two_calls<W: Write>(out: &mut Out<W>) -> io::Result<(usize, usize)> {
+    let first = out.write(LINES)?;
+    let second = out.write(b"")?;
+    Ok((first, second))
+}
+
 #[test]
 fn one_inner_call_for_each_write(rt: HostRuntime) -> Result<(), Fail> {
     let mut writer = Halting::new(rt.alloc(), 10, 53, NOTHING, true);
     let mut out = Out::new(&mut writer);
-    assert_eq!(rt; out.write(LINES)?, 10);
-    assert_eq!(rt; out.write(b"")?, 0);
-    assert_eq!(rt; out.taken(), 10);
-    assert_eq!(rt; out.failures(), 0);
+    let lengths = in_two_calls(&mut out)?;
+    assert_eq!(rt; (lengths, out.taken(), out.failures()), ((10, 0), 10, 0));
     assert_eq!(rt; writer.calls, 2);
     Ok(())
 }
 
+fn in_many_calls<W: Write>(out: &mut Out<W>) -> io::Result<()> {
+    out.write_all(&LINES[..40])?;
+    write!(out, "{}{}", "end 1", " paths\n")
+}
+
 #[test]
-fn text_in_many_calls(rt: HostRuntime) -> Result<(), Fail> {
+fn text_in_many_calls(rt: HostRuntime) {
     let mut writer = Halting::new(rt.alloc(), 10, 53, NOTHING, true);
     let mut out = Out::new(&mut writer);
-    out.write_all(&LINES[..40])?;
-    write!(out, "{}{}", "end 1", " paths\n")?;
-    assert_eq!(rt; out.taken(), 52);
+    let answer = in_many_calls(&mut out);
+    assert_eq!(rt; (answer.is_ok(), out.taken()), (true, 52));
     assert_eq!(rt; writer.calls, 6);
-    Ok(())
 }
 
 #[test]
