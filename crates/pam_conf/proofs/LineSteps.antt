@@ -3,8 +3,8 @@ use Rattle.std.proofs.Common.{◌≤◌, zero, suc, arith, length}
 use Rattle.std.proofs.Common.{Some, None, Result, Ok, Err}
 use Rattle.pam_text.specs.declared.text.Line.{Line}
 use Rattle.std.specs.Prelude.{IfOk, MatchOption, OnOk}
-use Rattle.pam_text.specs.Text.{Mark, text_of, lines_of, first_line, first_marks, after_line, text_lines, after_blanks, filled_lines}
-use Rattle.pam_text.proofs.TextLines.{HeadIs, head_is, bytes_of_marks, split_first, first_of}
+use Rattle.pam_text.specs.Text.{FileByte, text_of, lines_of, first_line, first_bytes, after_line, text_lines, after_blanks, filled_lines}
+use Rattle.pam_text.proofs.TextLines.{HeadIs, head_is, bytes_of_first, split_first, first_of}
 use Rattle.std.specs.List.{list_all}
 use Rattle.std.proofs.lemmas.Bool.{and_parts}
 use Rattle.pam_codes.specs.Tokens.{is_blank}
@@ -22,18 +22,18 @@ use Rattle.pam_conf.specs.declared.wanted.Wanted.{Wanted}
 use Rattle.pam_conf.specs.declared.wanted.Wanted.TheVariants.{All, OfKind, OfServices}
 
 -- the rule of a line, by its number and its bytes
-pub rule_at_line : (form : Form) (l : ℕ) (ms : List Mark) → HeadIs l ms → rule_at form (first_marks ms) ≡ at_line l (line_rule_of form l (first_line ms))
+pub rule_at_line : (form : Form) (l : ℕ) (ms : List FileByte) → HeadIs l ms → rule_at form (first_bytes ms) ≡ at_line l (line_rule_of form l (first_line ms))
 unfolding HeadIs line_rule_of words_in rule_of
 rule_at_line form l [] h = refl
-rule_at_line form l (m ∷ ms) h = elim (eqb m.1 10) as (λ (t : Bool). rule_at form (cond t [] (m ∷ first_marks ms))
+rule_at_line form l (m ∷ ms) h = elim (eqb m.1 10) as (λ (t : Bool). rule_at form (cond t [] (m ∷ first_bytes ms))
     ≡ at_line l (line_rule_of form l (cond t [] (m.1 ∷ first_line ms)))) [
       | true ↦ refl
-      | false ↦ rw (h, bytes_of_marks ms) refl
+      | false ↦ rw (h, bytes_of_first ms) refl
     ]
 
 -- the same for the line that a reader returns
 text_line : (form : Form) (l : ℕ) (rest : List ℕ) (n : ℕ) (bytes : List ℕ) → (n ≡ l) × (bytes ≡ first_line (text_of l rest)) →
-    rule_at form (first_marks (text_of l rest)) ≡ at_line n (line_rule_of form n bytes)
+    rule_at form (first_bytes (text_of l rest)) ≡ at_line n (line_rule_of form n bytes)
 text_line form l rest n bytes p = rule_at_line form l (text_of l rest) (head_is l rest)
     ∙ ap (λ (m : ℕ). at_line m (line_rule_of form m (first_line (text_of l rest)))) (sym p.0)
     ∙ ap (λ (bs : List ℕ). at_line n (line_rule_of form n bs)) (sym p.1)
@@ -89,11 +89,11 @@ unfolding line_rule_of words_in rule_of
 empty_line form = refl
 
 -- the rules of a text are those of its first line, and those of the lines after it
-pub rules_step : (form : Form) (ms : List Mark) → rules_in form (lines_of ms)
-    ≡ onto_rules (rule_at form (first_marks ms)) (rules_in form (lines_of (after_line ms)))
+pub rules_step : (form : Form) (ms : List FileByte) → rules_in form (lines_of ms)
+    ≡ onto_rules (rule_at form (first_bytes ms)) (rules_in form (lines_of (after_line ms)))
 unfolding rules_in
 rules_step form ms =
-    let front = rule_at form (first_marks ms) in
+    let front = rule_at form (first_bytes ms) in
     ⊎_elim (λ e. ap (rules_in form) e)
     (λ p. ap (rules_in form) p.0 ∙ onto_none front ∙ ap (λ r. onto_rules front (onto_rules r (Ok []))) (sym (empty_line form))
     ∙ ap (λ ts. onto_rules front (rules_in form (lines_of ts))) (sym p.1))
@@ -116,30 +116,30 @@ filled_first form line lines =
       | false ↦ λ e. ap (λ r. onto_rules (at_line line.0 r) (rules_of_lines form (filled_lines lines))) (sym (rule_after form line.0 line.1))
     ] refl
 
-after_shorter : (m : Mark) (ms : List Mark) → length (after_line (m ∷ ms)) ≤ length ms
+after_shorter : (m : FileByte) (ms : List FileByte) → length (after_line (m ∷ ms)) ≤ length ms
 after_shorter m [] =
-    elim (eqb m.1 10) as (λ (t : Bool). length {A = Mark} (cond t [] []) ≤ 0) [ true ↦ omega arith | false ↦ omega arith ]
+    elim (eqb m.1 10) as (λ (t : Bool). length {A = FileByte} (cond t [] []) ≤ 0) [ true ↦ omega arith | false ↦ omega arith ]
 after_shorter m (k ∷ ms) =
-    elim (eqb m.1 10) as (λ (t : Bool). length {A = Mark} (cond t (k ∷ ms) (after_line (k ∷ ms))) ≤ length {A = Mark} (k ∷ ms)) [
+    elim (eqb m.1 10) as (λ (t : Bool). length {A = FileByte} (cond t (k ∷ ms) (after_line (k ∷ ms))) ≤ length {A = FileByte} (k ∷ ms)) [
       | true ↦ omega arith
       | false ↦ omega (arith, after_shorter k ms)
     ]
 
 -- the rules of a text are those of its filled lines
-filled_up_to : (form : Form) (n : ℕ) (ms : List Mark) → length ms ≤ n → rules_in form (lines_of ms) ≡ rules_of_lines form (filled_lines (text_lines ms))
+filled_up_to : (form : Form) (n : ℕ) (ms : List FileByte) → length ms ≤ n → rules_in form (lines_of ms) ≡ rules_of_lines form (filled_lines (text_lines ms))
 unfolding rules_in rules_of_lines filled_lines text_lines line_rule_of words_in rule_of HeadIs
 filled_up_to form n [] h = refl
 filled_up_to form zero (m ∷ ms) h = absurd (omega arith)
 filled_up_to form (suc n) (m ∷ ms) h =
-    let rest : List Mark = after_line (m ∷ ms) in
-    let front : rule_at form (first_marks (m ∷ ms)) ≡ at_line m.0 (line_rule_of form m.0 (first_line (m ∷ ms))) = rule_at_line form m.0 (m ∷ ms) refl in
+    let rest : List FileByte = after_line (m ∷ ms) in
+    let front : rule_at form (first_bytes (m ∷ ms)) ≡ at_line m.0 (line_rule_of form m.0 (first_line (m ∷ ms))) = rule_at_line form m.0 (m ∷ ms) refl in
     rules_step form (m ∷ ms)
     ∙ ap (λ r. onto_rules r (rules_in form (lines_of rest))) front
     ∙ ap (onto_rules (at_line m.0 (line_rule_of form m.0 (first_line (m ∷ ms))))) (filled_up_to form n rest (omega (arith, after_shorter m ms)))
     ∙ filled_first form (m.0, first_line (m ∷ ms)) (text_lines rest)
     ∙ ap (λ lines. rules_of_lines form (filled_lines lines)) (sym (first_of m ms))
 
-same_filled : (form : Form) (ms ts : List Mark) → filled_lines (text_lines ts) ≡ filled_lines (text_lines ms) →
+same_filled : (form : Form) (ms ts : List FileByte) → filled_lines (text_lines ts) ≡ filled_lines (text_lines ms) →
     rules_in form (lines_of ms) ≡ rules_in form (lines_of ts)
 same_filled form ms ts e =
     filled_up_to form (length ms) ms (omega arith)
@@ -147,20 +147,20 @@ same_filled form ms ts e =
     ∙ sym (filled_up_to form (length ts) ts (omega arith))
 
 -- the rules of a text that begins with this line
-line_first : (form : Form) (l : ℕ) (rest : List ℕ) (ts : List Mark) (n : ℕ) (bytes : List ℕ) → (n ≡ l) × (bytes ≡ first_line (text_of l rest)) →
+line_first : (form : Form) (l : ℕ) (rest : List ℕ) (ts : List FileByte) (n : ℕ) (bytes : List ℕ) → (n ≡ l) × (bytes ≡ first_line (text_of l rest)) →
     ts ≡ after_line (text_of l rest) →
     rules_in form (lines_of (text_of l rest)) ≡ onto_rules (at_line n (line_rule_of form n bytes)) (rules_in form (lines_of ts))
 line_first form l rest ts n bytes p e =
     rules_step form (text_of l rest)
     ∙ ap (λ r. onto_rules r (rules_in form (lines_of (after_line (text_of l rest))))) (text_line form l rest n bytes p)
-    ∙ ap (λ (us : List Mark). onto_rules (at_line n (line_rule_of form n bytes)) (rules_in form (lines_of us))) (sym e)
+    ∙ ap (λ (us : List FileByte). onto_rules (at_line n (line_rule_of form n bytes)) (rules_in form (lines_of us))) (sym e)
 
-no_line : (form : Form) (ms : List Mark) → ms ≡ [] → rules_in form (lines_of ms) ≡ Ok []
+no_line : (form : Form) (ms : List FileByte) → ms ≡ [] → rules_in form (lines_of ms) ≡ Ok []
 unfolding rules_in line_rule_of words_in rule_of
-no_line form ms e = ap (λ (ts : List Mark). rules_in form (lines_of ts)) e
+no_line form ms e = ap (λ (ts : List FileByte). rules_in form (lines_of ts)) e
 
 -- the rules of a text, by the first line that a reader returns after it has passed over blank lines
-pub filled_result : {E : Type 0} (result : Result (Option Line) E) (old : List Mark) (l : ℕ) (rest : List ℕ) (new : List Mark) →
+pub filled_result : {E : Type 0} (result : Result (Option Line) E) (old : List FileByte) (l : ℕ) (rest : List ℕ) (new : List FileByte) →
     filled_lines (text_lines (text_of l rest)) ≡ filled_lines (text_lines old) →
     IfOk result (λ o. MatchOption o (text_of l rest ≡ [])
     (λ (line : Line). (line.number ≡ l) × (line.bytes.now ≡ first_line (text_of l rest)))) →

@@ -2,7 +2,7 @@
 use Rattle.std.specs.Prelude.{ℕ, List, [], ◌∷◌, map, Option, Some, None, Result, Ok, Err}
 use Rattle.std.specs.Option.{option_map_or}
 use Rattle.pam_text.specs.Source.{source_fault}
-use Rattle.pam_text.specs.Text.{Mark, text_of, lines_of}
+use Rattle.pam_text.specs.Text.{FileByte, text_of, lines_of}
 use Rattle.pam_text.specs.declared.source.SourceFault.{SourceFault}
 use Rattle.pam_text.specs.declared.source.SourceFault.TheVariants.{TooLong, NulByte}
 use Rattle.pam_conf.specs.Words.{words_or_fault}
@@ -17,7 +17,7 @@ unfoldable pub line_rule_of : Form → ℕ → List ℕ → Result (Option RuleT
 line_rule_of form number bytes = words_or_fault bytes >>= rule_of form number
 
 -- the number of a line: that of its first byte
-abbrev pub line_number : List Mark → ℕ
+abbrev pub line_number : List FileByte → ℕ
 line_number [] = 0
 line_number (m ∷ ms) = m.0
 
@@ -32,7 +32,7 @@ fault_at line faults.Memory = record { kind = faults.Memory; line = 0 }
 fault_at line kind = record { kind = kind; line = line }
 
 -- the rule of a line, if it has one, or its fault
-abbrev pub rule_at : Form → List Mark → Result (Option RuleText) RuleFault
+abbrev pub rule_at : Form → List FileByte → Result (Option RuleText) RuleFault
 rule_at form line = at_line (line_number line) (line_rule_of form (line_number line) (map (λ m. m.1) line))
 
 -- the rule of a line, followed by those of other lines
@@ -43,7 +43,7 @@ onto_rules (Ok (Some rule)) (Ok rules) = Ok (rule ∷ rules)
 onto_rules (Ok (Some rule)) (Err fault) = Err fault
 
 -- the rules of lines, or the first fault
-unfoldable pub rules_in : Form → List (List Mark) → Result (List RuleText) RuleFault
+unfoldable pub rules_in : Form → List (List FileByte) → Result (List RuleText) RuleFault
 rules_in form [] = Ok []
 rules_in form (line ∷ lines) = onto_rules (rule_at form line) (rules_in form lines)
 

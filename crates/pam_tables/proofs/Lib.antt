@@ -7,7 +7,7 @@ pub mod Digits
 pub mod GroupSteps
 pub mod LineSteps
 pub mod ListSteps
-pub mod ListingSteps
+pub mod MembershipSteps
 pub mod MarkSteps
 pub mod NamedSteps
 pub mod OptionSteps

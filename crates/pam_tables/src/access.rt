@@ -11,7 +11,7 @@ ghost use Rattle.pam_tables.specs.Tokens.{known_mark};
 use crate::error::{Table, TableError, TableFault};
 use crate::groups::Groups;
 use crate::lines::{Lines, is_blank_text, source, trim};
-use crate::listings::Listings;
+use crate::memberships::Memberships;
 use crate::login::Origin;
 use crate::options::AccessOptions;
 use crate::origins::check_origins;
@@ -162,7 +162,7 @@ fn matching(
     origin: &Origin<'_>,
 ) -> Option<Permission>
     ensures { (number : ℕ) (entry : Option LineText) → access_line separators.now.fields.bytes.now separators.now.tokens.bytes.now number line.now ≡ Ok entry
-        → result ≡ permission_for users.now.listings.now.groups.now users.now.by_name users.now.listings.now.user.now (known_mark origin.now) entry }
+        → result ≡ permission_for users.now.memberships.now.groups.now users.now.by_name users.now.memberships.now.user.now (known_mark origin.now) entry }
 {
     if is_passed_over(line) {
         return None;
@@ -244,9 +244,9 @@ impl<'a> AccessTable<'a> {
         ensures { result ≡ access_answer self.now (login_view login.now) groups.now }
     {
         let origin = Origin::of(login);
-        let listings = Listings::of(groups, login.user);
+        let memberships = Memberships::of(groups, login.user);
         let users = UserMatcher {
-            listings: &listings,
+            memberships: &memberships,
             by_name: self.group_names,
         };
         let separators = Separators::of(&self.field_separators, &self.list_separators);

@@ -7,7 +7,7 @@ mod address;
 mod error;
 mod groups;
 mod lines;
-mod listings;
+mod memberships;
 mod lists;
 mod login;
 mod named;

@@ -9,7 +9,7 @@ ghost use Rattle.pam_tables.specs.Groups.{lists_user};
 ghost use Rattle.pam_tables.specs.Tokens.{group_name as group_name_of, each_token, plain_user, tokens_of, user_mark, user_token, UserPattern};
 
 use crate::error::TableFault;
-use crate::listings::Listings;
+use crate::memberships::Memberships;
 use crate::lists::Mark;
 use crate::tokens::{Matcher, check_tokens};
 use pam_codes::is_name;
@@ -18,7 +18,7 @@ use pam_text::ByteSet;
 /// A user, with the groups that list the user. A plain name may be a group if `by_name`.
 #[derive(Clone, Copy)]
 pub(crate) struct UserMatcher<'a> {
-    pub(crate) listings: &'a Listings<'a>,
+    pub(crate) memberships: &'a Memberships<'a>,
     pub(crate) by_name: bool,
 }
 
@@ -53,15 +53,15 @@ pub(crate) fn check_users(text: &[u8], separators: &ByteSet<'_>) -> Result<(), T
 impl<'a> UserMatcher<'a> {
     fn is_named(&self, name: &[u8]) -> bool
         ensures { let m = self.now in
-            result ≡ (same_name name.now m.listings.now.user.now || (m.by_name && lists_user m.listings.now.groups.now name.now m.listings.now.user.now)) }
+            result ≡ (same_name name.now m.memberships.now.user.now || (m.by_name && lists_user m.memberships.now.groups.now name.now m.memberships.now.user.now)) }
     {
-        is_name(name, self.listings.user) || (self.by_name && self.listings.has(name))
+        is_name(name, self.memberships.user) || (self.by_name && self.memberships.has(name))
     }
 
     /// Matches a token that is no name in parentheses.
     fn plain_mark(&self, token: &[u8]) -> Mark
         ensures { let m = self.now in (pattern : UserPattern) → plain_user token.now ≡ Ok pattern
-            → result ≡ user_mark m.listings.now.groups.now m.by_name m.listings.now.user.now pattern }
+            → result ≡ user_mark m.memberships.now.groups.now m.by_name m.memberships.now.user.now pattern }
     {
         if is_name(b"EXCEPT", token) {
             Mark::Except
@@ -80,7 +80,7 @@ impl<'a> Matcher for UserMatcher<'a> {
 
     ghost meant = { user_token };
 
-    ghost marked = { λ m pattern. user_mark m.listings.now.groups.now m.by_name m.listings.now.user.now pattern };
+    ghost marked = { λ m pattern. user_mark m.memberships.now.groups.now m.by_name m.memberships.now.user.now pattern };
 
     fn check(token: &[u8]) -> Result<(), TableFault>
         ensures { result ≡ verdict (user_token token.now) }
@@ -102,10 +102,10 @@ impl<'a> Matcher for UserMatcher<'a> {
 
     fn mark(&self, token: &[u8]) -> Mark
         ensures { let m = self.now in (pattern : UserPattern) → user_token token.now ≡ Ok pattern
-            → result ≡ user_mark m.listings.now.groups.now m.by_name m.listings.now.user.now pattern }
+            → result ≡ user_mark m.memberships.now.groups.now m.by_name m.memberships.now.user.now pattern }
     {
         match group_name(token) {
-            Some(name) => Mark::of(self.listings.has(name)),
+            Some(name) => Mark::of(self.memberships.has(name)),
             None => self.plain_mark(token),
         }
     }

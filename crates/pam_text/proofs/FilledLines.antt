@@ -3,7 +3,7 @@ use Rattle.std.proofs.Common.{◌≡◌, ◌≤◌, ◌==◌, ◌||◌, if◌the
 use Rattle.std.specs.List.{prefix_len}
 use Rattle.std.proofs.lemmas.Bool.{eqb-true, false≢true}
 use Rattle.pam_text.specs.Blanks.{is_text_blank}
-use Rattle.pam_text.specs.Text.{Mark, text_of, past_comment, text_lines, onto_line, first_line, after_line, filled_lines, is_plain}
+use Rattle.pam_text.specs.Text.{FileByte, text_of, past_comment, text_lines, onto_line, first_line, after_line, filled_lines, is_plain}
 use Rattle.pam_text.proofs.Runs.{plain_step}
 use Rattle.pam_text.proofs.TextLines.{HeadIs, head_is, first_of}
 use Rattle.pam_text.proofs.TextSteps.{skipped, step_feed, unequal}
@@ -21,11 +21,11 @@ no_blank : (b c : ℕ) → is_text_blank c ≡ false → is_text_blank b ≡ tru
 no_blank b c f h = unequal b c (λ e. false≢true (sym f ∙ sym (ap is_text_blank e) ∙ h))
 
 -- a byte that is no line feed begins or goes on a line
-on_line : (l b : ℕ) (ms : List Mark) → eqb b 10 ≡ false → text_lines ((l, b) ∷ ms) ≡ onto_line (l, b) (text_lines ms)
+on_line : (l b : ℕ) (ms : List FileByte) → eqb b 10 ≡ false → text_lines ((l, b) ∷ ms) ≡ onto_line (l, b) (text_lines ms)
 unfolding text_lines
 on_line l b ms n = rw n refl
 
-blank_before : (l b : ℕ) (ms : List Mark) → is_text_blank b ≡ true → HeadIs l ms
+blank_before : (l b : ℕ) (ms : List FileByte) → is_text_blank b ≡ true → HeadIs l ms
     → filled_lines (onto_line (l, b) (text_lines ms)) ≡ filled_lines (text_lines ms)
 unfolding HeadIs text_lines filled_lines
 blank_before l b [] h e = last_blank l b h
@@ -41,13 +41,13 @@ filled_of l bs = filled_lines (text_lines (text_of l bs))
 blank_passed : (l b : ℕ) (bs : List ℕ) → is_text_blank b ≡ true → filled_of l (b ∷ bs) ≡ filled_of l bs
 unfolding text_lines
 blank_passed l b bs h =
-    ap (λ (ms : List Mark). filled_lines (text_lines ms)) (plain_step b bs l (plain_blank b h))
+    ap (λ (ms : List FileByte). filled_lines (text_lines ms)) (plain_step b bs l (plain_blank b h))
     ∙ ap filled_lines (on_line l b (text_of l bs) (no_blank b 10 refl h))
     ∙ blank_before l b (text_of l bs) h (head_is l bs)
 
 feed_passed : (l : ℕ) (bs : List ℕ) → filled_of l (10 ∷ bs) ≡ filled_of (l + 1) bs
 unfolding text_lines filled_lines past_comment
-feed_passed l bs = ap (λ (ms : List Mark). filled_lines (text_lines ms)) (step_feed (10 ∷ bs) bs l refl)
+feed_passed l bs = ap (λ (ms : List FileByte). filled_lines (text_lines ms)) (step_feed (10 ∷ bs) bs l refl)
 
 comment_passed : (l : ℕ) (bs : List ℕ) → text_of l (35 ∷ bs) ≡ text_of l (drop (prefix_len (λ c. not (eqb c 10)) bs) bs)
 unfolding past_comment
@@ -72,4 +72,4 @@ module _ (l b : ℕ) (bs after : List ℕ) (lines : List (ℕ × List ℕ)) (fro
       ] refl e
 
   pub past_hash : b ≡ 35 → (n : ℕ) (rest : List ℕ) → n ≡ prefix_len (λ c. not (eqb c 10)) after → rest ≡ drop n after → filled_of l rest ≡ lines
-  past_hash e n rest k f = rw (f, k) (ap (λ (ms : List Mark). filled_lines (text_lines ms)) (sym (comment_passed l after)) ∙ from_first 35 e)
+  past_hash e n rest k f = rw (f, k) (ap (λ (ms : List FileByte). filled_lines (text_lines ms)) (sym (comment_passed l after)) ∙ from_first 35 e)

@@ -3,7 +3,7 @@ use Rattle.std.proofs.Common.{◌≡◌, ◌≤◌, ◌+◌, ◌++◌, ◌∙◌
 use Rattle.std.proofs.Common.{false, List, [], ◌∷◌, take, drop, get_or, cond, eqb}
 use Rattle.std.specs.List.{prefix_len}
 use Rattle.std.proofs.lemmas.Bool.{eqb-true, false≢true}
-use Rattle.pam_text.specs.Text.{Mark, text_of, first_line, after_line, is_plain, past_comment}
+use Rattle.pam_text.specs.Text.{FileByte, text_of, first_line, after_line, is_plain, past_comment}
 use Rattle.pam_text.proofs.TextSteps.{step_plain, step_joined, past_comment-no}
 
 -- a plain byte is none of the three
@@ -19,14 +19,14 @@ not_backslash b h e = false≢true (sym (ap is_plain e) ∙ h)
 pub plain_step : (b : ℕ) (bs : List ℕ) (l : ℕ) → is_plain b ≡ true → text_of l (b ∷ bs) ≡ (l, b) ∷ text_of l bs
 plain_step b bs l h = step_plain (b ∷ bs) b bs l (past_comment-no (b ∷ bs) (not_hash b h)) (not_feed b h) (not_backslash b h)
 
-first_plain : (b l : ℕ) (ms : List Mark) → is_plain b ≡ true → first_line ((l, b) ∷ ms) ≡ b ∷ first_line ms
+first_plain : (b l : ℕ) (ms : List FileByte) → is_plain b ≡ true → first_line ((l, b) ∷ ms) ≡ b ∷ first_line ms
 first_plain b l ms h =
     elim (eqb b 10) as (λ (t : Bool). eqb b 10 ≡ t → cond t [] (b ∷ first_line ms) ≡ b ∷ first_line ms) [
       | true ↦ λ e. absurd (not_feed b h (eqb-true b 10 e))
       | false ↦ λ e. refl
     ] refl
 
-after_plain : (b l : ℕ) (ms : List Mark) → is_plain b ≡ true → after_line ((l, b) ∷ ms) ≡ after_line ms
+after_plain : (b l : ℕ) (ms : List FileByte) → is_plain b ≡ true → after_line ((l, b) ∷ ms) ≡ after_line ms
 after_plain b l ms h =
     elim (eqb b 10) as (λ (t : Bool). eqb b 10 ≡ t → cond t ms (after_line ms) ≡ after_line ms) [
       | true ↦ λ e. absurd (not_feed b h (eqb-true b 10 e))
@@ -72,7 +72,7 @@ module _ (l n : ℕ) (bs v s : List ℕ) (e : n ≡ prefix_len is_plain bs) (fro
 
   -- where nothing of the text is left
   pub last_run : text_of l s ≡ [] → first_line (text_of l bs) ≡ v
-  last_run h = line_of_run ∙ ap (λ (ms : List Mark). v ++ first_line ms) h ∙ append-nil v
+  last_run h = line_of_run ∙ ap (λ (ms : List FileByte). v ++ first_line ms) h ∙ append-nil v
 
   pub no_rest : text_of l s ≡ [] → after_line (text_of l bs) ≡ text_of l s
   no_rest h = rest_of_run ∙ ap after_line h ∙ sym h
@@ -81,9 +81,9 @@ module _ (l n : ℕ) (bs v s : List ℕ) (e : n ≡ prefix_len is_plain bs) (fro
   joins_last old new h k = ap (λ (xs : List ℕ). old ++ xs) (last_run h) ∙ sym k ∙ sym (append-nil new)
 
   -- where this byte comes next
-  module _ (b : ℕ) (ms : List Mark) (h : text_of l s ≡ (l, b) ∷ ms) where
+  module _ (b : ℕ) (ms : List FileByte) (h : text_of l s ≡ (l, b) ∷ ms) where
     pub line_to : first_line (text_of l bs) ≡ v ++ first_line ((l, b) ∷ ms)
-    line_to = line_of_run ∙ ap (λ (ns : List Mark). v ++ first_line ns) h
+    line_to = line_of_run ∙ ap (λ (ns : List FileByte). v ++ first_line ns) h
 
     pub rest_to : after_line (text_of l bs) ≡ after_line ((l, b) ∷ ms)
     rest_to = rest_of_run ∙ ap after_line h
@@ -105,24 +105,24 @@ no_text l n bs s v e f b k z h =
     let zero : n ≡ 0 = omega (arith, k, z) in sym (ap (λ (m : ℕ). text_of l (drop m bs)) zero) ∙ ap (λ (xs : List ℕ). text_of l xs) (sym b) ∙ h
 
 -- a byte that is no line feed belongs to the line
-pub kept_byte : (b l : ℕ) (ms : List Mark) (old new : List ℕ) → (b ≡ 10 → ⊥) → new ≡ old ++ b ∷ [] → new ++ first_line ms ≡ old ++ first_line ((l, b) ∷ ms)
+pub kept_byte : (b l : ℕ) (ms : List FileByte) (old new : List ℕ) → (b ≡ 10 → ⊥) → new ≡ old ++ b ∷ [] → new ++ first_line ms ≡ old ++ first_line ((l, b) ∷ ms)
 kept_byte b l ms old new n k =
     elim (eqb b 10) as (λ (t : Bool). eqb b 10 ≡ t → new ++ first_line ms ≡ old ++ cond t [] (b ∷ first_line ms)) [
       | true ↦ λ e. absurd (n (eqb-true b 10 e))
       | false ↦ λ e. ap (λ (xs : List ℕ). xs ++ first_line ms) k ∙ append_assoc old (b ∷ []) (first_line ms)
     ] refl
 
-pub kept_rest : (b l : ℕ) (ms : List Mark) → (b ≡ 10 → ⊥) → after_line ms ≡ after_line ((l, b) ∷ ms)
+pub kept_rest : (b l : ℕ) (ms : List FileByte) → (b ≡ 10 → ⊥) → after_line ms ≡ after_line ((l, b) ∷ ms)
 kept_rest b l ms n =
     elim (eqb b 10) as (λ (t : Bool). eqb b 10 ≡ t → after_line ms ≡ cond t ms (after_line ms)) [
       | true ↦ λ e. absurd (n (eqb-true b 10 e))
       | false ↦ λ e. refl
     ] refl
 
-pub feed_line : (b l : ℕ) (ms : List Mark) → b ≡ 10 → first_line ((l, b) ∷ ms) ≡ []
+pub feed_line : (b l : ℕ) (ms : List FileByte) → b ≡ 10 → first_line ((l, b) ∷ ms) ≡ []
 feed_line b l ms e = ap (λ (x : ℕ). first_line ((l, x) ∷ ms)) e
 
-pub feed_rest : (b l : ℕ) (ms : List Mark) → b ≡ 10 → after_line ((l, b) ∷ ms) ≡ ms
+pub feed_rest : (b l : ℕ) (ms : List FileByte) → b ≡ 10 → after_line ((l, b) ∷ ms) ≡ ms
 feed_rest b l ms e = ap (λ (x : ℕ). after_line ((l, x) ∷ ms)) e
 
 -- a backslash and a line feed are a space
@@ -133,7 +133,7 @@ module _ (l : ℕ) (bs more : List ℕ) (h : bs ≡ 92 ∷ 10 ∷ more) where
 
   pub joint_line : (old new : List ℕ) → new ≡ old ++ 32 ∷ [] → new ++ first_line (text_of (l + 1) more) ≡ old ++ first_line (text_of l bs)
   joint_line old new k =
-      kept_byte 32 l (text_of (l + 1) more) old new (λ e. absurd (cc)) k ∙ ap (λ (ms : List Mark). old ++ first_line ms) (sym joint)
+      kept_byte 32 l (text_of (l + 1) more) old new (λ e. absurd (cc)) k ∙ ap (λ (ms : List FileByte). old ++ first_line ms) (sym joint)
 
   pub joint_rest : after_line (text_of (l + 1) more) ≡ after_line (text_of l bs)
   joint_rest = ap after_line (sym joint)
@@ -145,7 +145,7 @@ two_first (a ∷ []) more n e f d = absurd (omega arith)
 two_first (a ∷ b ∷ bs) more n e f d = rw (e, f, d) refl
 
 -- a line that goes on after a run and one more byte
-module _ (l n : ℕ) (bs v s : List ℕ) (e : n ≡ prefix_len is_plain bs) (front : v ≡ take n bs) (back : s ≡ drop n bs) (b : ℕ) (ms : List Mark)
+module _ (l n : ℕ) (bs v s : List ℕ) (e : n ≡ prefix_len is_plain bs) (front : v ≡ take n bs) (back : s ≡ drop n bs) (b : ℕ) (ms : List FileByte)
     (h : text_of l s ≡ (l, b) ∷ ms) (not10 : b ≡ 10 → ⊥) where
   pub joined_line : (w0 w1 w2 r : List ℕ) → w0 ≡ [] → w1 ≡ w0 ++ v → w2 ≡ w1 ++ b ∷ [] → r ≡ w2 ++ first_line ms → r ≡ first_line (text_of l bs)
   joined_line w0 w1 w2 r e0 e1 e2 e3 =
@@ -157,8 +157,8 @@ module _ (l n : ℕ) (bs v s : List ℕ) (e : n ≡ prefix_len is_plain bs) (fro
   pub joined_rest : after_line ms ≡ after_line (text_of l bs)
   joined_rest = kept_rest b l ms not10 ∙ sym (rest_to l n bs v s e front back b ms h)
 
-pub some_text : (l n : ℕ) (bs v s : List ℕ) (b : ℕ) (ms : List Mark) → n ≡ prefix_len is_plain bs → v ≡ take n bs → s ≡ drop n bs → length v ≡ n
+pub some_text : (l n : ℕ) (bs v s : List ℕ) (b : ℕ) (ms : List FileByte) → n ≡ prefix_len is_plain bs → v ≡ take n bs → s ≡ drop n bs → length v ≡ n
     → text_of l s ≡ (l, b) ∷ ms → text_of l bs ≡ [] → ⊥
 some_text l n bs v s b ms e f k m h none =
     let empty : text_of l s ≡ [] = nothing_after l n bs v s e f k none m in
-    let both : ◌≡◌ {A = List Mark} [] ((l, b) ∷ ms) = sym empty ∙ h in absurd (cc)
+    let both : ◌≡◌ {A = List FileByte} [] ((l, b) ∷ ms) = sym empty ∙ h in absurd (cc)

@@ -4,32 +4,32 @@ use Rattle.std.specs.List.{list_all, slice_split, prefix_len}
 use Rattle.pam_text.specs.Blanks.{is_text_blank}
 
 -- a byte of a file, with the number of its line: one more than the line feeds before it
-abbrev pub Mark : Type 0
-Mark = ℕ × ℕ
+abbrev pub FileByte : Type 0
+FileByte = ℕ × ℕ
 
 -- the bytes of a file that begins in this line
-unfoldable pub marked : ℕ → List ℕ → List Mark
-marked line [] = []
-marked line (b ∷ bs) = (line, b) ∷ marked (if b == 10 then line + 1 else line) bs
+unfoldable pub file_bytes : ℕ → List ℕ → List FileByte
+file_bytes line [] = []
+file_bytes line (b ∷ bs) = (line, b) ∷ file_bytes (if b == 10 then line + 1 else line) bs
 
 -- first, each `#` goes with all bytes up to its line feed
-unfoldable pub uncommented : Bool → List Mark → List Mark
+unfoldable pub uncommented : Bool → List FileByte → List FileByte
 uncommented inside [] = []
 uncommented true (m ∷ ms) = if m.1 == 10 then m ∷ uncommented false ms else uncommented true ms
 uncommented false (m ∷ ms) = if m.1 == 35 then uncommented true ms else m ∷ uncommented false ms
 
 -- second, each backslash with the line feed after it becomes one space
-unfoldable pub joined : List Mark → List Mark
+unfoldable pub joined : List FileByte → List FileByte
 joined [] = []
 joined (m ∷ []) = m ∷ []
 joined (m ∷ n ∷ ms) = if m.1 == 92 && n.1 == 10 then (m.0, 32) ∷ joined ms else m ∷ joined (n ∷ ms)
 
 -- the text of a file, or of its rest from a line on, after both
-abbrev pub text_of : ℕ → List ℕ → List Mark
-text_of line bytes = joined (uncommented false (marked line bytes))
+abbrev pub text_of : ℕ → List ℕ → List FileByte
+text_of line bytes = joined (uncommented false (file_bytes line bytes))
 
 -- third, it is cut at line feeds
-abbrev pub lines_of : List Mark → List (List Mark)
+abbrev pub lines_of : List FileByte → List (List FileByte)
 lines_of text = slice_split (λ m. m.1 == 10) text
 
 -- the bytes after a comment, where one begins here; else all of them
@@ -38,28 +38,28 @@ past_comment [] = []
 past_comment (b ∷ bs) = if b == 35 then drop (prefix_len (λ c. not (c == 10)) (b ∷ bs)) (b ∷ bs) else b ∷ bs
 
 -- the bytes of the first line, and the text after its line feed
-abbrev pub first_line : List Mark → List ℕ
+abbrev pub first_line : List FileByte → List ℕ
 first_line [] = []
 first_line (m ∷ ms) = if m.1 == 10 then [] else m.1 ∷ first_line ms
 
-abbrev pub after_line : List Mark → List Mark
+abbrev pub after_line : List FileByte → List FileByte
 after_line [] = []
 after_line (m ∷ ms) = if m.1 == 10 then ms else after_line ms
 
-abbrev pub first_marks : List Mark → List Mark
-first_marks [] = []
-first_marks (m ∷ ms) = if m.1 == 10 then [] else m ∷ first_marks ms
+abbrev pub first_bytes : List FileByte → List FileByte
+first_bytes [] = []
+first_bytes (m ∷ ms) = if m.1 == 10 then [] else m ∷ first_bytes ms
 
 -- a byte that means itself everywhere: no line feed, no `#` and no backslash
 abbrev pub is_plain : ℕ → Bool
 is_plain b = not (b == 10 || b == 35 || b == 92)
 
 -- the lines of a text with their numbers, without their ends: a text that a line feed ends has none after it
-abbrev pub onto_line : Mark → List (ℕ × List ℕ) → List (ℕ × List ℕ)
+abbrev pub onto_line : FileByte → List (ℕ × List ℕ) → List (ℕ × List ℕ)
 onto_line m [] = (m.0, m.1 ∷ []) ∷ []
 onto_line m (line ∷ lines) = (m.0, m.1 ∷ line.1) ∷ lines
 
-unfoldable pub text_lines : List Mark → List (ℕ × List ℕ)
+unfoldable pub text_lines : List FileByte → List (ℕ × List ℕ)
 text_lines [] = []
 text_lines (m ∷ ms) = if m.1 == 10 then (m.0, []) ∷ text_lines ms else onto_line m (text_lines ms)
 

@@ -22,14 +22,14 @@ loop-number-init c =
           c.deref.ensures.value,
           c.deref-2.ensures.value,
         ) (lines_are lines c.self.invariant);
-        same = rw (← c.self.view_is, c.of-origin.ensures.origin, c.of-listings.ensures.groups, c.of-listings.ensures.user) refl;
+        same = rw (← c.self.view_is, c.of-origin.ensures.origin, c.of-memberships.ensures.groups, c.of-memberships.ensures.user) refl;
       };
     }
 
 pub returns-in-Some-matching : goal.returns-in-Some-matching
 returns-in-Some-matching c =
     let n = c.in-Some.number in
-    let groups = c.of-listings.result.groups.now in
+    let groups = c.of-memberships.result.groups.now in
     let origin = c.of-origin.result in
     c.answer.ensures ∙ line_found groups _ _ (origin_view origin) _ n _ _ _ c.in-Some.ensures.steps _ c.in-Some-matching.permission
     (λ entry h. chosen_by groups _ _ origin c.of-origin.ensures.known entry _ (c.in-Some-matching.ensures n entry h))
@@ -40,7 +40,7 @@ loop-number-preserved c = record {
   can = tt;
   finite = tt;
   left =
-      let groups = c.of-listings.result.groups.now in
+      let groups = c.of-memberships.result.groups.now in
       let origin = c.of-origin.result in
       line_misses groups _ _ (origin_view origin) _ c.in-Some.number _ _ _ c.in-Some.ensures.steps _
       (λ entry h. chosen_by groups _ _ origin c.of-origin.ensures.known entry _ (c.in_default.ensures c.in-Some.number entry h))
@@ -48,4 +48,4 @@ loop-number-preserved c = record {
 }
 
 pub returns : goal.returns
-returns c = no_line_left c.of-listings.result.groups.now _ _ (origin_view c.of-origin.result) _ _ _ c.in-None.ensures.steps.0 c.loop-number.invariant.left
+returns c = no_line_left c.of-memberships.result.groups.now _ _ (origin_view c.of-origin.result) _ _ _ c.in-None.ensures.steps.0 c.loop-number.invariant.left

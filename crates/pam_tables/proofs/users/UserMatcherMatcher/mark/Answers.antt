@@ -9,7 +9,7 @@ unfolding user_mark
 returns-in-Some c = λ pattern h.
     let m = c.args.self.now in
     c.of.ensures ∙ ap mark_of c.has.ensures
-    ∙ ap (user_mark m.listings.now.groups.now m.by_name m.listings.now.user.now) (group_is c.args.token.now _ h _ c.in-Some.ensures)
+    ∙ ap (user_mark m.memberships.now.groups.now m.by_name m.memberships.now.user.now) (group_is c.args.token.now _ h _ c.in-Some.ensures)
 
 pub returns-in-None : goal.returns-in-None
 returns-in-None c = λ pattern h. c.plain_mark.ensures pattern (plain_is c.args.token.now _ h c.in-None.ensures)

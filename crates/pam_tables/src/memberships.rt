@@ -2,7 +2,7 @@
 
 ghost use Rattle.std.specs.Prelude.{◌≡◌, ◌<◌, ℕ, None, Some, IfSome, get_or};
 ghost use Rattle.pam_tables.specs.Groups.{lists_user};
-ghost use Rattle.pam_tables.specs.declared.listings.Listing.{Listing as ListingOf};
+ghost use Rattle.pam_tables.specs.declared.memberships.Membership.{Membership as MembershipOf};
 
 use crate::groups::{Groups, Members, has_member};
 
@@ -12,34 +12,34 @@ const SLOTS: usize = 1024;
 
 /// Whether a group lists a user.
 #[derive(Clone, Copy)]
-pub(crate) struct Listing<'a> {
+pub(crate) struct Membership<'a> {
     name: &'a [u8],
-    is_listed: bool,
+    is_member: bool,
 }
 
 /// Which groups list a user. The answers for groups with long texts are found once, those for others for each token.
 #[derive(Drop)]
-pub(crate) struct Listings<'a> {
+pub(crate) struct Memberships<'a> {
     pub(crate) groups: &'a Groups<'a>,
     pub(crate) user: &'a [u8],
-    long: [Option<Listing<'a>>; SLOTS],
-    ghost right: { (k : ℕ) (x : ListingOf) → get_or long k None ≡ Some x → x.is_listed ≡ lists_user groups.now x.name.now user.now },
+    long: [Option<Membership<'a>>; SLOTS],
+    ghost right: { (k : ℕ) (x : MembershipOf) → get_or long k None ≡ Some x → x.is_member ≡ lists_user groups.now x.name.now user.now },
 }
 
-impl<'a> Listings<'a> {
+impl<'a> Memberships<'a> {
     pub(crate) fn of(groups: &'a Groups<'a>, user: &'a [u8]) -> Self
         ensures groups { result.groups.now ≡ groups.now }
         ensures user { result.user.now ≡ user.now }
     {
-        let mut listings = Listings {
+        let mut memberships = Memberships {
             groups,
             user,
             long: [None; SLOTS],
         };
         for index in 0..groups.len() {
-            listings.keep(index);
+            memberships.keep(index);
         }
-        listings
+        memberships
     }
 
     /// Keeps the answer for the group at an index, if it is long.
@@ -53,20 +53,20 @@ impl<'a> Listings<'a> {
         if slot >= SLOTS {
             return;
         }
-        let is_listed = self.groups.lists(name, self.user);
-        self.long[slot] = Some(Listing { name, is_listed });
+        let is_member = self.groups.lists(name, self.user);
+        self.long[slot] = Some(Membership { name, is_member });
     }
 
     /// Returns the answer for a group that is kept in a slot.
     fn kept(&self, group: &[u8], slot: usize) -> Option<bool>
-        ensures { IfSome result (λ is_listed. is_listed ≡ lists_user self.now.groups.now group.now self.now.user.now) }
+        ensures { IfSome result (λ is_member. is_member ≡ lists_user self.now.groups.now group.now self.now.user.now) }
     {
         if slot >= SLOTS {
             return None;
         }
-        let listing = self.long[slot]?;
-        if listing.name == group {
-            Some(listing.is_listed)
+        let membership = self.long[slot]?;
+        if membership.name == group {
+            Some(membership.is_member)
         } else {
             None
         }
@@ -82,7 +82,7 @@ impl<'a> Listings<'a> {
         match members.long_slot() {
             None => has_member(members.text, self.user),
             Some(slot) => match self.kept(group, slot) {
-                Some(is_listed) => is_listed,
+                Some(is_member) => is_member,
                 None => has_member(members.text, self.user),
             },
         }
