@@ -9,8 +9,8 @@ ghost use Rattle.pam_tables.specs.Groups.{lists_user};
 ghost use Rattle.pam_tables.specs.Tokens.{group_name as group_name_of, each_token, plain_user, tokens_of, user_mark, user_token, UserPattern};
 
 use crate::error::TableFault;
-use crate::memberships::Memberships;
 use crate::lists::Mark;
+use crate::memberships::Memberships;
 use crate::tokens::{Matcher, check_tokens};
 use pam_codes::is_name;
 use pam_text::ByteSet;

@@ -56,7 +56,7 @@ impl<'a> Text<'a> {
     {
         let number = self.line;
         let (front, after) = self.rest.split_at(plain_len(self.rest));
-        match first_step(after) {
+        match first_byte(after) {
             None => {
                 self.rest = after;
                 if front.is_empty() {
@@ -152,7 +152,7 @@ impl<'a> Text<'a> {
     {
         let (front, after) = self.rest.split_at(plain_len(self.rest));
         append(joined, front)?;
-        match first_step(after) {
+        match first_byte(after) {
             None => {
                 self.rest = after;
                 Ok(None)
@@ -226,27 +226,27 @@ fn far_plain_len(bytes: &[u8]) -> usize
 
 /// A byte of the text, the bytes of the file after it, and the number of line feeds that it takes up.
 #[derive(Clone, Copy)]
-struct Step<'a> {
+struct TextByte<'a> {
     byte: u8,
     after: &'a [u8],
     feeds: u32,
 }
 
 /// The first byte of the text of `bytes`; `None` if the text is empty.
-fn first_step(bytes: &[u8]) -> Option<Step<'_>>
+fn first_byte(bytes: &[u8]) -> Option<TextByte<'_>>
     ensures text { MatchOption result ((line : ℕ) → text_of line bytes.now ≡ [])
         (λ s. (line : ℕ) → text_of line bytes.now ≡ (line, s.byte) ∷ text_of (line + s.feeds) s.after.now) }
     ensures bound { IfSome result (λ s. (s.feeds + length s.after.now ≤ length bytes.now) × (length s.after.now < length bytes.now)) }
 {
     let (first, after) = skip_comment(bytes).split_first()?;
     match *first {
-        b'\n' => Some(Step {
+        b'\n' => Some(TextByte {
             byte: b'\n',
             after,
             feeds: 1,
         }),
-        b'\\' => Some(backslash_step(after)),
-        byte => Some(Step {
+        b'\\' => Some(backslash_byte(after)),
+        byte => Some(TextByte {
             byte,
             after,
             feeds: 0,
@@ -255,18 +255,18 @@ fn first_step(bytes: &[u8]) -> Option<Step<'_>>
 }
 
 /// The step of a backslash before `after`: a space if a line feed follows, also after a comment; else the backslash.
-fn backslash_step(after: &[u8]) -> Step<'_>
+fn backslash_byte(after: &[u8]) -> TextByte<'_>
     ensures text { (bytes : List ℕ) (line : ℕ) → past_comment bytes ≡ 92 ∷ after.now
         → text_of line bytes ≡ (line, result.byte) ∷ text_of (line + result.feeds) result.after.now }
     ensures bound { result.feeds + length result.after.now ≤ length after.now }
 {
     match after_feed(skip_comment(after)) {
-        Some(joined) => Step {
+        Some(joined) => TextByte {
             byte: b' ',
             after: joined,
             feeds: 1,
         },
-        None => Step {
+        None => TextByte {
             byte: b'\\',
             after,
             feeds: 0,

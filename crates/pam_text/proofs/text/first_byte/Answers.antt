@@ -1,6 +1,6 @@
 use Rattle.std.proofs.Common.{◌∙◌, sym, ap, add-zero, ◌∷◌, ℕ, arith}
 use Rattle.pam_text.proofs.TextSteps.{step_none, step_feed, step_plain, empty_list}
-use Rattle.pam_text.proofs.text.first_step.Goals as goal
+use Rattle.pam_text.proofs.text.first_byte.Goals as goal
 
 pub returns-in_err-first-clause-text : goal.returns-in_err-first-clause-text
 returns-in_err-first-clause-text c =
