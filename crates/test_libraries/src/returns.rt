@@ -90,6 +90,7 @@ fn files_of_the_most_bytes_and_one_more(rt: HostRuntime) -> Result<(), Fail> {
     let mut bytes = vec![in rt.alloc(); b' '; 1_048_576]?;
     let blank = ReturnTable::read(rt.alloc(), &bytes)?;
     assert_eq!(rt; blank.codes(b"b.so"), None);
+    drop(blank);
     bytes.push(b'\n')?;
     expect_fault(&rt, rt.alloc(), &bytes, TableFault::TableTooLong, 0);
     Ok(())
