@@ -53,7 +53,8 @@ pub(crate) fn check_users(text: &[u8], separators: &ByteSet<'_>) -> Result<(), T
 impl<'a> UserMatcher<'a> {
     fn is_named(&self, name: &[u8]) -> bool
         ensures { let m = self.now in
-            result ≡ (same_name name.now m.memberships.now.user.now || (m.by_name && lists_user m.memberships.now.groups.now name.now m.memberships.now.user.now)) }
+            result ≡ (same_name name.now m.memberships.now.user.now
+            || (m.by_name && lists_user m.memberships.now.groups.now name.now m.memberships.now.user.now)) }
     {
         is_name(name, self.memberships.user) || (self.by_name && self.memberships.has(name))
     }

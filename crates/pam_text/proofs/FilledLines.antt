@@ -1,5 +1,6 @@
 -- What is passed over before a line: blanks, comments and blank lines.
-use Rattle.std.proofs.Common.{◌≡◌, ◌≤◌, ◌==◌, ◌||◌, if◌then◌else◌, add-zero, ◌+◌, ◌∙◌, Bool, cond, sym, ap, refl, one-add, arith, ℕ, true, false, not, List, [], ◌∷◌, drop, eqb}
+use Rattle.std.proofs.Common.{◌≡◌, ◌≤◌, ◌==◌, ◌||◌, if◌then◌else◌, add-zero, ◌+◌, ◌∙◌, Bool, cond, sym, ap, refl, one-add, arith}
+use Rattle.std.proofs.Common.{ℕ, true, false, not, List, [], ◌∷◌, drop, eqb}
 use Rattle.std.specs.List.{prefix_len}
 use Rattle.std.proofs.lemmas.Bool.{eqb-true, false≢true}
 use Rattle.pam_text.specs.Blanks.{is_text_blank}

@@ -50,7 +50,8 @@ bytes_of_first (m ∷ ms) =
     ]
 
 -- the lines of a text are its first, and those after it, if a line feed ends it
-pub split_first : (ms : List FileByte) → (lines_of ms ≡ first_bytes ms ∷ lines_of (after_line ms)) ⊎ ((lines_of ms ≡ first_bytes ms ∷ []) × (after_line ms ≡ []))
+pub split_first : (ms : List FileByte) → (lines_of ms ≡ first_bytes ms ∷ lines_of (after_line ms))
+    ⊎ ((lines_of ms ≡ first_bytes ms ∷ []) × (after_line ms ≡ []))
 split_first [] = inr (refl, refl)
 split_first (m ∷ ms) =
     elim (eqb m.1 10) as (λ (t : Bool).

@@ -89,7 +89,8 @@ unfolding file_bytes uncommented
 step_feed bs r l h =
     ap joined (skip l bs ∙ ap (λ (s : List ℕ). uncommented false (file_bytes l s)) h) ∙ joined-plain (l, 10) (uncommented false (file_bytes (l + 1) r)) refl
 
-plain_byte : (b : ℕ) (r : List ℕ) (l : ℕ) → eqb b 10 ≡ false → eqb b 35 ≡ false → uncommented false (file_bytes l (b ∷ r)) ≡ (l, b) ∷ uncommented false (file_bytes l r)
+plain_byte : (b : ℕ) (r : List ℕ) (l : ℕ) → eqb b 10 ≡ false → eqb b 35 ≡ false
+    → uncommented false (file_bytes l (b ∷ r)) ≡ (l, b) ∷ uncommented false (file_bytes l r)
 unfolding file_bytes uncommented
 plain_byte b r l h k = rw (k, h) refl
 

@@ -1,6 +1,7 @@
 //! The text of a file, with comments removed and continued lines joined: pam.conf(5).
 
-ghost use Rattle.std.specs.Prelude.{◌≡◌, ◌∷◌, ◌++◌, ◌+◌, ◌^◌, ◌≤◌, ◌<◌, [], ℕ, List, length, not, ◌==◌, MatchOption, IfOk, IfSome, OnOk, ◌||◌, if◌then◌else◌, true};
+ghost use Rattle.std.specs.Prelude.{◌≡◌, ◌∷◌, ◌++◌, ◌+◌, ◌^◌, ◌≤◌, ◌<◌, ◌==◌, ◌||◌, [], ℕ, List, length, not, if◌then◌else◌, true};
+ghost use Rattle.std.specs.Prelude.{MatchOption, IfOk, IfSome, OnOk};
 ghost use Rattle.std.specs.List.{prefix_len};
 ghost use Rattle.pam_text.specs.Blanks.{is_text_blank};
 ghost use Rattle.pam_text.specs.Text.{text_of, past_comment, is_plain};
