@@ -2,7 +2,7 @@
 use Rattle.std.proofs.Common.{◌≡◌, ◌∙◌, ◌&&◌, ℕ, Bool, true, false, List, [], ◌∷◌, Option, Some, None, IfSome, Result, Ok, Err, map, refl, sym, ap, ap₂}
 use Rattle.std.proofs.Common.{if◌then◌else◌}
 use Rattle.std.specs.Option.{option_map_or}
-use Rattle.pam_tables.specs.Access.{LineText, TableText, permission_of, is_passed_over, has_tokens, line_of_fields, fields_of, some_line, access_line}
+use Rattle.pam_tables.specs.Access.{LineText, permission_of, is_passed_over, has_tokens, line_of_fields, fields_of, some_line, access_line}
 use Rattle.pam_tables.specs.Access.{◌>>=◌, lines_of, table_lines, table_with, table_of, permission_for, users_match, line_matches, answer_with, first_answer}
 use Rattle.pam_tables.specs.Error.{read_lines, onto_lines, verdict}
 use Rattle.pam_tables.specs.Groups.{Group}

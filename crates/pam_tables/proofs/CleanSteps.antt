@@ -1,13 +1,13 @@
 -- Lists without bytes that a fault needs.
 use Rattle.std.proofs.Common.{◌≡◌, ◌∙◌, ◌||◌, ◌==◌, ℕ, zero, suc, length, arith, one-add, Bool, true, false, List, [], ◌∷◌, take, drop, map, filter, cond}
-use Rattle.std.proofs.Common.{codes, nat_eq, Option, Some, None, Result, Ok, Err, refl, sym, ap}
+use Rattle.std.proofs.Common.{codes, nat_eq, Option, Some, None, Result, Ok, refl, ap}
 use Rattle.std.proofs.lemmas.Bool.{eqb-true, le-ltb}
 use Rattle.std.specs.List.{list_any, position_or_len, slice_split, onto_first, starts_with}
 use Rattle.pam_text.proofs.Searching.{same_byte}
 use Rattle.pam_tables.specs.Error.{verdict}
 use Rattle.pam_tables.specs.Lines.{has_bytes, is_among, trimmed, trimmed_start}
 use Rattle.pam_tables.specs.Network.{network_of}
-use Rattle.pam_tables.specs.Tokens.{UserPattern, each_token, group_name, origin_token, tokens_of, user_token}
+use Rattle.pam_tables.specs.Tokens.{each_token, group_name, origin_token, tokens_of, user_token}
 use Rattle.pam_tables.specs.declared.error.TableFault.{TableFault}
 use Rattle.pam_tables.proofs.Cutting.{FirstPart, split_parts}
 use Rattle.pam_tables.proofs.MarkSteps.{group_passes, plain_passes}

@@ -1,21 +1,15 @@
 -- The marks of tokens, by what the tokens mean.
-use Rattle.std.proofs.Common.{◌≡◌, ◌∙◌, ◌||◌, ◌&&◌, ℕ, Bool, true, false, List, [], ◌∷◌, cond, codes, nat_eq, Option, Some, None}
-use Rattle.std.proofs.Common.{Result, Ok, Err, refl, sym, ap}
-use Rattle.std.specs.List.{list_any, starts_with, ends_with}
-use Rattle.std.specs.Option.{option_map_or, option_map}
+use Rattle.std.proofs.Common.{◌≡◌, ◌∙◌, ℕ, Bool, true, false, List, cond, codes, nat_eq, Option, Some, None}
+use Rattle.std.proofs.Common.{Result, Ok, Err, refl, ap}
+use Rattle.std.specs.List.{list_any, starts_with}
+use Rattle.std.specs.Option.{option_map_or}
 use Rattle.pam_codes.specs.Code.{same_name}
-use Rattle.pam_tables.specs.Address.{address_of}
 use Rattle.pam_tables.specs.Error.{verdict}
-use Rattle.pam_tables.specs.Groups.{Group, lists_user}
-use Rattle.pam_tables.specs.Lists.{mark_of}
-use Rattle.pam_tables.specs.Network.{network_of, is_in_network}
-use Rattle.pam_tables.specs.Tokens.{UserPattern, UsersExcept, AnyUser, GroupOnly, UserName, plain_user, group_name, user_token, user_mark}
-use Rattle.pam_tables.specs.Tokens.{OriginPattern, HostNetwork, plain_origin, network_or_plain, origin_token, host_mark, place_mark}
-use Rattle.pam_tables.specs.declared.address.Address.{Address}
+use Rattle.pam_tables.specs.Network.{network_of}
+use Rattle.pam_tables.specs.Tokens.{UserPattern, UsersExcept, AnyUser, GroupOnly, UserName, plain_user, group_name, user_token}
+use Rattle.pam_tables.specs.Tokens.{OriginPattern, HostNetwork, plain_origin, network_or_plain, origin_token}
 use Rattle.pam_tables.specs.declared.error.TableFault.{TableFault}
 use Rattle.pam_tables.specs.declared.error.TableFault.TheVariants.{Netgroup, UserAtHost}
-use Rattle.pam_tables.specs.declared.lists.Mark.{Mark}
-use Rattle.pam_tables.specs.declared.lists.Mark.TheVariants.{Except, Match, Miss}
 use Rattle.pam_tables.specs.declared.network.Network.{Network}
 
 -- ---- users

@@ -1,5 +1,5 @@
 -- The lines of a table, and the parts of a line: access.conf(5), group(5).
-use Rattle.std.specs.Prelude.{ℕ, ◌+◌, ◌-◌, ◌==◌, ◌||◌, Bool, true, false, List, [], ◌∷◌, length, take, drop, nat_eq, if◌then◌else◌, Option, Result, Ok, Err}
+use Rattle.std.specs.Prelude.{ℕ, ◌+◌, ◌-◌, Bool, true, false, List, [], ◌∷◌, length, take, drop, nat_eq, if◌then◌else◌, Option, Result, Ok, Err}
 use Rattle.std.specs.List.{list_all, slice_split, prefix_len, suffix_len, ends_with}
 use Rattle.std.specs.Option.{option_map, option_map_or}
 unfoldable pub use Rattle.pam_text.specs.Cut.{is_among}

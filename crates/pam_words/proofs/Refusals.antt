@@ -1,5 +1,5 @@
 -- Results of `clap`, and the refusals for them.
-use Rattle.std.proofs.Common.{◌≡◌, [], List, Option, Some, None, Result, Ok, Err, subst, sym, inl, inr, ◌∙◌}
+use Rattle.std.proofs.Common.{◌≡◌, [], List, Option, Some, None, Result, Err, subst, sym, inl, inr, ◌∙◌}
 use Rattle.std.specs.Prelude.{MatchOption}
 use Rattle.clap.specs.Words.{Row, Text, HasKind, IsAmong, Kinds, kind_of}
 use Rattle.clap.specs.declared.Error.{Error}

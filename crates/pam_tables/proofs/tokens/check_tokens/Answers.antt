@@ -1,4 +1,4 @@
-use Rattle.std.proofs.Common.{◌∙◌, sym, refl, ap, Err}
+use Rattle.std.proofs.Common.{◌∙◌, sym, refl}
 use Rattle.std.proofs.lemmas.Result.{err_from_is_err_and}
 use Rattle.pam_tables.proofs.TokenSteps.{token_passes, token_fails, no_token}
 use Rattle.pam_tables.proofs.tokens.check_tokens.Goals as goal

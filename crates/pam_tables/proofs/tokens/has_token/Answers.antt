@@ -1,4 +1,3 @@
-use Rattle.std.proofs.Common.{◌∙◌, sym}
 use Rattle.pam_tables.proofs.TokenSteps.{gap_ends}
 use Rattle.pam_tables.proofs.tokens.has_token.Goals as goal
 

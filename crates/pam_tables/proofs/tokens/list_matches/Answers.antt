@@ -1,5 +1,5 @@
-use Rattle.std.proofs.Common.{◌∙◌, sym, refl, ap, map}
-use Rattle.pam_tables.proofs.TokenSteps.{Left, token_marked, last_token}
+use Rattle.std.proofs.Common.{◌∙◌, sym}
+use Rattle.pam_tables.proofs.TokenSteps.{token_marked, last_token}
 use Rattle.pam_tables.proofs.tokens.list_matches.Goals as goal
 
 pub loop-token-init : goal.loop-token-init

@@ -1,4 +1,4 @@
-use Rattle.std.proofs.Common.{◌≡◌, ◌∙◌, refl, sym, ap, true, false}
+use Rattle.std.proofs.Common.{◌≡◌, ◌∙◌, refl, sym, true, false}
 use Rattle.pam_tables.specs.Groups.{members_of}
 use Rattle.pam_tables.proofs.GroupSteps.{blank_line, bad_line, group_line}
 use Rattle.pam_tables.proofs.NamedSteps.{known_name, name_known, name_new, added_last, has_name}

@@ -1,4 +1,4 @@
-use Rattle.std.proofs.Common.{◌∙◌, sym, ap}
+use Rattle.std.proofs.Common.{◌∙◌, sym}
 use Rattle.pam_tables.proofs.MarkSteps.{netgroup, group_passes, at_fails, plain_passes}
 use Rattle.pam_tables.proofs.users.UserMatcherMatcher.check.Goals as goal
 
