@@ -1,4 +1,4 @@
--- The texts of steps that have every code, for the modules 1, 2 and so on.
+-- For private contracts and proofs alone: the texts of steps that have every code, for the modules 1, 2 and so on.
 use Rattle.std.specs.Prelude.{◌≡◌, ℕ, ◌+◌, ◌<◌, List, length, slice_index_or}
 use Rattle.std.specs.List.{flat_map}
 use Rattle.pam_page.specs.KeptSteps.{code_text}

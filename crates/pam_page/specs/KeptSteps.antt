@@ -1,4 +1,4 @@
--- The texts of the steps of a path, and the end of each.
+-- For private contracts and proofs alone: the texts of the steps of a path, and the end of each.
 use Rattle.std.specs.Prelude.{◌≡◌, ℕ, ◌+◌, List, [], ◌∷◌, ◌++◌, codes, decimal, length, map, take, Some, slice_get}
 use Rattle.std.specs.List.{flat_map}
 use Rattle.pam_page.specs.Page.{step_text}

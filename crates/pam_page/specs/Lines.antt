@@ -1,4 +1,4 @@
--- The lines of a page that are not written yet.
+-- For private contracts and proofs alone: the lines of a page that are not written yet.
 use Rattle.std.specs.Prelude.{◌≡◌, ℕ, List, ◌++◌, Option, Result, Ok, Err}
 use Rattle.pam_codes.specs.Out.{Device, Out, TookAll, TookFront}
 
