@@ -26,7 +26,7 @@ all_zipped_at (x ∷ xs) (y ∷ ys) zero c p h within = h.0
 all_zipped_at (x ∷ xs) (y ∷ ys) (suc index) c p h within = all_zipped_at xs ys index c p h.1 (omega (arith, within))
 
 -- each module of a program has a position
-pub length-positions : (entries program : List Entry) (positions : List ℕ) {parts : List (List Part)} {tail : ℕ} → IsProgram entries positions parts tail →
+pub length-positions : (entries program : List Entry) (positions : List ℕ) {parts : List (List Part)} {flat tail : ℕ} → IsProgram entries positions parts flat tail →
     entries ≡ program →
     length positions ≡ modules_of program
 length-positions entries program positions p is =
@@ -62,7 +62,7 @@ place-control program place number numbered valid asked =
     at_entry program place number numbered valid asked (place_within program place valid (ap is_some asked))
     (get_or program place.position (Substack 0)) refl
 
-module _ (entries program : List Entry) (positions : List ℕ) {parts : List (List Part)} {tail : ℕ} (p : IsProgram entries positions parts tail)
+module _ (entries program : List Entry) (positions : List ℕ) {parts : List (List Part)} {flat tail : ℕ} (p : IsProgram entries positions parts flat tail)
     (is : entries ≡ program) (number : ℕ) (first : 1 ≤ number) (last : number ≤ modules_of program) where
   index_within : number - 1 < modules_of entries
   index_within = omega (arith, first, last, ap (λ (ts : List Entry). modules_of ts) is)

@@ -14,7 +14,7 @@ use Rattle.pam_conf.specs.declared.stack.TheConstants.{MAX_MODULES}
 use Rattle.pam_dispatch.specs.declared.entry.Entry.{Entry}
 use Rattle.pam_dispatch.specs.declared.entry.Entry.TheVariants.{Module, Substack}
 use Rattle.pam_dispatch.specs.Tree.{count, controls_of}
-use Rattle.pam_dispatch.specs.Flat.{flat_list, controls_in, control_at, modules_of, positions_from, IsBounded, IsNumbered}
+use Rattle.pam_dispatch.specs.Flat.{AreOutermost, flat_list, controls_in, control_at, modules_of, positions_from, IsBounded, IsNumbered}
 use Rattle.pam_dispatch.specs.Program.{IsProgram}
 use Rattle.pam_dispatch.specs.Tail.{KeepFailure}
 
@@ -144,11 +144,11 @@ control_at-flat_list items number h =
 
 -- A STACK'S PROGRAM
 
-pub program-flat_list : (items : Items) (positions : List ℕ) (parts : List (List Part)) (tail : ℕ) → module_count items ≤ MAX_MODULES → depth items ≤ 16
+pub program-flat_list : (items : Items) (positions : List ℕ) (parts : List (List Part)) (flat tail : ℕ) → module_count items ≤ MAX_MODULES → depth items ≤ 16
     → IsNumberedFrom 1 items →
     positions ≡ positions_from 0 (flat_list 0 items) → AllZip IsParts (controls_in (flat_list 0 items)) parts →
-    KeepFailure (drop tail (flat_list 0 items)) → IsProgram (flat_list 0 items) positions parts tail
-program-flat_list items positions parts tail few shallow numbered found divided settled =
+    AreOutermost (drop flat (flat_list 0 items)) → KeepFailure (drop tail (flat_list 0 items)) → IsProgram (flat_list 0 items) positions parts flat tail
+program-flat_list items positions parts flat tail few shallow numbered found divided outermost settled =
     let levels : 0 + depth items ≤ 16 = omega (arith, shallow) in
     let first : 1 ≡ 0 + 1 = omega arith in
     record {
@@ -157,6 +157,7 @@ program-flat_list items positions parts tail few shallow numbered found divided 
       few = omega (arith, few, modules_of-flat_list 0 items);
       found = found;
       divided = divided;
+      outermost = outermost;
       settled = settled;
     }
 

@@ -1,6 +1,6 @@
 -- The flat list of a stack's items, each with its level, in the order of pam.conf(5), DESCRIPTION.
 use Rattle.std.specs.Prelude.{◌≡◌, ℕ, ◌+◌, ◌-◌, ◌<◌, ◌≤◌, ◌==◌, nat_lt, ◌&&◌, if◌then◌else◌}
-use Rattle.std.specs.Prelude.{List, [], ◌∷◌, ◌++◌, length, take, drop, slice_index_or, Option, Some, None}
+use Rattle.std.specs.Prelude.{All, List, [], ◌∷◌, ◌++◌, length, take, drop, slice_index_or, Option, Some, None}
 use Rattle.pam_codes.specs.declared.action.Action.{Action}
 use Rattle.pam_conf.specs.Stack.{Items, End, ThenModule, ThenSub}
 use Rattle.pam_conf.specs.declared.stack.TheConstants.{MAX_MODULES}
@@ -23,6 +23,10 @@ flat_list level (ThenSub sub inner rest) = Substack level ∷ (flat_list (level 
 abbrev pub level_of : Entry → ℕ
 level_of (Module level number control after) = level
 level_of (Substack level) = level
+
+-- items of the outermost list
+abbrev pub AreOutermost : List Entry → Type 0
+AreOutermost entries = All (λ entry. level_of entry ≡ 0) entries
 
 -- the controls of the modules, from the left
 unfoldable pub controls_in : List Entry → List (List Action)

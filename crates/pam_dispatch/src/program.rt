@@ -7,7 +7,7 @@ ghost use Rattle.pam_codes.specs.Parts.{IsParts};
 ghost use Rattle.pam_conf.specs.Stack.{Items, module_at, module_count};
 ghost use Rattle.pam_conf.specs.declared.stack.TheConstants.{MAX_MODULES};
 ghost use Rattle.pam_dispatch.specs.Decision.{decision_of};
-ghost use Rattle.pam_dispatch.specs.Flat.{IsBounded, IsPlaceOf, control_at, controls_in, modules_of, positions_from, resume, rest_of, runs_of};
+ghost use Rattle.pam_dispatch.specs.Flat.{AreOutermost, IsBounded, IsPlaceOf, control_at, controls_in, modules_of, positions_from, resume, rest_of, runs_of};
 ghost use Rattle.pam_dispatch.specs.Runs.{AsksRise, Assignment, after_answer, answers_of, asked_by, asked_module, final_state, next_ask, outcome_in, state_in};
 ghost use Rattle.pam_dispatch.specs.Tail.{IsSettled};
 ghost use Rattle.pam_dispatch.specs.Tree.{decided, runs_of_stack};
@@ -22,7 +22,7 @@ use crate::place::Place;
 use crate::settle::settle;
 use crate::state::State;
 use crate::step::{Outcome, Step};
-use crate::tail::{Rest, tail_of};
+use crate::tail::{Rest, flat_of, tail_of};
 use crate::work::Work;
 use pam_codes::{Code, Control, Parts};
 use pam_conf::Stack;
@@ -37,6 +37,8 @@ pub struct Program {
     positions: Vec<usize>,
     /// The parts of the modules' controls, in the same order.
     parts: Vec<Parts>,
+    /// The index in `entries` from which on all are items of the outermost list.
+    flat: usize,
     /// The index in `entries` from which on no answer changes a failed stack.
     tail: usize,
 }
@@ -51,7 +53,7 @@ impl Model for Program {
 
     ghost view = { λ p. p.entries.items };
 
-    ghost invariant = { λ p. IsProgram p.entries.items p.positions.items p.parts.items p.tail };
+    ghost invariant = { λ p. IsProgram p.entries.items p.positions.items p.parts.items p.flat p.tail };
 }
 
 /// The indices of the modules in a flat list.
@@ -138,8 +140,9 @@ fn answer_at(entries: &[Entry], place: &Place, code: Code) -> Answered
 }
 
 /// Makes the step from `place` with the answer `code`.
-fn step_in(entries: &[Entry], place: &mut Place, code: Code) -> Outcome
+fn step_in(entries: &[Entry], flat: usize, place: &mut Place, code: Code) -> Outcome
     requires entries { All IsBounded entries.now }
+    requires outermost { AreOutermost (drop flat entries.now) }
     requires place { IsPlaceOf entries.now place.old }
     requires asking { IsSome (asked_module (rest_of entries.now place.old)) }
     ensures place { IsPlaceOf entries.now place.new }
@@ -151,7 +154,7 @@ fn step_in(entries: &[Entry], place: &mut Place, code: Code) -> Outcome
     let outcome = answered.outcome;
     place.position = place.position + 1;
     place.state = outcome.state;
-    settle(entries, place, answered.level, answered.skip);
+    settle(entries, flat, place, answered.level, answered.skip);
     outcome
 }
 
@@ -166,11 +169,13 @@ impl Program {
         flatten(stack.items(), 0, &mut entries)?;
         let positions = module_positions(alloc, &entries)?;
         let parts = module_parts(alloc, &entries)?;
+        let flat = flat_of(&entries);
         let tail = tail_of(&entries);
         Ok(Program {
             entries,
             positions,
             parts,
+            flat,
             tail,
         })
     }
@@ -230,7 +235,7 @@ impl Program {
             state: start,
             depth: 1,
         };
-        settle(&self.entries, &mut place, 0, 0);
+        settle(&self.entries, self.flat, &mut place, 0, 0);
         place
     }
 
@@ -301,7 +306,7 @@ impl Program {
         ensures outcome { outcome_in (rest_of self.now place.old) code ≡ result }
         ensures state { place.new.state ≡ result.state }
     {
-        step_in(&self.entries, place, code)
+        step_in(&self.entries, self.flat, place, code)
     }
 
     /// The rest of the run from `place`, if it is settled: it is at its end, or the stack has failed and no remaining

@@ -1,22 +1,35 @@
 //! Moves to the next module that is asked.
 
-ghost use Rattle.std.specs.Prelude.{◌≡◌, ◌<◌, All, drop, take};
-ghost use Rattle.pam_dispatch.specs.Flat.{IsBounded, IsPlaceOf, resume, rest_of};
+ghost use Rattle.std.specs.Prelude.{◌≡◌, ◌<◌, ◌≤◌, All, drop, length, take};
+ghost use Rattle.pam_dispatch.specs.Flat.{AreOutermost, IsBounded, IsPlaceOf, resume, rest_of};
 
 use crate::entry::Entry;
 use crate::place::Place;
 
 /// Moves `place` from its position to the next module asked, or to the end. Skips the entries deeper than `level` and
-/// `skip` items of that level, and then enters substacks.
-pub(crate) fn settle(program: &[Entry], place: &mut Place, mut level: usize, mut skip: usize)
+/// `skip` items of that level, and then enters substacks. The entries from `flat` on are items of the outermost list, of
+/// which any number is skipped in one step.
+pub(crate) fn settle(
+    program: &[Entry],
+    flat: usize,
+    place: &mut Place,
+    mut level: usize,
+    mut skip: usize,
+)
     requires below { level < place.old.depth }
+    requires within { place.old.position ≤ length program.now }
     requires entries { All IsBounded program.now }
+    requires outermost { AreOutermost (drop flat program.now) }
     ensures place { IsPlaceOf program.now place.new }
     ensures state { place.new.state ≡ place.old.state }
     ensures rest { rest_of program.now place.new
         ≡ resume (drop place.old.position program.now) level skip (take place.old.depth place.old.entered.states) place.old.state }
 {
     let mut position = place.position;
+    if level == 0 && position >= flat {
+        position += skip.min(program.len() - position);
+        skip = 0;
+    }
     let mut depth = usize::from(place.depth);
     while position < program.len() {
         let entry = &program[position];

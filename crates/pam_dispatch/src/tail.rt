@@ -1,6 +1,7 @@
 //! The end of a run that no answer changes.
 
 ghost use Rattle.std.specs.Prelude.{◌≡◌, [], ◌∷◌, IsTrue, drop};
+ghost use Rattle.pam_dispatch.specs.Flat.{AreOutermost};
 ghost use Rattle.pam_dispatch.specs.Tail.{AllKeepFailure, KeepFailure, keeps_failure};
 
 use crate::decision::Decision;
@@ -59,4 +60,15 @@ pub(crate) fn tail_of(entries: &[Entry]) -> usize
         tail -= 1;
     }
     tail
+}
+
+/// The position from which on all entries are items of the outermost list.
+pub(crate) fn flat_of(entries: &[Entry]) -> usize
+    ensures { AreOutermost (drop result entries.now) }
+{
+    let mut flat = entries.len();
+    while flat > 0 && entries[flat - 1].level() == 0 {
+        flat -= 1;
+    }
+    flat
 }

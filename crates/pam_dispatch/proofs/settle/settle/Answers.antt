@@ -3,9 +3,26 @@ use Rattle.std.proofs.lemmas.List.{drop_all, length-set}
 use Rattle.pam_dispatch.specs.declared.state.State.{State}
 use Rattle.pam_dispatch.specs.declared.entry.Entry.TheVariants.{Module, Substack}
 use Rattle.pam_dispatch.specs.Flat.{IsBounded, IsPlaceOf, level_of, resume, rest_of}
-use Rattle.pam_dispatch.proofs.Resume.{at_index, at_index-deeper, at_index-item, at_substack, at_module}
+use Rattle.pam_dispatch.proofs.Resume.{resume-outermost, at_index, at_index-deeper, at_index-item, at_substack, at_module}
 use Rattle.pam_dispatch.proofs.settle.settle.Goals as goal
+use Rattle.pam_dispatch.proofs.settle.settle.Goals.{then-level-eq0+then-position-flat, else-level-eq0}
 use Rattle.pam_dispatch.proofs.settle.settle.Goals.{else-here-level-2-via-then-here-level-2+else-skip-gt0, else-here-level-2-via-else-here-level-2}
+
+pub loop-position-init : goal.loop-position-init
+loop-position-init c =
+    record {
+      rest = elim c.if-level-eq0.branch [
+        | then-level-eq0+then-position-flat w ↦ rw (w.position-is, w.skip-is, c.from-depth.ensures, w.if-level-eq0.true)
+            (resume-outermost c.args.program.now c.args.flat c.args.place.now.position c.args.skip w.min-position.result
+            (take c.args.place.now.depth c.args.place.now.entered.states) c.args.place.now.state
+            c.requires.outermost w.if-position-flat.true c.requires.within w.min-position.ensures)
+        | else-level-eq0 w ↦ rw (w.position-is, w.skip-is, c.from-depth.ensures) refl
+      ];
+      state = refl;
+      below = omega (arith, c.from-depth.ensures, c.requires.below);
+      shallow = omega (arith, c.from-depth.ensures, c.args.place.now.shallow);
+      full = search;
+    }
 
 pub loop-position-preserved-then-here-level : goal.loop-position-preserved-then-here-level
 loop-position-preserved-then-here-level c =
