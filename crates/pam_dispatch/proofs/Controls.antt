@@ -85,6 +85,10 @@ module _ (entries program : List Entry) (positions : List ℕ) {parts : List (Li
       subst (λ (control : List Action). IsParts control (get_or parts (number - 1) past))
       (sym (place-control program place number (subst (λ ts. IsNumbered 0 ts) is p.numbered) valid asked)) (parts_at past)
 
+  pub control_asked : (place : Place) → IsPlaceOf program place → asked_module (rest_of program place) ≡ Some number →
+      (next_ask (rest_of program place)).control ≡ control_at program number
+  control_asked place valid asked = place-control program place number (subst (λ ts. IsNumbered 0 ts) is p.numbered) valid asked
+
   module _ (position : ℕ) (at : position ≡ get_or positions (number - 1) position) where
     module_there : ModuleAt entries position number (get_or (controls_in entries) (number - 1) [])
     module_there =

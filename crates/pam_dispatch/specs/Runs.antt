@@ -1,6 +1,7 @@
 -- A run through a stack whose answers are still open: pam.conf(5), DESCRIPTION.
 use Rattle.std.specs.Prelude.{ℕ, ◌-◌, ◌<◌, ◌≤◌, List, [], ◌∷◌, Option, Some, None, slice_index_or}
 use Rattle.pam_codes.specs.declared.action.Action.{Action}
+use Rattle.pam_dispatch.specs.declared.asked.Situation.{Situation}
 use Rattle.pam_dispatch.specs.declared.state.State.{State}
 use Rattle.pam_dispatch.specs.declared.step.Outcome.{Outcome}
 use Rattle.pam_dispatch.specs.State.{act, left_of, action_of}
@@ -21,6 +22,10 @@ pub record Ask : Type 0 where
   pub state : State
   pub entry : State
   pub after : ℕ
+
+-- the situation in which a module is asked: what its outcomes depend on, besides the control
+abbrev pub situation_of : Ask → Situation
+situation_of ask = record { state = ask.state; entry = ask.entry; items_after = ask.after }
 
 -- the outcome of an answer: the new state, and the number of items left in the list
 unfoldable pub outcome_of : Ask → ℕ → Outcome

@@ -1,12 +1,21 @@
 //! A module that is asked.
 
 ghost use Rattle.std.specs.Prelude.{◌≡◌, Some, slice_get};
-ghost use Rattle.pam_dispatch.specs.Runs.{outcome_of};
+ghost use Rattle.pam_dispatch.specs.Runs.{outcome_of, situation_of};
 
 use crate::state::State;
 use crate::step::Outcome;
 use pam_codes::{Action, Code, Control};
 use std::marker::Model;
+
+/// What the outcome of an answer depends on, besides the module's control.
+#[derive(Clone, Copy, Debug, Default, PartialEq, Eq)]
+pub struct Situation {
+    pub(crate) state: State,
+    /// The state in which the module's list was entered.
+    pub(crate) entry: State,
+    pub(crate) items_after: usize,
+}
 
 /// A module as it is asked: what the outcomes of its answers depend on.
 #[derive(Debug, Drop)]
@@ -39,6 +48,17 @@ impl Asked<'_> {
         ensures { result ≡ self.now.state }
     {
         self.state
+    }
+
+    /// The situation in which it is asked.
+    pub fn situation(&self) -> Situation
+        ensures { result ≡ situation_of self.now }
+    {
+        Situation {
+            state: self.state,
+            entry: self.entry,
+            items_after: self.items_after,
+        }
     }
 
     /// The outcome of `code`, whose action is `action`.

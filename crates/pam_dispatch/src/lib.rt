@@ -17,7 +17,7 @@ mod step;
 mod tail;
 mod work;
 
-pub use asked::Asked;
+pub use asked::{Asked, Situation};
 pub use decision::Decision;
 pub use error::{Memory, WrongCount};
 pub use pam_conf::MAX_MODULES;

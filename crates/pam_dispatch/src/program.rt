@@ -214,6 +214,8 @@ impl Program {
         // Those of the control with which the module is asked, at any place.
         ensures asked { (place : Place) → IsPlaceOf self.now place → asked_module (rest_of self.now place) ≡ Some number
             → IsParts (next_ask (rest_of self.now place)).control result.now }
+        ensures control { (place : Place) → IsPlaceOf self.now place → asked_module (rest_of self.now place) ≡ Some number
+            → (next_ask (rest_of self.now place)).control ≡ control_at self.now number }
     {
         &self.parts[number - 1]
     }

@@ -5,6 +5,7 @@ pub mod CursorTexts
 pub mod Ends
 pub mod FrameLists
 pub mod Fronts
+pub mod KeptOnes
 pub mod Keys
 pub mod KnownCodes
 pub mod LastFrames

@@ -5,7 +5,8 @@ ghost use Rattle.std.specs.List.{list_any};
 ghost use Rattle.pam_codes.specs.Code.{all_codes};
 ghost use Rattle.pam_codes.specs.Parts.{IsPart, IsParts};
 ghost use Rattle.pam_codes.specs.Set.{IsCodeSet, codes_where, is_in};
-ghost use Rattle.pam_dispatch.specs.Flat.{IsPlaceOf, modules_of, rest_of};
+ghost use Rattle.pam_dispatch.specs.declared.place.Place.{Place};
+ghost use Rattle.pam_dispatch.specs.Flat.{IsPlaceOf, control_at, modules_of, rest_of};
 ghost use Rattle.pam_dispatch.specs.Runs.{asked_module, next_ask, outcome_of};
 ghost use Rattle.pam_dispatch.specs.Tail.{keeps_failure};
 ghost use Rattle.pam_paths.specs.Classes.{class_at, class_of, impression_number, least, same_outcome};
@@ -231,6 +232,10 @@ impl Classes {
         ensures offered { (allows : Allowance) → allowed ≡ codes_where (allows module_number)
             → result.offered ≡ offered_at allows (rest_of program.now place.now) }
         ensures classes { AreClasses (next_ask (rest_of program.now place.now)) result }
+
+        // The module has one control, wherever it is asked.
+        ensures control { (other : Place) → IsPlaceOf program.now other → asked_module (rest_of program.now other) ≡ Some module_number
+            → (next_ask (rest_of program.now other)).control ≡ control_at program.now module_number }
     {
         let parts = program.parts(module_number).as_slice();
         let asked = program.asked(place);

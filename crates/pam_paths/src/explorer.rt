@@ -12,12 +12,14 @@ ghost use Rattle.pam_paths.specs.Computed.{listing};
 ghost use Rattle.pam_paths.specs.Cursor.{IsAccepted, IsRefusal};
 ghost use Rattle.pam_paths.specs.Directions.{IsListingFrom, ordered};
 ghost use Rattle.pam_paths.specs.Frames.{AreFirstSteps, AreFrames, IsExploring, ahead, coming, under};
+ghost use Rattle.pam_paths.specs.Kept.{AreKept};
 ghost use Rattle.pam_paths.specs.Listing.{IsListing, IsListingAfter};
 ghost use Rattle.pam_paths.specs.Paths.{path_of, path_through};
 
 use crate::cursor::{Cursor, CursorError};
 use crate::direction::Direction;
 use crate::frames::{Frames, advance, descend, retell};
+use crate::kept::KeptClasses;
 use crate::knowledge::Knowledge;
 use crate::path::Path;
 use crate::retrace::retrace;
@@ -39,6 +41,7 @@ pub struct Explorer<'a, K: Knowledge> {
     frames: Frames,
     /// The path returned last.
     path: Path,
+    kept: KeptClasses,
     /// The steps at which the answers no longer matter are copied from here.
     alike: AlikeSteps,
     work: Work,
@@ -48,6 +51,7 @@ impl<'a, K: Knowledge> Model for Explorer<'a, K> {
     ghost use Rattle.pam_dispatch.specs.Flat.{modules_of};
     ghost use Rattle.pam_paths.specs.Exploration.{Exploration};
     ghost use Rattle.pam_paths.specs.Frames.{AreFirstSteps, IsExploring, coming};
+    ghost use Rattle.pam_paths.specs.Kept.{AreKept};
 
     ghost Value = { Exploration };
 
@@ -59,7 +63,7 @@ impl<'a, K: Knowledge> Model for Explorer<'a, K> {
     } };
 
     ghost invariant = { λ e. IsExploring (K.allows e.knowledge.now) e.program.now e.at_start e.frames.items
-        × AreFirstSteps e.frames.items e.path.steps };
+        × AreFirstSteps e.frames.items e.path.steps × AreKept (K.allows e.knowledge.now) e.program.now e.kept.modules };
 }
 
 /// The place from which the next path continues, after the steps of `frames`.
@@ -109,11 +113,14 @@ fn follow<K: Knowledge>(
     at_start: bool,
     frames: &mut Frames,
     path: &mut Path,
+    kept: &mut KeptClasses,
     alike: &AlikeSteps,
     work: &mut Work,
 ) -> Option<usize>
     requires exploring { IsExploring (K.allows knowledge.now) program.now at_start frames.old.items }
     requires steps { AreFirstSteps frames.old.items path.old.steps }
+    requires kept { AreKept (K.allows knowledge.now) program.now kept.old.modules }
+    ensures kept { AreKept (K.allows knowledge.now) program.now kept.new.modules }
     ensures exploring { IsExploring (K.allows knowledge.now) program.now false frames.new.items }
     ensures steps { AreFirstSteps frames.new.items path.new.steps }
     ensures none { IfNone result (coming direction (K.allows knowledge.now) program.now at_start frames.old.items ≡ []) }
@@ -129,7 +136,7 @@ fn follow<K: Knowledge>(
         return None;
     };
     let shared = shared_count(path.steps.len(), frames.len());
-    let rest = descend(program, knowledge, direction, frames, place, work);
+    let rest = descend(program, knowledge, direction, frames, kept, place, work);
     let tail = alike.last(program.modules(), rest.modules);
     retell(&mut path.steps, frames.as_slice(), tail, shared);
     path.tail = rest.modules;
@@ -182,6 +189,7 @@ impl<'a, K: Knowledge> Explorer<'a, K> {
             at_start: true,
             frames: ArrayVec::new(),
             path: Path::empty(),
+            kept: KeptClasses::new(),
             alike: AlikeSteps::new(),
             work: Work::new(),
         }
@@ -249,6 +257,7 @@ impl<'a, K: Knowledge> Explorer<'a, K> {
                 at_start: false,
                 frames,
                 path: Path::empty(),
+                kept: KeptClasses::new(),
                 alike: AlikeSteps::new(),
                 work,
             }),
@@ -272,6 +281,7 @@ impl<'a, K: Knowledge> Explorer<'a, K> {
             at_start,
             &mut self.frames,
             &mut self.path,
+            &mut self.kept,
             &self.alike,
             &mut self.work,
         )

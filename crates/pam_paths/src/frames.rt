@@ -8,11 +8,13 @@ ghost use Rattle.pam_paths.specs.Classes.{class_of};
 ghost use Rattle.pam_paths.specs.Computed.{after_step, listing};
 ghost use Rattle.pam_paths.specs.Directions.{ordered, past};
 ghost use Rattle.pam_paths.specs.Frames.{AreClasses, AreFrames, IsFrame, ahead, ahead_of, offered_at, path_to, step_in, under};
+ghost use Rattle.pam_paths.specs.Kept.{AreKept};
 ghost use Rattle.pam_paths.specs.Listing.{Allowance};
 ghost use Rattle.pam_paths.specs.Steps.{step_seen};
 
 use crate::classes::Classes;
 use crate::direction::Direction;
+use crate::kept::KeptClasses;
 use crate::knowledge::Knowledge;
 use crate::path::PathStep;
 use arrayvec::ArrayVec;
@@ -54,28 +56,15 @@ pub(crate) struct Branch {
 }
 
 impl Frame {
-    /// The frame of the module asked at a place, before a class is followed.
+    /// The frame of the module asked at a place, before one of its classes is followed.
     #[inline(always)]
-    pub(crate) fn at<K: Knowledge>(
-        program: &Program,
-        knowledge: &K,
-        place: Place,
-        module_number: usize,
-    ) -> Frame
-        requires place { IsPlaceOf program.now place }
-        requires asking { asked_module (rest_of program.now place) ≡ Some module_number }
-        requires first { 1 ≤ module_number }
-        requires last { module_number ≤ modules_of program.now }
-        requires few { modules_of program.now ≤ MAX_MODULES }
-        ensures frame { (low : ℕ) → AsksRise low (modules_of program.now) (rest_of program.now place)
-            → IsFrame (K.allows knowledge.now) program.now low result }
+    pub(crate) fn at(place: Place, module_number: usize, classes: Classes) -> Frame
+        requires few { module_number ≤ MAX_MODULES }
         ensures place { result.place ≡ place }
         ensures number { result.module_number ≡ module_number }
-        ensures offered { result.classes.offered ≡ offered_at (K.allows knowledge.now) (rest_of program.now place) }
-        ensures classes { AreClasses (next_ask (rest_of program.now place)) result.classes }
+        ensures classes { result.classes ≡ classes }
+        ensures code { result.code < 31 }
     {
-        let allowed = knowledge.allowed(module_number);
-        let classes = Classes::at(program, &place, module_number, allowed);
         Frame {
             place,
             module_number: module_number as u16,
@@ -214,14 +203,17 @@ pub(crate) fn descend<K: Knowledge>(
     knowledge: &K,
     direction: Direction,
     frames: &mut Frames,
+    kept: &mut KeptClasses,
     from: Place,
     work: &mut Work,
 ) -> Rest
     requires few { modules_of program.now ≤ MAX_MODULES }
+    requires kept { AreKept (K.allows knowledge.now) program.now kept.old.modules }
     requires frames { AreFrames (K.allows knowledge.now) program.now 0 frames.old.items }
     requires place { IsPlaceOf program.now from }
     requires rise { AsksRise (length frames.old.items) (modules_of program.now) (rest_of program.now from) }
     ensures frames { AreFrames (K.allows knowledge.now) program.now 0 frames.new.items }
+    ensures kept { AreKept (K.allows knowledge.now) program.now kept.new.modules }
     ensures path { under frames.old.items (ordered direction (listing (K.allows knowledge.now) (rest_of program.now from)))
         ++ ahead direction (K.allows knowledge.now) program.now frames.old.items
         ≡ path_to (modules_of program.now) frames.new.items result ∷ ahead direction (K.allows knowledge.now) program.now frames.new.items }
@@ -237,7 +229,8 @@ pub(crate) fn descend<K: Knowledge>(
         let Some(module_number) = place.module() else {
             unreachable!()
         };
-        let frame = Frame::at(program, knowledge, place, module_number);
+        let classes = kept.at(program, knowledge, &place, module_number);
+        let frame = Frame::at(place, module_number, classes);
         match frame.branch_ahead(program, direction, direction.outset(), work) {
             Some(branch) => {
                 frames.push(frame.following(&branch));

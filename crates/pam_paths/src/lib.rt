@@ -9,6 +9,7 @@ mod digits;
 mod direction;
 mod explorer;
 mod frames;
+mod kept;
 mod knowledge;
 pub mod laws;
 mod path;

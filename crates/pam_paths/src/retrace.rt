@@ -12,6 +12,7 @@ ghost use Rattle.pam_paths.specs.Frames.{AreFrames, IsFrame, ahead, part, step_i
 ghost use Rattle.pam_paths.specs.Paths.{step_of};
 ghost use Rattle.pam_paths.specs.Retrace.{verdict_of};
 
+use crate::classes::Classes;
 use crate::cursor::{CursorError, code_numbered, least_number};
 use crate::direction::Direction;
 use crate::frames::{Frame, Frames};
@@ -58,7 +59,9 @@ fn take_turn<K: Knowledge>(
     ensures rest { IfSome result (λ t. rest_of program.now t.place ≡ after_answer (rest_of program.now place) code) }
     ensures work { work.new ≤ work.old + 1 }
 {
-    let frame = Frame::at(program, knowledge, place, module_number);
+    let allowed = knowledge.allowed(module_number);
+    let classes = Classes::at(program, &place, module_number, allowed);
+    let frame = Frame::at(place, module_number, classes);
     let branch = frame.branch(program, code, work);
     if least_number(branch.class) != code.number() {
         return None;

@@ -11,8 +11,21 @@ use Rattle.pam_paths.specs.Frames.{ahead, ahead_of, under, AreFrames, IsFrame}
 use Rattle.pam_paths.proofs.FrameLists.{AreFrames-length, ahead-enter, branch_followed, frame_after, frame_number, frame_same}
 use Rattle.pam_paths.proofs.FrameLists.{listing-ahead, ordered-some, pushed, rise_after}
 use Rattle.pam_paths.proofs.Fronts.{front_pushed}
+use Rattle.pam_paths.proofs.KeptOnes.{frame_of}
 use Rattle.pam_paths.proofs.Tails.{settled-path, settled-room}
+use Rattle.pam_paths.proofs.frames.descend.Given.{Over}
 use Rattle.pam_paths.proofs.frames.descend.Goals as goal
+use Rattle.pam_paths.proofs.frames.descend.Goals.{After-at-frame}
+
+-- the frame is that of the module asked at the place
+framed : (g : Over) (c : After-at-frame g) →
+    IsFrame (g.K.Knowledge.allows c.args.knowledge.now) c.args.program.now (length c.loop-rest.frames.items) c.at-frame.result
+framed g c =
+    let i = c.loop-rest.invariant in
+    let e = c.at-frame.ensures in
+    frame_of (g.K.Knowledge.allows c.args.knowledge.now) c.args.program.now (length c.loop-rest.frames.items) c.at-frame.result c.loop-rest.place
+    c.in-Some-module.module_number c.at-classes.result e.place e.number e.classes e.code i.place
+    (sym (c.in-Some-module.ensures c.args.program.now i.place)) i.rise c.at-classes.ensures.offered c.at-classes.ensures.classes
 
 pub push-requires : goal.push-requires
 push-requires g c =
@@ -46,7 +59,7 @@ unreachable-requires-in-None g c =
     let d = c.args.direction in
     let r = rest_of program c.loop-rest.place in
     let asked = sym (c.in-Some-module.ensures program i.place) in
-    let is = c.at-frame.ensures.frame (length c.loop-rest.frames.items) i.rise in
+    let is = framed g (goal.at.unreachable-requires-in-None g c).After-at-frame in
     ordered-some d allows _ (modules_of program) r i.rise
     (λ m first last. g.met.K.Knowledge.lawful c.args.knowledge.now m first (omega (arith, last, c.requires.few)))
     (listing-ahead d allows r c.in-Some-module.module_number asked
@@ -66,7 +79,7 @@ loop-rest-preserved g c =
     let f : Frame = c.at-frame.result in
     let h : Frame = c.following.result in
     let k = c.following.ensures in
-    let is : IsFrame allows program (length fs) f = c.at-frame.ensures.frame (length fs) i.rise in
+    let is : IsFrame allows program (length fs) f = framed g (goal.at.loop-rest-preserved g c).After-at-frame in
     let low : h.code < 31 = omega (arith, k.code, e.code) in
     let r = rest_of program f.place in
     let below = ordered d (listing allows (rest_of program b.place)) in
@@ -86,33 +99,37 @@ loop-rest-preserved g c =
           (ap (λ (x : Place). rest_of program x) (sym k.place)) k.number k.code k.class
           (e.paths allows is.offered))
           ∙ ap (λ (x : List Frame). under x below ++ ahead d allows program x) (sym c.push.ensures.items);
+      kept = c.at-classes.ensures.kept;
       work = omega (arith, c.push.ensures.len, c.branch_ahead.ensures.work, i.work);
     }
 
 pub branch_ahead-requires-clause-classes : goal.branch_ahead-requires-clause-classes
-branch_ahead-requires-clause-classes g c =
-    (c.at-frame.ensures.frame (length c.loop-rest.frames.items) c.loop-rest.invariant.rise).classes
+branch_ahead-requires-clause-classes g c = (framed g (goal.at.branch_ahead-requires-clause-classes g c).After-at-frame).classes
 
 pub branch_ahead-requires-clause-first : goal.branch_ahead-requires-clause-first
 branch_ahead-requires-clause-first g c =
-    let i = c.loop-rest.invariant in
-    omega (arith, (frame_number _ _ _ _ (c.at-frame.ensures.frame (length c.loop-rest.frames.items) i.rise)).0)
+    omega (arith, (frame_number _ _ _ _ (framed g (goal.at.branch_ahead-requires-clause-first g c).After-at-frame)).0)
 
 pub branch_ahead-requires-clause-last : goal.branch_ahead-requires-clause-last
 branch_ahead-requires-clause-last g c =
-    let i = c.loop-rest.invariant in
-    (frame_number _ _ _ _ (c.at-frame.ensures.frame (length c.loop-rest.frames.items) i.rise)).1
+    (frame_number _ _ _ _ (framed g (goal.at.branch_ahead-requires-clause-last g c).After-at-frame)).1
 
-pub at-frame-requires-clause-first : goal.at-frame-requires-clause-first
-at-frame-requires-clause-first g c =
+pub at-classes-requires-clause-first : goal.at-classes-requires-clause-first
+at-classes-requires-clause-first g c =
     let i = c.loop-rest.invariant in
     let k = rise_after _ (modules_of c.args.program.now) _ 0 _ i.rise (sym (c.in-Some-module.ensures c.args.program.now i.place)) in
     omega (arith, k.0)
 
-pub at-frame-requires-clause-last : goal.at-frame-requires-clause-last
-at-frame-requires-clause-last g c =
+pub at-classes-requires-clause-last : goal.at-classes-requires-clause-last
+at-classes-requires-clause-last g c =
     let i = c.loop-rest.invariant in
     (rise_after _ (modules_of c.args.program.now) _ 0 _ i.rise (sym (c.in-Some-module.ensures c.args.program.now i.place))).1
+
+pub at-frame-requires : goal.at-frame-requires
+at-frame-requires g c =
+    let i = c.loop-rest.invariant in
+    let k = rise_after _ (modules_of c.args.program.now) _ 0 _ i.rise (sym (c.in-Some-module.ensures c.args.program.now i.place)) in
+    omega (arith, k.1, c.requires.few)
 
 pub returns-in-Some-clause-path : goal.returns-in-Some-clause-path
 returns-in-Some-clause-path g c =

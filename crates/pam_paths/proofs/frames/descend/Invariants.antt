@@ -4,6 +4,7 @@ use Rattle.pam_dispatch.specs.Runs.{AsksRise}
 use Rattle.pam_paths.specs.Computed.{listing}
 use Rattle.pam_paths.specs.Directions.{ordered}
 use Rattle.pam_paths.specs.Frames.{ahead, under, AreFrames}
+use Rattle.pam_paths.specs.Kept.{AreKept}
 use Rattle.pam_paths.proofs.frames.descend.Given as goal
 
 abbrev pub invariant-loop-rest : goal.invariant-loop-rest
@@ -17,6 +18,7 @@ invariant-loop-rest g l =
       earlier : take (length l.initial.frames.items) l.frames.items ≡ l.initial.frames.items;
       same : under l.initial.frames.items (ordered d (listing allows (rest_of l.program l.initial.place))) ++ ahead d allows l.program l.initial.frames.items
           ≡ under l.frames.items (ordered d (listing allows (rest_of l.program l.place))) ++ ahead d allows l.program l.frames.items;
+      kept : AreKept allows l.program l.kept.modules;
       work : l.work + length l.initial.frames.items ≤ l.initial.work + length l.frames.items;
     }
 

@@ -33,6 +33,7 @@ returns-then-all_keep_failure c =
         whole = λ d low h. class-every (next_ask r) parts divided failed kept d low ∙ sym c.of_one.ensures.known;
         earlier = λ d low h. class-every (next_ask r) parts divided failed kept d low ∙ sym c.of_one.ensures.earlier;
       };
+      control = c.parts.ensures.control;
     }
 
 pub returns-clause-offered : goal.returns-clause-offered

@@ -17,6 +17,7 @@ invariant_of-result g c =
         start = λ at_start. c.new.ensures;
       },
       no-steps c.empty.result.steps c.new.result.items c.empty.ensures,
+      c.new-2.ensures allows program,
     )
 
 pub returns-clause-listing : goal.returns-clause-listing
