@@ -129,3 +129,7 @@ bracket_actions bytes = option_map_or (λ n. closed_actions n bytes) (closing_at
 unfoldable pub control_of : List ℕ → Result (List Action) ControlError
 control_of [] = keyword_actions []
 control_of (b ∷ bs) = if b == 91 then bracket_actions bs else keyword_actions (b ∷ bs)
+
+-- what a check answers: nothing but the fault, if there is one
+abbrev pub fault_of : Result (List Action) ControlError → Result (Unit {0}) ControlError
+fault_of read = read >>= λ actions. Ok tt

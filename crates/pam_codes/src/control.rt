@@ -5,7 +5,7 @@ ghost use Rattle.std.specs.Prelude.{false, length, map, slice_get, slice_index_o
 ghost use Rattle.std.specs.Option.{option_map};
 ghost use Rattle.pam_codes.specs.Action.{IsAction};
 ghost use Rattle.pam_codes.specs.Code.{all_codes, code_names};
-ghost use Rattle.pam_codes.specs.Control.{IsControl, actions_of, bracket_actions, closing_at, control_of, equals_sign as equals_sign_of, escaped_at};
+ghost use Rattle.pam_codes.specs.Control.{IsControl, actions_of, bracket_actions, closing_at, control_of, equals_sign as equals_sign_of, escaped_at, fault_of};
 ghost use Rattle.pam_codes.specs.Control.{granting_pairs, keyword_pairs, pairs_of, token_actions, with_front};
 ghost use Rattle.pam_codes.specs.ControlText.{control_text, default_of, keyword_of, list_text, mention, mentions, same_actions};
 ghost use Rattle.pam_text.specs.Out.{Writes};
@@ -115,15 +115,10 @@ impl Control {
     }
 
     /// Reads the text after an opening bracket.
-    #[tactic(auto, unfolding(crate::specs::Control::bracket_actions))]
     fn from_brackets(text: &[u8]) -> Result<Control, ControlError>
         ensures { result ≡ bracket_actions text.now }
     {
-        match closing(text) {
-            None => Err(ControlError::OpenBracket),
-            Some(len) if len + 1 < text.len() => Err(ControlError::BadControl),
-            Some(len) => Control::from_list(&text[..len]),
-        }
+        Control::from_list(between_brackets(text)?)
     }
 
     /// Reads a control as it is written, brackets included: pam.conf(5). Fails with the leftmost fault, except that an
@@ -136,6 +131,20 @@ impl Control {
             return Control::from_brackets(text.split_at(1).1);
         }
         Control::from_keyword(text).ok_or(ControlError::BadControl)
+    }
+
+    /// Fails where `read` fails, with the same fault. Sooner than `read`, since no actions are kept.
+    #[tactic(auto, unfolding(crate::specs::Control::control_of))]
+    pub fn check(text: &[u8]) -> Result<(), ControlError>
+        ensures { result ≡ fault_of (control_of text.now) }
+    {
+        if !text.is_empty() && text[0] == b'[' {
+            return check_list(between_brackets(text.split_at(1).1)?);
+        }
+        match Control::from_keyword(text) {
+            Some(_) => Ok(()),
+            None => Err(ControlError::BadControl),
+        }
     }
 
     /// Whether this is `Control::keyword(granted, other)`.
@@ -239,8 +248,8 @@ fn is_escaped(text: &[u8], index: usize) -> bool
     index > 0 && text[index - 1] == b'\\'
 }
 
-/// The index of the first unescaped `]`: the byte before it is not a backslash.
-fn closing(text: &[u8]) -> Option<usize>
+/// The index of the first `]` with no backslash directly before it.
+pub fn closing_bracket(text: &[u8]) -> Option<usize>
     ensures found { result ≡ closing_at false text.now }
     ensures bound { IfSome result (λ n. n < length text.now) }
 {
@@ -254,6 +263,20 @@ fn closing(text: &[u8]) -> Option<usize>
         passed += index + 1;
     }
     None
+}
+
+/// The text between brackets, of the text after the opening one.
+#[tactic(auto, unfolding(crate::specs::Control::bracket_actions))]
+fn between_brackets(text: &[u8]) -> Result<&[u8], ControlError>
+    ensures { MatchResult result
+        (λ inside. bracket_actions text.now ≡ token_actions (tokens_of inside.now))
+        (λ e. bracket_actions text.now ≡ Err e) }
+{
+    match closing_bracket(text) {
+        None => Err(ControlError::OpenBracket),
+        Some(len) if len + 1 < text.len() => Err(ControlError::BadControl),
+        Some(len) => Ok(&text[..len]),
+    }
 }
 
 fn equals_sign(token: &[u8]) -> Result<(), ControlError>
@@ -285,4 +308,15 @@ fn pair(word: &[u8], tokens: &mut Tokens) -> Result<(Subject, Action), ControlEr
     };
     let action = Action::from_name(name)?;
     Ok((subject, action))
+}
+
+/// Fails where `Control::from_list` fails, with the same fault.
+fn check_list(text: &[u8]) -> Result<(), ControlError>
+    ensures { result ≡ fault_of (token_actions (tokens_of text.now)) }
+{
+    let mut tokens = Tokens::of(text);
+    while let Some(word) = tokens.next() {
+        pair(word, &mut tokens)?;
+    }
+    Ok(())
 }

@@ -14,7 +14,7 @@ mod tokens;
 
 pub use action::Action;
 pub use code::{CODES, Code, is_name};
-pub use control::Control;
+pub use control::{Control, closing_bracket};
 pub use error::ControlError;
 pub use pam_text::{Device, Out, Piece};
 pub use parts::{Part, Parts};

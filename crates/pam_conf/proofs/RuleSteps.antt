@@ -7,11 +7,12 @@ use Rattle.std.proofs.lemmas.Str.Ascii.{lowercase-lowercase}
 use Rattle.std.specs.Char.{to_ascii_lowercase}
 use Rattle.std.specs.Str.{bytes_eq}
 use Rattle.pam_codes.specs.Code.{same_name}
-use Rattle.pam_codes.specs.Control.{control_of}
+use Rattle.pam_codes.specs.Control.{control_of, fault_of}
 use Rattle.pam_codes.specs.declared.action.Action.{Action}
+use Rattle.pam_codes.specs.declared.error.ControlError.{ControlError}
 use Rattle.pam_text.proofs.TextSteps.{unequal}
 use Rattle.pam_conf.specs.Lines.{at_line}
-use Rattle.pam_conf.specs.Rule.{RuleText, RuleBody, body_of, dashed_kind_of, rule_of, first_rule_of, plain_rule_of, kind_rule_of, ◌>>=◌}
+use Rattle.pam_conf.specs.Rule.{RuleText, RuleBody, body_of, in_rule, module_of, dashed_kind_of, rule_of, first_rule_of, plain_rule_of, kind_rule_of, ◌>>=◌}
 use Rattle.pam_conf.specs.Walk.{carries, same_kind}
 use Rattle.pam_conf.specs.Wanted.{wants, with_rule}
 use Rattle.pam_conf.specs.Words.{text_of_word}
@@ -22,11 +23,16 @@ use Rattle.pam_conf.specs.declared.rule.Kind.{Kind}
 use Rattle.pam_conf.specs.declared.wanted.Wanted.{Wanted}
 use Rattle.pam_conf.specs.declared.wanted.Wanted.TheVariants.{OfKind}
 
+no_fault : (read : Result (List Action) ControlError) (p : List ℕ) (args : List (List ℕ)) → fault_of read ≡ Ok tt →
+    IsOk (in_rule read >>= λ actions. module_of actions (p ∷ args))
+no_fault (Ok actions) p args h = refl
+no_fault (Err e) p args h = absurd (cc)
+
 -- words that call a module
-pub calls : (ws ws2 args : List (List ℕ)) (c p : List ℕ) (actions : List Action) → ws ≡ c ∷ ws2 → ws2 ≡ p ∷ args →
-    same_name (codes "include") c ≡ false → same_name (codes "substack") c ≡ false → control_of c ≡ Ok actions → (form : Form) → IsOk (body_of form ws)
+pub calls : (ws ws2 args : List (List ℕ)) (c p : List ℕ) → ws ≡ c ∷ ws2 → ws2 ≡ p ∷ args →
+    same_name (codes "include") c ≡ false → same_name (codes "substack") c ≡ false → fault_of (control_of c) ≡ Ok tt → (form : Form) → IsOk (body_of form ws)
 unfolding body_of
-calls ws ws2 args c p actions e f i s k form = rw (e, i, s, k, f) refl
+calls ws ws2 args c p e f i s k form = rw (e, i, s, f) (no_fault (control_of c) p args k)
 
 pub plain_text : (k : List ℕ) → (get_or k 0 0 ≡ 91 → ⊥) → text_of_word k ≡ k
 plain_text [] h = refl

@@ -164,7 +164,7 @@ fn control_body(
     requires { words_to_come words ≡ control.now ∷ words_to_come rest }
     ensures { Gives KindTells kept_body result (control_body_of control.now (words_to_come rest.entry)) }
 {
-    if let Err(error) = Control::read(control) {
+    if let Err(error) = Control::check(control) {
         return Err(FaultKind::Control(error));
     }
     if rest.split_first().is_none() {

@@ -123,9 +123,9 @@ fn calls_module(words: Words<'_>) -> bool
     if is_name(b"include", control) || is_name(b"substack", control) {
         return false;
     }
-    match Control::read(control) {
+    match Control::check(control) {
         Err(_) => false,
-        Ok(_) => match words.split_first() {
+        Ok(()) => match words.split_first() {
             Some(_) => true,
             None => false,
         },

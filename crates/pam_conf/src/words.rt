@@ -9,7 +9,7 @@ ghost use Rattle.pam_conf.specs.FirstWord.{words_from};
 ghost use Rattle.pam_conf.specs.Words.{unescaped, text_of_word};
 
 use crate::error::FaultKind;
-use pam_codes::{ControlError, is_blank_byte};
+use pam_codes::{ControlError, closing_bracket, is_blank_byte};
 use pam_text::Texts;
 use std::alloc::{AllocError, Global};
 
@@ -35,15 +35,7 @@ fn inside_len(inside: &[u8]) -> Option<usize>
         (λ n. option_map (onto_first 91) (words_in (Bracket false) inside.now) ≡ words_from (Some (91 ∷ take n inside.now, drop n inside.now))) }
     ensures bound { IfSome result (λ n. n ≤ length inside.now) }
 {
-    let mut escaped = false;
-    for index in 0..inside.len() {
-        let byte = inside[index];
-        if byte == b']' && !escaped {
-            return Some(index + 1);
-        }
-        escaped = byte == b'\\';
-    }
-    None
+    Some(closing_bracket(inside)? + 1)
 }
 
 /// The length of the leading word, as it is written.

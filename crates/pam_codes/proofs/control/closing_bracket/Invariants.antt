@@ -1,7 +1,7 @@
 use Rattle.std.proofs.Common.{◌≡◌, ◌+◌, ◌≤◌, false, length}
 use Rattle.std.specs.Option.{option_map}
 use Rattle.pam_codes.specs.Control.{closing_at}
-use Rattle.pam_codes.proofs.control.closing.Given as goal
+use Rattle.pam_codes.proofs.control.closing_bracket.Given as goal
 
 -- the index in the text is that in the rest, plus the number of bytes before the rest
 abbrev pub invariant-loop-index : goal.invariant-loop-index
