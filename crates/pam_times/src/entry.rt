@@ -39,6 +39,7 @@ fn is_day(name: &[u8], day: &[u8; 2]) -> bool
 }
 
 /// Returns the days that two letters name, in either case.
+#[inline(always)]
 #[tactic(auto, unfolding(crate::specs::Entry::named_days))]
 fn named_days(name: &[u8]) -> Option<DayRun>
     requires { length name.now ≡ 2 }
@@ -70,6 +71,7 @@ fn named_days(name: &[u8]) -> Option<DayRun>
 }
 
 /// Toggles the days of a range in a set.
+#[inline(always)]
 fn toggled(days: [bool; 7], run: DayRun) -> [bool; 7]
     ensures { result ≡ toggled days run }
 {
@@ -85,6 +87,7 @@ fn toggled(days: [bool; 7], run: DayRun) -> [bool; 7]
 }
 
 /// Reads pairs of letters that name days. A day named an even number of times is not in the set, as in time.conf(5).
+#[inline(always)]
 fn days(text: &[u8]) -> Option<[bool; 7]>
     ensures { result ≡ days_of text.now }
 {
@@ -134,7 +137,9 @@ pub(crate) struct TimeEntry {
 }
 
 impl TimeEntry {
-    /// Parses one or more days and `HHMM-HHMM`.
+    /// Parses one or more days and `HHMM-HHMM`. Put in line, so that a caller that only asks whether there is an entry
+    /// does not build its days.
+    #[inline(always)]
     #[tactic(auto, unfolding(crate::specs::Entry::entry_of))]
     pub(crate) fn read(text: &[u8]) -> Option<TimeEntry>
         ensures { result ≡ entry_of text.now }

@@ -1,6 +1,8 @@
 //! What the tokens of a rule are compared with.
 
-ghost use Rattle.std.specs.Prelude.{◌≡◌};
+ghost use Rattle.std.specs.Prelude.{◌≡◌, false};
+ghost use Rattle.std.specs.Option.{option_map_or};
+ghost use Rattle.pam_times.specs.Entry.{entry_of, holds};
 ghost use Rattle.pam_times.specs.Fact.{meets};
 
 use crate::entry::TimeEntry;
@@ -14,17 +16,27 @@ pub(crate) enum Fact<'a> {
     Time(WeekTime),
 }
 
+/// Whether a token is an entry that covers a time.
+// Not put in line: the loop over the tokens of a list has no registers to spare.
+#[inline(never)]
+fn covers(token: &[u8], time: WeekTime) -> bool
+    ensures { result ≡ option_map_or (λ entry. holds entry time.day time.minute) (entry_of token.now) false }
+{
+    match TimeEntry::read(token) {
+        Some(entry) => entry.holds(time.day, time.minute),
+        None => false,
+    }
+}
+
 impl Fact<'_> {
     /// Whether a token matches the name, or is an entry that covers the time.
+    #[inline(always)]
     pub(crate) fn meets(&self, token: &[u8]) -> bool
         ensures { result ≡ meets self.now token.now }
     {
         match self {
             Fact::Name(name) => pattern::matches(token, name),
-            Fact::Time(time) => match TimeEntry::read(token) {
-                Some(entry) => entry.holds(time.day, time.minute),
-                None => false,
-            },
+            Fact::Time(time) => covers(token, *time),
         }
     }
 }

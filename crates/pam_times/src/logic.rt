@@ -23,6 +23,7 @@ pub(crate) enum Joint {
 impl Joint {
     /// Returns the value of a list up to an item, given its value before the item. The item is evaluated only if it
     /// can change that value.
+    #[inline(always)]
     fn join(self, before: bool, is_inverted: bool, token: &[u8], fact: &Fact<'_>) -> bool
         ensures { result ≡ join self before (differ is_inverted (meets fact.now token.now)) }
     {
@@ -42,14 +43,16 @@ pub(crate) enum Sign<'a> {
     Token(&'a [u8]),
 }
 
-/// Most bytes of tokens are greater than `&`, so that two comparisons are enough.
+/// Most bytes of tokens are between `&` and `|`, so that one comparison of a difference is enough.
 #[inline(always)]
 fn is_token_byte(byte: u8) -> bool
     ensures { result ≡ is_token_byte byte }
 {
-    byte != b'|' && (byte > b'&' || !(is_text_blank(byte) || byte == b'!' || byte == b'&'))
+    (b'&' < byte && byte < b'|')
+        || !(is_text_blank(byte) || byte == b'!' || byte == b'&' || byte == b'|')
 }
 
+#[inline(always)]
 fn token_len(bytes: &[u8]) -> usize
     ensures value { result ≡ prefix_len is_token_byte bytes.now }
     ensures bound { result ≤ length bytes.now }
@@ -157,7 +160,9 @@ pub(crate) fn next_joint(text: &[u8]) -> Next<'_>
     }
 }
 
-/// Whether a text is a list that is true, given which tokens the fact meets.
+/// Whether a text is a list that is true, given which tokens the fact meets. Put in line, so that it is compiled once for
+/// names and once for times.
+#[inline(always)]
 pub(crate) fn is_true(text: &[u8], fact: &Fact<'_>) -> bool
     ensures { result ≡ list_value (meets fact.now) (items_of text.now) }
 {

@@ -29,6 +29,7 @@ fn is_framed(front: &[u8], back: &[u8], text: &[u8]) -> bool
 }
 
 /// Whether a text matches a name, in which the first `*` matches any bytes. Case matters.
+#[inline(always)]
 pub(crate) fn matches(pattern: &[u8], text: &[u8]) -> bool
     ensures value { result ≡ matches pattern.now text.now }
     ensures means { IsTrue result ↔ Means pattern.now text.now }

@@ -74,6 +74,7 @@ fn full_fields(line: &[u8]) -> Option<Fields<'_>>
     }
 }
 
+#[inline(always)]
 fn is_netgroup(field: Field, name: &[u8]) -> bool
     ensures { result ≡ is_netgroup field name.now }
 {
@@ -85,6 +86,7 @@ fn is_netgroup(field: Field, name: &[u8]) -> bool
     }
 }
 
+#[inline(always)]
 fn check_name(field: Field, name: &[u8]) -> Result<(), TimeFault>
     ensures { result ≡ name_checked field name.now }
 {
@@ -97,6 +99,8 @@ fn check_name(field: Field, name: &[u8]) -> Result<(), TimeFault>
     Ok(())
 }
 
+// Not put in line: the loop over the tokens of a list has no registers to spare.
+#[inline(never)]
 fn check_entry(token: &[u8]) -> Result<(), TimeFault>
     ensures { result ≡ entry_checked token.now }
 {
@@ -106,6 +110,7 @@ fn check_entry(token: &[u8]) -> Result<(), TimeFault>
     }
 }
 
+#[inline(always)]
 fn check_token(field: Field, token: &[u8]) -> Result<(), TimeFault>
     ensures { result ≡ token_checked field token.now }
 {
@@ -118,6 +123,7 @@ fn check_token(field: Field, token: &[u8]) -> Result<(), TimeFault>
 }
 
 /// Returns the first fault of the tokens of a list up to a token, given that of the tokens before it.
+#[inline(always)]
 fn check_next(before: Result<(), TimeFault>, field: Field, token: &[u8]) -> Result<(), TimeFault>
     ensures { result ≡ first_fault before (token_checked field token.now) }
 {
@@ -127,7 +133,9 @@ fn check_next(before: Result<(), TimeFault>, field: Field, token: &[u8]) -> Resu
     }
 }
 
-/// Checks that a field is a list, and then its tokens from the left.
+/// Checks that a field is a list, and then its tokens from the left. Put in line, so that it is
+/// compiled for each field.
+#[inline(always)]
 fn check_list(field: Field, text: &[u8]) -> Result<(), TimeFault>
     ensures { result ≡ list_checked field text.now }
 {

@@ -5,7 +5,7 @@ ghost use Rattle.pam_text.specs.Gives.{Gives};
 ghost use Rattle.pam_times.specs.Error.{Tells};
 ghost use Rattle.pam_times.specs.Login.{login_view};
 ghost use Rattle.pam_times.specs.Reading.{fields_view, rule_of};
-ghost use Rattle.pam_times.specs.RuleLines.{others_deny, with_line};
+ghost use Rattle.pam_times.specs.RuleLines.{name_holds, time_holds, others_deny, with_line};
 ghost use Rattle.pam_times.specs.Times.{Rule, denies, answer_at};
 ghost use Rattle.pam_times.specs.Stored.{stored, AreStored};
 
@@ -34,13 +34,29 @@ pub(crate) struct RuleLines {
     pub(crate) lines: Vec<RuleLine>,
 }
 
+/// Whether a text is a list of names that matches a name of a login.
+#[inline(never)]
+fn name_holds(text: &[u8], name: &[u8]) -> bool
+    ensures { result ≡ name_holds text.now name.now }
+{
+    is_true(text, &Fact::Name(name))
+}
+
+/// Whether a text is a list of entries that covers a time.
+#[inline(never)]
+fn time_holds(text: &[u8], time: WeekTime) -> bool
+    ensures { result ≡ time_holds text.now time.day time.minute }
+{
+    is_true(text, &Fact::Time(time))
+}
+
 /// Whether the terminals and users in the fields match a login, and the times do not include this time.
 fn others_deny(fields: Fields<'_>, login: &Login<'_>, time: WeekTime) -> bool
     ensures { result ≡ others_deny (fields_view fields.entry) (login_view login.now) time.day time.minute }
 {
-    is_true(fields.terminals, &Fact::Name(drop_dev(login.tty)))
-        && is_true(fields.users, &Fact::Name(login.user))
-        && !is_true(fields.times, &Fact::Time(time))
+    name_holds(fields.terminals, drop_dev(login.tty))
+        && name_holds(fields.users, login.user)
+        && !time_holds(fields.times, time)
 }
 
 /// Whether the rule of a line denies a login at a time. Most rules are for other services, so that the other fields are
@@ -52,7 +68,7 @@ fn denies(line: &[u8], login: &Login<'_>, time: WeekTime) -> bool
     let Some((services, _)) = cut(line, b';') else {
         return false;
     };
-    if !is_true(services, &Fact::Name(login.service)) {
+    if !name_holds(services, login.service) {
         return false;
     }
     match cut_fields(line) {

@@ -8,15 +8,15 @@ pub returns-in_default : goal.returns-in_default
 returns-in_default c = λ number rule is.
     absurd (no_cut number rule c.args.line.now is (login_view c.args.login.now) c.args.time.day c.args.time.minute c.in_default.ensures.value)
 
-pub returns-then-not-is_true : goal.returns-then-not-is_true
-returns-then-not-is_true c = λ number rule is.
+pub returns-then-not-name_holds : goal.returns-then-not-name_holds
+returns-then-not-name_holds c = λ number rule is.
     not_served number rule c.args.line.now is (login_view c.args.login.now) c.args.time.day c.args.time.minute _ _ c.in-Some.ensures.value
-    (sym c.is_true.ensures ∙ c.if-not-is_true.true)
+    (sym c.name_holds.ensures ∙ c.if-not-name_holds.true)
 
 pub returns-in-Some-cut_fields : goal.returns-in-Some-cut_fields
 returns-in-Some-cut_fields c = λ number rule is.
     others_decide number rule c.args.line.now is (login_view c.args.login.now) c.args.time.day c.args.time.minute _ _ c.in-Some.ensures.value
-    (fields_view c.in-Some-cut_fields.fields) _ (sym c.is_true.ensures ∙ c.if-not-is_true.false) c.in-Some-cut_fields.ensures c.others_deny.ensures
+    (fields_view c.in-Some-cut_fields.fields) _ (sym c.name_holds.ensures ∙ c.if-not-name_holds.false) c.in-Some-cut_fields.ensures c.others_deny.ensures
 
 pub returns-in-None : goal.returns-in-None
 returns-in-None c = λ number rule is.
