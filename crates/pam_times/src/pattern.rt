@@ -28,7 +28,7 @@ fn is_framed(front: &[u8], back: &[u8], text: &[u8]) -> bool
         return false;
     }
     let (begin, rest) = text.split_at(front.len());
-    begin == front && rest.ends_with(back)
+    begin == front && (back.is_empty() || rest.ends_with(back))
 }
 
 /// Whether a text matches a name, in which the first `*` matches any bytes. Case matters.
