@@ -1,7 +1,7 @@
 -- The value of a list from the left, and the signs of a text one after another.
 use Rattle.std.proofs.Common.{◌≡◌, ◌∙◌, ◌+◌, ◌&&◌, ◌||◌, ℕ, Bool, true, false, not, List, [], ◌∷◌, length, get_or, take, drop, map, cond, eqb, Option}
 use Rattle.std.proofs.Common.{Some, None, MatchOption, refl, sym, ap, arith, one-add}
-use Rattle.std.proofs.lemmas.Bool.{eqb-true}
+use Rattle.std.proofs.lemmas.Bool.{eqb-true, eqb-false}
 use Rattle.std.specs.List.{list_all, prefix_len}
 use Rattle.pam_codes.specs.Tokens.{is_blank}
 use Rattle.pam_times.specs.Logic.{ItemOf, may_begin, keeps, is_true_of, item_value, is_true, join, ExpectItem, ExpectToken, ExpectJoint}
@@ -158,10 +158,19 @@ no_mark b bs z h k l =
     [ true ↦ λ f. absurd (omega arith) | false ↦ λ f. refl ] z in
     rw e (rw (differs b 33 h) (rw (differs b 38 k) (rw (differs b 124 l) refl)))
 
-pub token_first : (bs a r : List ℕ) → (length bs ≡ 0 → ⊥) → prefix_len is_blank bs ≡ 0 → (get_or bs 0 0 ≡ 33 → ⊥) → (get_or bs 0 0 ≡ 38 → ⊥) →
-    (get_or bs 0 0 ≡ 124 → ⊥) → a ≡ take (prefix_len is_token_byte bs) bs → r ≡ drop (prefix_len is_token_byte bs) bs → signs_of bs ≡ Token a ∷ signs_of r
-token_first [] a r n z h k l p q = absurd (n refl)
-token_first (b ∷ bs) a r n z h k l p q = rw (p, q) (signs_token (b ∷ bs) (no_mark b bs z h k l))
+pub token_first : (bs a r : List ℕ) → (length bs ≡ 0 → ⊥) → is_token_byte (get_or bs 0 0) ≡ true →
+    a ≡ take (prefix_len is_token_byte bs) bs → r ≡ drop (prefix_len is_token_byte bs) bs → signs_of bs ≡ Token a ∷ signs_of r
+token_first [] a r n h p q = absurd (n refl)
+token_first (b ∷ bs) a r n h p q = rw (p, q) (signs_token (b ∷ bs) h)
+
+-- a byte that is no blank and in no token is an operator or `!`
+pub last_mark : (bs : List ℕ) → (length bs ≡ 0 → ⊥) → prefix_len is_blank bs ≡ 0 → is_token_byte (get_or bs 0 0) ≡ false →
+    (get_or bs 0 0 ≡ 33 → ⊥) → (get_or bs 0 0 ≡ 38 → ⊥) → get_or bs 0 0 ≡ 124
+last_mark [] n z t h k = absurd (n refl)
+last_mark (b ∷ bs) n z t h k = elim (eqb b 124) as (λ (u : Bool). eqb b 124 ≡ u → b ≡ 124) [
+  | true ↦ λ e. eqb-true b 124 e
+  | false ↦ λ e. let yes : is_token_byte b ≡ true = no_mark b bs z h k (eqb-false b 124 e) in absurd (cc)
+] refl
 
 -- ---- one item after another
 

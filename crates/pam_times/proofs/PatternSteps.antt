@@ -1,14 +1,18 @@
 -- A name with a wildcard, and the texts that it matches.
-use Rattle.std.proofs.Common.{◌≡◌, ◌∙◌, ◌+◌, ◌-◌, ◌&&◌, ◌++◌, ◌↔◌, ℕ, Bool, true, false, List, length, take, drop, position, nat_eq, Option, Some, None, refl}
+use Rattle.std.proofs.Common.{◌≡◌, ◌∙◌, ◌+◌, ◌-◌, ◌&&◌, ◌++◌, ◌↔◌, ℕ, Bool, true, false, List, length, take, drop, position, nat_eq, Option, Some, None, refl, []}
+use Rattle.std.proofs.Common.{◌∷◌, not, cond, nat_lt, count_by, suc, arith}
+use Rattle.std.proofs.lemmas.List.Sums.{sum_by-cons}
+use Rattle.std.proofs.lemmas.Bool.Decides.{nat_tests}
+use Rattle.std.specs.List.{position_or_len}
 use Rattle.std.proofs.Common.{sym, ap, ap₂}
 use Rattle.std.specs.List.{ends_with}
-use Rattle.std.specs.Option.{option_map_or}
+use Rattle.std.specs.Option.{is_some, option_map_or}
 use Rattle.std.specs.Str.{bytes_eq}
 use Rattle.std.proofs.lemmas.List.{drop-drop, take-append-drop}
 use Rattle.std.proofs.lemmas.Bool.Decides.{Decides-eqb}
 use Rattle.std.proofs.lemmas.Slice.Eq.{bytes_eq-Decides, ends_is}
 use Rattle.std.proofs.Math.Seq.{take-append_seam, drop-append_seam}
-use Rattle.pam_times.specs.Pattern.{is_star, matches, is_framed, Means, MeansAt}
+use Rattle.pam_times.specs.Pattern.{has_two_stars, is_star, matches, is_framed, Means, MeansAt}
 
 pub framed : (name text front rest back : List ℕ) (i : ℕ) (b : Bool) → Some i ≡ position is_star name → front ≡ take i name → rest ≡ drop i name →
     back ≡ drop 1 rest → b ≡ is_framed front back text → b ≡ matches name text
@@ -48,3 +52,65 @@ matches_means name text =
 
 pub tested : (name text : List ℕ) (b : Bool) → b ≡ matches name text → (b ≡ true) ↔ Means name text
 tested name text b e = let m = matches_means name text in (λ t. m.0 (sym e ∙ t), λ w. e ∙ m.1 w)
+
+-- ---- how many wildcards there are
+
+less_next : (n m : ℕ) → nat_lt (1 + n) (1 + m) ≡ nat_lt n m
+less_next n m = grind (arith, nat_tests)
+
+none_less : (n : ℕ) → true ≡ nat_lt 0 (1 + n)
+none_less n = grind (arith, nat_tests)
+
+one_less : (n : ℕ) → nat_lt 0 n ≡ nat_lt 1 (1 + n)
+one_less n = grind (arith, nat_tests)
+
+later : (x : ℕ) (xs : List ℕ) (n : ℕ) → cond (nat_lt (1 + n) (length (x ∷ xs))) (1 + count_by is_star (drop (1 + n + 1) (x ∷ xs))) 0
+    ≡ cond (nat_lt n (length xs)) (1 + count_by is_star (drop (n + 1) xs)) 0
+later x xs n =
+    let len : length (x ∷ xs) ≡ 1 + length xs = omega arith in
+    let place : 1 + n + 1 ≡ suc (n + 1) = omega arith in
+    ap₂ (λ (t : Bool) (k : ℕ). cond t (1 + count_by is_star (drop k (x ∷ xs))) 0) (ap (nat_lt (1 + n)) len ∙ less_next n (length xs)) place
+
+stars_from : (xs : List ℕ) → count_by is_star xs
+    ≡ cond (nat_lt (position_or_len is_star xs) (length xs)) (1 + count_by is_star (drop (position_or_len is_star xs + 1) xs)) 0
+stars_from [] = refl
+stars_from (x ∷ xs) = elim (is_star x) as (λ (t : Bool). is_star x ≡ t → count_by is_star (x ∷ xs)
+    ≡ cond (nat_lt (cond (not t) (1 + position_or_len is_star xs) 0) (length (x ∷ xs)))
+    (1 + count_by is_star (drop (cond (not t) (1 + position_or_len is_star xs) 0 + 1) (x ∷ xs))) 0) [
+      | true ↦ λ e.
+          let len : 1 + length xs ≡ length (x ∷ xs) = omega arith in
+          sum_by-cons (λ s. cond (is_star s) 1 0) x xs
+          ∙ rw e (ap (λ (t : Bool). cond t (1 + count_by is_star xs) 0) (none_less (length xs) ∙ ap (nat_lt 0) len))
+      | false ↦ λ e.
+          let same : 0 + count_by is_star xs ≡ count_by is_star xs = omega arith in
+          sum_by-cons (λ s. cond (is_star s) 1 0) x xs ∙ rw e (same ∙ stars_from xs ∙ sym (later x xs (position_or_len is_star xs)))
+    ] refl
+
+pub no_star : (xs : List ℕ) → None ≡ position is_star xs → false ≡ has_two_stars xs
+no_star xs h = sym (ap (nat_lt 1) (stars_from xs ∙ none (nat_lt (position_or_len is_star xs) (length xs)) _ _ h))
+  where
+    none : (t : Bool) (i n : ℕ) → None ≡ cond t (Some i) None → cond t n 0 ≡ 0
+    none true i n e = absurd (cc)
+    none false i n e = refl
+
+one_star : (xs : List ℕ) (i : ℕ) → Some i ≡ position is_star xs → count_by is_star xs ≡ 1 + count_by is_star (drop (i + 1) xs)
+one_star xs i h =
+    stars_from xs ∙ one (nat_lt (position_or_len is_star xs) (length xs)) (position_or_len is_star xs) (λ j. 1 + count_by is_star (drop (j + 1) xs)) h
+  where
+    one : (t : Bool) (j : ℕ) (f : ℕ → ℕ) → Some i ≡ cond t (Some j) None → cond t (f j) 0 ≡ f i
+    one true j f e = let same : j ≡ i = cc in ap f same
+    one false j f e = absurd (cc)
+
+some_star : (xs : List ℕ) → is_some (position is_star xs) ≡ nat_lt 0 (count_by is_star xs)
+some_star xs = some (nat_lt (position_or_len is_star xs) (length xs)) _ _ ∙ sym (ap (nat_lt 0) (stars_from xs))
+  where
+    some : (t : Bool) (i n : ℕ) → is_some (cond t (Some i) None) ≡ nat_lt 0 (cond t (1 + n) 0)
+    some true i n = none_less n
+    some false i n = refl
+
+-- a name has two wildcards if there is one after the first
+pub two_stars : (xs rest back : List ℕ) (i : ℕ) (o : Option ℕ) (b : Bool) → Some i ≡ position is_star xs → rest ≡ drop i xs → back ≡ drop 1 rest →
+    o ≡ position is_star back → b ≡ is_some o → b ≡ has_two_stars xs
+two_stars xs rest back i o b e g h k l =
+    let after : back ≡ drop (i + 1) xs = h ∙ ap (drop 1) g ∙ drop-drop 1 i xs in
+    l ∙ ap is_some k ∙ some_star back ∙ one_less (count_by is_star back) ∙ sym (ap (nat_lt 1) (one_star xs i e ∙ ap (λ (ys : List ℕ). 1 + count_by is_star ys) (sym after)))

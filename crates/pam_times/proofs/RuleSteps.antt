@@ -2,7 +2,7 @@
 use Rattle.std.proofs.Common.{◌≡◌, ◌∙◌, ◌&&◌, ℕ, Bool, true, false, not, List, [], ◌∷◌, map, cond, Option, Some, None, Result, Ok, Err, refl}
 use Rattle.std.proofs.Common.{sym, ap, ap₂}
 use Rattle.std.specs.Option.{option_map_or}
-use Rattle.pam_times.specs.Checks.{line_checked}
+use Rattle.pam_times.specs.Checks.{cut_others, line_checked}
 use Rattle.pam_times.specs.Entry.{differ, entry_of, holds}
 use Rattle.pam_times.specs.Error.{Tells, error_at}
 use Rattle.pam_times.specs.Logic.{ItemOf, is_true, is_true_of, item_value, items_of, list_value}
@@ -156,6 +156,9 @@ module _ (number : ℕ) (rule : Rule) (line : List ℕ) (is : rule_of number lin
           let same : record { services = a; terminals = x.0; users = y.0; times = y.1 } ≡ f = cc in sym (ap (λ (g : FieldTexts). g.services) same)
 
   module _ (services rest : List ℕ) (e : Some (services, rest) ≡ semicolon_cut line) where
+    pub same_fields : cut_others services rest ≡ cut_fields line
+    same_fields = rw (← e) refl
+
     first_field : (f : FieldTexts) → cut_fields line ≡ Some f → f.services ≡ services
     first_field f h = services_of services (semicolon_cut rest) None f (rw (← e) at h)
 

@@ -1,7 +1,7 @@
--- For private contracts and proofs alone: the faults of a line of time.conf(5), without its rule.
+-- For private contracts and proofs alone: the faults of a line of time.conf(5), without its rule, and its last three fields.
 use Rattle.std.specs.Prelude.{Bool, true, false, ℕ, List, Option, Some, None, Result, Ok, Err}
 use Rattle.pam_times.specs.Entry.{entry_of}
-use Rattle.pam_times.specs.Reading.{entry_or_fault, name_of, names_of, times_of}
+use Rattle.pam_times.specs.Reading.{FieldTexts, and_then, entry_or_fault, name_of, names_of, semicolon_cut, times_of}
 use Rattle.pam_times.specs.Times.{Rule}
 use Rattle.pam_times.specs.declared.error.TimeFault.{TimeFault}
 use Rattle.pam_times.specs.declared.reading.Field.{Field}
@@ -36,3 +36,9 @@ abbrev pub line_checked : Result (Option Rule) TimeFault → Result Bool TimeFau
 line_checked (Ok None) = Ok false
 line_checked (Ok (Some rule)) = Ok true
 line_checked (Err fault) = Err fault
+
+-- the fields of a line with these services and this text after them
+abbrev pub cut_others : List ℕ → List ℕ → Option FieldTexts
+cut_others services rest =
+    and_then (semicolon_cut rest) (λ b. and_then (semicolon_cut b.1) (λ c.
+    Some (record { services = services; terminals = b.0; users = c.0; times = c.1 })))

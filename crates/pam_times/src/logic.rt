@@ -60,10 +60,15 @@ fn token_len(bytes: &[u8]) -> usize
     bytes.iter().take_while(|b| is_token_byte(**b)).count()
 }
 
+/// Most signs have no blank before them.
+#[inline(always)]
 fn skip_blanks(bytes: &[u8]) -> &[u8]
     ensures signs { signs_of bytes.now ≡ signs_of result.now }
     ensures first { prefix_len is_blank result.now ≡ 0 }
 {
+    if !bytes.is_empty() && bytes[0] > b' ' {
+        return bytes;
+    }
     bytes.split_at(text_blank_len(bytes)).1
 }
 
@@ -76,17 +81,18 @@ fn first_sign(bytes: &[u8]) -> Option<(Sign<'_>, &[u8])>
     if rest.is_empty() {
         return None;
     }
+    if is_token_byte(rest[0]) {
+        let (token, after) = rest.split_at(token_len(rest));
+        return Some((Sign::Token(token), after));
+    }
+    let after = rest.split_at(1).1;
     if rest[0] == b'!' {
-        return Some((Sign::Not, rest.split_at(1).1));
+        return Some((Sign::Not, after));
     }
     if rest[0] == b'&' {
-        return Some((Sign::Joint(Joint::And), rest.split_at(1).1));
+        return Some((Sign::Joint(Joint::And), after));
     }
-    if rest[0] == b'|' {
-        return Some((Sign::Joint(Joint::Or), rest.split_at(1).1));
-    }
-    let (token, after) = rest.split_at(token_len(rest));
-    Some((Sign::Token(token), after))
+    Some((Sign::Joint(Joint::Or), after))
 }
 
 /// An item of a list, without the operator before it.

@@ -10,11 +10,14 @@ fn star_at(pattern: &[u8]) -> Option<usize>
     pattern.iter().position(|b| *b == b'*')
 }
 
-/// Whether a name has more than one `*`.
+/// Whether a name has more than one `*`. Most names end at their first, or have none.
 pub(crate) fn has_two_stars(pattern: &[u8]) -> bool
     ensures { result ≡ has_two_stars pattern.now }
 {
-    pattern.iter().filter(|b| **b == b'*').count() > 1
+    match star_at(pattern) {
+        None => false,
+        Some(place) => star_at(pattern.split_at(place).1.split_at(1).1).is_some(),
+    }
 }
 
 /// Whether a text begins with `front` and ends with `back`, without overlap.
@@ -25,7 +28,7 @@ fn is_framed(front: &[u8], back: &[u8], text: &[u8]) -> bool
         return false;
     }
     let (begin, rest) = text.split_at(front.len());
-    begin == front && rest.ends_with(back)
+    begin == front && (back.is_empty() || rest.ends_with(back))
 }
 
 /// Whether a text matches a name, in which the first `*` matches any bytes. Case matters.

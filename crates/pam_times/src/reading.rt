@@ -5,7 +5,7 @@ ghost use Rattle.std.specs.List.{list_all};
 ghost use Rattle.std.specs.Option.{option_map};
 ghost use Rattle.pam_codes.specs.Tokens.{is_blank};
 ghost use Rattle.pam_times.specs.Reading.{is_netgroup, has_empty, cut_fields, fields_of, fields_view, rule_of};
-ghost use Rattle.pam_times.specs.Checks.{name_checked, entry_checked, first_fault, token_checked, list_checked, line_checked};
+ghost use Rattle.pam_times.specs.Checks.{cut_others, name_checked, entry_checked, first_fault, token_checked, list_checked, line_checked};
 
 use crate::entry::TimeEntry;
 use crate::error::TimeFault;
@@ -46,11 +46,10 @@ fn has_empty(fields: Fields<'_>) -> bool
         || is_blank_text(fields.times)
 }
 
-/// Cuts a line into its four fields. Returns `None` if one is missing. The last is the rest of the line.
-pub(crate) fn cut_fields(line: &[u8]) -> Option<Fields<'_>>
-    ensures { option_map fields_view result ≡ cut_fields line.now }
+/// Cuts what follows the services of a line into the other three fields. Returns `None` if one is missing.
+pub(crate) fn cut_others<'a>(services: &'a [u8], rest: &'a [u8]) -> Option<Fields<'a>>
+    ensures { option_map fields_view result ≡ cut_others services.now rest.now }
 {
-    let (services, rest) = cut(line, b';')?;
     let (terminals, rest) = cut(rest, b';')?;
     let (users, times) = cut(rest, b';')?;
     Some(Fields {
@@ -59,6 +58,14 @@ pub(crate) fn cut_fields(line: &[u8]) -> Option<Fields<'_>>
         users,
         times,
     })
+}
+
+/// Cuts a line into its four fields. Returns `None` if one is missing. The last is the rest of the line.
+fn cut_fields(line: &[u8]) -> Option<Fields<'_>>
+    ensures { option_map fields_view result ≡ cut_fields line.now }
+{
+    let (services, rest) = cut(line, b';')?;
+    cut_others(services, rest)
 }
 
 /// Like `cut_fields`, but also returns `None` if a field is blank.
@@ -133,8 +140,7 @@ fn check_next(before: Result<(), TimeFault>, field: Field, token: &[u8]) -> Resu
     }
 }
 
-/// Checks that a field is a list, and then its tokens from the left. Put in line, so that it is
-/// compiled for each field.
+/// Checks that a field is a list, and then its tokens from the left. Put in line, so that it is compiled for each field.
 #[inline(always)]
 fn check_list(field: Field, text: &[u8]) -> Result<(), TimeFault>
     ensures { result ≡ list_checked field text.now }

@@ -13,7 +13,7 @@ use crate::error::TimeError;
 use crate::fact::Fact;
 use crate::logic::is_true;
 use crate::login::{Login, drop_dev};
-use crate::reading::{Fields, check_line, cut_fields};
+use crate::reading::{Fields, check_line, cut_others};
 use crate::times::TimeAnswer;
 use crate::week_time::WeekTime;
 use pam_text::{Line, cut};
@@ -65,13 +65,13 @@ fn denies(line: &[u8], login: &Login<'_>, time: WeekTime) -> bool
     ensures { (number : ℕ) (rule : Rule) → rule_of number line.now ≡ Ok (Some rule)
         → result ≡ denies rule (login_view login.now) time.day time.minute }
 {
-    let Some((services, _)) = cut(line, b';') else {
+    let Some((services, rest)) = cut(line, b';') else {
         return false;
     };
     if !name_holds(services, login.service) {
         return false;
     }
-    match cut_fields(line) {
+    match cut_others(services, rest) {
         Some(fields) => others_deny(fields, login, time),
         None => false,
     }

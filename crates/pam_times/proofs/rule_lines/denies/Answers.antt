@@ -1,7 +1,7 @@
 use Rattle.std.proofs.Common.{◌∙◌, sym}
 use Rattle.pam_times.specs.Login.{login_view}
 use Rattle.pam_times.specs.Reading.{fields_view}
-use Rattle.pam_times.proofs.RuleSteps.{has_cut, no_cut, not_served, others_decide}
+use Rattle.pam_times.proofs.RuleSteps.{has_cut, no_cut, not_served, others_decide, same_fields}
 use Rattle.pam_times.proofs.rule_lines.denies.Goals as goal
 
 pub returns-in_default : goal.returns-in_default
@@ -13,11 +13,13 @@ returns-then-not-name_holds c = λ number rule is.
     not_served number rule c.args.line.now is (login_view c.args.login.now) c.args.time.day c.args.time.minute _ _ c.in-Some.ensures.value
     (sym c.name_holds.ensures ∙ c.if-not-name_holds.true)
 
-pub returns-in-Some-cut_fields : goal.returns-in-Some-cut_fields
-returns-in-Some-cut_fields c = λ number rule is.
+pub returns-in-Some-cut_others : goal.returns-in-Some-cut_others
+returns-in-Some-cut_others c = λ number rule is.
+    let same = same_fields number rule c.args.line.now is (login_view c.args.login.now) c.args.time.day c.args.time.minute _ _ c.in-Some.ensures.value in
     others_decide number rule c.args.line.now is (login_view c.args.login.now) c.args.time.day c.args.time.minute _ _ c.in-Some.ensures.value
-    (fields_view c.in-Some-cut_fields.fields) _ (sym c.name_holds.ensures ∙ c.if-not-name_holds.false) c.in-Some-cut_fields.ensures c.others_deny.ensures
+    (fields_view c.in-Some-cut_others.fields) _ (sym c.name_holds.ensures ∙ c.if-not-name_holds.false) (c.in-Some-cut_others.ensures ∙ same) c.others_deny.ensures
 
 pub returns-in-None : goal.returns-in-None
 returns-in-None c = λ number rule is.
-    absurd (has_cut number rule c.args.line.now is (login_view c.args.login.now) c.args.time.day c.args.time.minute c.in-None.ensures)
+    let same = same_fields number rule c.args.line.now is (login_view c.args.login.now) c.args.time.day c.args.time.minute _ _ c.in-Some.ensures.value in
+    absurd (has_cut number rule c.args.line.now is (login_view c.args.login.now) c.args.time.day c.args.time.minute (c.in-None.ensures ∙ same))
