@@ -6,6 +6,7 @@ ghost use Rattle.pam_page.specs.KeptSteps.{code_text, undotted};
 ghost use Rattle.pam_page.specs.Page.{code_name, path_line, step_text};
 
 use crate::buffer::Buffer;
+use crate::code_texts::append_name;
 use pam_codes::Code;
 use pam_paths::Path;
 
@@ -21,8 +22,8 @@ fn undotted(codes: &[u8]) -> &[u8]
 
 /// Appends the text of a cursor, from the codes of its first and its last steps. Returns whether there was room.
 fn append_cursor(lines: &mut Buffer, first: &[u8], last: &[u8]) -> bool
-    ensures kept { take (length lines.old.bytes.items) lines.new.bytes.items ≡ lines.old.bytes.items }
-    ensures ok { IsTrue result → lines.new.bytes.items ≡ lines.old.bytes.items ++ undotted (first.now ++ last.now) }
+    ensures kept { take (length lines.old) lines.new ≡ lines.old }
+    ensures ok { IsTrue result → lines.new ≡ lines.old ++ undotted (first.now ++ last.now) }
 {
     if first.is_empty() {
         return lines.append(undotted(last));
@@ -32,18 +33,18 @@ fn append_cursor(lines: &mut Buffer, first: &[u8], last: &[u8]) -> bool
 
 /// Appends a blank and the name of a decision. Returns whether there was room.
 fn append_decision(lines: &mut Buffer, decision: Code) -> bool
-    ensures kept { take (length lines.old.bytes.items) lines.new.bytes.items ≡ lines.old.bytes.items }
-    ensures ok { IsTrue result → lines.new.bytes.items ≡ (lines.old.bytes.items ++ codes " ") ++ code_name decision }
+    ensures kept { take (length lines.old) lines.new ≡ lines.old }
+    ensures ok { IsTrue result → lines.new ≡ (lines.old ++ codes " ") ++ code_name decision }
 {
-    lines.append(b" ") && lines.append(decision.name().as_bytes())
+    lines.push(b' ') && append_name(lines, decision)
 }
 
 /// Appends the texts of steps, and the end of the line. Returns whether there was room.
 fn append_steps(lines: &mut Buffer, first: &[u8], last: &[u8]) -> bool
-    ensures kept { take (length lines.old.bytes.items) lines.new.bytes.items ≡ lines.old.bytes.items }
-    ensures ok { IsTrue result → lines.new.bytes.items ≡ ((lines.old.bytes.items ++ first.now) ++ last.now) ++ codes "\n" }
+    ensures kept { take (length lines.old) lines.new ≡ lines.old }
+    ensures ok { IsTrue result → lines.new ≡ ((lines.old ++ first.now) ++ last.now) ++ codes "\n" }
 {
-    lines.append(first) && lines.append(last) && lines.append(b"\n")
+    lines.append(first) && lines.append(last) && lines.push(b'\n')
 }
 
 /// Appends the line of a path, part by part. Returns whether there was room.
@@ -55,8 +56,8 @@ fn append_parts(
     first_steps: &[u8],
     last_steps: &[u8],
 ) -> bool
-    ensures kept { take (length lines.old.bytes.items) lines.new.bytes.items ≡ lines.old.bytes.items }
-    ensures ok { IsTrue result → lines.new.bytes.items ≡ (((((lines.old.bytes.items ++ undotted (first_codes.now ++ last_codes.now)) ++ codes " ")
+    ensures kept { take (length lines.old) lines.new ≡ lines.old }
+    ensures ok { IsTrue result → lines.new ≡ (((((lines.old ++ undotted (first_codes.now ++ last_codes.now)) ++ codes " ")
         ++ code_name decision) ++ first_steps.now) ++ last_steps.now) ++ codes "\n" }
 {
     append_cursor(lines, first_codes, last_codes)
@@ -75,7 +76,7 @@ pub(crate) fn append_line(
 ) -> bool
     requires cursor { first_codes.now ++ last_codes.now ≡ flat_map code_text path.now.steps }
     requires steps { first_steps.now ++ last_steps.now ≡ flat_map step_text path.now.steps }
-    ensures { lines.new.bytes.items ≡ (if result then lines.old.bytes.items ++ path_line path.now else lines.old.bytes.items) }
+    ensures { lines.new ≡ (if result then lines.old ++ path_line path.now else lines.old) }
 {
     let end = lines.len();
     let decision = path.decision();
