@@ -24,6 +24,9 @@ const ANY: &[u8] = b"any";
 /// The greatest length of ` NUMBER=any`, in bytes.
 const STEP_BYTES: usize = 8;
 
+/// As many bytes as are copied at once for ` NUMBER=`, which has no more.
+const NUMBER_BYTES: usize = 8;
+
 /// The texts of steps that have every code, for the modules 1, 2 and so on.
 #[derive(Drop)]
 pub(crate) struct AlikeTexts {
@@ -78,7 +81,17 @@ impl AlikeTexts {
     }
 
     /// Appends texts until there are those of `count` modules. Returns whether there was room.
+    #[inline]
     pub(crate) fn reach(&mut self, count: usize) -> bool
+        ensures { IsTrue result → count ≤ self.new }
+    {
+        self.ends.len() >= count || self.push_up_to(count)
+    }
+
+    /// Does the work of `reach`. Apart from it, the test there is inlined.
+    #[cold]
+    #[inline(never)]
+    fn push_up_to(&mut self, count: usize) -> bool
         ensures { IsTrue result → count ≤ self.new }
     {
         while self.ends.len() < count {
@@ -127,7 +140,7 @@ impl AlikeTexts {
         ensures { steps.new ≡ (if result then steps.old ++ concat (codes " " ∷ decimal number ∷ codes "=" ∷ []) else steps.old) }
     {
         let (start, end) = (self.end(number - 1), self.end(number) - ANY.len());
-        steps.append_part(&self.steps, start, end)
+        steps.append_part::<NUMBER_BYTES>(&self.steps, start, end)
     }
 
     /// Appends texts until there are those of the modules of `tail`, the last steps of a path. Returns the number of modules

@@ -1,6 +1,6 @@
 //! A byte buffer of fixed capacity.
 
-ghost use Rattle.std.specs.Prelude.{◌≡◌, ◌+◌, ◌-◌, ◌≤◌, ◌++◌, ◌∷◌, [], if◌then◌else◌, drop, length, take, IfOk, IsTrue};
+ghost use Rattle.std.specs.Prelude.{◌≡◌, ◌+◌, ◌-◌, ◌^◌, ◌<◌, ◌≤◌, ◌++◌, ◌∷◌, [], if◌then◌else◌, drop, length, take, IfOk, IsTrue};
 
 use std::alloc::{AllocError, Global};
 use std::io;
@@ -9,9 +9,6 @@ use std::marker::Model;
 
 /// The number of bytes that are filled with zeros at once. A text seldom needs all of the capacity.
 const FILLED_BYTES: usize = 4096;
-
-/// The greatest length of a text that is copied with the bytes after it, as many as this. Such a copy takes no call.
-const SHORT_BYTES: usize = 32;
 
 /// A writer into memory that is allocated once. It never grows.
 #[derive(Drop)]
@@ -140,33 +137,33 @@ impl Buffer {
         if !has_room(&mut self.bytes, self.end, N) {
             return false;
         }
+        let end = self.end + count;
         put_at(&mut self.bytes, self.end, padded);
-        self.end += count;
+        self.end = end;
         true
     }
 
-    /// Appends a part of the text of another buffer if there is room for it. Returns whether there was.
+    /// Appends a part of the text of another buffer if there is room for it. Returns whether there was. A part of at most
+    /// `N` bytes is copied with the bytes after it, `N` in all, which takes no call.
     #[inline]
-    pub(crate) fn append_part(&mut self, other: &Buffer, start: usize, end: usize) -> bool
+    pub(crate) fn append_part<const N: usize>(
+        &mut self,
+        other: &Buffer,
+        start: usize,
+        end: usize,
+    ) -> bool
+        requires size { N < 2 ^ 63 }
         requires order { start ≤ end }
         requires within { end ≤ length other.now }
         ensures { self.new ≡ (if result then self.old ++ take (end - start) (drop start other.now) else self.old) }
     {
         let count = end - start;
-        if count <= SHORT_BYTES {
-            if let Some(padded) = other.bytes[start..].first_chunk::<SHORT_BYTES>() {
+        if count <= N {
+            if let Some(padded) = other.bytes[start..].first_chunk::<N>() {
                 return self.append_front(padded, count);
             }
         }
         self.append(&other.as_slice()[start..end])
-    }
-
-    /// Appends the text of another buffer if there is room for it. Returns whether there was.
-    #[inline]
-    pub(crate) fn append_all(&mut self, other: &Buffer) -> bool
-        ensures { self.new ≡ (if result then self.old ++ other.now else self.old) }
-    {
-        self.append_part(other, 0, other.end)
     }
 
     /// Keeps the first `count` bytes.

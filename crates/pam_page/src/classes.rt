@@ -13,6 +13,9 @@ use std::mem;
 /// The greatest length of the text of a class, in bytes: `but:` and 15 names.
 const CLASS_BYTES: usize = 237;
 
+/// As many bytes as are copied at once for a class of a few names, or for `but:` and a few.
+const SHORT_BYTES: usize = 32;
+
 /// A class and its text.
 #[derive(Drop)]
 struct ClassText {
@@ -76,10 +79,11 @@ impl ClassText {
     }
 
     /// Appends the text. Returns whether there was room.
+    #[inline]
     fn append_to(&self, steps: &mut Buffer) -> bool
         ensures { steps.new ≡ (if result then steps.old ++ set_text self.now else steps.old) }
     {
-        steps.append_all(&self.text)
+        steps.append_part::<SHORT_BYTES>(&self.text, 0, self.text.len())
     }
 
     /// Replaces the text by that of `class`. Returns whether there was room.

@@ -10,6 +10,9 @@ use crate::code_texts::append_name;
 use pam_codes::Code;
 use pam_paths::Path;
 
+/// As many bytes as are copied at once for the cursor of a path of a few steps.
+const CURSOR_BYTES: usize = 64;
+
 /// Returns the text of a cursor, from the codes with a dot before each.
 fn undotted(codes: &[u8]) -> &[u8]
     ensures { result.now ≡ undotted codes.now }
@@ -21,14 +24,14 @@ fn undotted(codes: &[u8]) -> &[u8]
 }
 
 /// Appends the text of a cursor, from the codes of its first and its last steps. Returns whether there was room.
-fn append_cursor(lines: &mut Buffer, first: &[u8], last: &[u8]) -> bool
+fn append_cursor(lines: &mut Buffer, first: &Buffer, last: &[u8]) -> bool
     ensures kept { take (length lines.old) lines.new ≡ lines.old }
     ensures ok { IsTrue result → lines.new ≡ lines.old ++ undotted (first.now ++ last.now) }
 {
-    if first.is_empty() {
+    if first.len() == 0 {
         return lines.append(undotted(last));
     }
-    lines.append(undotted(first)) && lines.append(last)
+    lines.append_part::<CURSOR_BYTES>(first, 1, first.len()) && lines.append(last)
 }
 
 /// Appends a blank and the name of a decision. Returns whether there was room.
@@ -50,7 +53,7 @@ fn append_steps(lines: &mut Buffer, first: &[u8], last: &[u8]) -> bool
 /// Appends the line of a path, part by part. Returns whether there was room.
 fn append_parts(
     lines: &mut Buffer,
-    first_codes: &[u8],
+    first_codes: &Buffer,
     last_codes: &[u8],
     decision: Code,
     first_steps: &[u8],
@@ -68,7 +71,7 @@ fn append_parts(
 /// Appends the line of a path by the texts of its first and its last steps, if there is room. Returns whether there was.
 pub(crate) fn append_line(
     lines: &mut Buffer,
-    first_codes: &[u8],
+    first_codes: &Buffer,
     last_codes: &[u8],
     first_steps: &[u8],
     last_steps: &[u8],

@@ -83,6 +83,7 @@ fn write_lines<W: Write>(lines: &mut Buffer, out: &mut Out<W>) -> Result<(), Dev
 
 /// Adds the line of a path, whose first steps are the kept ones, to `lines`. Writes those first if there is no room, and
 /// then the line too if there still is none.
+#[inline]
 fn add_line<W: Write>(
     lines: &mut Buffer,
     texts: &mut LineTexts,

@@ -215,7 +215,7 @@ impl LineTexts {
         };
         append_line(
             lines,
-            self.cursor.as_slice(),
+            &self.cursor,
             self.alike.codes(tail.len()),
             self.steps.as_slice(),
             self.alike.steps(before, last),
