@@ -1,13 +1,13 @@
 -- The texts of steps that have every code.
 use Rattle.std.proofs.Common.{◌≡◌, ℕ, ◌+◌, ◌-◌, ◌*◌, ◌<◌, ◌≤◌, zero, suc, List, [], ◌∷◌, ◌++◌, length, take, drop, get_or, refl, sym, ap, ◌∙◌, arith, inl, inr}
-use Rattle.std.proofs.Common.{None, Some, append-nil, append_assoc, codes, decimal, length-append, map, slice_get}
+use Rattle.std.proofs.Common.{None, Some, append-nil, append_assoc, codes, decimal, length-append, length-drop, map, slice_get}
 use Rattle.std.specs.Fmt.{digits}
 use Rattle.std.specs.List.{concat, flat_map}
 use Rattle.std.proofs.Math.ListN.{get_or-append}
 use Rattle.std.proofs.Math.Seq.{drop-append_seam, get_or-append_seam}
 use Rattle.std.proofs.lemmas.Bool.{cases_eq}
 use Rattle.std.proofs.lemmas.Grind.{flat_map-append}
-use Rattle.std.proofs.lemmas.List.{length-map, take-append-drop, take_at}
+use Rattle.std.proofs.lemmas.List.{length-map, length-take, take-append-drop, take-take, take_at}
 use Rattle.pam_codes.specs.Code.{all_codes}
 use Rattle.pam_page.proofs.FlatTexts.{flat_map-push}
 use Rattle.pam_page.proofs.LineParts.{set_text-all}
@@ -110,6 +110,21 @@ number-shown number text some is =
     let count : length text ≡ length numbered + 3 = ap length whole ∙ length-append numbered (codes "any") in (
       ap (take (length text - 3)) whole ∙ take_at numbered (codes "any") (length text - 3) (omega (arith, count)),
       omega (arith, count),
+    )
+
+pub number-between : (all number start end : ℕ) (text : List ℕ) → text ≡ steps_to all → 1 ≤ number → number ≤ all →
+    start ≡ length (steps_to (number - 1)) → end ≡ length (steps_to number) →
+    (take (end - 3 - start) (drop start text) ≡ concat (codes " " ∷ decimal number ∷ codes "=" ∷ [])) × (start + 3 ≤ end)
+number-between all number start end text is some within is_start is_end =
+    let rest = drop start text in
+    let whole = take (end - start) rest in
+    let between = steps-between all (number - 1) number start end text text is refl (omega arith) within is_start is_end in
+    let shown = number-shown number whole some between in
+    let count : length whole ≡ end - start =
+    omega (arith, length-take (end - start) rest, length-drop start text, ap length is, is_end, steps-within all number within) in
+    let short : end - 3 - start ≡ length whole - 3 = omega (arith, count) in (
+      sym (take-take (end - 3 - start) (end - start) rest (omega arith)) ∙ ap (λ (n : ℕ). take n whole) short ∙ shown.0,
+      omega (arith, shown.1, count),
     )
 
 -- ONE MORE MODULE

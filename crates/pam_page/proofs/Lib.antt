@@ -1,7 +1,9 @@
 pub mod AddedLines
 pub mod AlikeTexts
+pub mod CodeTexts
 pub mod FlatTexts
 pub mod KeptTexts
 pub mod LineParts
+pub mod PaddedTexts
 pub mod PageTexts
 pub mod SameSets

@@ -1,7 +1,6 @@
 -- The texts of a line, part by part.
-use Rattle.std.proofs.Common.{◌≡◌, ℕ, List, [], ◌∷◌, ◌++◌, Some, Option, codes, decimal, refl, sym, subst, ap}
+use Rattle.std.proofs.Common.{◌≡◌, ℕ, List, [], ◌∷◌, ◌++◌, Some, Option, codes, decimal, get_or, refl, sym, ap, ◌∙◌, zero, suc}
 use Rattle.std.proofs.Common.{unwrap_or, slice_get, arith, length}
-use Rattle.std.proofs.lemmas.Option.{get_or_from_slice_get}
 use Rattle.std.specs.List.{concat, flat_map}
 use Rattle.pam_codes.specs.Code.{code_names}
 use Rattle.pam_codes.specs.SetText.{names_text, set_text}
@@ -24,14 +23,18 @@ unfolding path_line
 path_line-is path cursor name steps e f g = rw (e, f, g) refl
 
 -- the text of a class of one code, and of the class of all codes
-pub set_text-one : (class : List ℕ) (code : ℕ) (name : List ℕ) → length class ≡ 1 → Some code ≡ slice_get class 0 → slice_get code_names code ≡ Some name
-    → name ≡ set_text class
-unfolding set_text names_text
-set_text-one [] code name count first found = absurd (omega (arith, count))
-set_text-one (c ∷ []) code name count first found =
+named : (names : List (List ℕ)) (code : ℕ) → unwrap_or (slice_get names code) [] ≡ get_or names code []
+named [] code = refl
+named (name ∷ names) zero = refl
+named (name ∷ names) (suc code) = named names code
+
+pub set_text-one : (class : List ℕ) (code : ℕ) → length class ≡ 1 → Some code ≡ slice_get class 0 → code_name code ≡ set_text class
+unfolding set_text names_text code_name
+set_text-one [] code count first = absurd (omega (arith, count))
+set_text-one (c ∷ []) code count first =
     let same : code ≡ c = cc in
-    sym (get_or_from_slice_get code_names c name [] (subst (λ (k : ℕ). slice_get code_names k ≡ Some name) same found))
-set_text-one (c ∷ d ∷ cs) code name count first found = absurd (omega (arith, count))
+    ap (λ (k : ℕ). unwrap_or (slice_get code_names k) []) same ∙ named code_names c
+set_text-one (c ∷ d ∷ cs) code count first = absurd (omega (arith, count))
 
 pub set_text-all : (class : List ℕ) → length class ≡ 31 → codes "any" ≡ set_text class
 unfolding set_text

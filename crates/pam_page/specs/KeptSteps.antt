@@ -1,5 +1,5 @@
 -- For private contracts and proofs alone: the texts of the steps of a path, and the end of each.
-use Rattle.std.specs.Prelude.{◌≡◌, ℕ, ◌+◌, List, [], ◌∷◌, ◌++◌, codes, decimal, length, map, take, Some, slice_get}
+use Rattle.std.specs.Prelude.{◌≡◌, ℕ, if◌then◌else◌, nat_lt, ◌+◌, List, [], ◌∷◌, ◌++◌, codes, decimal, length, map, take, Some, slice_get}
 use Rattle.std.specs.List.{flat_map}
 use Rattle.pam_page.specs.Page.{step_text}
 use Rattle.pam_page.specs.declared.texts.KeptStep.{KeptStep}
@@ -10,6 +10,10 @@ use Rattle.pam_paths.specs.Steps.{step_seen}
 -- `.CODE`, the least code of the class of a step
 unfoldable pub code_text : StepValue → List ℕ
 code_text step = codes "." ++ decimal (least step.class)
+
+-- the length of a dot and a number below 100
+abbrev pub number_len : ℕ → ℕ
+number_len number = if nat_lt number 10 then 2 else 3
 
 -- the step that is kept
 abbrev pub step_of : KeptStep → StepValue

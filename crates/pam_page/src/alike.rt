@@ -24,6 +24,9 @@ const ANY: &[u8] = b"any";
 /// The greatest length of ` NUMBER=any`, in bytes.
 const STEP_BYTES: usize = 8;
 
+/// As many bytes as are copied at once for ` NUMBER=`, which has no more.
+const NUMBER_BYTES: usize = 8;
+
 /// The texts of steps that have every code, for the modules 1, 2 and so on.
 #[derive(Drop)]
 pub(crate) struct AlikeTexts {
@@ -44,7 +47,7 @@ impl Model for AlikeTexts {
 
     ghost view = { λ t. length t.ends.items };
 
-    ghost invariant = { λ t. AreAlikeTexts t.ends.items t.cursor.bytes.items t.steps.bytes.items };
+    ghost invariant = { λ t. AreAlikeTexts t.ends.items t.cursor t.steps };
 }
 
 impl AlikeTexts {
@@ -78,7 +81,17 @@ impl AlikeTexts {
     }
 
     /// Appends texts until there are those of `count` modules. Returns whether there was room.
+    #[inline]
     pub(crate) fn reach(&mut self, count: usize) -> bool
+        ensures { IsTrue result → count ≤ self.new }
+    {
+        self.ends.len() >= count || self.push_up_to(count)
+    }
+
+    /// Does the work of `reach`. Apart from it, the test there is inlined.
+    #[cold]
+    #[inline(never)]
+    fn push_up_to(&mut self, count: usize) -> bool
         ensures { IsTrue result → count ≤ self.new }
     {
         while self.ends.len() < count {
@@ -119,14 +132,15 @@ impl AlikeTexts {
         &self.steps.as_slice()[start..end]
     }
 
-    /// ` NUMBER=` for a module.
-    pub(crate) fn number_text(&self, number: usize) -> &[u8]
+    /// Appends ` NUMBER=` for a module to `steps`. Returns whether there was room.
+    #[inline]
+    pub(crate) fn append_number_to(&self, steps: &mut Buffer, number: usize) -> bool
         requires first { 1 ≤ number }
         requires within { number ≤ self.now }
-        ensures { result.now ≡ concat (codes " " ∷ decimal number ∷ codes "=" ∷ []) }
+        ensures { steps.new ≡ (if result then steps.old ++ concat (codes " " ∷ decimal number ∷ codes "=" ∷ []) else steps.old) }
     {
-        let text = self.steps(number - 1, number);
-        &text[..text.len() - ANY.len()]
+        let (start, end) = (self.end(number - 1), self.end(number) - ANY.len());
+        steps.append_part::<NUMBER_BYTES>(&self.steps, start, end)
     }
 
     /// Appends texts until there are those of the modules of `tail`, the last steps of a path. Returns the number of modules
@@ -155,7 +169,7 @@ impl AlikeTexts {
 
 /// Appends ` NUMBER=`. Returns whether there was room.
 fn append_number(steps: &mut Buffer, number: usize) -> bool
-    ensures { IsTrue result → steps.new.bytes.items ≡ steps.old.bytes.items ++ concat (codes " " ∷ decimal number ∷ codes "=" ∷ []) }
+    ensures { IsTrue result → steps.new ≡ steps.old ++ concat (codes " " ∷ decimal number ∷ codes "=" ∷ []) }
 {
     let mut digits = Digits::new();
     if !steps.append(b" ") || !steps.append(digits.format(number).as_bytes()) {

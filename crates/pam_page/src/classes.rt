@@ -1,6 +1,6 @@
 //! The texts of the classes that were appended last.
 
-ghost use Rattle.std.specs.Prelude.{◌≡◌, ◌++◌, ◌&&◌, [], not, IsTrue};
+ghost use Rattle.std.specs.Prelude.{◌≡◌, ◌++◌, ◌&&◌, [], if◌then◌else◌, not, IsTrue};
 ghost use Rattle.pam_codes.specs.Set.{IsCodeSet, codes_where, is_in};
 ghost use Rattle.pam_codes.specs.SetText.{set_text};
 
@@ -12,6 +12,9 @@ use std::mem;
 
 /// The greatest length of the text of a class, in bytes: `but:` and 15 names.
 const CLASS_BYTES: usize = 237;
+
+/// As many bytes as are copied at once for a class of a few names, or for `but:` and a few.
+const SHORT_BYTES: usize = 32;
 
 /// A class and its text.
 #[derive(Drop)]
@@ -29,13 +32,13 @@ impl Model for ClassText {
 
     ghost view = { λ t. t.class };
 
-    ghost invariant = { λ t. t.text.bytes.items ≡ set_text t.class };
+    ghost invariant = { λ t. t.text ≡ set_text t.class };
 }
 
 /// Appends the text of a class by a writer. Returns whether there was room.
 #[inline(never)]
 fn append_set(text: &mut Buffer, class: CodeSet) -> bool
-    ensures { IsTrue result → text.new.bytes.items ≡ text.old.bytes.items ++ set_text class }
+    ensures { IsTrue result → text.new ≡ text.old ++ set_text class }
 {
     let empty = Buffer::empty(text.allocator());
     let mut out = Out::new(mem::replace(text, empty));
@@ -75,10 +78,12 @@ impl ClassText {
         self.class.len() == class.len() && is_same(self.class, class)
     }
 
-    fn text(&self) -> &[u8]
-        ensures { result.now ≡ set_text self.now }
+    /// Appends the text. Returns whether there was room.
+    #[inline]
+    fn append_to(&self, steps: &mut Buffer) -> bool
+        ensures { steps.new ≡ (if result then steps.old ++ set_text self.now else steps.old) }
     {
-        self.text.as_slice()
+        steps.append_part::<SHORT_BYTES>(&self.text, 0, self.text.len())
     }
 
     /// Replaces the text by that of `class`. Returns whether there was room.
@@ -111,24 +116,17 @@ impl ClassTexts {
         })
     }
 
-    /// Makes `class` the last one. Returns whether there was room for its text.
-    fn find(&mut self, class: CodeSet) -> bool
-        ensures { IsTrue result → self.new.last ≡ class }
-    {
-        if self.last.is_of(class) {
-            return true;
-        }
-        mem::swap(&mut self.last, &mut self.earlier);
-        self.last.is_of(class) || self.last.replace(class)
-    }
-
     /// Appends the text of `class`. Returns whether there was room.
     pub(crate) fn append_to(&mut self, steps: &mut Buffer, class: CodeSet) -> bool
-        ensures { IsTrue result → steps.new.bytes.items ≡ steps.old.bytes.items ++ set_text class }
+        ensures { IsTrue result → steps.new ≡ steps.old ++ set_text class }
     {
-        if !self.find(class) {
-            return false;
+        if self.last.is_of(class) {
+            return self.last.append_to(steps);
         }
-        steps.append(self.last.text())
+        if self.earlier.is_of(class) {
+            return self.earlier.append_to(steps);
+        }
+        mem::swap(&mut self.last, &mut self.earlier);
+        self.last.replace(class) && self.last.append_to(steps)
     }
 }

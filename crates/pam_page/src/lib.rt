@@ -5,12 +5,13 @@
 mod alike;
 mod buffer;
 mod classes;
+mod code_texts;
+mod copied;
 pub mod laws;
-mod line;
-mod lines;
 mod listing;
 mod page;
 mod texts;
+mod written;
 
 pub use listing::Listing;
 pub use page::put_page;

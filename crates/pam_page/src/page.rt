@@ -7,9 +7,9 @@ ghost use Rattle.pam_page.specs.Lines.{Adds};
 ghost use Rattle.pam_page.specs.Page.{first_page, page_text, path_line, text_after};
 
 use crate::buffer::Buffer;
-use crate::line::{put_end, put_more, put_path};
 use crate::listing::Listing;
 use crate::texts::LineTexts;
+use crate::written::{put_end, put_more, put_path};
 use pam_codes::{Device, Out};
 use pam_paths::{Knowledge, Path};
 use std::io::Write;
@@ -52,7 +52,7 @@ fn put_rest<K: Knowledge, W: Write>(
     lines: &mut Buffer,
     out: &mut Out<W>,
 ) -> Result<(), Device>
-    requires empty { lines.old.bytes.items ≡ [] }
+    requires empty { lines.old ≡ [] }
     requires kept { texts.old ≡ take (length texts.old) (followed listing.old).steps }
     requires few { count < 2 ^ 32 - 1 }
     ensures { Writes W.contents out.old out.new result (text_after (side listing.old) count (first_page 1 (coming listing.old))) }
@@ -73,8 +73,8 @@ fn put_rest<K: Knowledge, W: Write>(
 
 /// Writes the lines, and keeps none of them.
 fn write_lines<W: Write>(lines: &mut Buffer, out: &mut Out<W>) -> Result<(), Device>
-    ensures empty { lines.new.bytes.items ≡ [] }
-    ensures written { Writes W.contents out.old out.new result lines.old.bytes.items }
+    ensures empty { lines.new ≡ [] }
+    ensures written { Writes W.contents out.old out.new result lines.old }
 {
     let result = out.put(lines.as_slice());
     lines.truncate(0);
@@ -83,6 +83,7 @@ fn write_lines<W: Write>(lines: &mut Buffer, out: &mut Out<W>) -> Result<(), Dev
 
 /// Adds the line of a path, whose first steps are the kept ones, to `lines`. Writes those first if there is no room, and
 /// then the line too if there still is none.
+#[inline]
 fn add_line<W: Write>(
     lines: &mut Buffer,
     texts: &mut LineTexts,
@@ -91,7 +92,7 @@ fn add_line<W: Write>(
 ) -> Result<(), Device>
     requires kept { texts.old ≡ take (length texts.old) path.now.steps }
     ensures kept { texts.new ≡ texts.old }
-    ensures added { Adds W.contents out.old out.new lines.old.bytes.items lines.new.bytes.items result (path_line path.now) }
+    ensures added { Adds W.contents out.old out.new lines.old lines.new result (path_line path.now) }
 {
     if texts.append_line(path, lines) {
         return Ok(());

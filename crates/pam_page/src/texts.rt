@@ -12,8 +12,8 @@ ghost use Rattle.pam_paths.specs.Tail.{AreAlike};
 use crate::alike::AlikeTexts;
 use crate::buffer::Buffer;
 use crate::classes::ClassTexts;
-use crate::lines::append_line;
-use itoa::Buffer as Digits;
+use crate::code_texts::{append_name, append_number};
+use crate::copied::append_line;
 use pam_codes::{CODES, CodeSet};
 use pam_dispatch::MAX_MODULES;
 use pam_paths::{Path, PathStep};
@@ -67,32 +67,30 @@ impl Model for LineTexts {
 
     ghost view = { λ t. map step_of t.kept.items };
 
-    ghost invariant = { λ t. AreTexts t.kept.items t.cursor.bytes.items t.steps.bytes.items };
+    ghost invariant = { λ t. AreTexts t.kept.items t.cursor t.steps };
 }
 
 /// Appends `.CODE`, the least code of the class of a step. Returns whether there was room.
 #[tactic(auto, unfolding(crate::specs::KeptSteps::code_text))]
 fn append_code(cursor: &mut Buffer, step: &PathStep) -> bool
-    ensures { IsTrue result → cursor.new.bytes.items ≡ cursor.old.bytes.items ++ code_text (step_seen step.now) }
+    ensures { IsTrue result → cursor.new ≡ cursor.old ++ code_text (step_seen step.now) }
 {
-    let number = match step.class().least() {
-        Some(code) => code.number(),
-        None => 0,
-    };
-    let mut digits = Digits::new();
-    cursor.append(b".") && cursor.append(digits.format(number).as_bytes())
+    match step.class().least() {
+        Some(code) => append_number(cursor, code),
+        None => false,
+    }
 }
 
 /// Appends the text of a class. Returns whether there was room.
 fn append_class(steps: &mut Buffer, classes: &mut ClassTexts, class: CodeSet) -> bool
-    ensures { IsTrue result → steps.new.bytes.items ≡ steps.old.bytes.items ++ set_text class }
+    ensures { IsTrue result → steps.new ≡ steps.old ++ set_text class }
 {
     match class.len() {
         1 => match class.least() {
-            Some(code) => steps.append(code.name().as_bytes()),
+            Some(code) => append_name(steps, code),
             None => unreachable!(),
         },
-        CODES => steps.append(b"any"),
+        CODES => steps.append_front(b"any", 3),
         _ => classes.append_to(steps, class),
     }
 }
@@ -104,7 +102,7 @@ fn append_step(
     classes: &mut ClassTexts,
     step: &PathStep,
 ) -> bool
-    ensures { IsTrue result → steps.new.bytes.items ≡ steps.old.bytes.items ++ step_text (step_seen step.now) }
+    ensures { IsTrue result → steps.new ≡ steps.old ++ step_text (step_seen step.now) }
 {
     let number = step.number();
     if number == 0 {
@@ -113,7 +111,7 @@ fn append_step(
     if !alike.reach(number) {
         return false;
     }
-    steps.append(alike.number_text(number)) && append_class(steps, classes, step.class())
+    alike.append_number_to(steps, number) && append_class(steps, classes, step.class())
 }
 
 /// Appends a step if there is room. Returns whether there was.
@@ -206,7 +204,7 @@ impl LineTexts {
     pub(crate) fn append_line(&mut self, path: &Path, lines: &mut Buffer) -> bool
         requires kept { self.old ≡ take (length self.old) path.now.steps }
         ensures kept { self.new ≡ self.old }
-        ensures line { lines.new.bytes.items ≡ (if result then lines.old.bytes.items ++ path_line path.now else lines.old.bytes.items) }
+        ensures line { lines.new ≡ (if result then lines.old ++ path_line path.now else lines.old) }
     {
         let tail = path.tail();
         if self.kept.len() != path.steps().len() - tail.len() {
@@ -217,7 +215,7 @@ impl LineTexts {
         };
         append_line(
             lines,
-            self.cursor.as_slice(),
+            &self.cursor,
             self.alike.codes(tail.len()),
             self.steps.as_slice(),
             self.alike.steps(before, last),
@@ -228,7 +226,7 @@ impl LineTexts {
     /// Returns the buffer for the lines that are not written yet, without bytes. Keeps none itself.
     pub(crate) fn take_lines(&mut self) -> Buffer
         ensures kept { self.new ≡ self.old }
-        ensures empty { result.bytes.items ≡ [] }
+        ensures empty { result ≡ [] }
     {
         let empty = Buffer::empty(self.lines.allocator());
         let mut lines = mem::replace(&mut self.lines, empty);

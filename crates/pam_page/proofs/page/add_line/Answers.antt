@@ -5,5 +5,5 @@ use Rattle.pam_page.proofs.page.add_line.Goals as goal
 
 pub returns-clause-added : goal.returns-clause-added
 returns-clause-added g c =
-    adds-after _ c.args.lines.now.bytes.items _ _ c.put_path.result (all-is c.in_ok-write_lines.ensures.written c.if-append_line.ensures.line)
+    adds-after _ c.args.lines.now _ _ c.put_path.result (all-is c.in_ok-write_lines.ensures.written c.if-append_line.ensures.line)
     (c.if-append_line-2.ensures.line ∙ c.in_ok-write_lines.ensures.empty) c.put_path.ensures

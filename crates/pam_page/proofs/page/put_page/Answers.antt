@@ -56,7 +56,7 @@ loop-count-preserved g c =
     let lines = ap (flat_map path_line) next.before ∙ flat_map-push path_line (take l.count all) (followed c.follow.new.self) in
     let more = ap (λ (text : List ℕ). flat_map path_line (take l.count all) ++ text) (ap path_line c.path-path.ensures) in
     record {
-      written = holds-is _ _ _ (holds-more l.lines.bytes.items c.add_line.new.lines.bytes.items (flat_map path_line (take l.count all))
+      written = holds-is _ _ _ (holds-more l.lines c.add_line.new.lines (flat_map path_line (take l.count all))
           (path_line c.path-path.result.now) l.invariant.written c.in_ok-add_line.ensures.added) (more ∙ sym lines);
       left = sym next.after;
       side = c.in-Some.ensures.side ∙ l.invariant.side;

@@ -8,7 +8,7 @@ use Rattle.pam_page.proofs.page.put_page.Given as goal
 
 abbrev pub invariant-loop-count : goal.invariant-loop-count
 invariant-loop-count g l = record {
-  written : Holds g.W.Write.contents l.initial.out l.out l.lines.bytes.items (flat_map path_line (take l.count (coming l.fn.listing)));
+  written : Holds g.W.Write.contents l.initial.out l.out l.lines (flat_map path_line (take l.count (coming l.fn.listing)));
   left : coming l.listing ≡ drop l.count (coming l.fn.listing);
   side : side l.listing ≡ side l.fn.listing;
   kept : l.texts ≡ take (length l.texts) (followed l.listing).steps;

@@ -5,9 +5,9 @@ use Rattle.pam_page.proofs.alike.AlikeTexts.push.Goals as goal
 pub invariant_of-self : goal.invariant_of-self
 invariant_of-self c =
     let inside = c.self.inside in
-    let cursor = inside.cursor.bytes.items in
-    let numbered = c.append_number.new.steps.bytes.items in
-    one-alike inside.ends.items cursor inside.steps.bytes.items _ _ numbered _ (c.len-number.result + 1) c.len.result c.self.invariant
+    let cursor = inside.cursor in
+    let numbered = c.append_number.new.steps in
+    one-alike inside.ends.items cursor inside.steps _ _ numbered _ (c.len-number.result + 1) c.len.result c.self.invariant
     (omega (arith, c.len-number.ensures, inside.ends.ok))
     (c.append.ensures ∙ ap (λ (fits : Bool). cond fits (cursor ++ codes ".0") cursor) c.if-append.true)
     (c.append_number.ensures c.if-append_number.true)

@@ -17,10 +17,10 @@ pushed c =
 pub invariant_of-self : goal.invariant_of-self
 invariant_of-self c =
     let inside = c.self.inside in
-    let cursor = c.append_code.new.cursor.bytes.items in
-    let steps = c.append_step.new.steps.bytes.items in
+    let cursor = c.append_code.new.cursor in
+    let steps = c.append_step.new.steps in
     subst (λ (ms : List KeptStep). AreTexts ms cursor steps) (sym (pushed c))
-    (texts_push inside.kept.items inside.cursor.bytes.items inside.steps.bytes.items (kept_of c) cursor steps c.self.invariant
+    (texts_push inside.kept.items inside.cursor inside.steps (kept_of c) cursor steps c.self.invariant
     (c.append_code.ensures c.if-append_code.true) (c.append_step.ensures c.if-append_step.true) c.len.ensures c.len-then-append_step.ensures)
 
 pub invariant_of-self-2 : goal.invariant_of-self-2

@@ -2,7 +2,7 @@ use Rattle.std.proofs.Common.{◌∙◌, ap, refl}
 use Rattle.pam_codes.proofs.Writing.{all-then, err-front, front-is, front-longer, front-then, writes-is, writes-then}
 use Rattle.pam_page.proofs.LineParts.{code_name-is, path_line-is}
 use Rattle.pam_page.specs.Page.{code_name}
-use Rattle.pam_page.proofs.line.put_path.Goals as goal
+use Rattle.pam_page.proofs.written.put_path.Goals as goal
 
 pub returns-in_err-write_text : goal.returns-in_err-write_text
 returns-in_err-write_text g c =

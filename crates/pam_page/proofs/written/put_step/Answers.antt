@@ -3,7 +3,7 @@ use Rattle.pam_codes.specs.SetText.{set_text}
 use Rattle.pam_codes.proofs.Writing.{err-front, front-is, front-longer, writes-is, writes-then}
 use Rattle.pam_page.proofs.LineParts.{step_text-is}
 use Rattle.pam_paths.specs.Steps.{step_seen}
-use Rattle.pam_page.proofs.line.put_step.Goals as goal
+use Rattle.pam_page.proofs.written.put_step.Goals as goal
 
 pub returns-in_err-put_line : goal.returns-in_err-put_line
 returns-in_err-put_line g c =

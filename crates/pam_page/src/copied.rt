@@ -6,8 +6,12 @@ ghost use Rattle.pam_page.specs.KeptSteps.{code_text, undotted};
 ghost use Rattle.pam_page.specs.Page.{code_name, path_line, step_text};
 
 use crate::buffer::Buffer;
+use crate::code_texts::append_name;
 use pam_codes::Code;
 use pam_paths::Path;
+
+/// As many bytes as are copied at once for the cursor of a path of a few steps.
+const CURSOR_BYTES: usize = 64;
 
 /// Returns the text of a cursor, from the codes with a dot before each.
 fn undotted(codes: &[u8]) -> &[u8]
@@ -20,43 +24,43 @@ fn undotted(codes: &[u8]) -> &[u8]
 }
 
 /// Appends the text of a cursor, from the codes of its first and its last steps. Returns whether there was room.
-fn append_cursor(lines: &mut Buffer, first: &[u8], last: &[u8]) -> bool
-    ensures kept { take (length lines.old.bytes.items) lines.new.bytes.items ≡ lines.old.bytes.items }
-    ensures ok { IsTrue result → lines.new.bytes.items ≡ lines.old.bytes.items ++ undotted (first.now ++ last.now) }
+fn append_cursor(lines: &mut Buffer, first: &Buffer, last: &[u8]) -> bool
+    ensures kept { take (length lines.old) lines.new ≡ lines.old }
+    ensures ok { IsTrue result → lines.new ≡ lines.old ++ undotted (first.now ++ last.now) }
 {
-    if first.is_empty() {
+    if first.len() == 0 {
         return lines.append(undotted(last));
     }
-    lines.append(undotted(first)) && lines.append(last)
+    lines.append_part::<CURSOR_BYTES>(first, 1, first.len()) && lines.append(last)
 }
 
 /// Appends a blank and the name of a decision. Returns whether there was room.
 fn append_decision(lines: &mut Buffer, decision: Code) -> bool
-    ensures kept { take (length lines.old.bytes.items) lines.new.bytes.items ≡ lines.old.bytes.items }
-    ensures ok { IsTrue result → lines.new.bytes.items ≡ (lines.old.bytes.items ++ codes " ") ++ code_name decision }
+    ensures kept { take (length lines.old) lines.new ≡ lines.old }
+    ensures ok { IsTrue result → lines.new ≡ (lines.old ++ codes " ") ++ code_name decision }
 {
-    lines.append(b" ") && lines.append(decision.name().as_bytes())
+    lines.push(b' ') && append_name(lines, decision)
 }
 
 /// Appends the texts of steps, and the end of the line. Returns whether there was room.
 fn append_steps(lines: &mut Buffer, first: &[u8], last: &[u8]) -> bool
-    ensures kept { take (length lines.old.bytes.items) lines.new.bytes.items ≡ lines.old.bytes.items }
-    ensures ok { IsTrue result → lines.new.bytes.items ≡ ((lines.old.bytes.items ++ first.now) ++ last.now) ++ codes "\n" }
+    ensures kept { take (length lines.old) lines.new ≡ lines.old }
+    ensures ok { IsTrue result → lines.new ≡ ((lines.old ++ first.now) ++ last.now) ++ codes "\n" }
 {
-    lines.append(first) && lines.append(last) && lines.append(b"\n")
+    lines.append(first) && lines.append(last) && lines.push(b'\n')
 }
 
 /// Appends the line of a path, part by part. Returns whether there was room.
 fn append_parts(
     lines: &mut Buffer,
-    first_codes: &[u8],
+    first_codes: &Buffer,
     last_codes: &[u8],
     decision: Code,
     first_steps: &[u8],
     last_steps: &[u8],
 ) -> bool
-    ensures kept { take (length lines.old.bytes.items) lines.new.bytes.items ≡ lines.old.bytes.items }
-    ensures ok { IsTrue result → lines.new.bytes.items ≡ (((((lines.old.bytes.items ++ undotted (first_codes.now ++ last_codes.now)) ++ codes " ")
+    ensures kept { take (length lines.old) lines.new ≡ lines.old }
+    ensures ok { IsTrue result → lines.new ≡ (((((lines.old ++ undotted (first_codes.now ++ last_codes.now)) ++ codes " ")
         ++ code_name decision) ++ first_steps.now) ++ last_steps.now) ++ codes "\n" }
 {
     append_cursor(lines, first_codes, last_codes)
@@ -67,7 +71,7 @@ fn append_parts(
 /// Appends the line of a path by the texts of its first and its last steps, if there is room. Returns whether there was.
 pub(crate) fn append_line(
     lines: &mut Buffer,
-    first_codes: &[u8],
+    first_codes: &Buffer,
     last_codes: &[u8],
     first_steps: &[u8],
     last_steps: &[u8],
@@ -75,7 +79,7 @@ pub(crate) fn append_line(
 ) -> bool
     requires cursor { first_codes.now ++ last_codes.now ≡ flat_map code_text path.now.steps }
     requires steps { first_steps.now ++ last_steps.now ≡ flat_map step_text path.now.steps }
-    ensures { lines.new.bytes.items ≡ (if result then lines.old.bytes.items ++ path_line path.now else lines.old.bytes.items) }
+    ensures { lines.new ≡ (if result then lines.old ++ path_line path.now else lines.old) }
 {
     let end = lines.len();
     let decision = path.decision();

@@ -1,6 +1,6 @@
 use Rattle.pam_codes.proofs.Writing.{all-then, err-front, front-longer, front-then, writes-then}
 use Rattle.pam_page.specs.Page.{last_line}
-use Rattle.pam_page.proofs.line.put_more.Goals as goal
+use Rattle.pam_page.proofs.written.put_more.Goals as goal
 
 pub returns-in_err-put_line : goal.returns-in_err-put_line
 unfolding last_line

@@ -5,7 +5,7 @@ use Rattle.pam_page.proofs.FlatTexts.{flat_map-seen_at}
 use Rattle.pam_page.specs.Page.{step_text}
 use Rattle.pam_paths.specs.Steps.{step_seen}
 use Rattle.pam_paths.specs.declared.path.PathStep.{PathStep}
-use Rattle.pam_page.proofs.line.put_steps.Goals as goal
+use Rattle.pam_page.proofs.written.put_steps.Goals as goal
 
 pub returns-in_err-put_step : goal.returns-in_err-put_step
 returns-in_err-put_step g c =

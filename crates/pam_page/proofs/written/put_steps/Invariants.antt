@@ -4,7 +4,7 @@ use Rattle.std.specs.List.{flat_map}
 use Rattle.pam_codes.specs.Out.{TookAll}
 use Rattle.pam_page.specs.Page.{step_text}
 use Rattle.pam_paths.specs.Steps.{step_seen}
-use Rattle.pam_page.proofs.line.put_steps.Given as goal
+use Rattle.pam_page.proofs.written.put_steps.Given as goal
 
 abbrev pub invariant-loop-step : goal.invariant-loop-step
 invariant-loop-step g l = TookAll g.W.Write.contents l.initial.out l.out (flat_map step_text (map step_seen (take l.step-index l.steps)))
