@@ -66,21 +66,11 @@ impl Control {
     }
 
     /// The control of a keyword, ignoring ASCII case.
-    #[tactic(auto, unfolding(crate::specs::Control::keywords, crate::specs::Control::keyword_pairs, crate::specs::Control::actions_of))]
     fn from_keyword(word: &[u8]) -> Option<Control>
         ensures { result ≡ option_map actions_of (keyword_pairs word.now) }
     {
-        if is_name(b"required", word) {
-            Some(Control::keyword(Action::Ok, Action::Bad))
-        } else if is_name(b"requisite", word) {
-            Some(Control::keyword(Action::Ok, Action::Die))
-        } else if is_name(b"sufficient", word) {
-            Some(Control::keyword(Action::Done, Action::Ignore))
-        } else if is_name(b"optional", word) {
-            Some(Control::keyword(Action::Ok, Action::Ignore))
-        } else {
-            None
-        }
+        let (granted, other) = keyword_actions(word)?;
+        Some(Control::keyword(granted, other))
     }
 
     /// The control with the `named` actions, and `default` for the other codes.
@@ -141,7 +131,7 @@ impl Control {
         if !text.is_empty() && text[0] == b'[' {
             return check_list(between_brackets(text.split_at(1).1)?);
         }
-        match Control::from_keyword(text) {
+        match keyword_actions(text) {
             Some(_) => Ok(()),
             None => Err(ControlError::BadControl),
         }
@@ -217,6 +207,25 @@ impl Control {
             Some(word) => out.put(word.as_bytes()),
             None => self.write_list(out),
         }
+    }
+}
+
+/// The arguments of `Control::keyword` for a keyword, ignoring ASCII case.
+#[tactic(auto, unfolding(crate::specs::Control::keywords, crate::specs::Control::keyword_pairs, crate::specs::Control::actions_of))]
+fn keyword_actions(word: &[u8]) -> Option<(Action, Action)>
+    ensures value { option_map actions_of (keyword_pairs word.now) ≡ option_map (λ p. actions_of (granting_pairs p.0 p.1)) result }
+    ensures actions { IfSome result (λ p. IsAction p.0 × IsAction p.1) }
+{
+    if is_name(b"required", word) {
+        Some((Action::Ok, Action::Bad))
+    } else if is_name(b"requisite", word) {
+        Some((Action::Ok, Action::Die))
+    } else if is_name(b"sufficient", word) {
+        Some((Action::Done, Action::Ignore))
+    } else if is_name(b"optional", word) {
+        Some((Action::Ok, Action::Ignore))
+    } else {
+        None
     }
 }
 
