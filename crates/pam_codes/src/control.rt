@@ -123,7 +123,7 @@ impl Control {
         Control::from_keyword(text).ok_or(ControlError::BadControl)
     }
 
-    /// Fails where `read` fails, with the same fault. Sooner than `read`, since no actions are kept.
+    /// Fails where `read` fails, with the same fault. Faster than `read`, since it keeps no actions.
     #[tactic(auto, unfolding(crate::specs::Control::control_of))]
     pub fn check(text: &[u8]) -> Result<(), ControlError>
         ensures { result ≡ fault_of (control_of text.now) }

@@ -41,6 +41,7 @@ pub struct Explorer<'a, K: Knowledge> {
     frames: Frames,
     /// The path returned last.
     path: Path,
+    /// The classes of the modules asked so far.
     kept: KeptClasses,
     /// The steps at which the answers no longer matter are copied from here.
     alike: AlikeSteps,

@@ -1,6 +1,7 @@
 //! The tests, by what they test.
 
 mod answers;
+mod controls;
 mod faults;
 mod files;
 mod halting;
