@@ -30,6 +30,8 @@ fn plain_len(bytes: &[u8]) -> usize
 }
 
 /// The number of bytes up to the closing bracket, this one included; `None` if no bracket closes.
+// Not put in line, so that the readers of words that have no bracket stay short enough to be.
+#[inline(never)]
 fn inside_len(inside: &[u8]) -> Option<usize>
     ensures value { MatchOption result (words_in (Bracket false) inside.now ≡ None)
         (λ n. option_map (onto_first 91) (words_in (Bracket false) inside.now) ≡ words_from (Some (91 ∷ take n inside.now, drop n inside.now))) }
@@ -39,6 +41,7 @@ fn inside_len(inside: &[u8]) -> Option<usize>
 }
 
 /// The length of the leading word, as it is written.
+#[inline(always)]
 fn word_len(bytes: &[u8]) -> Result<usize, ControlError>
     requires something { 0 < length bytes.now }
     requires word { prefix_len is_blank bytes.now ≡ 0 }
@@ -56,6 +59,7 @@ fn word_len(bytes: &[u8]) -> Result<usize, ControlError>
 }
 
 /// The first word of a line, as it is written, and the bytes after it; `None` if there is no word.
+#[inline(always)]
 fn first_word(line: &[u8]) -> Result<Option<(&[u8], &[u8])>, ControlError>
     ensures value { MatchResult result (λ o. words_of line.now ≡ words_from (option_map (λ p. (p.0.now, p.1.now)) o))
         (λ e. words_or_fault line.now ≡ Err (FaultKind.Control e)) }
