@@ -26,8 +26,8 @@ all_zipped_at (x ∷ xs) (y ∷ ys) zero c p h within = h.0
 all_zipped_at (x ∷ xs) (y ∷ ys) (suc index) c p h within = all_zipped_at xs ys index c p h.1 (omega (arith, within))
 
 -- each module of a program has a position
-pub length-positions : (entries program : List Entry) (positions : List ℕ) {parts : List (List Part)} {flat tail : ℕ} → IsProgram entries positions parts flat tail →
-    entries ≡ program →
+pub length-positions : (entries program : List Entry) (positions : List ℕ) {parts : List (List Part)} {flat tail : ℕ} →
+    IsProgram entries positions parts flat tail → entries ≡ program →
     length positions ≡ modules_of program
 length-positions entries program positions p is =
     ap (λ (x : List ℕ). length x) p.found ∙ length-positions_from 0 entries ∙ ap (λ (ts : List Entry). modules_of ts) is

@@ -149,6 +149,7 @@ resume-outermost program flat from skip skipped es s outermost after within leas
     let left : length (drop from program) ≡ length program - from = length-drop from program in
     let at : flat + (from - flat) ≡ from = omega (arith, after) in
     let here : AreOutermost (drop from program) =
-    subst AreOutermost (drop-drop (from - flat) flat program ∙ ap (λ (n : ℕ). drop n program) at) (All-drop (λ (e : Entry). level_of e ≡ 0) (from - flat) _ outermost) in
+    subst AreOutermost (drop-drop (from - flat) flat program ∙ ap (λ (n : ℕ). drop n program) at)
+    (All-drop (λ (e : Entry). level_of e ≡ 0) (from - flat) _ outermost) in
     ap (λ (x : List Entry). resume x 0 0 es s) (sym (drop-drop skipped from program))
     ∙ resume-flat (drop from program) skip skipped es s here (omega (arith, least)) (λ fewer. omega (arith, least, left, fewer))

@@ -1,5 +1,6 @@
 -- A name with a wildcard, and the texts that it matches.
-use Rattle.std.proofs.Common.{◌≡◌, ◌∙◌, ◌+◌, ◌-◌, ◌&&◌, ◌++◌, ◌↔◌, ℕ, Bool, true, false, List, length, take, drop, position, nat_eq, Option, Some, None, refl, []}
+use Rattle.std.proofs.Common.{◌≡◌, ◌∙◌, ◌+◌, ◌-◌, ◌&&◌, ◌++◌, ◌↔◌, ℕ, Bool, true, false, List, length, take, drop, position}
+use Rattle.std.proofs.Common.{nat_eq, Option, Some, None, refl, []}
 use Rattle.std.proofs.Common.{◌∷◌, not, cond, nat_lt, count_by, suc, arith}
 use Rattle.std.proofs.lemmas.List.Sums.{sum_by-cons}
 use Rattle.std.proofs.lemmas.Bool.Decides.{nat_tests}
@@ -113,4 +114,5 @@ pub two_stars : (xs rest back : List ℕ) (i : ℕ) (o : Option ℕ) (b : Bool) 
     o ≡ position is_star back → b ≡ is_some o → b ≡ has_two_stars xs
 two_stars xs rest back i o b e g h k l =
     let after : back ≡ drop (i + 1) xs = h ∙ ap (drop 1) g ∙ drop-drop 1 i xs in
-    l ∙ ap is_some k ∙ some_star back ∙ one_less (count_by is_star back) ∙ sym (ap (nat_lt 1) (one_star xs i e ∙ ap (λ (ys : List ℕ). 1 + count_by is_star ys) (sym after)))
+    l ∙ ap is_some k ∙ some_star back ∙ one_less (count_by is_star back)
+    ∙ sym (ap (nat_lt 1) (one_star xs i e ∙ ap (λ (ys : List ℕ). 1 + count_by is_star ys) (sym after)))

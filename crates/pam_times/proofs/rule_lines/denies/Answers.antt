@@ -17,7 +17,8 @@ pub returns-in-Some-cut_others : goal.returns-in-Some-cut_others
 returns-in-Some-cut_others c = λ number rule is.
     let same = same_fields number rule c.args.line.now is (login_view c.args.login.now) c.args.time.day c.args.time.minute _ _ c.in-Some.ensures.value in
     others_decide number rule c.args.line.now is (login_view c.args.login.now) c.args.time.day c.args.time.minute _ _ c.in-Some.ensures.value
-    (fields_view c.in-Some-cut_others.fields) _ (sym c.name_holds.ensures ∙ c.if-not-name_holds.false) (c.in-Some-cut_others.ensures ∙ same) c.others_deny.ensures
+    (fields_view c.in-Some-cut_others.fields) _ (sym c.name_holds.ensures ∙ c.if-not-name_holds.false)
+    (c.in-Some-cut_others.ensures ∙ same) c.others_deny.ensures
 
 pub returns-in-None : goal.returns-in-None
 returns-in-None c = λ number rule is.
