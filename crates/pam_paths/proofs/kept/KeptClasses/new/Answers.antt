@@ -1,4 +1,4 @@
-use Rattle.std.proofs.Common.{◌≡◌, ℕ, ◌<◌, ◌≤◌, ◌-◌, None, Some, arith, ap, sym, ◌∙◌}
+use Rattle.std.proofs.Common.{◌-◌, None, arith, ap}
 use Rattle.std.proofs.lemmas.List.{get_or-replicate}
 use Rattle.pam_paths.specs.declared.kept.Kept.{Kept}
 use Rattle.pam_paths.specs.Kept.{AreKept, AreOf}
