@@ -23,8 +23,16 @@ fn unread(alloc: Global, name: &str, error: &io::Error) -> InputError {
     }
 }
 
-fn bytes_at<R: std::rt::Files>(rt: &R, alloc: Global, path: Path<'_>) -> io::Result<Vec<u8>> {
-    let mut bytes = Vec::new(alloc);
+/// Reads a file, of which the system says that it has `len` bytes. That may be wrong: a device has none, and a file can
+/// grow.
+fn bytes_at<R: std::rt::Files>(
+    rt: &R,
+    alloc: Global,
+    path: Path<'_>,
+    len: u64,
+) -> io::Result<Vec<u8>> {
+    // Room for one byte more, so that the end is found without growing.
+    let mut bytes = Vec::with_capacity(alloc, len.min(MOST) as usize + 1)?;
     let mut reader = fs::open(rt, path)?.take(MOST);
     reader.read_to_end(&mut bytes)?;
     Ok(bytes)
@@ -32,15 +40,22 @@ fn bytes_at<R: std::rt::Files>(rt: &R, alloc: Global, path: Path<'_>) -> io::Res
 
 /// Reads a file that the request names.
 fn named_file<R: std::rt::Files>(rt: &R, alloc: Global, name: &str) -> Result<Vec<u8>, InputError> {
-    bytes_at(rt, alloc, Path::new(name)).map_err(|error| unread(alloc, name, &error))
+    let path = Path::new(name);
+    let len = match fs::metadata(rt, path) {
+        Ok(metadata) => metadata.len(),
+        // What is wrong with the file is seen when it is opened.
+        Err(_) => 0,
+    };
+    bytes_at(rt, alloc, path, len).map_err(|error| unread(alloc, name, &error))
 }
 
-/// Whether an entry is a regular file, after links are followed. A dangling or circular link is not.
-fn is_regular<R: std::rt::Files>(rt: &R, path: Path<'_>) -> io::Result<bool> {
+/// The length of an entry, in bytes, if it is a regular file after links are followed. A dangling or circular link is
+/// not.
+fn regular_len<R: std::rt::Files>(rt: &R, path: Path<'_>) -> io::Result<Option<u64>> {
     match fs::metadata(rt, path) {
-        Ok(metadata) => Ok(metadata.is_file()),
+        Ok(metadata) => Ok(metadata.is_file().then_some(metadata.len())),
         Err(error) => match error.kind() {
-            ErrorKind::NotFound | ErrorKind::FilesystemLoop | ErrorKind::NotADirectory => Ok(false),
+            ErrorKind::NotFound | ErrorKind::FilesystemLoop | ErrorKind::NotADirectory => Ok(None),
             _ => Err(error),
         },
     }
@@ -74,10 +89,10 @@ fn entry_bytes<R: std::rt::Files>(
     name: &str,
 ) -> io::Result<Option<Vec<u8>>> {
     let path = Path::new(folder).join(alloc, name)?;
-    if !is_regular(rt, path.as_path())? {
-        return Ok(None);
+    match regular_len(rt, path.as_path())? {
+        Some(len) => Ok(Some(bytes_at(rt, alloc, path.as_path(), len)?)),
+        None => Ok(None),
     }
-    Ok(Some(bytes_at(rt, alloc, path.as_path())?))
 }
 
 /// Reads an entry of a folder, and adds it if it is a regular file.
