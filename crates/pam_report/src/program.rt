@@ -3,7 +3,7 @@
 use crate::fault::{
     Fault, fault_status, fault_text, input_status, input_text, usage_status, usage_text,
 };
-use crate::inputs::{Inputs, inputs_of};
+use crate::inputs::{InputError, Inputs, inputs_of};
 use crate::report::answer;
 use pam_codes::Out;
 use pam_conf::{Files as ConfFiles, Form};
@@ -23,8 +23,20 @@ pub fn run<R: Files + AllocGlobal + Clone + Drop, W: Write, V: Write>(
 ) -> u8 {
     match request(alloc, words) {
         Ok(request) => answer_request(rt, alloc, &request, out, err),
-        Err(Usage::Help(text)) => help(alloc, &text, out, err),
-        Err(usage) => refuse(alloc, &usage, err),
+        Err(usage) => help_or_refuse(alloc, &usage, out, err),
+    }
+}
+
+/// Writes the help that the words ask for, or reports wrong words, and returns the exit status.
+fn help_or_refuse<W: Write, V: Write>(
+    alloc: Global,
+    usage: &Usage,
+    out: &mut Out<W>,
+    err: &mut Out<V>,
+) -> u8 {
+    match usage {
+        Usage::Help(text) => help(alloc, text, out, err),
+        _ => refuse(alloc, usage, err),
     }
 }
 
@@ -55,11 +67,14 @@ fn answer_request<R: Files + AllocGlobal + Clone + Drop, W: Write, V: Write>(
 ) -> u8 {
     match inputs_of(rt, alloc, request) {
         Ok(inputs) => report(alloc, request, &inputs, out, err),
-        Err(error) => {
-            say(input_text(alloc, &error), err);
-            input_status(&error)
-        }
+        Err(error) => refuse_input(alloc, &error, err),
     }
+}
+
+/// Reports an input that cannot be read on standard error, and returns the exit status.
+fn refuse_input<V: Write>(alloc: Global, error: &InputError, err: &mut Out<V>) -> u8 {
+    say(input_text(alloc, error), err);
+    input_status(error)
 }
 
 fn report<W: Write, V: Write>(

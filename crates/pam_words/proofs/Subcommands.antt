@@ -1,10 +1,12 @@
--- A command with one more command, from the contract of `clap`.
+-- A command with one more argument or command, from the contract of `clap`.
 use Rattle.std.proofs.Common.{◌≡◌, ℕ, ◌+◌, ◌<◌, ◌≤◌, ◌||◌, Bool, false, List, ap₂, refl, ◌∙◌, add-one, drop, drop-cons, get_or, length}
 use Rattle.std.proofs.lemmas.List.{drop_all}
-use Rattle.clap.specs.Words.{AddsSubcommand, App, app_of, with_subcommand}
+use Rattle.clap.specs.Words.{AddsArg, AddsSubcommand, App, Rule, app_of, rule_of, with_rule, with_subcommand}
+use Rattle.clap.specs.declared.builder.Arg.{Arg}
 use Rattle.clap.specs.declared.builder.Command.{Command}
 use Rattle.clap.specs.declared.builder.Command.TheViews.{out-Command}
-use Rattle.pam_words.specs.Building.{app_of_row, with_commands}
+use Rattle.pam_words.specs.Building.{app_of_row, rule_of_row, with_args, with_commands}
+use Rattle.pam_words.specs.declared.words.ArgRow.{ArgRow}
 use Rattle.pam_words.specs.declared.words.CommandRow.{CommandRow}
 
 pub add-app : (old sub new : Command) (a b : App) → AddsSubcommand old sub new → (out-Command sub).has_globals ≡ false → app_of old ≡ a → app_of sub ≡ b
@@ -17,6 +19,23 @@ neither a b e s = rw (e, s) refl
 pub add-local : (old sub new : Command) → AddsSubcommand old sub new → (out-Command old).has_globals ≡ false → (out-Command sub).has_globals ≡ false
     → (out-Command new).has_globals ≡ false
 add-local old sub new h e s = h.globals ∙ neither _ _ e s
+
+pub add-rule : (old new : Command) (arg : Arg) (a : App) (r : Rule) → AddsArg old arg new → arg.global ≡ false → app_of old ≡ a → rule_of arg ≡ r
+    → app_of new ≡ with_rule a r
+add-rule old new arg a r h local e s = h.shape local ∙ ap₂ {A = App} {B = Rule} {C = App} with_rule e s
+
+pub add-rule-local : (old new : Command) (arg : Arg) → AddsArg old arg new → arg.global ≡ false → (out-Command old).has_globals ≡ false
+    → (out-Command new).has_globals ≡ false
+add-rule-local old new arg h local e = h.globals ∙ neither _ _ e local
+
+-- a command with the argument at an index has the others still to come
+pub add-arg : {all : App} (rows : List ArgRow) (i : ℕ) (row : ArgRow) (old new : App) → i < length rows
+    → new ≡ with_rule old (rule_of_row (get_or rows i row)) → with_args old (drop i rows) ≡ all → with_args new (drop (i + 1) rows) ≡ all
+add-arg rows i row old new h e before = rw (e, add-one) (rw (drop-cons rows i row) at before)
+
+-- a command to which no argument is left to add has them all
+pub no-arg : {all : App} (rows : List ArgRow) (i : ℕ) (app : App) → length rows ≤ i → with_args app (drop i rows) ≡ all → app ≡ all
+no-arg rows i app none same = rw (drop_all i rows none) at same
 
 -- a command with the row at an index has the others still to come
 pub add-command : {all : App} (rows : List CommandRow) (i : ℕ) (row : CommandRow) (old new : App) → i < length rows

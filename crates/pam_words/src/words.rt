@@ -4,7 +4,7 @@ ghost use Rattle.std.specs.Prelude.{◌≡◌, false};
 ghost use Rattle.clap.specs.Words.{App, app_of, rule_of};
 ghost use Rattle.clap.specs.declared.builder.Command.TheViews.{out-Command as fields_of};
 ghost use Rattle.pam_words.specs.Building.{IsBuilt, app_of_row, rule_of_row, with_args as with_rules, with_commands as with_apps};
-ghost use Rattle.pam_words.specs.Words.{pamcheck_app};
+ghost use Rattle.pam_words.specs.Words.{bare_app, pamcheck_app};
 
 use crate::limit::limit_parser;
 use clap::{Arg, ArgAction, Command};
@@ -292,12 +292,19 @@ fn with_commands<'a>(
     Ok(command)
 }
 
+/// Returns the command line without its commands.
+fn bare_command<'a>(alloc: Global) -> Command<'a>
+    ensures app { app_of result ≡ bare_app }
+    ensures local { (fields_of result).has_globals ≡ false }
+{
+    Command::new(alloc, "pamcheck")
+        .about("Explains what a PAM stack can decide")
+        .subcommand_required(true)
+}
+
 /// Returns the whole command line, as a `clap` command.
 pub fn pamcheck_command<'a>(alloc: Global) -> Result<Command<'a>, AllocError>
     ensures { IsBuilt result pamcheck_app }
 {
-    let command = Command::new(alloc, "pamcheck")
-        .about("Explains what a PAM stack can decide")
-        .subcommand_required(true);
-    with_commands(alloc, command, &COMMANDS)
+    with_commands(alloc, bare_command(alloc), &COMMANDS)
 }

@@ -9,6 +9,7 @@ mod known;
 mod returns;
 mod rules;
 mod runs;
+mod same;
 mod sets;
 mod tables;
 mod texts;

@@ -2,9 +2,11 @@
 
 ghost use Rattle.std.specs.Prelude.{◌≡◌, option_map};
 ghost use Rattle.pam_codes.specs.Out.{Writes};
+ghost use Rattle.pam_tables.specs.Access.{table_of};
 ghost use Rattle.pam_tables.specs.Error.{Gives};
 ghost use Rattle.pam_tables.specs.Login.{login_view};
-ghost use Rattle.pam_report.specs.Answer.{FindsAccess, access_status, login_at, looked_up};
+ghost use Rattle.pam_tables.specs.Options.{options_of};
+ghost use Rattle.pam_report.specs.Answer.{FindsAccess, access_status, login_at, looked_up, with_table};
 ghost use Rattle.pam_report.specs.Leaves.{Leaves};
 ghost use Rattle.pam_report.specs.Inputs.{groups_in};
 ghost use Rattle.pam_report.specs.Tables.{access_text, denied_text};
@@ -67,6 +69,22 @@ fn groups(alloc: Global, bytes: Option<&[u8]>) -> Result<Groups<'_>, TableError>
     }
 }
 
+/// Looks up a login in the access table, with the groups of the group file.
+fn look_up_with(
+    alloc: Global,
+    login: &TableLogin<'_>,
+    groups: &Groups<'_>,
+    arguments: &Texts,
+    table: &[u8],
+) -> Result<AccessAnswer, Fault>
+    ensures { FindsAccess result (with_table (login_view login.now) groups.now (table_of (options_of arguments.now) table.now)) }
+{
+    match AccessTable::read(alloc, table, &AccessOptions::of(arguments)) {
+        Ok(table) => Ok(table.decide(login, groups)),
+        Err(error) => Err(Fault::Table(error)),
+    }
+}
+
 /// Looks up a login in the access table.
 fn look_up(
     alloc: Global,
@@ -76,13 +94,8 @@ fn look_up(
 ) -> Result<AccessAnswer, Fault>
     ensures { FindsAccess result (looked_up (login_view login.now) arguments.now inputs.now) }
 {
-    let groups = match groups(alloc, inputs.groups()) {
-        Ok(groups) => groups,
-        Err(error) => return Err(Fault::Table(error)),
-    };
-    let options = AccessOptions::of(arguments);
-    match AccessTable::read(alloc, inputs.access_table(), &options) {
-        Ok(table) => Ok(table.decide(login, &groups)),
+    match groups(alloc, inputs.groups()) {
+        Ok(groups) => look_up_with(alloc, login, &groups, arguments, inputs.access_table()),
         Err(error) => Err(Fault::Table(error)),
     }
 }

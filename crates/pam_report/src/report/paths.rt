@@ -48,6 +48,19 @@ pub(super) struct PageRequest<'a> {
     pub part: PagePart<'a>,
 }
 
+/// Writes the lines of a page, and flushes.
+fn write_lines<W: Write>(
+    limit: u32,
+    listing: &mut Listing<'_, Known>,
+    texts: LineTexts,
+    out: &mut Out<W>,
+) -> Result<(), Device>
+    ensures { Writes W.contents out.old out.new result (page_text (side listing.old) (first_page (max limit 1) (coming listing.old))) }
+{
+    put_page(listing, limit.max(1), texts, out)?;
+    out.finish()
+}
+
 fn write_page<W: Write>(
     request: &PageRequest<'_>,
     modules: usize,
@@ -60,8 +73,7 @@ fn write_page<W: Write>(
         Writes W.contents out.old out.new result (header ++ page_text (side listing.old) page) }
 {
     put_header(request.service, request.kind, modules, out)?;
-    put_page(listing, request.limit.max(1), texts, out)?;
-    out.finish()
+    write_lines(request.limit, listing, texts, out)
 }
 
 /// A page that is requested, and what its paths are explored by.
@@ -147,6 +159,17 @@ fn answer_before<W: Write>(
     }
 }
 
+/// Answers with a page of the part that is requested.
+fn answer_part<W: Write>(paging: &Paging<'_>, out: &mut Out<W>) -> Result<Status, Fault>
+    ensures { AnswersPart W.contents out.old out.new result paging.now paging.now.request.now.part }
+{
+    match paging.request.part {
+        PagePart::Whole => answer_whole(paging, out),
+        PagePart::After(text) => answer_after(paging, text, out),
+        PagePart::Before(text) => answer_before(paging, text, out),
+    }
+}
+
 /// Answers `paths` for a resolved stack, with the codes that its modules may return.
 fn answer_known<W: Write>(
     alloc: Global,
@@ -168,11 +191,7 @@ fn answer_known<W: Write>(
         program: &program,
         known,
     };
-    match request.part {
-        PagePart::Whole => answer_whole(&paging, out),
-        PagePart::After(text) => answer_after(&paging, text, out),
-        PagePart::Before(text) => answer_before(&paging, text, out),
-    }
+    answer_part(&paging, out)
 }
 
 /// Answers `paths` for a resolved stack, at a moment.

@@ -4,6 +4,7 @@ ghost use Rattle.std.specs.Prelude.{◌<◌, ◌-◌, ◌^◌};
 
 use crate::tests::files::put;
 use crate::tests::halting::{FULL, Halting, INTERRUPTED, NOTHING};
+use crate::tests::same::same;
 use pam_codes::Out;
 use pam_conf::{Files, Form};
 use pam_report::{Fault, Inputs, answer, fault_status};
@@ -153,16 +154,15 @@ fn flushes_once(rt: &impl Abort, alloc: Global, command: &Command) -> Result<(),
     for (step, can_flush) in [(usize::MAX, true), (1, true), (usize::MAX, false)] {
         let mut halting = Halting::new(alloc, step, usize::MAX, NOTHING, can_flush);
         let got = answered(alloc, command, &mut halting)?;
-        assert_eq!(rt;
-            got,
-            if can_flush {
-                Ok(command.status)
-            } else {
-                Err(Fault::Device)
-            }
-        );
-        assert_eq!(rt; halting.bytes.as_slice(), command.text);
-        assert_eq!(rt; (halting.flushes, halting.flushed), (1, command.text.len()));
+        let wanted = if can_flush {
+            Ok(command.status)
+        } else {
+            Err(Fault::Device)
+        };
+        same(rt, "the answer", &got, &wanted);
+        same(rt, "the text", &halting.bytes.as_slice(), &command.text);
+        same(rt, "flushes", &halting.flushes, &1);
+        same(rt, "flushed", &halting.flushed, &command.text.len());
     }
     Ok(())
 }
@@ -172,9 +172,9 @@ fn halts(rt: &impl Abort, alloc: Global, command: &Command) -> Result<(), Fail> 
     for (room, end) in [(7, FULL), (0, NOTHING), (0, INTERRUPTED)] {
         let mut halting = Halting::new(alloc, usize::MAX, room, end, true);
         let got = answered(alloc, command, &mut halting)?;
-        assert_eq!(rt; got, Err(Fault::Device));
-        assert_eq!(rt; halting.bytes.len(), room);
-        assert!(rt; command.text.starts_with(&halting.bytes));
+        same(rt, "the answer", &got, &Err(Fault::Device));
+        let text = command.text.get(..room);
+        same(rt, "the text", &Some(halting.bytes.as_slice()), &text);
     }
     Ok(())
 }
@@ -184,7 +184,7 @@ fn each_answer_is_flushed_once_at_its_end(rt: HostRuntime) -> Result<(), Fail> {
     for command in [&SHOW, &DECIDE, &PATHS, &ACCESS, &TIME] {
         flushes_once(&rt, rt.alloc(), command)?;
     }
-    assert_eq!(rt; fault_status(&Fault::Device), 5);
+    same(&rt, "the status", &fault_status(&Fault::Device), &5);
     Ok(())
 }
 

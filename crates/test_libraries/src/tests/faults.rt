@@ -1,22 +1,22 @@
 //! Faults that no command returns for a file of the tree.
 
 use crate::tests::files::put;
+use crate::tests::same::same;
 use pam_conf::{ConfError, FaultKind, Files, Form};
 use pam_report::{Fault, fault_status, fault_text};
 use pam_tables::{Table, TableError, TableFault};
 use std::alloc::Global;
-use std::process::Abort;
 use std::test::Fail;
 
 /// A fault, its line and its exit status. A failed allocation never has a place.
-static FAULTS: [(Fault, &[u8], u8); 5] = [
+static FAULTS: [(Fault, &str, u8); 5] = [
     (
         Fault::Conf(ConfError {
             kind: FaultKind::FileTooLong,
             at: Some(0),
             line: 0,
         }),
-        b"pamcheck: E16 FileTooLong login:0\n",
+        "pamcheck: E16 FileTooLong login:0\n",
         3,
     ),
     (
@@ -25,7 +25,7 @@ static FAULTS: [(Fault, &[u8], u8); 5] = [
             at: Some(0),
             line: 3,
         }),
-        b"pamcheck: E17 Memory\n",
+        "pamcheck: E17 Memory\n",
         6,
     ),
     (
@@ -34,11 +34,11 @@ static FAULTS: [(Fault, &[u8], u8); 5] = [
             fault: TableFault::Memory,
             line: 3,
         }),
-        b"pamcheck: TE11 Memory\n",
+        "pamcheck: TE11 Memory\n",
         6,
     ),
-    (Fault::Memory, b"pamcheck: E17 Memory\n", 6),
-    (Fault::Device, b"pamcheck: V2 Write\n", 5),
+    (Fault::Memory, "pamcheck: E17 Memory\n", 6),
+    (Fault::Device, "pamcheck: V2 Write\n", 5),
 ];
 
 fn files(alloc: Global) -> Result<Files, Fail> {
@@ -53,16 +53,12 @@ fn line(alloc: Global, fault: &Fault) -> Result<Vec<u8>, Fail> {
     Ok(text)
 }
 
-fn is_line(rt: &impl Abort, line: &[u8], wanted: &[u8]) {
-    assert_eq!(rt; line, wanted);
-}
-
 #[test]
 fn lines_and_statuses_of_faults(rt: HostRuntime) -> Result<(), Fail> {
     for (fault, wanted, status) in &FAULTS {
         let line = line(rt.alloc(), fault)?;
-        is_line(&rt, &line, wanted);
-        assert_eq!(rt; fault_status(fault), *status);
+        same(&rt, wanted, &line.as_slice(), &wanted.as_bytes());
+        same(&rt, wanted, &fault_status(fault), status);
     }
     Ok(())
 }

@@ -1,5 +1,6 @@
 //! Configuration files, by name.
 
+use crate::tests::same::same;
 use pam_conf::{Files, Form, Kind, Stack, resolve};
 use std::alloc::Global;
 use std::process::Abort;
@@ -28,13 +29,14 @@ fn two_files(alloc: Global) -> Result<Files, Fail> {
 
 /// Asserts that the file at a position has this name.
 fn is_named(rt: &impl Abort, files: &Files, position: usize, name: Option<&[u8]>) {
-    assert_eq!(rt; files.name(position), name);
+    same(rt, "a name", &files.name(position), &name);
 }
 
 #[test]
 fn new_files_have_their_form_and_no_names(rt: HostRuntime) {
     let files = Files::new(rt.alloc(), Form::Dir);
-    assert_eq!(rt; (files.form(), files.name(0)), (Form::Dir, None));
+    same(&rt, "the form", &files.form(), &Form::Dir);
+    is_named(&rt, &files, 0, None);
 }
 
 #[test]
@@ -50,8 +52,8 @@ fn a_name_that_is_there_keeps_its_position(rt: HostRuntime) -> Result<(), Fail> 
 fn asks_first(rt: &impl Abort, stack: &Stack, path: &[u8], file: usize) {
     match stack.module(1) {
         Some(module) => {
-            assert_eq!(rt; module.path.as_slice(), path);
-            assert_eq!(rt; module.file, file);
+            same(rt, "the path", &module.path.as_slice(), &path);
+            same(rt, "the file", &module.file, &file);
         }
         None => assert!(rt; false),
     }

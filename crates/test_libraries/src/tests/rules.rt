@@ -1,5 +1,6 @@
 //! The rules of a configuration file, in either form.
 
+use crate::tests::same::same;
 use pam_conf::{Body, FaultKind, Form, Kind, Rule, RuleFault, rules};
 use pam_text::Texts;
 use std::alloc::Global;
@@ -9,10 +10,16 @@ use std::test::Fail;
 const THREE_LINES: &[u8] =
     b"auth required a.so [query=a \\] b] \\\n  debug # note \\\n-auth optional c.so";
 
+/// The rules of `THREE_LINES`: the line of each, whether it has a dash, its module's path and its arguments.
+static RULES: [(usize, bool, &[u8], &[&[u8]]); 2] = [
+    (1, false, b"a.so", &[b"query=a ] b", b"debug"]),
+    (3, true, b"c.so", &[]),
+];
+
 fn are(rt: &impl Abort, words: &Texts, wanted: &[&[u8]]) {
-    assert_eq!(rt; words.len(), wanted.len());
+    same(rt, "how many arguments", &words.len(), &wanted.len());
     for (word, text) in words.iter().zip(wanted) {
-        assert_eq!(rt; word, *text);
+        same(rt, "an argument", &word, text);
     }
 }
 
@@ -20,60 +27,40 @@ fn are(rt: &impl Abort, words: &Texts, wanted: &[&[u8]]) {
 fn asks(rt: &impl Abort, rule: &Rule, path: &[u8], arguments: &[&[u8]]) {
     match &rule.body {
         Body::Module(_, found, words) => {
-            assert_eq!(rt; found.as_slice(), path);
+            same(rt, "the path", &found.as_slice(), &path);
             are(rt, words, arguments);
         }
-        _ => assert!(rt; false),
-    }
-}
-
-/// Returns the fault of a text.
-fn fault(rt: &impl Abort, alloc: Global, text: &[u8], form: Form) -> RuleFault {
-    match rules(alloc, text, form) {
-        Ok(_) => {
-            assert!(rt; false, "no fault in {text:?}");
-            RuleFault {
-                kind: FaultKind::Memory,
-                line: 0,
-            }
-        }
-        Err(fault) => fault,
+        _ => assert!(rt; false, "no module is asked"),
     }
 }
 
 #[test]
 fn continued_lines_brackets_comments_and_dashes(rt: HostRuntime) -> Result<(), Fail> {
     let found = rules(rt.alloc(), THREE_LINES, Form::Dir)?;
-    assert_eq!(rt; found.len(), 2);
-    asks(&rt, &found[0], b"a.so", &[b"query=a ] b", b"debug"]);
-    assert_eq!(rt; (found[0].line, found[0].dashed), (1, false));
-    asks(&rt, &found[1], b"c.so", &[]);
-    assert_eq!(rt; (found[1].line, found[1].dashed), (3, true));
-    assert_eq!(rt; found[1].kind, Some(Kind::Auth));
+    same(&rt, "how many rules", &found.len(), &RULES.len());
+    for (rule, (line, dashed, path, arguments)) in found.iter().zip(&RULES) {
+        same(&rt, "the line", &rule.line, line);
+        same(&rt, "the dash", &rule.dashed, dashed);
+        same(&rt, "the kind", &rule.kind, &Some(Kind::Auth));
+        asks(&rt, rule, path, arguments);
+    }
     Ok(())
+}
+
+/// Returns the number of rules in a text, or its fault.
+fn count(alloc: Global, text: &[u8]) -> Result<usize, RuleFault> {
+    Ok(rules(alloc, text, Form::Dir)?.len())
 }
 
 #[test]
 fn faults_of_a_whole_file(rt: HostRuntime) -> Result<(), Fail> {
-    let nul = fault(&rt, rt.alloc(), b"autth\n# a \0\n\0", Form::Dir);
-    assert_eq!(rt;
-        nul,
-        RuleFault {
-            kind: FaultKind::NulByte,
-            line: 2
-        }
-    );
-    let zeros = vec![in rt.alloc(); 0u8; 1_048_577]?;
-    let long = fault(&rt, rt.alloc(), zeros.as_slice(), Form::Dir);
-    assert_eq!(rt;
-        long,
-        RuleFault {
-            kind: FaultKind::FileTooLong,
-            line: 0
-        }
-    );
-    let longest = vec![in rt.alloc(); b'\n'; 1_048_576]?;
-    let found = rules(rt.alloc(), longest.as_slice(), Form::Dir)?;
-    assert_eq!(rt; found.len(), 0);
+    let kind = FaultKind::NulByte;
+    let nul = count(rt.alloc(), b"autth\n# a \0\n\0");
+    same(&rt, "zero bytes", &nul, &Err(RuleFault { kind, line: 2 }));
+    let kind = FaultKind::FileTooLong;
+    let long = count(rt.alloc(), &vec![in rt.alloc(); 0u8; 1_048_577]?);
+    same(&rt, "too long", &long, &Err(RuleFault { kind, line: 0 }));
+    let longest = count(rt.alloc(), &vec![in rt.alloc(); b'\n'; 1_048_576]?);
+    same(&rt, "the longest", &longest, &Ok(0));
     Ok(())
 }

@@ -1,6 +1,7 @@
 //! The number of steps of a run, and where no answer changes it any more.
 
 use crate::tests::files::put;
+use crate::tests::same::same;
 use pam_codes::{CODES, Code};
 use pam_conf::{Files, Form, Kind, Stack, resolve};
 use pam_dispatch::{Program, Work};
@@ -25,7 +26,7 @@ fn work_counts_steps(rt: HostRuntime) -> Result<(), Fail> {
         program.step(&place, code, &mut work);
         program.step(&place, code, &mut work);
     }
-    assert_eq!(rt; work.steps(), 2);
+    same(&rt, "steps", &work.steps(), &2);
     Ok(())
 }
 
@@ -41,13 +42,31 @@ fn settled_after(alloc: Global, rules: &[u8], code: u8) -> Result<Option<usize>,
     Ok(program.settled(&next).map(|rest| rest.modules))
 }
 
+/// Rules, the code of the first module, and the number of modules that are asked after the run is settled.
+static SETTLED: [(&str, u8, Option<usize>); 3] = [
+    (
+        "auth required a.so\nauth required b.so\nauth optional c.so",
+        7,
+        Some(2),
+    ),
+    (
+        "auth required a.so\nauth required b.so\nauth optional c.so",
+        0,
+        None,
+    ),
+    (
+        "auth required a.so\nauth requisite b.so\nauth required c.so",
+        7,
+        None,
+    ),
+];
+
 #[test]
 fn no_answer_changes_a_failed_stack(rt: HostRuntime) -> Result<(), Fail> {
-    let rules = b"auth required a.so\nauth required b.so\nauth optional c.so";
-    assert_eq!(rt; settled_after(rt.alloc(), rules, 7)?, Some(2));
-    assert_eq!(rt; settled_after(rt.alloc(), rules, 0)?, None);
-    let rules = b"auth required a.so\nauth requisite b.so\nauth required c.so";
-    assert_eq!(rt; settled_after(rt.alloc(), rules, 7)?, None);
+    for (rules, code, modules) in &SETTLED {
+        let settled = settled_after(rt.alloc(), rules.as_bytes(), *code)?;
+        same(&rt, rules, &settled, modules);
+    }
     Ok(())
 }
 
@@ -63,6 +82,6 @@ fn the_tail_of_a_path_begins_after_a_failure(rt: HostRuntime) -> Result<(), Fail
         }
         longest = longest.max(explorer.path().tail().len());
     }
-    assert_eq!(rt; longest, 1);
+    same(&rt, "the longest tail", &longest, &1);
     Ok(())
 }

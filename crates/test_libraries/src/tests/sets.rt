@@ -1,5 +1,6 @@
 //! Sets of return codes, and the parts of controls.
 
+use crate::tests::same::same;
 use pam_codes::{Action, Code, CodeSet, Control, Out, Part};
 use std::alloc::Global;
 use std::process::Abort;
@@ -32,9 +33,10 @@ fn text_of(alloc: Global, set: CodeSet) -> Result<Vec<u8>, Fail> {
 
 /// Asserts that a set has this code, this least code and this length.
 fn has(rt: &impl Abort, set: CodeSet, code: Code, least: Code, len: usize) {
-    assert_eq!(rt; set.contains(code), true);
-    assert_eq!(rt; (set.least(), set.len()), (Some(least), len));
-    assert_eq!(rt; set.is_empty(), false);
+    same(rt, "the code", &set.contains(code), &true);
+    same(rt, "the least code", &set.least(), &Some(least));
+    same(rt, "how many codes", &set.len(), &len);
+    same(rt, "no codes", &set.is_empty(), &false);
 }
 
 #[test]
@@ -62,41 +64,47 @@ fn sets_of_few_and_of_all_codes(rt: HostRuntime) {
     }
 }
 
+fn granting() -> CodeSet {
+    set_of(&[Code::SUCCESS, Code::NEW_AUTHTOK_REQD])
+}
+
 #[test]
 fn sets_made_of_others(rt: HostRuntime) {
-    let granting = set_of(&[Code::SUCCESS, Code::NEW_AUTHTOK_REQD]);
     let denying = set_of(&[Code::PERM_DENIED, Code::NEW_AUTHTOK_REQD]);
-    assert_eq!(rt;
-        granting.union(denying),
-        set_of(&[Code::NEW_AUTHTOK_REQD, Code::PERM_DENIED, Code::SUCCESS])
-    );
+    let all_three = set_of(&[Code::NEW_AUTHTOK_REQD, Code::PERM_DENIED, Code::SUCCESS]);
+    same(&rt, "union", &granting().union(denying), &all_three);
     let success = CodeSet::single(Code::SUCCESS);
-    assert_eq!(rt; granting.without(denying), success);
-    assert_eq!(rt;
-        (granting.meets(denying), success.meets(denying)),
-        (true, false)
-    );
-    assert_eq!(rt;
-        (
-            granting.least_from(0),
-            granting.least_from(1),
-            granting.least_from(13)
-        ),
-        (Some(Code::SUCCESS), Some(Code::NEW_AUTHTOK_REQD), None)
-    );
-    assert_eq!(rt;
-        (
-            granting.greatest_below(0),
-            granting.greatest_below(12),
-            granting.greatest_below(255)
-        ),
-        (None, Some(Code::SUCCESS), Some(Code::NEW_AUTHTOK_REQD))
-    );
+    same(&rt, "without", &granting().without(denying), &success);
+    same(&rt, "meets", &granting().meets(denying), &true);
+    same(&rt, "meets", &success.meets(denying), &false);
+}
+
+#[test]
+fn codes_from_and_below_a_number(rt: HostRuntime) {
+    for (from, least) in [
+        (0, Some(Code::SUCCESS)),
+        (1, Some(Code::NEW_AUTHTOK_REQD)),
+        (13, None),
+    ] {
+        same(&rt, "least_from", &granting().least_from(from), &least);
+    }
+    for (below, greatest) in [
+        (0, None),
+        (12, Some(Code::SUCCESS)),
+        (255, Some(Code::NEW_AUTHTOK_REQD)),
+    ] {
+        same(
+            &rt,
+            "greatest_below",
+            &granting().greatest_below(below),
+            &greatest,
+        );
+    }
 }
 
 #[test]
 fn texts_of_sets(rt: HostRuntime) -> Result<(), Fail> {
-    let granting = set_of(&[Code::SUCCESS, Code::NEW_AUTHTOK_REQD]);
+    let granting = granting();
     let rows = [
         (CodeSet::empty(), ""),
         (CodeSet::all(), "any"),
@@ -117,7 +125,12 @@ fn texts_of_sets(rt: HostRuntime) -> Result<(), Fail> {
         ),
     ];
     for (set, text) in rows {
-        assert_eq!(rt; text_of(rt.alloc(), set)?.as_slice(), text.as_bytes());
+        same(
+            &rt,
+            text,
+            &text_of(rt.alloc(), set)?.as_slice(),
+            &text.as_bytes(),
+        );
     }
     Ok(())
 }
@@ -126,16 +139,16 @@ fn part(codes: CodeSet, action: Action) -> Part {
     Part { codes, action }
 }
 
-fn expect_parts(rt: &impl Abort, keyword: &[u8], expected: &[Part]) -> Result<(), Fail> {
-    let parts = Control::read(keyword)?.parts();
-    assert_eq!(rt; parts.as_slice(), expected, "{keyword:?}");
+fn expect_parts(rt: &impl Abort, keyword: &str, expected: &[Part]) -> Result<(), Fail> {
+    let parts = Control::read(keyword.as_bytes())?.parts();
+    same(rt, keyword, &parts.as_slice(), &expected);
     Ok(())
 }
 
 /// The codes of each keyword are those of its value in pam.conf(5).
 #[test]
 fn parts_of_the_keywords(rt: HostRuntime) -> Result<(), Fail> {
-    let granting = set_of(&[Code::SUCCESS, Code::NEW_AUTHTOK_REQD]);
+    let granting = granting();
     let ignored = CodeSet::single(Code::IGNORE);
     let others = CodeSet::all().without(granting);
     let failing = others.without(ignored);
@@ -151,8 +164,8 @@ fn parts_of_the_keywords(rt: HostRuntime) -> Result<(), Fail> {
     ];
     let sufficient = [part(granting, Action::Done), part(others, Action::Ignore)];
     let optional = [part(granting, Action::Ok), part(others, Action::Ignore)];
-    expect_parts(&rt, b"required", &required)?;
-    expect_parts(&rt, b"requisite", &requisite)?;
-    expect_parts(&rt, b"sufficient", &sufficient)?;
-    expect_parts(&rt, b"optional", &optional)
+    expect_parts(&rt, "required", &required)?;
+    expect_parts(&rt, "requisite", &requisite)?;
+    expect_parts(&rt, "sufficient", &sufficient)?;
+    expect_parts(&rt, "optional", &optional)
 }

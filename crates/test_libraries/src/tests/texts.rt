@@ -1,43 +1,41 @@
 //! The lines of configuration files, with their numbers.
 
+use crate::tests::same::same;
 use pam_text::{Source, Text};
 use std::alloc::Global;
 use std::process::Abort;
 use std::test::Fail;
 
 /// A file, and its lines without comments, with continued lines joined.
-static ROWS: [(&[u8], &[(u32, &[u8])]); 9] = [
+static ROWS: [(&str, &[(u32, &[u8])]); 9] = [
     (
-        b"auth required a.so [query=a \\] b] \\\n  debug # note \\\n-auth optional c.so",
+        "auth required a.so [query=a \\] b] \\\n  debug # note \\\n-auth optional c.so",
         &[
             (1, b"auth required a.so [query=a \\] b]    debug "),
             (3, b"-auth optional c.so"),
         ],
     ),
-    (b"", &[]),
-    (b"# all of it", &[]),
-    (b"a\\\r\nb\\", &[(1, b"a\\\r"), (2, b"b\\")]),
-    (b"[a # b]\nc", &[(1, b"[a "), (2, b"c")]),
-    (b"a\\# b\nc", &[(1, b"a c")]),
-    (b"a\\# b", &[(1, b"a\\")]),
-    (b"a\\\\\n\\\nb", &[(1, b"a\\  b")]),
-    (b"# a\n\n#\nb\n", &[(1, b""), (2, b""), (3, b""), (4, b"b")]),
+    ("", &[]),
+    ("# all of it", &[]),
+    ("a\\\r\nb\\", &[(1, b"a\\\r"), (2, b"b\\")]),
+    ("[a # b]\nc", &[(1, b"[a "), (2, b"c")]),
+    ("a\\# b\nc", &[(1, b"a c")]),
+    ("a\\# b", &[(1, b"a\\")]),
+    ("a\\\\\n\\\nb", &[(1, b"a\\  b")]),
+    ("# a\n\n#\nb\n", &[(1, b""), (2, b""), (3, b""), (4, b"b")]),
 ];
 
 /// Asserts that this is the next line of a file.
 fn expect_line(
     rt: &impl Abort,
-    file: &[u8],
+    file: &str,
     text: &mut Text<'_>,
     joined: &mut Vec<u8>,
     wanted: Option<(u32, &[u8])>,
 ) -> Result<(), Fail> {
     let line = text.next_line(joined)?;
-    assert_eq!(rt;
-        line.map(|line| (line.number, line.bytes)),
-        wanted,
-        "{file:?}"
-    );
+    let found = line.map(|line| (line.number, line.bytes));
+    same(rt, file, &found, &wanted);
     Ok(())
 }
 
@@ -45,10 +43,10 @@ fn expect_line(
 fn expect_lines(
     rt: &impl Abort,
     alloc: Global,
-    file: &[u8],
+    file: &str,
     lines: &[(u32, &[u8])],
 ) -> Result<(), Fail> {
-    let mut text = Text::of(Source::of(file)?);
+    let mut text = Text::of(Source::of(file.as_bytes())?);
     let mut joined = Vec::new(alloc);
     for line in lines {
         expect_line(rt, file, &mut text, &mut joined, Some(*line))?;

@@ -2,6 +2,7 @@
 
 ghost use Rattle.pam_report.specs.Fault.{IsNumbered};
 
+use crate::tests::same::same;
 use pam_report::{usage_status, usage_text};
 use pam_words::{Request, Task, Usage, request};
 use std::alloc::{AllocError, Global};
@@ -87,7 +88,7 @@ fn limit(answer: Result<Request<'_>, Usage>) -> Option<u32> {
 fn refusals_of_paths(rt: HostRuntime) -> Result<(), Fail> {
     for (line, refusal) in &REFUSED {
         let words = words_of(rt.alloc(), line)?;
-        assert_eq!(rt; number(request(rt.alloc(), &words)), *refusal, "{line}");
+        same(&rt, line, &number(request(rt.alloc(), &words)), refusal);
     }
     Ok(())
 }
@@ -96,7 +97,12 @@ fn refusals_of_paths(rt: HostRuntime) -> Result<(), Fail> {
 fn limits_of_paths(rt: HostRuntime) -> Result<(), Fail> {
     for (line, wanted) in &LIMITS {
         let words = words_of(rt.alloc(), line)?;
-        assert_eq!(rt; limit(request(rt.alloc(), &words)), Some(*wanted), "{line}");
+        same(
+            &rt,
+            line,
+            &limit(request(rt.alloc(), &words)),
+            &Some(*wanted),
+        );
     }
     Ok(())
 }
@@ -106,27 +112,27 @@ fn is_told(
     rt: &impl Abort,
     alloc: Global,
     usage: &Usage,
-    line: &[u8],
+    line: &str,
     status: u8,
 ) -> Result<(), Fail>
     requires { IsNumbered usage.now }
 {
     let text = usage_text(alloc, usage)?;
-    assert_eq!(rt; text.as_slice(), line);
-    assert_eq!(rt; usage_status(usage), status);
+    same(rt, line, &text.as_slice(), &line.as_bytes());
+    same(rt, line, &usage_status(usage), &status);
     Ok(())
 }
 
 /// A transcript cannot show these refusals.
 #[test]
 fn refusals_where_the_words_are_gathered(rt: HostRuntime) -> Result<(), Fail> {
-    is_told(&rt, rt.alloc(), &Usage::Login, b"pamcheck: U5 Login\n", 2)?;
-    is_told(&rt, rt.alloc(), &Usage::Memory, b"pamcheck: U7 Memory\n", 6)?;
+    is_told(&rt, rt.alloc(), &Usage::Login, "pamcheck: U5 Login\n", 2)?;
+    is_told(&rt, rt.alloc(), &Usage::Memory, "pamcheck: U7 Memory\n", 6)?;
     is_told(
         &rt,
         rt.alloc(),
         &Usage::NotUtf8,
-        b"pamcheck: U1 NotUtf8\n",
+        "pamcheck: U1 NotUtf8\n",
         2,
     )
 }

@@ -3,7 +3,9 @@
 ghost use Rattle.std.specs.Prelude.{◌<◌, ◌-◌, ◌^◌};
 
 use crate::tests::halting::{End, FULL, Halting, INTERRUPTED, NOTHING};
+use crate::tests::same::same;
 use pam_codes::{Device, Out, Piece};
+use std::alloc::Global;
 use std::io;
 use std::io::Write;
 use std::process::Abort;
@@ -49,42 +51,36 @@ static ROWS: [(usize, usize, End, bool, bool); 8] = [
 ];
 
 /// Asserts that a write succeeded or failed once, and that the written bytes were counted.
-fn ended(
-    rt: &impl Abort,
-    out: &Out<&mut Halting>,
-    answer: Result<(), Device>,
-    room: usize,
-    is_ok: bool,
-) {
-    assert_eq!(rt;
-        (answer.is_ok(), out.taken(), out.failures()),
-        (is_ok, room as u64, if is_ok { 0 } else { 1 })
+fn ended(rt: &impl Abort, out: &Out<&mut Halting>, room: usize, is_ok: bool) {
+    same(rt, "taken", &out.taken(), &(room as u64));
+    same(rt, "failures", &out.failures(), &if is_ok { 0 } else { 1 });
+}
+
+/// Asserts what such a writer takes of the lines, in one piece or in many.
+fn takes(rt: &impl Abort, alloc: Global, row: &(usize, usize, End, bool, bool), is_one: bool) {
+    let (step, room, end, can_flush, is_ok) = *row;
+    let mut writer = Halting::new(alloc, step, room, end, can_flush);
+    let mut out = Out::new(&mut writer);
+    let answer = if is_one {
+        in_one_piece(&mut out)
+    } else {
+        in_pieces(&mut out)
+    };
+    same(rt, "written", &answer.is_ok(), &is_ok);
+    ended(rt, &out, room, is_ok);
+    same(
+        rt,
+        "bytes",
+        &Some(writer.bytes.as_slice()),
+        &LINES.get(..room),
     );
 }
 
-fn has_taken(rt: &impl Abort, writer: &Halting, bytes: &[u8]) {
-    assert_eq!(rt; writer.bytes.as_slice(), bytes);
-}
-
 #[test]
-fn writers_that_halt_in_one_piece(rt: HostRuntime) {
-    for (step, room, end, can_flush, is_ok) in ROWS {
-        let mut writer = Halting::new(rt.alloc(), step, room, end, can_flush);
-        let mut out = Out::new(&mut writer);
-        let answer = in_one_piece(&mut out);
-        ended(&rt, &out, answer, room, is_ok);
-        has_taken(&rt, &writer, &LINES[..room]);
-    }
-}
-
-#[test]
-fn writers_that_halt_in_pieces(rt: HostRuntime) {
-    for (step, room, end, can_flush, is_ok) in ROWS {
-        let mut writer = Halting::new(rt.alloc(), step, room, end, can_flush);
-        let mut out = Out::new(&mut writer);
-        let answer = in_pieces(&mut out);
-        ended(&rt, &out, answer, room, is_ok);
-        has_taken(&rt, &writer, &LINES[..room]);
+fn writers_that_halt(rt: HostRuntime) {
+    for row in &ROWS {
+        takes(&rt, rt.alloc(), row, true);
+        takes(&rt, rt.alloc(), row, false);
     }
 }
 
@@ -95,13 +91,13 @@ fn in_two_calls<W: Write>(out: &mut Out<W>) -> io::Result<(usize, usize)> {
 }
 
 #[test]
-fn one_inner_call_for_each_write(rt: HostRuntime) -> Result<(), Fail> {
+fn one_inner_call_for_each_write(rt: HostRuntime) {
     let mut writer = Halting::new(rt.alloc(), 10, 53, NOTHING, true);
     let mut out = Out::new(&mut writer);
-    let lengths = in_two_calls(&mut out)?;
-    assert_eq!(rt; (lengths, out.taken(), out.failures()), ((10, 0), 10, 0));
-    assert_eq!(rt; writer.calls, 2);
-    Ok(())
+    let lengths = in_two_calls(&mut out).ok();
+    same(&rt, "lengths", &lengths, &Some((10, 0)));
+    ended(&rt, &out, 10, true);
+    same(&rt, "calls", &writer.calls, &2);
 }
 
 fn in_many_calls<W: Write>(out: &mut Out<W>) -> io::Result<()> {
@@ -114,15 +110,14 @@ fn text_in_many_calls(rt: HostRuntime) {
     let mut writer = Halting::new(rt.alloc(), 10, 53, NOTHING, true);
     let mut out = Out::new(&mut writer);
     let answer = in_many_calls(&mut out);
-    assert_eq!(rt; (answer.is_ok(), out.taken()), (true, 52));
-    assert_eq!(rt; writer.calls, 6);
+    same(&rt, "written", &answer.is_ok(), &true);
+    same(&rt, "taken", &out.taken(), &52);
+    same(&rt, "calls", &writer.calls, &6);
 }
 
 #[test]
 fn device_text(rt: HostRuntime) -> Result<(), Fail> {
-    assert_eq!(rt;
-        format!(in rt.alloc(); "{Device}")?.as_str(),
-        "the writer failed"
-    );
+    let text = format!(in rt.alloc(); "{Device}")?;
+    same(&rt, "text", &text.as_str(), &"the writer failed");
     Ok(())
 }
