@@ -5,6 +5,7 @@ ghost use Rattle.std.specs.Option.{option_map};
 ghost use Rattle.pam_tables.specs.Access.{LineText, permission_of, is_passed_over as is_passed_over_of, line_of_fields, fields_of as fields_of_line};
 ghost use Rattle.pam_tables.specs.Access.{access_line, lines_of, table_of, permission_for, answer_with, access_answer};
 ghost use Rattle.pam_tables.specs.Error.{Gives, verdict};
+ghost use Rattle.pam_tables.specs.Lines.{cut_at, is_among};
 ghost use Rattle.pam_tables.specs.Login.{login_view};
 ghost use Rattle.pam_tables.specs.Tokens.{known_mark};
 
@@ -78,11 +79,22 @@ fn is_passed_over(line: &[u8]) -> bool
     line.starts_with(b"#") || is_blank_text(line)
 }
 
+/// Cuts a line after its first field. Most permissions are one byte, which is found before a search by vectors begins.
+fn cut_permission<'a>(line: &'a [u8], separators: &ByteSet<'_>) -> Option<(&'a [u8], &'a [u8])>
+    ensures { option_map (λ p. (p.0.now, p.1.now)) result ≡ cut_at (is_among separators.now.bytes.now) line.now }
+{
+    if line.len() > 1 && !separators.has(line[0]) && separators.has(line[1]) {
+        let (permission, rest) = line.split_at(1);
+        return Some((permission, rest.split_at(1).1));
+    }
+    cut_among(line, separators)
+}
+
 #[tactic(auto, unfolding(crate::specs::Access::fields_of))]
 fn cut_fields<'a>(line: &'a [u8], separators: &ByteSet<'_>) -> Option<AccessFields<'a>>
     ensures { option_map (λ f. (f.permission.now, f.users.now, f.origins.now)) result ≡ fields_of_line separators.now.bytes.now line.now }
 {
-    match cut_among(line, separators) {
+    match cut_permission(line, separators) {
         Some((permission, rest)) => match cut_among(rest, separators) {
             Some((users, origins)) => Some(AccessFields {
                 permission,

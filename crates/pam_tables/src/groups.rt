@@ -133,6 +133,7 @@ impl<'a> Groups<'a> {
     }
 
     /// Returns the members of the group named exactly `group`.
+    #[inline(always)]
     pub(crate) fn find(&self, group: &[u8]) -> Option<Members<'a>>
         ensures { (user : List ℕ) → lists_user self.now group.now user
             ≡ option_map_or (λ m. list_any (λ x. bytes_eq x user) (members_of m.text.now)) result false }
@@ -176,15 +177,16 @@ impl<'a> Entries<'a> for Groups<'a> {
             Some(group) => group,
             None => return Err(TableFault::BadGroup),
         };
-        if self.members.contains_key(group.name) {
-            return Ok(());
-        }
         let members = Members {
             text: group.members,
             slot: self.long,
         };
-        self.long = self.long.saturating_add(u16::from(members.is_long()));
-        self.members.insert(group.name, members)?;
+        let Some(first) = self.members.insert(group.name, members)? else {
+            self.long = self.long.saturating_add(u16::from(members.is_long()));
+            return Ok(());
+        };
+        // Names are rarely repeated, so that one search is enough for most lines.
+        self.members.insert(group.name, first)?;
         Ok(())
     }
 }

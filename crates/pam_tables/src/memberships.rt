@@ -73,6 +73,7 @@ impl<'a> Memberships<'a> {
     }
 
     /// Whether the group named exactly `group` lists the user.
+    #[inline(always)]
     pub(crate) fn has(&self, group: &[u8]) -> bool
         ensures { result ≡ lists_user self.now.groups.now group.now self.now.user.now }
     {

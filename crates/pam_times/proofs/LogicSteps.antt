@@ -7,8 +7,7 @@ use Rattle.pam_codes.specs.Tokens.{is_blank}
 use Rattle.pam_times.specs.Logic.{ItemOf, may_begin, keeps, is_true_of, item_value, is_true, join, ExpectItem, ExpectToken, ExpectJoint}
 use Rattle.pam_times.specs.Logic.{SignText, Not, Join, Token, is_token_byte, begins_token}
 use Rattle.pam_times.specs.Logic.{onto_token, signs_of, onto_items, items_from, items_of, items_or_fault, list_value}
-use Rattle.pam_times.specs.Items.{HasNoItem, HasNoToken, IsFirstItem, IsInvertedItem, items_after, items_inverted, items_left}
-use Rattle.pam_times.specs.declared.logic.Item.{Item}
+use Rattle.pam_times.specs.Items.{HasNoItem, HasNoToken, IsAfterNot, begins_not, items_after, items_inverted, items_left}
 use Rattle.pam_times.specs.declared.logic.Joint.{Joint}
 use Rattle.pam_times.specs.declared.logic.Joint.TheVariants.{First, And, Or}
 
@@ -62,30 +61,19 @@ sign_step b bs =
     cond (eqb b 33) (Not ∷ signs_of bs) (cond (eqb b 38) (Join And ∷ signs_of bs)
     (cond (eqb b 124) (Join Or ∷ signs_of bs) (cond (begins_token bs) (onto_token b (signs_of bs)) (Token (b ∷ []) ∷ signs_of bs))))
 
-signs_blank : (b : ℕ) (bs : List ℕ) → is_blank b ≡ true → signs_of (b ∷ bs) ≡ signs_of bs
+pub signs_blank : (b : ℕ) (bs : List ℕ) → is_blank b ≡ true → signs_of (b ∷ bs) ≡ signs_of bs
 unfolding signs_of
 signs_blank b bs h = ap (λ (t : Bool). cond t (signs_of bs) (sign_step b bs)) h
 
--- leading blanks are skipped
-pub signs_skip : (bs : List ℕ) → signs_of bs ≡ signs_of (drop (prefix_len is_blank bs) bs)
-signs_skip [] = refl
-signs_skip (b ∷ bs) = elim (is_blank b) as (λ (t : Bool). is_blank b ≡ t → signs_of (b ∷ bs) ≡ signs_of (drop (prefix_len is_blank (b ∷ bs)) (b ∷ bs))) [
-  | true ↦ λ e.
-      let here : prefix_len is_blank (b ∷ bs) ≡ 1 + prefix_len is_blank bs = ap (λ (t : Bool). cond t (1 + prefix_len is_blank bs) 0) e in
-      rw here (signs_blank b bs e ∙ signs_skip bs ∙ rw one-add refl)
-  | false ↦ λ e.
-      let stop : prefix_len is_blank (b ∷ bs) ≡ 0 = ap (λ (t : Bool). cond t (1 + prefix_len is_blank bs) 0) e in
-      rw stop refl
-] refl
+pub blank_next : (rest : List ℕ) (b : ℕ) (bs : List ℕ) → rest ≡ b ∷ bs → is_blank b ≡ true → signs_of bs ≡ signs_of rest
+blank_next rest b bs e h = sym (ap signs_of e ∙ signs_blank b bs h)
 
-pub no_blank_first : (bs : List ℕ) → prefix_len is_blank (drop (prefix_len is_blank bs) bs) ≡ 0
-no_blank_first [] = refl
-no_blank_first (b ∷ bs) =
-    elim (is_blank b) as (λ (t : Bool). is_blank b ≡ t →
-    prefix_len is_blank (drop (cond t (1 + prefix_len is_blank bs) 0) (b ∷ bs)) ≡ 0) [
-      | true ↦ λ e. rw one-add (no_blank_first bs)
-      | false ↦ λ e. ap (λ (t : Bool). cond t (1 + prefix_len is_blank bs) 0) e
-    ] refl
+pub blank_none : (rest : List ℕ) → length rest ≡ 0 → prefix_len is_blank rest ≡ 0
+blank_none [] h = refl
+blank_none (b ∷ bs) h = absurd (omega arith)
+
+pub blank_first : (rest : List ℕ) (b : ℕ) (bs : List ℕ) → rest ≡ b ∷ bs → is_blank b ≡ false → prefix_len is_blank rest ≡ 0
+blank_first rest b bs e h = ap (prefix_len is_blank) e ∙ ap (λ (t : Bool). cond t (1 + prefix_len is_blank bs) 0) h
 
 token_test : (b : ℕ) → is_token_byte b ≡ true → (is_blank b ≡ false) × (eqb b 33 ≡ false) × (eqb b 38 ≡ false) × (eqb b 124 ≡ false)
 token_test b h = parts (is_blank b) (eqb b 33) (eqb b 38) (eqb b 124) h
@@ -158,11 +146,6 @@ no_mark b bs z h k l =
     [ true ↦ λ f. absurd (omega arith) | false ↦ λ f. refl ] z in
     rw e (rw (differs b 33 h) (rw (differs b 38 k) (rw (differs b 124 l) refl)))
 
-pub token_first : (bs a r : List ℕ) → (length bs ≡ 0 → ⊥) → is_token_byte (get_or bs 0 0) ≡ true →
-    a ≡ take (prefix_len is_token_byte bs) bs → r ≡ drop (prefix_len is_token_byte bs) bs → signs_of bs ≡ Token a ∷ signs_of r
-token_first [] a r n h p q = absurd (n refl)
-token_first (b ∷ bs) a r n h p q = rw (p, q) (signs_token (b ∷ bs) h)
-
 -- a byte that is no blank and in no token is an operator or `!`
 pub last_mark : (bs : List ℕ) → (length bs ≡ 0 → ⊥) → prefix_len is_blank bs ≡ 0 → is_token_byte (get_or bs 0 0) ≡ false →
     (get_or bs 0 0 ≡ 33 → ⊥) → (get_or bs 0 0 ≡ 38 → ⊥) → get_or bs 0 0 ≡ 124
@@ -172,64 +155,92 @@ last_mark (b ∷ bs) n z t h k = elim (eqb b 124) as (λ (u : Bool). eqb b 124 �
   | false ↦ λ e. let yes : is_token_byte b ≡ true = no_mark b bs z h k (eqb-false b 124 e) in absurd (cc)
 ] refl
 
+filled : (b : ℕ) (bs : List ℕ) → length (b ∷ bs) ≡ 0 → ⊥
+filled b bs h = omega arith
+
+-- a byte that is no blank, in no token and no `!` is an operator
+operator : (b : ℕ) (bs : List ℕ) → prefix_len is_blank (b ∷ bs) ≡ 0 → is_token_byte b ≡ false → eqb b 33 ≡ false →
+    (joint : Joint) × (signs_of (b ∷ bs) ≡ Join joint ∷ signs_of bs)
+operator b bs z t n = elim (eqb b 38) as (λ (u : Bool). eqb b 38 ≡ u → (joint : Joint) × (signs_of (b ∷ bs) ≡ Join joint ∷ signs_of bs)) [
+  | true ↦ λ e. (And, both_first (b ∷ bs) bs (filled b bs) (eqb-true b 38 e) refl)
+  | false ↦ λ e. (
+    Or,
+    either_first (b ∷ bs) bs (filled b bs)
+        (last_mark (b ∷ bs) (filled b bs) z t (eqb-false b 33 n) (eqb-false b 38 e)) refl,
+  )
+] refl
+
+no_token : (b : ℕ) (bs : List ℕ) → prefix_len is_token_byte (b ∷ bs) ≡ 0 → is_token_byte b ≡ false
+no_token b bs z = elim (is_token_byte b) as (λ (t : Bool). cond t (1 + prefix_len is_token_byte bs) 0 ≡ 0 → t ≡ false)
+    [ true ↦ λ f. absurd (omega arith) | false ↦ λ f. refl ] z
+
+begins : (rest : List ℕ) → (prefix_len is_token_byte rest ≡ 0 → ⊥) → begins_token rest ≡ true
+begins [] n = absurd (n refl)
+begins (b ∷ bs) n = elim (is_token_byte b) as (λ (t : Bool). (cond t (1 + prefix_len is_token_byte bs) 0 ≡ 0 → ⊥) → t ≡ true)
+    [ true ↦ λ f. refl | false ↦ λ f. absurd (f refl) ] n
+
 -- ---- one item after another
 
-module _ (text rest : List ℕ) where
-  pub empty_inverted : signs_of text ≡ [] → HasNoToken text
-  unfolding items_from
-  empty_inverted e joint = rw e refl
+no_token_left : (rest : List ℕ) → prefix_len is_blank rest ≡ 0 → prefix_len is_token_byte rest ≡ 0 → HasNoToken rest
+unfolding items_from
+no_token_left [] z t joint = ap (items_from (ExpectToken joint)) (no_sign [] refl)
+no_token_left (b ∷ bs) z t joint = elim (eqb b 33) as (λ (u : Bool). eqb b 33 ≡ u → items_inverted joint (b ∷ bs) ≡ None) [
+  | true ↦ λ e. ap (items_from (ExpectToken joint)) (not_first (b ∷ bs) bs (filled b bs) (eqb-true b 33 e) refl)
+  | false ↦ λ e. ap (items_from (ExpectToken joint)) (operator b bs z (no_token b bs t) e).1
+] refl
 
-  pub inverted_token : (t : List ℕ) → signs_of text ≡ Token t ∷ signs_of rest → (joint : Joint) →
-      items_inverted joint text ≡ onto_items joint true t (items_left rest)
-  unfolding items_from
-  inverted_token t e joint = ap (items_from (ExpectToken joint)) e
+no_item_left : (rest : List ℕ) → prefix_len is_blank rest ≡ 0 → prefix_len is_token_byte rest ≡ 0 → begins_not rest ≡ false → HasNoItem rest
+unfolding items_from
+no_item_left [] z t n joint = ap (items_from (ExpectItem joint)) (no_sign [] refl)
+no_item_left (b ∷ bs) z t n joint = ap (items_from (ExpectItem joint)) (operator b bs z (no_token b bs t) n).1
 
-  pub not_inverted : signs_of text ≡ Not ∷ signs_of rest → HasNoToken text
-  unfolding items_from
-  not_inverted e joint = ap (items_from (ExpectToken joint)) e
+-- without a token after the blanks and the `!`, there is no item
+pub none_first : (inverted : Bool) (text rest : List ℕ) → IsAfterNot inverted text rest → prefix_len is_blank rest ≡ 0 →
+    prefix_len is_token_byte rest ≡ 0 → HasNoItem text
+unfolding items_from
+none_first true text rest s z t joint = ap (items_from (ExpectItem joint)) s ∙ no_token_left rest z t joint
+none_first false text rest s z t joint = ap (items_from (ExpectItem joint)) s.0 ∙ no_item_left rest z t s.1 joint
 
-  pub joint_inverted : (other : Joint) → signs_of text ≡ Join other ∷ signs_of rest → HasNoToken text
-  unfolding items_from
-  joint_inverted other e joint = ap (items_from (ExpectToken joint)) e
+token_next : (rest token after : List ℕ) → (prefix_len is_token_byte rest ≡ 0 → ⊥) → token ≡ take (prefix_len is_token_byte rest) rest →
+    after ≡ drop (prefix_len is_token_byte rest) rest → signs_of rest ≡ Token token ∷ signs_of after
+token_next rest token after n e f = rw (e, f) (signs_token rest (begins rest n))
 
-  pub empty_item : signs_of text ≡ [] → HasNoItem text
-  unfolding items_from
-  empty_item e joint = ap (items_from (ExpectItem joint)) e
+-- with a token there, it is the first item's
+pub some_first : (inverted : Bool) (text rest token after : List ℕ) → IsAfterNot inverted text rest →
+    (prefix_len is_token_byte rest ≡ 0 → ⊥) → token ≡ take (prefix_len is_token_byte rest) rest →
+    after ≡ drop (prefix_len is_token_byte rest) rest → (joint : Joint) →
+    items_after joint text ≡ onto_items joint inverted token (items_left after)
+unfolding items_from
+some_first true text rest token after s n e f joint =
+    ap (items_from (ExpectItem joint)) s ∙ ap (items_from (ExpectToken joint)) (token_next rest token after n e f)
+some_first false text rest token after s n e f joint =
+    ap (items_from (ExpectItem joint)) s.0 ∙ ap (items_from (ExpectItem joint)) (token_next rest token after n e f)
 
-  pub token_item : (t : List ℕ) → signs_of text ≡ Token t ∷ signs_of rest → (joint : Joint) →
-      items_after joint text ≡ onto_items joint false t (items_left rest)
+module _ (text rest : List ℕ) (skipped : signs_of text ≡ signs_of rest) where
+  pub empty_next : length rest ≡ 0 → items_left text ≡ Some []
   unfolding items_from
-  token_item t e joint = ap (items_from (ExpectItem joint)) e
+  empty_next e = ap (items_from ExpectJoint) (skipped ∙ no_sign rest e)
 
-  turned_item : signs_of text ≡ Not ∷ signs_of rest → (joint : Joint) → items_after joint text ≡ items_inverted joint rest
-  unfolding items_from
-  turned_item e joint = ap (items_from (ExpectItem joint)) e
+  module _ (b : ℕ) (after : List ℕ) (is : rest ≡ b ∷ after) where
+    here : signs_of text ≡ signs_of (b ∷ after)
+    here = skipped ∙ ap signs_of is
 
-  pub turned : signs_of text ≡ Not ∷ signs_of rest → (result : Option Item) →
-      MatchOption result (HasNoToken rest) (λ item. IsInvertedItem rest item) → MatchOption result (HasNoItem text) (λ item. IsFirstItem text item)
-  turned e None none = λ joint. turned_item e joint ∙ none joint
-  turned e (Some item) is = λ joint.
-      turned_item e joint ∙ is.1 joint ∙ ap (λ (b : Bool). onto_items joint b item.token.now (items_left item.rest.now)) (sym is.0)
+    pub and_next : b ≡ 38 → items_left text ≡ items_after And after
+    unfolding items_from
+    and_next e = ap (items_from ExpectJoint) (here ∙ both_first (b ∷ after) after (filled b after) e refl)
 
-  pub joint_item : (other : Joint) → signs_of text ≡ Join other ∷ signs_of rest → HasNoItem text
-  unfolding items_from
-  joint_item other e joint = ap (items_from (ExpectItem joint)) e
+    pub or_next : b ≡ 124 → items_left text ≡ items_after Or after
+    unfolding items_from
+    or_next e = ap (items_from ExpectJoint) (here ∙ either_first (b ∷ after) after (filled b after) e refl)
 
-  pub empty_next : signs_of text ≡ [] → items_left text ≡ Some []
-  unfolding items_from
-  empty_next e = ap (items_from ExpectJoint) e
-
-  pub joint_next : (joint : Joint) → signs_of text ≡ Join joint ∷ signs_of rest → items_left text ≡ items_after joint rest
-  unfolding items_from
-  joint_next joint e = ap (items_from ExpectJoint) e
-
-  pub not_next : signs_of text ≡ Not ∷ signs_of rest → items_left text ≡ None
-  unfolding items_from
-  not_next e = ap (items_from ExpectJoint) e
-
-  pub token_next : (t : List ℕ) → signs_of text ≡ Token t ∷ signs_of rest → items_left text ≡ None
-  unfolding items_from
-  token_next t e = ap (items_from ExpectJoint) e
+    pub fault_next : prefix_len is_blank rest ≡ 0 → (b ≡ 38 → ⊥) → (b ≡ 124 → ⊥) → items_left text ≡ None
+    unfolding items_from
+    fault_next z h k = elim (eqb b 33) as (λ (u : Bool). eqb b 33 ≡ u → items_left text ≡ None) [
+      | true ↦ λ e. ap (items_from ExpectJoint) (here ∙ not_first (b ∷ after) after (filled b after) (eqb-true b 33 e) refl)
+      | false ↦ λ e.
+          let yes : is_token_byte b ≡ true = no_mark b after (sym (ap (prefix_len is_blank) is) ∙ z) (eqb-false b 33 e) h k in
+          ap (items_from ExpectJoint) (here ∙ signs_token (b ∷ after) yes)
+    ] refl
 
 -- ---- the value of the items that are left
 

@@ -5,7 +5,7 @@ use Rattle.pam_times.specs.Reading.{FieldTexts, and_then, entry_or_fault, name_o
 use Rattle.pam_times.specs.Times.{Rule}
 use Rattle.pam_times.specs.declared.error.TimeFault.{TimeFault}
 use Rattle.pam_times.specs.declared.reading.Field.{Field}
-use Rattle.pam_times.specs.declared.reading.Field.TheVariants.{Times}
+use Rattle.pam_times.specs.declared.reading.Field.TheVariants.{Services, Terminals, Users, Times}
 
 -- whether there is a value, or its fault
 abbrev pub checked : {A : Type 0} → Result A TimeFault → Result (Unit {0}) TimeFault
@@ -30,6 +30,12 @@ list_checked field text = checked (names_of field text)
 abbrev pub first_fault : Result (Unit {0}) TimeFault → Result (Unit {0}) TimeFault → Result (Unit {0}) TimeFault
 first_fault (Ok u) other = other
 first_fault (Err fault) other = Err fault
+
+-- the first fault of the lists of a line
+abbrev pub fields_checked : FieldTexts → Result (Unit {0}) TimeFault
+fields_checked f =
+    first_fault (list_checked Services f.services) (first_fault (list_checked Terminals f.terminals)
+    (first_fault (list_checked Users f.users) (list_checked Times f.times)))
 
 -- whether a line has a rule, or its fault
 abbrev pub line_checked : Result (Option Rule) TimeFault → Result Bool TimeFault

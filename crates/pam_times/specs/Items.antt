@@ -1,6 +1,6 @@
 -- For private contracts and proofs alone: the items of a list of time.conf(5), item by item.
-use Rattle.std.specs.Prelude.{◌≡◌, ◌<◌, ℕ, true, List, [], length, Option, Some, None}
-use Rattle.pam_times.specs.Logic.{ItemOf, ExpectItem, ExpectToken, ExpectJoint, items_from, onto_items, signs_of}
+use Rattle.std.specs.Prelude.{◌≡◌, ◌<◌, ◌==◌, ℕ, Bool, true, false, List, [], ◌∷◌, length, Option, Some, None}
+use Rattle.pam_times.specs.Logic.{ItemOf, Not, ExpectItem, ExpectToken, ExpectJoint, items_from, onto_items, signs_of}
 use Rattle.pam_times.specs.declared.logic.Item.{Item}
 use Rattle.pam_times.specs.declared.logic.Joint.{Joint}
 use Rattle.pam_times.specs.declared.logic.Next.{Next}
@@ -21,15 +21,17 @@ items_inverted joint text = items_from (ExpectToken joint) (signs_of text)
 abbrev pub items_left : List ℕ → Items
 items_left text = items_from ExpectJoint (signs_of text)
 
-abbrev pub sign_count : List ℕ → ℕ
-sign_count text = length (signs_of text)
+abbrev pub begins_not : List ℕ → Bool
+begins_not [] = false
+begins_not (b ∷ bs) = b == 33
+
+-- a text from a `!` on and the text after it, or a text and its end that begins with no `!`
+abbrev pub IsAfterNot : Bool → List ℕ → List ℕ → Type 0
+IsAfterNot true text rest = signs_of text ≡ Not ∷ signs_of rest
+IsAfterNot false text rest = (signs_of text ≡ signs_of rest) × (begins_not rest ≡ false)
 
 abbrev pub HasNoToken : List ℕ → Type 0
 HasNoToken text = (joint : Joint) → items_inverted joint text ≡ None
-
-abbrev pub IsInvertedItem : List ℕ → Item → Type 0
-IsInvertedItem text item =
-    (item.is_inverted ≡ true) × ((joint : Joint) → items_inverted joint text ≡ onto_items joint true item.token.now (items_left item.rest.now))
 
 abbrev pub HasNoItem : List ℕ → Type 0
 HasNoItem text = (joint : Joint) → items_after joint text ≡ None
@@ -43,5 +45,5 @@ items_of_next (next.Joint joint rest) = items_after joint rest.now
 items_of_next next.Fault = None
 
 abbrev pub IsShorter : Next → List ℕ → Type 0
-IsShorter (next.Joint joint rest) text = sign_count rest.now < sign_count text
+IsShorter (next.Joint joint rest) text = length rest.now < length text
 IsShorter _ text = Unit {0}

@@ -7,8 +7,6 @@ use Rattle.pam_times.specs.declared.error.TimeFault.TheVariants.{BadLogic}
 use Rattle.pam_times.specs.Entry.{differ}
 use Rattle.pam_times.specs.declared.logic.Joint.{Joint}
 use Rattle.pam_times.specs.declared.logic.Joint.TheVariants.{First, And, Or}
-use Rattle.pam_times.specs.declared.logic.Sign.{Sign}
-use Rattle.pam_times.specs.declared.logic.Sign.TheVariants as signs
 
 -- ---- the value of a list
 
@@ -73,11 +71,6 @@ signs_of (b ∷ bs) =
     else if b == 124 then Join Or ∷ signs_of bs
     else if begins_token bs then onto_token b (signs_of bs)
     else Token (b ∷ []) ∷ signs_of bs
-
-abbrev pub sign_view : Sign → SignText
-sign_view signs.Not = Not
-sign_view (signs.Joint joint) = Join joint
-sign_view (signs.Token text) = Token text.now
 
 abbrev pub onto_items : Joint → Bool → List ℕ → Option (List (ItemOf (List ℕ))) → Option (List (ItemOf (List ℕ)))
 onto_items joint is_inverted token (Some items) = Some ((joint, is_inverted, token) ∷ items)

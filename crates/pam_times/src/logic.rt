@@ -1,15 +1,15 @@
 //! Logic lists of time.conf(5): items joined by `&` and `|`.
 
-ghost use Rattle.std.specs.Prelude.{◌≡◌, ◌∷◌, ◌<◌, ◌≤◌, [], length, IfSome, MatchOption};
+ghost use Rattle.std.specs.Prelude.{◌≡◌, ◌≤◌, length, IfSome, MatchOption};
 ghost use Rattle.std.specs.List.{prefix_len};
 ghost use Rattle.pam_codes.specs.Tokens.{is_blank};
 ghost use Rattle.pam_times.specs.Entry.{differ};
 ghost use Rattle.pam_times.specs.Fact.{meets};
-ghost use Rattle.pam_times.specs.Logic.{join, list_value, is_token_byte, signs_of, sign_view, items_of};
-ghost use Rattle.pam_times.specs.Items.{HasNoItem, HasNoToken, IsFirstItem, IsInvertedItem, IsShorter, items_left, items_of_next, sign_count};
+ghost use Rattle.pam_times.specs.Logic.{join, list_value, is_token_byte, signs_of, items_of};
+ghost use Rattle.pam_times.specs.Items.{HasNoItem, IsAfterNot, IsFirstItem, IsShorter, items_left, items_of_next};
 
 use crate::fact::Fact;
-use pam_text::{is_text_blank, text_blank_len};
+use pam_text::is_text_blank;
 
 /// The operator before an item of a list.
 #[derive(Clone, Copy)]
@@ -35,14 +35,6 @@ impl Joint {
     }
 }
 
-/// A token or an operator in the text of a list.
-#[derive(Clone, Copy)]
-pub(crate) enum Sign<'a> {
-    Not,
-    Joint(Joint),
-    Token(&'a [u8]),
-}
-
 /// Most bytes of tokens are between `&` and `|`, so that one comparison of a difference is enough.
 #[inline(always)]
 fn is_token_byte(byte: u8) -> bool
@@ -60,39 +52,35 @@ fn token_len(bytes: &[u8]) -> usize
     bytes.iter().take_while(|b| is_token_byte(**b)).count()
 }
 
-/// Most signs have no blank before them.
+/// Removes leading blanks.
 #[inline(always)]
 fn skip_blanks(bytes: &[u8]) -> &[u8]
     ensures signs { signs_of bytes.now ≡ signs_of result.now }
     ensures first { prefix_len is_blank result.now ≡ 0 }
+    ensures bound { length result.now ≤ length bytes.now }
 {
-    if !bytes.is_empty() && bytes[0] > b' ' {
-        return bytes;
+    let mut rest = bytes;
+    while let Some((first, after)) = rest.split_first() {
+        if !is_text_blank(*first) {
+            return rest;
+        }
+        rest = after;
     }
-    bytes.split_at(text_blank_len(bytes)).1
+    rest
 }
 
-/// Splits off the first sign. Returns it and the text after it.
+/// Removes leading blanks, and a `!` with the blanks after it. Returns whether there was one, and the text after it.
 #[inline(always)]
-fn first_sign(bytes: &[u8]) -> Option<(Sign<'_>, &[u8])>
-    ensures { MatchOption result (signs_of bytes.now ≡ []) (λ p. signs_of bytes.now ≡ sign_view p.0 ∷ signs_of p.1.now) }
+fn skip_not(text: &[u8]) -> (bool, &[u8])
+    ensures signs { IsAfterNot result.0 text.now result.1.now }
+    ensures first { prefix_len is_blank result.1.now ≡ 0 }
+    ensures bound { length result.1.now ≤ length text.now }
 {
-    let rest = skip_blanks(bytes);
-    if rest.is_empty() {
-        return None;
+    let rest = skip_blanks(text);
+    if !rest.is_empty() && rest[0] == b'!' {
+        return (true, skip_blanks(rest.split_at(1).1));
     }
-    if is_token_byte(rest[0]) {
-        let (token, after) = rest.split_at(token_len(rest));
-        return Some((Sign::Token(token), after));
-    }
-    let after = rest.split_at(1).1;
-    if rest[0] == b'!' {
-        return Some((Sign::Not, after));
-    }
-    if rest[0] == b'&' {
-        return Some((Sign::Joint(Joint::And), after));
-    }
-    Some((Sign::Joint(Joint::Or), after))
+    (false, rest)
 }
 
 /// An item of a list, without the operator before it.
@@ -114,40 +102,22 @@ pub(crate) enum Next<'a> {
     Fault,
 }
 
-/// Splits off the token of an inverted item, if it comes first.
-#[inline(always)]
-fn inverted_item(text: &[u8]) -> Option<Item<'_>>
-    ensures item { MatchOption result (HasNoToken text.now) (λ item. IsInvertedItem text.now item) }
-    ensures shorter { IfSome result (λ item. sign_count item.rest.now < sign_count text.now) }
-{
-    let (sign, rest) = first_sign(text)?;
-    match sign {
-        Sign::Token(token) => Some(Item {
-            is_inverted: true,
-            token,
-            rest,
-        }),
-        Sign::Not => None,
-        Sign::Joint(_) => None,
-    }
-}
-
 /// Splits off the first item. Returns `None` if no item comes first.
 #[inline(always)]
 pub(crate) fn first_item(text: &[u8]) -> Option<Item<'_>>
     ensures item { MatchOption result (HasNoItem text.now) (λ item. IsFirstItem text.now item) }
-    ensures shorter { IfSome result (λ item. sign_count item.rest.now < sign_count text.now) }
+    ensures bound { IfSome result (λ item. length item.rest.now ≤ length text.now) }
 {
-    let (sign, rest) = first_sign(text)?;
-    match sign {
-        Sign::Token(token) => Some(Item {
-            is_inverted: false,
-            token,
-            rest,
-        }),
-        Sign::Not => inverted_item(rest),
-        Sign::Joint(_) => None,
+    let (is_inverted, begin) = skip_not(text);
+    let (token, rest) = begin.split_at(token_len(begin));
+    if token.is_empty() {
+        return None;
     }
+    Some(Item {
+        is_inverted,
+        token,
+        rest,
+    })
 }
 
 /// Returns what comes next in a text after an item.
@@ -156,14 +126,16 @@ pub(crate) fn next_joint(text: &[u8]) -> Next<'_>
     ensures items { items_left text.now ≡ items_of_next result }
     ensures shorter { IsShorter result text.now }
 {
-    let Some((sign, rest)) = first_sign(text) else {
+    let Some((first, after)) = skip_blanks(text).split_first() else {
         return Next::End;
     };
-    match sign {
-        Sign::Joint(joint) => Next::Joint(joint, rest),
-        Sign::Not => Next::Fault,
-        Sign::Token(_) => Next::Fault,
+    if *first == b'&' {
+        return Next::Joint(Joint::And, after);
     }
+    if *first == b'|' {
+        return Next::Joint(Joint::Or, after);
+    }
+    Next::Fault
 }
 
 /// Whether a text is a list that is true, given which tokens the fact meets. Put in line, so that it is compiled once for

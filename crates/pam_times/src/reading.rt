@@ -4,8 +4,8 @@ ghost use Rattle.std.specs.Prelude.{◌≡◌, ℕ};
 ghost use Rattle.std.specs.List.{list_all};
 ghost use Rattle.std.specs.Option.{option_map};
 ghost use Rattle.pam_codes.specs.Tokens.{is_blank};
-ghost use Rattle.pam_times.specs.Reading.{is_netgroup, has_empty, cut_fields, fields_of, fields_view, rule_of};
-ghost use Rattle.pam_times.specs.Checks.{cut_others, name_checked, entry_checked, first_fault, token_checked, list_checked, line_checked};
+ghost use Rattle.pam_times.specs.Reading.{is_netgroup, has_empty, cut_fields, fields_view, rule_of};
+ghost use Rattle.pam_times.specs.Checks.{cut_others, name_checked, entry_checked, fields_checked, first_fault, token_checked, list_checked, line_checked};
 
 use crate::entry::TimeEntry;
 use crate::error::TimeFault;
@@ -66,19 +66,6 @@ fn cut_fields(line: &[u8]) -> Option<Fields<'_>>
 {
     let (services, rest) = cut(line, b';')?;
     cut_others(services, rest)
-}
-
-/// Like `cut_fields`, but also returns `None` if a field is blank.
-#[tactic(auto, unfolding(crate::specs::Reading::fields_of))]
-fn full_fields(line: &[u8]) -> Option<Fields<'_>>
-    ensures { option_map fields_view result ≡ fields_of line.now }
-{
-    let fields = cut_fields(line)?;
-    if has_empty(fields) {
-        None
-    } else {
-        Some(fields)
-    }
 }
 
 #[inline(always)]
@@ -158,20 +145,35 @@ fn check_list(field: Field, text: &[u8]) -> Result<(), TimeFault>
     Err(TimeFault::BadLogic)
 }
 
-/// Checks a line. Returns whether it has a rule: a blank line has none.
-pub(crate) fn check_line(line: &[u8]) -> Result<bool, TimeFault>
-    ensures { (number : ℕ) → result ≡ line_checked (rule_of number line.now) }
+/// Checks the lists of the fields of a line, from the left.
+fn check_fields(fields: Fields<'_>) -> Result<(), TimeFault>
+    ensures { result ≡ fields_checked (fields_view fields.entry) }
 {
-    if is_blank_text(line) {
-        return Ok(false);
-    }
-    let fields = match full_fields(line) {
-        Some(fields) => fields,
-        None => return Err(TimeFault::MissingField),
-    };
     check_list(Field::Services, fields.services)?;
     check_list(Field::Terminals, fields.terminals)?;
     check_list(Field::Users, fields.users)?;
-    check_list(Field::Times, fields.times)?;
-    Ok(true)
+    check_list(Field::Times, fields.times)
+}
+
+/// Checks a line. Returns whether it has a rule: a blank line has none. A blank field is no list, so that blanks are
+/// looked for only in a line that has a fault.
+pub(crate) fn check_line(line: &[u8]) -> Result<bool, TimeFault>
+    ensures { (number : ℕ) → result ≡ line_checked (rule_of number line.now) }
+{
+    let Some(fields) = cut_fields(line) else {
+        if is_blank_text(line) {
+            return Ok(false);
+        }
+        return Err(TimeFault::MissingField);
+    };
+    match check_fields(fields) {
+        Ok(()) => Ok(true),
+        Err(fault) => {
+            if has_empty(fields) {
+                Err(TimeFault::MissingField)
+            } else {
+                Err(fault)
+            }
+        }
+    }
 }

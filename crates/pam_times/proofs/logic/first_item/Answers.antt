@@ -1,15 +1,17 @@
-use Rattle.pam_times.proofs.LogicSteps.{empty_item, token_item, joint_item, turned}
+use Rattle.std.proofs.Common.{◌∙◌, ap, sym, ℕ, drop, take}
+use Rattle.std.proofs.lemmas.Bool.{eqb-false, eqb-true}
+use Rattle.pam_times.proofs.LogicSteps.{none_first, some_first}
 use Rattle.pam_times.proofs.logic.first_item.Goals as goal
 
-pub returns-in_err-sign-clause-item : goal.returns-in_err-sign-clause-item
-returns-in_err-sign-clause-item c = rw c.from_residual.ensures (empty_item c.args.text.now c.args.text.now c.in_err-sign.ensures)
+pub returns-then-is_empty-clause-item : goal.returns-then-is_empty-clause-item
+returns-then-is_empty-clause-item c =
+    none_first c.skip_not-is_inverted.result.0 c.args.text.now _ c.skip_not-is_inverted.ensures.signs c.skip_not-is_inverted.ensures.first
+    (sym c.token_len.ensures.value ∙ sym c.split_at.ensures.front_len ∙ eqb-true _ _ (sym c.is_empty.ensures ∙ c.if-is_empty.true))
 
-pub returns-in-Token-clause-item : goal.returns-in-Token-clause-item
-returns-in-Token-clause-item c = token_item c.args.text.now c.in_ok-sign.rest.now c.in-Token.token.now (rw c.in-Token.is at c.in_ok-sign.ensures)
-
-pub returns-in-Not-clause-item : goal.returns-in-Not-clause-item
-returns-in-Not-clause-item c =
-    turned c.args.text.now c.in_ok-sign.rest.now (rw c.in-Not.is at c.in_ok-sign.ensures) c.inverted_item.result c.inverted_item.ensures.item
-
-pub returns-in-Joint-clause-item : goal.returns-in-Joint-clause-item
-returns-in-Joint-clause-item c = joint_item c.args.text.now c.in_ok-sign.rest.now _ (rw c.in-Joint.is at c.in_ok-sign.ensures)
+pub returns-clause-item : goal.returns-clause-item
+returns-clause-item c =
+    let begin = c.skip_not-is_inverted.result.1.now in
+    some_first c.skip_not-is_inverted.result.0 c.args.text.now begin _ _ c.skip_not-is_inverted.ensures.signs
+    (λ h. eqb-false _ _ (sym c.is_empty.ensures ∙ c.if-is_empty.false) (c.split_at.ensures.front_len ∙ c.token_len.ensures.value ∙ h))
+    (c.split_at.ensures.front ∙ ap (λ (n : ℕ). take n begin) c.token_len.ensures.value)
+    (c.split_at.ensures.back ∙ ap (λ (n : ℕ). drop n begin) c.token_len.ensures.value)

@@ -1,15 +1,18 @@
-use Rattle.pam_times.proofs.LogicSteps.{empty_next, joint_next, not_next, token_next}
+use Rattle.pam_times.proofs.LogicSteps.{and_next, empty_next, fault_next, or_next}
 use Rattle.pam_times.proofs.logic.next_joint.Goals as goal
 
 pub returns-in_default-clause-items : goal.returns-in_default-clause-items
-returns-in_default-clause-items c = empty_next c.args.text.now c.args.text.now c.in_default.ensures
+returns-in_default-clause-items c = empty_next c.args.text.now _ c.skip_blanks.ensures.signs c.in_default.ensures.cases
 
-pub returns-in-Joint-clause-items : goal.returns-in-Joint-clause-items
-returns-in-Joint-clause-items c =
-    joint_next c.args.text.now c.in-Some.rest.now c.in-Joint.joint (rw c.in-Joint.is at c.in-Some.ensures)
+pub returns-then-first-eq38-clause-items : goal.returns-then-first-eq38-clause-items
+returns-then-first-eq38-clause-items c =
+    and_next c.args.text.now _ c.skip_blanks.ensures.signs c.in-Some.first.now c.in-Some.after.now c.in-Some.ensures.cases.0 c.if-first-eq38.true
 
-pub returns-in-Not-clause-items : goal.returns-in-Not-clause-items
-returns-in-Not-clause-items c = not_next c.args.text.now c.in-Some.rest.now (rw c.in-Not.is at c.in-Some.ensures)
+pub returns-then-first-eq124-clause-items : goal.returns-then-first-eq124-clause-items
+returns-then-first-eq124-clause-items c =
+    or_next c.args.text.now _ c.skip_blanks.ensures.signs c.in-Some.first.now c.in-Some.after.now c.in-Some.ensures.cases.0 c.if-first-eq124.true
 
-pub returns-in-Token-clause-items : goal.returns-in-Token-clause-items
-returns-in-Token-clause-items c = token_next c.args.text.now c.in-Some.rest.now _ (rw c.in-Token.is at c.in-Some.ensures)
+pub returns-clause-items : goal.returns-clause-items
+returns-clause-items c =
+    fault_next c.args.text.now _ c.skip_blanks.ensures.signs c.in-Some.first.now c.in-Some.after.now c.in-Some.ensures.cases.0
+    c.skip_blanks.ensures.first c.if-first-eq38.false c.if-first-eq124.false

@@ -1,8 +1,10 @@
-use Rattle.pam_times.proofs.LogicSteps.{no_blank_first, signs_skip}
+use Rattle.std.proofs.Common.{◌∙◌, arith, sym}
+use Rattle.pam_times.proofs.LogicSteps.{blank_next}
 use Rattle.pam_times.proofs.logic.skip_blanks.Goals as goal
 
-pub returns-clause-signs : goal.returns-clause-signs
-returns-clause-signs c = rw (c.split_at.ensures.back, c.text_blank_len.ensures.value) (signs_skip c.args.bytes.now)
-
-pub returns-clause-first : goal.returns-clause-first
-returns-clause-first c = rw (c.split_at.ensures.back, c.text_blank_len.ensures.value) (no_blank_first c.args.bytes.now)
+pub loop-first-preserved : goal.loop-first-preserved
+loop-first-preserved c = record {
+  signs = blank_next _ c.in-Some.first.now c.in-Some.after.now c.in-Some.ensures.cases.0
+      (sym c.is_text_blank.ensures ∙ c.if-not-is_text_blank.false) ∙ c.loop-first.invariant.signs;
+  bound = omega (arith, c.loop-first.invariant.bound, c.in-Some.ensures);
+}

@@ -1,6 +1,6 @@
-use Rattle.std.proofs.Common.{◌≡◌}
+use Rattle.std.proofs.Common.{◌≡◌, length}
 use Rattle.pam_times.specs.Checks.{list_checked, token_checked}
-use Rattle.pam_times.specs.Items.{items_after, sign_count}
+use Rattle.pam_times.specs.Items.{items_after}
 use Rattle.pam_times.specs.declared.logic.Joint.TheVariants.{First}
 use Rattle.pam_times.proofs.CheckSteps.{fault_from}
 use Rattle.pam_times.proofs.reading.check_list.Given as goal
@@ -9,4 +9,4 @@ abbrev pub invariant-loop-item : goal.invariant-loop-item
 invariant-loop-item l = fault_from (token_checked l.field) l.checked (items_after First l.rest) ≡ list_checked l.field l.text
 
 abbrev pub decreases-loop-item : goal.decreases-loop-item
-decreases-loop-item l = sign_count l.rest
+decreases-loop-item l = length l.rest

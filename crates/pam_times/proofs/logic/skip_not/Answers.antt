@@ -1,0 +1,10 @@
+use Rattle.std.proofs.Common.{◌∙◌, sym}
+use Rattle.std.proofs.lemmas.Bool.{eqb-false}
+use Rattle.pam_times.proofs.LogicSteps.{not_first}
+use Rattle.pam_times.proofs.logic.skip_not.Goals as goal
+
+pub returns-then-rest-eq33-clause-signs : goal.returns-then-rest-eq33-clause-signs
+returns-then-rest-eq33-clause-signs c =
+    c.skip_blanks-rest.ensures.signs
+    ∙ rw (← c.skip_blanks.ensures.signs) (not_first c.skip_blanks-rest.result.now _ (eqb-false _ _ (sym c.is_empty.ensures ∙ c.if-not-is_empty.true))
+    c.if-rest-eq33.true c.split_at.ensures.back)
