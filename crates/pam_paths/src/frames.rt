@@ -1,13 +1,13 @@
 //! The frames of an explorer: the modules asked on the path that it returned last.
 
-ghost use Rattle.std.specs.Prelude.{◌≡◌, ◌+◌, ◌-◌, ◌<◌, ◌≤◌, ◌∷◌, ◌++◌, [], ℕ, length, map, take, None, Some, IfSome, IfNone};
+ghost use Rattle.std.specs.Prelude.{◌≡◌, ◌+◌, ◌-◌, ◌<◌, ◌≤◌, ◌∷◌, ◌++◌, [], length, map, take, None, Some, IfSome, IfNone};
 ghost use Rattle.pam_conf.specs.declared.stack.TheConstants.{MAX_MODULES};
 ghost use Rattle.pam_dispatch.specs.Flat.{IsPlaceOf, modules_of, rest_of};
 ghost use Rattle.pam_dispatch.specs.Runs.{AsksRise, after_answer, asked_module, next_ask};
 ghost use Rattle.pam_paths.specs.Classes.{class_of};
 ghost use Rattle.pam_paths.specs.Computed.{after_step, listing};
 ghost use Rattle.pam_paths.specs.Directions.{ordered, past};
-ghost use Rattle.pam_paths.specs.Frames.{AreClasses, AreFrames, IsFrame, ahead, ahead_of, offered_at, path_to, step_in, under};
+ghost use Rattle.pam_paths.specs.Frames.{AreClasses, AreFrames, ahead, ahead_of, offered_at, path_to, step_in, under};
 ghost use Rattle.pam_paths.specs.Kept.{AreKept};
 ghost use Rattle.pam_paths.specs.Listing.{Allowance};
 ghost use Rattle.pam_paths.specs.Steps.{step_seen};
