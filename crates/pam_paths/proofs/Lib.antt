@@ -23,3 +23,4 @@ pub mod Tails
 pub mod Trees
 pub mod Verdicts
 pub mod WrittenCursors
+pub mod Rows
