@@ -49,12 +49,11 @@ impl Default for Frame {
     }
 }
 
-/// A class that can be followed: its least code, its codes, and the next place.
+/// A class that can be followed: its least code, and its codes.
 #[derive(Clone, Copy, Debug)]
 pub(crate) struct Branch {
     pub(crate) code: Code,
     pub(crate) class: CodeSet,
-    pub(crate) place: Place,
 }
 
 impl Frame {
@@ -87,39 +86,43 @@ impl Frame {
         }
     }
 
-    /// The branch of the class of `code`.
+    /// The branch of the class of `code`. Makes `place` the place after it.
     #[inline(always)]
-    pub(crate) fn branch(&self, program: &Program, code: Code, work: &mut Work) -> Branch
+    pub(crate) fn branch(
+        &self,
+        program: &Program,
+        code: Code,
+        place: &mut Place,
+        work: &mut Work,
+    ) -> Branch
         requires place { IsPlaceOf program.now self.now.place }
         requires asking { asked_module (rest_of program.now self.now.place) ≡ Some self.now.module_number }
         requires first { 1 ≤ self.now.module_number }
         requires last { self.now.module_number ≤ modules_of program.now }
         requires classes { AreClasses (next_ask (rest_of program.now self.now.place)) self.now.classes }
-        ensures place { IsPlaceOf program.now result.place }
+        ensures place { IsPlaceOf program.now place.new }
         ensures code { result.code ≡ code }
         ensures class { result.class ≡ class_of (next_ask (rest_of program.now self.now.place)) code }
-        ensures rest { rest_of program.now result.place ≡ after_answer (rest_of program.now self.now.place) code }
+        ensures rest { rest_of program.now place.new ≡ after_answer (rest_of program.now self.now.place) code }
         ensures work { work.new ≤ work.old + 1 }
     {
+        *place = self.place;
+        program.step_on(place, code, work);
+        let number = usize::from(self.module_number);
         Branch {
             code,
-            class: self.classes.class_of(
-                program,
-                &self.place,
-                usize::from(self.module_number),
-                code,
-            ),
-            place: program.step(&self.place, code, work).place(),
+            class: self.classes.class_of(program, &self.place, number, code),
         }
     }
 
-    /// The first branch ahead of `bound`.
+    /// The first branch ahead of `bound`. Makes `place` the place after it.
     #[inline(always)]
     pub(crate) fn branch_ahead(
         &self,
         program: &Program,
         direction: Direction,
         bound: u8,
+        place: &mut Place,
         work: &mut Work,
     ) -> Option<Branch>
         requires place { IsPlaceOf program.now self.now.place }
@@ -130,18 +133,18 @@ impl Frame {
         requires bound { bound ≤ 31 }
         ensures none { (allows : Allowance) → self.now.classes.offered ≡ offered_at allows (rest_of program.now self.now.place)
             → IfNone result (ahead_of direction allows (rest_of program.now self.now.place) bound ≡ []) }
-        ensures place { IfSome result (λ b. IsPlaceOf program.now b.place) }
+        ensures place { IfSome result (λ _. IsPlaceOf program.now place.new) }
         ensures code { IfSome result (λ b. b.code < 31) }
-        ensures rest { IfSome result (λ b. rest_of program.now b.place ≡ after_answer (rest_of program.now self.now.place) b.code) }
+        ensures rest { IfSome result (λ b. rest_of program.now place.new ≡ after_answer (rest_of program.now self.now.place) b.code) }
         ensures paths { (allows : Allowance) → self.now.classes.offered ≡ offered_at allows (rest_of program.now self.now.place)
             → IfSome result (λ b. ahead_of direction allows (rest_of program.now self.now.place) bound
             ≡ map (after_step (record { module_number = self.now.module_number; class = b.class }))
-            (ordered direction (listing allows (rest_of program.now b.place)))
+            (ordered direction (listing allows (rest_of program.now place.new)))
             ++ ahead_of direction allows (rest_of program.now self.now.place) (past direction b.code)) }
         ensures work { work.new ≤ work.old + 1 }
     {
         match direction.first(self.classes.offered, bound) {
-            Some(code) => Some(self.branch(program, code, work)),
+            Some(code) => Some(self.branch(program, code, place, work)),
             None => None,
         }
     }
@@ -215,9 +218,10 @@ pub(crate) fn advance<K: Knowledge>(
         let last = frames.len() - 1;
         let frame = &frames.as_slice()[last];
         let bound = direction.past(frame.code);
-        if let Some(branch) = frame.branch_ahead(program, direction, bound, work) {
+        let mut place = frame.place;
+        if let Some(branch) = frame.branch_ahead(program, direction, bound, &mut place, work) {
             frames.follow(last, &branch);
-            return Some(branch.place);
+            return Some(place);
         }
         frames.truncate(last);
     }
@@ -258,11 +262,8 @@ pub(crate) fn descend<K: Knowledge>(
         };
         let classes = kept.at(program, knowledge, &place, module_number);
         let frame = Frame::at(place, module_number, classes);
-        match frame.branch_ahead(program, direction, direction.outset(), work) {
-            Some(branch) => {
-                frames.push(frame.following(&branch));
-                place = branch.place;
-            }
+        match frame.branch_ahead(program, direction, direction.outset(), &mut place, work) {
+            Some(branch) => frames.push(frame.following(&branch)),
             None => unreachable!(),
         }
     }

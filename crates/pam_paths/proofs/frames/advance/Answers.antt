@@ -40,6 +40,7 @@ returns-in-Some g c =
     let some : 0 < n = search rules in
     let f = c.index-as_slice-last.result in
     let b = c.in-Some.branch in
+    let next = c.branch_ahead.new.place in
     let h = followed f b in
     let of = c.in-Some.ensures in
     let at_last = c.index-as_slice-last.is ∙ ap (λ (l : List Frame). get_or l (n - 1) f) c.as_slice.ensures.value in
@@ -47,7 +48,7 @@ returns-in-Some g c =
     c.as_slice.ensures.value c.index-as_slice-last.is of.code (c.follow.ensures f at_last) in
     let fs = take (n - 1) items in
     let r = rest_of program f.place in
-    let below = ordered d (listing allows (rest_of program b.place)) in
+    let below = ordered d (listing allows (rest_of program next)) in
     let at : n - 1 ≡ length items - 1 = ap (λ (x : ℕ). x - 1) count in
     let longer : length fs + 1 ≡ length (fs ++ h ∷ []) = sym (length-append fs (h ∷ [])) in
     record {
@@ -55,8 +56,8 @@ returns-in-Some g c =
       emptied = tt;
       place = of.place;
       frames = k.frames;
-      rise = subst (λ x. AsksRise x (modules_of program) (rest_of program b.place)) (longer ∙ ap (λ (l : List Frame). length l) (sym k.is))
-          (frame_after allows program (length fs) f b.code b.place k.was.is of.rest);
+      rise = subst (λ x. AsksRise x (modules_of program) (rest_of program next)) (longer ∙ ap (λ (l : List Frame). length l) (sym k.is))
+          (frame_after allows program (length fs) f b.code next k.was.is of.rest);
       earlier = front_changed c.args.frames.now.items fs _ h
           (front_popped c.args.frames.now.items items fs i.earlier (ap (λ (x : ℕ). take x items) at)) k.is;
       paths = i.same
