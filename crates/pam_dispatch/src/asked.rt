@@ -9,7 +9,7 @@ use pam_codes::{Action, Code, Control};
 use std::marker::Model;
 
 /// What the outcome of an answer depends on, besides the module's control.
-#[derive(Clone, Copy, Debug, Default, PartialEq, Eq)]
+#[derive(Clone, Copy, Debug, PartialEq, Eq)]
 pub struct Situation {
     pub(crate) state: State,
     /// The state in which the module's list was entered.
@@ -22,10 +22,7 @@ pub struct Situation {
 pub struct Asked<'a> {
     pub(crate) module_number: usize,
     pub(crate) control: &'a Control,
-    pub(crate) state: State,
-    /// The state in which its list was entered.
-    pub(crate) entry: State,
-    pub(crate) items_after: usize,
+    pub(crate) situation: Situation,
 }
 
 impl<'a> Model for Asked<'a> {
@@ -36,9 +33,9 @@ impl<'a> Model for Asked<'a> {
     ghost view = { λ a. record {
       module_number = a.module_number;
       control = a.control.now;
-      state = a.state;
-      entry = a.entry;
-      after = a.items_after;
+      state = a.situation.state;
+      entry = a.situation.entry;
+      after = a.situation.items_after;
     } };
 }
 
@@ -47,18 +44,14 @@ impl Asked<'_> {
     pub fn state(&self) -> State
         ensures { result ≡ self.now.state }
     {
-        self.state
+        self.situation.state
     }
 
     /// The situation in which it is asked.
     pub fn situation(&self) -> Situation
         ensures { result ≡ situation_of self.now }
     {
-        Situation {
-            state: self.state,
-            entry: self.entry,
-            items_after: self.items_after,
-        }
+        self.situation
     }
 
     /// The outcome of `code`, whose action is `action`.
@@ -66,6 +59,13 @@ impl Asked<'_> {
         requires { slice_get self.now.control code ≡ Some action }
         ensures { outcome_of self.now code ≡ result }
     {
-        Outcome::of(action, code, self.state, self.entry, self.items_after)
+        let situation = &self.situation;
+        Outcome::of(
+            action,
+            code,
+            situation.state,
+            situation.entry,
+            situation.items_after,
+        )
     }
 }

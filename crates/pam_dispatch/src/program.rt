@@ -12,7 +12,7 @@ ghost use Rattle.pam_dispatch.specs.Runs.{AsksRise, Assignment, after_answer, an
 ghost use Rattle.pam_dispatch.specs.Tail.{IsSettled};
 ghost use Rattle.pam_dispatch.specs.Tree.{decided, runs_of_stack};
 
-use crate::asked::Asked;
+use crate::asked::{Asked, Situation};
 use crate::decision::Decision;
 use crate::entered::{Entered, LISTS};
 use crate::entry::Entry;
@@ -100,9 +100,11 @@ fn asked_at<'a>(entries: &'a [Entry], place: &Place) -> Asked<'a>
         } => Asked {
             module_number: *number,
             control,
-            state: place.state,
-            entry: place.entered.at(*level),
-            items_after: *items_after,
+            situation: Situation {
+                state: place.state,
+                entry: place.entered.at(*level),
+                items_after: *items_after,
+            },
         },
         Entry::Substack { .. } => unreachable!(),
     }
@@ -135,7 +137,7 @@ fn answer_at(entries: &[Entry], place: &Place, code: Code) -> Answered
     Answered {
         outcome,
         level: usize::from(place.depth) - 1,
-        skip: asked.items_after - outcome.left,
+        skip: asked.situation.items_after - outcome.left,
     }
 }
 

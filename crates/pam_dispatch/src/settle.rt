@@ -26,7 +26,7 @@ pub(crate) fn settle(
         ≡ resume (drop place.old.position program.now) level skip (take place.old.depth place.old.entered.states) place.old.state }
 {
     let mut position = place.position;
-    if level == 0 && position >= flat {
+    if skip > 0 && level == 0 && position >= flat {
         position += skip.min(program.len() - position);
         skip = 0;
     }

@@ -101,11 +101,13 @@ impl ClassText {
     }
 }
 
-/// The texts of two classes. Modules with one control often have no others of more than one code.
+/// The texts of three classes. Modules with one control seldom have others of more than one code.
 #[derive(Drop)]
 pub(crate) struct ClassTexts {
     last: ClassText,
     earlier: ClassText,
+    /// That of the class before both.
+    first: ClassText,
 }
 
 impl ClassTexts {
@@ -113,6 +115,7 @@ impl ClassTexts {
         Ok(ClassTexts {
             last: ClassText::new(alloc)?,
             earlier: ClassText::new(alloc)?,
+            first: ClassText::new(alloc)?,
         })
     }
 
@@ -126,6 +129,10 @@ impl ClassTexts {
         if self.earlier.is_of(class) {
             return self.earlier.append_to(steps);
         }
+        if self.first.is_of(class) {
+            return self.first.append_to(steps);
+        }
+        mem::swap(&mut self.earlier, &mut self.first);
         mem::swap(&mut self.last, &mut self.earlier);
         self.last.replace(class) && self.last.append_to(steps)
     }

@@ -13,6 +13,9 @@ use pam_paths::Path;
 /// As many bytes as are copied at once for the cursor of a path of a few steps.
 const CURSOR_BYTES: usize = 64;
 
+/// As many bytes as are copied at once for a few steps.
+const STEPS_BYTES: usize = 128;
+
 /// Returns the text of a cursor, from the codes with a dot before each.
 fn undotted(codes: &[u8]) -> &[u8]
     ensures { result.now ≡ undotted codes.now }
@@ -43,11 +46,13 @@ fn append_decision(lines: &mut Buffer, decision: Code) -> bool
 }
 
 /// Appends the texts of steps, and the end of the line. Returns whether there was room.
-fn append_steps(lines: &mut Buffer, first: &[u8], last: &[u8]) -> bool
+fn append_steps(lines: &mut Buffer, first: &Buffer, last: &[u8]) -> bool
     ensures kept { take (length lines.old) lines.new ≡ lines.old }
     ensures ok { IsTrue result → lines.new ≡ ((lines.old ++ first.now) ++ last.now) ++ codes "\n" }
 {
-    lines.append(first) && lines.append(last) && lines.push(b'\n')
+    lines.append_part::<STEPS_BYTES>(first, 0, first.len())
+        && lines.append(last)
+        && lines.push(b'\n')
 }
 
 /// Appends the line of a path, part by part. Returns whether there was room.
@@ -56,7 +61,7 @@ fn append_parts(
     first_codes: &Buffer,
     last_codes: &[u8],
     decision: Code,
-    first_steps: &[u8],
+    first_steps: &Buffer,
     last_steps: &[u8],
 ) -> bool
     ensures kept { take (length lines.old) lines.new ≡ lines.old }
@@ -73,7 +78,7 @@ pub(crate) fn append_line(
     lines: &mut Buffer,
     first_codes: &Buffer,
     last_codes: &[u8],
-    first_steps: &[u8],
+    first_steps: &Buffer,
     last_steps: &[u8],
     path: &Path,
 ) -> bool

@@ -83,7 +83,7 @@ fn write_lines<W: Write>(lines: &mut Buffer, out: &mut Out<W>) -> Result<(), Dev
 
 /// Adds the line of a path, whose first steps are the kept ones, to `lines`. Writes those first if there is no room, and
 /// then the line too if there still is none.
-#[inline]
+#[inline(always)]
 fn add_line<W: Write>(
     lines: &mut Buffer,
     texts: &mut LineTexts,
@@ -97,6 +97,22 @@ fn add_line<W: Write>(
     if texts.append_line(path, lines) {
         return Ok(());
     }
+    add_after(lines, texts, path, out)
+}
+
+/// Writes the lines, and then adds the line of a path. Apart from `add_line`, the test there is inlined.
+#[cold]
+#[inline(never)]
+fn add_after<W: Write>(
+    lines: &mut Buffer,
+    texts: &mut LineTexts,
+    path: &Path,
+    out: &mut Out<W>,
+) -> Result<(), Device>
+    requires kept { texts.old ≡ take (length texts.old) path.now.steps }
+    ensures kept { texts.new ≡ texts.old }
+    ensures added { Adds W.contents out.old out.new lines.old lines.new result (path_line path.now) }
+{
     write_lines(lines, out)?;
     if texts.append_line(path, lines) {
         return Ok(());

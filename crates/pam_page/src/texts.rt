@@ -217,7 +217,7 @@ impl LineTexts {
             lines,
             &self.cursor,
             self.alike.codes(tail.len()),
-            self.steps.as_slice(),
+            &self.steps,
             self.alike.steps(before, last),
             path,
         )

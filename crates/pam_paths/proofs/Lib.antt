@@ -1,4 +1,5 @@
 pub mod Alike
+pub mod Alone
 pub mod Branches
 pub mod CodeDigits
 pub mod CursorTexts
@@ -17,6 +18,7 @@ pub mod OneAction
 pub mod PageProofs
 pub mod Parts
 pub mod Retracing
+pub mod Rows
 pub mod Sets
 pub mod Sharing
 pub mod Tails

@@ -266,6 +266,9 @@ steps-told seen shown frames last number modules count is same alike all =
 pub tail-room : (last : List PathStep) (first count : ℕ) → map step_seen last ≡ alike_from first count → length last ≡ count
 tail-room last first count alike = sym (length-map last step_seen) ∙ ap length alike ∙ length-alike_from first count
 
+pub told-alike : (last : List PathStep) (first count : ℕ) → map step_seen last ≡ alike_from first count → AreAlike (map step_seen last)
+told-alike last first count alike = (first, alike ∙ ap (alike_from first) (sym (ap length alike ∙ length-alike_from first count)))
+
 -- the path of frames and of the rest comes first
 pub first-path : (d : Direction) (allows : Allowance) (program : List Entry) (before : List PathValue) (frames : List Frame) (rest : Rest)
     (steps : List PathStep) (decision : ℕ) → before ≡ path_to (modules_of program) frames rest ∷ ahead d allows program frames →

@@ -4,6 +4,7 @@ pub mod Cursor
 pub mod CursorText
 pub mod Directions
 pub mod Exploration
+pub mod Followed
 pub mod Frames
 pub mod Kept
 pub mod Known

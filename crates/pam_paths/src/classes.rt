@@ -1,6 +1,6 @@
 //! Classes of codes that a run does not tell apart, computed part by part of a control.
 
-ghost use Rattle.std.specs.Prelude.{◌≡◌, ◌<◌, ◌≤◌, ◌==◌, ◌&&◌, ℕ, All, IfNone, IfSome, IsTrue, Some, if◌then◌else◌, slice_get};
+ghost use Rattle.std.specs.Prelude.{◌≡◌, ◌<◌, ◌≤◌, ◌==◌, ◌&&◌, ◌||◌, ℕ, All, IfNone, IfSome, IsTrue, Some, if◌then◌else◌, length, nat_le, slice_get};
 ghost use Rattle.std.specs.List.{list_any};
 ghost use Rattle.pam_codes.specs.Code.{all_codes};
 ghost use Rattle.pam_codes.specs.Parts.{IsPart, IsParts};
@@ -22,7 +22,7 @@ use pam_dispatch::{Asked, Impression, Outcome, Place, Program, State, keeps_fail
 pub(crate) struct Classes {
     /// The least codes of the classes that have an allowed code.
     pub(crate) offered: CodeSet,
-    /// The codes of the classes computed; any other code is alone in its class.
+    /// The codes of the classes computed that have several; any other code is alone in its class.
     pub(crate) shared: CodeSet,
     /// The class computed last.
     pub(crate) known: CodeSet,
@@ -145,6 +145,16 @@ fn with_least(codes: CodeSet, class: CodeSet) -> CodeSet
     }
 }
 
+/// Returns `shared` with the codes of `class`, if it has several.
+fn with_several(shared: CodeSet, class: CodeSet) -> CodeSet
+    ensures { result ≡ (if nat_le (length class) 1 then shared else codes_where (λ d. is_in d shared || is_in d class)) }
+{
+    if class.len() <= 1 {
+        return shared;
+    }
+    shared.union(class)
+}
+
 /// The shared code of `part`, unless it is in `seen`, the classes computed so far.
 fn unseen_code(part: &Part, state: State, seen: CodeSet) -> Option<Code>
     ensures some { IfSome result (λ code. shared_code part.now state ≡ Some code) }
@@ -197,14 +207,16 @@ impl Classes {
         ensures classes { AreClasses asked.now result }
     {
         let mut offered = allowed;
+        let mut seen = CodeSet::empty();
         let mut shared = CodeSet::empty();
         let mut known = CodeSet::empty();
         let mut earlier = CodeSet::empty();
         for part in parts {
-            if let Some(code) = unseen_code(part, asked.state(), shared) {
+            if let Some(code) = unseen_code(part, asked.state(), seen) {
                 let class = class_at(asked, parts, &asked.outcome(part.action, code));
                 offered = with_least(offered, class);
-                shared = shared.union(class);
+                seen = seen.union(class);
+                shared = with_several(shared, class);
                 earlier = known;
                 known = class;
             }

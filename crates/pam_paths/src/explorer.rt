@@ -23,8 +23,8 @@ use crate::kept::KeptClasses;
 use crate::knowledge::Knowledge;
 use crate::path::Path;
 use crate::retrace::retrace;
+use crate::row::Row;
 use crate::tail::AlikeSteps;
-use arrayvec::ArrayVec;
 use pam_dispatch::{MAX_MODULES, Place, Program, Work};
 use std::marker::Model;
 
@@ -139,7 +139,7 @@ fn follow<K: Knowledge>(
     let shared = shared_count(path.steps.len(), frames.len());
     let rest = descend(program, knowledge, direction, frames, kept, place, work);
     let tail = alike.last(program.modules(), rest.modules);
-    retell(&mut path.steps, frames.as_slice(), tail, shared);
+    retell(&mut path.steps, frames.as_slice(), tail, shared, path.tail);
     path.tail = rest.modules;
     path.decision = rest.decision.code();
     Some(shared)
@@ -188,7 +188,7 @@ impl<'a, K: Knowledge> Explorer<'a, K> {
             knowledge,
             direction: Direction::Forward,
             at_start: true,
-            frames: ArrayVec::new(),
+            frames: Row::new(),
             path: Path::empty(),
             kept: KeptClasses::new(),
             alike: AlikeSteps::new(),
@@ -247,7 +247,7 @@ impl<'a, K: Knowledge> Explorer<'a, K> {
         ensures modules { IfOk result (λ e. e.modules ≡ modules_of program.now) }
         ensures work { IfOk result (λ e. e.work ≤ 64 * (modules_of program.now + 1)) }
     {
-        let mut frames = ArrayVec::new();
+        let mut frames = Row::new();
         let mut work = Work::new();
         match frames_at(program, knowledge, cursor, &mut frames, &mut work) {
             Err(refusal) => Err(refusal),

@@ -1,28 +1,30 @@
 //! The frames of an explorer: the modules asked on the path that it returned last.
 
-ghost use Rattle.std.specs.Prelude.{◌≡◌, ◌+◌, ◌-◌, ◌<◌, ◌≤◌, ◌∷◌, ◌++◌, [], ℕ, length, map, take, None, Some, IfSome, IfNone};
+ghost use Rattle.std.specs.Prelude.{◌≡◌, ◌+◌, ◌-◌, ◌<◌, ◌≤◌, ◌∷◌, ◌++◌, [], drop, length, map, slice_index_or, slice_set, take, None, Some, IfSome, IfNone, IsTrue};
 ghost use Rattle.pam_conf.specs.declared.stack.TheConstants.{MAX_MODULES};
 ghost use Rattle.pam_dispatch.specs.Flat.{IsPlaceOf, modules_of, rest_of};
 ghost use Rattle.pam_dispatch.specs.Runs.{AsksRise, after_answer, asked_module, next_ask};
 ghost use Rattle.pam_paths.specs.Classes.{class_of};
 ghost use Rattle.pam_paths.specs.Computed.{after_step, listing};
 ghost use Rattle.pam_paths.specs.Directions.{ordered, past};
-ghost use Rattle.pam_paths.specs.Frames.{AreClasses, AreFrames, IsFrame, ahead, ahead_of, offered_at, path_to, step_in, under};
+ghost use Rattle.pam_paths.specs.Followed.{followed};
+ghost use Rattle.pam_paths.specs.Frames.{AreClasses, AreFrames, ahead, ahead_of, offered_at, path_to, step_in, under};
 ghost use Rattle.pam_paths.specs.Kept.{AreKept};
 ghost use Rattle.pam_paths.specs.Listing.{Allowance};
 ghost use Rattle.pam_paths.specs.Steps.{step_seen};
+ghost use Rattle.pam_paths.specs.Tail.{AreAlike, EndAlike};
 
 use crate::classes::Classes;
 use crate::direction::Direction;
 use crate::kept::KeptClasses;
 use crate::knowledge::Knowledge;
 use crate::path::PathStep;
-use arrayvec::ArrayVec;
+use crate::row::Row;
 use pam_codes::{Code, CodeSet};
 use pam_dispatch::{MAX_MODULES, Place, Program, Rest, Work};
 
 /// The frames of a path, outermost first.
-pub(crate) type Frames = ArrayVec<Frame, MAX_MODULES>;
+pub(crate) type Frames = Row<Frame>;
 
 /// A module asked on a path, with the class that is followed.
 #[derive(Clone, Copy, Debug)]
@@ -47,12 +49,11 @@ impl Default for Frame {
     }
 }
 
-/// A class that can be followed: its least code, its codes, and the next place.
+/// A class that can be followed: its least code, and its codes.
 #[derive(Clone, Copy, Debug)]
 pub(crate) struct Branch {
     pub(crate) code: Code,
     pub(crate) class: CodeSet,
-    pub(crate) place: Place,
 }
 
 impl Frame {
@@ -74,39 +75,54 @@ impl Frame {
         }
     }
 
-    /// The branch of the class of `code`.
+    /// The step of the path.
     #[inline(always)]
-    pub(crate) fn branch(&self, program: &Program, code: Code, work: &mut Work) -> Branch
+    fn step(&self) -> PathStep
+        ensures { step_seen result ≡ step_in self.now }
+    {
+        PathStep {
+            number: self.module_number,
+            class: self.class,
+        }
+    }
+
+    /// The branch of the class of `code`. Makes `place` the place after it.
+    #[inline(always)]
+    pub(crate) fn branch(
+        &self,
+        program: &Program,
+        code: Code,
+        place: &mut Place,
+        work: &mut Work,
+    ) -> Branch
         requires place { IsPlaceOf program.now self.now.place }
         requires asking { asked_module (rest_of program.now self.now.place) ≡ Some self.now.module_number }
         requires first { 1 ≤ self.now.module_number }
         requires last { self.now.module_number ≤ modules_of program.now }
         requires classes { AreClasses (next_ask (rest_of program.now self.now.place)) self.now.classes }
-        ensures place { IsPlaceOf program.now result.place }
+        ensures place { IsPlaceOf program.now place.new }
         ensures code { result.code ≡ code }
         ensures class { result.class ≡ class_of (next_ask (rest_of program.now self.now.place)) code }
-        ensures rest { rest_of program.now result.place ≡ after_answer (rest_of program.now self.now.place) code }
+        ensures rest { rest_of program.now place.new ≡ after_answer (rest_of program.now self.now.place) code }
         ensures work { work.new ≤ work.old + 1 }
     {
+        *place = self.place;
+        program.step_on(place, code, work);
+        let number = usize::from(self.module_number);
         Branch {
             code,
-            class: self.classes.class_of(
-                program,
-                &self.place,
-                usize::from(self.module_number),
-                code,
-            ),
-            place: program.step(&self.place, code, work).place(),
+            class: self.classes.class_of(program, &self.place, number, code),
         }
     }
 
-    /// The first branch ahead of `bound`.
+    /// The first branch ahead of `bound`. Makes `place` the place after it.
     #[inline(always)]
     pub(crate) fn branch_ahead(
         &self,
         program: &Program,
         direction: Direction,
         bound: u8,
+        place: &mut Place,
         work: &mut Work,
     ) -> Option<Branch>
         requires place { IsPlaceOf program.now self.now.place }
@@ -117,18 +133,18 @@ impl Frame {
         requires bound { bound ≤ 31 }
         ensures none { (allows : Allowance) → self.now.classes.offered ≡ offered_at allows (rest_of program.now self.now.place)
             → IfNone result (ahead_of direction allows (rest_of program.now self.now.place) bound ≡ []) }
-        ensures place { IfSome result (λ b. IsPlaceOf program.now b.place) }
+        ensures place { IfSome result (λ _. IsPlaceOf program.now place.new) }
         ensures code { IfSome result (λ b. b.code < 31) }
-        ensures rest { IfSome result (λ b. rest_of program.now b.place ≡ after_answer (rest_of program.now self.now.place) b.code) }
+        ensures rest { IfSome result (λ b. rest_of program.now place.new ≡ after_answer (rest_of program.now self.now.place) b.code) }
         ensures paths { (allows : Allowance) → self.now.classes.offered ≡ offered_at allows (rest_of program.now self.now.place)
             → IfSome result (λ b. ahead_of direction allows (rest_of program.now self.now.place) bound
             ≡ map (after_step (record { module_number = self.now.module_number; class = b.class }))
-            (ordered direction (listing allows (rest_of program.now b.place)))
+            (ordered direction (listing allows (rest_of program.now place.new)))
             ++ ahead_of direction allows (rest_of program.now self.now.place) (past direction b.code)) }
         ensures work { work.new ≤ work.old + 1 }
     {
         match direction.first(self.classes.offered, bound) {
-            Some(code) => Some(self.branch(program, code, work)),
+            Some(code) => Some(self.branch(program, code, place, work)),
             None => None,
         }
     }
@@ -163,6 +179,20 @@ impl Frame {
     }
 }
 
+impl Row<Frame> {
+    /// Follows `branch` at the frame at `index`.
+    #[inline(always)]
+    fn follow(&mut self, index: usize, branch: &Branch)
+        requires { index < length self.old.items }
+        ensures { (frame : Frame) → frame ≡ slice_index_or self.old.items index frame
+            → self.new.items ≡ slice_set self.old.items index (followed frame branch.now) }
+    {
+        let cells = &mut self.cells[..];
+        let frame = &mut cells[index];
+        frame.follow(branch);
+    }
+}
+
 /// Pops frames up to the innermost one that has a further branch, and follows that branch.
 pub(crate) fn advance<K: Knowledge>(
     program: &Program,
@@ -188,9 +218,10 @@ pub(crate) fn advance<K: Knowledge>(
         let last = frames.len() - 1;
         let frame = &frames.as_slice()[last];
         let bound = direction.past(frame.code);
-        if let Some(branch) = frame.branch_ahead(program, direction, bound, work) {
-            frames.as_mut_slice()[last].follow(&branch);
-            return Some(branch.place);
+        let mut place = frame.place;
+        if let Some(branch) = frame.branch_ahead(program, direction, bound, &mut place, work) {
+            frames.follow(last, &branch);
+            return Some(place);
         }
         frames.truncate(last);
     }
@@ -231,23 +262,28 @@ pub(crate) fn descend<K: Knowledge>(
         };
         let classes = kept.at(program, knowledge, &place, module_number);
         let frame = Frame::at(place, module_number, classes);
-        match frame.branch_ahead(program, direction, direction.outset(), work) {
-            Some(branch) => {
-                frames.push(frame.following(&branch));
-                place = branch.place;
-            }
+        match frame.branch_ahead(program, direction, direction.outset(), &mut place, work) {
+            Some(branch) => frames.push(frame.following(&branch)),
             None => unreachable!(),
         }
     }
 }
 
+/// Makes the first of `steps` those of `frames`. The first `shared` of them, and those after all, stay.
+fn rewrite(steps: &mut Row<PathStep>, frames: &[Frame], shared: usize)
+    requires room { length frames.now ≤ length steps.old.items }
+    requires within { shared ≤ length frames.now }
+    requires same { take shared (map step_seen steps.old.items) ≡ take shared (map step_in frames.now) }
+    ensures { map step_seen steps.new.items ≡ map step_in frames.now ++ drop (length frames.now) (map step_seen steps.old.items) }
+{
+    let added = &frames[shared..];
+    for (index, frame) in added.iter().enumerate() {
+        steps.set(shared + index, frame.step());
+    }
+}
+
 /// Makes `steps` the steps of `frames` and then those of `tail`. The first `shared` of them stay.
-pub(crate) fn retell(
-    steps: &mut ArrayVec<PathStep, MAX_MODULES>,
-    frames: &[Frame],
-    tail: &[PathStep],
-    shared: usize,
-)
+fn write(steps: &mut Row<PathStep>, frames: &[Frame], tail: &[PathStep], shared: usize)
     requires few { length frames.now + length tail.now ≤ MAX_MODULES }
     requires within { shared ≤ length frames.now }
     requires same { take shared (map step_seen steps.old.items) ≡ take shared (map step_in frames.now) }
@@ -256,12 +292,45 @@ pub(crate) fn retell(
     steps.truncate(shared);
     let added = &frames[shared..];
     for frame in added {
-        steps.push(PathStep {
-            number: frame.module_number,
-            class: frame.class,
-        });
+        steps.push(frame.step());
     }
-    if steps.try_extend_from_slice(tail).is_err() {
-        unreachable!();
+    steps.extend(tail);
+}
+
+/// Whether `steps` ends with `tail`, after `count` steps, if the last steps of both are of modules that are numbered one
+/// after another, each with every code: then those of one module are as good as all.
+fn ends_with(steps: &[PathStep], count: usize, tail: &[PathStep], kept: usize) -> bool
+    requires end { EndAlike kept (map step_seen steps.now) }
+    requires alike { AreAlike (map step_seen tail.now) }
+    ensures within { IsTrue result → count ≤ length steps.now }
+    ensures same { IsTrue result → drop count (map step_seen steps.now) ≡ map step_seen tail.now }
+{
+    if tail.len() != kept || steps.len() - kept != count {
+        return false;
+    }
+    kept == 0 || steps[count].number == tail[0].number
+}
+
+/// Makes `steps` the steps of `frames` and then those of `tail`. The first `shared` of them stay, and often all of the
+/// last: the path before had `kept` steps at its end at which the answers no longer matter, and they are those of `tail`
+/// too.
+pub(crate) fn retell(
+    steps: &mut Row<PathStep>,
+    frames: &[Frame],
+    tail: &[PathStep],
+    shared: usize,
+    kept: usize,
+)
+    requires few { length frames.now + length tail.now ≤ MAX_MODULES }
+    requires within { shared ≤ length frames.now }
+    requires same { take shared (map step_seen steps.old.items) ≡ take shared (map step_in frames.now) }
+    requires end { EndAlike kept (map step_seen steps.old.items) }
+    requires alike { AreAlike (map step_seen tail.now) }
+    ensures { map step_seen steps.new.items ≡ map step_in frames.now ++ map step_seen tail.now }
+{
+    if ends_with(steps.as_slice(), frames.len(), tail, kept) {
+        rewrite(steps, frames, shared);
+    } else {
+        write(steps, frames, tail, shared);
     }
 }

@@ -79,7 +79,7 @@ impl KeptClasses {
         ensures classes { AreClasses (next_ask (rest_of program.now place.now)) result }
     {
         let situation = program.asked(place).situation();
-        let kept = self.modules[module_number - 1];
+        let kept = &self.modules[module_number - 1];
         if kept.is_of(&situation) {
             return kept.classes;
         }

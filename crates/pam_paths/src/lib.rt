@@ -14,6 +14,7 @@ mod knowledge;
 pub mod laws;
 mod path;
 mod retrace;
+mod row;
 mod tail;
 
 pub use before::Before;

@@ -6,9 +6,8 @@ ghost use Rattle.pam_paths.specs.Paths.{key};
 ghost use Rattle.pam_paths.specs.Tail.{AreAlike};
 
 use crate::cursor::Cursor;
-use arrayvec::ArrayVec;
+use crate::row::Row;
 use pam_codes::{Code, CodeSet};
-use pam_dispatch::MAX_MODULES;
 use std::marker::Model;
 
 /// A module asked on a path, with the class of its answer.
@@ -46,7 +45,7 @@ impl PathStep {
 /// A path through a stack: the modules asked, each with the class of its answer, and the decision.
 #[derive(Drop)]
 pub struct Path {
-    pub(crate) steps: ArrayVec<PathStep, MAX_MODULES>,
+    pub(crate) steps: Row<PathStep>,
     /// The number of last steps at which the answers no longer matter.
     pub(crate) tail: usize,
     pub(crate) decision: Code,
@@ -76,7 +75,7 @@ impl Path {
         ensures { result.steps ≡ [] }
     {
         Path {
-            steps: ArrayVec::new(),
+            steps: Row::new(),
             tail: 0,
             decision: Code::SUCCESS,
         }
@@ -86,10 +85,8 @@ impl Path {
     pub(crate) fn copied(&self) -> Path
         ensures { result ≡ self.now }
     {
-        let mut steps: ArrayVec<PathStep, MAX_MODULES> = ArrayVec::new();
-        for step in self.steps.as_slice() {
-            steps.push(*step);
-        }
+        let mut steps = Row::new();
+        steps.extend(self.steps.as_slice());
         Path {
             steps,
             tail: self.tail,

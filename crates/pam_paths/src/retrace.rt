@@ -62,14 +62,15 @@ fn take_turn<K: Knowledge>(
     let allowed = knowledge.allowed(module_number);
     let classes = Classes::at(program, &place, module_number, allowed);
     let frame = Frame::at(place, module_number, classes);
-    let branch = frame.branch(program, code, work);
+    let mut next = place;
+    let branch = frame.branch(program, code, &mut next, work);
     if least_number(branch.class) != code.number() {
         return None;
     }
     let turn = Turn {
         frame: frame.following(&branch),
         offered: frame.classes.offered.contains(code),
-        place: branch.place,
+        place: next,
     };
     if offered {
         frames.push(turn.frame);

@@ -5,18 +5,18 @@ use Rattle.pam_dispatch.specs.declared.entry.Entry.TheVariants.{Module, Substack
 use Rattle.pam_dispatch.specs.Flat.{IsBounded, IsPlaceOf, level_of, resume, rest_of}
 use Rattle.pam_dispatch.proofs.Resume.{resume-outermost, at_index, at_index-deeper, at_index-item, at_substack, at_module}
 use Rattle.pam_dispatch.proofs.settle.settle.Goals as goal
-use Rattle.pam_dispatch.proofs.settle.settle.Goals.{then-level-eq0+then-position-flat, else-level-eq0}
-use Rattle.pam_dispatch.proofs.settle.settle.Goals.{else-here-level-2-via-then-here-level-2+else-skip-gt0, else-here-level-2-via-else-here-level-2}
+use Rattle.pam_dispatch.proofs.settle.settle.Goals.{then-skip-gt0+then-level-eq0+then-position-flat, else-skip-gt0}
+use Rattle.pam_dispatch.proofs.settle.settle.Goals.{else-here-level-2-via-then-here-level-2+else-skip-gt0-2, else-here-level-2-via-else-here-level-2}
 
 pub loop-position-init : goal.loop-position-init
 loop-position-init c =
     record {
-      rest = elim c.if-level-eq0.branch [
-        | then-level-eq0+then-position-flat w ↦ rw (w.position-is, w.skip-is, c.from-depth.ensures, w.if-level-eq0.true)
+      rest = elim c.if-skip-gt0.branch [
+        | then-skip-gt0+then-level-eq0+then-position-flat w ↦ rw (w.position-is, w.skip-is, c.from-depth.ensures, w.if-level-eq0.true)
             (resume-outermost c.args.program.now c.args.flat c.args.place.now.position c.args.skip w.min-position.result
             (take c.args.place.now.depth c.args.place.now.entered.states) c.args.place.now.state
             c.requires.outermost w.if-position-flat.true c.requires.within w.min-position.ensures)
-        | else-level-eq0 w ↦ rw (w.position-is, w.skip-is, c.from-depth.ensures) refl
+        | else-skip-gt0 w ↦ rw (w.position-is, w.skip-is, c.from-depth.ensures) refl
       ];
       state = refl;
       below = omega (arith, c.from-depth.ensures, c.requires.below);
@@ -38,12 +38,12 @@ loop-position-preserved-then-here-level c =
       full = l.invariant.full;
     }
 
-pub loop-position-preserved-then-skip-gt0 : goal.loop-position-preserved-then-skip-gt0
-loop-position-preserved-then-skip-gt0 c =
+pub loop-position-preserved-then-skip-gt0-2 : goal.loop-position-preserved-then-skip-gt0-2
+loop-position-preserved-then-skip-gt0-2 c =
     let l = c.loop-position in
     record {
       rest = at_index-item c.args.program.now l.position c.index-program-position.result c.index-program-position.result c.loop-position-test.true
-          (sym c.index-program-position.is) l.level l.skip _ l.place.state (omega (arith, c.level-here.ensures)) c.if-skip-gt0.true
+          (sym c.index-program-position.is) l.level l.skip _ l.place.state (omega (arith, c.level-here.ensures)) c.if-skip-gt0-2.true
           ∙ l.invariant.rest;
       state = l.invariant.state;
       below = l.invariant.below;
@@ -61,7 +61,7 @@ loop-position-preserved c =
     let fits : here + 1 < 16 = subst IsBounded is (c.requires.entries l.position c.index-program-position.result c.loop-position-test.true) in
     let stays : here ≡ l.level → 0 < l.skip → ⊥ =
     elim c.else-here-level-2.branch [
-      | else-here-level-2-via-then-here-level-2+else-skip-gt0 w ↦ λ e p. omega arith
+      | else-here-level-2-via-then-here-level-2+else-skip-gt0-2 w ↦ λ e p. omega arith
       | else-here-level-2-via-else-here-level-2 w ↦ λ e p. w.if-here-level-2.false e
     ] in
     record {
@@ -94,7 +94,7 @@ returns-in-Module-clause-rest c =
     let is = sym c.index-program-position.is ∙ m.is ∙ ap (λ (x : ℕ). Module x m.number m.control m.items_after) (sym h) in
     let stays : here ≡ l.level → 0 < l.skip → ⊥ =
     elim c.else-here-level-2.branch [
-      | else-here-level-2-via-then-here-level-2+else-skip-gt0 w ↦ λ e p. omega arith
+      | else-here-level-2-via-then-here-level-2+else-skip-gt0-2 w ↦ λ e p. omega arith
       | else-here-level-2-via-else-here-level-2 w ↦ λ e p. w.if-here-level-2.false e
     ] in
     at_module c.args.program.now l.position c.index-program-position.result here m.number m.control m.items_after c.loop-position-test.true is

@@ -5,7 +5,7 @@ use Rattle.pam_paths.specs.Frames.{AreFirstSteps, ahead, coming, step_in}
 use Rattle.pam_paths.specs.Paths.{PathValue}
 use Rattle.pam_paths.specs.Steps.{step_seen}
 use Rattle.pam_paths.proofs.FrameLists.{AreFrames-length}
-use Rattle.pam_paths.proofs.Tails.{end-alike, end-none, first-path, first-steps, steps-told, tail-room}
+use Rattle.pam_paths.proofs.Tails.{end-alike, end-none, first-path, first-steps, steps-told, tail-room, told-alike}
 use Rattle.pam_paths.proofs.Fronts.{shared_steps}
 use Rattle.pam_paths.proofs.explorer.follow.Given.{Over}
 use Rattle.pam_paths.proofs.explorer.follow.Goals as goal
@@ -35,6 +35,9 @@ same g c =
 
 pub retell-requires-clause-same : goal.retell-requires-clause-same
 retell-requires-clause-same g c = same g (goal.at.retell-requires-clause-same g c).After-as_slice
+
+pub retell-requires-clause-alike : goal.retell-requires-clause-alike
+retell-requires-clause-alike g c = told-alike c.last-tail.result.now _ _ c.last-tail.ensures
 
 pub returns-clause-path : goal.returns-clause-path
 returns-clause-path g c =

@@ -1,4 +1,4 @@
-use Rattle.std.proofs.Common.{rules, ◌≡◌, ◌+◌, ◌-◌, ◌<◌, ◌∷◌, ◌++◌, [], ℕ, length, List, arith, ap, sym, ◌∙◌, subst, take}
+use Rattle.std.proofs.Common.{rules, ◌≡◌, ◌+◌, ◌-◌, ◌<◌, ◌∷◌, ◌++◌, [], ℕ, get_or, length, List, arith, ap, refl, sym, ◌∙◌, subst, take}
 use Rattle.std.proofs.lemmas.List.{length-append, nil_from_length}
 use Rattle.pam_dispatch.specs.Flat.{modules_of, rest_of}
 use Rattle.pam_dispatch.specs.Runs.{AsksRise}
@@ -6,6 +6,7 @@ use Rattle.pam_dispatch.specs.declared.place.Place.{Place}
 use Rattle.pam_paths.specs.declared.frames.Frame.{Frame}
 use Rattle.pam_paths.specs.Computed.{listing}
 use Rattle.pam_paths.specs.Directions.{ordered}
+use Rattle.pam_paths.specs.Followed.{followed}
 use Rattle.pam_paths.specs.Frames.{ahead, ahead_of, under, AreFrames}
 use Rattle.pam_paths.proofs.FrameLists.{ahead-next, ahead-none, branch_followed, frame_after}
 use Rattle.pam_paths.proofs.Fronts.{front_changed, front_popped}
@@ -38,16 +39,16 @@ returns-in-Some g c =
     let count = c.len-last.ensures.value in
     let some : 0 < n = search rules in
     let f = c.index-as_slice-last.result in
-    let h = c.follow.new.self in
-    let e = c.follow.ensures in
     let b = c.in-Some.branch in
+    let next = c.branch_ahead.new.place in
+    let h = followed f b in
     let of = c.in-Some.ensures in
-    let k = followed_last allows program items n f count some i.frames c.as_slice.result.now c.as_mut_slice.result.now h
-    c.index-as_mut_slice-last.result c.as_slice.ensures.value c.index-as_slice-last.is c.as_mut_slice.ensures.value e.place e.number e.classes
-    (omega (arith, e.code, of.code)) in
+    let at_last = c.index-as_slice-last.is ∙ ap (λ (l : List Frame). get_or l (n - 1) f) c.as_slice.ensures.value in
+    let k = followed_last allows program items n f count some i.frames c.as_slice.result.now c.follow.new.self.items b
+    c.as_slice.ensures.value c.index-as_slice-last.is of.code (c.follow.ensures f at_last) in
     let fs = take (n - 1) items in
     let r = rest_of program f.place in
-    let below = ordered d (listing allows (rest_of program b.place)) in
+    let below = ordered d (listing allows (rest_of program next)) in
     let at : n - 1 ≡ length items - 1 = ap (λ (x : ℕ). x - 1) count in
     let longer : length fs + 1 ≡ length (fs ++ h ∷ []) = sym (length-append fs (h ∷ [])) in
     record {
@@ -55,8 +56,8 @@ returns-in-Some g c =
       emptied = tt;
       place = of.place;
       frames = k.frames;
-      rise = subst (λ x. AsksRise x (modules_of program) (rest_of program b.place)) (longer ∙ ap (λ (l : List Frame). length l) (sym k.is))
-          (frame_after allows program (length fs) f b.code b.place k.was.is of.rest);
+      rise = subst (λ x. AsksRise x (modules_of program) (rest_of program next)) (longer ∙ ap (λ (l : List Frame). length l) (sym k.is))
+          (frame_after allows program (length fs) f b.code next k.was.is of.rest);
       earlier = front_changed c.args.frames.now.items fs _ h
           (front_popped c.args.frames.now.items items fs i.earlier (ap (λ (x : ℕ). take x items) at)) k.is;
       paths = i.same
@@ -64,7 +65,7 @@ returns-in-Some g c =
           ∙ ahead-next d allows program fs f h below
           (ap (ahead_of d allows r) (sym c.past-bound.ensures.value)
           ∙ branch_followed d allows program r f h c.past-bound.result b.code b.class below
-          (ap (λ (x : Place). rest_of program x) (sym k.place)) k.number e.code e.class (of.paths allows k.was.is.offered))
+          (ap (λ (x : Place). rest_of program x) (sym k.place)) k.number refl refl (of.paths allows k.was.is.offered))
           ∙ ap (λ (x : List Frame). under x below ++ ahead d allows program x) (sym k.is);
       work = omega (arith, i.work, c.branch_ahead.ensures.work, count, some);
     }

@@ -75,6 +75,7 @@ loop-rest-preserved g c =
     let d = c.args.direction in
     let fs = c.loop-rest.frames.items in
     let b = c.in-Some-branch_ahead.branch in
+    let next = c.branch_ahead.new.place in
     let e = c.in-Some-branch_ahead.ensures in
     let f : Frame = c.at-frame.result in
     let h : Frame = c.following.result in
@@ -82,13 +83,13 @@ loop-rest-preserved g c =
     let is : IsFrame allows program (length fs) f = framed g (goal.at.loop-rest-preserved g c).After-at-frame in
     let low : h.code < 31 = omega (arith, k.code, e.code) in
     let r = rest_of program f.place in
-    let below = ordered d (listing allows (rest_of program b.place)) in
+    let below = ordered d (listing allows (rest_of program next)) in
     record {
       frames = subst (λ x. AreFrames allows program 0 x) (sym c.push.ensures.items)
           (pushed allows program fs h i.frames (frame_same allows program (length fs) f h is k.place k.number k.classes low));
       place = e.place;
-      rise = subst (λ x. AsksRise x (modules_of program) (rest_of program b.place)) (sym c.push.ensures.len)
-          (frame_after allows program (length fs) f b.code b.place is e.rest);
+      rise = subst (λ x. AsksRise x (modules_of program) (rest_of program next)) (sym c.push.ensures.len)
+          (frame_after allows program (length fs) f b.code next is e.rest);
       earlier = front_pushed c.args.frames.now.items fs _ h i.earlier c.push.ensures.items;
       same = i.same
           ∙ ahead-enter d allows program fs h below (ordered d (listing allows (rest_of program c.loop-rest.place)))

@@ -23,7 +23,7 @@ append_line-requires-clause-steps c =
     let count : c.in-Some.last - c.in-Some.before ≡ length tail = omega (arith, c.in-Some.ensures.count) in
     let shown = c.steps-2.ensures ∙ ap (λ (n : ℕ). flat_map step_text (alike_from (c.in-Some.before + 1) n)) count
     ∙ ap (flat_map step_text) (sym c.in-Some.ensures.tail) in
-    ap (λ (l : List ℕ). l ++ c.steps-2.result.now) c.as_slice.ensures ∙ ap (λ (l : List ℕ). c.self.inside.steps ++ l) shown
+    ap (λ (l : List ℕ). c.self.inside.steps ++ l) shown
     ∙ whole_text step_text c.self.inside.kept.items c.args.self.now c.args.path.now.steps c.tail-tail.result.now c.self.inside.steps
     c.self.invariant.steps c.self.view_is c.requires.kept c.tail-tail.ensures.last
     (own_count c.self.inside.kept.items c.args.self.now c.args.path.now.steps c.steps.result.now c.tail-tail.result.now c.len.result c.self.view_is

@@ -5,6 +5,7 @@ use Rattle.std.proofs.lemmas.Bool.{false≢true}
 use Rattle.pam_codes.specs.Set.{is_in}
 use Rattle.pam_paths.specs.Classes.{class_at}
 use Rattle.pam_paths.specs.Sharing.{is_shared, shared_code}
+use Rattle.pam_paths.proofs.Alone.{alone-all, alone-kept, alone-more}
 use Rattle.pam_paths.proofs.OfferedCodes.{class-alone, class-whole, past-all, past-first, past-kept, past-more, past-some, seen-kept, seen-more}
 use Rattle.pam_paths.proofs.Sharing.{nothing_passes}
 use Rattle.pam_paths.proofs.classes.Classes.by_parts.Goals as goal
@@ -15,7 +16,8 @@ loop-part-init c =
     let ask = c.args.asked.now in
     record {
       offered = past-first ask c.args.allowed c.args.parts.now c.requires.allowed;
-      shared = nothing_passes c.empty-shared.result (λ d. list_any (is_shared ask d) (take 0 c.args.parts.now)) c.empty-shared.ensures (λ d low. refl);
+      seen = nothing_passes c.empty-seen.result (λ d. list_any (is_shared ask d) (take 0 c.args.parts.now)) c.empty-seen.ensures (λ d low. refl);
+      alone = λ d low h. absurd (false≢true (sym (ap (is_in d) c.empty-seen.ensures) ∙ h));
       whole = λ d low h. absurd (false≢true (sym (ap (is_in d) c.empty-known.ensures) ∙ h));
       earlier = λ d low h. absurd (false≢true (sym (ap (is_in d) c.empty-earlier.ensures) ∙ h));
     }
@@ -38,21 +40,24 @@ loop-part-preserved c =
             offered = w.offered-is
                 ∙ past-more ask c.args.allowed parts i part c.loop-part.offered w.with_least-offered.result c.loop-part-test.true c.part-item.is l.offered
                 (past-some ask c.loop-part.offered w.with_least-offered.result class part code of is w.with_least-offered.ensures);
-            shared = w.shared-is
-                ∙ seen-more ask parts i part c.loop-part.shared c.loop-part-test.true c.part-item.is l.shared class w.union-shared.result code of is
-                w.union-shared.ensures;
+            seen = w.seen-is
+                ∙ seen-more ask parts i part c.loop-part.seen c.loop-part-test.true c.part-item.is l.seen class w.union-seen.result code of is
+                w.union-seen.ensures;
+            alone = alone-more ask c.loop-part.seen _ c.loop-part.shared _ class code is (w.seen-is ∙ w.union-seen.ensures)
+                (w.shared-is ∙ w.with_several-shared.ensures) l.alone;
             whole = λ d low h.
                 class-whole ask class code d is low (sym (ap (is_in d) w.known-is) ∙ h) ∙ sym w.known-is;
             earlier = λ d low h. l.whole d low (sym (ap (is_in d) w.earlier-is) ∙ h) ∙ sym w.earlier-is;
           }
       | in_default w ↦
-          let seen : IfSome (shared_code part ask.state) (λ d. IsTrue (is_in d c.loop-part.shared)) =
-          subst (λ (x : Option ℕ). IfSome x (λ d. IsTrue (is_in d c.loop-part.shared)))
+          let seen : IfSome (shared_code part ask.state) (λ d. IsTrue (is_in d c.loop-part.seen)) =
+          subst (λ (x : Option ℕ). IfSome x (λ d. IsTrue (is_in d c.loop-part.seen)))
           (ap (shared_code part) at) w.in_default.ensures.none in
           record {
             offered = w.offered-is
-                ∙ past-kept ask parts i part c.loop-part.shared c.loop-part-test.true c.part-item.is l.shared c.args.allowed c.loop-part.offered seen l.offered;
-            shared = w.shared-is ∙ seen-kept ask parts i part c.loop-part.shared c.loop-part-test.true c.part-item.is l.shared seen;
+                ∙ past-kept ask parts i part c.loop-part.seen c.loop-part-test.true c.part-item.is l.seen c.args.allowed c.loop-part.offered seen l.offered;
+            seen = w.seen-is ∙ seen-kept ask parts i part c.loop-part.seen c.loop-part-test.true c.part-item.is l.seen seen;
+            alone = alone-kept ask c.loop-part.seen _ c.loop-part.shared _ w.seen-is w.shared-is l.alone;
             whole = λ d low h. l.whole d low (sym (ap (is_in d) w.known-is) ∙ h) ∙ sym w.known-is;
             earlier = λ d low h. l.earlier d low (sym (ap (is_in d) w.earlier-is) ∙ h) ∙ sym w.earlier-is;
           }
@@ -65,8 +70,9 @@ returns-clause-offered c =
 
 pub returns-clause-classes : goal.returns-clause-classes
 returns-clause-classes c = record {
-  alone = class-alone c.args.asked.now c.args.parts.now c.requires.parts c.loop-part.shared c.loop-part.part-index
-      c.loop-part-test.false c.loop-part.invariant.shared;
+  alone = alone-all c.args.asked.now c.loop-part.seen c.loop-part.shared c.loop-part.invariant.alone
+      (class-alone c.args.asked.now c.args.parts.now c.requires.parts c.loop-part.seen c.loop-part.part-index
+      c.loop-part-test.false c.loop-part.invariant.seen);
   whole = c.loop-part.invariant.whole;
   earlier = c.loop-part.invariant.earlier;
 }

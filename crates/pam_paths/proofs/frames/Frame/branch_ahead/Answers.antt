@@ -15,7 +15,7 @@ returns-in-Some-clause-paths c allows is =
     let b = c.branch-self.ensures in
     let found = c.in-Some.ensures.found in
     let e : c.branch-self.result.code ≡ c.in-Some.code = b.code in
-    branch-ahead d allows r (rest_of c.args.program.now c.branch-self.result.place) c.args.self.now.module_number c.args.bound c.branch-self.result.code
+    branch-ahead d allows r (rest_of c.args.program.now c.branch-self.new.place) c.args.self.now.module_number c.args.bound c.branch-self.result.code
     c.branch-self.result.class
     c.requires.asking
     (subst (IsAhead d c.args.bound) (sym e) found.0)

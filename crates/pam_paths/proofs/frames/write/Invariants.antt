@@ -2,7 +2,7 @@
 use Rattle.std.proofs.Common.{◌≡◌, ◌+◌, map, take}
 use Rattle.pam_paths.specs.Frames.{step_in}
 use Rattle.pam_paths.specs.Steps.{step_seen}
-use Rattle.pam_paths.proofs.frames.retell.Given as goal
+use Rattle.pam_paths.proofs.frames.write.Given as goal
 
 abbrev pub invariant-loop-frame : goal.invariant-loop-frame
 invariant-loop-frame l = map step_seen l.steps.items ≡ map step_in (take (l.shared + l.frame-index) l.frames)

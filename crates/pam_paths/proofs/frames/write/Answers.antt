@@ -2,7 +2,7 @@ use Rattle.std.proofs.Common.{◌∙◌, ℕ, add-zero, ap, map, sym, take}
 use Rattle.std.proofs.lemmas.List.{take-map}
 use Rattle.pam_paths.specs.Frames.{step_in}
 use Rattle.pam_paths.specs.Steps.{step_seen}
-use Rattle.pam_paths.proofs.frames.retell.Goals as goal
+use Rattle.pam_paths.proofs.frames.write.Goals as goal
 
 pub loop-frame-init : goal.loop-frame-init
 loop-frame-init c =
