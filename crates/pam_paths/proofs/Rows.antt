@@ -2,7 +2,8 @@
 use Rattle.std.proofs.Common.{◌≡◌, ℕ, ◌+◌, ◌-◌, ◌<◌, ◌≤◌, ◌∷◌, ◌++◌, [], List, get_or, length, map, take, drop, zero, suc, arith, ap, sym, ◌∙◌, length-take}
 use Rattle.std.proofs.Math.ListN.{set}
 use Rattle.std.proofs.Math.Seq.{take-set-lt}
-use Rattle.std.proofs.lemmas.List.{drop-set-lt, get_or_default, get_or-drop, get_or-map, get_or-take, length-drop, length-map, map-set, take_more, take_more_set}
+use Rattle.std.proofs.lemmas.List.{drop-set-lt, get_or_default, get_or-drop, get_or-map, get_or-take}
+use Rattle.std.proofs.lemmas.List.{length-drop, length-map, map-set, take_more, take_more_set}
 use Rattle.pam_dispatch.specs.declared.place.Place.{Place}
 use Rattle.pam_paths.specs.declared.classes.Classes.{Classes}
 use Rattle.pam_paths.specs.declared.frames.Branch.{Branch}
@@ -56,8 +57,8 @@ more-same {A} seen own i s same within inside at =
     take_more_set seen i s within ∙ ap (λ (l : List A). l ++ s ∷ []) same ∙ ap (λ (x : A). take i own ++ x ∷ []) at ∙ sym (take_more own i s inside)
 
 -- a step is written over that of the next frame
-module _ (steps : List PathStep) (frames : List Frame) (i : ℕ) (frame : Frame) (step : PathStep) (inside : i < length frames) (long : length frames ≤ length steps)
-    (at : frame ≡ get_or frames i frame) (is : step_seen step ≡ step_in frame) where
+module _ (steps : List PathStep) (frames : List Frame) (i : ℕ) (frame : Frame) (step : PathStep) (inside : i < length frames)
+    (long : length frames ≤ length steps) (at : frame ≡ get_or frames i frame) (is : step_seen step ≡ step_in frame) where
   pub rewritten-first : take i (map step_seen steps) ≡ take i (map step_in frames) →
       take (i + 1) (map step_seen (set steps i step)) ≡ take (i + 1) (map step_in frames)
   rewritten-first same =
