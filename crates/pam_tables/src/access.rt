@@ -90,6 +90,7 @@ fn cut_permission<'a>(line: &'a [u8], separators: &ByteSet<'_>) -> Option<(&'a [
     cut_among(line, separators)
 }
 
+#[inline(always)]
 #[tactic(auto, unfolding(crate::specs::Access::fields_of))]
 fn cut_fields<'a>(line: &'a [u8], separators: &ByteSet<'_>) -> Option<AccessFields<'a>>
     ensures { option_map (λ f. (f.permission.now, f.users.now, f.origins.now)) result ≡ fields_of_line separators.now.bytes.now line.now }

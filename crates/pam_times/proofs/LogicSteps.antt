@@ -1,6 +1,6 @@
 -- The value of a list from the left, and the signs of a text one after another.
 use Rattle.std.proofs.Common.{◌≡◌, ◌∙◌, ◌+◌, ◌&&◌, ◌||◌, ℕ, Bool, true, false, not, List, [], ◌∷◌, length, get_or, take, drop, map, cond, eqb, Option}
-use Rattle.std.proofs.Common.{Some, None, MatchOption, refl, sym, ap, arith, one-add}
+use Rattle.std.proofs.Common.{Some, None, refl, sym, ap, arith, one-add}
 use Rattle.std.proofs.lemmas.Bool.{eqb-true, eqb-false}
 use Rattle.std.specs.List.{list_all, prefix_len}
 use Rattle.pam_codes.specs.Tokens.{is_blank}
