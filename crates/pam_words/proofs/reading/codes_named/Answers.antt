@@ -5,8 +5,8 @@ use Rattle.pam_words.specs.Request.{both, code_named, codes_named}
 use Rattle.pam_words.proofs.reading.codes_named.Goals as goal
 
 -- the codes with one more, before the same rest
-one-more : (front items : List ℕ) (code : ℕ) (rest all : Option (List ℕ)) → items ≡ front ++ code ∷ [] → option_map (λ cs. front ++ cs) (both (Some code) rest) ≡ all
-    → option_map (λ cs. items ++ cs) rest ≡ all
+one-more : (front items : List ℕ) (code : ℕ) (rest all : Option (List ℕ)) → items ≡ front ++ code ∷ []
+    → option_map (λ cs. front ++ cs) (both (Some code) rest) ≡ all → option_map (λ cs. items ++ cs) rest ≡ all
 one-more front items code (Some cs) all same e = rw (same, append_assoc front (code ∷ []) cs) e
 one-more front items code None all same e = e
 
