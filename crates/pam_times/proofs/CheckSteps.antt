@@ -166,7 +166,8 @@ blank_uncut line h = none_after _ (semicolon_cut line) (uncut _ (past_blanks lin
     never : (n : ℕ) → nat_lt n n ≡ false
     never n = grind (arith, nat_tests)
 
-    uncut : (n : ℕ) → n ≡ length line → option_map {U = List ℕ × List ℕ} (λ i. (take i line, drop (i + 1) line)) (cond (nat_lt n (length line)) (Some n) None) ≡ None
+    uncut : (n : ℕ) → n ≡ length line →
+        option_map {U = List ℕ × List ℕ} (λ i. (take i line, drop (i + 1) line)) (cond (nat_lt n (length line)) (Some n) None) ≡ None
     uncut n e = rw e (rw (never (length line)) refl)
 
 cut_full : (line : List ℕ) (f : FieldTexts) → Some f ≡ cut_fields line → is_blank_text line ≡ false
