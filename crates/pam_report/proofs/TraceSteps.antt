@@ -1,5 +1,5 @@
 -- The trace of a run, module by module, and the answer that it is a part of.
-use Rattle.std.proofs.Common.{◌≡◌, ℕ, ◌-◌, ◌<◌, ◌≤◌, ◌==◌, List, [], ◌∷◌, ◌++◌, Option, Some, None, Ok, length, map, get_or}
+use Rattle.std.proofs.Common.{◌≡◌, ℕ, ◌-◌, ◌<◌, ◌≤◌, ◌==◌, List, [], ◌∷◌, ◌++◌, Some, None, Ok, length, map, get_or}
 use Rattle.std.proofs.Common.{arith, sym, ◌∙◌, ap, subst, append_assoc, append-nil}
 use Rattle.std.proofs.lemmas.Bool.{cond-true, eq-eqb}
 use Rattle.std.proofs.lemmas.List.{get_or_default, map-append}
@@ -9,14 +9,13 @@ use Rattle.pam_conf.specs.declared.rule.Kind.{Kind}
 use Rattle.pam_dispatch.specs.declared.entry.Entry.{Entry}
 use Rattle.pam_dispatch.specs.declared.place.Place.{Place}
 use Rattle.pam_dispatch.specs.declared.state.State.{State}
-use Rattle.pam_dispatch.specs.declared.step.Outcome.{Outcome}
 use Rattle.pam_dispatch.specs.Decision.{decision_of}
-use Rattle.pam_dispatch.specs.Flat.{modules_of, rest_of, runs_of}
+use Rattle.pam_dispatch.specs.Flat.{modules_of, rest_of}
 use Rattle.pam_dispatch.specs.Runs.{Ask, AsksRise, Assignment, Runs, after_answer, answers_of, asked_by, asked_module as number_asked}
 use Rattle.pam_dispatch.specs.Runs.{final_state, next_ask, outcome_of}
 use Rattle.pam_dispatch.specs.State.{action_of, start_state}
 use Rattle.pam_dispatch.specs.Tree.{asked, decided, runs_of_stack}
-use Rattle.pam_dispatch.proofs.Asking.{AsksRise-step, asked_by-end, asked_by-step, number-next_ask}
+use Rattle.pam_dispatch.proofs.Asking.{AsksRise-step, asked_by-end, asked_by-step}
 use Rattle.pam_dispatch.proofs.Numbering.{AsksRise-lower}
 use Rattle.pam_dispatch.proofs.OpenRuns.{asked_by-runs_of_stack, decision_of-runs_of_stack}
 use Rattle.pam_report.specs.Answer.{decided_by, status_of_decision}

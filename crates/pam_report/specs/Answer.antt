@@ -1,5 +1,5 @@
 -- The answer to a request: the text and the status that its inputs imply, and what a call writes.
-use Rattle.std.specs.Prelude.{◌≡◌, ℕ, ℤ, List, [], map, IsSome, Option, None, Result, Ok, Err, ◌==◌, if◌then◌else◌, length, unwrap_or}
+use Rattle.std.specs.Prelude.{◌≡◌, ℕ, List, map, Option, Result, Ok, Err, ◌==◌, if◌then◌else◌, length, unwrap_or}
 use Rattle.std.specs.Char.{to_ascii_lowercase}
 use Rattle.pam_codes.specs.Out.{Out}
 use Rattle.pam_conf.specs.Files.{Folder}

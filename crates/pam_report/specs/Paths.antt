@@ -4,7 +4,6 @@ use Rattle.jiff.specs.Types.{DateTime}
 use Rattle.pam_conf.specs.Stack.{Items, module_count}
 use Rattle.pam_conf.specs.declared.conf_error.ConfError.{ConfError}
 use Rattle.pam_conf.specs.declared.rule.Kind.{Kind}
-use Rattle.pam_dispatch.specs.Runs.{Assignment}
 use Rattle.pam_known.specs.Knowledge.{allows_codes, knowledge}
 use Rattle.pam_page.specs.Page.{first_page, page_text}
 use Rattle.pam_paths.specs.Cursor.{IsAccepted, IsRefusal}
@@ -12,7 +11,7 @@ use Rattle.pam_paths.specs.CursorText.{IsCursor, cursor_text}
 use Rattle.pam_paths.specs.Listing.{Allowance, IsListing, IsListingAfter, IsListingBefore}
 use Rattle.pam_paths.specs.Paths.{PathValue, path_through}
 use Rattle.pam_paths.specs.declared.cursor.CursorError.{CursorError}
-use Rattle.pam_paths.specs.declared.cursor.CursorError.TheVariants.{Syntax, NotLeast, TooShort, TooLong}
+use Rattle.pam_paths.specs.declared.cursor.CursorError.TheVariants.{Syntax}
 use Rattle.pam_tables.specs.Login.{LoginText}
 use Rattle.pam_known.specs.declared.error.KnownError.{KnownError}
 use Rattle.pam_times.specs.declared.moments.MomentError.{MomentError}
@@ -21,7 +20,7 @@ use Rattle.pam_words.specs.declared.wanted.PagePart.TheVariants.{Whole, After, B
 use Rattle.pam_report.specs.Fault.{known_fault}
 use Rattle.pam_report.specs.Header.{header_text}
 use Rattle.pam_report.specs.Inputs.{tables_given}
-use Rattle.pam_report.specs.Report.{Answer, Report}
+use Rattle.pam_report.specs.Report.{Answer}
 use Rattle.pam_report.specs.declared.fault.Fault.TheVariants as faults
 use Rattle.pam_report.specs.declared.inputs.Inputs.{Inputs}
 use Rattle.pam_report.specs.declared.report.Status.TheVariants.{Success}

@@ -1,4 +1,4 @@
-use Rattle.std.proofs.Common.{ℕ, List, ◌++◌, ap}
+use Rattle.std.proofs.Common.{ℕ, List, ap}
 use Rattle.pam_codes.proofs.Writing.{all-is, err-front, front-is, front-longer, writes-then}
 use Rattle.pam_report.specs.Decide.{asked_text, path_text}
 use Rattle.pam_report.proofs.report.decide.put_asked.Goals as goal

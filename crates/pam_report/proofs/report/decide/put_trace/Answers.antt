@@ -1,4 +1,4 @@
-use Rattle.std.proofs.Common.{ℕ, ◌+◌, drop, map, ap}
+use Rattle.std.proofs.Common.{◌+◌, drop, map, ap}
 use Rattle.pam_codes.proofs.Writing.{err-front, front-is, front-longer, front-then}
 use Rattle.pam_report.proofs.ShowTexts.{flat_map-viewed_at}
 use Rattle.pam_report.specs.Decide.{asked_text, trace_text}

@@ -1,4 +1,4 @@
-use Rattle.std.proofs.Common.{◌≡◌, ℕ, List, [], ◌++◌, map, ap, append-nil}
+use Rattle.std.proofs.Common.{◌≡◌, List, [], map, ap, append-nil}
 use Rattle.pam_codes.proofs.Writing.{all-is, all-then, err-front, front-is, front-longer, front-then, writes-is, writes-then}
 use Rattle.pam_report.specs.Decide.{trace_text}
 use Rattle.pam_report.specs.TraceViews.{asked_view}

@@ -1,5 +1,4 @@
 use Rattle.std.proofs.Common.{◌∙◌, ap, sym}
-use Rattle.pam_conf.specs.declared.rule.Kind.{Kind}
 use Rattle.pam_known.specs.Knowledge.{allows_codes, knowledge}
 use Rattle.pam_known.specs.Tables.{TablesText}
 use Rattle.pam_tables.specs.Login.{login_view}
