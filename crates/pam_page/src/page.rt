@@ -30,17 +30,34 @@ pub fn put_page<K: Knowledge, W: Write>(
     let mut texts = texts;
     texts.cut(0);
     let mut lines = texts.take_lines();
+    put_lines(listing, limit, &mut texts, &mut lines, out)
+}
+
+/// Writes a page, by texts and a buffer that are empty.
+// Apart from `put_page`, which owns them: to drop what is owned at each failure takes minutes to check.
+fn put_lines<K: Knowledge, W: Write>(
+    listing: &mut Listing<'_, K>,
+    limit: u32,
+    texts: &mut LineTexts,
+    lines: &mut Buffer,
+    out: &mut Out<W>,
+) -> Result<(), Device>
+    requires some { 1 ≤ limit }
+    requires texts { texts.old ≡ [] }
+    requires lines { lines.old ≡ [] }
+    ensures { Writes W.contents out.old out.new result (page_text (side listing.old) (first_page limit (coming listing.old))) }
+{
     for count in 0..limit - 1 {
         let Some(shared) = listing.follow() else {
-            write_lines(&mut lines, out)?;
+            write_lines(lines, out)?;
             return put_end(listing.side(), u64::from(count), out);
         };
         let path = listing.path();
         texts.replace(path, shared);
-        add_line(&mut lines, &mut texts, path, out)?;
+        add_line(lines, texts, path, out)?;
     }
-    write_lines(&mut lines, out)?;
-    put_rest(listing, limit - 1, &mut texts, &mut lines, out)
+    write_lines(lines, out)?;
+    put_rest(listing, limit - 1, texts, lines, out)
 }
 
 /// Writes the rest of a page that has room for one more path.

@@ -8,7 +8,7 @@ use Rattle.pam_page.proofs.PageTexts.{goes, page_front, page_none, page_rest}
 use Rattle.pam_page.specs.Coming.{coming, followed, side}
 use Rattle.pam_page.specs.Page.{first_page, last_line, path_line, text_after}
 use Rattle.pam_paths.specs.Paths.{PathValue, StepValue}
-use Rattle.pam_page.proofs.page.put_page.Goals as goal
+use Rattle.pam_page.proofs.page.put_lines.Goals as goal
 
 pub returns-in_default : goal.returns-in_default
 returns-in_default g c =

@@ -4,7 +4,7 @@ use Rattle.std.specs.List.{flat_map}
 use Rattle.pam_page.specs.Coming.{coming, followed, side}
 use Rattle.pam_page.specs.Lines.{Holds}
 use Rattle.pam_page.specs.Page.{path_line}
-use Rattle.pam_page.proofs.page.put_page.Given as goal
+use Rattle.pam_page.proofs.page.put_lines.Given as goal
 
 abbrev pub invariant-loop-count : goal.invariant-loop-count
 invariant-loop-count g l = record {
