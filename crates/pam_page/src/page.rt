@@ -117,7 +117,8 @@ fn add_line<W: Write>(
     add_after(lines, texts, path, out)
 }
 
-/// Writes the lines, and then adds the line of a path. Apart from `add_line`, the test there is inlined.
+/// Writes the lines, and then adds the line of a path.
+// Not put in line, so that `add_line`, which seldom comes here, stays short enough to be.
 #[cold]
 #[inline(never)]
 fn add_after<W: Write>(

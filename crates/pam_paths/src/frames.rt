@@ -298,8 +298,8 @@ fn write(steps: &mut Row<PathStep>, frames: &[Frame], tail: &[PathStep], shared:
     steps.extend(tail);
 }
 
-/// Whether `steps` ends with `tail`, after `count` steps, if the last steps of both are of modules that are numbered one
-/// after another, each with every code: then those of one module are as good as all.
+/// Whether `steps` is certain to be `count` steps and then `tail`. The last `kept` of `steps`, and those of `tail`, are of
+/// consecutive modules, each with every code, so that comparing their counts and their first numbers is enough.
 fn ends_with(steps: &[PathStep], count: usize, tail: &[PathStep], kept: usize) -> bool
     requires end { EndAlike kept (map step_seen steps.now) }
     requires alike { AreAlike (map step_seen tail.now) }
