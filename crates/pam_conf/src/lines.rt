@@ -120,8 +120,6 @@ fn is_blank_line(bytes: &[u8]) -> bool
 }
 
 /// Appends the rule of a line, if it has one and it is wanted.
-// A function of its own, so that the place for a rule, which is large, is not prepared for each blank line.
-#[inline(never)]
 fn take_rule(
     alloc: Global,
     form: Form,
@@ -135,6 +133,22 @@ fn take_rule(
     if is_unwanted(form, line.bytes, wanted) {
         return Ok(());
     }
+    read_rule(alloc, form, line, wanted, rules)
+}
+
+/// Like `take_rule`, for a rule that may be wanted.
+// A function of its own, so that the place for a rule, which is large, is not prepared for each line.
+#[inline(never)]
+fn read_rule(
+    alloc: Global,
+    form: Form,
+    line: Line<'_>,
+    wanted: Wanted<'_>,
+    rules: &mut Vec<KeptRule>,
+) -> Result<(), RuleFault>
+    ensures { let meant = at_line line.entry.number (line_rule_of form line.entry.number line.entry.bytes.now) in
+        Gives FaultTells (λ _. map kept_view rules.new.items) result (with_rule wanted.entry (map kept_view rules.old.items) meant) }
+{
     if let Some(rule) = numbered_rule(alloc, form, line)? {
         keep(rules, rule, wanted)?;
     }

@@ -1,15 +1,14 @@
 //! The rules that a reader of a file keeps: pam.conf(5), on `service` and `type`.
-ghost use Rattle.std.specs.Prelude.{◌≡◌, IsOk, IsTrue, List, Ok, ℕ};
+ghost use Rattle.std.specs.Prelude.{◌≡◌, IsOk, IsOkAnd, IsTrue, List, Ok, ℕ};
 ghost use Rattle.pam_conf.specs.Kept.{kept_view};
 ghost use Rattle.pam_conf.specs.Lines.{at_line, line_rule_of};
-ghost use Rattle.pam_conf.specs.Rule.{RuleText, body_of, rule_of};
-ghost use Rattle.pam_conf.specs.Remaining.{words_to_come};
+ghost use Rattle.pam_conf.specs.Rule.{RuleText, body_of};
 ghost use Rattle.pam_conf.specs.Wanted.{wants, with_rule};
-ghost use Rattle.pam_conf.specs.Words.{text_of_word};
+ghost use Rattle.pam_conf.specs.Words.{text_of_word, words_or_fault};
 
 use crate::kept::{KeptRule, has_service, is_of};
 use crate::rule::{Form, Kind, dashed_kind, is_same};
-use crate::words::Words;
+use crate::words::{is_closed, split_word};
 use pam_codes::{Control, is_name};
 
 /// Which rules of a file a reader keeps. It checks all of them.
@@ -40,35 +39,24 @@ pub(crate) fn is_unwanted(form: Form, line: &[u8], wanted: Wanted<'_>) -> bool
     ensures { IsTrue result → (number : ℕ) (rules : List RuleText) →
         with_rule wanted.entry rules (at_line number (line_rule_of form number line.now)) ≡ Ok rules }
 {
-    match Words::of(line) {
-        Ok(words) => has_unwanted_module(form, words, wanted),
-        Err(_) => false,
-    }
-}
-
-/// Like `is_unwanted`, for the words of a line.
-fn has_unwanted_module(form: Form, words: Words<'_>, wanted: Wanted<'_>) -> bool
-    ensures { IsTrue result → (number : ℕ) (rules : List RuleText) →
-        with_rule wanted.entry rules (at_line number (rule_of form number (words_to_come words.entry))) ≡ Ok rules }
-{
     match form {
         Form::Dir => match wanted {
-            Wanted::OfKind(kind) => has_other_kind(words, kind),
+            Wanted::OfKind(kind) => has_other_kind(line, kind),
             _ => false,
         },
         Form::Single => match wanted {
-            Wanted::OfServices(service, other) => has_other_service(words, service, other),
+            Wanted::OfServices(service, other) => has_other_service(line, service, other),
             _ => false,
         },
     }
 }
 
-/// Whether the words, in a folder, certainly call a module for another kind.
-fn has_other_kind(words: Words<'_>, wanted: Kind) -> bool
+/// Whether a line, in a folder, certainly has no fault, and calls a module for another kind.
+fn has_other_kind(line: &[u8], wanted: Kind) -> bool
     ensures { IsTrue result → (number : ℕ) (rules : List RuleText) →
-        with_rule (Wanted.OfKind wanted) rules (at_line number (rule_of Form.Dir number (words_to_come words.entry))) ≡ Ok rules }
+        with_rule (Wanted.OfKind wanted) rules (at_line number (line_rule_of Form.Dir number line.now)) ≡ Ok rules }
 {
-    let Some((first, words)) = words.split_first() else {
+    let Some((first, rest)) = split_word(line) else {
         return false;
     };
     if !is_plain(first) || is_name(b"@include", first) {
@@ -76,16 +64,16 @@ fn has_other_kind(words: Words<'_>, wanted: Kind) -> bool
     }
     match dashed_kind(first) {
         Err(_) => false,
-        Ok((_, kind)) => !is_same(wanted, kind) && calls_module(words),
+        Ok((_, kind)) => !is_same(wanted, kind) && calls_module(rest),
     }
 }
 
-/// Whether the words, in pam.conf, certainly call a module for a service that is neither of these two.
-fn has_other_service(words: Words<'_>, service: &[u8], other: &[u8]) -> bool
+/// Whether a line, in pam.conf, certainly has no fault, and calls a module for a service that is neither of these two.
+fn has_other_service(line: &[u8], service: &[u8], other: &[u8]) -> bool
     ensures { IsTrue result → (number : ℕ) (rules : List RuleText) →
-        with_rule (Wanted.OfServices service.entry other.entry) rules (at_line number (rule_of Form.Single number (words_to_come words.entry))) ≡ Ok rules }
+        with_rule (Wanted.OfServices service.entry other.entry) rules (at_line number (line_rule_of Form.Single number line.now)) ≡ Ok rules }
 {
-    let Some((first, words)) = words.split_first() else {
+    let Some((first, rest)) = split_word(line) else {
         return false;
     };
     if !is_plain(first) || is_name(b"@include", first) {
@@ -94,7 +82,7 @@ fn has_other_service(words: Words<'_>, service: &[u8], other: &[u8]) -> bool
     if is_name(service, first) || is_name(other, first) {
         return false;
     }
-    let Some((kind, words)) = words.split_first() else {
+    let Some((kind, rest)) = split_word(rest) else {
         return false;
     };
     if !is_plain(kind) {
@@ -102,7 +90,7 @@ fn has_other_service(words: Words<'_>, service: &[u8], other: &[u8]) -> bool
     }
     match dashed_kind(kind) {
         Err(_) => false,
-        Ok(_) => calls_module(words),
+        Ok(_) => calls_module(rest),
     }
 }
 
@@ -113,20 +101,18 @@ fn is_plain(word: &[u8]) -> bool
     !word.is_empty() && word[0] != b'['
 }
 
-/// Whether the words, from a control on, call a module without a fault.
-fn calls_module(words: Words<'_>) -> bool
-    ensures { IsTrue result → (form : Form) → IsOk (body_of form (words_to_come words.entry)) }
+/// Whether the rest of a line, from a control on, certainly has no fault, and calls a module.
+// That it is neither `include` nor `substack` need not be asked: neither is a control.
+fn calls_module(rest: &[u8]) -> bool
+    ensures { IsTrue result → (form : Form) → IsOkAnd (words_or_fault rest.now) (λ words. IsOk (body_of form words)) }
 {
-    let Some((control, words)) = words.split_first() else {
+    let Some((control, rest)) = split_word(rest) else {
         return false;
     };
-    if is_name(b"include", control) || is_name(b"substack", control) {
-        return false;
-    }
     match Control::check(control) {
         Err(_) => false,
-        Ok(()) => match words.split_first() {
-            Some(_) => true,
+        Ok(()) => match split_word(rest) {
+            Some((_, rest)) => is_closed(rest),
             None => false,
         },
     }

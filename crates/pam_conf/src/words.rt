@@ -1,6 +1,6 @@
 //! The words of a line: pam.conf(5), on brackets in arguments.
 ghost use Rattle.std.specs.Prelude.{◌≡◌, ◌==◌, ◌≤◌, ◌<◌, ◌-◌, ◌∷◌, ◌++◌, [], ℕ, List, Some, None, Ok, Err, not, map, take, drop};
-ghost use Rattle.std.specs.Prelude.{IfOk, IfSome, MatchOption, MatchResult, IsSome, false, length, slice_index};
+ghost use Rattle.std.specs.Prelude.{IfOk, IfSome, IsTrue, MatchOption, MatchResult, IsSome, false, length, slice_index};
 ghost use Rattle.std.specs.List.{list_any, prefix_len, onto_first};
 ghost use Rattle.std.specs.Option.{option_map};
 ghost use Rattle.pam_codes.specs.Tokens.{is_blank};
@@ -75,6 +75,17 @@ fn first_word(line: &[u8]) -> Result<Option<(&[u8], &[u8])>, ControlError>
     }
 }
 
+/// Like `first_word`, without the fault of a bracket that stays open.
+#[inline(always)]
+pub(crate) fn split_word(line: &[u8]) -> Option<(&[u8], &[u8])>
+    ensures { IfSome result (λ p. words_of line.now ≡ words_from (Some (p.0.now, p.1.now))) }
+{
+    match first_word(line) {
+        Ok(found) => found,
+        Err(_) => None,
+    }
+}
+
 fn has_bracket(line: &[u8]) -> bool
     ensures { result ≡ list_any (λ b. b == 91) line.now }
 {
@@ -97,6 +108,13 @@ fn open_bracket(line: &[u8]) -> Option<ControlError>
         }
     }
     None
+}
+
+/// Whether each bracket of a line is closed.
+pub(crate) fn is_closed(line: &[u8]) -> bool
+    ensures { IsTrue result → IsSome (words_of line.now) }
+{
+    open_bracket(line).is_none()
 }
 
 /// The remaining words of a line in which each bracket is closed.
