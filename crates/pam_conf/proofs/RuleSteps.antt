@@ -16,14 +16,15 @@ use Rattle.pam_codes.specs.declared.error.ControlError.TheVariants.{BadControl}
 use Rattle.pam_conf.specs.FirstWord.{words_from}
 use Rattle.pam_text.proofs.TextSteps.{unequal}
 use Rattle.pam_conf.specs.Lines.{at_line, line_rule_of}
-use Rattle.pam_conf.specs.Rule.{RuleText, RuleBody, body_of, in_rule, module_of, dashed_kind_of, rule_of, first_rule_of, plain_rule_of, kind_rule_of, ◌>>=◌}
+use Rattle.pam_conf.specs.Rule.{RuleText, RuleBody, body_of, in_rule, kind_named, module_of, dashed_kind_of, rule_of, first_rule_of, plain_rule_of, kind_rule_of, ◌>>=◌}
 use Rattle.pam_conf.specs.Walk.{carries, same_kind}
-use Rattle.pam_conf.specs.Wanted.{wants, with_rule}
+use Rattle.pam_conf.specs.Wanted.{kind_name, wants, with_rule}
 use Rattle.pam_conf.specs.Words.{or_open, text_of_word, words_of, words_or_fault}
 use Rattle.pam_conf.specs.declared.error.FaultKind.{FaultKind}
 use Rattle.pam_conf.specs.declared.rule.Form.{Form}
 use Rattle.pam_conf.specs.declared.rule.Form.TheVariants.{Dir, Single}
 use Rattle.pam_conf.specs.declared.rule.Kind.{Kind}
+use Rattle.pam_conf.specs.declared.rule.Kind.TheVariants.{Auth, Account, Password, Session}
 use Rattle.pam_conf.specs.declared.wanted.Wanted.{Wanted}
 use Rattle.pam_conf.specs.declared.wanted.Wanted.TheVariants.{OfKind}
 
@@ -99,6 +100,31 @@ module _ (wanted kind : Kind) (dashed : Bool) (k : List ℕ) (text : text_of_wor
       with_rule (OfKind wanted) rules (at_line n (line_rule_of Dir n line)) ≡ Ok rules
   unfolding line_rule_of
   other_kind line rest e ok n rules = rw e (other_words (words_of rest) ok n rules)
+
+-- the same, where the kind is written as most are
+named_text : (kind : Kind) → text_of_word (kind_name kind) ≡ kind_name kind
+named_text Auth = refl
+named_text Account = refl
+named_text Password = refl
+named_text Session = refl
+
+named_plain : (kind : Kind) → same_name (codes "@include") (kind_name kind) ≡ false
+named_plain Auth = refl
+named_plain Account = refl
+named_plain Password = refl
+named_plain Session = refl
+
+named_kind : (kind : Kind) → dashed_kind_of (kind_name kind) ≡ Ok (false, kind)
+unfolding dashed_kind_of kind_named
+named_kind Auth = refl
+named_kind Account = refl
+named_kind Password = refl
+named_kind Session = refl
+
+pub other_named : (wanted kind : Kind) → same_kind wanted kind ≡ false → (line rest : List ℕ) → words_of line ≡ words_from (Some (kind_name kind, rest)) →
+    ((form : Form) → IsOkAnd (words_or_fault rest) (λ words. IsOk (body_of form words))) → (n : ℕ) (rules : List RuleText) →
+    with_rule (OfKind wanted) rules (at_line n (line_rule_of Dir n line)) ≡ Ok rules
+other_named wanted kind other = other_kind wanted kind false (kind_name kind) (named_text kind) (named_plain kind) (named_kind kind) other
 
 -- a service in lowercase that is not that of a rule
 lower_twice : (bs : List ℕ) → map to_ascii_lowercase (map to_ascii_lowercase bs) ≡ map to_ascii_lowercase bs

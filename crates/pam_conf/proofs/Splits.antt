@@ -1,4 +1,8 @@
 -- The words of a line are the one way to write it as blanks and spellings of words.
+use Rattle.std.proofs.Math.Seq.{drop-cons}
+use Rattle.std.proofs.Common.{◌<◌, ◌+◌, add-one, arith, drop, get_or, length}
+use Rattle.pam_conf.specs.FirstWord.{words_from}
+use Rattle.pam_conf.proofs.WordSteps.{option_map_twice}
 use Rattle.std.proofs.Common.{◌≡◌, ◌&&◌, ◌||◌, ◌++◌, ℕ, Bool, true, false, not, List, [], ◌∷◌, Option, Some, None, cond, eqb, ap, ◌∙◌, sym, refl, subst}
 use Rattle.std.specs.Option.{option_map}
 use Rattle.std.specs.List.{onto_first}
@@ -54,6 +58,36 @@ plain_words [] rest ws h ends k = plain_ends ws ends k
 plain_words (b ∷ bs) rest ws h ends k =
     let parts = and_parts (not (is_blank b)) (has_no_blank bs) h in
     rw (not_true (is_blank b) parts.0, plain_words bs rest ws parts.1 ends k) refl
+
+-- a plain spelling before a blank, also in a line in which a bracket stays open
+spelled : (w : List ℕ) (c : ℕ) (cs : List ℕ) → has_no_blank w ≡ true → is_blank c ≡ true →
+    words_in Plain (w ++ c ∷ cs) ≡ option_map (λ ws. w ∷ ws) (words_of (c ∷ cs))
+unfolding words_in
+spelled [] c cs h k = rw k refl
+spelled (b ∷ w) c cs h k =
+    let parts = and_parts (not (is_blank b)) (has_no_blank w) h in
+    rw (not_true (is_blank b) parts.0, spelled w c cs parts.1 k) (option_map_twice (onto_first b) (λ ws. w ∷ ws) (words_of (c ∷ cs)))
+
+pub spelled_first : (w rest : List ℕ) → 0 < length w → has_no_blank w ≡ true → (get_or w 0 0 ≡ 91 → ⊥) → 0 < length rest → is_blank (get_or rest 0 0) ≡ true →
+    words_of (w ++ rest) ≡ words_from (Some (w, rest))
+unfolding words_in
+spelled_first [] rest s h n l k = absurd (omega (arith, s))
+spelled_first (b ∷ w) [] s h n l k = absurd (omega (arith, l))
+spelled_first (b ∷ w) (c ∷ cs) s h n l k =
+    let parts = and_parts (not (is_blank b)) (has_no_blank w) h in
+    rw (not_true (is_blank b) parts.0, ne_eqb b 91 n, spelled w c cs parts.1 k) (option_map_twice (onto_first b) (λ ws. w ∷ ws) (words_of (c ∷ cs)))
+
+-- a word that a line begins with, before a blank
+drop_here : (text : List ℕ) (i : ℕ) → i < length text → drop i text ≡ get_or text i 0 ∷ drop (i + 1) text
+drop_here text i h = rw (add-one, drop-cons text i 0) refl
+
+pub after_first : (line word rest : List ℕ) → 0 < length word → has_no_blank word ≡ true → (get_or word 0 0 ≡ 91 → ⊥) →
+    line ≡ word ++ drop (length word) line → length word < length line → is_blank (get_or line (length word) 0) ≡ true → rest ≡ drop (length word) line →
+    words_of line ≡ words_from (Some (word, rest))
+after_first line word rest s h b e l k f =
+    let d : drop (length word) line ≡ get_or line (length word) 0 ∷ drop (length word + 1) line = drop_here line (length word) l in
+    ap words_of e ∙ spelled_first word (drop (length word) line) s h b (rw d (omega arith)) (rw d k)
+    ∙ ap (λ (r : List ℕ). words_from (Some (word, r))) (sym f)
 
 pub is_words : {line : List ℕ} {ws : List (List ℕ)} → IsSplit line ws → words_of line ≡ Some ws
 unfolding words_in

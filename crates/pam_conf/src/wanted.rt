@@ -1,14 +1,15 @@
 //! The rules that a reader of a file keeps: pam.conf(5), on `service` and `type`.
-ghost use Rattle.std.specs.Prelude.{◌≡◌, IsOk, IsOkAnd, IsTrue, List, Ok, ℕ};
+ghost use Rattle.std.specs.Prelude.{◌≡◌, IfSome, IsOk, IsOkAnd, IsTrue, List, Ok, Some, ℕ};
+ghost use Rattle.pam_conf.specs.FirstWord.{words_from};
 ghost use Rattle.pam_conf.specs.Kept.{kept_view};
 ghost use Rattle.pam_conf.specs.Lines.{at_line, line_rule_of};
 ghost use Rattle.pam_conf.specs.Rule.{RuleText, body_of};
-ghost use Rattle.pam_conf.specs.Wanted.{wants, with_rule};
-ghost use Rattle.pam_conf.specs.Words.{text_of_word, words_or_fault};
+ghost use Rattle.pam_conf.specs.Wanted.{kind_name, wants, with_rule};
+ghost use Rattle.pam_conf.specs.Words.{text_of_word, words_of, words_or_fault};
 
 use crate::kept::{KeptRule, has_service, is_of};
 use crate::rule::{Form, Kind, dashed_kind, is_same};
-use crate::words::{is_closed, split_word};
+use crate::words::{after_word, is_closed, split_word};
 use pam_codes::{Control, is_name};
 
 /// Which rules of a file a reader keeps. It checks all of them.
@@ -56,6 +57,17 @@ fn has_other_kind(line: &[u8], wanted: Kind) -> bool
     ensures { IsTrue result → (number : ℕ) (rules : List RuleText) →
         with_rule (Wanted.OfKind wanted) rules (at_line number (line_rule_of Form.Dir number line.now)) ≡ Ok rules }
 {
+    match leading_kind(line) {
+        Some((kind, rest)) => !is_same(wanted, kind) && calls_module(rest),
+        None => has_other_word(line, wanted),
+    }
+}
+
+/// Like `has_other_kind`, in whatever way the kind is written.
+fn has_other_word(line: &[u8], wanted: Kind) -> bool
+    ensures { IsTrue result → (number : ℕ) (rules : List RuleText) →
+        with_rule (Wanted.OfKind wanted) rules (at_line number (line_rule_of Form.Dir number line.now)) ≡ Ok rules }
+{
     let Some((first, rest)) = split_word(line) else {
         return false;
     };
@@ -65,6 +77,24 @@ fn has_other_kind(line: &[u8], wanted: Kind) -> bool
     match dashed_kind(first) {
         Err(_) => false,
         Ok((_, kind)) => !is_same(wanted, kind) && calls_module(rest),
+    }
+}
+
+/// The kind that a line begins with, as most are written: with no blank before it, and in lowercase.
+#[inline(always)]
+fn leading_kind(line: &[u8]) -> Option<(Kind, &[u8])>
+    ensures { IfSome result (λ p. words_of line.now ≡ words_from (Some (kind_name p.0, p.1.now))) }
+{
+    if let Some(rest) = after_word(line, b"auth") {
+        Some((Kind::Auth, rest))
+    } else if let Some(rest) = after_word(line, b"account") {
+        Some((Kind::Account, rest))
+    } else if let Some(rest) = after_word(line, b"password") {
+        Some((Kind::Password, rest))
+    } else if let Some(rest) = after_word(line, b"session") {
+        Some((Kind::Session, rest))
+    } else {
+        None
     }
 }
 

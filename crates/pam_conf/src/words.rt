@@ -1,10 +1,10 @@
 //! The words of a line: pam.conf(5), on brackets in arguments.
-ghost use Rattle.std.specs.Prelude.{◌≡◌, ◌==◌, ◌≤◌, ◌<◌, ◌-◌, ◌∷◌, ◌++◌, [], ℕ, List, Some, None, Ok, Err, not, map, take, drop};
+ghost use Rattle.std.specs.Prelude.{◌≡◌, ◌==◌, ◌≤◌, ◌<◌, ◌-◌, ◌∷◌, ◌++◌, [], ℕ, List, Some, None, Ok, Err, not, true, map, take, drop};
 ghost use Rattle.std.specs.Prelude.{IfOk, IfSome, IsTrue, MatchOption, MatchResult, IsSome, false, length, slice_index};
 ghost use Rattle.std.specs.List.{list_any, prefix_len, onto_first};
 ghost use Rattle.std.specs.Option.{option_map};
 ghost use Rattle.pam_codes.specs.Tokens.{is_blank};
-ghost use Rattle.pam_conf.specs.Words.{Between, Bracket, words_in, words_of, words_or_fault};
+ghost use Rattle.pam_conf.specs.Words.{Between, Bracket, has_no_blank, words_in, words_of, words_or_fault};
 ghost use Rattle.pam_conf.specs.FirstWord.{words_from};
 ghost use Rattle.pam_conf.specs.Words.{unescaped, text_of_word};
 
@@ -84,6 +84,25 @@ pub(crate) fn split_word(line: &[u8]) -> Option<(&[u8], &[u8])>
         Ok(found) => found,
         Err(_) => None,
     }
+}
+
+/// The bytes after `word`, if the line begins with it and a blank. Faster than a look at each byte of the first word.
+#[inline(always)]
+pub(crate) fn after_word<'a>(line: &'a [u8], word: &[u8]) -> Option<&'a [u8]>
+    requires something { 0 < length word.now }
+    requires plain { has_no_blank word.now ≡ true }
+    requires bare { slice_index word.now 0 ≡ 91 → ⊥ }
+    ensures { IfSome result (λ rest. words_of line.now ≡ words_from (Some (word.now, rest.now))) }
+{
+    let len = word.len();
+    // The byte after the word tells most other words.
+    if line.len() <= len || !is_blank_byte(line[len]) {
+        return None;
+    }
+    if !line.starts_with(word) {
+        return None;
+    }
+    Some(line.split_at(len).1)
 }
 
 fn has_bracket(line: &[u8]) -> bool
