@@ -53,6 +53,14 @@ fn token_len(bytes: &[u8]) -> usize
     bytes.iter().take_while(|b| is_token_byte(**b)).count()
 }
 
+/// Most bytes are above all blanks.
+#[inline(always)]
+fn is_blank(byte: u8) -> bool
+    ensures { result ≡ is_blank byte }
+{
+    byte <= b' ' && is_text_blank(byte)
+}
+
 /// Removes leading blanks.
 #[inline(always)]
 pub(crate) fn skip_blanks(bytes: &[u8]) -> &[u8]
@@ -64,7 +72,7 @@ pub(crate) fn skip_blanks(bytes: &[u8]) -> &[u8]
 {
     let mut rest = bytes;
     while let Some((first, after)) = rest.split_first() {
-        if !is_text_blank(*first) {
+        if !is_blank(*first) {
             return rest;
         }
         rest = after;
