@@ -69,14 +69,14 @@ list_fault Times text = sym (each_fault (λ token. entry_or_fault (entry_of toke
 
 -- ---- one item after another
 
-token_fault : (check : List ℕ → Checked) (before : Checked) (joint : Joint) (is_inverted : Bool) (t : List ℕ) (o : Option Items) →
+pub token_fault : (check : List ℕ → Checked) (before : Checked) (joint : Joint) (is_inverted : Bool) (t : List ℕ) (o : Option Items) →
     fault_from check before (onto_items joint is_inverted t o) ≡ fault_from check (first_fault before (check t)) o
 token_fault check before joint is_inverted t None = refl
 token_fault check (Ok u) joint is_inverted t (Some items) = refl
 token_fault check (Err fault) joint is_inverted t (Some items) = refl
 
 -- the operator before the first item changes no fault
-any_joint : (check : List ℕ → Checked) (before : Checked) (j k : Joint) (signs : List SignText) →
+pub any_joint : (check : List ℕ → Checked) (before : Checked) (j k : Joint) (signs : List SignText) →
     fault_from check before (items_from (ExpectItem j) signs) ≡ fault_from check before (items_from (ExpectItem k) signs)
 unfolding items_from
 any_joint check before j k [] = refl

@@ -2,6 +2,7 @@ pub mod CheckSteps
 pub mod EntrySteps
 pub mod LawSteps
 pub mod LogicSteps
+pub mod OnePassSteps
 pub mod PatternSteps
 pub mod ReadingSteps
 pub mod RuleSteps

@@ -201,7 +201,7 @@ unfolding items_from
 none_first true text rest s z t joint = ap (items_from (ExpectItem joint)) s ∙ no_token_left rest z t joint
 none_first false text rest s z t joint = ap (items_from (ExpectItem joint)) s.0 ∙ no_item_left rest z t s.1 joint
 
-token_next : (rest token after : List ℕ) → (prefix_len is_token_byte rest ≡ 0 → ⊥) → token ≡ take (prefix_len is_token_byte rest) rest →
+pub token_next : (rest token after : List ℕ) → (prefix_len is_token_byte rest ≡ 0 → ⊥) → token ≡ take (prefix_len is_token_byte rest) rest →
     after ≡ drop (prefix_len is_token_byte rest) rest → signs_of rest ≡ Token token ∷ signs_of after
 token_next rest token after n e f = rw (e, f) (signs_token rest (begins rest n))
 

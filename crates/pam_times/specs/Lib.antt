@@ -7,6 +7,7 @@ pub mod Laws
 pub mod Logic
 pub mod Login
 pub mod Moments
+pub mod OnePass
 pub mod Pattern
 pub mod Reading
 pub mod RuleLines

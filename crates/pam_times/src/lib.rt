@@ -9,6 +9,7 @@ pub mod laws;
 mod logic;
 mod login;
 mod moments;
+mod one_pass;
 mod pattern;
 mod reading;
 mod rule_lines;

@@ -6,6 +6,7 @@ ghost use Rattle.pam_codes.specs.Tokens.{is_blank};
 ghost use Rattle.pam_times.specs.Entry.{differ};
 ghost use Rattle.pam_times.specs.Fact.{meets};
 ghost use Rattle.pam_times.specs.Logic.{join, list_value, is_token_byte, signs_of, items_of};
+ghost use Rattle.pam_times.specs.OnePass.{IsLeft, before, onward};
 ghost use Rattle.pam_times.specs.Items.{HasNoItem, IsAfterNot, IsFirstItem, IsShorter, items_left, items_of_next};
 
 use crate::fact::Fact;
@@ -52,16 +53,26 @@ fn token_len(bytes: &[u8]) -> usize
     bytes.iter().take_while(|b| is_token_byte(**b)).count()
 }
 
+/// Most bytes are above all blanks.
+#[inline(always)]
+fn is_blank(byte: u8) -> bool
+    ensures { result ≡ is_blank byte }
+{
+    byte <= b' ' && is_text_blank(byte)
+}
+
 /// Removes leading blanks.
 #[inline(always)]
-fn skip_blanks(bytes: &[u8]) -> &[u8]
+pub(crate) fn skip_blanks(bytes: &[u8]) -> &[u8]
     ensures signs { signs_of bytes.now ≡ signs_of result.now }
+    ensures before { signs_of (before bytes.now) ≡ signs_of (before result.now) }
+    ensures onward { onward bytes.now ≡ onward result.now }
     ensures first { prefix_len is_blank result.now ≡ 0 }
     ensures bound { length result.now ≤ length bytes.now }
 {
     let mut rest = bytes;
     while let Some((first, after)) = rest.split_first() {
-        if !is_text_blank(*first) {
+        if !is_blank(*first) {
             return rest;
         }
         rest = after;
@@ -71,8 +82,9 @@ fn skip_blanks(bytes: &[u8]) -> &[u8]
 
 /// Removes leading blanks, and a `!` with the blanks after it. Returns whether there was one, and the text after it.
 #[inline(always)]
-fn skip_not(text: &[u8]) -> (bool, &[u8])
+pub(crate) fn skip_not(text: &[u8]) -> (bool, &[u8])
     ensures signs { IsAfterNot result.0 text.now result.1.now }
+    ensures before { IsLeft result.0 text.now result.1.now }
     ensures first { prefix_len is_blank result.1.now ≡ 0 }
     ensures bound { length result.1.now ≤ length text.now }
 {

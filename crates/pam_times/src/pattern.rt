@@ -1,7 +1,8 @@
 //! Names with one wildcard.
 
-ghost use Rattle.std.specs.Prelude.{◌≡◌, ◌↔◌, ◌<◌, ◌==◌, length, position, nat_lt, count_by, IfSome, IsTrue};
-ghost use Rattle.pam_times.specs.Pattern.{is_star, has_two_stars, matches, is_framed, Means};
+ghost use Rattle.std.specs.Prelude.{◌≡◌, ◌↔◌, ◌<◌, ◌==◌, length, position, nat_eq, nat_lt, count_by, IfSome, IsTrue};
+ghost use Rattle.std.specs.List.{ends_with};
+ghost use Rattle.pam_times.specs.Pattern.{is_star, has_two_stars, matches, Means};
 
 fn star_at(pattern: &[u8]) -> Option<usize>
     ensures value { result ≡ position is_star pattern.now }
@@ -20,28 +21,41 @@ pub(crate) fn has_two_stars(pattern: &[u8]) -> bool
     }
 }
 
-/// Whether a text begins with `front` and ends with `back`, without overlap.
-fn is_framed(front: &[u8], back: &[u8], text: &[u8]) -> bool
-    ensures { result ≡ is_framed front.now back.now text.now }
+fn ends_with(text: &[u8], back: &[u8]) -> bool
+    ensures { result ≡ ends_with nat_eq text.now back.now }
 {
-    if text.len() < front.len() {
-        return false;
+    back.is_empty() || text.ends_with(back)
+}
+
+/// Like `matches`. Most texts differ from a name in one of the first bytes.
+#[inline(always)]
+fn is_match(pattern: &[u8], text: &[u8]) -> bool
+    ensures { result ≡ matches pattern.now text.now }
+{
+    let mut left = pattern;
+    let mut rest = text;
+    while let Some((first, after)) = left.split_first() {
+        if *first == b'*' {
+            return ends_with(rest, after);
+        }
+        let Some((byte, more)) = rest.split_first() else {
+            return false;
+        };
+        if *byte != *first {
+            return false;
+        }
+        left = after;
+        rest = more;
     }
-    let (begin, rest) = text.split_at(front.len());
-    begin == front && (back.is_empty() || rest.ends_with(back))
+    rest.is_empty()
 }
 
 /// Whether a text matches a name, in which the first `*` matches any bytes. Case matters.
 #[inline(always)]
+#[tactic(auto, using(crate::proofs::PatternSteps::tested))]
 pub(crate) fn matches(pattern: &[u8], text: &[u8]) -> bool
     ensures value { result ≡ matches pattern.now text.now }
     ensures means { IsTrue result ↔ Means pattern.now text.now }
 {
-    match star_at(pattern) {
-        None => pattern == text,
-        Some(place) => {
-            let (front, rest) = pattern.split_at(place);
-            is_framed(front, rest.split_at(1).1, text)
-        }
-    }
+    is_match(pattern, text)
 }

@@ -10,6 +10,7 @@ ghost use Rattle.pam_times.specs.Checks.{cut_others, name_checked, entry_checked
 use crate::entry::TimeEntry;
 use crate::error::TimeFault;
 use crate::logic::{Next, first_item, next_joint};
+use crate::one_pass::{TokenEnds, is_rule};
 use crate::pattern;
 use pam_text::{cut, is_text_blank};
 
@@ -105,7 +106,7 @@ fn check_entry(token: &[u8]) -> Result<(), TimeFault>
 }
 
 #[inline(always)]
-fn check_token(field: Field, token: &[u8]) -> Result<(), TimeFault>
+pub(crate) fn check_token(field: Field, token: &[u8]) -> Result<(), TimeFault>
     ensures { result ≡ token_checked field token.now }
 {
     match field {
@@ -157,9 +158,12 @@ fn check_fields(fields: Fields<'_>) -> Result<(), TimeFault>
 
 /// Checks a line. Returns whether it has a rule: a blank line has none. A blank field is no list, so that blanks are
 /// looked for only in a line that has a fault.
-pub(crate) fn check_line(line: &[u8]) -> Result<bool, TimeFault>
+pub(crate) fn check_line(line: &[u8], ends: &TokenEnds) -> Result<bool, TimeFault>
     ensures { (number : ℕ) → result ≡ line_checked (rule_of number line.now) }
 {
+    if is_rule(line, ends) {
+        return Ok(true);
+    }
     let Some(fields) = cut_fields(line) else {
         if is_blank_text(line) {
             return Ok(false);

@@ -13,6 +13,7 @@ use crate::error::TimeError;
 use crate::fact::Fact;
 use crate::logic::is_true;
 use crate::login::{Login, drop_dev};
+use crate::one_pass::TokenEnds;
 use crate::reading::{Fields, check_line, cut_others};
 use crate::times::TimeAnswer;
 use crate::week_time::WeekTime;
@@ -89,13 +90,13 @@ impl RuleLines {
     }
 
     /// Checks a line, and adds it if it has a rule.
-    pub(crate) fn add(&mut self, line: Line<'_>) -> Result<(), TimeError>
+    pub(crate) fn add(&mut self, line: Line<'_>, ends: &TokenEnds) -> Result<(), TimeError>
         requires { AreStored self.old }
         ensures rules { Gives (λ e. Tells e) (λ _. stored self.new) result
             (with_line (stored self.old) line.entry.number (rule_of line.entry.number line.entry.bytes.now)) }
         ensures stored { OnOk result (AreStored self.new) }
     {
-        let has_rule = match check_line(line.bytes) {
+        let has_rule = match check_line(line.bytes, ends) {
             Ok(has_rule) => has_rule,
             Err(fault) => return Err(TimeError::at(fault, line.number)),
         };

@@ -5,6 +5,7 @@ ghost use Rattle.pam_times.specs.RuleLines.{are_rules};
 
 use crate::error::TimeError;
 use crate::login::Login;
+use crate::one_pass::TokenEnds;
 use crate::rule_lines::RuleLines;
 use crate::week_time::WeekTime;
 use jiff::civil::DateTime;
@@ -54,9 +55,10 @@ impl TimeTable {
     {
         let mut text = Text::of(Source::of(bytes)?);
         let mut joined = Vec::new(alloc);
+        let ends = TokenEnds::new();
         let mut rules = RuleLines::new(alloc);
         while let Some(line) = text.next_line(&mut joined)? {
-            rules.add(line)?;
+            rules.add(line, &ends)?;
         }
         Ok(TimeTable { rules })
     }

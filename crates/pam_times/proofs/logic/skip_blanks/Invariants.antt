@@ -1,9 +1,12 @@
 use Rattle.std.proofs.Common.{◌≡◌, ◌≤◌, length}
 use Rattle.pam_times.specs.Logic.{signs_of}
+use Rattle.pam_times.specs.OnePass.{before, onward}
 use Rattle.pam_times.proofs.logic.skip_blanks.Given as goal
 
 abbrev pub invariant-loop-first : goal.invariant-loop-first
 invariant-loop-first l = record {
+  before : signs_of (before l.rest) ≡ signs_of (before l.fn.bytes);
+  onward : onward l.rest ≡ onward l.fn.bytes;
   signs : signs_of l.rest ≡ signs_of l.fn.bytes;
   bound : length l.rest ≤ length l.fn.bytes;
 }

@@ -3,6 +3,9 @@ use Rattle.pam_times.proofs.CheckSteps.{blank_line, field_empty, field_missing, 
 use Rattle.pam_times.specs.Reading.{fields_view}
 use Rattle.pam_times.proofs.reading.check_line.Goals as goal
 
+pub returns-then-is_rule : goal.returns-then-is_rule
+returns-then-is_rule c = λ number. sym (c.is_rule.ensures c.if-is_rule.true number)
+
 pub returns-then-is_blank_text : goal.returns-then-is_blank_text
 returns-then-is_blank_text c = λ number. sym (blank_line number c.args.line.now (sym c.is_blank_text.ensures ∙ c.if-is_blank_text.true))
 
