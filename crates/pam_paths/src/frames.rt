@@ -277,6 +277,12 @@ fn rewrite(steps: &mut Row<PathStep>, frames: &[Frame], shared: usize)
     requires same { take shared (map step_seen steps.old.items) ≡ take shared (map step_in frames.now) }
     ensures { map step_seen steps.new.items ≡ map step_in frames.now ++ drop (length frames.now) (map step_seen steps.old.items) }
 {
+    // Mostly only the last frame follows another class.
+    if frames.len() == shared + 1 {
+        let frame = &frames[shared];
+        steps.set(shared, frame.step());
+        return;
+    }
     let added = &frames[shared..];
     for (index, frame) in added.iter().enumerate() {
         steps.set(shared + index, frame.step());
