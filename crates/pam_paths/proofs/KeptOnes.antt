@@ -45,10 +45,11 @@ module _ (allows : Allowance) (program : List Entry) (number : ℕ) where
       let there_asked = next_ask (rest_of program place) in
       let same : normal here_asked ≡ normal there_asked =
       same-ask _ _ (number-next_ask (rest_of program at) number here ∙ sym (number-next_ask (rest_of program place) number asked))
-      (control at there here ∙ sym (control place valid asked)) (some-is _ _ (sym situation ∙ is)) in
-      (offered ∙ sym (same-offered allows here_asked) ∙ ap (λ (a : Ask). codes_where (is_offered allows a)) same ∙ same-offered allows there_asked,
-      from-normal there_asked kept.classes
-      (subst (λ (a : Ask). AreClasses a kept.classes) same (to-normal here_asked kept.classes classes)))
+      (control at there here ∙ sym (control place valid asked)) (some-is _ _ (sym situation ∙ is)) in (
+        offered ∙ sym (same-offered allows here_asked) ∙ ap (λ (a : Ask). codes_where (is_offered allows a)) same ∙ same-offered allows there_asked,
+        from-normal there_asked kept.classes
+            (subst (λ (a : Ask). AreClasses a kept.classes) same (to-normal here_asked kept.classes classes)),
+      )
 
   -- those of one module are replaced
   pub kept-set : (modules : List Kept) (kept : Kept) → AreKept allows program modules → length modules ≡ 256 → 1 ≤ number → number ≤ 256 →
