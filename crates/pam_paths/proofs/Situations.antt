@@ -126,7 +126,8 @@ module _ (entry : State) (status : ℕ) (before : eqb 2 (impression_number entry
       ∙ ap (same_outcome (outcome (state_from status entry (source x after)) l)) (of-told y d after status)
       ∙ sources-alike (source x after) (source y after) l m
       ∙ sym (ap (same_outcome (outcome (state_from success entry (source x after)) l)) (of-told y d after success))
-      ∙ sym (ap (λ (o : Outcome). same_outcome o (outcome (act y d (state_with Negative success) entry after) (left_of y d (state_with Negative success) after)))
+      ∙ sym (ap (λ (o : Outcome). same_outcome o
+      (outcome (act y d (state_with Negative success) entry after) (left_of y d (state_with Negative success) after)))
       (of-told x c after success))
 
 abbrev same_of : Ask → ℕ → ℕ → Bool
