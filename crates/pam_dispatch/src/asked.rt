@@ -2,8 +2,10 @@
 
 ghost use Rattle.std.specs.Prelude.{◌≡◌, Some, slice_get};
 ghost use Rattle.pam_dispatch.specs.Runs.{outcome_of, situation_of};
+ghost use Rattle.pam_dispatch.specs.Situations.{representative, status_told};
+ghost use Rattle.pam_dispatch.specs.declared.state.Impression.TheVariants.{Negative};
 
-use crate::state::State;
+use crate::state::{Impression, State};
 use crate::step::Outcome;
 use pam_codes::{Action, Code, Control};
 use std::marker::Model;
@@ -15,6 +17,47 @@ pub struct Situation {
     /// The state in which the module's list was entered.
     pub(crate) entry: State,
     pub(crate) items_after: usize,
+}
+
+/// The status as far as it tells answers apart, for a module asked in `state`, whose list was entered in `entry`.
+#[inline(always)]
+fn status_told(state: State, entry: State) -> Code
+    ensures { result ≡ status_told state.impression entry.impression state.status }
+{
+    match state.impression {
+        Impression::Undef | Impression::Positive => state.status,
+        Impression::Negative => failure_told(state.status, entry),
+    }
+}
+
+/// The same once the stack has failed. Never inlined: then most runs take only a test.
+#[inline(never)]
+fn failure_told(status: Code, entry: State) -> Code
+    ensures { result ≡ status_told Negative entry.impression status }
+{
+    match entry.impression {
+        Impression::Negative => status,
+        Impression::Undef | Impression::Positive if status == Code::PERM_DENIED =>
+            Code::PERM_DENIED,
+        Impression::Undef | Impression::Positive => Code::SUCCESS,
+    }
+}
+
+impl Situation {
+    /// The situation that stands for all those in which the same answers are alike. Once the stack has failed, its status
+    /// is the same in most of them.
+    #[inline(always)]
+    pub fn representative(&self) -> Situation
+        ensures { result ≡ representative self.now }
+    {
+        Situation {
+            state: State {
+                impression: self.state.impression,
+                status: status_told(self.state, self.entry),
+            },
+            ..*self
+        }
+    }
 }
 
 /// A module as it is asked: what the outcomes of its answers depend on.

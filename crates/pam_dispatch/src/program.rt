@@ -142,6 +142,7 @@ fn answer_at(entries: &[Entry], place: &Place, code: Code) -> Answered
 }
 
 /// Makes the step from `place` with the answer `code`.
+#[inline(always)]
 fn step_in(entries: &[Entry], flat: usize, place: &mut Place, code: Code) -> Outcome
     requires entries { All IsBounded entries.now }
     requires outermost { AreOutermost (drop flat entries.now) }
@@ -288,6 +289,8 @@ impl Program {
     }
 
     /// Makes the step from `place` with the answer `code`, as `step` does, and moves `place` there.
+    // Inlined: most callers read no outcome, and then none is made.
+    #[inline(always)]
     pub fn step_on(&self, place: &mut Place, code: Code, work: &mut Work) -> Outcome
         requires place { IsPlaceOf self.now place.old }
         requires asking { IsSome (asked_module (rest_of self.now place.old)) }
@@ -302,6 +305,7 @@ impl Program {
     }
 
     /// Like `step_on`, without counting.
+    #[inline(always)]
     fn step_by(&self, place: &mut Place, code: Code) -> Outcome
         requires place { IsPlaceOf self.now place.old }
         requires asking { IsSome (asked_module (rest_of self.now place.old)) }

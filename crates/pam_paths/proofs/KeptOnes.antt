@@ -10,6 +10,7 @@ use Rattle.pam_dispatch.specs.declared.entry.Entry.{Entry}
 use Rattle.pam_dispatch.specs.declared.place.Place.{Place}
 use Rattle.pam_dispatch.specs.Flat.{IsPlaceOf, control_at, modules_of, rest_of}
 use Rattle.pam_dispatch.specs.Runs.{Ask, AsksRise, asked_module, next_ask, situation_of}
+use Rattle.pam_dispatch.specs.Situations.{representative}
 use Rattle.pam_dispatch.proofs.Asking.{number-next_ask}
 use Rattle.pam_paths.specs.declared.classes.Classes.{Classes}
 use Rattle.pam_paths.specs.declared.frames.Frame.{Frame}
@@ -18,6 +19,7 @@ use Rattle.pam_paths.specs.Computed.{is_offered}
 use Rattle.pam_paths.specs.Frames.{AreClasses, IsFrame, offered_at}
 use Rattle.pam_paths.specs.Kept.{AreKept, AreOf}
 use Rattle.pam_paths.specs.Listing.{Allowance}
+use Rattle.pam_paths.proofs.Situations.{from-normal, normal, same-offered, to-normal}
 
 -- a module with one control is asked in one way in each situation
 same-ask : (a b : Ask) → a.module_number ≡ b.module_number → a.control ≡ b.control → situation_of a ≡ situation_of b → a ≡ b
@@ -31,18 +33,23 @@ some-is : (s t : Situation) → Some s ≡ Some t → s ≡ t
 some-is s t e = cc
 
 module _ (allows : Allowance) (program : List Entry) (number : ℕ) where
-  -- classes computed at a place are those of the module that is asked there, in the situation of that place
+  -- classes computed at a place are those of the module that is asked there, in each situation for which one stands with it
   pub kept-of : (at : Place) (kept : Kept) → IsPlaceOf program at → asked_module (rest_of program at) ≡ Some number →
       ((other : Place) → IsPlaceOf program other → asked_module (rest_of program other) ≡ Some number →
       (next_ask (rest_of program other)).control ≡ control_at program number) →
-      kept.situation ≡ Some (situation_of (next_ask (rest_of program at))) → kept.classes.offered ≡ offered_at allows (rest_of program at) →
+      kept.situation ≡ Some (representative (situation_of (next_ask (rest_of program at)))) → kept.classes.offered ≡ offered_at allows (rest_of program at) →
       AreClasses (next_ask (rest_of program at)) kept.classes → AreOf allows program number kept
   unfolding AreOf
   kept-of at kept there here control situation offered classes place valid asked is =
-      let same : next_ask (rest_of program at) ≡ next_ask (rest_of program place) =
+      let here_asked = next_ask (rest_of program at) in
+      let there_asked = next_ask (rest_of program place) in
+      let same : normal here_asked ≡ normal there_asked =
       same-ask _ _ (number-next_ask (rest_of program at) number here ∙ sym (number-next_ask (rest_of program place) number asked))
-      (control at there here ∙ sym (control place valid asked)) (some-is _ _ (sym situation ∙ is)) in
-      (offered ∙ ap (λ (a : Ask). codes_where (is_offered allows a)) same, subst (λ (a : Ask). AreClasses a kept.classes) same classes)
+      (control at there here ∙ sym (control place valid asked)) (some-is _ _ (sym situation ∙ is)) in (
+        offered ∙ sym (same-offered allows here_asked) ∙ ap (λ (a : Ask). codes_where (is_offered allows a)) same ∙ same-offered allows there_asked,
+        from-normal there_asked kept.classes
+            (subst (λ (a : Ask). AreClasses a kept.classes) same (to-normal here_asked kept.classes classes)),
+      )
 
   -- those of one module are replaced
   pub kept-set : (modules : List Kept) (kept : Kept) → AreKept allows program modules → length modules ≡ 256 → 1 ≤ number → number ≤ 256 →

@@ -21,6 +21,7 @@ pub mod Retracing
 pub mod Rows
 pub mod Sets
 pub mod Sharing
+pub mod Situations
 pub mod Tails
 pub mod Trees
 pub mod Verdicts

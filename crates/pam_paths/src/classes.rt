@@ -114,6 +114,20 @@ fn class_at(asked: &Asked<'_>, parts: &[Part], outcome: &Outcome) -> CodeSet
     class
 }
 
+/// The class of `code` for the module asked at `place`. Never inlined: it is seldom wanted, and `Classes::class_of` is
+/// inlined.
+#[inline(never)]
+fn class_anew(program: &Program, place: &Place, module_number: usize, code: Code) -> CodeSet
+    requires place { IsPlaceOf program.now place.now }
+    requires asking { asked_module (rest_of program.now place.now) ≡ Some module_number }
+    requires first { 1 ≤ module_number }
+    requires last { module_number ≤ modules_of program.now }
+    ensures { result ≡ class_of (next_ask (rest_of program.now place.now)) code }
+{
+    let parts = program.parts(module_number).as_slice();
+    class_at(&program.asked(place), parts, &program.outcome(place, code))
+}
+
 /// A code of `part` whose class can have further codes: any code if the action of the part does not look at it,
 /// otherwise perm_denied, since ignore can count as perm_denied.
 fn shared_code(part: &Part, state: State) -> Option<Code>
@@ -258,7 +272,7 @@ impl Classes {
     }
 
     /// The class of `code` for the module asked at `place`.
-    #[inline]
+    #[inline(always)]
     pub(crate) fn class_of(
         &self,
         program: &Program,
@@ -282,7 +296,6 @@ impl Classes {
         if !self.shared.contains(code) {
             return CodeSet::single(code);
         }
-        let parts = program.parts(module_number).as_slice();
-        class_at(&program.asked(place), parts, &program.outcome(place, code))
+        class_anew(program, place, module_number, code)
     }
 }

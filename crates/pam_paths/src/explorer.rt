@@ -39,6 +39,8 @@ pub struct Explorer<'a, K: Knowledge> {
     at_start: bool,
     /// The modules asked on the path returned last, at first on that of the cursor.
     frames: Frames,
+    /// Room for the place from which the next path continues.
+    place: Place,
     /// The path returned last.
     path: Path,
     /// The classes of the modules asked so far.
@@ -67,31 +69,33 @@ impl<'a, K: Knowledge> Model for Explorer<'a, K> {
         × AreFirstSteps e.frames.items e.path.steps × AreKept (K.allows e.knowledge.now) e.program.now e.kept.modules };
 }
 
-/// The place from which the next path continues, after the steps of `frames`.
+/// Makes `place` the place from which the next path continues, after the steps of `frames`; `None` if no path is left.
 fn go_on<K: Knowledge>(
     program: &Program,
     knowledge: &K,
     direction: Direction,
     at_start: bool,
     frames: &mut Frames,
+    place: &mut Place,
     work: &mut Work,
-) -> Option<Place>
+) -> Option<()>
     requires exploring { IsExploring (K.allows knowledge.now) program.now at_start frames.old.items }
     ensures none { IfNone result (coming direction (K.allows knowledge.now) program.now at_start frames.old.items ≡ []) }
     ensures emptied { IfNone result (frames.new.items ≡ []) }
-    ensures place { IfSome result (λ p. IsPlaceOf program.now p) }
+    ensures place { IfSome result (λ _. IsPlaceOf program.now place.new) }
     ensures frames { AreFrames (K.allows knowledge.now) program.now 0 frames.new.items }
-    ensures rise { IfSome result (λ p. AsksRise (length frames.new.items) (modules_of program.now) (rest_of program.now p)) }
+    ensures rise { IfSome result (λ _. AsksRise (length frames.new.items) (modules_of program.now) (rest_of program.now place.new)) }
     ensures earlier { take (length frames.new.items - 1) frames.new.items ≡ take (length frames.new.items - 1) frames.old.items }
-    ensures paths { IfSome result (λ p. coming direction (K.allows knowledge.now) program.now at_start frames.old.items
-        ≡ under frames.new.items (ordered direction (listing (K.allows knowledge.now) (rest_of program.now p)))
+    ensures paths { IfSome result (λ _. coming direction (K.allows knowledge.now) program.now at_start frames.old.items
+        ≡ under frames.new.items (ordered direction (listing (K.allows knowledge.now) (rest_of program.now place.new)))
         ++ ahead direction (K.allows knowledge.now) program.now frames.new.items) }
     ensures work { work.new ≤ work.old + modules_of program.now }
 {
     if at_start {
-        return Some(program.first());
+        *place = program.first();
+        return Some(());
     }
-    advance(program, knowledge, direction, frames, work)
+    advance(program, knowledge, direction, frames, place, work)
 }
 
 /// The number of first steps that stay, of `steps` steps, if only the last of `frames` frames may have changed.
@@ -113,6 +117,7 @@ fn follow<K: Knowledge>(
     direction: Direction,
     at_start: bool,
     frames: &mut Frames,
+    place: &mut Place,
     path: &mut Path,
     kept: &mut KeptClasses,
     alike: &AlikeSteps,
@@ -131,7 +136,7 @@ fn follow<K: Knowledge>(
     ensures shared { IfSome result (λ shared. take shared path.new.steps ≡ take shared path.old.steps) }
     ensures work { work.new ≤ work.old + 64 * (modules_of program.now + 1) }
 {
-    let Some(place) = go_on(program, knowledge, direction, at_start, frames, work) else {
+    let Some(()) = go_on(program, knowledge, direction, at_start, frames, place, work) else {
         path.steps.truncate(0);
         path.tail = 0;
         return None;
@@ -189,6 +194,7 @@ impl<'a, K: Knowledge> Explorer<'a, K> {
             direction: Direction::Forward,
             at_start: true,
             frames: Row::new(),
+            place: Place::default(),
             path: Path::empty(),
             kept: KeptClasses::new(),
             alike: AlikeSteps::new(),
@@ -257,6 +263,7 @@ impl<'a, K: Knowledge> Explorer<'a, K> {
                 direction,
                 at_start: false,
                 frames,
+                place: Place::default(),
                 path: Path::empty(),
                 kept: KeptClasses::new(),
                 alike: AlikeSteps::new(),
@@ -281,6 +288,7 @@ impl<'a, K: Knowledge> Explorer<'a, K> {
             self.direction,
             at_start,
             &mut self.frames,
+            &mut self.place,
             &mut self.path,
             &mut self.kept,
             &self.alike,

@@ -194,24 +194,26 @@ impl Row<Frame> {
     }
 }
 
-/// Pops frames up to the innermost one that has a further branch, and follows that branch.
+/// Pops frames up to the innermost one that has a further branch, and follows that branch. Makes `place` the place after
+/// it; `None` if no frame has one.
 pub(crate) fn advance<K: Knowledge>(
     program: &Program,
     knowledge: &K,
     direction: Direction,
     frames: &mut Frames,
+    place: &mut Place,
     work: &mut Work,
-) -> Option<Place>
+) -> Option<()>
     requires few { modules_of program.now ≤ MAX_MODULES }
     requires frames { AreFrames (K.allows knowledge.now) program.now 0 frames.old.items }
     ensures none { IfNone result (ahead direction (K.allows knowledge.now) program.now frames.old.items ≡ []) }
     ensures emptied { IfNone result (frames.new.items ≡ []) }
-    ensures place { IfSome result (λ p. IsPlaceOf program.now p) }
+    ensures place { IfSome result (λ _. IsPlaceOf program.now place.new) }
     ensures frames { AreFrames (K.allows knowledge.now) program.now 0 frames.new.items }
-    ensures rise { IfSome result (λ p. AsksRise (length frames.new.items) (modules_of program.now) (rest_of program.now p)) }
+    ensures rise { IfSome result (λ _. AsksRise (length frames.new.items) (modules_of program.now) (rest_of program.now place.new)) }
     ensures earlier { take (length frames.new.items - 1) frames.new.items ≡ take (length frames.new.items - 1) frames.old.items }
-    ensures paths { IfSome result (λ p. ahead direction (K.allows knowledge.now) program.now frames.old.items
-        ≡ under frames.new.items (ordered direction (listing (K.allows knowledge.now) (rest_of program.now p)))
+    ensures paths { IfSome result (λ _. ahead direction (K.allows knowledge.now) program.now frames.old.items
+        ≡ under frames.new.items (ordered direction (listing (K.allows knowledge.now) (rest_of program.now place.new)))
         ++ ahead direction (K.allows knowledge.now) program.now frames.new.items) }
     ensures work { work.new ≤ work.old + length frames.old.items }
 {
@@ -219,51 +221,49 @@ pub(crate) fn advance<K: Knowledge>(
         let last = frames.len() - 1;
         let frame = &frames.as_slice()[last];
         let bound = direction.past(frame.code);
-        let mut place = frame.place;
-        if let Some(branch) = frame.branch_ahead(program, direction, bound, &mut place, work) {
+        if let Some(branch) = frame.branch_ahead(program, direction, bound, place, work) {
             frames.follow(last, &branch);
-            return Some(place);
+            return Some(());
         }
         frames.truncate(last);
     }
     None
 }
 
-/// Follows the first branch of each module, from `from` on, until the run is settled. Returns the rest of it.
+/// Follows the first branch of each module, from `place` on, until the run is settled. Returns the rest of it.
 pub(crate) fn descend<K: Knowledge>(
     program: &Program,
     knowledge: &K,
     direction: Direction,
     frames: &mut Frames,
     kept: &mut KeptClasses,
-    from: Place,
+    place: &mut Place,
     work: &mut Work,
 ) -> Rest
     requires few { modules_of program.now ≤ MAX_MODULES }
     requires kept { AreKept (K.allows knowledge.now) program.now kept.old.modules }
     requires frames { AreFrames (K.allows knowledge.now) program.now 0 frames.old.items }
-    requires place { IsPlaceOf program.now from }
-    requires rise { AsksRise (length frames.old.items) (modules_of program.now) (rest_of program.now from) }
+    requires place { IsPlaceOf program.now place.old }
+    requires rise { AsksRise (length frames.old.items) (modules_of program.now) (rest_of program.now place.old) }
     ensures frames { AreFrames (K.allows knowledge.now) program.now 0 frames.new.items }
     ensures kept { AreKept (K.allows knowledge.now) program.now kept.new.modules }
-    ensures path { under frames.old.items (ordered direction (listing (K.allows knowledge.now) (rest_of program.now from)))
+    ensures path { under frames.old.items (ordered direction (listing (K.allows knowledge.now) (rest_of program.now place.old)))
         ++ ahead direction (K.allows knowledge.now) program.now frames.old.items
         ≡ path_to (modules_of program.now) frames.new.items result ∷ ahead direction (K.allows knowledge.now) program.now frames.new.items }
     ensures within { length frames.new.items + result.modules ≤ modules_of program.now }
     ensures earlier { take (length frames.old.items) frames.new.items ≡ frames.old.items }
     ensures work { work.new + length frames.old.items ≤ work.old + length frames.new.items }
 {
-    let mut place = from;
     loop {
-        if let Some(rest) = program.settled(&place) {
+        if let Some(rest) = program.settled(place) {
             return rest;
         }
         let Some(module_number) = place.module() else {
             unreachable!()
         };
-        let classes = kept.at(program, knowledge, &place, module_number);
-        let frame = Frame::at(place, module_number, classes);
-        match frame.branch_ahead(program, direction, direction.outset(), &mut place, work) {
+        let classes = kept.at(program, knowledge, place, module_number);
+        let frame = Frame::at(*place, module_number, classes);
+        match frame.branch_ahead(program, direction, direction.outset(), place, work) {
             Some(branch) => frames.push(frame.following(&branch)),
             None => unreachable!(),
         }
@@ -277,6 +277,12 @@ fn rewrite(steps: &mut Row<PathStep>, frames: &[Frame], shared: usize)
     requires same { take shared (map step_seen steps.old.items) ≡ take shared (map step_in frames.now) }
     ensures { map step_seen steps.new.items ≡ map step_in frames.now ++ drop (length frames.now) (map step_seen steps.old.items) }
 {
+    // Mostly only the last frame follows another class.
+    if frames.len() == shared + 1 {
+        let frame = &frames[shared];
+        steps.set(shared, frame.step());
+        return;
+    }
     let added = &frames[shared..];
     for (index, frame) in added.iter().enumerate() {
         steps.set(shared + index, frame.step());

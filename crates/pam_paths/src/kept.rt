@@ -13,7 +13,7 @@ use crate::classes::Classes;
 use crate::knowledge::Knowledge;
 use pam_dispatch::{MAX_MODULES, Place, Program, Situation};
 
-/// The classes of a module in the situation in which it was asked last, if it was.
+/// The classes of a module that was asked, with the situation that stands for those in which its answers are alike.
 #[derive(Clone, Copy, Debug)]
 pub(crate) struct Kept {
     pub(crate) situation: Option<Situation>,
@@ -41,7 +41,7 @@ impl Kept {
     }
 }
 
-/// The classes computed last for each module. A module is often asked in the same situation again.
+/// The classes computed last for each module. A module is often asked in a situation like the last one again.
 #[derive(Drop)]
 pub(crate) struct KeptClasses {
     pub(crate) modules: [Kept; MAX_MODULES],
@@ -60,7 +60,7 @@ impl KeptClasses {
         }
     }
 
-    /// The classes at `place`, which are computed if the module was not asked in the same situation last.
+    /// The classes at `place`, which are computed if the module was not asked in a situation like it last.
     pub(crate) fn at<K: Knowledge>(
         &mut self,
         program: &Program,
@@ -78,7 +78,7 @@ impl KeptClasses {
         ensures offered { result.offered ≡ offered_at (K.allows knowledge.now) (rest_of program.now place.now) }
         ensures classes { AreClasses (next_ask (rest_of program.now place.now)) result }
     {
-        let situation = program.asked(place).situation();
+        let situation = program.asked(place).situation().representative();
         let kept = &self.modules[module_number - 1];
         if kept.is_of(&situation) {
             return kept.classes;

@@ -3,6 +3,7 @@ use Rattle.pam_codes.specs.Set.{IsCodeSet}
 use Rattle.pam_dispatch.specs.declared.asked.Situation.{Situation}
 use Rattle.pam_dispatch.specs.Flat.{rest_of}
 use Rattle.pam_dispatch.specs.Runs.{Ask, next_ask, situation_of}
+use Rattle.pam_dispatch.specs.Situations.{representative}
 use Rattle.pam_paths.specs.declared.classes.Classes.{Classes}
 use Rattle.pam_paths.specs.Frames.{AreClasses}
 use Rattle.pam_paths.specs.Kept.{AreKept, AreOf}
@@ -13,7 +14,8 @@ use Rattle.pam_paths.proofs.kept.KeptClasses.at.Goals as goal
 pub returns-then-is_of : goal.returns-then-is_of
 unfolding AreKept AreOf
 returns-then-is_of g c =
-    let told = ap (λ (s : Situation). Some s) (c.situation-situation.ensures ∙ ap (λ (a : Ask). situation_of a) c.asked.ensures) in
+    let told = ap (λ (s : Situation). Some s) (c.representative-situation.ensures
+    ∙ ap representative (c.situation.ensures ∙ ap (λ (a : Ask). situation_of a) c.asked.ensures)) in
     let known = c.requires.kept c.args.module_number c.requires.first (omega (arith, c.requires.last, c.requires.few))
     c.index-self-module_number.result c.args.place.now c.requires.place c.requires.asking (c.is_of.ensures c.if-is_of.true ∙ told) in
     record { kept = c.requires.kept; offered = known.0; classes = known.1 }
@@ -27,7 +29,8 @@ returns-clause-kept g c =
     let allows = g.K.Knowledge.allows c.args.knowledge.now in
     let program = c.args.program.now in
     let e = c.at-classes.ensures in
-    let told = ap (λ (s : Situation). Some s) (c.situation-situation.ensures ∙ ap (λ (a : Ask). situation_of a) c.asked.ensures) in
+    let told = ap (λ (s : Situation). Some s) (c.representative-situation.ensures
+    ∙ ap representative (c.situation.ensures ∙ ap (λ (a : Ask). situation_of a) c.asked.ensures)) in
     kept-set allows program c.args.module_number c.args.self.now.modules c.of.result c.requires.kept (search) c.requires.first
     (omega (arith, c.requires.last, c.requires.few))
     (kept-of allows program c.args.module_number c.args.place.now c.of.result c.requires.place c.requires.asking e.control
