@@ -14,7 +14,7 @@ status_told Negative Undef status = if status == perm_denied then perm_denied el
 status_told Negative Positive status = if status == perm_denied then perm_denied else success
 status_told Negative Negative status = status
 
--- the one of these situations that stands for all
+-- the situation that represents all those in which the same answers are alike
 abbrev pub representative : Situation → Situation
 representative s = record {
   state = state_with s.state.impression (status_told s.state.impression s.entry.impression s.state.status);

@@ -30,7 +30,7 @@ fn status_told(state: State, entry: State) -> Code
     }
 }
 
-/// The same once the stack has failed. Never inlined: then most runs take only a test.
+/// The same once the stack has failed. Never inlined, so that other states take only a test.
 #[inline(never)]
 fn failure_told(status: Code, entry: State) -> Code
     ensures { result ≡ status_told Negative entry.impression status }
@@ -44,8 +44,8 @@ fn failure_told(status: Code, entry: State) -> Code
 }
 
 impl Situation {
-    /// The situation that stands for all those in which the same answers are alike. Once the stack has failed, its status
-    /// is the same in most of them.
+    /// The situation that represents all those in which the same answers are alike. After most failures its status is one
+    /// and the same.
     #[inline(always)]
     pub fn representative(&self) -> Situation
         ensures { result ≡ representative self.now }

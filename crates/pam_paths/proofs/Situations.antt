@@ -133,7 +133,7 @@ module _ (entry : State) (status : ℕ) (before : eqb 2 (impression_number entry
 abbrev same_of : Ask → ℕ → ℕ → Bool
 same_of ask c d = same_outcome (outcome_of ask c) (outcome_of ask d)
 
--- the module as it is asked in the situation that stands for its own
+-- the module as it is asked in the situation that represents its own
 abbrev pub normal : Ask → Ask
 normal ask = record {
   module_number = ask.module_number;

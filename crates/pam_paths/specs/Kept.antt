@@ -10,7 +10,7 @@ use Rattle.pam_paths.specs.declared.kept.Kept.{Kept}
 use Rattle.pam_paths.specs.Frames.{AreClasses, offered_at}
 use Rattle.pam_paths.specs.Listing.{Allowance}
 
--- classes are those of a module wherever it is asked in a situation for which the one that is kept with them stands
+-- classes are those of a module wherever it is asked in a situation with the representative that is kept with them
 unfoldable pub AreOf : Allowance → List Entry → ℕ → Kept → Type 0
 AreOf allows program number kept =
     (place : Place) → IsPlaceOf program place → asked_module (rest_of program place) ≡ Some number

@@ -13,7 +13,7 @@ use crate::classes::Classes;
 use crate::knowledge::Knowledge;
 use pam_dispatch::{MAX_MODULES, Place, Program, Situation};
 
-/// The classes of a module that was asked, with the situation that stands for those in which its answers are alike.
+/// The classes of a module that was asked, with the situation that represents those in which its answers are alike.
 #[derive(Clone, Copy, Debug)]
 pub(crate) struct Kept {
     pub(crate) situation: Option<Situation>,
