@@ -16,7 +16,8 @@ use Rattle.pam_codes.specs.declared.error.ControlError.TheVariants.{BadControl}
 use Rattle.pam_conf.specs.FirstWord.{words_from}
 use Rattle.pam_text.proofs.TextSteps.{unequal}
 use Rattle.pam_conf.specs.Lines.{at_line, line_rule_of}
-use Rattle.pam_conf.specs.Rule.{RuleText, RuleBody, body_of, in_rule, kind_named, module_of, dashed_kind_of, rule_of, first_rule_of, plain_rule_of, kind_rule_of, ◌>>=◌}
+use Rattle.pam_conf.specs.Rule.{RuleText, RuleBody, body_of, in_rule, kind_named, module_of, ◌>>=◌}
+use Rattle.pam_conf.specs.Rule.{dashed_kind_of, rule_of, first_rule_of, plain_rule_of, kind_rule_of}
 use Rattle.pam_conf.specs.Walk.{carries, same_kind}
 use Rattle.pam_conf.specs.Wanted.{kind_name, wants, with_rule}
 use Rattle.pam_conf.specs.Words.{or_open, text_of_word, words_of, words_or_fault}

@@ -141,7 +141,8 @@ item_passed field inverted text begin token rest left n s e some f g fine signs 
       is_inverted = inverted;
       token = token;
       fine = sym fine;
-      first = λ joint. left_items inverted text begin token _ s is joint ∙ ap (λ (l : List SignText). onto_items joint inverted token (items_from ExpectJoint l)) signs;
+      first = λ joint. left_items inverted text begin token _ s is joint
+          ∙ ap (λ (l : List SignText). onto_items joint inverted token (items_from ExpectJoint l)) signs;
       end = left_signs inverted text begin s ∙ c.end ∙ sym (ap onward g) ∙ end;
     }
 
