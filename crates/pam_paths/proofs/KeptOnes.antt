@@ -33,7 +33,7 @@ some-is : (s t : Situation) → Some s ≡ Some t → s ≡ t
 some-is s t e = cc
 
 module _ (allows : Allowance) (program : List Entry) (number : ℕ) where
-  -- classes computed at a place are those of the module that is asked there, in each situation for which one stands with it
+  -- classes computed at a place are those of the module that is asked there, in each situation with the same representative
   pub kept-of : (at : Place) (kept : Kept) → IsPlaceOf program at → asked_module (rest_of program at) ≡ Some number →
       ((other : Place) → IsPlaceOf program other → asked_module (rest_of program other) ≡ Some number →
       (next_ask (rest_of program other)).control ≡ control_at program number) →

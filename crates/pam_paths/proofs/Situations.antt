@@ -1,4 +1,4 @@
--- A module has the same classes in all situations for which one stands.
+-- A module has the same classes in all situations with one representative.
 use Rattle.std.proofs.Common.{◌≡◌, ◌==◌, ◌&&◌, Bool, true, false, arith, cond, eqb, refl, ℕ, List, ap, nat_le, sym, ◌∙◌}
 use Rattle.std.specs.List.{list_any}
 use Rattle.std.proofs.lemmas.Bool.{eqb-true}

@@ -203,7 +203,7 @@ semicolon_test b = rw (same_test 59 b) (ap not (last (eqb b 59)))
     last true = refl
     last false = refl
 
--- where the first `;` stands, and what is after it
+-- the place of the first `;`, and what is after it
 record Found (text after : List ℕ) (n : ℕ) : Type 0 where
   less : nat_lt n (length text) ≡ true
   front : take n text ≡ before text
