@@ -208,7 +208,7 @@ pub fn fault_status(fault: &Fault) -> u8
 
 /// Returns the line of an input that cannot be read.
 #[tactic(auto, unfolding(crate::specs::Fault::input_line))]
-pub(crate) fn input_text(alloc: Global, error: &InputError) -> Result<Vec<u8>, AllocError>
+pub fn input_text(alloc: Global, error: &InputError) -> Result<Vec<u8>, AllocError>
     ensures { IfOk result (λ text. text.items ≡ spec.input_line error.now) }
 {
     let row = input_row(error);
@@ -223,7 +223,7 @@ pub(crate) fn input_text(alloc: Global, error: &InputError) -> Result<Vec<u8>, A
 }
 
 /// Returns the exit status of an input that cannot be read.
-pub(crate) fn input_status(error: &InputError) -> u8
+pub fn input_status(error: &InputError) -> u8
     ensures { result ≡ spec.status_of_input error.now }
 {
     input_row(error).status

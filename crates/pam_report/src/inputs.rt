@@ -1,16 +1,13 @@
-//! The files that a request names, read into memory.
+//! The contents of the files that a request names.
 
 ghost use Rattle.std.specs.Prelude.{◌≡◌, option_map};
 ghost use Rattle.pam_report.specs.Inputs.{tables_given as tables_in, timed as timed_text};
 ghost use Rattle.pam_known.specs.Tables.{tables_view, timed_view};
 
-mod reading;
-
 use jiff::civil::DateTime;
 use pam_conf::Files;
 use pam_known::{Tables, TimedTable};
 use pam_words::{Request, Task};
-pub(crate) use reading::inputs_of;
 use std::alloc::{AllocError, AllocFailed};
 use thiserror::Error;
 
@@ -98,7 +95,7 @@ impl Inputs {
     }
 
     /// Returns the configuration, unless these are the inputs of `access` or `time`.
-    pub(crate) fn files(&self) -> Option<&Files>
+    pub fn files(&self) -> Option<&Files>
         ensures { option_map (λ f. f.now) result ≡ files_given self.now }
     {
         match self {

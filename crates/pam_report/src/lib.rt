@@ -4,10 +4,10 @@
 
 mod fault;
 mod inputs;
-mod program;
 mod report;
 
-pub use fault::{Fault, fault_status, fault_text, usage_status, usage_text};
-pub use inputs::Inputs;
-pub use program::{refuse, refuse_without_memory, run};
+pub use fault::{
+    Fault, fault_status, fault_text, input_status, input_text, usage_status, usage_text,
+};
+pub use inputs::{InputError, Inputs};
 pub use report::{Status, answer};

@@ -1,8 +1,8 @@
 //! Explains what a stack of PAM modules can decide.
 #![tactic(auto)]
 
+use pam_cli::{refuse, refuse_without_memory, run};
 use pam_codes::Out;
-use pam_report::{refuse, refuse_without_memory, run};
 use pam_words::Usage;
 use std::alloc::Global;
 use std::io::{BufWriter, ErrorKind, Write};

@@ -3,8 +3,8 @@
 //! a row enclose an empty word. An empty line has no words. A line that begins with `#` is a heading, and is copied.
 #![tactic(auto)]
 
+use pam_cli::run;
 use pam_codes::Out;
-use pam_report::run;
 use std::alloc::{AllocError, Global};
 use std::io::{self, BufRead, BufReader, BufWriter, Write};
 

@@ -1,7 +1,7 @@
 //! Reads the files that a request names.
 
-use super::{InputError, Inputs};
 use pam_conf::{Files, Form};
+use pam_report::{InputError, Inputs};
 use pam_words::{ConfSource, Request, Task};
 use std::alloc::{AllocError, Global};
 use std::io::{ErrorKind, Read};

@@ -1,12 +1,16 @@
 //! A run of the program: reads the command line, answers on standard output, and reports faults on standard error.
 
-use crate::fault::{
-    Fault, fault_status, fault_text, input_status, input_text, usage_status, usage_text,
-};
-use crate::inputs::{InputError, Inputs, inputs_of};
-use crate::report::answer;
+ghost use Rattle.std.specs.Prelude.{◌≡◌};
+ghost use Rattle.pam_report.specs.Fault.{status_of_fault, status_of_input, status_of_usage};
+ghost use Rattle.pam_report.specs.declared.fault.Fault.TheVariants as faults;
+
+use crate::reading::inputs_of;
 use pam_codes::Out;
 use pam_conf::{Files as ConfFiles, Form};
+use pam_report::{
+    Fault, InputError, Inputs, answer, fault_status, fault_text, input_status, input_text,
+    usage_status, usage_text,
+};
 use pam_words::{Request, Usage, request};
 use std::alloc::{AllocError, Global};
 use std::io::Write;
@@ -41,7 +45,9 @@ fn help_or_refuse<W: Write, V: Write>(
 }
 
 /// Reports wrong words on standard error, and returns the exit status.
-pub fn refuse<V: Write>(alloc: Global, usage: &Usage, err: &mut Out<V>) -> u8 {
+pub fn refuse<V: Write>(alloc: Global, usage: &Usage, err: &mut Out<V>) -> u8
+    ensures { result ≡ status_of_usage usage.now }
+{
     match usage {
         Usage::Help(text) | Usage::Words(text) => {
             let _ = write!(err, "{text}");
@@ -53,7 +59,9 @@ pub fn refuse<V: Write>(alloc: Global, usage: &Usage, err: &mut Out<V>) -> u8 {
 }
 
 /// Reports an allocation that failed before any words were read, and returns the exit status.
-pub fn refuse_without_memory<V: Write>(alloc: Global, err: &mut Out<V>) -> u8 {
+pub fn refuse_without_memory<V: Write>(alloc: Global, err: &mut Out<V>) -> u8
+    ensures { result ≡ status_of_fault faults.Memory }
+{
     refuse_by(alloc, &Fault::Memory, None, err)
 }
 
@@ -72,7 +80,9 @@ fn answer_request<R: Files + AllocGlobal + Clone + Drop, W: Write, V: Write>(
 }
 
 /// Reports an input that cannot be read on standard error, and returns the exit status.
-fn refuse_input<V: Write>(alloc: Global, error: &InputError, err: &mut Out<V>) -> u8 {
+fn refuse_input<V: Write>(alloc: Global, error: &InputError, err: &mut Out<V>) -> u8
+    ensures { result ≡ status_of_input error.now }
+{
     say(input_text(alloc, error), err);
     input_status(error)
 }
@@ -112,7 +122,9 @@ fn refuse_by<V: Write>(
     fault: &Fault,
     files: Option<&ConfFiles>,
     err: &mut Out<V>,
-) -> u8 {
+) -> u8
+    ensures { result ≡ status_of_fault fault.now }
+{
     let line = match files {
         Some(files) => fault_text(alloc, fault, files),
         None => fault_text(alloc, fault, &ConfFiles::new(alloc, Form::Dir)),
