@@ -58,7 +58,7 @@ pub fn refuse<V: Write>(alloc: Global, usage: &Usage, err: &mut Out<V>) -> u8
     usage_status(usage)
 }
 
-/// Reports an allocation that failed before any words were read, and returns the exit status.
+/// Reports an allocation that failed while no words were read, and returns the exit status.
 pub fn refuse_without_memory<V: Write>(alloc: Global, err: &mut Out<V>) -> u8
     ensures { result ≡ status_of_fault faults.Memory }
 {
