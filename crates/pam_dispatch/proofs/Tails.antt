@@ -149,7 +149,8 @@ settled-asks first zero s (asks ask next) answers h codes = absurd (omega (arith
 settled-asks first (suc count) s (asks ask next) answers h codes =
     let fewer : suc count - 1 ≡ count = omega arith in
     let again : IsSettled (first + 1) count s (next (unchanged ask s)) = rw fewer at h.3 in
-    let others : AnswerCodes (first + 1) count answers = subst (λ (n : ℕ). AnswerCodes (first + 1) n answers) fewer (codes_left first (suc count) answers codes) in
+    let others : AnswerCodes (first + 1) count answers =
+    subst (λ (n : ℕ). AnswerCodes (first + 1) n answers) fewer (codes_left first (suc count) answers codes) in
     let same : outcome_of ask (answers ask.module_number) ≡ unchanged ask s =
     h.2 (answers ask.module_number) (code_asked first (suc count) ask answers h.0 h.1 codes) in
     ap (λ (o : Outcome). ask.module_number ∷ map (λ (a : Ask). a.module_number) (asked_by (next o) answers)) same
