@@ -1,7 +1,9 @@
+pub mod CountLemmas
 pub mod DepthLemmas
 pub mod FileLemmas
 pub mod LineSteps
 pub mod ResolutionLemmas
+pub mod ResolvedStacks
 pub mod RoomLemmas
 pub mod RuleSteps
 pub mod Splits

@@ -1,12 +1,14 @@
 -- Laws of the definitions, in the words of pam.conf(5).
-use Rattle.std.specs.Prelude.{◌≡◌, ◌↔◌, ◌-◌, ◌==◌, ◌≤◌, ℕ, nat_lt, false, List, [], ◌∷◌, length, if◌then◌else◌, Option, Some, None, Err}
+use Rattle.std.specs.Prelude.{◌≡◌, ◌↔◌, ◌-◌, ◌==◌, ◌≤◌, ℕ, nat_lt, false, List, [], ◌∷◌, length, if◌then◌else◌, Option, Some, None, Ok, Err}
 use Rattle.std.specs.List.{list_any}
 use Rattle.pam_conf.specs.Files.{Folder}
-use Rattle.pam_conf.specs.Resolution.{items_or_fault, stack_from}
+use Rattle.pam_conf.specs.Resolution.{items_or_fault, resolved, stack_from}
+use Rattle.pam_conf.specs.Stack.{IsNumbered, Items, depth, module_count}
 use Rattle.pam_conf.specs.Walk.{Deeper, Walk, file_walk, target_walk, walk}
 use Rattle.pam_conf.specs.Words.{IsSplit, words_of}
 use Rattle.pam_conf.specs.declared.error.FaultKind.TheVariants.{TooDeep}
 use Rattle.pam_conf.specs.declared.rule.Kind.{Kind}
+use Rattle.pam_conf.specs.declared.stack.TheConstants.{MAX_MODULES}
 use Rattle.pam_conf.specs.declared.trail.TheConstants.{MAX_OPEN_FILES}
 
 -- WORDS
@@ -40,3 +42,14 @@ abbrev pub DeepWhereAllAreOpen : Type 0
 DeepWhereAllAreOpen = (folder : Folder) (kind : Kind) (service : Option (List ℕ)) (trail : List ℕ) (target : ℕ) →
     list_any (λ p. p == target) trail ≡ false →
     (target_walk (one_more folder kind service trail) trail (Some target) ≡ Err TooDeep) ↔ (MAX_OPEN_FILES ≤ length trail)
+
+-- THE STACK OF A SERVICE
+
+-- a stack has at most `MAX_MODULES` modules, numbered from 1 on from the left, and at most `MAX_OPEN_FILES` of its lists
+-- are open at once
+abbrev pub IsStack : Items → Type 0
+IsStack items = IsNumbered items × (module_count items ≤ MAX_MODULES) × (depth items ≤ MAX_OPEN_FILES)
+
+-- the items of a service are such a stack
+abbrev pub ResolvedIsStack : Type 0
+ResolvedIsStack = (folder : Folder) (service : List ℕ) (kind : Kind) (items : Items) → resolved folder service kind ≡ Ok items → IsStack items

@@ -1,6 +1,6 @@
 //! Laws of the definitions that the contracts cite: each is the contract of an empty function.
 
-ghost use Rattle.pam_conf.specs.Laws.{DeepWhereAllAreOpen, StackBeginsATrail, WalkFollowsItsTrail, WordsAreOneSplit};
+ghost use Rattle.pam_conf.specs.Laws.{DeepWhereAllAreOpen, ResolvedIsStack, StackBeginsATrail, WalkFollowsItsTrail, WordsAreOneSplit};
 
 /// A line has words if and only if it can be written as blanks and spellings of words, and then in only one way.
 pub fn words_are_one_split()
@@ -13,4 +13,10 @@ pub fn room_and_trail()
     ensures begins { StackBeginsATrail }
     ensures followed { WalkFollowsItsTrail }
     ensures too_deep { DeepWhereAllAreOpen }
+{}
+
+/// The modules of a resolved stack are numbered from the left. It has at most `MAX_MODULES` of them, and at most
+/// `MAX_OPEN_FILES` of its lists are open at once.
+pub fn resolved_stack()
+    ensures { ResolvedIsStack }
 {}

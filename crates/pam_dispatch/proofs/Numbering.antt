@@ -1,12 +1,16 @@
 -- The numbers of a program's modules.
-use Rattle.std.proofs.Common.{◌≡◌, ℕ, ◌+◌, ◌-◌, ◌<◌, ◌≤◌, ◌&&◌, List, [], ◌∷◌, eqb, ltb, zero, suc, refl, ◌∙◌, ap, arith, length, get_or}
+use Rattle.std.proofs.Common.{◌≡◌, ℕ, ◌+◌, ◌-◌, ◌<◌, ◌≤◌, ◌&&◌, List, [], ◌∷◌, eqb, ltb, zero, suc, refl, ◌∙◌, ap, arith, length, get_or, subst}
 use Rattle.std.proofs.lemmas.Bool.{cond_both}
 use Rattle.pam_codes.specs.declared.action.Action.{Action}
+use Rattle.pam_conf.specs.Stack.{Items, IsNumberedFrom, module_count}
 use Rattle.pam_dispatch.specs.declared.state.State.{State}
 use Rattle.pam_dispatch.specs.declared.entry.Entry.{Entry}
 use Rattle.pam_dispatch.specs.declared.entry.Entry.TheVariants.{Module, Substack}
 use Rattle.pam_dispatch.specs.Runs.{Runs, ends, asks, AsksRise}
-use Rattle.pam_dispatch.specs.Flat.{resume, runs_of, controls_in, modules_of, positions_from, IsNumbered}
+use Rattle.pam_dispatch.specs.Flat.{flat_list, resume, runs_of, controls_in, modules_of, positions_from, IsNumbered}
+use Rattle.pam_dispatch.specs.Tree.{runs_of_stack}
+use Rattle.pam_dispatch.proofs.Flattening.{runs_of-flat_list}
+use Rattle.pam_dispatch.proofs.StackLists.{modules_of-flat_list, numbered-flat_list}
 
 -- numbers that rise above a number rise above each lower one
 pub AsksRise-lower : (low above high : ℕ) (r : Runs) → low ≤ above → AsksRise above high r → AsksRise low high r
@@ -41,6 +45,14 @@ AsksRise-resume (Substack here ∷ rest) before high level skip es s n h =
 pub AsksRise-runs_of : (program : List Entry) → IsNumbered 0 program → AsksRise 0 (modules_of program) (runs_of program)
 unfolding runs_of
 AsksRise-runs_of program n = AsksRise-resume program 0 (modules_of program) 0 0 _ _ n (omega arith)
+
+-- and so does the run of a numbered stack
+pub AsksRise-stack : (items : Items) → IsNumberedFrom 1 items → AsksRise 0 (module_count items) (runs_of_stack items)
+AsksRise-stack items numbered =
+    let first : 1 ≡ 0 + 1 = omega arith in
+    subst (λ (n : ℕ). AsksRise 0 n (runs_of_stack items)) (modules_of-flat_list 0 items)
+    (subst (λ (r : Runs). AsksRise 0 (modules_of (flat_list 0 items)) r) (runs_of-flat_list items)
+    (AsksRise-runs_of (flat_list 0 items) (numbered-flat_list 0 0 items (subst (λ (n : ℕ). IsNumberedFrom n items) first numbered))))
 
 -- each module has a position
 pub length-positions_from : (before : ℕ) (ts : List Entry) → length (positions_from before ts) ≡ modules_of ts

@@ -16,6 +16,7 @@ use Rattle.pam_dispatch.specs.declared.state.Impression.TheVariants.{Negative}
 use Rattle.pam_dispatch.specs.declared.state.State.{State}
 use Rattle.pam_dispatch.specs.declared.step.Outcome.{Outcome}
 use Rattle.pam_dispatch.specs.Flat.{IsNumbered, IsPlaceOf, controls_in, modules_of, resume, rest_of}
+use Rattle.pam_dispatch.specs.Laws.{AnswerCodes, SettledAsks, SettledEnds}
 use Rattle.pam_dispatch.specs.Runs.{Ask, Assignment, Runs, ends, asks, asked_by, asked_module, final_state, outcome_of, state_in}
 use Rattle.pam_dispatch.specs.State.{act, action_of, left_of, start_state, state_with}
 use Rattle.pam_dispatch.specs.Tail.{IsSettled, KeepFailure, keeps_failure, unchanged}
@@ -133,26 +134,37 @@ settled-end first (asks ask next) e = absurd (let x : ⊥ = cc in x)
 
 -- ---- the runs of a settled run
 
-pub settled-asks : (first count : ℕ) (s : State) (runs : Runs) (answers : Assignment) → IsSettled first count s runs →
-    ((number : ℕ) → answers number < 31) → map (λ (ask : Ask). ask.module_number) (asked_by runs answers) ≡ range_with_len first count
+-- the first of these modules answers with a code, and so do the others
+code_asked : (first count : ℕ) (ask : Ask) (answers : Assignment) → 0 < count → ask.module_number ≡ first → AnswerCodes first count answers →
+    answers ask.module_number < 31
+code_asked first count ask answers some is codes = codes ask.module_number (omega (arith, is)) (omega (arith, is, some))
+
+codes_left : (first count : ℕ) (answers : Assignment) → AnswerCodes first count answers → AnswerCodes (first + 1) (count - 1) answers
+codes_left first count answers codes number low high = codes number (omega (arith, low)) (omega (arith, high))
+
+pub settled-asks : SettledAsks
 unfolding IsSettled asked_by
-settled-asks first count s (ends t) answers h are_codes = ap (range_with_len first) (sym h.0)
-settled-asks first zero s (asks ask next) answers h are_codes = absurd (omega (arith, h.0))
-settled-asks first (suc count) s (asks ask next) answers h are_codes =
+settled-asks first count s (ends t) answers h codes = ap (range_with_len first) (sym h.0)
+settled-asks first zero s (asks ask next) answers h codes = absurd (omega (arith, h.0))
+settled-asks first (suc count) s (asks ask next) answers h codes =
     let fewer : suc count - 1 ≡ count = omega arith in
     let again : IsSettled (first + 1) count s (next (unchanged ask s)) = rw fewer at h.3 in
-    let same : outcome_of ask (answers ask.module_number) ≡ unchanged ask s = h.2 (answers ask.module_number) (are_codes ask.module_number) in
+    let others : AnswerCodes (first + 1) count answers =
+    subst (λ (n : ℕ). AnswerCodes (first + 1) n answers) fewer (codes_left first (suc count) answers codes) in
+    let same : outcome_of ask (answers ask.module_number) ≡ unchanged ask s =
+    h.2 (answers ask.module_number) (code_asked first (suc count) ask answers h.0 h.1 codes) in
     ap (λ (o : Outcome). ask.module_number ∷ map (λ (a : Ask). a.module_number) (asked_by (next o) answers)) same
-    ∙ ap (λ (l : List ℕ). ask.module_number ∷ l) (settled-asks (first + 1) count s (next (unchanged ask s)) answers again are_codes)
+    ∙ ap (λ (l : List ℕ). ask.module_number ∷ l) (settled-asks (first + 1) count s (next (unchanged ask s)) answers again others)
     ∙ ap (λ (n : ℕ). n ∷ range_with_len (first + 1) count) h.1
 
-pub settled-ends : (first count : ℕ) (s : State) (runs : Runs) (answers : Assignment) → IsSettled first count s runs →
-    ((number : ℕ) → answers number < 31) → final_state runs answers ≡ s
+pub settled-ends : SettledEnds
 unfolding IsSettled final_state
-settled-ends first count s (ends t) answers h are_codes = h.1
-settled-ends first count s (asks ask next) answers h are_codes =
-    let same : outcome_of ask (answers ask.module_number) ≡ unchanged ask s = h.2 (answers ask.module_number) (are_codes ask.module_number) in
-    ap (λ (o : Outcome). final_state (next o) answers) same ∙ settled-ends (first + 1) (count - 1) s (next (unchanged ask s)) answers h.3 are_codes
+settled-ends first count s (ends t) answers h codes = h.1
+settled-ends first count s (asks ask next) answers h codes =
+    let same : outcome_of ask (answers ask.module_number) ≡ unchanged ask s =
+    h.2 (answers ask.module_number) (code_asked first count ask answers h.0 h.1 codes) in
+    ap (λ (o : Outcome). final_state (next o) answers) same
+    ∙ settled-ends (first + 1) (count - 1) s (next (unchanged ask s)) answers h.3 (codes_left first count answers codes)
 
 pub none-asked : (o : Option ℕ) → is_some o ≡ false → o ≡ None
 none-asked None e = refl

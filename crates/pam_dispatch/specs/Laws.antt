@@ -1,10 +1,10 @@
 -- Laws of runs and of open runs, in the words of pam.conf(5), DESCRIPTION.
-use Rattle.std.specs.Prelude.{◌≡◌, ◌<◌, ◌≤◌, ◌⊎◌, ℕ, false, IsTrue, [], ◌∷◌, ◌++◌, map}
+use Rattle.std.specs.Prelude.{◌≡◌, ◌+◌, ◌<◌, ◌≤◌, ◌⊎◌, ℕ, false, IsTrue, [], ◌∷◌, ◌++◌, map}
 use Rattle.std.specs.List.{range_with_len}
 use Rattle.pam_codes.specs.declared.code.TheConstants.{CODES}
-use Rattle.pam_conf.specs.Stack.{Items, End, ThenModule, ThenSub, ModuleText, SubText}
+use Rattle.pam_conf.specs.Stack.{Items, End, ThenModule, ThenSub, IsNumbered, ModuleText, SubText, module_count}
 use Rattle.pam_dispatch.specs.declared.state.State.{State}
-use Rattle.pam_dispatch.specs.Runs.{Ask, Assignment, Runs, outcome_of, final_state, asked_by}
+use Rattle.pam_dispatch.specs.Runs.{Ask, AsksRise, Assignment, Runs, outcome_of, final_state, asked_by}
 use Rattle.pam_dispatch.specs.Decision.{decision_of}
 use Rattle.pam_dispatch.specs.State.{action_of, start_state}
 use Rattle.pam_dispatch.specs.Alike.{IsDenial, looks_at_code, retold}
@@ -67,6 +67,10 @@ OpenRunDecides =
     (items : Items) (answers : Assignment) →
     decision_of (final_state (runs_of_stack items) answers) ≡ decided items answers
 
+-- if the modules of a stack are numbered from the left, a run asks them in the order of their numbers, none of them twice
+abbrev pub StackAsksRise : Type 0
+StackAsksRise = (items : Items) → IsNumbered items → AsksRise 0 (module_count items) (runs_of_stack items)
+
 -- if two codes have one action, the outcome of the first determines that of the second
 abbrev pub OutcomeIsRetold : Type 0
 OutcomeIsRetold =
@@ -87,13 +91,17 @@ OutcomesDiffer =
     outcome_of ask one ≡ outcome_of ask other →
     (one ≡ other) ⊎ (IsDenial (action_of ask.control one) one × IsDenial (action_of ask.control other) other)
 
+-- the `count` modules from the module `first` on answer with codes
+abbrev pub AnswerCodes : ℕ → ℕ → Assignment → Type 0
+AnswerCodes first count answers = (number : ℕ) → first ≤ number → number < first + count → answers number < CODES
+
 -- whatever the modules of a settled run answer, they are asked in order, and the run ends in its state
 abbrev pub SettledAsks : Type 0
 SettledAsks =
-    (first count : ℕ) (s : State) (runs : Runs) (answers : Assignment) → IsSettled first count s runs →
-    ((number : ℕ) → answers number < CODES) → map (λ ask. ask.module_number) (asked_by runs answers) ≡ range_with_len first count
+    (first count : ℕ) (s : State) (runs : Runs) (answers : Assignment) → IsSettled first count s runs → AnswerCodes first count answers →
+    map (λ ask. ask.module_number) (asked_by runs answers) ≡ range_with_len first count
 
 abbrev pub SettledEnds : Type 0
 SettledEnds =
-    (first count : ℕ) (s : State) (runs : Runs) (answers : Assignment) → IsSettled first count s runs →
-    ((number : ℕ) → answers number < CODES) → final_state runs answers ≡ s
+    (first count : ℕ) (s : State) (runs : Runs) (answers : Assignment) → IsSettled first count s runs → AnswerCodes first count answers →
+    final_state runs answers ≡ s

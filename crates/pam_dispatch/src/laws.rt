@@ -2,7 +2,7 @@
 
 ghost use Rattle.pam_dispatch.specs.Laws.{RunOfModule, RunOfNothing, RunOfSubstack, AskedOfModule, AskedOfNothing, AskedOfSubstack};
 ghost use Rattle.pam_dispatch.specs.Laws.{LastItemsCount, LeftFits, OpenRunAsks, OpenRunDecides, OpenRunEnds};
-ghost use Rattle.pam_dispatch.specs.Laws.{OutcomeIsRetold, OutcomeIsShared, OutcomesDiffer, SettledAsks, SettledEnds};
+ghost use Rattle.pam_dispatch.specs.Laws.{OutcomeIsRetold, OutcomeIsShared, OutcomesDiffer, SettledAsks, SettledEnds, StackAsksRise};
 
 /// The run of a list of items: empty, or beginning with a substack or a module.
 pub fn run_of_items()
@@ -29,6 +29,11 @@ pub fn open_run()
     ensures ends { OpenRunEnds }
     ensures asks { OpenRunAsks }
     ensures decides { OpenRunDecides }
+{}
+
+/// The run of a stack asks modules in the order of their numbers.
+pub fn rising_run()
+    ensures { StackAsksRise }
 {}
 
 /// The outcome of a code determines those of the other codes with its action.
