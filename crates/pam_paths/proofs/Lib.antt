@@ -2,6 +2,7 @@ pub mod Alike
 pub mod Alone
 pub mod Branches
 pub mod CodeDigits
+pub mod Counts
 pub mod CursorTexts
 pub mod Ends
 pub mod FrameLists

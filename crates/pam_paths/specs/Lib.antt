@@ -16,3 +16,4 @@ pub mod Retrace
 pub mod Sharing
 pub mod Steps
 pub mod Tail
+pub mod Work

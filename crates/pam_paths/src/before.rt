@@ -1,6 +1,6 @@
 //! The explorer of the paths before a cursor.
 
-ghost use Rattle.std.specs.Prelude.{◌≡◌, ◌+◌, ◌*◌, ◌≤◌, IfOk, MatchResult};
+ghost use Rattle.std.specs.Prelude.{◌≡◌, ◌+◌, ◌*◌, ◌≤◌, [], IfOk, MatchResult};
 ghost use Rattle.pam_conf.specs.Stack.{Items};
 ghost use Rattle.pam_dispatch.specs.Flat.{modules_of, runs_of};
 ghost use Rattle.pam_dispatch.specs.Tree.{runs_of_stack};
@@ -37,6 +37,7 @@ impl<'a, K: Knowledge> Explorer<'a, K> {
             (IsRefusal (modules_of program.now) (path_through items) cursor.now) }
         ensures stack { (items : Items) → runs_of program.now ≡ runs_of_stack items
             → IfOk result (λ b. IsListingBefore (K.allows knowledge.now) (modules_of program.now) (path_through items) cursor.now b.coming) }
+        ensures path { IfOk result (λ b. b.path.steps ≡ []) }
         ensures modules { IfOk result (λ b. b.modules ≡ modules_of program.now) }
         ensures work { IfOk result (λ b. b.work ≤ 64 * (modules_of program.now + 1)) }
     {

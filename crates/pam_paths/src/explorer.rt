@@ -15,6 +15,7 @@ ghost use Rattle.pam_paths.specs.Frames.{AreFirstSteps, AreFrames, IsExploring, 
 ghost use Rattle.pam_paths.specs.Kept.{AreKept};
 ghost use Rattle.pam_paths.specs.Listing.{IsListing, IsListingAfter};
 ghost use Rattle.pam_paths.specs.Paths.{path_of, path_through};
+ghost use Rattle.pam_paths.specs.Work.{CountsOn};
 
 use crate::cursor::{Cursor, CursorError};
 use crate::direction::Direction;
@@ -51,6 +52,7 @@ pub struct Explorer<'a, K: Knowledge> {
 }
 
 impl<'a, K: Knowledge> Model for Explorer<'a, K> {
+    ghost use Rattle.std.specs.Prelude.{◌-◌, ◌≤◌, ◌^◌};
     ghost use Rattle.pam_dispatch.specs.Flat.{modules_of};
     ghost use Rattle.pam_paths.specs.Exploration.{Exploration};
     ghost use Rattle.pam_paths.specs.Frames.{AreFirstSteps, IsExploring, coming};
@@ -66,7 +68,8 @@ impl<'a, K: Knowledge> Model for Explorer<'a, K> {
     } };
 
     ghost invariant = { λ e. IsExploring (K.allows e.knowledge.now) e.program.now e.at_start e.frames.items
-        × AreFirstSteps e.frames.items e.path.steps × AreKept (K.allows e.knowledge.now) e.program.now e.kept.modules };
+        × AreFirstSteps e.frames.items e.path.steps × AreKept (K.allows e.knowledge.now) e.program.now e.kept.modules
+        × (e.work ≤ 2 ^ 64 - 1) };
 }
 
 /// Makes `place` the place from which the next path continues, after the steps of `frames`; `None` if no path is left.
@@ -90,6 +93,7 @@ fn go_on<K: Knowledge>(
         ≡ under frames.new.items (ordered direction (listing (K.allows knowledge.now) (rest_of program.now place.new)))
         ++ ahead direction (K.allows knowledge.now) program.now frames.new.items) }
     ensures work { work.new ≤ work.old + modules_of program.now }
+    ensures grows { CountsOn work.old work.new }
 {
     if at_start {
         *place = program.first();
@@ -133,8 +137,10 @@ fn follow<K: Knowledge>(
     ensures stays { IfNone result (coming direction (K.allows knowledge.now) program.now false frames.new.items ≡ []) }
     ensures path { IfSome result (λ _. coming direction (K.allows knowledge.now) program.now at_start frames.old.items
         ≡ path.new ∷ coming direction (K.allows knowledge.now) program.now false frames.new.items) }
+    ensures no_steps { IfNone result (path.new.steps ≡ []) }
     ensures shared { IfSome result (λ shared. take shared path.new.steps ≡ take shared path.old.steps) }
     ensures work { work.new ≤ work.old + 64 * (modules_of program.now + 1) }
+    ensures grows { CountsOn work.old work.new }
 {
     let Some(()) = go_on(program, knowledge, direction, at_start, frames, place, work) else {
         path.steps.truncate(0);
@@ -182,6 +188,7 @@ impl<'a, K: Knowledge> Explorer<'a, K> {
         // The same for the tree of the program's stack.
         ensures stack { (items : Items) → runs_of program.now ≡ runs_of_stack items
             → IsListing (K.allows knowledge.now) (modules_of program.now) (path_through items) result.coming }
+        ensures path { result.path.steps ≡ [] }
         ensures modules { result.modules ≡ modules_of program.now }
         ensures work { result.work ≡ 0 }
     {
@@ -223,6 +230,7 @@ impl<'a, K: Knowledge> Explorer<'a, K> {
             (IsRefusal (modules_of program.now) (path_through items) cursor.now) }
         ensures stack { (items : Items) → runs_of program.now ≡ runs_of_stack items
             → IfOk result (λ e. IsListingAfter (K.allows knowledge.now) (modules_of program.now) (path_through items) cursor.now e.coming) }
+        ensures path { IfOk result (λ e. e.path.steps ≡ []) }
         ensures modules { IfOk result (λ e. e.modules ≡ modules_of program.now) }
         ensures work { IfOk result (λ e. e.work ≤ 64 * (modules_of program.now + 1)) }
     {
@@ -250,6 +258,7 @@ impl<'a, K: Knowledge> Explorer<'a, K> {
             (IsRefusal (modules_of program.now) (path_through items) cursor.now) }
         ensures stack { (items : Items) → runs_of program.now ≡ runs_of_stack items → IfOk result (λ e.
             IsListingFrom direction (K.allows knowledge.now) (modules_of program.now) (path_through items) cursor.now e.coming) }
+        ensures path { IfOk result (λ e. e.path.steps ≡ []) }
         ensures modules { IfOk result (λ e. e.modules ≡ modules_of program.now) }
         ensures work { IfOk result (λ e. e.work ≤ 64 * (modules_of program.now + 1)) }
     {
@@ -276,9 +285,11 @@ impl<'a, K: Knowledge> Explorer<'a, K> {
     /// it shares with the path followed before; `None` if no path is left.
     pub fn follow(&mut self) -> Option<usize>
         ensures path { MatchOption result ((self.old.coming ≡ []) × (self.new.coming ≡ [])) (λ _. self.old.coming ≡ self.new.path ∷ self.new.coming) }
+        ensures no_steps { IfNone result (self.new.path.steps ≡ []) }
         ensures shared { IfSome result (λ shared. take shared self.new.path.steps ≡ take shared self.old.path.steps) }
         ensures modules { self.new.modules ≡ self.old.modules }
         ensures work { self.new.work ≤ self.old.work + 64 * (self.old.modules + 1) }
+        ensures grows { self.old.work ≤ self.new.work }
     {
         let at_start = self.at_start;
         self.at_start = false;
@@ -313,7 +324,7 @@ impl<'a, K: Knowledge> Explorer<'a, K> {
 
 impl<'a, K: Knowledge> Iterator for Explorer<'a, K> {
     ghost use Rattle.std.specs.Iterator.{MakesProgress, YieldsFirst, item_count};
-    ghost use Rattle.std.specs.Prelude.{◌≡◌, ◌+◌, ◌*◌, ◌≤◌};
+    ghost use Rattle.std.specs.Prelude.{◌≡◌, ◌+◌, ◌*◌, ◌≤◌, [], MatchOption};
 
     type Item = Path;
 
@@ -326,8 +337,10 @@ impl<'a, K: Knowledge> Iterator for Explorer<'a, K> {
     fn next(&mut self) -> Option<Path>
         ensures first { YieldsFirst (λ e. e.coming) self.old result self.new }
         ensures goes { MakesProgress (λ e. Unit {0}) (item_count (λ e. e.coming)) self.old result self.new }
+        ensures path { MatchOption result (self.new.path.steps ≡ []) (λ path. path ≡ self.new.path) }
         ensures modules { self.new.modules ≡ self.old.modules }
         ensures work { self.new.work ≤ self.old.work + 64 * (self.old.modules + 1) }
+        ensures grows { self.old.work ≤ self.new.work }
     {
         match self.follow() {
             Some(_) => Some(self.path.copied()),

@@ -14,6 +14,7 @@ ghost use Rattle.pam_paths.specs.Kept.{AreKept};
 ghost use Rattle.pam_paths.specs.Listing.{Allowance};
 ghost use Rattle.pam_paths.specs.Steps.{step_seen};
 ghost use Rattle.pam_paths.specs.Tail.{AreAlike, EndAlike};
+ghost use Rattle.pam_paths.specs.Work.{CountsOn};
 
 use crate::classes::Classes;
 use crate::direction::Direction;
@@ -106,6 +107,7 @@ impl Frame {
         ensures class { result.class ≡ class_of (next_ask (rest_of program.now self.now.place)) code }
         ensures rest { rest_of program.now place.new ≡ after_answer (rest_of program.now self.now.place) code }
         ensures work { work.new ≤ work.old + 1 }
+        ensures grows { CountsOn work.old work.new }
     {
         *place = self.place;
         program.step_on(place, code, work);
@@ -143,6 +145,7 @@ impl Frame {
             (ordered direction (listing allows (rest_of program.now place.new)))
             ++ ahead_of direction allows (rest_of program.now self.now.place) (past direction b.code)) }
         ensures work { work.new ≤ work.old + 1 }
+        ensures grows { CountsOn work.old work.new }
     {
         match direction.first(self.classes.offered, bound) {
             Some(code) => Some(self.branch(program, code, place, work)),
@@ -216,6 +219,7 @@ pub(crate) fn advance<K: Knowledge>(
         ≡ under frames.new.items (ordered direction (listing (K.allows knowledge.now) (rest_of program.now place.new)))
         ++ ahead direction (K.allows knowledge.now) program.now frames.new.items) }
     ensures work { work.new ≤ work.old + length frames.old.items }
+    ensures grows { CountsOn work.old work.new }
 {
     while !frames.is_empty() {
         let last = frames.len() - 1;
@@ -253,6 +257,7 @@ pub(crate) fn descend<K: Knowledge>(
     ensures within { length frames.new.items + result.modules ≤ modules_of program.now }
     ensures earlier { take (length frames.old.items) frames.new.items ≡ frames.old.items }
     ensures work { work.new + length frames.old.items ≤ work.old + length frames.new.items }
+    ensures grows { CountsOn work.old work.new }
 {
     loop {
         if let Some(rest) = program.settled(place) {

@@ -29,9 +29,11 @@ pub fn cursor_text_is_one()
 {}
 
 /// A list of codes is a cursor of a stack, or is refused as a cursor, in exactly one of four ways.
-pub fn verdict()
+pub fn standing()
     ensures { OneVerdict }
 {}
+
+pub use self::standing as verdict;
 
 /// The pages of a listing, each begun at the cursor of the one before, are a prefix of it, and all of it if the last
 /// page says `end`.

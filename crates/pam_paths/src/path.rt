@@ -17,7 +17,13 @@ pub struct PathStep {
     pub(crate) class: CodeSet,
 }
 
+/// The step of no module: its number is 0, and no code is in its class.
 impl Default for PathStep {
+    ghost use Rattle.std.specs.Prelude.{◌≡◌, []};
+    ghost use Rattle.pam_paths.specs.Steps.{step_seen};
+
+    ghost is_default = { λ s. step_seen s ≡ record { module_number = 0; class = [] } };
+
     fn default() -> PathStep {
         PathStep {
             number: 0,

@@ -4,6 +4,7 @@ use Rattle.pam_dispatch.specs.Flat.{modules_of}
 use Rattle.pam_paths.specs.Frames.{AreFirstSteps, ahead, coming, step_in}
 use Rattle.pam_paths.specs.Paths.{PathValue}
 use Rattle.pam_paths.specs.Steps.{step_seen}
+use Rattle.pam_paths.proofs.Counts.{counts-then}
 use Rattle.pam_paths.proofs.FrameLists.{AreFrames-length}
 use Rattle.pam_paths.proofs.Tails.{end-alike, end-none, first-path, first-steps, steps-told, tail-room, told-alike}
 use Rattle.pam_paths.proofs.Fronts.{shared_steps}
@@ -77,6 +78,9 @@ returns-clause-shared g c =
     ap (take c.shared_count-shared.result) c.retell.ensures
     ∙ take-append-le c.shared_count-shared.result own (map step_seen c.last-tail.result.now) inside ∙ sym (same g told)
     ∙ ap (λ (p : PathValue). take c.shared_count-shared.result p.steps) c.path.view_is
+
+pub returns-clause-grows : goal.returns-clause-grows
+returns-clause-grows g c = counts-then _ _ _ c.go_on.ensures.grows c.descend-rest.ensures.grows
 
 pub returns-clause-work : goal.returns-clause-work
 returns-clause-work g c =

@@ -8,6 +8,7 @@ use Rattle.pam_paths.specs.Computed.{listing}
 use Rattle.pam_paths.specs.Directions.{ordered}
 use Rattle.pam_paths.specs.Followed.{followed}
 use Rattle.pam_paths.specs.Frames.{ahead, ahead_of, under, AreFrames}
+use Rattle.pam_paths.proofs.Counts.{counts-then}
 use Rattle.pam_paths.proofs.FrameLists.{ahead-next, ahead-none, branch_followed, frame_after}
 use Rattle.pam_paths.proofs.Fronts.{front_changed, front_popped}
 use Rattle.pam_paths.proofs.LastFrames.{LastFrame, followed_last, last_frame}
@@ -68,6 +69,7 @@ returns-in-Some g c =
           (ap (λ (x : Place). rest_of program x) (sym k.place)) k.number refl refl (of.paths allows k.was.is.offered))
           ∙ ap (λ (x : List Frame). under x below ++ ahead d allows program x) (sym k.is);
       work = omega (arith, i.work, c.branch_ahead.ensures.work, count, some);
+      grows = counts-then _ _ _ i.grows c.branch_ahead.ensures.grows;
     }
 
 pub loop-direction-smaller : goal.loop-direction-smaller
@@ -98,6 +100,7 @@ loop-direction-preserved g c =
           (ap (ahead_of d allows (rest_of program f.place)) (sym c.past-bound.ensures.value) ∙ c.in_default.ensures.none allows k.is.offered)
           ∙ ap (λ (x : List Frame). ahead d allows program x) (sym rest);
       work = omega (arith, i.work, c.branch_ahead.ensures.work, c.truncate.ensures.len, c.len-last.ensures.value, some);
+      grows = counts-then _ _ _ i.grows c.branch_ahead.ensures.grows;
     }
 
 pub returns-clause-none : goal.returns-clause-none

@@ -1,5 +1,6 @@
 use Rattle.std.proofs.Common.{◌≡◌, ◌+◌, ◌≤◌, length, take}
 use Rattle.pam_paths.specs.Frames.{ahead, AreFrames}
+use Rattle.pam_paths.specs.Work.{CountsOn}
 use Rattle.pam_paths.proofs.frames.advance.Given as goal
 
 abbrev pub invariant-loop-direction : goal.invariant-loop-direction
@@ -10,6 +11,7 @@ invariant-loop-direction g l =
       earlier : take (length l.frames.items) l.initial.frames.items ≡ l.frames.items;
       same : ahead l.direction allows l.program l.initial.frames.items ≡ ahead l.direction allows l.program l.frames.items;
       work : l.work + length l.frames.items ≤ l.initial.work + length l.initial.frames.items;
+      grows : CountsOn l.initial.work l.work;
     }
 
 abbrev pub decreases-loop-direction : goal.decreases-loop-direction

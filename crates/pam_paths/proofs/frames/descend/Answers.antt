@@ -8,6 +8,7 @@ use Rattle.pam_paths.specs.declared.frames.Frame.{Frame}
 use Rattle.pam_paths.specs.Computed.{listing}
 use Rattle.pam_paths.specs.Directions.{ordered}
 use Rattle.pam_paths.specs.Frames.{ahead, ahead_of, under, AreFrames, IsFrame}
+use Rattle.pam_paths.proofs.Counts.{counts-then}
 use Rattle.pam_paths.proofs.FrameLists.{AreFrames-length, ahead-enter, branch_followed, frame_after, frame_number, frame_same}
 use Rattle.pam_paths.proofs.FrameLists.{listing-ahead, ordered-some, pushed, rise_after}
 use Rattle.pam_paths.proofs.Fronts.{front_pushed}
@@ -102,6 +103,7 @@ loop-rest-preserved g c =
           ∙ ap (λ (x : List Frame). under x below ++ ahead d allows program x) (sym c.push.ensures.items);
       kept = c.at-classes.ensures.kept;
       work = omega (arith, c.push.ensures.len, c.branch_ahead.ensures.work, i.work);
+      grows = counts-then _ _ _ i.grows c.branch_ahead.ensures.grows;
     }
 
 pub branch_ahead-requires-clause-classes : goal.branch_ahead-requires-clause-classes

@@ -5,6 +5,7 @@ use Rattle.pam_paths.specs.Computed.{listing}
 use Rattle.pam_paths.specs.Directions.{ordered}
 use Rattle.pam_paths.specs.Frames.{ahead, under, AreFrames}
 use Rattle.pam_paths.specs.Kept.{AreKept}
+use Rattle.pam_paths.specs.Work.{CountsOn}
 use Rattle.pam_paths.proofs.frames.descend.Given as goal
 
 abbrev pub invariant-loop-rest : goal.invariant-loop-rest
@@ -20,6 +21,7 @@ invariant-loop-rest g l =
           ≡ under l.frames.items (ordered d (listing allows (rest_of l.program l.place))) ++ ahead d allows l.program l.frames.items;
       kept : AreKept allows l.program l.kept.modules;
       work : l.work + length l.initial.frames.items ≤ l.initial.work + length l.frames.items;
+      grows : CountsOn l.initial.work l.work;
     }
 
 abbrev pub decreases-loop-rest : goal.decreases-loop-rest

@@ -18,6 +18,7 @@ invariant_of-result g c =
       },
       no-steps c.empty.result.steps c.new.result.items c.empty.ensures,
       c.new-2.ensures allows program,
+      omega arith,
     )
 
 pub returns-clause-listing : goal.returns-clause-listing
