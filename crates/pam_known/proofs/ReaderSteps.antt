@@ -22,14 +22,18 @@ pub reader_is : (named keyed any : Bool) → named ≡ true → keyed ≡ any �
 reader_is true keyed any e f = ap not f
 reader_is false keyed any e f = absurd (cc)
 
--- the time table that is read is the one that is given
-given_of : (b : Bool) (given : Option TimedText) (table : TimedText) → (if b then given else None) ≡ Some table → given ≡ Some table
+-- a table that is read is the one that is given
+given_of : {A : Type 0} (b : Bool) (given : Option A) (table : A) → (if b then given else None) ≡ Some table → given ≡ Some table
 given_of true given table e = e
 given_of false given table e = absurd (cc)
 
-pub read_is_given : (kind : Kind) (tables : TablesText) (m : ModuleText) (table : TimedText) → time_read kind tables m ≡ Some table → tables.time ≡ Some table
+pub access_is_given : (tables : TablesText) (m : ModuleText) (bytes : List ℕ) → access_read tables m ≡ Some bytes → tables.access ≡ Some bytes
+unfolding access_read
+access_is_given tables m bytes e = given_of _ tables.access bytes e
+
+pub time_is_given : (kind : Kind) (tables : TablesText) (m : ModuleText) (table : TimedText) → time_read kind tables m ≡ Some table → tables.time ≡ Some table
 unfolding time_read
-read_is_given kind tables m table e = given_of _ tables.time table e
+time_is_given kind tables m table e = given_of _ tables.time table e
 
 -- a line changes nothing if a table tells the code
 pub told_alone : (told : Option (Result ℕ KnownError)) (line : Option (List ℕ)) → is_some told ≡ true → codes_by told line ≡ codes_by told None

@@ -1,15 +1,21 @@
 -- For proofs alone: the sets of codes, while they are found module by module.
-use Rattle.std.specs.Prelude.{◌≡◌, ◌≢◌, ℕ, ◌<◌, ◌≤◌, List, [], Option, Some, None, Result, Ok, Err}
+use Rattle.std.specs.Prelude.{◌≡◌, ◌≢◌, ℕ, ◌<◌, ◌≤◌, List, [], Option, Some, None, IfSome, All, Result, Ok, Err}
 use Rattle.std.specs.Option.{option_map}
 use Rattle.pam_codes.specs.Set.{is_in, IsCodeSet}
 use Rattle.pam_conf.specs.Stack.{Items, ModuleText}
 use Rattle.pam_paths.specs.Known.{answers_by, set_for}
 use Rattle.pam_paths.specs.declared.knowledge.Known.{Known}
-use Rattle.pam_tables.specs.Login.{login_view}
+use Rattle.pam_tables.specs.Access.{access_answer, table_of}
+use Rattle.pam_tables.specs.Groups.{Group}
+use Rattle.pam_tables.specs.Login.{LoginText, login_view}
+use Rattle.pam_tables.specs.Options.{Options}
+use Rattle.pam_tables.specs.declared.error.Table.TheVariants.{Access}
 use Rattle.pam_known.specs.declared.error.KnownError.{KnownError}
-use Rattle.pam_known.specs.Answers.{IsFault, table_answer, time_told}
+use Rattle.pam_known.specs.Answers.{IsFault, access_code, read_as, result_map, table_answer, time_told}
 use Rattle.pam_known.specs.Knowledge.{codes_by, first_fault, numbers, told_at}
 use Rattle.pam_known.specs.Tables.{tables_view}
+use Rattle.pam_known.specs.declared.known.AccessCode.{AccessCode}
+use Rattle.pam_known.specs.declared.known.Kept.{Kept}
 use Rattle.pam_known.specs.declared.known.Lookup.{Lookup}
 
 -- the code that a table tells, if it tells one, or its fault, unless an allocation failed
@@ -26,10 +32,22 @@ told_of l m = table_answer l.kind (login_view l.login.now) (tables_view l.tables
 abbrev pub told_of_number : Lookup → Items → ℕ → Option (Result ℕ KnownError)
 told_of_number l items number = told_at l.kind (login_view l.login.now) (tables_view l.tables.now) l.groups items number
 
--- the kept code is what the time table tells
-abbrev pub IsKept : Lookup → Option ℕ → Type 0
-IsKept l None = Unit {0}
-IsKept l (Some code) = option_map (time_told (login_view l.login.now)) (tables_view l.tables.now).time ≡ Some (Ok code)
+-- the code that an access table tells, read under these options
+abbrev pub told_under : LoginText → List Group → Options → List ℕ → Result ℕ KnownError
+told_under login groups options bytes = result_map (λ table. access_code (access_answer table login groups)) (read_as Access (table_of options bytes))
+
+-- whether the time table tells this code
+abbrev pub IsTimeCode : Lookup → ℕ → Type 0
+IsTimeCode l code = option_map (time_told (login_view l.login.now)) (tables_view l.tables.now).time ≡ Some (Ok code)
+
+-- whether the access table tells this code under these options
+abbrev pub IsAccessCode : Lookup → Options → ℕ → Type 0
+IsAccessCode l options code = option_map (told_under (login_view l.login.now) l.groups options) (tables_view l.tables.now).access ≡ Some (Ok code)
+
+-- each kept code is what a table tells, that of the access table under the options that it is kept for
+pub record IsKept (l : Lookup) (kept : Kept) : Type 0 where
+  pub time : IfSome kept.by_time (IsTimeCode l)
+  pub access : All (λ (a : AccessCode). IsAccessCode l a.options a.code) kept.by_options.items
 
 -- a set allows exactly these codes
 unfoldable pub Lets : List ℕ → List ℕ → Type 0

@@ -4,8 +4,9 @@ ghost use Rattle.std.specs.Prelude.{◌≡◌, ◌≤◌, ◌==◌, nat_eq, not,
 ghost use Rattle.std.specs.List.{list_any, starts_with, suffix_len};
 ghost use Rattle.std.specs.Option.{option_map};
 ghost use Rattle.pam_conf.specs.ItemsOf.{module_text};
-ghost use Rattle.pam_known.specs.Answers.{TellsError, access_code, access_read, access_told, is_reader};
+ghost use Rattle.pam_known.specs.Answers.{TellsError, access_code, access_read, is_reader};
 ghost use Rattle.pam_known.specs.Answers.{name_of_path, time_code, time_read, time_told};
+ghost use Rattle.pam_known.specs.Sets.{told_under};
 ghost use Rattle.pam_known.specs.Tables.{tables_view, timed_view};
 ghost use Rattle.pam_tables.specs.Login.{login_view};
 ghost use Rattle.pam_text.specs.Gives.{Gives};
@@ -95,18 +96,17 @@ fn time_code(answer: TimeAnswer) -> Code
     }
 }
 
-/// Returns the code of a module that reads this access table, with these arguments.
-#[tactic(auto, unfolding(crate::specs::Answers::access_told))]
+/// Returns the code of a module that reads this access table, with these options.
 pub(crate) fn access_told(
     alloc: Global,
     login: &Login<'_>,
     groups: &Groups,
-    arguments: &Texts,
+    options: &AccessOptions<'_>,
     bytes: &[u8],
 ) -> Result<Code, KnownError>
-    ensures { Gives (λ e. TellsError e) (λ code. code) result (access_told (login_view login.now) groups.now arguments.now bytes.now) }
+    ensures { Gives (λ e. TellsError e) (λ code. code) result (told_under (login_view login.now) groups.now options.now bytes.now) }
 {
-    match AccessTable::read(alloc, bytes, &AccessOptions::of(arguments)) {
+    match AccessTable::read(alloc, bytes, options) {
         Ok(table) => Ok(access_code(table.decide(login, groups))),
         Err(error) => Err(KnownError::Table(error)),
     }

@@ -1,12 +1,12 @@
 //! The codes that the modules of a stack may return.
 
-ghost use Rattle.std.specs.Prelude.{◌≡◌, ◌≤◌, ℕ, Some, is_some};
+ghost use Rattle.std.specs.Prelude.{◌≡◌, ◌≤◌, ℕ, IfSome, Some, is_some};
 ghost use Rattle.std.specs.List.{list_any};
 ghost use Rattle.pam_conf.specs.ItemsOf.{module_text};
 ghost use Rattle.pam_conf.specs.Stack.{module_count};
-ghost use Rattle.pam_known.specs.Answers.{TellsError, name_of_path, time_told};
+ghost use Rattle.pam_known.specs.Answers.{TellsError, access_told, name_of_path, time_told};
 ghost use Rattle.pam_known.specs.Knowledge.{Knows, groups_read, knowledge, line_at, numbers, reads_access};
-ghost use Rattle.pam_known.specs.Sets.{Adds, IsKept, TellsAll, TellsIfAny, IsLineSet, IsTableSet, told_of, told_of_number};
+ghost use Rattle.pam_known.specs.Sets.{Adds, IsKept, TellsAll, TellsIfAny, IsAccessCode, IsLineSet, IsTableSet, told_of, told_of_number};
 ghost use Rattle.pam_known.specs.Tables.{tables_view, timed_view};
 ghost use Rattle.pam_paths.specs.Known.{set_for};
 ghost use Rattle.pam_tables.specs.Login.{login_view};
@@ -19,7 +19,8 @@ use crate::tables::{Tables, TimedTable};
 use pam_codes::{Code, CodeSet};
 use pam_conf::{Kind, Module, Stack};
 use pam_paths::Known;
-use pam_tables::{Groups, Login, ReturnTable};
+use pam_tables::{AccessOptions, Groups, Login, ReturnTable, Table, TableError, TableFault};
+use pam_text::Texts;
 use std::alloc::Global;
 
 /// Whether the module of a number reads the access table.
@@ -62,6 +63,21 @@ fn groups_read<'a>(
     }
 }
 
+/// The code that the access table tells under some options.
+#[derive(Drop)]
+struct AccessCode<'s> {
+    options: AccessOptions<'s>,
+    code: Code,
+}
+
+/// The codes that tables have told so far, so that a table is not asked the same question twice.
+#[derive(Drop)]
+struct Kept<'s> {
+    by_time: Option<Code>,
+    /// A code for each of the options under which the access table was read.
+    by_options: Vec<AccessCode<'s>>,
+}
+
 /// A login to a stack of a kind, with the tables and groups to look it up in.
 #[derive(Drop)]
 struct Lookup<'x, 'l, 't> {
@@ -72,47 +88,86 @@ struct Lookup<'x, 'l, 't> {
 }
 
 impl Lookup<'_, '_, '_> {
-    /// Returns the code that the time table tells. It is the same for all modules, so `by_time` keeps it.
+    /// Returns the code that the time table tells. It is the same for all modules, so it is kept.
     fn time_answer(
         &self,
         alloc: Global,
         table: &TimedTable<'_>,
-        by_time: &mut Option<Code>,
+        kept: &mut Kept<'_>,
     ) -> Result<Code, KnownError>
-        requires kept { IsKept self.now by_time.old }
+        requires kept { IsKept self.now kept.old }
         requires table { (tables_view self.now.tables.now).time ≡ Some (timed_view table.now) }
         ensures told { Gives (λ e. TellsError e) (λ code. code) result (time_told (login_view self.now.login.now) (timed_view table.now)) }
-        ensures kept { IsKept self.now by_time.new }
+        ensures kept { IsKept self.now kept.new }
     {
-        match *by_time {
+        match kept.by_time {
             Some(code) => Ok(code),
             None => {
                 let code = time_told(alloc, self.login, table)?;
-                *by_time = Some(code);
+                kept.by_time = Some(code);
                 Ok(code)
             }
         }
     }
 
-    /// Returns the code that a module returns because of its table, if it reads one. `by_time` is as for `time_answer`.
-    #[tactic(auto, unfolding(crate::specs::Answers::table_answer))]
-    fn answer_of(
+    /// Returns the code that is kept for these options.
+    fn kept_access(&self, options: &AccessOptions<'_>, kept: &Kept<'_>) -> Option<Code>
+        requires { IsKept self.now kept.now }
+        ensures { IfSome result (λ code. IsAccessCode self.now options.now code) }
+    {
+        for access in &kept.by_options {
+            if access.options.is_same(options) {
+                return Some(access.code);
+            }
+        }
+        None
+    }
+
+    /// Returns the code that the access table tells. It is the same for equal options, so it is kept for them.
+    #[tactic(auto, unfolding(crate::specs::Answers::access_told))]
+    fn access_answer<'s>(
         &self,
         alloc: Global,
-        module: &Module,
-        by_time: &mut Option<Code>,
+        bytes: &[u8],
+        arguments: &'s Texts,
+        kept: &mut Kept<'s>,
+    ) -> Result<Code, KnownError>
+        requires kept { IsKept self.now kept.old }
+        requires table { (tables_view self.now.tables.now).access ≡ Some bytes.now }
+        ensures told { Gives (λ e. TellsError e) (λ code. code) result
+            (access_told (login_view self.now.login.now) self.now.groups arguments.now bytes.now) }
+        ensures kept { IsKept self.now kept.new }
+    {
+        let options = AccessOptions::of(arguments);
+        if let Some(code) = self.kept_access(&options, kept) {
+            return Ok(code);
+        }
+        let code = access_told(alloc, self.login, &self.groups, &options, bytes)?;
+        match kept.by_options.push(AccessCode { options, code }) {
+            Ok(()) => Ok(code),
+            Err(_) => Err(KnownError::Table(TableError::new(Table::Access, TableFault::Memory, 0))),
+        }
+    }
+
+    /// Returns the code that a module returns because of its table, if it reads one.
+    #[tactic(auto, unfolding(crate::specs::Answers::table_answer))]
+    fn answer_of<'s>(
+        &self,
+        alloc: Global,
+        module: &'s Module,
+        kept: &mut Kept<'s>,
     ) -> Result<Option<Code>, KnownError>
-        requires { IsKept self.now by_time.old }
+        requires { IsKept self.now kept.old }
         ensures told { TellsIfAny result (told_of self.now (module_text «module».now)) }
-        ensures kept { IsKept self.now by_time.new }
+        ensures kept { IsKept self.now kept.new }
     {
         if let Some(bytes) = access_read(self.tables, module) {
-            let code = access_told(alloc, self.login, &self.groups, &module.arguments, bytes)?;
+            let code = self.access_answer(alloc, bytes, &module.arguments, kept)?;
             return Ok(Some(code));
         }
         match time_read(self.kind, self.tables, module) {
             Some(table) => {
-                let code = self.time_answer(alloc, table, by_time)?;
+                let code = self.time_answer(alloc, table, kept)?;
                 Ok(Some(code))
             }
             None => Ok(None),
@@ -120,19 +175,19 @@ impl Lookup<'_, '_, '_> {
     }
 
     /// Like `answer_of`, for the module of a number.
-    fn answer_at(
+    fn answer_at<'s>(
         &self,
         alloc: Global,
-        stack: &Stack,
+        stack: &'s Stack,
         number: usize,
-        by_time: &mut Option<Code>,
+        kept: &mut Kept<'s>,
     ) -> Result<Option<Code>, KnownError>
-        requires { IsKept self.now by_time.old }
+        requires { IsKept self.now kept.old }
         ensures told { TellsIfAny result (told_of_number self.now stack.now number) }
-        ensures kept { IsKept self.now by_time.new }
+        ensures kept { IsKept self.now kept.new }
     {
         match stack.module(number) {
-            Some(module) => self.answer_of(alloc, module, by_time),
+            Some(module) => self.answer_of(alloc, module, kept),
             None => Ok(None),
         }
     }
@@ -142,9 +197,12 @@ impl Lookup<'_, '_, '_> {
         ensures { TellsAll (module_count stack.now) (told_of_number self.now stack.now) (numbers stack.now) result }
     {
         let mut known = Known::new();
-        let mut by_time = None;
+        let mut kept = Kept {
+            by_time: None,
+            by_options: Vec::new(alloc),
+        };
         for index in 0..stack.modules() {
-            if let Some(code) = self.answer_at(alloc, stack, index + 1, &mut by_time)? {
+            if let Some(code) = self.answer_at(alloc, stack, index + 1, &mut kept)? {
                 known.set(index + 1, CodeSet::single(code));
             }
         }

@@ -1,6 +1,6 @@
 //! The options of pam_access(8).
 
-ghost use Rattle.std.specs.Prelude.{◌≡◌, codes};
+ghost use Rattle.std.specs.Prelude.{◌≡◌, ◌↔◌, codes, true};
 ghost use Rattle.std.specs.List.{list_any};
 ghost use Rattle.std.specs.Option.{option_map};
 ghost use Rattle.std.specs.Str.{bytes_eq};
@@ -71,5 +71,14 @@ impl<'a> AccessOptions<'a> {
             list_separators: given(last_value(arguments, b"listsep="), b" \t,"),
             group_names: !has_argument(arguments, b"nodefgroup"),
         }
+    }
+
+    /// Whether these are the same options, byte by byte, so that a table has the same answers under both.
+    pub fn is_same(&self, other: &AccessOptions<'_>) -> bool
+        ensures { (result ≡ true) ↔ (self.now ≡ other.now) }
+    {
+        self.field_separators == other.field_separators
+            && self.list_separators == other.list_separators
+            && self.group_names == other.group_names
     }
 }

@@ -11,5 +11,5 @@ invariant-loop-index l = record {
   faults : first_fault (told_of_number l.self l.stack) (range_with_len (l.index + 1) (module_count l.stack - l.index))
       ≡ first_fault (told_of_number l.self l.stack) (numbers l.stack);
   sets : AreDone (module_count l.stack) IsUnset (IsTableSet (told_of_number l.self l.stack)) (set_for l.known) l.index;
-  kept : IsKept l.self l.by_time;
+  kept : IsKept l.self l.kept;
 }
