@@ -22,12 +22,20 @@ pub enum InputError {
 }
 
 impl From<AllocError> for InputError {
+    ghost use Rattle.pam_report.specs.declared.inputs.InputError.TheVariants.{Memory};
+
+    ghost from_gives = { λ _ e. e ≡ Memory };
+
     fn from(_: AllocError) -> InputError {
         InputError::Memory
     }
 }
 
 impl<T: Drop> From<AllocFailed<T>> for InputError {
+    ghost use Rattle.pam_report.specs.declared.inputs.InputError.TheVariants.{Memory};
+
+    ghost from_gives = { λ _ e. e ≡ Memory };
+
     fn from(_: AllocFailed<T>) -> InputError {
         InputError::Memory
     }
