@@ -4,7 +4,8 @@ The limit is one on its data, which is what it allocates.
 
 Under the least limits the system cannot start a program: it is ended by a signal, or the loader of shared libraries ends
 it with the status 127 (126 is the shell's own). From the first limit under which the program says anything itself, each
-run is refused memory, with the status 6 and a line that says so or no line, or gives its whole answer."""
+run is refused memory, with the status 6 and the line that is due there, or gives its whole answer. A run goes through its
+phases in the same order each time, so under a higher limit it never ends in an earlier one."""
 import resource
 
 import plain
@@ -12,33 +13,73 @@ from running import Answer, Difference, agrees, difference
 from worked import ACCESS, FOLDER, GROUP, MOMENT, RETURNS, STACK, TIME
 
 NOT_STARTED = (-9, -11, 126, 127)
-LINES = [b"", b"pamcheck: E17 Memory\n", b"pamcheck: TE11 Memory\n", b"pamcheck: U7 Memory\n"]
 PAGE = resource.getpagesize() // 1024
 MOST = 1 << 17
 WHOLE_IN_TURN = 6
 
+# What a run answers when memory is refused to it, phase by phase. A line of want of memory has the status 6.
+U7 = b"pamcheck: U7 Memory\n"
+E17 = b"pamcheck: E17 Memory\n"
+TE11 = b"pamcheck: TE11 Memory\n"
+# The line of another fault has no memory: its status alone is left.
+UNSAID = "unsaid"
+# The answer is whole. The standard library's `collect` moves a list that it has made into memory that just fits it, and
+# keeps the list where it is if that is refused. There are two: the words, and the service in lower case.
+KEPT = "kept"
+
+# The words are gathered, and their list fitted; standard output gets its buffer; `clap` reads the words.
+WORDS = [U7, KEPT, E17, U7]
+# The folder and the files are read, then the configuration.
+STACKS = WORDS + [E17]
+# The moment takes no memory, so there is no M3. The service is put into lower case, and fitted.
+LOGINS = STACKS + [KEPT]
+TABLES = LOGINS + [TE11]
+# The flat program, and the texts of a page; a cursor takes no memory.
+PAGES = LOGINS + [E17]
+TABLE_PAGES = TABLES + [E17]
+
 TREE = {"d": FOLDER, "stack": {"login": STACK}, "pam.conf": b"login auth required a.so x\n" * 40, "access": ACCESS,
         "group": GROUP, "time": TIME, "returns": RETURNS,
         "big": {"login": STACK + b"session required [success=ok default=bad] a.so [d e]\n" * 2000}}
-TABLES = ["--access", "access", "--group", "group", "--time", "time", "--returns", "returns", "--user", "alice",
-          "--at", MOMENT]
+ACCESS_TABLE = ["--access", "access", "--group", "group", "--user", "alice"]
+TIME_TABLE = ["--time", "time", "--at", MOMENT]
+RETURNS_FILE = ["--returns", "returns"]
+PATHS = ["paths", "login", "auth", "--dir", "stack"]
+ACCOUNT = ["paths", "login", "account", "--dir", "stack"]
 ASKED = [
-    ["show", "login", "auth", "--dir", "d"],
-    ["decide", "login", "auth", *["success"] * 3, "--dir", "stack"],
-    ["show", "login", "auth", "--conf", "pam.conf"],
-    ["paths", "login", "account", "--dir", "stack", *TABLES],
-    ["paths", "login", "auth", "--dir", "stack", *TABLES, "--after", "0.0.12"],
-    ["paths", "login", "auth", "--dir", "stack", "--before", "12.12", "--limit", "9"],
-    ["access", "login", "--access", "access", "--group", "group", "--user", "alice", "--rhost", "10.1.2.3", "listsep=,"],
-    ["time", "login", "--time", "time", "--user", "alice", "--tty", "tty1", "--at-unix", "1715400000", "--zone", "UTC0"],
-    ["show", "login", "auth", "--dir", "big"],
-    ["show", "ftp", "auth", "--conf", "pam.conf"],
-    ["show", "login", "auth", "--dir", "gone"],
-    ["paths", "login", "auth", "--dir", "stack", "--after", "3"],
-    ["show", "login", "atuh", "--dir", "d"],
-    ["time", "login", "--time", "time", "--user", "alice"],
-    ["show", "login"],
+    (["show", "login", "auth", "--dir", "d"], STACKS),
+    (["decide", "login", "auth", *["success"] * 3, "--dir", "stack"], STACKS),
+    (["show", "login", "auth", "--conf", "pam.conf"], STACKS),
+    (["show", "login", "auth", "--dir", "big"], STACKS),
+    ([*PATHS, "--after", "0.0"], PAGES),
+    ([*PATHS, "--before", "12.0", "--limit", "9"], PAGES),
+    # No module of this stack needs a table, so none is read.
+    ([*PATHS, *ACCESS_TABLE, *TIME_TABLE], PAGES),
+    ([*PATHS, *RETURNS_FILE], TABLE_PAGES),
+    ([*ACCOUNT, *ACCESS_TABLE], TABLE_PAGES),
+    ([*ACCOUNT, "--user", "alice", *TIME_TABLE], TABLE_PAGES),
+    ([*ACCOUNT, *ACCESS_TABLE, *TIME_TABLE, *RETURNS_FILE], TABLE_PAGES),
+    (["access", "login", *ACCESS_TABLE, "--rhost", "10.1.2.3", "nodefgroup"], TABLES),
+    (["time", "login", *TIME_TABLE, "--user", "alice", "--tty", "tty1"], TABLES),
+    (["time", "login", "--time", "time", "--user", "alice", "--at-unix", "1715400000",
+      "--zone", "CET-1CEST,M3.5.0,M10.5.0/3"], TABLES),
+    (["show", "login"], WORDS),
+    (["show", "login", "atuh", "--dir", "d"], [*WORDS, UNSAID]),
+    (["time", "login", "--time", "time", "--user", "alice"], [*WORDS, UNSAID]),
+    (["show", "login", "auth", "--dir", "gone"], [*STACKS, UNSAID]),
+    (["show", "ftp", "auth", "--conf", "pam.conf"], [*STACKS, UNSAID]),
+    (["time", "login", "--time", "time", "--user", "alice", "--at", "2024-05-06"], [*STACKS, UNSAID]),
+    (["access", "login", *ACCESS_TABLE, "listsep=,"], [*TABLES, UNSAID]),
+    ([*PATHS, "--after", "3"], [*PAGES, UNSAID]),
+    ([*ACCOUNT, *RETURNS_FILE, "--before", "x"], [*TABLE_PAGES, UNSAID]),
 ]
+
+
+def answer_of(phase, whole):
+    """What is answered when memory is refused in a phase."""
+    if phase == KEPT:
+        return whole
+    return Answer(b"", b"", whole.status) if phase == UNSAID else Answer(b"", phase, 6)
 
 
 def limited(program, words, kibibytes):
@@ -50,7 +91,7 @@ def first_start(program):
     """The least limit, in steps of a page, under which the program starts, and the statuses under those below it."""
     statuses = set()
     kibibytes = 0
-    while (status := limited(program, ASKED[0], kibibytes).status) in NOT_STARTED:
+    while (status := limited(program, ASKED[0][0], kibibytes).status) in NOT_STARTED:
         statuses.add(status)
         kibibytes += PAGE
         if kibibytes > MOST:
@@ -58,15 +99,29 @@ def first_start(program):
     return kibibytes, statuses
 
 
-def judge(words, whole, got, kibibytes):
-    """Whether an answer is whole; any other must be a refusal because memory ran out."""
-    if agrees(whole, got):
-        return True
-    refused = got.status == 6 and not got.stdout and got.stderr in LINES
-    without_line = whole.status > 1 and got == Answer(b"", b"", whole.status)
-    if not refused and not without_line:
-        raise Difference("under a limit of %d KiB\n%s" % (kibibytes, difference(words, TREE, whole, got)))
-    return False
+class Limits:
+    """One request under rising limits: the answers that may still come, a phase each."""
+
+    def __init__(self, words, phases):
+        self.words = words
+        self.whole = Answer(*plain.answer(words, TREE))
+        self.due = [answer_of(phase, self.whole) for phase in phases if phase != KEPT]
+
+    def judge(self, got, kibibytes):
+        """Whether an answer is whole; any other must be that of this phase or of a later one.
+
+        Where there is no memory for a line either, it is missing."""
+        due = self.due
+        if agrees(self.whole, got):
+            self.due = []
+            return True
+        while due and got not in (due[0], due[0]._replace(stderr=b"")):
+            due = due[1:]
+        if not due:
+            raise Difference("under a limit of %d KiB\n%s"
+                             % (kibibytes, difference(self.words, TREE, (self.due or [self.whole])[0], got)))
+        self.due = due
+        return False
 
 
 def refused(program):
@@ -74,15 +129,15 @@ def refused(program):
     program.hold(TREE)
     first, statuses = first_start(program)
     runs, enough = 0, first
-    for words in ASKED:
-        whole = Answer(*plain.answer(words, TREE))
+    for words, phases in ASKED:
+        limits = Limits(words, phases)
         kibibytes, in_turn = first, 0
         while in_turn < WHOLE_IN_TURN:
-            in_turn = in_turn + 1 if judge(words, whole, limited(program, words, kibibytes), kibibytes) else 0
+            in_turn = in_turn + 1 if limits.judge(limited(program, words, kibibytes), kibibytes) else 0
             runs += 1
             kibibytes += PAGE
             if kibibytes > MOST:
-                raise Difference("no whole answer under %d KiB\n%s" % (MOST, difference(words, TREE, whole, whole)))
+                raise Difference("no whole answer under %d KiB: %s" % (MOST, words))
         enough = max(enough, kibibytes - WHOLE_IN_TURN * PAGE)
     told = "from %d KiB, the least with which the program starts, to %d KiB, enough for each; below, the statuses are %s"
     return runs, told % (first, enough, " and ".join(map(str, sorted(statuses))))

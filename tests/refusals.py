@@ -1,5 +1,6 @@
 """Allocations refused one by one: the program with the first one refused, then with the second one, and so on until a run
-meets no refusal; then again with all later ones refused too.
+meets no refusal; then again with all later ones refused too. The phases of a request, each with the answer that is due
+in it, must come in their order, none left out; `tests/memory.py` has them.
 
 A library that is loaded before that of C takes the place of its allocator. It needs a C compiler; without one, what
 `tests/memory.py` does is left."""
@@ -8,7 +9,7 @@ import shutil
 import subprocess
 
 import plain
-from memory import ASKED, LINES, TREE
+from memory import ASKED, TREE, UNSAID, answer_of
 from running import Answer, Difference, agrees, difference
 
 COMPILER = "cc"
@@ -51,30 +52,46 @@ def library():
     return os.path.abspath("refusing.so") if built.returncode == 0 else None
 
 
-def judge(words, whole, got, number, later):
-    """An answer must be whole, or a refusal because memory ran out; its line may be missing where that was refused too."""
-    refusals = LINES if later or whole.status > 1 else LINES[1:]
-    refused = got.status == 6 and not got.stdout and got.stderr in refusals
-    without_line = whole.status > 1 and got == Answer(b"", b"", whole.status)
-    if not agrees(whole, got) and not refused and not without_line:
-        raise Difference("allocation %d refused%s\n%s"
-                         % (number, ", and the later ones" * later, difference(words, TREE, whole, got)))
+def answers(program, words, shared, later):
+    """What is answered with each allocation refused in turn, until a run meets no refusal; the last is that run's."""
+    found = []
+    while not found or os.path.exists("met"):
+        if found:
+            os.remove("met")
+        commands = 'REFUSED=%d LATER=%d LD_PRELOAD=%s exec "$@"' % (len(found) + 1, later, shared)
+        found.append(program.run_in_shell(commands, words))
+    return found
 
 
-def in_turn(program, words, shared, later):
+def due_in_turn(phases, whole, later):
+    """The answers that are due, phase by phase. Where all later allocations are refused too, no line has memory."""
+    if not later:
+        return [answer_of(phase, whole) for phase in phases] + [whole]
+    unsaid = [answer_of(UNSAID, whole)] if UNSAID in phases else []
+    return [Answer(b"", b"", 6), *unsaid, whole]
+
+
+def judge(words, due, found, later):
+    """Each answer must be that of the phase of the one before it, or of the next phase; none is left out."""
+    place = 0
+    for number, got in enumerate(found, 1):
+        if agrees(due[place], got):
+            continue
+        place += 1
+        if place == len(due) or number == 1 or not agrees(due[place], got):
+            raise Difference("allocation %d refused%s\n%s" % (number, ", and the later ones" * later,
+                                                             difference(words, TREE, due[min(place, len(due) - 1)], got)))
+    whole = due[-1]
+    if place < len(due) - 1 or sum(agrees(whole, got) for got in found) != sum(answer == whole for answer in due):
+        raise Difference("not one whole answer for each list that is kept\n%s" % difference(words, TREE, whole, found[-1]))
+
+
+def refused_in_turn(program, words, phases, shared, later):
     """How many allocations of a request were refused."""
     whole = Answer(*plain.answer(words, TREE))
-    number = 0
-    while True:
-        number += 1
-        commands = 'REFUSED=%d LATER=%d LD_PRELOAD=%s exec "$@"' % (number, later, shared)
-        got = program.run_in_shell(commands, words)
-        judge(words, whole, got, number, later)
-        if not os.path.exists("met"):
-            if not agrees(whole, got):
-                raise difference(words, TREE, whole, got)
-            return number - 1
-        os.remove("met")
+    found = answers(program, words, shared, later)
+    judge(words, due_in_turn(phases, whole, later), found, later)
+    return len(found) - 1
 
 
 def refused(program):
@@ -83,4 +100,5 @@ def refused(program):
     if shared is None:
         return 0, "there is no C compiler that builds the library, so no allocation was refused by itself"
     program.hold(TREE)
-    return sum(in_turn(program, words, shared, later) for words in ASKED if "big" not in words for later in (0, 1))
+    return sum(refused_in_turn(program, words, phases, shared, later)
+               for words, phases in ASKED if "big" not in words for later in (0, 1))
