@@ -44,17 +44,17 @@ rising : (files : Folder) (service : List ℕ) (kind : Kind) (items : Items) →
 rising files service kind items is = AsksRise-stack items (resolved_stack files service kind items is).0
 
 pub one_listing : ServiceHasOneListing
-one_listing files service kind login tables items allowed known =
+one_listing files service kind login tables items allowed stack codes =
     let n = module_count items in
     let allows = allows_codes allowed in
-    let some = some_assignment allows n (known_lawful kind login tables items allowed known.codes) in
+    let some = some_assignment allows n (known_lawful kind login tables items allowed codes) in
     let all = listing allows (runs_of_stack items) in
-    let is = on_tree allows items all (listing-is allows n (runs_of_stack items) (rising files service kind items known.stack) some.0 some.1) in
+    let is = on_tree allows items all (listing-is allows n (runs_of_stack items) (rising files service kind items stack) some.0 some.1) in
     (all, is, λ other h. one_listing_proof allows n (path_through items) other all h is)
 
 pub one_path : EveryAssignmentHasOnePath
-one_path files service kind login tables items allowed known paths is answers may =
-    let all = one_path_proof (allows_codes allowed) (module_count items) (runs_of_stack items) paths answers (rising files service kind items known.stack)
+one_path files service kind login tables items allowed stack codes paths answers is may =
+    let all = one_path_proof (allows_codes allowed) (module_count items) (runs_of_stack items) paths answers (rising files service kind items stack)
     (on_run (allows_codes allowed) items paths is) may in
     record {
       path = path_of (runs_of_stack items) answers;
@@ -65,9 +65,9 @@ one_path files service kind login tables items allowed known paths is answers ma
     }
 
 pub narrowed : ListingIsNarrowed
-narrowed files service kind login tables items allowed known paths all is_some is_all =
-    filter_proof (allows_codes allowed) (module_count items) (runs_of_stack items) paths all (rising files service kind items known.stack)
-    (known_lawful kind login tables items allowed known.codes) (on_run (allows_codes allowed) items paths is_some) (on_run anything items all is_all)
+narrowed files service kind login tables items allowed stack codes paths all is_some is_all =
+    filter_proof (allows_codes allowed) (module_count items) (runs_of_stack items) paths all (rising files service kind items stack)
+    (known_lawful kind login tables items allowed codes) (on_run (allows_codes allowed) items paths is_some) (on_run anything items all is_all)
 
 pub one_verdict : CursorHasOneVerdict
 one_verdict files service kind items codes is small =

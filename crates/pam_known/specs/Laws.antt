@@ -54,11 +54,12 @@ KnowledgeIsLawful =
 
 -- THE PATHS OF A SERVICE
 
--- the files give the service this stack, and the tables tell that its modules may return these codes
-pub record IsKnownStack (files : Folder) (service : List ℕ) (kind : Kind) (login : LoginText) (tables : TablesText) (items : Items)
-    (allowed : ℕ → List ℕ) : Type 0 where
-  pub stack : resolved files service kind ≡ Ok items
-  pub codes : knowledge kind login tables items ≡ Ok allowed
+-- a law of each service: if files give it a stack of items for a kind, and tables tell that the modules of this stack may
+-- return the codes `allowed`, then `Holds` of both
+abbrev pub OfEachService : (Items → (ℕ → List ℕ) → Type 0) → Type 0
+OfEachService Holds =
+    (files : Folder) (service : List ℕ) (kind : Kind) (login : LoginText) (tables : TablesText) (items : Items) (allowed : ℕ → List ℕ) →
+    resolved files service kind ≡ Ok items → knowledge kind login tables items ≡ Ok allowed → Holds items allowed
 
 -- each module returns one of the codes that it may return
 abbrev pub MayReturn : Items → (ℕ → List ℕ) → Assignment → Type 0
@@ -76,31 +77,27 @@ pub record AgreesWithOne (items : Items) (answers : Assignment) (paths : List Pa
   pub alone : (other : PathValue) → Member other paths → Agrees answers other → other ≡ path
   pub decides : path.decision ≡ decided items answers
 
--- a service with a known stack has exactly one listing
+-- there is exactly one listing
 abbrev pub ServiceHasOneListing : Type 0
 ServiceHasOneListing =
-    (files : Folder) (service : List ℕ) (kind : Kind) (login : LoginText) (tables : TablesText) (items : Items) (allowed : ℕ → List ℕ) →
-    IsKnownStack files service kind login tables items allowed →
-    (paths : List PathValue) × IsListingOf items allowed paths × ((other : List PathValue) → IsListingOf items allowed other → other ≡ paths)
+    OfEachService (λ items allowed.
+    (paths : List PathValue) × IsListingOf items allowed paths × ((other : List PathValue) → IsListingOf items allowed other → other ≡ paths))
 
 -- EVERY PATH: each assignment of codes that the modules may return agrees with exactly one path of the listing, and the
 -- decision there is that of the run with the assignment
 abbrev pub EveryAssignmentHasOnePath : Type 0
 EveryAssignmentHasOnePath =
-    (files : Folder) (service : List ℕ) (kind : Kind) (login : LoginText) (tables : TablesText) (items : Items) (allowed : ℕ → List ℕ) →
-    IsKnownStack files service kind login tables items allowed →
-    (paths : List PathValue) → IsListingOf items allowed paths →
-    (answers : Assignment) → MayReturn items allowed answers → AgreesWithOne items answers paths
+    OfEachService (λ items allowed.
+    (paths : List PathValue) (answers : Assignment) → IsListingOf items allowed paths → MayReturn items allowed answers → AgreesWithOne items answers paths)
 
 -- the listing is that of all codes, without the paths that the modules' codes cannot follow
 abbrev pub ListingIsNarrowed : Type 0
 ListingIsNarrowed =
-    (files : Folder) (service : List ℕ) (kind : Kind) (login : LoginText) (tables : TablesText) (items : Items) (allowed : ℕ → List ℕ) →
-    IsKnownStack files service kind login tables items allowed →
+    OfEachService (λ items allowed.
     (paths all : List PathValue) → IsListingOf items allowed paths → IsListing anything (module_count items) (path_through items) all →
-    paths ≡ filter (can_follow (allows_codes allowed)) all
+    paths ≡ filter (can_follow (allows_codes allowed)) all)
 
--- codes are a cursor of a service's stack, or are refused as a cursor, in exactly one way
+-- whatever tables tell, codes are a cursor of the service, or are refused as a cursor, in exactly one way
 abbrev pub CursorHasOneVerdict : Type 0
 CursorHasOneVerdict =
     (files : Folder) (service : List ℕ) (kind : Kind) (items : Items) (codes : List ℕ) →
