@@ -4,6 +4,7 @@ pub mod CodeTexts
 pub mod FlatTexts
 pub mod KeptTexts
 pub mod LineParts
+pub mod ListingSteps
 pub mod PaddedTexts
 pub mod PageTexts
 pub mod SameSets

@@ -1,5 +1,5 @@
--- A listing, as contracts see it: its remaining paths and its direction.
-use Rattle.std.specs.Prelude.{ℕ, List, codes}
+-- A listing, as contracts see it: its remaining paths, its direction and its work.
+use Rattle.std.specs.Prelude.{ℕ, ◌+◌, ◌*◌, List, codes}
 use Rattle.pam_paths.specs.Paths.{PathValue}
 use Rattle.pam_page.specs.declared.listing.Listing.{Listing}
 use Rattle.pam_page.specs.declared.listing.Listing.TheVariants.{Forward, Backward}
@@ -18,3 +18,17 @@ followed (Backward before) = before.path
 abbrev pub side : {K : Type 0} → Listing K → List ℕ
 side (Forward explorer) = codes "after"
 side (Backward before) = codes "before"
+
+-- the number of steps made so far
+abbrev pub work : {K : Type 0} → Listing K → ℕ
+work (Forward explorer) = explorer.work
+work (Backward before) = before.work
+
+-- the number of modules of the program
+abbrev pub modules : {K : Type 0} → Listing K → ℕ
+modules (Forward explorer) = explorer.modules
+modules (Backward before) = before.modules
+
+-- the most steps that following one path makes
+abbrev pub most_steps : {K : Type 0} → Listing K → ℕ
+most_steps listing = 64 * (modules listing + 1)

@@ -1,7 +1,7 @@
 //! The paths that a page is taken from, in either direction.
 
-ghost use Rattle.std.specs.Prelude.{◌≡◌, ◌∷◌, [], IfSome, MatchOption, take};
-ghost use Rattle.pam_page.specs.Coming.{coming, followed, side};
+ghost use Rattle.std.specs.Prelude.{◌≡◌, ◌≤◌, ◌+◌, ◌∷◌, [], IfSome, MatchOption, drop, take};
+ghost use Rattle.pam_page.specs.Coming.{coming, followed, modules, most_steps, side, work};
 
 use pam_paths::{Before, Explorer, Knowledge, Path};
 
@@ -20,7 +20,11 @@ impl<K: Knowledge> Listing<'_, K> {
     pub(crate) fn follow(&mut self) -> Option<usize>
         ensures path { MatchOption result (coming self.old ≡ []) (λ _. coming self.old ≡ followed self.new ∷ coming self.new) }
         ensures shared { IfSome result (λ shared. take shared (followed self.new).steps ≡ take shared (followed self.old).steps) }
+        ensures left { coming self.new ≡ drop 1 (coming self.old) }
         ensures side { side self.new ≡ side self.old }
+        ensures modules { modules self.new ≡ modules self.old }
+        ensures work { work self.new ≤ work self.old + most_steps self.old }
+        ensures grows { work self.old ≤ work self.new }
     {
         match self {
             Listing::Forward(explorer) => explorer.follow(),

@@ -1,8 +1,8 @@
 //! A page of the paths through a stack.
 
-ghost use Rattle.std.specs.Prelude.{◌≡◌, ◌-◌, ◌<◌, ◌≤◌, ◌^◌, [], length, take};
+ghost use Rattle.std.specs.Prelude.{◌≡◌, ◌+◌, ◌-◌, ◌*◌, ◌<◌, ◌≤◌, ◌^◌, [], OnOk, drop, length, take};
 ghost use Rattle.pam_codes.specs.Out.{Writes};
-ghost use Rattle.pam_page.specs.Coming.{coming, followed, side};
+ghost use Rattle.pam_page.specs.Coming.{coming, followed, modules, most_steps, side, work};
 ghost use Rattle.pam_page.specs.Lines.{Adds};
 ghost use Rattle.pam_page.specs.Page.{first_page, page_text, path_line, text_after};
 
@@ -17,7 +17,7 @@ use std::io::Write;
 /// Writes a page: a line for each of the next paths, at most `limit`, and a last line. Fails if the writer does.
 ///
 /// The last line is `end`, or `more` with the cursor of the last path if other paths follow. The first of those is
-/// taken from the listing too. Allocates nothing.
+/// taken from the listing too, and no further one. Allocates nothing.
 pub fn put_page<K: Knowledge, W: Write>(
     listing: &mut Listing<'_, K>,
     limit: u32,
@@ -25,7 +25,12 @@ pub fn put_page<K: Knowledge, W: Write>(
     out: &mut Out<W>,
 ) -> Result<(), Device>
     requires some { 1 ≤ limit }
-    ensures { Writes W.contents out.old out.new result (page_text (side listing.old) (first_page limit (coming listing.old))) }
+    ensures written { Writes W.contents out.old out.new result (page_text (side listing.old) (first_page limit (coming listing.old))) }
+    ensures left { OnOk result (coming listing.new ≡ drop (limit + 1) (coming listing.old)) }
+    ensures side { side listing.new ≡ side listing.old }
+    ensures modules { modules listing.new ≡ modules listing.old }
+    ensures work { work listing.new ≤ work listing.old + most_steps listing.old * (limit + 1) }
+    ensures grows { work listing.old ≤ work listing.new }
 {
     let mut texts = texts;
     texts.cut(0);
@@ -45,7 +50,12 @@ fn put_lines<K: Knowledge, W: Write>(
     requires some { 1 ≤ limit }
     requires texts { texts.old ≡ [] }
     requires lines { lines.old ≡ [] }
-    ensures { Writes W.contents out.old out.new result (page_text (side listing.old) (first_page limit (coming listing.old))) }
+    ensures written { Writes W.contents out.old out.new result (page_text (side listing.old) (first_page limit (coming listing.old))) }
+    ensures left { OnOk result (coming listing.new ≡ drop (limit + 1) (coming listing.old)) }
+    ensures side { side listing.new ≡ side listing.old }
+    ensures modules { modules listing.new ≡ modules listing.old }
+    ensures work { work listing.new ≤ work listing.old + most_steps listing.old * (limit + 1) }
+    ensures grows { work listing.old ≤ work listing.new }
 {
     for count in 0..limit - 1 {
         let Some(shared) = listing.follow() else {
@@ -72,7 +82,12 @@ fn put_rest<K: Knowledge, W: Write>(
     requires empty { lines.old ≡ [] }
     requires kept { texts.old ≡ take (length texts.old) (followed listing.old).steps }
     requires few { count < 2 ^ 32 - 1 }
-    ensures { Writes W.contents out.old out.new result (text_after (side listing.old) count (first_page 1 (coming listing.old))) }
+    ensures written { Writes W.contents out.old out.new result (text_after (side listing.old) count (first_page 1 (coming listing.old))) }
+    ensures left { OnOk result (coming listing.new ≡ drop 2 (coming listing.old)) }
+    ensures side { side listing.new ≡ side listing.old }
+    ensures modules { modules listing.new ≡ modules listing.old }
+    ensures work { work listing.new ≤ work listing.old + most_steps listing.old * 2 }
+    ensures grows { work listing.old ≤ work listing.new }
 {
     let Some(shared) = listing.follow() else {
         return put_end(listing.side(), u64::from(count), out);

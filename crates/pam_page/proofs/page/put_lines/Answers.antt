@@ -1,24 +1,27 @@
-use Rattle.std.proofs.Common.{◌≡◌, ◌-◌, ◌∙◌, ◌++◌, List, None, refl, ℕ, drop, sym, subst, ap, arith, length, take}
+use Rattle.std.proofs.Common.{◌≡◌, ◌+◌, ◌*◌, ◌≤◌, ◌-◌, ◌∙◌, ◌++◌, List, None, refl, ℕ, drop, sym, subst, ap, arith, length, take}
 use Rattle.std.specs.List.{flat_map}
+use Rattle.std.specs.Prelude.{OnOk}
+use Rattle.std.proofs.lemmas.List.{drop-drop}
 use Rattle.pam_codes.proofs.Writing.{err-front, front-is, front-longer, writes-is, writes-then}
 use Rattle.pam_page.proofs.AddedLines.{holds-cut, holds-failed, holds-is, holds-more, holds-written}
 use Rattle.pam_page.proofs.FlatTexts.{flat_map-push}
 use Rattle.pam_page.proofs.KeptTexts.{kept_shared}
+use Rattle.pam_page.proofs.ListingSteps.{none_left, steps_more, when_ok}
 use Rattle.pam_page.proofs.PageTexts.{goes, page_front, page_none, page_rest}
 use Rattle.pam_page.specs.Coming.{coming, followed, side}
 use Rattle.pam_page.specs.Page.{first_page, last_line, path_line, text_after}
 use Rattle.pam_paths.specs.Paths.{PathValue, StepValue}
 use Rattle.pam_page.proofs.page.put_lines.Goals as goal
 
-pub returns-in_default : goal.returns-in_default
-returns-in_default g c =
+pub returns-in_default-clause-written : goal.returns-in_default-clause-written
+returns-in_default-clause-written g c =
     let l = c.loop-count in
     writes-is _ _ _ _ _ _ (writes-then _ _ _ (holds-written _ _ l.invariant.written c.in_ok-write_lines.ensures.written) c.put_end.ensures)
     (page_none (side c.args.listing.now) _ (coming c.args.listing.now) l.count _ c.args.limit (omega (arith, c.loop-count-test.true)) l.invariant.within
     (sym l.invariant.left ∙ c.in_default.ensures.path) (c.side.ensures ∙ c.in_default.ensures.side ∙ l.invariant.side) c.from.ensures)
 
-pub returns-in_err-add_line : goal.returns-in_err-add_line
-returns-in_err-add_line g c =
+pub returns-in_err-add_line-clause-written : goal.returns-in_err-add_line-clause-written
+returns-in_err-add_line-clause-written g c =
     let l = c.loop-count in
     let page = page_front (side c.args.listing.now) (coming c.args.listing.now) l.count c.args.limit (followed c.follow.new.self) (coming c.follow.new.self)
     (omega (arith, c.loop-count-test.true)) (sym l.invariant.left ∙ c.in-Some.ensures.path) in
@@ -27,8 +30,8 @@ returns-in_err-add_line g c =
     (front-is (front-longer page.0 (front-is (holds-failed _ _ _ l.invariant.written c.in_err-add_line.ensures.added)
     (ap (λ (text : List ℕ). flat_map path_line (take l.count (coming c.args.listing.now)) ++ text) line))) page.1)
 
-pub returns-in_err-write_lines : goal.returns-in_err-write_lines
-returns-in_err-write_lines g c =
+pub returns-in_err-write_lines-clause-written : goal.returns-in_err-write_lines-clause-written
+returns-in_err-write_lines-clause-written g c =
     let l = c.loop-count in
     let at = side c.args.listing.now in
     err-front _ c.from_residual.ensures.0
@@ -36,8 +39,8 @@ returns-in_err-write_lines g c =
     (page_none at at (coming c.args.listing.now) l.count l.count c.args.limit (omega (arith, c.loop-count-test.true)) l.invariant.within
     (sym l.invariant.left ∙ c.in_default.ensures.path) refl refl))
 
-pub returns-in_err-write_lines-2 : goal.returns-in_err-write_lines-2
-returns-in_err-write_lines-2 g c =
+pub returns-in_err-write_lines-2-clause-written : goal.returns-in_err-write_lines-2-clause-written
+returns-in_err-write_lines-2-clause-written g c =
     let l = c.loop-count in
     let at = side c.args.listing.now in
     let all = coming c.args.listing.now in
@@ -63,12 +66,15 @@ loop-count-preserved g c =
       kept = subst (λ (l : List StepValue). l ≡ take (length l) (followed c.follow.new.self).steps) (sym c.in_ok-add_line.ensures.kept)
           (c.replace.ensures ∙ ap (take _) (ap (λ (p : PathValue). p.steps) c.path-path.ensures));
       within = omega (arith, next.inside);
+      same = c.in-Some.ensures.modules ∙ l.invariant.same;
+      steps = steps_more _ _ _ _ _ _ l.invariant.steps (ap (λ (modules : ℕ). 64 * (modules + 1)) l.invariant.same) c.in-Some.ensures.work;
+      grows = omega (arith, l.invariant.grows, c.in-Some.ensures.grows);
     }
 
-pub returns : goal.returns
-returns g c =
+pub returns-clause-written : goal.returns-clause-written
+returns-clause-written g c =
     let l = c.loop-count in
-    writes-is _ _ _ _ _ _ (writes-then _ _ _ (holds-written _ _ l.invariant.written c.in_ok-write_lines-2.ensures.written) c.put_rest.ensures)
+    writes-is _ _ _ _ _ _ (writes-then _ _ _ (holds-written _ _ l.invariant.written c.in_ok-write_lines-2.ensures.written) c.put_rest.ensures.written)
     (page_rest (side c.args.listing.now) _ (coming c.args.listing.now) _ l.count (c.args.limit - 1) c.args.limit (omega (arith, c.requires.some))
     (omega (arith, c.loop-count-test.false, l.auto.count-end)) l.invariant.within l.invariant.left l.invariant.side)
 
@@ -77,3 +83,19 @@ replace-requires g c =
     let l = c.loop-count in
     kept_shared l.texts _ _ c.in-Some.shared l.invariant.kept
     (ap (take c.in-Some.shared) (ap (λ (p : PathValue). p.steps) c.path-path.ensures) ∙ c.in-Some.ensures.shared)
+
+pub returns-in_default-clause-left : goal.returns-in_default-clause-left
+returns-in_default-clause-left g c =
+    let l = c.loop-count in
+    let room : l.count ≤ c.args.limit + 1 = omega (arith, c.loop-count-test.true) in
+    when_ok c.put_end.result
+    (c.in_default.ensures.left ∙ ap (drop 1) c.in_default.ensures.path
+    ∙ sym (none_left (coming c.args.listing.now) l.count (c.args.limit + 1) room (sym l.invariant.left ∙ c.in_default.ensures.path)))
+
+pub returns-clause-left : goal.returns-clause-left
+returns-clause-left g c =
+    let l = c.loop-count in
+    let all = coming c.args.listing.now in
+    let past : l.count + 2 ≡ c.args.limit + 1 = omega (arith, c.requires.some, c.loop-count-test.false, l.auto.count-end) in
+    subst (λ (left : List PathValue). OnOk c.put_rest.result (coming c.put_rest.new.listing ≡ left))
+    (ap (drop 2) l.invariant.left ∙ drop-drop 2 l.count all ∙ ap (λ (count : ℕ). drop count all) past) c.put_rest.ensures.left

@@ -8,16 +8,16 @@ use Rattle.pam_page.specs.Page.{first_page, path_line, text_after}
 use Rattle.pam_paths.specs.Paths.{PathValue, key}
 use Rattle.pam_page.proofs.page.put_rest.Goals as goal
 
-pub returns-in_err-write_lines : goal.returns-in_err-write_lines
-returns-in_err-write_lines g c =
+pub returns-in_err-write_lines-clause-written : goal.returns-in_err-write_lines-clause-written
+returns-in_err-write_lines-clause-written g c =
     let rest = rest_front (side c.args.listing.now) c.args.count (followed c.follow.new.self) (coming c.follow.new.self) in
     err-front _ c.from_residual-in_err-write_lines.ensures.0
     (front-is (front-longer rest.0 (holds-none_cut _ _ _ _ c.requires.empty (ap path_line c.path-path.ensures) c.in_ok-add_line.ensures.added
     c.in_err-write_lines.ensures.written))
     (rest.1 ∙ ap (λ (paths : List PathValue). text_after (side c.args.listing.now) c.args.count (first_page 1 paths)) (sym c.in-Some.ensures.path)))
 
-pub returns-in-None : goal.returns-in-None
-returns-in-None g c =
+pub returns-in-None-clause-written : goal.returns-in-None-clause-written
+returns-in-None-clause-written g c =
     let all = coming c.args.listing.now in
     let left = coming c.follow.new.self in
     writes-is _ _ _ _ _ _ (writes-then _ _ _
@@ -26,8 +26,8 @@ returns-in-None g c =
     (rest_end-is (side c.args.listing.now) _ c.args.count _ (followed c.follow.new.self) all left
     (c.side-in-None.ensures ∙ c.in-None.ensures.side ∙ c.in-Some.ensures.side) c.from-in-None.ensures c.in-Some.ensures.path c.in-None.ensures.path)
 
-pub returns-in-Some-follow : goal.returns-in-Some-follow
-returns-in-Some-follow g c =
+pub returns-in-Some-follow-clause-written : goal.returns-in-Some-follow-clause-written
+returns-in-Some-follow-clause-written g c =
     let all = coming c.args.listing.now in
     let left = coming c.follow.new.self in
     let more = coming c.follow-2.new.self in
