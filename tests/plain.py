@@ -2,13 +2,14 @@
 
 `answer` gives standard output, standard error and the status for the words after the program's name, over a tree of
 files: a dictionary from names to bytes, or to a dictionary for a folder. What the parser of the command line prints for
-words that it does not take is its own, so standard error is `None` then. Help and zone rules are not covered.
+words that it does not take is its own, so standard error is `None` then. Help is not covered.
 """
 import re
 from itertools import islice
 
 import plain_stacks as stacks
 import plain_tables as tables
+import plain_zones as zones
 from plain_faults import Fault
 
 OPTIONS = {
@@ -125,7 +126,8 @@ class Request:
         if self.command == b"access":
             return self.access()
         if self.command == b"time":
-            granted, line = tables.TimeTable(self.tables[b"--time"]).decide(self.login(), self.moment())
+            moment = self.moment()
+            granted, line = tables.TimeTable(self.tables[b"--time"]).decide(self.login(), moment)
             return (b"granted\n", 0) if granted else (b"denied line %d\n" % line, 1)
         items, modules = stacks.resolve(files, self.service, self.kind)
         header = b"%s %s %d modules\n" % (self.service, self.kind, len(modules))
@@ -157,7 +159,7 @@ class Request:
         if b"--at" in self.options:
             return tables.civil(self.options[b"--at"])
         if b"--at-unix" in self.options:
-            return tables.instant(int(self.options[b"--at-unix"]))
+            return zones.instant(int(self.options[b"--at-unix"]), self.options.get(b"--zone", b"UTC0"))
         return None
 
     def access(self):

@@ -38,6 +38,7 @@ NAMES = dict(line.split() for line in """
     C3 TooShort
     C4 TooLong
     M1 Range
+    M2 Rule
     M4 Syntax
     U1 NotUtf8
     U2 Source
