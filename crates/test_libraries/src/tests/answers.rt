@@ -3,13 +3,14 @@
 ghost use Rattle.std.specs.Prelude.{◌<◌, ◌-◌, ◌^◌};
 
 use crate::tests::files::put;
-use crate::tests::halting::{FULL, Halting, INTERRUPTED, NOTHING};
+use crate::tests::halting::{End, FULL, FailingOnce, Halting, INTERRUPTED, NOTHING};
 use crate::tests::same::same;
 use pam_codes::Out;
 use pam_conf::{Files, Form};
 use pam_report::{Fault, Inputs, answer, fault_status};
 use pam_words::{Request, request};
 use std::alloc::Global;
+use std::io::Write;
 use std::process::Abort;
 use std::test::Fail;
 
@@ -126,27 +127,27 @@ fn asked(alloc: Global, words: &'static [&'static str]) -> Result<Request<'stati
 }
 
 /// Returns the result of a request: its exit status or its fault.
-fn result_of(
+fn result_of<W: Write>(
     alloc: Global,
     request: &Request<'_>,
     inputs: &Inputs,
-    halting: &mut Halting,
+    writer: &mut W,
 ) -> Result<u8, Fault> {
-    match answer(alloc, request, inputs, &mut Out::new(halting)) {
+    match answer(alloc, request, inputs, &mut Out::new(writer)) {
         Ok(status) => Ok(status.number()),
         Err(fault) => Err(fault),
     }
 }
 
 /// Like `result_of`, for a command.
-fn answered(
+fn answered<W: Write>(
     alloc: Global,
     command: &Command,
-    halting: &mut Halting,
+    writer: &mut W,
 ) -> Result<Result<u8, Fault>, Fail> {
     let request = asked(alloc, command.words)?;
     let inputs = inputs(alloc, command)?;
-    Ok(result_of(alloc, &request, &inputs, halting))
+    Ok(result_of(alloc, &request, &inputs, writer))
 }
 
 /// Asserts that the whole text is written, then flushed once, whether or not the flush succeeds.
@@ -167,14 +168,53 @@ fn flushes_once(rt: &impl Abort, alloc: Global, command: &Command) -> Result<(),
     Ok(())
 }
 
-/// Asserts that a write that fails after some bytes is a fault, and that those bytes are a prefix of the text.
-fn halts(rt: &impl Abort, alloc: Global, command: &Command) -> Result<(), Fail> {
-    for (room, end) in [(7, FULL), (0, NOTHING), (0, INTERRUPTED)] {
-        let mut halting = Halting::new(alloc, usize::MAX, room, end, true);
-        let got = answered(alloc, command, &mut halting)?;
-        same(rt, "the answer", &got, &Err(Fault::Device));
-        let text = command.text.get(..room);
-        same(rt, "the text", &Some(halting.bytes.as_slice()), &text);
+/// Asserts that a writer that takes this many bytes in all makes a fault, and that they are a prefix of the text.
+fn halts(
+    rt: &impl Abort,
+    alloc: Global,
+    command: &Command,
+    room: usize,
+    end: End,
+) -> Result<(), Fail> {
+    let mut halting = Halting::new(alloc, usize::MAX, room, end, true);
+    let got = answered(alloc, command, &mut halting)?;
+    same(rt, "the answer", &got, &Err(Fault::Device));
+    let text = command.text.get(..room);
+    same(rt, "the text", &Some(halting.bytes.as_slice()), &text);
+    same(rt, "flushes", &halting.flushes, &0);
+    Ok(())
+}
+
+/// Asserts that the answer ends at each byte that is not taken.
+fn halts_at_each_byte(rt: &impl Abort, alloc: Global, command: &Command) -> Result<(), Fail> {
+    for room in 0..command.text.len() {
+        halts(rt, alloc, command, room, FULL)?;
+    }
+    halts(rt, alloc, command, 0, NOTHING)?;
+    halts(rt, alloc, command, 0, INTERRUPTED)
+}
+
+/// Returns how many writes and flushes an answer makes.
+fn calls_of(alloc: Global, command: &Command) -> Result<u32, Fail> {
+    let mut writer = FailingOnce::new(alloc, u32::MAX);
+    let _whole = answered(alloc, command, &mut writer)?;
+    Ok(writer.calls)
+}
+
+/// Asserts that an answer ends at the call that fails, with a prefix of its text, though later calls would not fail.
+fn ends_at(rt: &impl Abort, alloc: Global, command: &Command, call: u32) -> Result<(), Fail> {
+    let mut writer = FailingOnce::new(alloc, call);
+    let got = answered(alloc, command, &mut writer)?;
+    same(rt, "the answer", &got, &Err(Fault::Device));
+    same(rt, "calls", &writer.calls, &call.saturating_add(1));
+    let text = command.text.get(..writer.bytes.len());
+    same(rt, "the text", &Some(writer.bytes.as_slice()), &text);
+    Ok(())
+}
+
+fn ends_at_each_call(rt: &impl Abort, alloc: Global, command: &Command) -> Result<(), Fail> {
+    for call in 0..calls_of(alloc, command)? {
+        ends_at(rt, alloc, command, call)?;
     }
     Ok(())
 }
@@ -191,7 +231,15 @@ fn each_answer_is_flushed_once_at_its_end(rt: HostRuntime) -> Result<(), Fail> {
 #[test]
 fn each_answer_halts_where_a_write_fails(rt: HostRuntime) -> Result<(), Fail> {
     for command in [&SHOW, &DECIDE, &PATHS, &ACCESS, &TIME] {
-        halts(&rt, rt.alloc(), command)?;
+        halts_at_each_byte(&rt, rt.alloc(), command)?;
+    }
+    Ok(())
+}
+
+#[test]
+fn each_answer_ends_at_the_call_that_fails(rt: HostRuntime) -> Result<(), Fail> {
+    for command in [&SHOW, &DECIDE, &PATHS, &ACCESS, &TIME] {
+        ends_at_each_call(&rt, rt.alloc(), command)?;
     }
     Ok(())
 }

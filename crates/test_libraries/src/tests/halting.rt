@@ -1,4 +1,5 @@
-//! A writer that writes little, then fails or writes nothing, and may fail to flush. It counts its calls.
+//! A writer that writes little, then fails or writes nothing, and may fail to flush; and one that fails once. Both count
+//! their calls.
 
 use std::alloc::Global;
 use std::io;
@@ -75,5 +76,46 @@ impl Write for Halting {
         } else {
             Err(Error::from(ErrorKind::StorageFull))
         }
+    }
+}
+
+/// Fails in one call, a write or a flush, and takes everything in all others.
+#[derive(Drop)]
+pub(crate) struct FailingOnce {
+    pub bytes: Vec<u8>,
+    /// Writes and flushes, counted from 0.
+    pub calls: u32,
+    pub failing: u32,
+}
+
+impl FailingOnce {
+    pub(crate) fn new(alloc: Global, failing: u32) -> FailingOnce {
+        FailingOnce {
+            bytes: Vec::new(alloc),
+            calls: 0,
+            failing,
+        }
+    }
+
+    fn call(&mut self) -> io::Result<()> {
+        let is_failing = self.calls == self.failing;
+        self.calls = self.calls.saturating_add(1);
+        if is_failing {
+            Err(Error::from(ErrorKind::StorageFull))
+        } else {
+            Ok(())
+        }
+    }
+}
+
+impl Write for FailingOnce {
+    fn write(&mut self, buf: &[u8]) -> io::Result<usize> {
+        self.call()?;
+        self.bytes.extend_from_slice(buf)?;
+        Ok(buf.len())
+    }
+
+    fn flush(&mut self) -> io::Result<()> {
+        self.call()
     }
 }
