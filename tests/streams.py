@@ -5,6 +5,7 @@ import fcntl
 import os
 import shutil
 import socket
+import subprocess
 import threading
 
 import plain
@@ -161,21 +162,68 @@ def special_entries(program):
     return 2 * len(names) - 1
 
 
+def links_to_nowhere(program):
+    """Links to names and paths that no file can have, and through a file, are passed over; an entry whose own path is too
+    long is not."""
+    os.mkdir("links")
+    with open("links/login", "wb") as file:
+        file.write(STACK)
+    targets = {"name": "n" * 300, "path": "p/" * 2047, "below": "login/x", "gone": "gone/x", "ring": "ring"}
+    for name, target in targets.items():
+        os.symlink(target, "links/" + name)
+    tree = {"links": {"login": STACK}}
+    for name in ["login", *targets]:
+        check_like(program, ["show", name, "auth", "--dir", "links"], tree)
+    deep = "./" * 2042 + "links"
+    words = ["show", "login", "auth", "--dir", deep]
+    os.symlink("login", "links/" + "l" * 100)
+    expect(words, Answer(b"", b"pamcheck: V1 Read %s\n" % (b"l" * 100), 5), program.run(words), tree)
+    shutil.rmtree("links")
+    return 2 + len(targets)
+
+
+class OtherUser:
+    """A user who may not read all files: the present one, or, for root, `nobody`, where there is such a user and it may
+    run the program."""
+
+    def __init__(self, program):
+        self.program = program
+        self.before = ""
+        self.exists = True
+        if os.geteuid() == 0:
+            self.before = "setpriv --reuid=nobody --clear-groups --"
+            os.chmod(".", 0o755)
+            may_run = self.before + ' sh -c \'[ -x "$0" ] && [ -x . ]\' "$0"'
+            tried = subprocess.run(["/bin/sh", "-c", may_run, program.path], stderr=subprocess.DEVNULL)
+            self.exists = tried.returncode == 0
+
+    def run(self, words):
+        return self.program.run_in_shell('exec %s "$@"' % self.before, words)
+
+
 def unreadable(program):
-    """A regular file that cannot be read; root reads it all the same."""
-    if os.geteuid() == 0:
+    """A regular file, a link through a folder, and a folder that may not be read."""
+    user = OtherUser(program)
+    if not user.exists:
+        print("hostile: files that may not be read are no cases here: the user is root, and none else runs the program")
         return 0
     os.mkdir("shut")
     with open("shut/login", "wb") as file:
         file.write(STACK)
     os.chmod("shut/login", 0)
     words = ["show", "other", "auth", "--dir", "shut"]
-    expect(words, Answer(b"", b"pamcheck: V1 Read login\n", 5), program.run(words))
+    expect(words, Answer(b"", b"pamcheck: V1 Read login\n", 5), user.run(words))
+    os.makedirs("closed/inner")
+    os.chmod("closed", 0)
+    os.remove("shut/login")
+    os.symlink("../closed/inner/login", "shut/linked")
+    expect(words, Answer(b"", b"pamcheck: V1 Read linked\n", 5), user.run(words))
     os.chmod("shut", 0)
-    expect(words, Answer(b"", b"pamcheck: V1 Read shut\n", 5), program.run(words))
-    os.chmod("shut", 0o700)
-    shutil.rmtree("shut")
-    return 2
+    expect(words, Answer(b"", b"pamcheck: V1 Read shut\n", 5), user.run(words))
+    for name in ("shut", "closed"):
+        os.chmod(name, 0o700)
+        shutil.rmtree(name)
+    return 3
 
 
 def sources(program):
@@ -296,7 +344,7 @@ def open_files_refused(program):
 
 
 CHECKS = [full, reader_gone, reader_goes_away, slow_reader, file_size_refused, closed]
-FILES = [special_entries, unreadable, sources, names, many_entries, growing, open_files_refused]
+FILES = [special_entries, links_to_nowhere, unreadable, sources, names, many_entries, growing, open_files_refused]
 
 
 def run(program, checks):

@@ -52,6 +52,7 @@ a.so success auth_err
 pam_unix.so  new_authtok_reqd\tsuccess
 pam_time.so abort
 """
+EXCHANGED = ["paths", "login", "account", "--dir", "d", "--user", "alice"]
 STACK = b"""auth required a.so
 auth [success=1 default=ignore] b.so
 auth sufficient pam_unix.so
@@ -106,6 +107,22 @@ def configurations():
             yield words, {"d": {**FOLDER, name: change}}
     yield from of_file(CONF, "pam.conf", {}, [[*words, "--conf", "pam.conf"] for words in (
         SHOW, [*DECIDE[:3], "success", "auth_err", "success"], PATHS, ["show", "ftp", "auth"])])
+
+
+def exchanged():
+    """Pairs of files, both ways round: the answer says which of them is read as what. The first pair is a group file and
+    an access table each way."""
+    group, access = b"-:ALL:10:bob ALL\n", b"+:ALL:10:bob ALL\n"
+    yield from both_ways(group, access, ["access", "login", "--group", "first", "--access", "second", "--user", "alice"])
+    yield from both_ways(group, access, [*EXCHANGED, "--group", "first", "--access", "second"])
+    yield from both_ways(b"", b"*;*;*;!Al0000-2400\n", [*EXCHANGED, "--returns", "first", "--time", "second", "--at", MOMENT])
+    yield from both_ways(b"", b"-:ALL:ALL\n", [*EXCHANGED, "--returns", "first", "--access", "second"])
+    yield from both_ways(b"", b"-:ALL:ALL\n", [*EXCHANGED, "--time", "first", "--access", "second", "--at", MOMENT])
+
+
+def both_ways(first, second, asked):
+    for files in ((first, second), (second, first)):
+        yield asked, {"first": files[0], "second": files[1], "d": {"login": STACK}}
 
 
 def tables():

@@ -1,8 +1,9 @@
 //! A run of the program: reads the command line, answers on standard output, and reports faults on standard error.
 
-ghost use Rattle.std.specs.Prelude.{◌≡◌};
+ghost use Rattle.std.specs.Prelude.{◌≡◌, ◌⊎◌, map, string_bytes};
 ghost use Rattle.pam_report.specs.Fault.{status_of_fault, status_of_input, status_of_usage};
 ghost use Rattle.pam_report.specs.declared.fault.Fault.TheVariants as faults;
+ghost use Rattle.pam_cli.specs.Run.{EndsAnswered, EndsRefused, EndsRequest, Runs};
 
 use crate::reading::inputs_of;
 use pam_codes::Out;
@@ -24,7 +25,9 @@ pub fn run<R: Files + AllocGlobal + Clone + Drop, W: Write, V: Write>(
     words: &[String],
     out: &mut Out<W>,
     err: &mut Out<V>,
-) -> u8 {
+) -> u8
+    ensures { Runs W.contents out.old out.new result (map string_bytes words.now) }
+{
     match request(alloc, words) {
         Ok(request) => answer_request(rt, alloc, &request, out, err),
         Err(usage) => help_or_refuse(alloc, &usage, out, err),
@@ -37,7 +40,9 @@ fn help_or_refuse<W: Write, V: Write>(
     usage: &Usage,
     out: &mut Out<W>,
     err: &mut Out<V>,
-) -> u8 {
+) -> u8
+    ensures { EndsRefused W.contents out.old out.new result usage.now }
+{
     match usage {
         Usage::Help(text) => help(alloc, text, out, err),
         _ => refuse(alloc, usage, err),
@@ -72,7 +77,9 @@ fn answer_request<R: Files + AllocGlobal + Clone + Drop, W: Write, V: Write>(
     request: &Request<'_>,
     out: &mut Out<W>,
     err: &mut Out<V>,
-) -> u8 {
+) -> u8
+    ensures { EndsRequest W.contents out.old out.new result request.now }
+{
     match inputs_of(rt, alloc, request) {
         Ok(inputs) => report(alloc, request, &inputs, out, err),
         Err(error) => refuse_input(alloc, &error, err),
@@ -93,7 +100,9 @@ fn report<W: Write, V: Write>(
     inputs: &Inputs,
     out: &mut Out<W>,
     err: &mut Out<V>,
-) -> u8 {
+) -> u8
+    ensures { EndsAnswered W.contents out.old out.new result request.now inputs.now }
+{
     match answer(alloc, request, inputs, out) {
         Ok(status) => status.number(),
         Err(fault) => refuse_by(alloc, &fault, inputs.files(), err),
@@ -105,7 +114,9 @@ fn help<W: Write, V: Write>(
     text: &clap::Error,
     out: &mut Out<W>,
     err: &mut Out<V>,
-) -> u8 {
+) -> u8
+    ensures { (result ≡ 0) ⊎ (result ≡ status_of_fault faults.Device) }
+{
     let written = match write!(out, "{text}") {
         Ok(()) => out.flush(),
         Err(error) => Err(error),
