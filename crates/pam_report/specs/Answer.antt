@@ -31,6 +31,7 @@ use Rattle.pam_words.specs.declared.wanted.Task.TheVariants.{Show, Decide, Acces
 use Rattle.pam_report.specs.Decide.{decide_text}
 use Rattle.pam_report.specs.Inputs.{access_given, files_given, group_file, groups_in, no_files, time_given}
 use Rattle.pam_report.specs.Leaves.{IsTableFault, IsTimeFault, Leaves, LeavesSome}
+use Rattle.pam_report.specs.Memory.{WantsOnly, wants}
 use Rattle.pam_report.specs.Moments.{IsGivenMoment, IsMoment}
 use Rattle.pam_report.specs.Paths.{IsPage}
 use Rattle.pam_report.specs.Report.{Answer, Report}
@@ -133,6 +134,7 @@ AnswersFrom contents old new result service (Paths source kind limit part login 
 abbrev pub Answers : {W : Type 0} → (W → Option (List ℕ)) → Out W → Out W → Result Status Fault → List ℕ → Task → Inputs → Type 0
 Answers contents old new result service task inputs =
     AnswersFrom contents old new result service task (unwrap_or (files_given inputs) no_files) inputs
+    × WantsOnly (wants task inputs) result
 
 -- for private contracts and proofs alone: what is looked up is the answer, or its fault, unless an allocation failed
 abbrev pub FindsFault : Fault → Answer → Type 0

@@ -6,6 +6,7 @@ pub mod FaultViews
 pub mod Header
 pub mod Inputs
 pub mod Leaves
+pub mod Memory
 pub mod Moments
 pub mod PageView
 pub mod Paths

@@ -2,6 +2,7 @@
 
 ghost use Rattle.std.specs.Prelude.{◌≡◌};
 ghost use Rattle.pam_report.specs.Answer.{Answers, AnswersFrom};
+ghost use Rattle.pam_report.specs.Memory.{WantsOnly, wants};
 ghost use Rattle.pam_report.specs.Report.{status_number};
 
 mod access;
@@ -74,7 +75,8 @@ fn answer_from<W: Write>(
     inputs: &Inputs,
     out: &mut Out<W>,
 ) -> Result<Status, Fault>
-    ensures { AnswersFrom W.contents out.old out.new result request.now.service.now request.now.task files.now inputs.now }
+    ensures answer { AnswersFrom W.contents out.old out.new result request.now.service.now request.now.task files.now inputs.now }
+    ensures wants { WantsOnly (wants request.now.task inputs.now) result }
 {
     let service = request.service;
     match &request.task {

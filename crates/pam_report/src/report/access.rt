@@ -1,6 +1,6 @@
 //! The `access` command: the line of an access table that decides.
 
-ghost use Rattle.std.specs.Prelude.{◌≡◌, option_map};
+ghost use Rattle.std.specs.Prelude.{◌≡◌, Bool, IfErr, is_some, true, false, option_map};
 ghost use Rattle.pam_codes.specs.Out.{Writes};
 ghost use Rattle.pam_tables.specs.Access.{table_of};
 ghost use Rattle.pam_tables.specs.Error.{Gives};
@@ -8,7 +8,8 @@ ghost use Rattle.pam_tables.specs.Login.{login_view};
 ghost use Rattle.pam_tables.specs.Options.{options_of};
 ghost use Rattle.pam_report.specs.Answer.{FindsAccess, access_status, login_at, looked_up, with_table};
 ghost use Rattle.pam_report.specs.Leaves.{Leaves};
-ghost use Rattle.pam_report.specs.Inputs.{groups_in};
+ghost use Rattle.pam_report.specs.Inputs.{group_file, groups_in};
+ghost use Rattle.pam_report.specs.Memory.{IsWanting, WantsOnly, of_tables};
 ghost use Rattle.pam_report.specs.Tables.{access_text, denied_text};
 
 use super::Status;
@@ -61,7 +62,8 @@ fn status_of(answer: AccessAnswer) -> Status
 
 /// Reads the groups, if a file is given.
 fn groups(alloc: Global, bytes: Option<&[u8]>) -> Result<Groups<'_>, TableError>
-    ensures { Gives Table.Group (λ groups. groups) result (groups_in (option_map (λ b. b.now) bytes.entry)) }
+    ensures groups { Gives Table.Group (λ groups. groups) result (groups_in (option_map (λ b. b.now) bytes.entry)) }
+    ensures given { IfErr result (λ e. is_some bytes.entry ≡ true) }
 {
     match bytes {
         Some(bytes) => Groups::read(alloc, bytes),
@@ -77,7 +79,8 @@ fn look_up_with(
     arguments: &Texts,
     table: &[u8],
 ) -> Result<AccessAnswer, Fault>
-    ensures { FindsAccess result (with_table (login_view login.now) groups.now (table_of (options_of arguments.now) table.now)) }
+    ensures answer { FindsAccess result (with_table (login_view login.now) groups.now (table_of (options_of arguments.now) table.now)) }
+    ensures wants { (groups_given : Bool) → IfErr result (IsWanting (of_tables true groups_given false)) }
 {
     match AccessTable::read(alloc, table, &AccessOptions::of(arguments)) {
         Ok(table) => Ok(table.decide(login, groups)),
@@ -92,7 +95,8 @@ fn look_up(
     arguments: &Texts,
     inputs: &Inputs,
 ) -> Result<AccessAnswer, Fault>
-    ensures { FindsAccess result (looked_up (login_view login.now) arguments.now inputs.now) }
+    ensures answer { FindsAccess result (looked_up (login_view login.now) arguments.now inputs.now) }
+    ensures wants { IfErr result (IsWanting (of_tables true (is_some (group_file inputs.now)) false)) }
 {
     match groups(alloc, inputs.groups()) {
         Ok(groups) => look_up_with(alloc, login, &groups, arguments, inputs.access_table()),
@@ -114,7 +118,8 @@ fn answer_login<W: Write>(
     inputs: &Inputs,
     out: &mut Out<W>,
 ) -> Result<Status, Fault>
-    ensures { Leaves W.contents out.old out.new result (looked_up (login_view login.now) arguments.now inputs.now) }
+    ensures answer { Leaves W.contents out.old out.new result (looked_up (login_view login.now) arguments.now inputs.now) }
+    ensures wants { WantsOnly (of_tables true (is_some (group_file inputs.now)) false) result }
 {
     let answer = match look_up(alloc, login, arguments, inputs) {
         Ok(answer) => answer,
@@ -134,7 +139,8 @@ pub(super) fn answer_access<W: Write>(
     inputs: &Inputs,
     out: &mut Out<W>,
 ) -> Result<Status, Fault>
-    ensures { Leaves W.contents out.old out.new result (looked_up (login_at service.now login.entry) arguments.now inputs.now) }
+    ensures answer { Leaves W.contents out.old out.new result (looked_up (login_at service.now login.entry) arguments.now inputs.now) }
+    ensures wants { WantsOnly (of_tables true (is_some (group_file inputs.now)) false) result }
 {
     match lowered(alloc, service) {
         Ok(service) => answer_login(alloc, &login_to(&service, login), arguments, inputs, out),

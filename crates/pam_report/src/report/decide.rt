@@ -1,10 +1,11 @@
 //! The `decide` command: the modules that a run asks, and the decision.
 
-ghost use Rattle.std.specs.Prelude.{◌≡◌, ◌++◌, map};
+ghost use Rattle.std.specs.Prelude.{◌≡◌, ◌++◌, map, true};
 ghost use Rattle.pam_codes.specs.Out.{Writes};
 ghost use Rattle.pam_conf.specs.Resolution.{resolved};
 ghost use Rattle.pam_report.specs.Answer.{decided_by, status_of_decision, with_stack};
 ghost use Rattle.pam_report.specs.Leaves.{Leaves};
+ghost use Rattle.pam_report.specs.Memory.{WantsOnly, of_stack};
 ghost use Rattle.pam_report.specs.Decide.{action_text, asked_text, code_text, decision_text, impression_name};
 ghost use Rattle.pam_report.specs.Decide.{outcome_text, path_text, state_text, trace_text};
 ghost use Rattle.pam_report.specs.Header.{code_name, header_text};
@@ -150,7 +151,8 @@ fn decide_stack<W: Write>(
     stack: &Stack,
     out: &mut Out<W>,
 ) -> Result<Status, Fault>
-    ensures { Leaves W.contents out.old out.new result (decided_by service.now kind codes.now stack.now) }
+    ensures answer { Leaves W.contents out.old out.new result (decided_by service.now kind codes.now stack.now) }
+    ensures wants { WantsOnly (of_stack true) result }
 {
     let program = match Program::of(alloc, stack) {
         Ok(program) => program,
@@ -178,7 +180,8 @@ pub(super) fn answer_decide<W: Write>(
     files: &Files,
     out: &mut Out<W>,
 ) -> Result<Status, Fault>
-    ensures { Leaves W.contents out.old out.new result (with_stack (resolved files.now service.now kind) (decided_by service.now kind codes.now)) }
+    ensures answer { Leaves W.contents out.old out.new result (with_stack (resolved files.now service.now kind) (decided_by service.now kind codes.now)) }
+    ensures wants { WantsOnly (of_stack true) result }
 {
     match resolve(alloc, files, service.as_bytes(), kind) {
         Ok(stack) => decide_stack(alloc, service, kind, codes, &stack, out),

@@ -1,12 +1,13 @@
 //! The `show` command: the stack, rule by rule.
 
-ghost use Rattle.std.specs.Prelude.{◌≡◌, ◌≤◌, ◌+◌, ◌++◌, codes};
+ghost use Rattle.std.specs.Prelude.{◌≡◌, ◌≤◌, ◌+◌, ◌++◌, codes, false};
 ghost use Rattle.pam_codes.specs.Out.{Writes};
 ghost use Rattle.pam_conf.specs.ItemsOf.{items_of, module_text};
 ghost use Rattle.pam_conf.specs.Resolution.{resolved};
 ghost use Rattle.pam_conf.specs.Stack.{depth};
 ghost use Rattle.pam_report.specs.Answer.{shown, with_stack};
 ghost use Rattle.pam_report.specs.Leaves.{Leaves};
+ghost use Rattle.pam_report.specs.Memory.{WantsOnly, of_stack};
 ghost use Rattle.pam_report.specs.Header.{name_at};
 ghost use Rattle.pam_report.specs.Show.{dash_text, indent, items_text, module_front, module_line, place_text, show_text, sub_line, words_text};
 ghost use Rattle.pam_report.specs.WordText.{word_text};
@@ -177,7 +178,8 @@ pub(super) fn answer_show<W: Write>(
     files: &Files,
     out: &mut Out<W>,
 ) -> Result<Status, Fault>
-    ensures { Leaves W.contents out.old out.new result (with_stack (resolved files.now service.now kind) (shown service.now kind files.now)) }
+    ensures answer { Leaves W.contents out.old out.new result (with_stack (resolved files.now service.now kind) (shown service.now kind files.now)) }
+    ensures wants { WantsOnly (of_stack false) result }
 {
     let stack = match resolve(alloc, files, service.as_bytes(), kind) {
         Ok(stack) => stack,

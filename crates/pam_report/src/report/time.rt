@@ -1,11 +1,12 @@
 //! The `time` command: the line of a time table that denies.
 
-ghost use Rattle.std.specs.Prelude.{◌≡◌, Ok, Result};
+ghost use Rattle.std.specs.Prelude.{◌≡◌, IfErr, Ok, Result, true, false};
 ghost use Rattle.jiff.specs.Types.{DateTime as CivilTime};
 ghost use Rattle.pam_codes.specs.Out.{Writes};
 ghost use Rattle.pam_times.specs.Login.{login_view};
 ghost use Rattle.pam_report.specs.Answer.{FindsTime, login_at, time_status, timed, with_rules};
 ghost use Rattle.pam_report.specs.Leaves.{Leaves};
+ghost use Rattle.pam_report.specs.Memory.{IsWanting, WantsOnly, of_tables};
 ghost use Rattle.pam_report.specs.Moments.{IsGivenMoment, IsMoment};
 ghost use Rattle.pam_report.specs.Inputs.{time_given};
 ghost use Rattle.pam_report.specs.Tables.{time_text};
@@ -69,7 +70,8 @@ fn look_up(
     moment: &DateTime,
     bytes: &[u8],
 ) -> Result<TimeAnswer, Fault>
-    ensures { FindsTime result (with_rules (login_view login.now) moment.now (rules_of bytes.now)) }
+    ensures answer { FindsTime result (with_rules (login_view login.now) moment.now (rules_of bytes.now)) }
+    ensures wants { IfErr result (IsWanting (of_tables false false true)) }
 {
     match TimeTable::read(alloc, bytes) {
         Ok(table) => Ok(table.decide(login, moment)),
@@ -91,7 +93,8 @@ fn answer_login<W: Write>(
     bytes: &[u8],
     out: &mut Out<W>,
 ) -> Result<Status, Fault>
-    ensures { Leaves W.contents out.old out.new result (with_rules (login_view login.now) moment.now (rules_of bytes.now)) }
+    ensures answer { Leaves W.contents out.old out.new result (with_rules (login_view login.now) moment.now (rules_of bytes.now)) }
+    ensures wants { WantsOnly (of_tables false false true) result }
 {
     let answer = match look_up(alloc, login, moment, bytes) {
         Ok(answer) => answer,
@@ -111,7 +114,8 @@ pub(super) fn answer_time<W: Write>(
     inputs: &Inputs,
     out: &mut Out<W>,
 ) -> Result<Status, Fault>
-    ensures { Leaves W.contents out.old out.new result (timed (login_at service.now login.entry) (time_given inputs.now) moment) }
+    ensures answer { Leaves W.contents out.old out.new result (timed (login_at service.now login.entry) (time_given inputs.now) moment) }
+    ensures wants { WantsOnly (of_tables false false true) result }
 {
     let moment = match moment {
         Ok(moment) => moment,

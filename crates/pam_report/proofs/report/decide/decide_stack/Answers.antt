@@ -8,7 +8,7 @@ returns g c =
     let each : length c.args.codes.now ≡ c.modules-modules.result = omega (arith, c.if-codes-modules.false) in
     let answer = answer-is c.args.service.now c.args.kind c.args.stack.now c.args.codes.now _ _ _ _ _ each same
     c.in-Ok.ensures.runs c.in-Ok-of.ensures.asked c.in-Ok-of.ensures.decision refl in
-    (_, answer, c.in-Err-write_trace.ensures)
+    record { answer = (_, answer, c.in-Err-write_trace.ensures); wants = tt }
 
 pub returns-in-Ok-write_trace : goal.returns-in-Ok-write_trace
 returns-in-Ok-write_trace g c =
@@ -16,4 +16,4 @@ returns-in-Ok-write_trace g c =
     let each : length c.args.codes.now ≡ c.modules-modules.result = omega (arith, c.if-codes-modules.false) in
     let answer = answer-is c.args.service.now c.args.kind c.args.stack.now c.args.codes.now _ _ _ _ _ each same
     c.in-Ok.ensures.runs c.in-Ok-of.ensures.asked c.in-Ok-of.ensures.decision c.status_of.ensures in
-    (_, answer, c.in-Ok-write_trace.ensures)
+    record { answer = (_, answer, c.in-Ok-write_trace.ensures); wants = tt }

@@ -17,8 +17,12 @@ shown-of files service bytes kind stack e h =
 
 pub returns : goal.returns
 returns g c =
-    let service = c.args.service.now in (
-      record { text = show_text service c.args.kind c.args.files.now c.in-Ok.stack; status = Success },
-      shown-of c.args.files.now service c.as_bytes.result.now c.args.kind c.in-Ok.stack c.as_bytes.ensures.value c.in-Ok.ensures,
-      c.in-Err-write_stack.ensures,
-    )
+    let service = c.args.service.now in
+    record {
+      answer = (
+        record { text = show_text service c.args.kind c.args.files.now c.in-Ok.stack; status = Success },
+        shown-of c.args.files.now service c.as_bytes.result.now c.args.kind c.in-Ok.stack c.as_bytes.ensures.value c.in-Ok.ensures,
+        c.in-Err-write_stack.ensures,
+      );
+      wants = tt;
+    }

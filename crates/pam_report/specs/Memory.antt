@@ -1,0 +1,63 @@
+-- Want of memory: the faults that a failed allocation may give, by the task.
+use Rattle.std.specs.Prelude.{◌≡◌, ⊤, Bool, true, false, is_some, Result, IfErr}
+use Rattle.pam_conf.specs.declared.error.FaultKind.TheVariants as conf
+use Rattle.pam_tables.specs.declared.error.Table.{Table}
+use Rattle.pam_tables.specs.declared.error.Table.TheVariants.{Access as AccessTable, Group, Returns}
+use Rattle.pam_tables.specs.declared.error.TableFault.TheVariants as reasons
+use Rattle.pam_times.specs.declared.error.TimeFault.TheVariants as times
+use Rattle.pam_words.specs.declared.wanted.Task.{Task}
+use Rattle.pam_words.specs.declared.wanted.Task.TheVariants.{Show, Decide, Access, Time, Paths}
+use Rattle.pam_report.specs.Inputs.{group_file}
+use Rattle.pam_report.specs.declared.fault.Fault.{Fault}
+use Rattle.pam_report.specs.declared.fault.Fault.TheVariants as faults
+use Rattle.pam_report.specs.declared.inputs.Inputs.{Inputs}
+use Rattle.pam_report.specs.declared.report.Status.{Status}
+
+-- what is read or made, and may want memory
+pub record Wants : Type 0 where
+  -- the configuration: E17
+  pub configuration : Bool
+  -- a table of each kind: TE11
+  pub access : Bool
+  pub groups : Bool
+  pub returns : Bool
+  pub time : Bool
+  -- what is made of them, as the program of a stack: E17, too
+  pub work : Bool
+
+-- a stack is read, and no table
+abbrev pub of_stack : Bool → Wants
+of_stack work = record { configuration = true; access = false; groups = false; returns = false; time = false; work = work }
+
+-- a login is looked up in tables, with no configuration
+abbrev pub of_tables : Bool → Bool → Bool → Wants
+of_tables access groups time = record { configuration = false; access = access; groups = groups; returns = false; time = time; work = true }
+
+-- anything
+abbrev pub of_all : Wants
+of_all = record { configuration = true; access = true; groups = true; returns = true; time = true; work = true }
+
+-- THE WANTS of a task with these inputs
+abbrev pub wants : Task → Inputs → Wants
+wants (Show source kind) inputs = of_stack false
+wants (Decide source kind answered) inputs = of_stack true
+wants (Access table groups login arguments) inputs = of_tables true (is_some (group_file inputs)) false
+wants (Time table login moment) inputs = of_tables false false true
+wants (Paths source kind limit part login access time groups returns moment) inputs = of_all
+
+abbrev pub wants_table : Wants → Table → Bool
+wants_table wants AccessTable = wants.access
+wants_table wants Group = wants.groups
+wants_table wants Returns = wants.returns
+
+-- if the fault is a failed allocation, it is one of these
+abbrev pub IsWanting : Wants → Fault → Type 0
+IsWanting wants faults.Memory = wants.work ≡ true
+IsWanting wants (faults.Conf e) = e.kind ≡ conf.Memory → wants.configuration ≡ true
+IsWanting wants (faults.Table e) = e.fault ≡ reasons.Memory → wants_table wants e.table ≡ true
+IsWanting wants (faults.Time e) = e.fault ≡ times.Memory → wants.time ≡ true
+IsWanting wants _ = ⊤
+
+-- the same, for a result
+abbrev pub WantsOnly : Wants → Result Status Fault → Type 0
+WantsOnly wants result = IfErr result (IsWanting wants)
