@@ -1,11 +1,12 @@
 -- The fields of a group's line, its members, and the entry it adds.
 use Rattle.std.proofs.Common.{◌≡◌, ◌∙◌, ◌||◌, ℕ, Bool, true, false, List, [], ◌∷◌, length, map, filter, cond, codes, Option, Some, None, Result}
 use Rattle.std.proofs.Common.{Ok, Err, refl, sym, ap, arith, if◌then◌else◌}
-use Rattle.std.specs.List.{list_any, slice_split}
+use Rattle.std.specs.List.{list_any, slice_get, slice_split}
 use Rattle.std.specs.Map.{lookup}
-use Rattle.std.specs.Option.{option_map_or}
+use Rattle.std.specs.Option.{option_map, option_map_or}
+use Rattle.std.proofs.lemmas.Option.{slice_get-map}
 use Rattle.std.specs.Str.{bytes_eq}
-use Rattle.pam_tables.specs.Groups.{Group, members_of, lists_user, group_of_fields, some_group, group_at}
+use Rattle.pam_tables.specs.Groups.{Group, members_of, lists_at, lists_user, group_of_fields, some_group, group_at}
 use Rattle.pam_tables.specs.Lines.{has_bytes, is_among, cut_at, is_blank_line}
 use Rattle.pam_tables.specs.Named.{with_line}
 use Rattle.pam_tables.specs.declared.error.TableFault.{TableFault}
@@ -111,6 +112,21 @@ module _ {K V : Type 0} (name : K → List ℕ) (members : V → List (List ℕ)
   lists_user-map group user [] = refl
   lists_user-map group user (e ∷ es) =
       found (λ v. list_any (λ m. bytes_eq m user) (members v)) (bytes_eq group (name e.0)) e.1 _ _ (lists_user-map group user es)
+
+  -- a group that a map finds by its name is the one at its index
+  module _ (groups : List Group) (es : List (K × V)) (view : map (entry_view name members) es ≡ groups) (user : List ℕ) where
+    pub named_in : (group : List ℕ) (o : Option V) → o ≡ lookup {K = K} {X = V} (λ k. bytes_eq group (name k)) es →
+        lists_user groups group user ≡ option_map_or (λ v. list_any (λ m. bytes_eq m user) (members v)) o false
+    named_in group o e =
+        sym (ap (λ o. option_map_or (λ v. list_any (λ m. bytes_eq m user) (members v)) o false) e ∙ sym (lists_user-map group user es)
+        ∙ ap (λ gs. lists_user gs group user) view)
+
+    pub listed_at : (index : ℕ) (k : K) (v : V) → slice_get es index ≡ Some (k, v) →
+        lists_at groups user index ≡ list_any (λ m. bytes_eq m user) (members v)
+    listed_at index k v e =
+        let found : slice_get (map (entry_view name members) es) index ≡ Some (name k, members v) =
+        slice_get-map (entry_view name members) es index ∙ ap (option_map (entry_view name members)) e in
+        ap (λ gs. lists_at gs user index) (sym view) ∙ ap (λ o. option_map_or (λ g. list_any (λ m. bytes_eq m user) g.1) o false) found
 
 -- ---- one line
 

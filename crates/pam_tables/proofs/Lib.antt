@@ -4,10 +4,10 @@ pub mod BitSteps
 pub mod CleanSteps
 pub mod Cutting
 pub mod Digits
+pub mod FlagSteps
 pub mod GroupSteps
 pub mod LineSteps
 pub mod ListSteps
-pub mod MembershipSteps
 pub mod MarkSteps
 pub mod NamedSteps
 pub mod OptionSteps

@@ -1,6 +1,7 @@
 pub mod Access
 pub mod Address
 pub mod Error
+pub mod Flags
 pub mod Groups
 pub mod Lines
 pub mod Lists

@@ -1,11 +1,11 @@
 //! Groups of users, as in group(5).
 
-ghost use Rattle.std.specs.Prelude.{◌≡◌, ◌==◌, ℕ, [], codes, false, List, MatchOption, Ok, Err};
+ghost use Rattle.std.specs.Prelude.{◌≡◌, ◌==◌, ℕ, [], codes, false, List, IfSome, MatchOption, Ok, Err};
 ghost use Rattle.std.specs.List.{list_any};
 ghost use Rattle.std.specs.Option.{option_map_or};
 ghost use Rattle.std.specs.Str.{bytes_eq};
 ghost use Rattle.pam_tables.specs.Error.{Gives, GivesPart};
-ghost use Rattle.pam_tables.specs.Groups.{lists_user, members_of, group_of_fields, group_at, groups_of};
+ghost use Rattle.pam_tables.specs.Groups.{lists_at, lists_user, members_of, group_of_fields, group_at, groups_of};
 ghost use Rattle.pam_tables.specs.Lines.{is_among};
 ghost use Rattle.pam_tables.specs.Named.{with_line};
 ghost use Rattle.std.specs.List.{slice_split};
@@ -18,38 +18,10 @@ use pam_text::cut;
 use std::alloc::Global;
 use std::marker::Model;
 
-/// The length of a text of members from which on a group counts as long, in bytes.
-const LONG: usize = 1024;
-
-/// The last field of a group's line: names joined by commas.
-#[derive(Clone, Copy, Drop)]
-pub(crate) struct Members<'a> {
-    pub(crate) text: &'a [u8],
-    /// The number of long groups before this one.
-    slot: u16,
-}
-
-impl Members<'_> {
-    fn is_long(&self) -> bool {
-        self.text.len() >= LONG
-    }
-
-    /// Returns the number of long groups before this one, if it is long.
-    pub(crate) fn long_slot(&self) -> Option<usize> {
-        if self.is_long() {
-            Some(usize::from(self.slot))
-        } else {
-            None
-        }
-    }
-}
-
 /// The members of groups, by group name, as in group(5). Borrows the bytes it was read from.
 #[derive(Drop)]
 pub struct Groups<'a> {
-    members: IndexMap<&'a [u8], Members<'a>>,
-    /// The number of groups with a long text of members, up to the greatest number of the type.
-    long: u16,
+    members: IndexMap<&'a [u8], &'a [u8]>,
 }
 
 impl<'a> Model for Groups<'a> {
@@ -58,7 +30,7 @@ impl<'a> Model for Groups<'a> {
 
     ghost Value = { List Group };
 
-    ghost view = { λ g. map (λ e. (e.0.now, members_of e.1.text.now)) g.members.entries };
+    ghost view = { λ g. map (λ e. (e.0.now, members_of e.1.now)) g.members.entries };
 }
 
 /// The name and the members of a group, as written in its line.
@@ -108,7 +80,6 @@ impl<'a> Groups<'a> {
     {
         Groups {
             members: IndexMap::new(alloc),
-            long: 0,
         }
     }
 
@@ -127,21 +98,23 @@ impl<'a> Groups<'a> {
         ensures { result ≡ lists_user self.now group.now user.now }
     {
         match self.find(group) {
-            Some(members) => has_member(members.text, user),
+            Some((_, members)) => has_member(members, user),
             None => false,
         }
     }
 
-    /// Returns the members of the group named exactly `group`.
+    /// Returns the index and the members of the group named exactly `group`.
     #[inline(always)]
-    pub(crate) fn find(&self, group: &[u8]) -> Option<Members<'a>>
-        ensures { (user : List ℕ) → lists_user self.now group.now user
-            ≡ option_map_or (λ m. list_any (λ x. bytes_eq x user) (members_of m.text.now)) result false }
+    pub(crate) fn find(&self, group: &[u8]) -> Option<(usize, &'a [u8])>
+        ensures named { (user : List ℕ) → lists_user self.now group.now user
+            ≡ option_map_or (λ g. list_any (λ m. bytes_eq m user) (members_of g.1.now)) result false }
+        ensures at { (user : List ℕ) → IfSome result (λ g. lists_at self.now user g.0 ≡ list_any (λ m. bytes_eq m user) (members_of g.1.now)) }
     {
         if self.members.is_empty() {
             return None;
         }
-        self.members.get(group).copied()
+        let (index, _, members) = self.members.get_full(group)?;
+        Some((index, *members))
     }
 
     /// The number of groups.
@@ -149,11 +122,14 @@ impl<'a> Groups<'a> {
         self.members.len()
     }
 
-    /// Returns the name and the slot of the group at an index, if it is long.
-    pub(crate) fn long_at(&self, index: usize) -> Option<(&'a [u8], usize)> {
-        let (name, members) = self.members.get_index(index)?;
-        let slot = members.long_slot()?;
-        Some((*name, slot))
+    /// Whether the group at an index lists the user.
+    pub(crate) fn lists_at(&self, index: usize, user: &[u8]) -> bool
+        ensures { result ≡ lists_at self.now user.now index }
+    {
+        let Some((_, members)) = self.members.get_index(index) else {
+            return false;
+        };
+        has_member(members, user)
     }
 }
 
@@ -177,12 +153,7 @@ impl<'a> Entries<'a> for Groups<'a> {
             Some(group) => group,
             None => return Err(TableFault::BadGroup),
         };
-        let members = Members {
-            text: group.members,
-            slot: self.long,
-        };
-        let Some(first) = self.members.insert(group.name, members)? else {
-            self.long = self.long.saturating_add(u16::from(members.is_long()));
+        let Some(first) = self.members.insert(group.name, group.members)? else {
             return Ok(());
         };
         // Names are rarely repeated, so that one search is enough for most lines.

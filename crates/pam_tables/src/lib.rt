@@ -5,6 +5,7 @@
 mod access;
 mod address;
 mod error;
+mod flags;
 mod groups;
 mod lines;
 mod lists;

@@ -1,29 +1,26 @@
-//! Groups with long lists of members, which are searched once for each login.
+//! The groups that list a user, found once for each login.
 
-ghost use Rattle.std.specs.Prelude.{◌≡◌, ◌<◌, ℕ, None, Some, IfSome, get_or};
-ghost use Rattle.pam_tables.specs.Groups.{lists_user};
-ghost use Rattle.pam_tables.specs.declared.memberships.Membership.{Membership as MembershipOf};
+ghost use Rattle.std.specs.Prelude.{◌≡◌, ◌<◌, ◌≤◌, ℕ};
+ghost use Rattle.pam_tables.specs.Flags.{is_set};
+ghost use Rattle.pam_tables.specs.Groups.{lists_at, lists_user};
 
-use crate::groups::{Groups, Members, has_member};
+use crate::flags::{FLAGS, Flags};
+use crate::groups::{Groups, has_member};
 
-/// The number of groups whose answer is kept. It is the length of the longest table over that of a long text of members,
-/// so that no file has more.
-const SLOTS: usize = 1024;
-
-/// Whether a group lists a user.
-#[derive(Clone, Copy)]
-pub(crate) struct Membership<'a> {
-    name: &'a [u8],
-    is_member: bool,
-}
-
-/// Which groups list a user. The answers for groups with long texts are found once, those for others for each token.
+/// Which groups list a user.
+///
+/// Each group is searched once. The names of groups differ, so that a file of the greatest length has fewer groups than
+/// there are flags; were there more, the last ones would be searched for each token.
 #[derive(Drop)]
 pub(crate) struct Memberships<'a> {
     pub(crate) groups: &'a Groups<'a>,
     pub(crate) user: &'a [u8],
-    long: [Option<Membership<'a>>; SLOTS],
-    ghost right: { (k : ℕ) (x : MembershipOf) → get_or long k None ≡ Some x → x.is_member ≡ lists_user groups.now x.name.now user.now },
+    /// The number of groups that have been searched.
+    searched: usize,
+    /// The groups among these that list the user, by their indices.
+    listing: Flags,
+    ghost few: { searched ≤ 160000 },
+    ghost right: { (k : ℕ) → k < searched → is_set listing.words k ≡ lists_at groups.now user.now k },
 }
 
 impl<'a> Memberships<'a> {
@@ -31,44 +28,18 @@ impl<'a> Memberships<'a> {
         ensures groups { result.groups.now ≡ groups.now }
         ensures user { result.user.now ≡ user.now }
     {
-        let mut memberships = Memberships {
+        let searched = groups.len().min(FLAGS);
+        let mut listing = Flags::none();
+        for index in 0..searched {
+            if groups.lists_at(index, user) {
+                listing.set(index);
+            }
+        }
+        Memberships {
             groups,
             user,
-            long: [None; SLOTS],
-        };
-        for index in 0..groups.len() {
-            memberships.keep(index);
-        }
-        memberships
-    }
-
-    /// Keeps the answer for the group at an index, if it is long.
-    fn keep(&mut self, index: usize)
-        ensures groups { self.new.groups.now ≡ self.old.groups.now }
-        ensures user { self.new.user.now ≡ self.old.user.now }
-    {
-        let Some((name, slot)) = self.groups.long_at(index) else {
-            return;
-        };
-        if slot >= SLOTS {
-            return;
-        }
-        let is_member = self.groups.lists(name, self.user);
-        self.long[slot] = Some(Membership { name, is_member });
-    }
-
-    /// Returns the answer for a group that is kept in a slot.
-    fn kept(&self, group: &[u8], slot: usize) -> Option<bool>
-        ensures { IfSome result (λ is_member. is_member ≡ lists_user self.now.groups.now group.now self.now.user.now) }
-    {
-        if slot >= SLOTS {
-            return None;
-        }
-        let membership = self.long[slot]?;
-        if membership.name == group {
-            Some(membership.is_member)
-        } else {
-            None
+            searched,
+            listing,
         }
     }
 
@@ -77,15 +48,15 @@ impl<'a> Memberships<'a> {
     pub(crate) fn has(&self, group: &[u8]) -> bool
         ensures { result ≡ lists_user self.now.groups.now group.now self.now.user.now }
     {
-        let Some(members) = self.groups.find(group) else {
-            return false;
-        };
-        match members.long_slot() {
-            None => has_member(members.text, self.user),
-            Some(slot) => match self.kept(group, slot) {
-                Some(is_member) => is_member,
-                None => has_member(members.text, self.user),
-            },
+        match self.groups.find(group) {
+            Some((index, members)) => {
+                if index < self.searched {
+                    self.listing.has(index)
+                } else {
+                    has_member(members, self.user)
+                }
+            }
+            None => false,
         }
     }
 }
