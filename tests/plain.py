@@ -197,12 +197,16 @@ class Request:
         groups = None
         if any(needs_access(name, module.arguments) for name, module in zip(names, modules)):
             groups = tables.Groups(self.tables.get(b"--group", b""))
+        by_arguments = {}  # what the table answers where it is read with these arguments
         known = [None] * len(modules)
         for position, (name, module) in enumerate(zip(names, modules)):
             answers = None
             if needs_access(name, module.arguments):
-                table = tables.AccessTable(self.tables[b"--access"], module.arguments)
-                answers = table.decide(self.login(), groups)
+                arguments = tuple(module.arguments)
+                if arguments not in by_arguments:
+                    table = tables.AccessTable(self.tables[b"--access"], module.arguments)
+                    by_arguments[arguments] = table.decide(self.login(), groups)
+                answers = by_arguments[arguments]
             elif needs_time(name, module.arguments):
                 answers = tables.TimeTable(self.tables[b"--time"]).decide(self.login(), moment)
             if answers is not None:
