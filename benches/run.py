@@ -85,6 +85,45 @@ def time_tables(size):
     return make
 
 
+def pairs():
+    """The 676 names of two letters."""
+    letters = b"abcdefghijklmnopqrstuvwxyz"
+    return [bytes((one, other)) for one in letters for other in letters]
+
+
+def group_tables(size):
+    """Each token of the table is the name of a group, and the login is in none of them."""
+    def make(folder):
+        names = pairs()
+        put(folder, "access", b"-:" + b" ".join((names * (size // (3 * len(names)) + 1))[:size // 3]) + b":ALL\n")
+        members = b",".join(b"member%d" % n for n in range(size // (9 * len(names))))
+        put(folder, "group", b"".join(b"%s:x:1:%s\n" % (name, members) for name in names))
+    return make
+
+
+def table_readers(arguments):
+    """Modules that read one access table of a quarter of a MiB, each with these arguments."""
+    def sized(count):
+        def make(folder):
+            os.mkdir(os.path.join(folder, "d"))
+            put(folder, "d/login", b"".join(b"account required pam_access.so " + arguments(n) + b"\n" for n in range(count)))
+            put(folder, "access", repeated(b"-:root bob:10.0.0.0/8 192.0.2.7\n", MIB // 4))
+        return make
+    return sized
+
+
+def included_files(count):
+    """A service that includes this number of files of 4 kB, one after another."""
+    def make(folder):
+        os.mkdir(os.path.join(folder, "d"))
+        put(folder, "d/login", b"".join(b"auth include part%d\n" % n for n in range(count)))
+        for n in range(count):
+            put(folder, "d/part%d" % n, STACK + repeated(b"session required pam_x.so debug\n", 4096))
+    return make
+
+
+READERS = ["paths", "login", "account", "--dir", "d", "--access", "access", "--user", "alice", "--limit", "1"]
+
 CASES = [
     # name, words, the maker of the input of a size, the sizes, and the files of a size's bytes
     ("start-up: one decide of two lines", ["decide", "login", "auth", "success", "auth_err", "--dir", "d"],
@@ -100,6 +139,12 @@ CASES = [
     ("256 includes of a 60 kB file", ["show", "login", "auth", "--dir", "d"],
      lambda count: pam_d(login=b"auth include big\n" * count + STACK, big=repeated(b"session required pam_x.so debug\n", 60000)),
      (64, 128, 256), 0),
+    ("256 includes of a file each, of 4 kB", ["show", "login", "auth", "--dir", "d"], included_files, (64, 128, 256), 0),
+    ("256 modules that read one access table, equally", READERS, table_readers(lambda n: b"nodefgroup"), (64, 128, 256), 0),
+    ("256 modules that read it with separators of their own", READERS, table_readers(lambda n: b"fieldsep=:" + pairs()[n].upper()),
+     (64, 128, 256), 0),
+    ("names of groups of 1 MiB, and 676 groups", ["access", "login", "--access", "access", "--group", "group", "--user", "alice"],
+     group_tables, SIZES, 2),
     ("an access table and a group file of 1 MiB each", ["access", "login", "--access", "access", "--group", "group", "--user", "alice",
                                                         "--rhost", "10.1.2.3"], access_tables, SIZES, 2),
     ("a time table of 1 MiB", ["time", "login", "--time", "time", "--user", "alice", "--tty", "tty1", "--at", "2024-05-06T10:00"],
