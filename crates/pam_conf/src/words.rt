@@ -30,7 +30,7 @@ fn plain_len(bytes: &[u8]) -> usize
 }
 
 /// The number of bytes up to the closing bracket, this one included; `None` if no bracket closes.
-// Not put in line, so that the readers of words that have no bracket stay short enough to be.
+// Not inlined, so that the readers of words without brackets stay short enough to be.
 #[inline(never)]
 fn inside_len(inside: &[u8]) -> Option<usize>
     ensures value { MatchOption result (words_in (Bracket false) inside.now ≡ None)
@@ -95,7 +95,7 @@ pub(crate) fn after_word<'a>(line: &'a [u8], word: &[u8]) -> Option<&'a [u8]>
     ensures { IfSome result (λ rest. words_of line.now ≡ words_from (Some (word.now, rest.now))) }
 {
     let len = word.len();
-    // The byte after the word tells most other words.
+    // The byte after the word rules out most other words.
     if line.len() <= len || !is_blank_byte(line[len]) {
         return None;
     }
