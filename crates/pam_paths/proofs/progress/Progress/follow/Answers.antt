@@ -8,18 +8,18 @@ use Rattle.pam_paths.proofs.Counts.{counts-then}
 use Rattle.pam_paths.proofs.FrameLists.{AreFrames-length}
 use Rattle.pam_paths.proofs.Tails.{end-alike, end-none, first-path, first-steps, steps-told, tail-room, told-alike}
 use Rattle.pam_paths.proofs.Fronts.{shared_steps}
-use Rattle.pam_paths.proofs.explorer.follow.Given.{Over}
-use Rattle.pam_paths.proofs.explorer.follow.Goals as goal
-use Rattle.pam_paths.proofs.explorer.follow.Goals.{After-as_slice}
+use Rattle.pam_paths.proofs.progress.Progress.follow.Given.{Over}
+use Rattle.pam_paths.proofs.progress.Progress.follow.Goals as goal
+use Rattle.pam_paths.proofs.progress.Progress.follow.Goals.{After-as_slice}
 
 pub returns-in_default-clause-stays : goal.returns-in_default-clause-stays
 unfolding coming ahead
 returns-in_default-clause-stays g c = rw c.in_default.ensures.emptied refl
 
 -- the steps that the path shares with the one before it are those of frames that stay
-within : (g : Over) (c : After-as_slice g) → c.shared_count-shared.result ≤ length c.go_on.new.frames.items - 1
+within : (g : Over) (c : After-as_slice g) → c.shared_count-shared.result ≤ length c.go_on.new.self.frames.items - 1
 within g c =
-    let followed : c.len-2.result ≡ length c.go_on.new.frames.items = c.len-2.ensures.value in
+    let followed : c.len-2.result ≡ length c.go_on.new.self.frames.items = c.len-2.ensures.value in
     omega (arith, c.shared_count-shared.ensures.unchanged, followed)
 
 same : (g : Over) (c : After-as_slice g) →
@@ -27,11 +27,11 @@ same : (g : Over) (c : After-as_slice g) →
 same g c =
     let steps = c.path.inside.steps.items in
     let seen : map step_seen steps ≡ c.args.path.now.steps = ap (λ (p : PathValue). p.steps) c.path.view_is in
-    let first = subst (AreFirstSteps c.args.frames.now.items) (sym seen) c.requires.steps in
+    let first = subst (AreFirstSteps c.args.self.now.frames.items) (sym seen) c.requires.steps in
     let told : c.len.result ≡ length steps = c.len.ensures.value in
     let few : c.shared_count-shared.result ≤ length (map step_seen steps) =
     omega (arith, c.shared_count-shared.ensures.within, told, length-map steps step_seen) in
-    shared_steps _ c.args.frames.now.items c.go_on.new.frames.items c.as_slice.result.now c.shared_count-shared.result first
+    shared_steps _ c.args.self.now.frames.items c.go_on.new.self.frames.items c.as_slice.result.now c.shared_count-shared.result first
     c.in-Some.ensures.earlier (ap (take _) c.as_slice.ensures.value ∙ c.descend-rest.ensures.earlier) few (within g c)
 
 pub retell-requires-clause-same : goal.retell-requires-clause-same
@@ -42,16 +42,16 @@ retell-requires-clause-alike g c = told-alike c.last-tail.result.now _ _ c.last-
 
 pub returns-clause-path : goal.returns-clause-path
 returns-clause-path g c =
-    first-path c.args.direction (g.K.Knowledge.allows c.args.knowledge.now) c.args.program.now _ c.descend-rest.new.frames.items
-    c.descend-rest.result c.retell.new.steps.items _ (c.in-Some.ensures.paths ∙ c.descend-rest.ensures.path)
-    (steps-told _ c.as_slice.result.now c.descend-rest.new.frames.items c.last-tail.result.now c.modules.result (modules_of c.args.program.now) _
+    first-path c.args.scope.now.direction (g.K.Knowledge.allows c.args.scope.now.knowledge.now) c.args.scope.now.program.now _
+    c.descend-rest.new.self.frames.items c.descend-rest.result c.retell.new.steps.items _ (c.in-Some.ensures.paths ∙ c.descend-rest.ensures.path)
+    (steps-told _ c.as_slice.result.now c.descend-rest.new.self.frames.items c.last-tail.result.now c.modules.result (modules_of c.args.scope.now.program.now) _
     c.retell.ensures c.as_slice.ensures.value c.last-tail.ensures c.modules.ensures.count)
     c.code-path-inside.ensures
 
 pub returns-clause-steps : goal.returns-clause-steps
 returns-clause-steps g c =
-    first-steps (map step_seen c.retell.new.steps.items) c.descend-rest.new.frames.items _
-    (steps-told _ c.as_slice.result.now c.descend-rest.new.frames.items c.last-tail.result.now c.modules.result (modules_of c.args.program.now) _
+    first-steps (map step_seen c.retell.new.steps.items) c.descend-rest.new.self.frames.items _
+    (steps-told _ c.as_slice.result.now c.descend-rest.new.self.frames.items c.last-tail.result.now c.modules.result (modules_of c.args.scope.now.program.now) _
     c.retell.ensures c.as_slice.ensures.value c.last-tail.ensures c.modules.ensures.count)
 
 pub invariant_of-path : goal.invariant_of-path
@@ -69,10 +69,10 @@ retell-requires-clause-few g c =
 pub returns-clause-shared : goal.returns-clause-shared
 returns-clause-shared g c =
     let told = (goal.at.returns-clause-shared g c).After-as_slice in
-    let mid = c.go_on.new.frames.items in
+    let mid = c.go_on.new.self.frames.items in
     let own = map step_in c.as_slice.result.now in
-    let front : length mid ≤ length c.descend-rest.new.frames.items =
-    omega (arith, ap length c.descend-rest.ensures.earlier, length-take (length mid) c.descend-rest.new.frames.items) in
+    let front : length mid ≤ length c.descend-rest.new.self.frames.items =
+    omega (arith, ap length c.descend-rest.ensures.earlier, length-take (length mid) c.descend-rest.new.self.frames.items) in
     let inside : c.shared_count-shared.result ≤ length own =
     omega (arith, front, within g told, ap length c.as_slice.ensures.value, length-map c.as_slice.result.now step_in) in
     ap (take c.shared_count-shared.result) c.retell.ensures
@@ -84,7 +84,7 @@ returns-clause-grows g c = counts-then _ _ _ c.go_on.ensures.grows c.descend-res
 
 pub returns-clause-work : goal.returns-clause-work
 returns-clause-work g c =
-    let program = c.args.program.now in
-    let k = AreFrames-length (g.K.Knowledge.allows c.args.knowledge.now) program 0 c.descend-rest.new.frames.items
+    let program = c.args.scope.now.program.now in
+    let k = AreFrames-length (g.K.Knowledge.allows c.args.scope.now.knowledge.now) program 0 c.descend-rest.new.self.frames.items
     (omega arith) c.descend-rest.ensures.frames in
     omega (arith, c.go_on.ensures.work, c.descend-rest.ensures.work, k)

@@ -14,33 +14,33 @@ use Rattle.pam_paths.proofs.FrameLists.{listing-ahead, ordered-some, pushed, ris
 use Rattle.pam_paths.proofs.Fronts.{front_pushed}
 use Rattle.pam_paths.proofs.KeptOnes.{frame_of}
 use Rattle.pam_paths.proofs.Tails.{settled-path, settled-room}
-use Rattle.pam_paths.proofs.frames.descend.Given.{Over}
-use Rattle.pam_paths.proofs.frames.descend.Goals as goal
-use Rattle.pam_paths.proofs.frames.descend.Goals.{After-at-frame}
+use Rattle.pam_paths.proofs.progress.Progress.descend.Given.{Over}
+use Rattle.pam_paths.proofs.progress.Progress.descend.Goals as goal
+use Rattle.pam_paths.proofs.progress.Progress.descend.Goals.{After-at-frame}
 
 -- the frame is that of the module asked at the place
 framed : (g : Over) (c : After-at-frame g) →
-    IsFrame (g.K.Knowledge.allows c.args.knowledge.now) c.args.program.now (length c.loop-rest.frames.items) c.at-frame.result
+    IsFrame (g.K.Knowledge.allows c.args.scope.now.knowledge.now) c.args.scope.now.program.now (length c.loop-rest.self.frames.items) c.at-frame.result
 framed g c =
     let i = c.loop-rest.invariant in
     let e = c.at-frame.ensures in
-    frame_of (g.K.Knowledge.allows c.args.knowledge.now) c.args.program.now (length c.loop-rest.frames.items) c.at-frame.result c.loop-rest.place
-    c.in-Some-module.module_number c.at-classes.result e.place e.number e.classes e.code i.place
-    (sym (c.in-Some-module.ensures c.args.program.now i.place)) i.rise c.at-classes.ensures.offered c.at-classes.ensures.classes
+    frame_of (g.K.Knowledge.allows c.args.scope.now.knowledge.now) c.args.scope.now.program.now (length c.loop-rest.self.frames.items) c.at-frame.result
+    c.loop-rest.self.place c.in-Some-module.module_number c.at-classes.result e.place e.number e.classes e.code i.place
+    (sym (c.in-Some-module.ensures c.args.scope.now.program.now i.place)) i.rise c.at-classes.ensures.offered c.at-classes.ensures.classes
 
 pub push-requires : goal.push-requires
 push-requires g c =
     let i = c.loop-rest.invariant in
-    let program = c.args.program.now in
+    let program = c.args.scope.now.program.now in
     let asked = sym (c.in-Some-module.ensures program i.place) in
     let k = rise_after _ (modules_of program) _ 0 _ i.rise asked in
-    let room : length c.loop-rest.frames.items < 256 = omega (arith, k.0, k.1, c.requires.few) in
+    let room : length c.loop-rest.self.frames.items < 256 = omega (arith, k.0, k.1, c.requires.few) in
     (lit< tt, room)
 
 pub loop-rest-smaller : goal.loop-rest-smaller
 loop-rest-smaller g c =
     let i = c.loop-rest.invariant in
-    let program = c.args.program.now in
+    let program = c.args.scope.now.program.now in
     let asked = sym (c.in-Some-module.ensures program i.place) in
     let k = rise_after _ (modules_of program) _ 0 _ i.rise asked in
     omega (arith, c.push.ensures.len, k.0, k.1)
@@ -49,32 +49,32 @@ loop-rest-smaller g c =
 pub unreachable-requires : goal.unreachable-requires
 unreachable-requires g c =
     let i = c.loop-rest.invariant in
-    let none = sym (c.module.ensures c.args.program.now i.place) ∙ c.in_default-module.is in
+    let none = sym (c.module.ensures c.args.scope.now.program.now i.place) ∙ c.in_default-module.is in
     false≢true (subst (λ (o : Option ℕ). IsSome o) none c.in_default.ensures.asking)
 
 pub unreachable-requires-in-None : goal.unreachable-requires-in-None
 unreachable-requires-in-None g c =
     let i = c.loop-rest.invariant in
-    let allows = g.K.Knowledge.allows c.args.knowledge.now in
-    let program = c.args.program.now in
-    let d = c.args.direction in
-    let r = rest_of program c.loop-rest.place in
+    let allows = g.K.Knowledge.allows c.args.scope.now.knowledge.now in
+    let program = c.args.scope.now.program.now in
+    let d = c.args.scope.now.direction in
+    let r = rest_of program c.loop-rest.self.place in
     let asked = sym (c.in-Some-module.ensures program i.place) in
     let is = framed g (goal.at.unreachable-requires-in-None g c).After-at-frame in
     ordered-some d allows _ (modules_of program) r i.rise
-    (λ m first last. g.met.K.Knowledge.lawful c.args.knowledge.now m first (omega (arith, last, c.requires.few)))
+    (λ m first last. g.met.K.Knowledge.lawful c.args.scope.now.knowledge.now m first (omega (arith, last, c.requires.few)))
     (listing-ahead d allows r c.in-Some-module.module_number asked
-    ∙ ap (ahead_of d allows r) (sym c.outset.ensures.value)
-    ∙ ap (λ (x : Place). ahead_of d allows (rest_of program x) c.outset.result) (sym c.at-frame.ensures.place)
+    ∙ ap (ahead_of d allows r) (sym c.outset-outset.ensures.value)
+    ∙ ap (λ (x : Place). ahead_of d allows (rest_of program x) c.outset-outset.result) (sym c.at-frame.ensures.place)
     ∙ c.in-None.ensures.none allows is.offered)
 
 pub loop-rest-preserved : goal.loop-rest-preserved
 loop-rest-preserved g c =
     let i = c.loop-rest.invariant in
-    let allows = g.K.Knowledge.allows c.args.knowledge.now in
-    let program = c.args.program.now in
-    let d = c.args.direction in
-    let fs = c.loop-rest.frames.items in
+    let allows = g.K.Knowledge.allows c.args.scope.now.knowledge.now in
+    let program = c.args.scope.now.program.now in
+    let d = c.args.scope.now.direction in
+    let fs = c.loop-rest.self.frames.items in
     let b = c.in-Some-branch_ahead.branch in
     let next = c.branch_ahead.new.place in
     let e = c.in-Some-branch_ahead.ensures in
@@ -91,13 +91,13 @@ loop-rest-preserved g c =
       place = e.place;
       rise = subst (λ x. AsksRise x (modules_of program) (rest_of program next)) (sym c.push.ensures.len)
           (frame_after allows program (length fs) f b.code next is e.rest);
-      earlier = front_pushed c.args.frames.now.items fs _ h i.earlier c.push.ensures.items;
+      earlier = front_pushed c.args.self.now.frames.items fs _ h i.earlier c.push.ensures.items;
       same = i.same
-          ∙ ahead-enter d allows program fs h below (ordered d (listing allows (rest_of program c.loop-rest.place)))
+          ∙ ahead-enter d allows program fs h below (ordered d (listing allows (rest_of program c.loop-rest.self.place)))
           (ap (λ (x : Place). ordered d (listing allows (rest_of program x))) (sym c.at-frame.ensures.place)
           ∙ listing-ahead d allows r f.module_number is.asking
-          ∙ ap (ahead_of d allows r) (sym c.outset.ensures.value)
-          ∙ branch_followed d allows program r f h c.outset.result b.code b.class below
+          ∙ ap (ahead_of d allows r) (sym c.outset-outset.ensures.value)
+          ∙ branch_followed d allows program r f h c.outset-outset.result b.code b.class below
           (ap (λ (x : Place). rest_of program x) (sym k.place)) k.number k.code k.class
           (e.paths allows is.offered))
           ∙ ap (λ (x : List Frame). under x below ++ ahead d allows program x) (sym c.push.ensures.items);
@@ -120,34 +120,34 @@ branch_ahead-requires-clause-last g c =
 pub at-classes-requires-clause-first : goal.at-classes-requires-clause-first
 at-classes-requires-clause-first g c =
     let i = c.loop-rest.invariant in
-    let k = rise_after _ (modules_of c.args.program.now) _ 0 _ i.rise (sym (c.in-Some-module.ensures c.args.program.now i.place)) in
+    let k = rise_after _ (modules_of c.args.scope.now.program.now) _ 0 _ i.rise (sym (c.in-Some-module.ensures c.args.scope.now.program.now i.place)) in
     omega (arith, k.0)
 
 pub at-classes-requires-clause-last : goal.at-classes-requires-clause-last
 at-classes-requires-clause-last g c =
     let i = c.loop-rest.invariant in
-    (rise_after _ (modules_of c.args.program.now) _ 0 _ i.rise (sym (c.in-Some-module.ensures c.args.program.now i.place))).1
+    (rise_after _ (modules_of c.args.scope.now.program.now) _ 0 _ i.rise (sym (c.in-Some-module.ensures c.args.scope.now.program.now i.place))).1
 
 pub at-frame-requires : goal.at-frame-requires
 at-frame-requires g c =
     let i = c.loop-rest.invariant in
-    let k = rise_after _ (modules_of c.args.program.now) _ 0 _ i.rise (sym (c.in-Some-module.ensures c.args.program.now i.place)) in
+    let k = rise_after _ (modules_of c.args.scope.now.program.now) _ 0 _ i.rise (sym (c.in-Some-module.ensures c.args.scope.now.program.now i.place)) in
     omega (arith, k.1, c.requires.few)
 
 pub returns-in-Some-clause-path : goal.returns-in-Some-clause-path
 returns-in-Some-clause-path g c =
     let i = c.loop-rest.invariant in
-    let program = c.args.program.now in
+    let program = c.args.scope.now.program.now in
     i.same
-    ∙ settled-path c.args.direction (g.K.Knowledge.allows c.args.knowledge.now) program c.loop-rest.frames.items (rest_of program c.loop-rest.place)
-    c.in-Some.rest
-    (λ m first last. g.met.K.Knowledge.lawful c.args.knowledge.now m first (omega (arith, last, c.requires.few)))
+    ∙ settled-path c.args.scope.now.direction (g.K.Knowledge.allows c.args.scope.now.knowledge.now) program c.loop-rest.self.frames.items
+    (rest_of program c.loop-rest.self.place) c.in-Some.rest
+    (λ m first last. g.met.K.Knowledge.lawful c.args.scope.now.knowledge.now m first (omega (arith, last, c.requires.few)))
     c.in-Some.ensures.settled c.in-Some.ensures.decision c.in-Some.ensures.within
 
 pub returns-in-Some-clause-within : goal.returns-in-Some-clause-within
 returns-in-Some-clause-within g c =
     let i = c.loop-rest.invariant in
-    let program = c.args.program.now in
-    let fs = c.loop-rest.frames.items in
-    settled-room (length fs) (modules_of program) c.in-Some.rest.modules _ (rest_of program c.loop-rest.place) i.rise c.in-Some.ensures.settled
-    c.in-Some.ensures.within (AreFrames-length (g.K.Knowledge.allows c.args.knowledge.now) program 0 fs (omega arith) i.frames)
+    let program = c.args.scope.now.program.now in
+    let fs = c.loop-rest.self.frames.items in
+    settled-room (length fs) (modules_of program) c.in-Some.rest.modules _ (rest_of program c.loop-rest.self.place) i.rise c.in-Some.ensures.settled
+    c.in-Some.ensures.within (AreFrames-length (g.K.Knowledge.allows c.args.scope.now.knowledge.now) program 0 fs (omega arith) i.frames)
