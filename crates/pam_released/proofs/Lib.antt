@@ -5,6 +5,7 @@ pub mod LineTests
 pub mod Lines152
 pub mod Lines170
 pub mod Manual
+pub mod Pushing
 pub mod Scanning
 pub mod Silence
 pub mod Words

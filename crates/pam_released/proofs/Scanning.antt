@@ -1,12 +1,13 @@
 -- What a scan of bytes finds, in the words of the definitions.
-use Rattle.std.proofs.Common.{◌≡◌, ◌≤◌, ◌+◌, ◌&&◌, ◌||◌, ◌++◌, ◌∙◌, ℕ, suc, Bool, true, false, not, List, [], ◌∷◌, take, drop, length, cond, eqb, ap, sym, refl, arith, one-add, append_assoc}
+use Rattle.std.proofs.Common.{◌≡◌, ◌<◌, ◌≤◌, ◌+◌, ◌&&◌, ◌||◌, ◌++◌, ◌∙◌, ℕ, suc, Bool, true, false, not, List, [], ◌∷◌, take, drop, length, cond, eqb, ap, sym, refl, arith, add-one, one-add, append_assoc, drop-cons, get_or}
 use Rattle.std.specs.List.{list_all, list_any, onto_first, prefix_len}
-use Rattle.std.proofs.lemmas.Bool.{or_parts, eq-eqb, eqb-true}
+use Rattle.std.proofs.lemmas.Bool.{and_parts, or_parts, eq-eqb}
+use Rattle.std.proofs.lemmas.List.{drop_all}
 use Rattle.pam_codes.specs.Tokens.{is_blank}
 use Rattle.pam_conf.specs.Words.{State, Between, Plain, Bracket}
-use Rattle.pam_released.specs.Bracket.{after, begins_in_blank}
+use Rattle.pam_released.specs.Bracket.{after, begins_in_blank, part, state_after}
 use Rattle.pam_released.specs.Findings.{after_last_slash, before_last_dot, ends_in_blank}
-use Rattle.pam_released.specs.Lines.{before_hash, ends_in_backslash, is_space_or_tab, last_is_space, physical_lines, without_end_blanks}
+use Rattle.pam_released.specs.Lines.{before_hash, ends_in_backslash, front_part, goes_on, has_hash, is_space_or_tab, last_is_space, physical_lines, without_end_blanks}
 use Rattle.pam_released.specs.Reader.{next_state}
 
 -- LINES
@@ -200,27 +201,87 @@ cut_at_dot (b ∷ xs) tail h =
 
 -- the dot that was found is the last one
 pub found_dot : (name front tail before : List ℕ) (b : ℕ) → name ≡ front ++ tail → list_any (λ c. eqb c 46) tail ≡ false → front ≡ before ++ b ∷ [] →
-    eqb b 46 ≡ true → before_last_dot name ≡ before
+    b ≡ 46 → before_last_dot name ≡ before
 found_dot name front tail before b is none split dot =
-    let same : b ≡ 46 = eqb-true b 46 dot in
-    ap before_last_dot (is ∙ ap (λ (f : List ℕ). f ++ tail) split ∙ append_assoc before (b ∷ []) tail ∙ ap (λ (d : ℕ). before ++ d ∷ tail) same)
+    ap before_last_dot (is ∙ ap (λ (f : List ℕ). f ++ tail) split ∙ append_assoc before (b ∷ []) tail ∙ ap (λ (d : ℕ). before ++ d ∷ tail) dot)
     ∙ cut_at_dot before tail none
-
--- no dot so far, and no dot in one more byte
-pub no_dot_here : (name front tail before : List ℕ) (b : ℕ) → name ≡ front ++ tail → list_any (λ c. eqb c 46) tail ≡ false → front ≡ before ++ b ∷ [] →
-    eqb b 46 ≡ false → (more : List ℕ) × (name ≡ before ++ more) × (list_any (λ c. eqb c 46) more ≡ false)
-no_dot_here name front tail before b is none split dot =
-    (b ∷ tail, is ∙ ap (λ (f : List ℕ). f ++ tail) split ∙ append_assoc before (b ∷ []) tail, rw dot none)
 
 pub no_dot_at_all : (name front tail : List ℕ) → name ≡ front ++ tail → list_any (λ c. eqb c 46) tail ≡ false → length front ≡ 0 →
     before_last_dot name ≡ name
 no_dot_at_all name [] tail is none e = no_dot name (ap (list_any (λ c. eqb c 46)) is ∙ none)
 no_dot_at_all name (b ∷ front) tail is none e = absurd (omega (arith, e))
 
--- SLASHES
+slash_after : (xs tail : List ℕ) → list_any (λ c. eqb c 47) (xs ++ 47 ∷ tail) ≡ true
+slash_after [] tail = refl
+slash_after (b ∷ xs) tail =
+    elim (eqb b 47) as (λ (t : Bool). (t || list_any (λ c. eqb c 47) (xs ++ 47 ∷ tail)) ≡ true) [ true ↦ refl | false ↦ slash_after xs tail ]
 
-skips_one : (b c : ℕ) (bs : List ℕ) → list_any (λ d. eqb d 47) (c ∷ bs) ≡ true → after_last_slash (b ∷ c ∷ bs) ≡ after_last_slash (c ∷ bs)
+cut_at_slash : (xs tail : List ℕ) → list_any (λ c. eqb c 47) tail ≡ false → after_last_slash (xs ++ 47 ∷ tail) ≡ tail
 unfolding after_last_slash
-skips_one b c bs h =
-    ap (λ (t : Bool). cond t (after_last_slash (c ∷ bs)) (b ∷ c ∷ bs))
-    (elim (eqb b 47) as (λ (t : Bool). (t || list_any (λ d. eqb d 47) (c ∷ bs)) ≡ true) [ true ↦ refl | false ↦ h ])
+cut_at_slash [] tail h = no_slash tail h
+cut_at_slash (b ∷ xs) tail h =
+    ap (λ (t : Bool). cond t (after_last_slash (xs ++ 47 ∷ tail)) (b ∷ xs ++ 47 ∷ tail)) (slash_after (b ∷ xs) tail) ∙ cut_at_slash xs tail h
+
+dropped : (xs ys : List ℕ) → drop (length xs) (xs ++ ys) ≡ ys
+dropped [] ys = refl
+dropped (b ∷ xs) ys = dropped xs ys
+
+-- the slash that was found is the last one
+pub found_slash : (path front tail before : List ℕ) (b : ℕ) → path ≡ front ++ tail → list_any (λ c. eqb c 47) tail ≡ false → front ≡ before ++ b ∷ [] →
+    b ≡ 47 → after_last_slash path ≡ drop (length front) path
+found_slash path front tail before b is none split slash =
+    ap after_last_slash (is ∙ ap (λ (f : List ℕ). f ++ tail) split ∙ append_assoc before (b ∷ []) tail ∙ ap (λ (d : ℕ). before ++ d ∷ tail) slash)
+    ∙ cut_at_slash before tail none ∙ sym (dropped front tail) ∙ ap (drop (length front)) (sym is)
+
+pub no_slash_at_all : (path front tail : List ℕ) → path ≡ front ++ tail → list_any (λ c. eqb c 47) tail ≡ false → length front ≡ 0 →
+    after_last_slash path ≡ path
+no_slash_at_all path [] tail is none e = no_slash path (ap (list_any (λ c. eqb c 47)) is ∙ none)
+no_slash_at_all path (b ∷ front) tail is none e = absurd (omega (arith, e))
+
+-- WHAT A LINE ADDS
+
+goes_part : (line : List ℕ) → goes_on line ≡ true → part line ≡ last_is_space (without_end_blanks line)
+goes_part line g = ap (λ (t : Bool). cond t (front_part line) (before_hash line)) g
+
+one_byte : (t : List ℕ) → length t ≡ 1 → begins_in_blank (last_is_space t) ≡ true
+unfolding last_is_space
+one_byte [] h = absurd (omega (arith, h))
+one_byte (b ∷ []) h = refl
+one_byte (b ∷ c ∷ t) h = absurd (omega (arith, h))
+
+more_bytes : (t : List ℕ) → (length t ≡ 1 → ⊥) → begins_in_blank (last_is_space t) ≡ begins_in_blank t
+unfolding last_is_space
+more_bytes [] h = refl
+more_bytes (b ∷ []) h = absurd (h refl)
+more_bytes (b ∷ c ∷ t) h = refl
+
+pub begins_one : (line t : List ℕ) → goes_on line ≡ true → t ≡ without_end_blanks line → length t ≡ 1 → begins_in_blank (part line) ≡ true
+begins_one line t g is h = ap begins_in_blank (goes_part line g ∙ ap last_is_space (sym is)) ∙ one_byte t h
+
+pub begins_more : (line t : List ℕ) → goes_on line ≡ true → t ≡ without_end_blanks line → (length t ≡ 1 → ⊥) →
+    begins_in_blank (part line) ≡ begins_in_blank t
+begins_more line t g is h = ap begins_in_blank (goes_part line g ∙ ap last_is_space (sym is)) ∙ more_bytes t h
+
+pub read_byte : (s r : State) (text : List ℕ) (i : ℕ) → i < length text → r ≡ next_state s (get_or text i 0) →
+    after r (drop (i + 1) text) ≡ after s (drop i text)
+read_byte s r text i low is =
+    let split : drop i text ≡ get_or text i 0 ∷ drop (i + 1) text = rw (add-one, drop-cons text i 0) refl in
+    ap (λ (q : State). after q (drop (i + 1) text)) is ∙ sym (after_byte s (get_or text i 0) (drop (i + 1) text)) ∙ ap (after s) (sym split)
+
+pub read_all : (s w : State) (text : List ℕ) (i : ℕ) → length text ≤ i → after s (drop i text) ≡ after w text → s ≡ after w text
+read_all s w text i end h = sym (after_nothing s) ∙ ap (after s) (sym (drop_all i text end)) ∙ h
+
+-- the state at the line after one that goes on
+pub line_read : (s a n : State) (line t front : List ℕ) (b : ℕ) → goes_on line ≡ true → t ≡ without_end_blanks line → t ≡ front ++ b ∷ [] →
+    a ≡ after s front → n ≡ next_state a 32 → n ≡ state_after s line
+line_read s a n line t front b g is split first then =
+    then ∙ ap (λ (r : State). next_state r 32) first ∙ sym (after_last s front 32) ∙ ap (after s) (sym (last_spaced front b))
+    ∙ ap (λ (r : List ℕ). after s (last_is_space r)) (sym split ∙ is)
+    ∙ ap (after s) (sym (goes_part line g))
+    ∙ sym (ap (λ (u : Bool). cond u (after s (part line)) Between) g)
+
+pub no_empty_line : (line t : List ℕ) → goes_on line ≡ true → t ≡ without_end_blanks line → length t ≡ 0 → ⊥
+no_empty_line line t g is e =
+    let ends : ends_in_backslash (without_end_blanks line) ≡ true = (and_parts (not (has_hash line)) (ends_in_backslash (without_end_blanks line)) g).1 in
+    let no : ends_in_backslash t ≡ false = nothing_last_backslash t e in
+    let wrong : true ≡ false = sym ends ∙ ap ends_in_backslash (sym is) ∙ no in absurd (cc)

@@ -11,7 +11,7 @@ use crate::difference::Difference;
 use crate::finding::{Finding, push_if};
 use pam_codes::is_name;
 use pam_conf::{Form, Words, text_of};
-use pam_text::{Line, cut};
+use pam_text::Line;
 use std::alloc::{AllocError, Global};
 
 /// Appends the differences of the rule of a line, if it has one.
@@ -119,11 +119,14 @@ fn module_name(path: &[u8]) -> &[u8]
 fn after_last_slash(path: &[u8]) -> &[u8]
     ensures { result.now ≡ after_last_slash path.now }
 {
-    let mut text = path;
-    while let Some((_, after)) = cut(text, b'/') {
-        text = after;
+    let mut front = path;
+    while let Some((last, before)) = front.split_last() {
+        if *last == b'/' {
+            return path.split_at(front.len()).1;
+        }
+        front = before;
     }
-    text
+    path
 }
 
 fn before_last_dot(name: &[u8]) -> &[u8]
