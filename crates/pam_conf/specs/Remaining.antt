@@ -1,4 +1,4 @@
--- For proofs alone: the remaining words of a line, part of which is read: pam.conf(5), on brackets in arguments.
+-- The remaining words of a line, part of which is read: pam.conf(5), on brackets in arguments.
 use Rattle.std.specs.Prelude.{ℕ, List}
 use Rattle.pam_conf.specs.FirstWord.{words_left}
 use Rattle.pam_conf.specs.declared.words.OwnedWords.{OwnedWords}

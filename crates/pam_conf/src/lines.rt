@@ -84,7 +84,7 @@ fn text_rules(
     Ok(rules)
 }
 
-/// Passes over blank lines, which have no rule, and returns the next line.
+/// Skips blank lines, which have no rule, and returns the next line.
 fn next_filled_line<'b, 'a: 'b>(
     text: &mut Text<'a>,
     joined: &'b mut Vec<u8>,

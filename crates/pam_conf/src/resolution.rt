@@ -34,7 +34,7 @@ const OTHER: &[u8] = b"other";
 struct Start<'a> {
     file: usize,
     service: Option<&'a [u8]>,
-    /// The rules of pam.conf that have been read, those of the service among them.
+    /// The rules of pam.conf that have been read, including the service's.
     read: Option<&'a [KeptRule]>,
 }
 

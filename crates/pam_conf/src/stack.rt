@@ -116,7 +116,7 @@ impl Stack {
         self.items.as_slice()
     }
 
-    /// The number of modules, those of substacks included.
+    /// The number of modules, including the modules of substacks.
     pub fn modules(&self) -> usize
         ensures count { result ≡ module_count self.now }
         ensures most { result ≤ MAX_MODULES }

@@ -16,9 +16,9 @@ use pam_codes::{Control, is_name};
 #[derive(Clone, Copy)]
 pub(crate) enum Wanted<'a> {
     All,
-    /// Those that apply to this kind.
+    /// The rules that apply to this kind.
     OfKind(Kind),
-    /// Those of pam.conf that name one of these two services, which are in lowercase.
+    /// The rules of pam.conf that name one of these two services, which are in lowercase.
     OfServices(&'a [u8], &'a [u8]),
 }
 

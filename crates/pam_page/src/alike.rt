@@ -143,8 +143,8 @@ impl AlikeTexts {
         steps.append_part::<NUMBER_BYTES>(&self.steps, start, end)
     }
 
-    /// Appends texts until there are those of the modules of `tail`, the last steps of a path. Returns the number of modules
-    /// before them and that of the last one; `None` if there is no room for all texts.
+    /// Appends texts until each module of `tail`, the last steps of a path, has one. Returns the number of modules
+    /// before them and the number of the last one; `None` if there is no room for all texts.
     pub(crate) fn reach_tail(&mut self, tail: &[PathStep]) -> Option<(usize, usize)>
         requires { AreAlike (map step_seen tail.now) }
         ensures within { IfSome result (λ range. range.1 ≤ self.new) }

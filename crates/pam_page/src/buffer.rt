@@ -13,7 +13,7 @@ const FILLED_BYTES: usize = 4096;
 /// A writer into memory that is allocated once. It never grows.
 #[derive(Drop)]
 pub(crate) struct Buffer {
-    /// The text, and then bytes that mean nothing, over which later texts are written.
+    /// The text, and then bytes without meaning, which later texts overwrite.
     bytes: Vec<u8>,
     /// The length of the text.
     end: usize,

@@ -86,7 +86,7 @@ impl ClassText {
         steps.append_part::<SHORT_BYTES>(&self.text, 0, self.text.len())
     }
 
-    /// Replaces the text by that of `class`. Returns whether there was room.
+    /// Replaces the text by the text of `class`. Returns whether there was room.
     fn replace(&mut self, class: CodeSet) -> bool
         ensures { IsTrue result → self.new ≡ class }
     {
@@ -106,7 +106,7 @@ impl ClassText {
 pub(crate) struct ClassTexts {
     last: ClassText,
     earlier: ClassText,
-    /// That of the class before both.
+    /// The text of the class before both.
     first: ClassText,
 }
 

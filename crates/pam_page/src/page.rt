@@ -133,7 +133,7 @@ fn add_line<W: Write>(
 }
 
 /// Writes the lines, and then adds the line of a path.
-// Not put in line, so that `add_line`, which seldom comes here, stays short enough to be.
+// Not inlined, so that `add_line`, which seldom comes here, stays short enough to be.
 #[cold]
 #[inline(never)]
 fn add_after<W: Write>(

@@ -18,12 +18,10 @@ ghost use Rattle.pam_paths.specs.Work.{CountsOn};
 
 use crate::classes::Classes;
 use crate::direction::Direction;
-use crate::kept::KeptClasses;
-use crate::knowledge::Knowledge;
 use crate::path::PathStep;
 use crate::row::Row;
 use pam_codes::{Code, CodeSet};
-use pam_dispatch::{MAX_MODULES, Place, Program, Rest, Work};
+use pam_dispatch::{MAX_MODULES, Place, Program, Work};
 
 /// The frames of a path, outermost first.
 pub(crate) type Frames = Row<Frame>;
@@ -186,7 +184,7 @@ impl Frame {
 impl Row<Frame> {
     /// Follows `branch` at the frame at `index`.
     #[inline(always)]
-    fn follow(&mut self, index: usize, branch: &Branch)
+    pub(crate) fn follow(&mut self, index: usize, branch: &Branch)
         requires { index < length self.old.items }
         ensures { (frame : Frame) → frame ≡ slice_index_or self.old.items index frame
             → self.new.items ≡ slice_set self.old.items index (followed frame branch.now) }
@@ -194,84 +192,6 @@ impl Row<Frame> {
         let cells = &mut self.cells[..];
         let frame = &mut cells[index];
         frame.follow(branch);
-    }
-}
-
-/// Pops frames up to the innermost one that has a further branch, and follows that branch. Makes `place` the place after
-/// it; `None` if no frame has one.
-pub(crate) fn advance<K: Knowledge>(
-    program: &Program,
-    knowledge: &K,
-    direction: Direction,
-    frames: &mut Frames,
-    place: &mut Place,
-    work: &mut Work,
-) -> Option<()>
-    requires few { modules_of program.now ≤ MAX_MODULES }
-    requires frames { AreFrames (K.allows knowledge.now) program.now 0 frames.old.items }
-    ensures none { IfNone result (ahead direction (K.allows knowledge.now) program.now frames.old.items ≡ []) }
-    ensures emptied { IfNone result (frames.new.items ≡ []) }
-    ensures place { IfSome result (λ _. IsPlaceOf program.now place.new) }
-    ensures frames { AreFrames (K.allows knowledge.now) program.now 0 frames.new.items }
-    ensures rise { IfSome result (λ _. AsksRise (length frames.new.items) (modules_of program.now) (rest_of program.now place.new)) }
-    ensures earlier { take (length frames.new.items - 1) frames.new.items ≡ take (length frames.new.items - 1) frames.old.items }
-    ensures paths { IfSome result (λ _. ahead direction (K.allows knowledge.now) program.now frames.old.items
-        ≡ under frames.new.items (ordered direction (listing (K.allows knowledge.now) (rest_of program.now place.new)))
-        ++ ahead direction (K.allows knowledge.now) program.now frames.new.items) }
-    ensures work { work.new ≤ work.old + length frames.old.items }
-    ensures grows { CountsOn work.old work.new }
-{
-    while !frames.is_empty() {
-        let last = frames.len() - 1;
-        let frame = &frames.as_slice()[last];
-        let bound = direction.past(frame.code);
-        if let Some(branch) = frame.branch_ahead(program, direction, bound, place, work) {
-            frames.follow(last, &branch);
-            return Some(());
-        }
-        frames.truncate(last);
-    }
-    None
-}
-
-/// Follows the first branch of each module, from `place` on, until the run is settled. Returns the rest of it.
-pub(crate) fn descend<K: Knowledge>(
-    program: &Program,
-    knowledge: &K,
-    direction: Direction,
-    frames: &mut Frames,
-    kept: &mut KeptClasses,
-    place: &mut Place,
-    work: &mut Work,
-) -> Rest
-    requires few { modules_of program.now ≤ MAX_MODULES }
-    requires kept { AreKept (K.allows knowledge.now) program.now kept.old.modules }
-    requires frames { AreFrames (K.allows knowledge.now) program.now 0 frames.old.items }
-    requires place { IsPlaceOf program.now place.old }
-    requires rise { AsksRise (length frames.old.items) (modules_of program.now) (rest_of program.now place.old) }
-    ensures frames { AreFrames (K.allows knowledge.now) program.now 0 frames.new.items }
-    ensures kept { AreKept (K.allows knowledge.now) program.now kept.new.modules }
-    ensures path { under frames.old.items (ordered direction (listing (K.allows knowledge.now) (rest_of program.now place.old)))
-        ++ ahead direction (K.allows knowledge.now) program.now frames.old.items
-        ≡ path_to (modules_of program.now) frames.new.items result ∷ ahead direction (K.allows knowledge.now) program.now frames.new.items }
-    ensures within { length frames.new.items + result.modules ≤ modules_of program.now }
-    ensures earlier { take (length frames.old.items) frames.new.items ≡ frames.old.items }
-    ensures work { work.new + length frames.old.items ≤ work.old + length frames.new.items }
-    ensures grows { CountsOn work.old work.new }
-{
-    loop {
-        if let Some(rest) = program.settled(place) {
-            return rest;
-        }
-        let Some(module_number) = place.module() else {
-            unreachable!()
-        };
-        let classes = kept.at(program, knowledge, place, module_number);
-        let frame = Frame::at(*place, module_number, classes);
-        match frame.branch_ahead(program, direction, direction.outset(), place, work) {
-            Some(branch) => frames.push(frame.following(&branch)),
-            None => unreachable!(),
-        }
     }
 }
 

@@ -11,7 +11,8 @@ ghost use Rattle.pam_paths.specs.Listing.{Allowance};
 
 use crate::classes::Classes;
 use crate::knowledge::Knowledge;
-use pam_dispatch::{MAX_MODULES, Place, Program, Situation};
+use crate::scope::Scope;
+use pam_dispatch::{MAX_MODULES, Place, Situation};
 
 /// The classes of a module that was asked, with the situation that represents those in which its answers are alike.
 #[derive(Clone, Copy, Debug)]
@@ -63,28 +64,27 @@ impl KeptClasses {
     /// The classes at `place`, which are computed if the module was not asked in a situation like it last.
     pub(crate) fn at<K: Knowledge>(
         &mut self,
-        program: &Program,
-        knowledge: &K,
+        scope: &Scope<'_, K>,
         place: &Place,
         module_number: usize,
     ) -> Classes
-        requires place { IsPlaceOf program.now place.now }
-        requires asking { asked_module (rest_of program.now place.now) ≡ Some module_number }
+        requires place { IsPlaceOf scope.now.program.now place.now }
+        requires asking { asked_module (rest_of scope.now.program.now place.now) ≡ Some module_number }
         requires first { 1 ≤ module_number }
-        requires last { module_number ≤ modules_of program.now }
-        requires few { modules_of program.now ≤ MAX_MODULES }
-        requires kept { AreKept (K.allows knowledge.now) program.now self.old.modules }
-        ensures kept { AreKept (K.allows knowledge.now) program.now self.new.modules }
-        ensures offered { result.offered ≡ offered_at (K.allows knowledge.now) (rest_of program.now place.now) }
-        ensures classes { AreClasses (next_ask (rest_of program.now place.now)) result }
+        requires last { module_number ≤ modules_of scope.now.program.now }
+        requires few { modules_of scope.now.program.now ≤ MAX_MODULES }
+        requires kept { AreKept (K.allows scope.now.knowledge.now) scope.now.program.now self.old.modules }
+        ensures kept { AreKept (K.allows scope.now.knowledge.now) scope.now.program.now self.new.modules }
+        ensures offered { result.offered ≡ offered_at (K.allows scope.now.knowledge.now) (rest_of scope.now.program.now place.now) }
+        ensures classes { AreClasses (next_ask (rest_of scope.now.program.now place.now)) result }
     {
-        let situation = program.asked(place).situation().representative();
+        let situation = scope.program.asked(place).situation().representative();
         let kept = &self.modules[module_number - 1];
         if kept.is_of(&situation) {
             return kept.classes;
         }
-        let allowed = knowledge.allowed(module_number);
-        let classes = Classes::at(program, place, module_number, allowed);
+        let allowed = scope.knowledge.allowed(module_number);
+        let classes = Classes::at(scope.program, place, module_number, allowed);
         self.modules[module_number - 1] = Kept::of(&situation, &classes);
         classes
     }

@@ -13,8 +13,10 @@ mod kept;
 mod knowledge;
 pub mod laws;
 mod path;
+mod progress;
 mod retrace;
 mod row;
+mod scope;
 mod tail;
 
 pub use before::Before;

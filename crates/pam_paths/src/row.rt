@@ -1,6 +1,6 @@
 //! A list in an array.
 
-ghost use Rattle.std.specs.Prelude.{◌≡◌, ◌+◌, ◌-◌, ◌<◌, ◌≤◌, ◌==◌, ◌++◌, ◌∷◌, [], length, slice_set, take};
+ghost use Rattle.std.specs.Prelude.{◌≡◌, ◌+◌, ◌-◌, ◌<◌, ◌≤◌, ◌==◌, ◌++◌, ◌∷◌, [], if◌then◌else◌, length, slice_set, take, true};
 ghost use Rattle.pam_conf.specs.declared.stack.TheConstants.{MAX_MODULES};
 
 use pam_dispatch::MAX_MODULES;
@@ -80,6 +80,16 @@ impl<T: Copy> Row<T> {
     {
         self.cells[self.count] = element;
         self.count += 1;
+    }
+
+    /// Pushes `element` if `wanted`.
+    pub(crate) fn push_if(&mut self, wanted: bool, element: T)
+        requires { wanted ≡ true → length self.old.items < MAX_MODULES }
+        ensures { self.new.items ≡ (if wanted then self.old.items ++ element ∷ [] else self.old.items) }
+    {
+        if wanted {
+            self.push(element);
+        }
     }
 
     #[inline]

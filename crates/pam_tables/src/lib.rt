@@ -1,5 +1,5 @@
 //! Access tables (access.conf(5)), group files (group(5)) and returns files, which say what modules may return.
-//! It offers what `pam_times` holds of time tables and moments.
+//! Re-exports the time tables and moments of `pam_times`.
 #![tactic(auto)]
 
 mod access;

@@ -28,7 +28,7 @@ impl DayRun {
     }
 }
 
-/// Whether two letters are those of a name, in either case.
+/// Whether two letters spell a name, in either case.
 #[inline(always)]
 #[tactic(auto, using(crate::proofs::EntrySteps::day_letters))]
 fn is_day(name: &[u8], day: &[u8; 2]) -> bool
@@ -137,8 +137,8 @@ pub(crate) struct TimeEntry {
 }
 
 impl TimeEntry {
-    /// Parses one or more days and `HHMM-HHMM`. Put in line, so that a caller that only asks whether there is an entry
-    /// does not build its days.
+    /// Parses one or more days and `HHMM-HHMM`. Inlined, so that a caller that only asks whether there is an entry does
+    /// not build its days.
     #[inline(always)]
     #[tactic(auto, unfolding(crate::specs::Entry::entry_of))]
     pub(crate) fn read(text: &[u8]) -> Option<TimeEntry>

@@ -17,7 +17,7 @@ pub(crate) enum Fact<'a> {
 }
 
 /// Whether a token is an entry that covers a time.
-// Not put in line: the loop over the tokens of a list has no registers to spare.
+// Not inlined: the loop over the tokens of a list has no registers to spare.
 #[inline(never)]
 fn covers(token: &[u8], time: WeekTime) -> bool
     ensures { result ≡ option_map_or (λ entry. holds entry time.day time.minute) (entry_of token.now) false }

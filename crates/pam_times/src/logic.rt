@@ -150,7 +150,7 @@ pub(crate) fn next_joint(text: &[u8]) -> Next<'_>
     Next::Fault
 }
 
-/// Whether a text is a list that is true, given which tokens the fact meets. Put in line, so that it is compiled once for
+/// Whether a text is a list that is true, given which tokens the fact meets. Inlined, so that it is compiled once for
 /// names and once for times.
 #[inline(always)]
 pub(crate) fn is_true(text: &[u8], fact: &Fact<'_>) -> bool

@@ -1,4 +1,4 @@
-//! Whether a line has a rule and no fault, found in one pass over its lists. A line with a fault is read again for it.
+//! Whether a line has a rule and no fault, found in one pass over its lists. A line with a fault is read again.
 
 ghost use Rattle.std.specs.Prelude.{◌≡◌, ◌≤◌, ◌<◌, ◌==◌, ◌||◌, ℕ, [], Ok, Some, length, true, IfSome};
 ghost use Rattle.std.specs.List.{prefix_len};
@@ -34,7 +34,7 @@ impl TokenEnds {
     }
 }
 
-/// Passes over an item and the blanks after it. Returns `None` if there is none, or it has a fault.
+/// Skips an item and the blanks after it. Returns `None` if there is none, or it has a fault.
 #[inline(always)]
 fn past_item<'a>(field: Field, text: &'a [u8], ends: &TokenEnds) -> Option<&'a [u8]>
     ensures item { IfSome result (λ left. PassesItem field text.now left.now) }
@@ -57,7 +57,7 @@ fn is_joint(byte: u8) -> bool
     byte == b'&' || byte == b'|'
 }
 
-/// Passes over a list without a fault, up to its `;` or the end of the text. Returns `None` if the list has a fault.
+/// Skips a list without a fault, up to its `;` or the end of the text. Returns `None` if the list has a fault.
 #[inline(always)]
 fn past_list<'a>(field: Field, text: &'a [u8], ends: &TokenEnds) -> Option<&'a [u8]>
     ensures list { IfSome result (λ end. list_checked field (before text.now) ≡ Ok tt) }
@@ -79,7 +79,7 @@ fn past_list<'a>(field: Field, text: &'a [u8], ends: &TokenEnds) -> Option<&'a [
     None
 }
 
-/// Passes over a list without a fault and its `;`. Returns `None` if the list has a fault, or no `;` ends it.
+/// Skips a list without a fault and its `;`. Returns `None` if the list has a fault, or no `;` ends it.
 #[inline(always)]
 fn past_field<'a>(field: Field, text: &'a [u8], ends: &TokenEnds) -> Option<&'a [u8]>
     ensures list { IfSome result (λ after. list_checked field (before text.now) ≡ Ok tt) }
@@ -91,7 +91,7 @@ fn past_field<'a>(field: Field, text: &'a [u8], ends: &TokenEnds) -> Option<&'a 
 }
 
 /// Whether a line has a rule. If not, it is blank or has a fault.
-// Not put in line: among the values of its caller each byte takes more instructions.
+// Not inlined: among the values of its caller each byte takes more instructions.
 #[inline(never)]
 pub(crate) fn is_rule(line: &[u8], ends: &TokenEnds) -> bool
     ensures { result ≡ true → (number : ℕ) → line_checked (rule_of number line.now) ≡ Ok true }

@@ -94,7 +94,7 @@ fn check_name(field: Field, name: &[u8]) -> Result<(), TimeFault>
     Ok(())
 }
 
-// Not put in line: the loop over the tokens of a list has no registers to spare.
+// Not inlined: the loop over the tokens of a list has no registers to spare.
 #[inline(never)]
 fn check_entry(token: &[u8]) -> Result<(), TimeFault>
     ensures { result ≡ entry_checked token.now }
@@ -117,7 +117,7 @@ pub(crate) fn check_token(field: Field, token: &[u8]) -> Result<(), TimeFault>
     }
 }
 
-/// Returns the first fault of the tokens of a list up to a token, given that of the tokens before it.
+/// Returns the first fault of the tokens of a list up to a token, given the first fault before it.
 #[inline(always)]
 fn check_next(before: Result<(), TimeFault>, field: Field, token: &[u8]) -> Result<(), TimeFault>
     ensures { result ≡ first_fault before (token_checked field token.now) }
@@ -128,7 +128,7 @@ fn check_next(before: Result<(), TimeFault>, field: Field, token: &[u8]) -> Resu
     }
 }
 
-/// Checks that a field is a list, and then its tokens from the left. Put in line, so that it is compiled for each field.
+/// Checks that a field is a list, and then its tokens from the left. Inlined, so that it is compiled for each field.
 #[inline(always)]
 fn check_list(field: Field, text: &[u8]) -> Result<(), TimeFault>
     ensures { result ≡ list_checked field text.now }
@@ -156,8 +156,8 @@ fn check_fields(fields: Fields<'_>) -> Result<(), TimeFault>
     check_list(Field::Times, fields.times)
 }
 
-/// Checks a line. Returns whether it has a rule: a blank line has none. A blank field is no list, so that blanks are
-/// looked for only in a line that has a fault.
+/// Checks a line. Returns whether it has a rule: a blank line has none. A blank field is no list, so blanks are looked
+/// for only in a line that has a fault.
 pub(crate) fn check_line(line: &[u8], ends: &TokenEnds) -> Result<bool, TimeFault>
     ensures { (number : ℕ) → result ≡ line_checked (rule_of number line.now) }
 {

@@ -1,6 +1,7 @@
 //! Runs each line of standard input as words of pamcheck, and writes what a terminal shows: the words, the answer,
 //! the text on standard error after `!`, and the exit status. Words are separated by one space each, so two spaces in
-//! a row enclose an empty word. An empty line has no words. A line that begins with `#` is a heading, and is copied.
+//! a row enclose an empty word. An empty line has no words. A line that begins with `#` is copied: it is a heading, or
+//! says in a few words why the case below it is there.
 #![tactic(auto)]
 
 use pam_cli::run;

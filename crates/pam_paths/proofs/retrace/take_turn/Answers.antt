@@ -16,7 +16,7 @@ step_at m class = record { module_number = m; class = class }
 
 pub returns-clause-step : goal.returns-clause-step
 returns-clause-step g c =
-    let program = c.args.program.now in
+    let program = c.args.scope.now.program.now in
     let ask = next_ask (rest_of program c.args.place) in
     let f = c.following.ensures in
     ap (λ (x : ℕ). step_at x c.following.result.class)
@@ -27,16 +27,17 @@ returns-clause-step g c =
 pub returns-clause-offered : goal.returns-clause-offered
 returns-clause-offered g c =
     c.contains.ensures
-    ∙ offered_is (g.K.Knowledge.allows c.args.knowledge.now) (rest_of c.args.program.now c.args.place) c.at-frame.result.classes.offered c.args.code
+    ∙ offered_is (g.K.Knowledge.allows c.args.scope.now.knowledge.now) (rest_of c.args.scope.now.program.now c.args.place)
+    c.at-frame.result.classes.offered c.args.code
     (ap (λ (k : Classes). k.offered) c.at-frame.ensures.classes
-    ∙ c.at-classes.ensures.offered (g.K.Knowledge.allows c.args.knowledge.now) c.allowed-allowed.ensures) (omega (arith, c.number.ensures))
+    ∙ c.at-classes.ensures.offered (g.K.Knowledge.allows c.args.scope.now.knowledge.now) c.allowed-allowed.ensures) (omega (arith, c.number.ensures))
 
 pub branch-branch-requires-clause-classes : goal.branch-branch-requires-clause-classes
 branch-branch-requires-clause-classes g c =
-    subst (λ (x : Place). AreClasses (next_ask (rest_of c.args.program.now x)) c.at-frame.result.classes) (sym c.at-frame.ensures.place)
-    (subst (λ (k : Classes). AreClasses (next_ask (rest_of c.args.program.now c.args.place)) k) (sym c.at-frame.ensures.classes)
+    subst (λ (x : Place). AreClasses (next_ask (rest_of c.args.scope.now.program.now x)) c.at-frame.result.classes) (sym c.at-frame.ensures.place)
+    (subst (λ (k : Classes). AreClasses (next_ask (rest_of c.args.scope.now.program.now c.args.place)) k) (sym c.at-frame.ensures.classes)
     c.at-classes.ensures.classes)
 
 pub at-classes-requires-clause-allowed : goal.at-classes-requires-clause-allowed
 at-classes-requires-clause-allowed g c =
-    subst IsCodeSet (sym c.allowed-allowed.ensures) (where-is_set (g.K.Knowledge.allows c.args.knowledge.now c.args.module_number))
+    subst IsCodeSet (sym c.allowed-allowed.ensures) (where-is_set (g.K.Knowledge.allows c.args.scope.now.knowledge.now c.args.module_number))

@@ -22,12 +22,12 @@ returns-then-is_of g c =
 
 pub at-classes-requires-clause-allowed : goal.at-classes-requires-clause-allowed
 at-classes-requires-clause-allowed g c =
-    subst IsCodeSet (sym c.allowed-allowed.ensures) (where-is_set (g.K.Knowledge.allows c.args.knowledge.now c.args.module_number))
+    subst IsCodeSet (sym c.allowed-allowed.ensures) (where-is_set (g.K.Knowledge.allows c.args.scope.now.knowledge.now c.args.module_number))
 
 pub returns-clause-kept : goal.returns-clause-kept
 returns-clause-kept g c =
-    let allows = g.K.Knowledge.allows c.args.knowledge.now in
-    let program = c.args.program.now in
+    let allows = g.K.Knowledge.allows c.args.scope.now.knowledge.now in
+    let program = c.args.scope.now.program.now in
     let e = c.at-classes.ensures in
     let told = ap (λ (s : Situation). Some s) (c.representative-situation.ensures
     ∙ ap representative (c.situation.ensures ∙ ap (λ (a : Ask). situation_of a) c.asked.ensures)) in

@@ -1,0 +1,11 @@
+pub mod Buffer
+pub mod Controls
+pub mod LineFacts
+pub mod LineTests
+pub mod Lines152
+pub mod Lines170
+pub mod Manual
+pub mod Pushing
+pub mod Scanning
+pub mod Silence
+pub mod Words
