@@ -19,6 +19,7 @@ IsErrOf told (Err fault) = told ≡ Err fault
 -- a fault is that of a result, unless an allocation failed
 abbrev pub IsFaultOf : {A : Type 0} → Result A Fault → Fault → Type 0
 IsFaultOf told faults.Memory = ⊤
+IsFaultOf told faults.Device = ⊥
 IsFaultOf told (faults.Conf e) = IsConfFault (IsErrOf told) e e.kind
 IsFaultOf told (faults.Table e) = IsTableFault (IsErrOf told) e e.fault
 IsFaultOf told (faults.Time e) = IsTimeFault (IsErrOf told) e e.fault

@@ -68,3 +68,13 @@ total_line count = codes "total " ++ count_text count ++ codes " ways\n"
 unfoldable pub outcomes_text : List ℕ → Kind → Items → List PathValue → List ℕ
 outcomes_text service kind items paths =
     header_text service kind (module_count items) ++ flat_map (outcome_line items) (outcomes paths) ++ total_line (fit (length paths))
+
+-- the answer, if these codes are allowed: the text, or that the graph of the run is too large
+abbrev pub IsOutcomesOf : List ℕ → Kind → Items → Allowance → Answer → Type 0
+IsOutcomesOf service kind items allows answer =
+    (paths : List PathValue) × IsListing allows (module_count items) (path_through items) paths
+    × (answer ≡ Ok (record { text = outcomes_text service kind items paths; status = Success }))
+
+-- THE ANSWER to `outcomes`: of the known stack, the text, or the first fault
+abbrev pub IsOutcomes : List ℕ → Kind → Result KnownItems Fault → Answer → Type 0
+IsOutcomes service kind = IsAnswerFrom (IsOutcomesOf service kind)

@@ -8,7 +8,9 @@ ghost use Rattle.pam_report.specs.Report.{status_number};
 mod access;
 mod decide;
 mod header;
+mod known_stack;
 mod login;
+mod outcomes;
 mod paths;
 mod show;
 mod time;
@@ -19,9 +21,11 @@ use crate::fault::Fault;
 use crate::inputs::Inputs;
 use access::answer_access;
 use decide::answer_decide;
+use known_stack::StackRequest;
+use outcomes::answer_outcomes;
 use pam_codes::Out;
-use pam_conf::{Files, Form};
-use pam_words::{Request, Task};
+use pam_conf::{Files, Form, Kind};
+use pam_words::{KnowledgeSource, Request, Task};
 use paths::{PageRequest, answer_paths};
 use show::answer_show;
 use std::alloc::Global;
@@ -68,6 +72,22 @@ pub fn answer<W: Write>(
     }
 }
 
+fn stack_request<'a>(
+    service: &'a str,
+    kind: Kind,
+    knowledge: &KnowledgeSource<'a>,
+) -> StackRequest<'a>
+    ensures service { result.service ≡ service }
+    ensures kind { result.kind ≡ kind }
+    ensures login { result.login ≡ knowledge.now.login }
+{
+    StackRequest {
+        service,
+        kind,
+        login: knowledge.login,
+    }
+}
+
 /// Answers a request from these files and the tables of `inputs`.
 fn answer_from<W: Write>(
     alloc: Global,
@@ -98,18 +118,25 @@ fn answer_from<W: Write>(
             kind,
             limit,
             part,
-            login,
-            moment,
+            knowledge,
             ..
         } => {
             let page = PageRequest {
-                service,
-                kind: *kind,
+                stack: stack_request(service, *kind, knowledge),
                 limit: *limit,
                 part: *part,
             };
-            let moment = given_moment(*moment);
-            answer_paths(alloc, &page, *login, moment, files, inputs, out)
+            let moment = given_moment(knowledge.moment);
+            answer_paths(alloc, &page, moment, files, inputs, out)
+        }
+        Task::Outcomes {
+            kind,
+            knowledge,
+            ..
+        } => {
+            let stack = stack_request(service, *kind, knowledge);
+            let moment = given_moment(knowledge.moment);
+            answer_outcomes(alloc, &stack, moment, files, inputs, out)
         }
     }
 }
