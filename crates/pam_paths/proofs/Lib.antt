@@ -1,6 +1,7 @@
 pub mod Alike
 pub mod Alone
 pub mod Branches
+pub mod Choices
 pub mod CodeDigits
 pub mod Counts
 pub mod CursorTexts

@@ -5,6 +5,7 @@ pub mod CursorText
 pub mod Directions
 pub mod Exploration
 pub mod Followed
+pub mod Forks
 pub mod Frames
 pub mod Kept
 pub mod Known

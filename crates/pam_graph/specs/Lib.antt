@@ -1,0 +1,6 @@
+pub mod Building
+pub mod Goals
+pub mod Order
+pub mod Tallies
+pub mod Walks
+pub mod Within
