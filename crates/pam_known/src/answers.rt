@@ -30,7 +30,7 @@ fn bytes_after_slash(path: &[u8]) -> usize
 
 /// Returns the name of the module at a path: the text after the last slash.
 #[tactic(auto, unfolding(crate::specs::Answers::name_of_path))]
-pub(crate) fn name_of_path(path: &[u8]) -> &[u8]
+pub fn name_of_path(path: &[u8]) -> &[u8]
     ensures { result.now ≡ name_of_path path.now }
 {
     path.split_at(path.len() - bytes_after_slash(path)).1

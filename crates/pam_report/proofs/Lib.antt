@@ -1,6 +1,7 @@
 pub mod Civil
 pub mod FlatTexts
 pub mod ItemTexts
+pub mod KnownStacks
 pub mod PageParts
 pub mod PageTexts
 pub mod ShowTexts

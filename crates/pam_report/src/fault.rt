@@ -18,8 +18,8 @@ use pam_paths::CursorError;
 use pam_tables::{TableError, TableFault};
 use pam_times::{MomentError, TimeError, TimeFault};
 use pam_words::Usage;
-use std::alloc::{AllocError, Global};
 use row::Row;
+use std::alloc::{AllocError, Global};
 use table::{
     conf_row, count_row, cursor_row, input_row, memory_row, moment_row, table_name, table_row,
     time_row, usage_row, write_row,
