@@ -4,7 +4,7 @@ pub mod Flat
 pub mod Laws
 pub mod Program
 pub mod Runs
+pub mod Settled
 pub mod Situations
 pub mod State
-pub mod Tail
 pub mod Tree

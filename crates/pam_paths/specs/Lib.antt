@@ -1,3 +1,4 @@
+pub mod Cached
 pub mod Classes
 pub mod Computed
 pub mod Cursor
@@ -6,7 +7,6 @@ pub mod Directions
 pub mod Exploration
 pub mod Followed
 pub mod Frames
-pub mod Kept
 pub mod Known
 pub mod Laws
 pub mod Listing

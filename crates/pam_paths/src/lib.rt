@@ -3,21 +3,21 @@
 #![tactic(auto)]
 
 mod before;
+mod bounded_list;
+mod class_cache;
 mod classes;
 mod cursor;
 mod digits;
 mod direction;
 mod explorer;
 mod frames;
-mod kept;
 mod knowledge;
 pub mod laws;
 mod path;
 mod progress;
 mod retrace;
-mod row;
 mod scope;
-mod tail;
+mod tail_steps;
 
 pub use before::Before;
 pub use cursor::{Cursor, CursorError};
