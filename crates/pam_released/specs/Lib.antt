@@ -5,4 +5,5 @@ pub mod Findings
 pub mod Laws
 pub mod Lines
 pub mod Reader
+pub mod Rules
 pub mod Words
