@@ -21,7 +21,7 @@ use Rattle.pam_conf.proofs.Splits.{is_split}
 use Rattle.pam_released.specs.Control.{then_some}
 use Rattle.pam_released.specs.Findings.{findings_of, from_control, has_capital, has_empty_name, located, only_if, rule_differences, rule_findings, those}
 use Rattle.pam_released.specs.Findings.{words_or_none}
-use Rattle.pam_released.specs.Laws.{HasWords}
+use Rattle.pam_released.specs.Laws.{HasWords, SameRules}
 use Rattle.pam_released.specs.Lines.{filled, manual_lines_of, physical_lines, pieces}
 use Rattle.pam_released.specs.Rules.{Reading, line_reading, line_readings, reading_of, rules_152, rules_170}
 use Rattle.pam_released.specs.declared.difference.Difference.{Difference}
@@ -270,7 +270,7 @@ file_read form bytes rules h q =
     (quiet_lines form bytes q)
 
 -- without a finding, by 1.5.2
-pub by_152 : (form : Form) (bytes : List ℕ) (rules : List RuleText) → findings_of form bytes ≡ [] → rules_of form bytes ≡ Ok rules →
+by_152 : (form : Form) (bytes : List ℕ) (rules : List RuleText) → findings_of form bytes ≡ [] → rules_of form bytes ≡ Ok rules →
     rules_152 form bytes ≡ Some (map reading_of rules)
 unfolding rules_152
 by_152 form bytes rules h r =
@@ -280,10 +280,13 @@ by_152 form bytes rules h r =
     (ap (option_map (map released_words)) (unseen bytes s.short) ∙ file_words_152 bytes f.words s.lines f.cut) ∙ f.readings
 
 -- and by 1.7.0
-pub by_170 : (form : Form) (bytes : List ℕ) (rules : List RuleText) → findings_of form bytes ≡ [] → rules_of form bytes ≡ Ok rules →
+by_170 : (form : Form) (bytes : List ℕ) (rules : List RuleText) → findings_of form bytes ≡ [] → rules_of form bytes ≡ Ok rules →
     rules_170 form bytes ≡ Some (map reading_of rules)
 unfolding rules_170
 by_170 form bytes rules h r =
     let s = silent form bytes h in
     let f = file_read form bytes rules r s.rules in
     ap (λ (o : Option (List (List (List ℕ)))). then_some o (line_readings form)) (file_words_170 bytes f.words s.lines s.blanks f.cut) ∙ f.readings
+
+pub same_rules : (form : Form) (bytes : List ℕ) → findings_of form bytes ≡ [] → SameRules form bytes
+same_rules form bytes h = λ rules r. (by_152 form bytes rules h r, by_170 form bytes rules h r)

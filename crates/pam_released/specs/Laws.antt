@@ -66,12 +66,11 @@ ControlsAlike = (inside : List ℕ) (actions : List Action) → map to_ascii_low
 
 -- THE RULES OF A FILE
 
--- without a finding, a file without a fault has the same rules by 1.5.2
-abbrev pub Rules152 : Type 0
-Rules152 = (form : Form) (bytes : List ℕ) (rules : List RuleText) → findings_of form bytes ≡ [] → rules_of form bytes ≡ Ok rules →
-    rules_152 form bytes ≡ Some (map reading_of rules)
+-- if the file has no fault, both releases read its rules
+abbrev pub SameRules : Form → List ℕ → Type 0
+SameRules form bytes = (rules : List RuleText) → rules_of form bytes ≡ Ok rules →
+    (rules_152 form bytes ≡ Some (map reading_of rules)) × (rules_170 form bytes ≡ Some (map reading_of rules))
 
--- and by 1.7.0
-abbrev pub Rules170 : Type 0
-Rules170 = (form : Form) (bytes : List ℕ) (rules : List RuleText) → findings_of form bytes ≡ [] → rules_of form bytes ≡ Ok rules →
-    rules_170 form bytes ≡ Some (map reading_of rules)
+-- they do where there is no finding
+abbrev pub SilenceIsProof : Type 0
+SilenceIsProof = (form : Form) (bytes : List ℕ) → findings_of form bytes ≡ [] → SameRules form bytes
