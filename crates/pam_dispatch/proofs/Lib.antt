@@ -9,5 +9,5 @@ pub mod Places
 pub mod Positions
 pub mod Resume
 pub mod Retelling
+pub mod SettledRuns
 pub mod StackLists
-pub mod Tails

@@ -5,7 +5,7 @@ pub mod Keys
 pub mod Laws
 pub mod Program
 pub mod Runs
+pub mod Settled
 pub mod Situations
 pub mod State
-pub mod Tail
 pub mod Tree

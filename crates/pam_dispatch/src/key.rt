@@ -1,7 +1,7 @@
 //! Keys of places.
 
 ghost use Rattle.std.specs.Prelude.{◌≡◌, List};
-ghost use Rattle.pam_dispatch.specs.declared.entry.Entry.{Entry};
+ghost use Rattle.pam_dispatch.specs.declared.flat_item.FlatItem.{FlatItem};
 ghost use Rattle.pam_dispatch.specs.Flat.{rest_of};
 ghost use Rattle.pam_dispatch.specs.Keys.{rest_at};
 
@@ -22,7 +22,7 @@ pub struct PlaceKey {
 impl Place {
     /// The key of this place.
     pub fn key(&self) -> PlaceKey
-        ensures { (program : List Entry) → rest_at program result ≡ rest_of program self.now }
+        ensures { (program : List FlatItem) → rest_at program result ≡ rest_of program self.now }
     {
         let depth = usize::from(self.depth);
         let start = State::start();

@@ -1,7 +1,7 @@
 //! Places that are found again.
 
 ghost use Rattle.std.specs.Prelude.{◌≡◌, ◌∷◌, ◌++◌, ◌<◌, [], IfSome, List, OnOk, length, map, slice_index_or};
-ghost use Rattle.pam_dispatch.specs.declared.entry.Entry.{Entry};
+ghost use Rattle.pam_dispatch.specs.declared.flat_item.FlatItem.{FlatItem};
 ghost use Rattle.pam_dispatch.specs.declared.key.PlaceKey.{PlaceKey};
 ghost use Rattle.pam_dispatch.specs.Flat.{rest_of};
 ghost use Rattle.pam_dispatch.specs.Keys.{rest_at};
@@ -69,7 +69,7 @@ impl PlaceTable {
     /// The index of a place from which the run goes on as from `place`. Finds each that was added.
     pub fn find(&self, place: &Place) -> Option<usize>
         ensures within { IfSome result (λ i. i < length self.now) }
-        ensures same { (program : List Entry) (other : PlaceKey) → IfSome result (λ i. rest_at program (slice_index_or self.now i other) ≡ rest_of program place.now) }
+        ensures same { (program : List FlatItem) (other : PlaceKey) → IfSome result (λ i. rest_at program (slice_index_or self.now i other) ≡ rest_of program place.now) }
     {
         let key = place.key();
         match self.found.get(&key) {
@@ -80,7 +80,7 @@ impl PlaceTable {
 
     /// Adds a place.
     pub fn push(&mut self, place: &Place) -> Result<(), Memory>
-        ensures { (program : List Entry) → OnOk result (map (rest_at program) self.new ≡ map (rest_at program) self.old ++ rest_of program place.now ∷ []) }
+        ensures { (program : List FlatItem) → OnOk result (map (rest_at program) self.new ≡ map (rest_at program) self.old ++ rest_of program place.now ∷ []) }
     {
         let index = self.keys.len();
         let key = place.key();

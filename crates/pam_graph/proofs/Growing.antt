@@ -5,7 +5,7 @@ use Rattle.std.proofs.lemmas.List.{flat_map_more, length-append, length-map, map
 use Rattle.std.proofs.Math.ListN.{get_or-append}
 use Rattle.std.proofs.Math.Seq.{get_or-append_seam}
 use Rattle.std.specs.List.{flat_map}
-use Rattle.pam_dispatch.specs.declared.entry.Entry.{Entry}
+use Rattle.pam_dispatch.specs.declared.flat_item.FlatItem.{FlatItem}
 use Rattle.pam_dispatch.specs.declared.key.PlaceKey.{PlaceKey}
 use Rattle.pam_dispatch.specs.Decision.{decision_of}
 use Rattle.pam_dispatch.specs.Flat.{rest_of}
@@ -127,7 +127,7 @@ listing-end allows (asks ask next) code e is = absurd (let k : ⊥ = cc in k)
 
 -- BUILT GRAPHS
 
-module _ (allows : Allowance) (program : List Entry) where
+module _ (allows : Allowance) (program : List FlatItem) where
   abbrev paths_at : List PlaceKey → List (List PathValue)
   paths_at places = map (listing allows) (map (rest_at program) places)
 

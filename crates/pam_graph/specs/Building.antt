@@ -1,6 +1,6 @@
 -- For private contracts and proofs alone: a graph while it is built.
 use Rattle.std.specs.Prelude.{◌≡◌, ℕ, ◌+◌, ◌-◌, List, [], ◌++◌, map}
-use Rattle.pam_dispatch.specs.declared.entry.Entry.{Entry}
+use Rattle.pam_dispatch.specs.declared.flat_item.FlatItem.{FlatItem}
 use Rattle.pam_dispatch.specs.declared.key.PlaceKey.{PlaceKey}
 use Rattle.pam_dispatch.specs.Keys.{rest_at}
 use Rattle.pam_dispatch.specs.Runs.{Runs, ends, asks}
@@ -16,7 +16,7 @@ next_number (ends s) = 0
 next_number (asks ask next) = ask.module_number
 
 -- the walks from each node on are the paths from its place on
-pub record IsBuilt (allows : Allowance) (program : List Entry) (nodes : List Node) (places : List PlaceKey) : Type 0 where
+pub record IsBuilt (allows : Allowance) (program : List FlatItem) (nodes : List Node) (places : List PlaceKey) : Type 0 where
   pub walks : walks_of nodes ≡ map (listing allows) (map (rest_at program) places)
   pub numbers : numbers_of nodes ≡ map next_number (map (rest_at program) places)
   pub order : AreNodes [] nodes

@@ -3,7 +3,7 @@
 ghost use Rattle.std.specs.Prelude.{◌≡◌, ◌∷◌, ◌++◌, ◌≤◌, [], IfOk, List, OnOk, ℕ, length, map};
 ghost use Rattle.pam_conf.specs.Stack.{Items};
 ghost use Rattle.pam_conf.specs.declared.stack.TheConstants.{MAX_MODULES};
-ghost use Rattle.pam_dispatch.specs.declared.entry.Entry.{Entry};
+ghost use Rattle.pam_dispatch.specs.declared.flat_item.FlatItem.{FlatItem};
 ghost use Rattle.pam_dispatch.specs.Flat.{IsPlaceOf, modules_of, rest_of, runs_of};
 ghost use Rattle.pam_dispatch.specs.Keys.{rest_at};
 ghost use Rattle.pam_dispatch.specs.Runs.{AsksRise};
@@ -41,7 +41,7 @@ fn add(
 ) -> Result<Target, GraphError>
     ensures target { IfOk result (λ target. target ≡ At (length draft.old.nodes.items)) }
     ensures node { OnOk result (draft.new.nodes.items ≡ draft.old.nodes.items ++ node ∷ []) }
-    ensures place { (program : List Entry) → OnOk result
+    ensures place { (program : List FlatItem) → OnOk result
         (map (rest_at program) draft.new.places ≡ map (rest_at program) draft.old.places ++ rest_of program place.now ∷ []) }
 {
     let index = draft.nodes.len();

@@ -1,6 +1,8 @@
 pub mod Alike
 pub mod Alone
+pub mod BoundedLists
 pub mod Branches
+pub mod CachedOnes
 pub mod Choices
 pub mod CodeDigits
 pub mod Counts
@@ -8,7 +10,6 @@ pub mod CursorTexts
 pub mod Ends
 pub mod FrameLists
 pub mod Fronts
-pub mod KeptOnes
 pub mod Keys
 pub mod KnownCodes
 pub mod LastFrames
@@ -20,7 +21,6 @@ pub mod OneAction
 pub mod PageProofs
 pub mod Parts
 pub mod Retracing
-pub mod Rows
 pub mod Sets
 pub mod Sharing
 pub mod Situations

@@ -1,3 +1,4 @@
+pub mod Cached
 pub mod Classes
 pub mod Computed
 pub mod Cursor
@@ -7,7 +8,6 @@ pub mod Exploration
 pub mod Followed
 pub mod Forks
 pub mod Frames
-pub mod Kept
 pub mod Known
 pub mod Laws
 pub mod Listing

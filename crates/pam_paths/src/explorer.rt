@@ -12,22 +12,22 @@ ghost use Rattle.pam_paths.specs.Computed.{listing};
 ghost use Rattle.pam_paths.specs.Cursor.{IsAccepted, IsRefusal};
 ghost use Rattle.pam_paths.specs.Directions.{IsListingFrom, ordered};
 ghost use Rattle.pam_paths.specs.Frames.{AreFirstSteps, AreFrames, IsExploring, ahead, coming, under};
-ghost use Rattle.pam_paths.specs.Kept.{AreKept};
+ghost use Rattle.pam_paths.specs.Cached.{AreCached};
 ghost use Rattle.pam_paths.specs.Listing.{IsListing, IsListingAfter};
 ghost use Rattle.pam_paths.specs.Paths.{path_of, path_through};
 ghost use Rattle.pam_paths.specs.Work.{CountsOn};
 
+use crate::bounded_list::BoundedList;
+use crate::class_cache::ClassCache;
 use crate::cursor::{Cursor, CursorError};
 use crate::direction::Direction;
 use crate::frames::Frames;
-use crate::kept::KeptClasses;
 use crate::knowledge::Knowledge;
 use crate::path::Path;
 use crate::progress::Progress;
 use crate::retrace::retrace;
-use crate::row::Row;
 use crate::scope::Scope;
-use crate::tail::AlikeSteps;
+use crate::tail_steps::TailSteps;
 use pam_dispatch::{MAX_MODULES, Place, Program, Work};
 use std::marker::Model;
 
@@ -42,7 +42,7 @@ pub struct Explorer<'a, K: Knowledge> {
     /// The path returned last.
     path: Path,
     /// The steps at which the answers no longer matter are copied from here.
-    alike: AlikeSteps,
+    tail_steps: TailSteps,
 }
 
 impl<'a, K: Knowledge> Model for Explorer<'a, K> {
@@ -50,7 +50,7 @@ impl<'a, K: Knowledge> Model for Explorer<'a, K> {
     ghost use Rattle.pam_dispatch.specs.Flat.{modules_of};
     ghost use Rattle.pam_paths.specs.Exploration.{Exploration};
     ghost use Rattle.pam_paths.specs.Frames.{AreFirstSteps, IsExploring, coming};
-    ghost use Rattle.pam_paths.specs.Kept.{AreKept};
+    ghost use Rattle.pam_paths.specs.Cached.{AreCached};
 
     ghost Value = { Exploration };
 
@@ -63,7 +63,7 @@ impl<'a, K: Knowledge> Model for Explorer<'a, K> {
 
     ghost invariant = { λ e. IsExploring (K.allows e.scope.knowledge.now) e.scope.program.now e.at_start e.progress.frames.items
         × AreFirstSteps e.progress.frames.items e.path.steps
-        × AreKept (K.allows e.scope.knowledge.now) e.scope.program.now e.progress.kept.modules
+        × AreCached (K.allows e.scope.knowledge.now) e.scope.program.now e.progress.cache.modules
         × (e.progress.work ≤ 2 ^ 64 - 1) };
 }
 
@@ -114,13 +114,13 @@ impl<'a, K: Knowledge> Explorer<'a, K> {
             },
             at_start: true,
             progress: Progress {
-                frames: Row::new(),
+                frames: BoundedList::new(),
                 place: Place::default(),
-                kept: KeptClasses::new(),
+                cache: ClassCache::new(),
                 work: Work::new(),
             },
             path: Path::empty(),
-            alike: AlikeSteps::new(),
+            tail_steps: TailSteps::new(),
         }
     }
 
@@ -182,7 +182,7 @@ impl<'a, K: Knowledge> Explorer<'a, K> {
             knowledge,
             direction,
         };
-        let mut frames = Row::new();
+        let mut frames = BoundedList::new();
         let mut work = Work::new();
         match frames_at(&scope, cursor, &mut frames, &mut work) {
             Err(refusal) => Err(refusal),
@@ -192,11 +192,11 @@ impl<'a, K: Knowledge> Explorer<'a, K> {
                 progress: Progress {
                     frames,
                     place: Place::default(),
-                    kept: KeptClasses::new(),
+                    cache: ClassCache::new(),
                     work,
                 },
                 path: Path::empty(),
-                alike: AlikeSteps::new(),
+                tail_steps: TailSteps::new(),
             }),
         }
     }
@@ -214,7 +214,7 @@ impl<'a, K: Knowledge> Explorer<'a, K> {
         let at_start = self.at_start;
         self.at_start = false;
         self.progress
-            .follow(&self.scope, at_start, &mut self.path, &self.alike)
+            .follow(&self.scope, at_start, &mut self.path, &self.tail_steps)
     }
 
     /// The path followed last. It has no steps before the first one is followed, and when none is left.

@@ -10,21 +10,21 @@ ghost use Rattle.pam_paths.specs.Computed.{after_step, listing};
 ghost use Rattle.pam_paths.specs.Directions.{ordered, past};
 ghost use Rattle.pam_paths.specs.Followed.{followed};
 ghost use Rattle.pam_paths.specs.Frames.{AreClasses, AreFrames, ahead, ahead_of, offered_at, path_to, step_in, under};
-ghost use Rattle.pam_paths.specs.Kept.{AreKept};
+ghost use Rattle.pam_paths.specs.Cached.{AreCached};
 ghost use Rattle.pam_paths.specs.Listing.{Allowance};
 ghost use Rattle.pam_paths.specs.Steps.{step_seen};
-ghost use Rattle.pam_paths.specs.Tail.{AreAlike, EndAlike};
+ghost use Rattle.pam_paths.specs.Tail.{IsTail, EndsInTail};
 ghost use Rattle.pam_paths.specs.Work.{CountsOn};
 
+use crate::bounded_list::BoundedList;
 use crate::classes::Classes;
 use crate::direction::Direction;
 use crate::path::PathStep;
-use crate::row::Row;
 use pam_codes::{Code, CodeSet};
 use pam_dispatch::{MAX_MODULES, Place, Program, Work};
 
 /// The frames of a path, outermost first.
-pub(crate) type Frames = Row<Frame>;
+pub(crate) type Frames = BoundedList<Frame>;
 
 /// A module asked on a path, with the class that is followed.
 #[derive(Clone, Copy, Debug)]
@@ -181,7 +181,7 @@ impl Frame {
     }
 }
 
-impl Row<Frame> {
+impl BoundedList<Frame> {
     /// Follows `branch` at the frame at `index`.
     #[inline(always)]
     pub(crate) fn follow(&mut self, index: usize, branch: &Branch)
@@ -196,7 +196,7 @@ impl Row<Frame> {
 }
 
 /// Makes the first of `steps` those of `frames`. The first `shared` of them, and those after all, stay.
-fn rewrite(steps: &mut Row<PathStep>, frames: &[Frame], shared: usize)
+fn rewrite(steps: &mut BoundedList<PathStep>, frames: &[Frame], shared: usize)
     requires room { length frames.now ≤ length steps.old.items }
     requires within { shared ≤ length frames.now }
     requires same { take shared (map step_seen steps.old.items) ≡ take shared (map step_in frames.now) }
@@ -215,7 +215,7 @@ fn rewrite(steps: &mut Row<PathStep>, frames: &[Frame], shared: usize)
 }
 
 /// Makes `steps` the steps of `frames` and then those of `tail`. The first `shared` of them stay.
-fn write(steps: &mut Row<PathStep>, frames: &[Frame], tail: &[PathStep], shared: usize)
+fn write(steps: &mut BoundedList<PathStep>, frames: &[Frame], tail: &[PathStep], shared: usize)
     requires few { length frames.now + length tail.now ≤ MAX_MODULES }
     requires within { shared ≤ length frames.now }
     requires same { take shared (map step_seen steps.old.items) ≡ take shared (map step_in frames.now) }
@@ -229,38 +229,38 @@ fn write(steps: &mut Row<PathStep>, frames: &[Frame], tail: &[PathStep], shared:
     steps.extend(tail);
 }
 
-/// Whether `steps` is certain to be `count` steps and then `tail`. The last `kept` of `steps`, and those of `tail`, are of
+/// Whether `steps` is certain to be `count` steps and then `tail`. The last `settled` of `steps`, and those of `tail`, are of
 /// consecutive modules, each with every code, so that comparing their counts and their first numbers is enough.
-fn ends_with(steps: &[PathStep], count: usize, tail: &[PathStep], kept: usize) -> bool
-    requires end { EndAlike kept (map step_seen steps.now) }
-    requires alike { AreAlike (map step_seen tail.now) }
+fn ends_with(steps: &[PathStep], count: usize, tail: &[PathStep], settled: usize) -> bool
+    requires end { EndsInTail settled (map step_seen steps.now) }
+    requires tail { IsTail (map step_seen tail.now) }
     ensures within { IsTrue result → count ≤ length steps.now }
     ensures same { IsTrue result → drop count (map step_seen steps.now) ≡ map step_seen tail.now }
 {
-    if tail.len() != kept || steps.len() - kept != count {
+    if tail.len() != settled || steps.len() - settled != count {
         return false;
     }
-    kept == 0 || steps[count].number == tail[0].number
+    settled == 0 || steps[count].number == tail[0].number
 }
 
 /// Makes `steps` the steps of `frames` and then those of `tail`. The first `shared` of them stay, and often all of the
-/// last: the path before had `kept` steps at its end at which the answers no longer matter, and they are those of `tail`
+/// last: the path before had `settled` steps at its end at which the answers no longer matter, and they are those of `tail`
 /// too.
 pub(crate) fn retell(
-    steps: &mut Row<PathStep>,
+    steps: &mut BoundedList<PathStep>,
     frames: &[Frame],
     tail: &[PathStep],
     shared: usize,
-    kept: usize,
+    settled: usize,
 )
     requires few { length frames.now + length tail.now ≤ MAX_MODULES }
     requires within { shared ≤ length frames.now }
     requires same { take shared (map step_seen steps.old.items) ≡ take shared (map step_in frames.now) }
-    requires end { EndAlike kept (map step_seen steps.old.items) }
-    requires alike { AreAlike (map step_seen tail.now) }
+    requires end { EndsInTail settled (map step_seen steps.old.items) }
+    requires tail { IsTail (map step_seen tail.now) }
     ensures { map step_seen steps.new.items ≡ map step_in frames.now ++ map step_seen tail.now }
 {
-    if ends_with(steps.as_slice(), frames.len(), tail, kept) {
+    if ends_with(steps.as_slice(), frames.len(), tail, settled) {
         rewrite(steps, frames, shared);
     } else {
         write(steps, frames, tail, shared);

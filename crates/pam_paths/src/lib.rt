@@ -3,6 +3,8 @@
 #![tactic(auto)]
 
 mod before;
+mod bounded_list;
+mod class_cache;
 mod classes;
 mod cursor;
 mod digits;
@@ -10,16 +12,14 @@ mod direction;
 mod explorer;
 mod fork;
 mod frames;
-mod kept;
 mod knowledge;
 pub mod laws;
 mod path;
 mod path_parts;
 mod progress;
 mod retrace;
-mod row;
 mod scope;
-mod tail;
+mod tail_steps;
 
 pub use before::Before;
 pub use cursor::{Cursor, CursorError};

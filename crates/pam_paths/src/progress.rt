@@ -8,16 +8,16 @@ ghost use Rattle.pam_dispatch.specs.Runs.{AsksRise};
 ghost use Rattle.pam_paths.specs.Computed.{listing};
 ghost use Rattle.pam_paths.specs.Directions.{ordered};
 ghost use Rattle.pam_paths.specs.Frames.{AreFirstSteps, AreFrames, IsExploring, ahead, coming, path_to, under};
-ghost use Rattle.pam_paths.specs.Kept.{AreKept};
+ghost use Rattle.pam_paths.specs.Cached.{AreCached};
 ghost use Rattle.pam_paths.specs.Work.{CountsOn};
 
+use crate::class_cache::ClassCache;
 use crate::frames::{Frame, Frames, retell};
-use crate::kept::KeptClasses;
 use crate::knowledge::Knowledge;
 use crate::path::Path;
 use crate::scope::Scope;
-use crate::tail::AlikeSteps;
-use pam_dispatch::{Place, Rest, Work};
+use crate::tail_steps::TailSteps;
+use pam_dispatch::{Place, SettledRun, Work};
 
 /// How far an exploration has come.
 #[derive(Drop)]
@@ -27,7 +27,7 @@ pub(crate) struct Progress {
     /// The place from which the next path continues.
     pub(crate) place: Place,
     /// The classes of the modules asked so far.
-    pub(crate) kept: KeptClasses,
+    pub(crate) cache: ClassCache,
     pub(crate) work: Work,
 }
 
@@ -59,7 +59,7 @@ impl Progress {
             ≡ under self.new.frames.items
             (ordered scope.now.direction (listing (K.allows scope.now.knowledge.now) (rest_of scope.now.program.now self.new.place)))
             ++ ahead scope.now.direction (K.allows scope.now.knowledge.now) scope.now.program.now self.new.frames.items) }
-        ensures kept { self.new.kept ≡ self.old.kept }
+        ensures cache { self.new.cache ≡ self.old.cache }
         ensures work { self.new.work ≤ self.old.work + length self.old.frames.items }
         ensures grows { CountsOn self.old.work self.new.work }
     {
@@ -99,7 +99,7 @@ impl Progress {
             ≡ under self.new.frames.items
             (ordered scope.now.direction (listing (K.allows scope.now.knowledge.now) (rest_of scope.now.program.now self.new.place)))
             ++ ahead scope.now.direction (K.allows scope.now.knowledge.now) scope.now.program.now self.new.frames.items) }
-        ensures kept { self.new.kept ≡ self.old.kept }
+        ensures cache { self.new.cache ≡ self.old.cache }
         ensures work { self.new.work ≤ self.old.work + modules_of scope.now.program.now }
         ensures grows { CountsOn self.old.work self.new.work }
     {
@@ -111,14 +111,14 @@ impl Progress {
     }
 
     /// Follows the first branch of each module, from `place` on, until the run is settled. Returns the rest of it.
-    fn descend<K: Knowledge>(&mut self, scope: &Scope<'_, K>) -> Rest
+    fn descend<K: Knowledge>(&mut self, scope: &Scope<'_, K>) -> SettledRun
         requires few { modules_of scope.now.program.now ≤ MAX_MODULES }
-        requires kept { AreKept (K.allows scope.now.knowledge.now) scope.now.program.now self.old.kept.modules }
+        requires cache { AreCached (K.allows scope.now.knowledge.now) scope.now.program.now self.old.cache.modules }
         requires frames { AreFrames (K.allows scope.now.knowledge.now) scope.now.program.now 0 self.old.frames.items }
         requires place { IsPlaceOf scope.now.program.now self.old.place }
         requires rise { AsksRise (length self.old.frames.items) (modules_of scope.now.program.now) (rest_of scope.now.program.now self.old.place) }
         ensures frames { AreFrames (K.allows scope.now.knowledge.now) scope.now.program.now 0 self.new.frames.items }
-        ensures kept { AreKept (K.allows scope.now.knowledge.now) scope.now.program.now self.new.kept.modules }
+        ensures cache { AreCached (K.allows scope.now.knowledge.now) scope.now.program.now self.new.cache.modules }
         ensures path { under self.old.frames.items
             (ordered scope.now.direction (listing (K.allows scope.now.knowledge.now) (rest_of scope.now.program.now self.old.place)))
             ++ ahead scope.now.direction (K.allows scope.now.knowledge.now) scope.now.program.now self.old.frames.items
@@ -136,7 +136,7 @@ impl Progress {
             let Some(module_number) = self.place.module() else {
                 unreachable!()
             };
-            let classes = self.kept.at(scope, &self.place, module_number);
+            let classes = self.cache.at(scope, &self.place, module_number);
             let frame = Frame::at(self.place, module_number, classes);
             let outset = scope.direction.outset();
             match frame.branch_ahead(
@@ -159,12 +159,12 @@ impl Progress {
         scope: &Scope<'_, K>,
         at_start: bool,
         path: &mut Path,
-        alike: &AlikeSteps,
+        tail_steps: &TailSteps,
     ) -> Option<usize>
         requires exploring { IsExploring (K.allows scope.now.knowledge.now) scope.now.program.now at_start self.old.frames.items }
         requires steps { AreFirstSteps self.old.frames.items path.old.steps }
-        requires kept { AreKept (K.allows scope.now.knowledge.now) scope.now.program.now self.old.kept.modules }
-        ensures kept { AreKept (K.allows scope.now.knowledge.now) scope.now.program.now self.new.kept.modules }
+        requires cache { AreCached (K.allows scope.now.knowledge.now) scope.now.program.now self.old.cache.modules }
+        ensures cache { AreCached (K.allows scope.now.knowledge.now) scope.now.program.now self.new.cache.modules }
         ensures exploring { IsExploring (K.allows scope.now.knowledge.now) scope.now.program.now false self.new.frames.items }
         ensures steps { AreFirstSteps self.new.frames.items path.new.steps }
         ensures none { IfNone result (coming scope.now.direction (K.allows scope.now.knowledge.now) scope.now.program.now at_start
@@ -186,7 +186,7 @@ impl Progress {
         };
         let shared = shared_count(path.steps.len(), self.frames.len());
         let rest = self.descend(scope);
-        let tail = alike.last(scope.program.modules(), rest.modules);
+        let tail = tail_steps.last(scope.program.modules(), rest.modules);
         retell(
             &mut path.steps,
             self.frames.as_slice(),

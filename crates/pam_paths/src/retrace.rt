@@ -23,20 +23,20 @@ use pam_dispatch::{Place, Work};
 
 /// A step of a cursor: the frame of its class, whether the class has an allowed code, and the next place.
 #[derive(Clone, Copy, Debug)]
-pub(crate) struct Turn {
+pub(crate) struct CursorStep {
     frame: Frame,
     offered: bool,
     place: Place,
 }
 
 /// The step of a cursor at `place`; `None` if `code` is not the least of its class.
-fn take_turn<K: Knowledge>(
+fn retrace_step<K: Knowledge>(
     scope: &Scope<'_, K>,
     place: Place,
     module_number: usize,
     code: Code,
     work: &mut Work,
-) -> Option<Turn>
+) -> Option<CursorStep>
     requires place { IsPlaceOf scope.now.program.now place }
     requires asking { asked_module (rest_of scope.now.program.now place) ≡ Some module_number }
     requires first { 1 ≤ module_number }
@@ -63,7 +63,7 @@ fn take_turn<K: Knowledge>(
     if least_number(branch.class) != code.number() {
         return None;
     }
-    Some(Turn {
+    Some(CursorStep {
         frame: frame.following(&branch),
         offered: frame.classes.offered.contains(code),
         place: next,
@@ -102,12 +102,12 @@ pub(crate) fn retrace<K: Knowledge>(
             return Err(CursorError::TooLong);
         };
         let code = code_numbered(*number);
-        let Some(turn) = take_turn(scope, place, module_number, code, work) else {
+        let Some(step) = retrace_step(scope, place, module_number, code, work) else {
             return Err(CursorError::NotLeast(index + 1));
         };
-        frames.push_if(offered, turn.frame);
-        offered = both(offered, turn.offered);
-        place = turn.place;
+        frames.push_if(offered, step.frame);
+        offered = both(offered, step.offered);
+        place = step.place;
     }
     match place.module() {
         Some(_) => Err(CursorError::TooShort),

@@ -1,11 +1,17 @@
 pub mod Buffer
+pub mod ControlNames
+pub mod ControlTokens
 pub mod Controls
+pub mod Insides
 pub mod LineFacts
 pub mod LineTests
 pub mod Lines152
 pub mod Lines170
 pub mod Manual
 pub mod Pushing
+pub mod RuleLines
+pub mod RuleReadings
+pub mod RuleSteps
 pub mod Scanning
 pub mod Silence
 pub mod Words

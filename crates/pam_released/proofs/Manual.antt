@@ -57,7 +57,7 @@ onto_are : (m : FileByte) (ls : List (List FileByte)) → map (map (λ n. n.1)) 
 onto_are m [] = refl
 onto_are m (l ∷ ls) = refl
 
-split_are : (ms : List FileByte) → map (map (λ m. m.1)) (lines_of ms) ≡ pieces (map (λ m. m.1) ms)
+pub split_are : (ms : List FileByte) → map (map (λ m. m.1)) (lines_of ms) ≡ pieces (map (λ m. m.1) ms)
 split_are [] = refl
 split_are (m ∷ ms) =
     elim (eqb m.1 10) as (λ (t : Bool). map (map (λ n. n.1)) (cond t ([] ∷ lines_of ms) (onto_first m (lines_of ms))) ≡

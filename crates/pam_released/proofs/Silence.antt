@@ -16,7 +16,7 @@ use Rattle.pam_released.specs.declared.difference.Difference.TheVariants.{EndsIn
 use Rattle.pam_released.specs.declared.finding.Finding.{Finding}
 use Rattle.pam_released.proofs.LineTests.{has_dropped_blank, is_line_read_otherwise, is_too_long}
 
-none_of : {X : Type 0} (xs ys : List X) → xs ++ ys ≡ [] → (xs ≡ []) × (ys ≡ [])
+pub none_of : {X : Type 0} (xs ys : List X) → xs ++ ys ≡ [] → (xs ≡ []) × (ys ≡ [])
 none_of [] ys h = (refl, h)
 none_of (x ∷ xs) ys h = absurd (cc)
 
@@ -29,11 +29,11 @@ none_merged (f ∷ findings) others h =
     let no : (f ∷ merged findings (drop (prefix_len (comes_before f) others) others)) ≡ [] = parts.1 in
     absurd (cc)
 
-none_located : (n : ℕ) (ds : List Difference) → map (located n) ds ≡ [] → ds ≡ []
+pub none_located : (n : ℕ) (ds : List Difference) → map (located n) ds ≡ [] → ds ≡ []
 none_located n [] h = refl
 none_located n (d ∷ ds) h = absurd (cc)
 
-none_if : (t : Bool) (d : Difference) (more : List (Bool × Difference)) → those ((t, d) ∷ more) ≡ [] → (t ≡ false) × (those more ≡ [])
+pub none_if : (t : Bool) (d : Difference) (more : List (Bool × Difference)) → those ((t, d) ∷ more) ≡ [] → (t ≡ false) × (those more ≡ [])
 none_if true d more h = absurd (cc)
 none_if false d more h = (refl, h)
 

@@ -157,10 +157,10 @@ take_front bs b =
     let less : length (bs ++ b ∷ []) - 1 ≡ length bs = omega (arith, length_push bs b) in
     ap (λ (n : ℕ). take n (bs ++ b ∷ [])) less ∙ take_whole bs (b ∷ [])
 
-bracket_text : (bs : List ℕ) → text_of_word (91 ∷ bs ++ 93 ∷ []) ≡ unescaped bs
+pub bracket_text : (bs : List ℕ) → text_of_word (91 ∷ bs ++ 93 ∷ []) ≡ unescaped bs
 bracket_text bs = ap unescaped (take_front bs 93)
 
-plain_text : (b : ℕ) (bs : List ℕ) → eqb b 91 ≡ false → text_of_word (b ∷ bs) ≡ b ∷ bs
+pub plain_text : (b : ℕ) (bs : List ℕ) → eqb b 91 ≡ false → text_of_word (b ∷ bs) ≡ b ∷ bs
 plain_text b bs h = rw h refl
 
 by_split : {line : List ℕ} {ws : List (List ℕ)} → IsSplit line ws → Clean line → released_words line ≡ map text_of_word ws

@@ -7,12 +7,15 @@ use Rattle.pam_codes.specs.Control.{token_actions}
 use Rattle.pam_codes.specs.Tokens.{tokens_of}
 use Rattle.pam_codes.specs.declared.action.Action.{Action}
 use Rattle.pam_conf.specs.Words.{text_of_word, words_of}
+use Rattle.pam_conf.specs.Lines.{rules_of}
+use Rattle.pam_conf.specs.Rule.{RuleText}
 use Rattle.pam_conf.specs.declared.rule.Form.{Form}
 use Rattle.pam_released.specs.Buffer.{buffered}
 use Rattle.pam_released.specs.Control.{released_actions}
 use Rattle.pam_released.specs.Findings.{findings_of}
 use Rattle.pam_released.specs.Lines.{before_hash, continued, filled, lines_152, lines_170, manual_lines_of, not_empty, physical_lines, pieces}
-use Rattle.pam_released.specs.Words.{released_words}
+use Rattle.pam_released.specs.Rules.{reading_of, rules_152, rules_170}
+use Rattle.pam_released.specs.Words.{released_words, words_152, words_170}
 
 -- the lines of the manual pages, by what is between line feeds
 abbrev pub ManualLines : Type 0
@@ -40,12 +43,6 @@ Lines170 = (form : Form) (bytes : List ℕ) → findings_of form bytes ≡ [] �
 abbrev pub HasWords : List ℕ → List (List (List ℕ)) → Type 0
 HasWords bytes words = map words_of (filled (manual_lines_of bytes)) ≡ map (λ ws. Some ws) words
 
-abbrev pub words_152 : List ℕ → Option (List (List (List ℕ)))
-words_152 bytes = option_map (map released_words) (buffered [] [] false bytes)
-
-abbrev pub words_170 : List ℕ → Option (List (List (List ℕ)))
-words_170 bytes = option_map (λ lines. map released_words (not_empty lines)) (lines_170 false (physical_lines bytes))
-
 -- without a finding, the texts of the words of each line by either release are those of the manual pages
 abbrev pub FileWords152 : Type 0
 FileWords152 = (form : Form) (bytes : List ℕ) (words : List (List (List ℕ))) → findings_of form bytes ≡ [] → HasWords bytes words →
@@ -66,3 +63,14 @@ WordsAlike = (line : List ℕ) (words : List (List ℕ)) → list_any (λ b. b =
 abbrev pub ControlsAlike : Type 0
 ControlsAlike = (inside : List ℕ) (actions : List Action) → map to_ascii_lowercase inside ≡ inside → token_actions (tokens_of inside) ≡ Ok actions →
     released_actions inside ≡ actions
+
+-- THE RULES OF A FILE
+
+-- if the file has no fault, both releases read its rules
+abbrev pub SameRules : Form → List ℕ → Type 0
+SameRules form bytes = (rules : List RuleText) → rules_of form bytes ≡ Ok rules →
+    (rules_152 form bytes ≡ Some (map reading_of rules)) × (rules_170 form bytes ≡ Some (map reading_of rules))
+
+-- they do where there is no finding
+abbrev pub SilenceIsProof : Type 0
+SilenceIsProof = (form : Form) (bytes : List ℕ) → findings_of form bytes ≡ [] → SameRules form bytes

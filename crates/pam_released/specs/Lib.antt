@@ -4,5 +4,7 @@ pub mod Control
 pub mod Findings
 pub mod Laws
 pub mod Lines
+pub mod Meanings
 pub mod Reader
+pub mod Rules
 pub mod Words

@@ -1,11 +1,12 @@
 //! The findings of a file.
 
-ghost use Rattle.std.specs.Prelude.{◌≡◌, ◌++◌, ◌≤◌, IfOk, OnOk, length, map};
+ghost use Rattle.std.specs.Prelude.{◌≡◌, [], ◌++◌, ◌≤◌, IfOk, OnOk, length, map};
 ghost use Rattle.std.specs.List.{prefix_len};
 ghost use Rattle.pam_conf.specs.Words.{Between};
 ghost use Rattle.pam_text.specs.Text.{text_lines, text_of};
 ghost use Rattle.pam_released.specs.Findings.{comes_before, differences_at, drops_blank, findings_of, goes_on_over_blank};
 ghost use Rattle.pam_released.specs.Findings.{has_backslash_comment, is_cut, line_findings, located, merged, rule_findings, used_after};
+ghost use Rattle.pam_released.specs.Laws.{SameRules};
 ghost use Rattle.pam_released.specs.Lines.{physical_lines};
 ghost use Rattle.pam_released.specs.Reader.{state_of};
 
@@ -25,9 +26,23 @@ use std::alloc::{AllocError, Global};
 const ROOM: usize = 1024;
 
 /// The places at which Linux-PAM 1.5.2 or 1.7.0 reads a configuration file otherwise than the manual pages say, in the order
-/// of lines and then of numbers, each once. Takes time linear in the file.
-#[tactic(auto, unfolding(crate::specs::Findings::findings_of))]
+/// of lines and then of numbers, each once. Where there is none and the file has no fault, both releases read the same rules.
+/// Takes time linear in the file.
 pub fn findings(alloc: Global, source: Source<'_>, form: Form) -> Result<Vec<Finding>, AllocError>
+    ensures found { IfOk result (λ found. found.items ≡ findings_of form source.entry.bytes.now) }
+    ensures silence { IfOk result (λ found. found.items ≡ [] → SameRules form source.entry.bytes.now) }
+{
+    let found = all_findings(alloc, source, form)?;
+    Ok(found)
+}
+
+/// Like `findings`.
+#[tactic(auto, unfolding(crate::specs::Findings::findings_of))]
+fn all_findings(
+    alloc: Global,
+    source: Source<'_>,
+    form: Form,
+) -> Result<Vec<Finding>, AllocError>
     ensures { IfOk result (λ found. found.items ≡ findings_of form source.entry.bytes.now) }
 {
     let at_lines = line_findings(alloc, source)?;

@@ -7,7 +7,7 @@ use Rattle.pam_dispatch.proofs.program.answer_at.Goals as goal
 
 pub overflow_sub-result : goal.overflow_sub-result
 overflow_sub-result c =
-    let deep = place_deep c.args.entries.now c.args.place.now c.requires.place c.requires.asking in omega (arith, deep, c.from.ensures)
+    let deep = place_deep c.args.flat_items.now c.args.place.now c.requires.place c.requires.asking in omega (arith, deep, c.from.ensures)
 
 pub overflow_sub-result-2 : goal.overflow_sub-result-2
 overflow_sub-result-2 c =
@@ -21,13 +21,13 @@ overflow_sub-result-2 c =
 pub returns-clause-rest : goal.returns-clause-rest
 returns-clause-rest c =
     let outcome = c.outcome-outcome.result in
-    answer_rest c.args.entries.now c.args.place.now c.requires.place c.requires.asking c.args.code _ _ outcome
+    answer_rest c.args.flat_items.now c.args.place.now c.requires.place c.requires.asking c.args.code _ _ outcome
     (ap (λ (a : Ask). outcome_of a c.args.code) (sym c.asked_at-asked.ensures) ∙ c.outcome-outcome.ensures)
     (ap (λ (n : ℕ). n - 1) c.from.ensures) (ap (λ (a : Ask). a.after - outcome.left) (c.asked.view_is ∙ c.asked_at-asked.ensures))
 
 pub returns-clause-below : goal.returns-clause-below
 returns-clause-below c =
-    let deep = place_deep c.args.entries.now c.args.place.now c.requires.place c.requires.asking in omega (arith, deep, c.from.ensures)
+    let deep = place_deep c.args.flat_items.now c.args.place.now c.requires.place c.requires.asking in omega (arith, deep, c.from.ensures)
 
 pub returns-clause-within : goal.returns-clause-within
-returns-clause-within c = place_within c.args.entries.now c.args.place.now c.requires.place c.requires.asking
+returns-clause-within c = place_within c.args.flat_items.now c.args.place.now c.requires.place c.requires.asking

@@ -42,8 +42,8 @@ loop-index-preserved g c =
     let i = c.loop-index.invariant in
     let n = c.loop-index.index in
     let fs = c.loop-index.frames.items in
-    let t = c.in-Some-take_turn.turn in
-    let e = c.in-Some-take_turn.ensures in
+    let t = c.in-Some-retrace_step.step in
+    let e = c.in-Some-retrace_step.ensures in
     let m = c.in-Some.module_number in
     let code = c.code_numbered-code.result in
     let r = rest_of program c.loop-index.place in
@@ -72,7 +72,7 @@ loop-index-preserved g c =
       paths = λ d. subst (again d c.push_if.new.self.items) both (subst (λ (x : List Frame). again d x (c.loop-index.offered && t.offered)) (sym kept)
           (part-kept d allows program fs t.frame r q m code (drop (n + 1) codes) asked here e.code e.step e.rest c.loop-index.offered t.offered _ e.offered
           (i.paths d ∙ ap (λ (x : List ℕ). cond c.loop-index.offered (under fs (part d allows r x)) [] ++ ahead d allows program fs) left)));
-      work = omega (arith, i.work, c.take_turn.ensures.work);
+      work = omega (arith, i.work, c.retrace_step.ensures.work);
     }
 
 pub push_if-requires : goal.push_if-requires
@@ -95,8 +95,8 @@ returns-in_default-clause-verdict g c =
     left-cons codes n code c.loop-index-test.true (get_or_default codes n 0 code c.loop-index-test.true) in
     ap Some (sym (i.verdict ∙ ap (λ (x : List ℕ). further n (verdict_of r x)) left ∙ ap (further n) (verdict-long r code (drop (n + 1) codes) ended)))
 
-pub returns-in_default-take_turn-clause-verdict : goal.returns-in_default-take_turn-clause-verdict
-returns-in_default-take_turn-clause-verdict g c =
+pub returns-in_default-retrace_step-clause-verdict : goal.returns-in_default-retrace_step-clause-verdict
+returns-in_default-retrace_step-clause-verdict g c =
     let i = c.loop-index.invariant in
     let program = c.args.scope.now.program.now in
     let codes : List ℕ = c.args.codes.now in
@@ -107,7 +107,7 @@ returns-in_default-take_turn-clause-verdict g c =
     let left : drop n codes ≡ code ∷ drop (n + 1) codes =
     left-cons codes n code c.loop-index-test.true (c.code_numbered-code.ensures ∙ get_or_default codes n 0 code c.loop-index-test.true) in
     ap Some (sym (i.verdict ∙ ap (λ (x : List ℕ). further n (verdict_of r x)) left
-    ∙ ap (further n) (verdict-refused r c.in-Some.module_number code (drop (n + 1) codes) asked c.in_default-take_turn.ensures.not_least)))
+    ∙ ap (further n) (verdict-refused r c.in-Some.module_number code (drop (n + 1) codes) asked c.in_default-retrace_step.ensures.not_least)))
 
 pub returns-in-Some-module-clause-verdict : goal.returns-in-Some-module-clause-verdict
 returns-in-Some-module-clause-verdict g c =
@@ -137,14 +137,14 @@ returns-in-None-clause-paths g c d =
     ∙ nothing_left d (g.K.Knowledge.allows c.args.scope.now.knowledge.now) program c.loop-index.frames.items
     (rest_of program c.loop-index.place) c.loop-index.offered _ ended)
 
-pub take_turn-requires-clause-first : goal.take_turn-requires-clause-first
-take_turn-requires-clause-first g c =
+pub retrace_step-requires-clause-first : goal.retrace_step-requires-clause-first
+retrace_step-requires-clause-first g c =
     let i = c.loop-index.invariant in
     let program = c.args.scope.now.program.now in
     let k = rise_after c.loop-index.index (modules_of program) _ 0 _ i.rise (sym (c.in-Some.ensures program i.place)) in
     omega (arith, k.0)
 
-pub take_turn-requires-clause-last : goal.take_turn-requires-clause-last
-take_turn-requires-clause-last g c =
+pub retrace_step-requires-clause-last : goal.retrace_step-requires-clause-last
+retrace_step-requires-clause-last g c =
     let i = c.loop-index.invariant in
     (rise_after c.loop-index.index (modules_of c.args.scope.now.program.now) _ 0 _ i.rise (sym (c.in-Some.ensures c.args.scope.now.program.now i.place))).1

@@ -18,7 +18,8 @@ use Rattle.pam_paths.proofs.progress.Progress.advance.Goals.{After-past-bound}
 
 -- the last of the frames that are left
 last : (g : Over) (c : After-past-bound g) →
-    LastFrame (g.K.Knowledge.allows c.args.scope.now.knowledge.now) c.args.scope.now.program.now c.loop-self.self.frames.items c.len-last.result c.index-as_slice-last.result
+    LastFrame (g.K.Knowledge.allows c.args.scope.now.knowledge.now) c.args.scope.now.program.now c.loop-self.self.frames.items
+    c.len-last.result c.index-as_slice-last.result
 last g c =
     last_frame (g.K.Knowledge.allows c.args.scope.now.knowledge.now) c.args.scope.now.program.now c.loop-self.self.frames.items c.len-last.result
     c.index-as_slice-last.result c.len-last.ensures.value (search rules) c.loop-self.invariant.frames c.as_slice.result.now
@@ -68,7 +69,7 @@ returns-in-Some g c =
           ∙ branch_followed d allows program r f h c.past-bound.result b.code b.class below
           (ap (λ (x : Place). rest_of program x) (sym k.place)) k.number refl refl (of.paths allows k.was.is.offered))
           ∙ ap (λ (x : List Frame). under x below ++ ahead d allows program x) (sym k.is);
-      kept = i.kept;
+      cache = i.cache;
       work = omega (arith, i.work, c.branch_ahead.ensures.work, count, some);
       grows = counts-then _ _ _ i.grows c.branch_ahead.ensures.grows;
     }
@@ -100,7 +101,7 @@ loop-self-preserved g c =
           ∙ ahead-none d allows program (take (n - 1) items) f
           (ap (ahead_of d allows (rest_of program f.place)) (sym c.past-bound.ensures.value) ∙ c.in_default.ensures.none allows k.is.offered)
           ∙ ap (λ (x : List Frame). ahead d allows program x) (sym rest);
-      kept = i.kept;
+      cache = i.cache;
       work = omega (arith, i.work, c.branch_ahead.ensures.work, c.truncate.ensures.len, c.len-last.ensures.value, some);
       grows = counts-then _ _ _ i.grows c.branch_ahead.ensures.grows;
     }

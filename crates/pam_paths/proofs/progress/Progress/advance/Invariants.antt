@@ -11,7 +11,7 @@ invariant-loop-self g l =
       frames : AreFrames allows program 0 l.self.frames.items;
       earlier : take (length l.self.frames.items) l.initial.self.frames.items ≡ l.self.frames.items;
       same : ahead l.scope.direction allows program l.initial.self.frames.items ≡ ahead l.scope.direction allows program l.self.frames.items;
-      kept : l.self.kept ≡ l.initial.self.kept;
+      cache : l.self.cache ≡ l.initial.self.cache;
       work : l.self.work + length l.self.frames.items ≤ l.initial.self.work + length l.initial.self.frames.items;
       grows : CountsOn l.initial.self.work l.self.work;
     }

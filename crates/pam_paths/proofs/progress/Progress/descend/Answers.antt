@@ -12,7 +12,7 @@ use Rattle.pam_paths.proofs.Counts.{counts-then}
 use Rattle.pam_paths.proofs.FrameLists.{AreFrames-length, ahead-enter, branch_followed, frame_after, frame_number, frame_same}
 use Rattle.pam_paths.proofs.FrameLists.{listing-ahead, ordered-some, pushed, rise_after}
 use Rattle.pam_paths.proofs.Fronts.{front_pushed}
-use Rattle.pam_paths.proofs.KeptOnes.{frame_of}
+use Rattle.pam_paths.proofs.CachedOnes.{frame_of}
 use Rattle.pam_paths.proofs.Tails.{settled-path, settled-room}
 use Rattle.pam_paths.proofs.progress.Progress.descend.Given.{Over}
 use Rattle.pam_paths.proofs.progress.Progress.descend.Goals as goal
@@ -101,7 +101,7 @@ loop-rest-preserved g c =
           (ap (λ (x : Place). rest_of program x) (sym k.place)) k.number k.code k.class
           (e.paths allows is.offered))
           ∙ ap (λ (x : List Frame). under x below ++ ahead d allows program x) (sym c.push.ensures.items);
-      kept = c.at-classes.ensures.kept;
+      cache = c.at-classes.ensures.cache;
       work = omega (arith, c.push.ensures.len, c.branch_ahead.ensures.work, i.work);
       grows = counts-then _ _ _ i.grows c.branch_ahead.ensures.grows;
     }

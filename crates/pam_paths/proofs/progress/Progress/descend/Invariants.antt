@@ -4,7 +4,7 @@ use Rattle.pam_dispatch.specs.Runs.{AsksRise}
 use Rattle.pam_paths.specs.Computed.{listing}
 use Rattle.pam_paths.specs.Directions.{ordered}
 use Rattle.pam_paths.specs.Frames.{ahead, under, AreFrames}
-use Rattle.pam_paths.specs.Kept.{AreKept}
+use Rattle.pam_paths.specs.Cached.{AreCached}
 use Rattle.pam_paths.specs.Work.{CountsOn}
 use Rattle.pam_paths.proofs.progress.Progress.descend.Given as goal
 
@@ -22,7 +22,7 @@ invariant-loop-rest g l =
       earlier : take (length first) items ≡ first;
       same : under first (ordered d (listing allows (rest_of program l.initial.self.place))) ++ ahead d allows program first
           ≡ under items (ordered d (listing allows (rest_of program l.self.place))) ++ ahead d allows program items;
-      kept : AreKept allows program l.self.kept.modules;
+      cache : AreCached allows program l.self.cache.modules;
       work : l.self.work + length first ≤ l.initial.self.work + length items;
       grows : CountsOn l.initial.self.work l.self.work;
     }

@@ -37,8 +37,8 @@ same g c =
 pub retell-requires-clause-same : goal.retell-requires-clause-same
 retell-requires-clause-same g c = same g (goal.at.retell-requires-clause-same g c).After-as_slice
 
-pub retell-requires-clause-alike : goal.retell-requires-clause-alike
-retell-requires-clause-alike g c = told-alike c.last-tail.result.now _ _ c.last-tail.ensures
+pub retell-requires-clause-tail : goal.retell-requires-clause-tail
+retell-requires-clause-tail g c = told-alike c.last-tail.result.now _ _ c.last-tail.ensures
 
 pub returns-clause-path : goal.returns-clause-path
 returns-clause-path g c =
