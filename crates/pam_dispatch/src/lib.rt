@@ -17,7 +17,7 @@ mod state;
 mod step;
 mod work;
 
-pub use asked::{AskedModule, AskedModule as Asked, Situation};
+pub use asked::{Question, Question as Asked, Situation};
 pub use decision::Decision;
 pub use error::{Memory, WrongCount};
 pub use pam_conf::MAX_MODULES;

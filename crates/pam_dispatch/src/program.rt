@@ -1,6 +1,6 @@
 //! The program of a stack, and the steps of its runs.
 
-ghost use Rattle.std.specs.Prelude.{◌≡◌, ◌≢◌, ◌∷◌, ◌+◌, ◌-◌, ◌≤◌, ◌^◌, ◌<◌, ℕ, All, drop, length, min, take};
+ghost use Rattle.std.specs.Prelude.{◌≡◌, ◌≢◌, ◌∷◌, ◌+◌, ◌-◌, ◌≤◌, ◌^◌, ◌<◌, ℕ, All, drop, length, min, slice_get, take};
 ghost use Rattle.std.specs.Prelude.{IfErr, IfNone, IfOk, IfSome, IsSome, None, OnOk, Some};
 ghost use Rattle.std.specs.List.{AllZip};
 ghost use Rattle.pam_codes.specs.Parts.{IsParts};
@@ -12,7 +12,7 @@ ghost use Rattle.pam_dispatch.specs.Runs.{AsksRise, Assignment, after_answer, an
 ghost use Rattle.pam_dispatch.specs.Settled.{IsSettled};
 ghost use Rattle.pam_dispatch.specs.Tree.{decided, runs_of_stack};
 
-use crate::asked::{AskedModule, Situation};
+use crate::asked::{Question, Situation};
 use crate::decision::Decision;
 use crate::entered::{Entered, LISTS};
 use crate::error::{Memory, WrongCount};
@@ -24,7 +24,7 @@ use crate::settled::{SettledRun, first_harmless, first_outermost};
 use crate::state::State;
 use crate::step::{Outcome, Step};
 use crate::work::Work;
-use pam_codes::{Code, Control, Parts};
+use pam_codes::{Action, Code, Control, Parts};
 use pam_conf::Stack;
 use std::alloc::Global;
 use std::marker::Model;
@@ -85,7 +85,7 @@ fn module_parts(alloc: Global, flat_items: &[FlatItem]) -> Result<Vec<Parts>, Me
 }
 
 /// The module asked at `place`.
-fn asked_at<'a>(flat_items: &'a [FlatItem], place: &Place) -> AskedModule<'a>
+fn asked_at<'a>(flat_items: &'a [FlatItem], place: &Place) -> Question<'a>
     requires flat_items { All IsBounded flat_items.now }
     requires place { IsPlaceOf flat_items.now place.now }
     requires asking { IsSome (asked_module (rest_of flat_items.now place.now)) }
@@ -97,7 +97,7 @@ fn asked_at<'a>(flat_items: &'a [FlatItem], place: &Place) -> AskedModule<'a>
             number,
             control,
             items_after,
-        } => AskedModule {
+        } => Question {
             module_number: *number,
             control,
             situation: Situation {
@@ -110,9 +110,10 @@ fn asked_at<'a>(flat_items: &'a [FlatItem], place: &Place) -> AskedModule<'a>
     }
 }
 
-/// The outcome of an answer, and where the run continues.
+/// What an answer does, and where the run continues.
 #[derive(Clone, Copy)]
 struct Answered {
+    action: Action,
     outcome: Outcome,
     /// The level of the list that continues.
     level: usize,
@@ -126,6 +127,7 @@ fn answer_at(flat_items: &[FlatItem], place: &Place, code: Code) -> Answered
     requires flat_items { All IsBounded flat_items.now }
     requires place { IsPlaceOf flat_items.now place.now }
     requires asking { IsSome (asked_module (rest_of flat_items.now place.now)) }
+    ensures action { slice_get (next_ask (rest_of flat_items.now place.now)).control code ≡ Some result.action }
     ensures outcome { outcome_in (rest_of flat_items.now place.now) code ≡ result.outcome }
     ensures rest { after_answer (rest_of flat_items.now place.now) code
         ≡ resume (drop (place.now.position + 1) flat_items.now) result.level result.skip (take place.now.depth place.now.entered.states) result.outcome.state }
@@ -133,8 +135,10 @@ fn answer_at(flat_items: &[FlatItem], place: &Place, code: Code) -> Answered
     ensures within { place.now.position < length flat_items.now }
 {
     let asked = asked_at(flat_items, place);
-    let outcome = asked.outcome(asked.control.action(code), code);
+    let action = asked.control.action(code);
+    let outcome = asked.outcome(action, code);
     Answered {
+        action,
         outcome,
         level: usize::from(place.depth) - 1,
         skip: asked.situation.items_after - outcome.left,
@@ -143,15 +147,21 @@ fn answer_at(flat_items: &[FlatItem], place: &Place, code: Code) -> Answered
 
 /// Makes the step from `place` with the answer `code`.
 #[inline(always)]
-fn step_in(flat_items: &[FlatItem], outermost_from: usize, place: &mut Place, code: Code) -> Outcome
+fn step_in(
+    flat_items: &[FlatItem],
+    outermost_from: usize,
+    place: &mut Place,
+    code: Code,
+) -> Answered
     requires flat_items { All IsBounded flat_items.now }
     requires outermost { AreOutermost (drop outermost_from flat_items.now) }
     requires place { IsPlaceOf flat_items.now place.old }
     requires asking { IsSome (asked_module (rest_of flat_items.now place.old)) }
     ensures place { IsPlaceOf flat_items.now place.new }
     ensures rest { rest_of flat_items.now place.new ≡ after_answer (rest_of flat_items.now place.old) code }
-    ensures outcome { outcome_in (rest_of flat_items.now place.old) code ≡ result }
-    ensures state { place.new.state ≡ result.state }
+    ensures action { slice_get (next_ask (rest_of flat_items.now place.old)).control code ≡ Some result.action }
+    ensures outcome { outcome_in (rest_of flat_items.now place.old) code ≡ result.outcome }
+    ensures state { place.new.state ≡ result.outcome.state }
 {
     let answered = answer_at(flat_items, place, code);
     let outcome = answered.outcome;
@@ -164,7 +174,7 @@ fn step_in(flat_items: &[FlatItem], outermost_from: usize, place: &mut Place, co
         answered.level,
         answered.skip,
     );
-    outcome
+    answered
 }
 
 impl Program {
@@ -251,7 +261,7 @@ impl Program {
     }
 
     /// The module asked at `place`.
-    pub fn asked(&self, place: &Place) -> AskedModule<'_>
+    pub fn asked(&self, place: &Place) -> Question<'_>
         requires place { IsPlaceOf self.now place.now }
         requires asking { IsSome (asked_module (rest_of self.now place.now)) }
         ensures { result ≡ next_ask (rest_of self.now place.now) }
@@ -273,6 +283,7 @@ impl Program {
         requires place { IsPlaceOf self.now place.now }
         requires asking { IsSome (asked_module (rest_of self.now place.now)) }
         ensures place { IsPlaceOf self.now result.place }
+        ensures action { slice_get (next_ask (rest_of self.now place.now)).control code ≡ Some result.action }
         ensures outcome { outcome_in (rest_of self.now place.now) code ≡ result.outcome }
         ensures state { state_in (rest_of self.now result.place) ≡ result.outcome.state }
         ensures rest { rest_of self.now result.place ≡ after_answer (rest_of self.now place.now) code }
@@ -286,11 +297,13 @@ impl Program {
             → asked_by (rest_of self.now place.now) answers ≡ next_ask (rest_of self.now place.now) ∷ asked_by (rest_of self.now result.place) answers }
         ensures counted { work.new ≡ min (work.old + 1) (2 ^ 64 - 1) }
     {
+        work.count();
         let mut next = *place;
-        let outcome = self.step_on(&mut next, code, work);
+        let answered = self.step_by(&mut next, code);
         Step {
             place: next,
-            outcome,
+            action: answered.action,
+            outcome: answered.outcome,
         }
     }
 
@@ -307,18 +320,19 @@ impl Program {
         ensures counted { work.new ≡ min (work.old + 1) (2 ^ 64 - 1) }
     {
         work.count();
-        self.step_by(place, code)
+        self.step_by(place, code).outcome
     }
 
     /// Like `step_on`, without counting.
     #[inline(always)]
-    fn step_by(&self, place: &mut Place, code: Code) -> Outcome
+    fn step_by(&self, place: &mut Place, code: Code) -> Answered
         requires place { IsPlaceOf self.now place.old }
         requires asking { IsSome (asked_module (rest_of self.now place.old)) }
         ensures place { IsPlaceOf self.now place.new }
         ensures rest { rest_of self.now place.new ≡ after_answer (rest_of self.now place.old) code }
-        ensures outcome { outcome_in (rest_of self.now place.old) code ≡ result }
-        ensures state { place.new.state ≡ result.state }
+        ensures action { slice_get (next_ask (rest_of self.now place.old)).control code ≡ Some result.action }
+        ensures outcome { outcome_in (rest_of self.now place.old) code ≡ result.outcome }
+        ensures state { place.new.state ≡ result.outcome.state }
     {
         step_in(&self.flat_items, self.outermost_from, place, code)
     }

@@ -2,6 +2,7 @@
 
 ghost use Rattle.std.specs.Prelude.{◌≡◌, ◌+◌, ◌-◌, ◌<◌, ◌≤◌, ◌∷◌, ◌++◌, [], drop, length, map, slice_index_or, slice_set, take};
 ghost use Rattle.std.specs.Prelude.{None, Some, IfSome, IfNone, IsTrue};
+ghost use Rattle.pam_codes.specs.declared.code.TheConstants.{CODES};
 ghost use Rattle.pam_conf.specs.declared.stack.TheConstants.{MAX_MODULES};
 ghost use Rattle.pam_dispatch.specs.Flat.{IsPlaceOf, modules_of, rest_of};
 ghost use Rattle.pam_dispatch.specs.Runs.{AsksRise, after_answer, asked_module, next_ask};
@@ -64,7 +65,7 @@ impl Frame {
         ensures place { result.place ≡ place }
         ensures number { result.module_number ≡ module_number }
         ensures classes { result.classes ≡ classes }
-        ensures code { result.code < 31 }
+        ensures code { result.code < CODES }
     {
         Frame {
             place,
@@ -131,11 +132,11 @@ impl Frame {
         requires first { 1 ≤ self.now.module_number }
         requires last { self.now.module_number ≤ modules_of program.now }
         requires classes { AreClasses (next_ask (rest_of program.now self.now.place)) self.now.classes }
-        requires bound { bound ≤ 31 }
+        requires bound { bound ≤ CODES }
         ensures none { (allows : Allowance) → self.now.classes.offered ≡ offered_at allows (rest_of program.now self.now.place)
             → IfNone result (ahead_of direction allows (rest_of program.now self.now.place) bound ≡ []) }
         ensures place { IfSome result (λ _. IsPlaceOf program.now place.new) }
-        ensures code { IfSome result (λ b. b.code < 31) }
+        ensures code { IfSome result (λ b. b.code < CODES) }
         ensures rest { IfSome result (λ b. rest_of program.now place.new ≡ after_answer (rest_of program.now self.now.place) b.code) }
         ensures paths { (allows : Allowance) → self.now.classes.offered ≡ offered_at allows (rest_of program.now self.now.place)
             → IfSome result (λ b. ahead_of direction allows (rest_of program.now self.now.place) bound

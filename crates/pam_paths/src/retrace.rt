@@ -2,6 +2,7 @@
 
 ghost use Rattle.std.specs.Prelude.{◌≡◌, ◌≢◌, ◌+◌, ◌*◌, ◌≤◌, ◌<◌, ◌++◌, ◌∷◌, ◌&&◌, if◌then◌else◌, true, [], ℕ, length};
 ghost use Rattle.std.specs.Prelude.{All, IfNone, IfSome, MatchResult, None, OnOk, Some};
+ghost use Rattle.pam_codes.specs.declared.code.TheConstants.{CODES};
 ghost use Rattle.pam_conf.specs.declared.stack.TheConstants.{MAX_MODULES};
 ghost use Rattle.pam_dispatch.specs.Flat.{IsPlaceOf, modules_of, rest_of, runs_of};
 ghost use Rattle.pam_dispatch.specs.Runs.{AsksRise, after_answer, asked_module, next_ask};
@@ -85,7 +86,7 @@ pub(crate) fn retrace<K: Knowledge>(
     work: &mut Work,
 ) -> Result<(), CursorError>
     requires none { frames.old.items ≡ [] }
-    requires codes { All (λ code. code < 31) codes.now }
+    requires codes { All (λ code. code < CODES) codes.now }
     ensures verdict { MatchResult result (λ _. verdict_of (runs_of scope.now.program.now) codes.now ≡ accepted)
         (λ e. verdict_told e ≡ Some (verdict_of (runs_of scope.now.program.now) codes.now)) }
     ensures few { modules_of scope.now.program.now ≤ MAX_MODULES }

@@ -1,4 +1,4 @@
-use Rattle.std.proofs.Common.{◌-◌, ◌∙◌, ℕ, ap, arith, sym}
+use Rattle.std.proofs.Common.{◌-◌, ◌∙◌, ℕ, ap, arith, slice_get, sym}
 use Rattle.pam_dispatch.specs.declared.step.Outcome.{Outcome}
 use Rattle.pam_dispatch.specs.Runs.{Ask, outcome_of}
 use Rattle.pam_dispatch.proofs.OpenRuns.{left-fits}
@@ -17,6 +17,10 @@ overflow_sub-result-2 c =
       ap (λ (o : Outcome). o.left) c.outcome-outcome.ensures,
       ap (λ (a : Ask). a.after) c.asked.view_is,
     )
+
+pub returns-clause-action : goal.returns-clause-action
+returns-clause-action c =
+    ap (λ (a : Ask). slice_get a.control c.args.code) (sym (c.asked.view_is ∙ c.asked_at-asked.ensures)) ∙ c.action-action.ensures.of_code
 
 pub returns-clause-rest : goal.returns-clause-rest
 returns-clause-rest c =

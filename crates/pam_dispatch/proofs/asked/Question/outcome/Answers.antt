@@ -1,7 +1,7 @@
 use Rattle.std.proofs.Common.{ap}
 use Rattle.pam_dispatch.specs.Runs.{Ask}
 use Rattle.pam_dispatch.proofs.Places.{outcome-made}
-use Rattle.pam_dispatch.proofs.asked.AskedModule.outcome.Goals as goal
+use Rattle.pam_dispatch.proofs.asked.Question.outcome.Goals as goal
 
 pub returns : goal.returns
 returns c =
