@@ -58,7 +58,7 @@ line_step got l inside ls none next e g f =
       | false ↦ λ h. elim (goes_on l) as (λ (t : Bool). goes_on l ≡ t →
           cond t (next (got ++ front_part l) true) (option_map (λ more. (got ++ before_hash l) ∷ more) (next [] false))
           ≡ with_got inside got (cond t (option_map (onto_line (front_part l)) (lines_152 true ls))
-              (option_map (λ more. before_hash l ∷ more) (lines_152 false ls)))) [
+          (option_map (λ more. before_hash l ∷ more) (lines_152 false ls)))) [
             | true ↦ λ k. g h k ∙ goes inside none
             | false ↦ λ k. ap (option_map (λ more. (got ++ before_hash l) ∷ more)) (f h k) ∙ ends inside none
           ] refl
@@ -71,7 +71,7 @@ line_step got l inside ls none next e g f =
 
     ends : (i : Bool) → (i ≡ false → got ≡ []) →
         option_map (λ more. (got ++ before_hash l) ∷ more) (lines_152 false ls) ≡
-            with_got i got (option_map (λ more. before_hash l ∷ more) (lines_152 false ls))
+        with_got i got (option_map (λ more. before_hash l ∷ more) (lines_152 false ls))
     ends true n = sym (map_first got (before_hash l) (lines_152 false ls))
     ends false n = ap (λ (r : List ℕ). option_map (λ more. (r ++ before_hash l) ∷ more) (lines_152 false ls)) (n refl)
 
@@ -134,7 +134,7 @@ last_piece got p piece inside = refl
 byte_step : (got piece : List ℕ) (inside : Bool) (b : ℕ) (bs : List ℕ) → buffered got piece inside (b ∷ bs) ≡
     cond (eqb b 10) (piece_read got piece inside (λ g i. buffered g [] i bs))
     (cond (eqb (length got + length piece + 1) 1023) (piece_read got (piece ++ b ∷ []) inside (λ g i. buffered g [] i bs))
-        (buffered got (piece ++ b ∷ []) inside bs))
+    (buffered got (piece ++ b ∷ []) inside bs))
 unfolding buffered
 byte_step got [] inside b bs = refl
 byte_step got (p ∷ piece) inside b bs = refl
@@ -182,14 +182,14 @@ read_alike used got [] inside [] low none h = nothing_yet got inside ∙ ap (λ 
 read_alike used got (p ∷ piece) inside [] low none h =
     last_piece got p piece inside
     ∙ line_step got (p ∷ piece) inside [] none at_end (λ e. end_alike got inside) (λ e g. end_alike (got ++ front_part (p ∷ piece)) true)
-        (λ e g. end_alike [] false)
+    (λ e g. end_alike [] false)
     ∙ ap (λ (ls : List (List ℕ)). with_got inside got (lines_152 inside (onto_line (p ∷ piece) ls))) (sym no_bytes)
 read_alike used got piece inside (b ∷ bs) low none h =
     byte_step got piece inside b bs ∙
     elim (eqb b 10) as (λ (t : Bool). eqb b 10 ≡ t →
     cond t (piece_read got piece inside (λ g i. buffered g [] i bs))
     (cond (eqb (length got + length piece + 1) 1023) (piece_read got (piece ++ b ∷ []) inside (λ g i. buffered g [] i bs))
-        (buffered got (piece ++ b ∷ []) inside bs))
+    (buffered got (piece ++ b ∷ []) inside bs))
     ≡ with_got inside got (lines_152 inside (onto_piece piece (physical_lines (b ∷ bs))))) [
       | true ↦ λ f.
           let feed : b ≡ 10 = eqb-true b 10 f in
@@ -199,7 +199,7 @@ read_alike used got piece inside (b ∷ bs) low none h =
           line_step got piece inside (physical_lines bs) none (λ g i. buffered g [] i bs)
           (λ e. read_alike used got [] inside bs low none (after_empty used piece (physical_lines bs) e parts.1))
           (λ e g. read_alike (used + length piece + 1) (got ++ front_part piece) [] true bs
-              (omega (arith, append_length got (front_part piece), front_length piece)) (λ k. absurd (true≢false k))
+          (omega (arith, append_length got (front_part piece), front_length piece)) (λ k. absurd (true≢false k))
           (used_goes used piece (physical_lines bs) e g parts.1))
           (λ e g. read_alike 0 [] [] false bs (omega arith) (λ k. refl) (used_ends used piece (physical_lines bs) e g parts.1))
           ∙ ap (λ (ls : List (List ℕ)). with_got inside got (lines_152 inside ls)) (sym same)

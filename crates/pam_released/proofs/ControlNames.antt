@@ -1,32 +1,28 @@
 -- What names and actions say to released Linux-PAM, which goes by their first letters.
-use Rattle.std.proofs.Common.{◌≡◌, one-add, ◌≤◌, ◌<◌, ◌+◌, ◌&&◌, ◌||◌, ◌++◌, ◌∙◌, ℕ, zero, suc, Bool, true, false, not, List, [], ◌∷◌, map, take, drop}
+use Rattle.std.proofs.Common.{◌≡◌, one-add, ◌≤◌, ◌<◌, ◌+◌, ◌&&◌, ◌++◌, ◌∙◌, ℕ, suc, Bool, true, false, not, List, [], ◌∷◌, map, take, drop}
 use Rattle.std.proofs.Common.{length, get_or, cond, eqb, ap, sym, refl, subst, Option, Some, None, Result, Ok, Err, All, arith, codes}
-use Rattle.std.specs.Prelude.{if◌then◌else◌, ◌==◌, nat_lt, unwrap_or, find}
+use Rattle.std.specs.Prelude.{if◌then◌else◌, ◌==◌, nat_lt, find}
 use Rattle.std.specs.List.{list_all, prefix_len, take_while, position}
-use Rattle.std.specs.Option.{option_map, option_map_or}
+use Rattle.std.specs.Option.{option_map_or}
 use Rattle.std.specs.Char.{to_ascii_lowercase, is_ascii_digit}
 use Rattle.std.specs.Str.{bytes_eq}
 use Rattle.std.proofs.lemmas.Bool.{agree_below, agree_below_at, and_parts, eqb-true, eq-eqb, leb-true, le-ltb, true≢false}
 use lib.Dec.{leb}
 use Rattle.std.proofs.lemmas.Slice.Eq.{bytes_eq-Decides}
-use Rattle.pam_text.specs.Blanks.{is_text_blank}
 use Rattle.pam_codes.specs.Action.{action_named, decimal_value, is_jump_text}
 use Rattle.pam_codes.specs.Code.{all_codes, code_names, same_name}
-use Rattle.pam_codes.specs.Control.{◌>>=◌, Pairs, actions_of, action_of, equals_sign, first_default, last_named, pairs_of, token_actions, with_front}
 use Rattle.pam_codes.specs.Subject.{subject_of, other_subject}
-use Rattle.pam_codes.specs.Tokens.{begins_word, is_word_byte, tokens_of}
+use Rattle.pam_codes.specs.Tokens.{begins_word, is_word_byte}
 use Rattle.pam_codes.specs.declared.action.Action.{Action}
 use Rattle.pam_codes.specs.declared.action.Action.TheVariants.{Ignore, Ok as Accept, Done, Bad, Die, Reset, Jump}
 use Rattle.pam_codes.specs.declared.error.ControlError.{ControlError}
-use Rattle.pam_codes.specs.declared.error.ControlError.TheVariants.{BadAction, BadControl, BadValue, ZeroJump}
+use Rattle.pam_codes.specs.declared.error.ControlError.TheVariants.{BadAction, BadValue, ZeroJump}
 use Rattle.pam_codes.specs.declared.subject.Subject.{Subject}
 use Rattle.pam_codes.specs.declared.subject.Subject.TheVariants.{Named, Incomplete, Default}
 use Rattle.pam_codes.proofs.CodeNames.{first_code, has_name}
 use Rattle.pam_codes.proofs.CodeSets.{all_codes-within}
-use Rattle.pam_codes.proofs.TokensOf.{tokens_of-blank, tokens_of-equals, tokens_of-word}
-use Rattle.pam_released.specs.Control.{action_at, after_spaces, begins, released_actions, equals_at, is_space, jump_at, name_of, pairs_at, pairs_from}
-use Rattle.pam_released.specs.Control.{subject_at, then_some, written}
-
+use Rattle.pam_released.specs.Control.{action_at, begins, is_space, jump_at, name_of}
+use Rattle.pam_released.specs.Control.{subject_at}
 
 -- NAMES
 
@@ -149,10 +145,10 @@ subject_said w s low h =
                 subst (λ (r : List ℕ). Says r s) is (subst (λ (r : Subject). Says (codes "incomplete") r) which incomplete_said)
             | false ↦ λ i g. elim (same_name (codes "default") w) as (λ (t : Bool). same_name (codes "default") w ≡ t →
                 cond t (Ok Default) (Err BadValue) ≡ Ok s → Says w s) [
-              | true ↦ λ j k. let is : codes "default" ≡ w = lower_is (codes "default") w low refl j in let which : Default ≡ s = cc in
-                  subst (λ (r : List ℕ). Says r s) is (subst (λ (r : Subject). Says (codes "default") r) which default_said)
-              | false ↦ λ j k. absurd (cc)
-            ] refl g
+                  | true ↦ λ j k. let is : codes "default" ≡ w = lower_is (codes "default") w low refl j in let which : Default ≡ s = cc in
+                      subst (λ (r : List ℕ). Says r s) is (subst (λ (r : Subject). Says (codes "default") r) which default_said)
+                  | false ↦ λ j k. absurd (cc)
+                ] refl g
           ] refl f
       | Some n ↦ λ e f. let which : Named n ≡ s = cc in subst (λ (r : Subject). Says w r) which (code_said w n low (first_code w ∙ e))
     ] refl h
@@ -237,7 +233,7 @@ digits_end [] (b ∷ u) h k = rw (no_digit b k) refl
 digits_end (d ∷ w) u h k =
     let parts = and_parts (is_ascii_digit d) (list_all is_ascii_digit w) h in
     ap (λ (t : Bool). cond t (1 + prefix_len is_ascii_digit (w ++ u)) 0) parts.0 ∙ one-add (prefix_len is_ascii_digit (w ++ u))
-        ∙ ap suc (digits_end w u parts.1 k)
+    ∙ ap suc (digits_end w u parts.1 k)
 
 pub take_whole : (bs rest : List ℕ) → take (length bs) (bs ++ rest) ≡ bs
 take_whole [] rest = refl
@@ -269,13 +265,13 @@ pub jump_acts : (w : List ℕ) (x : Action) →
     (if not (is_jump_text w) then Err BadAction else if decimal_value w == 0 then Err ZeroJump else Ok (Jump (decimal_value w))) ≡ Ok x → Acts w x
 jump_acts w x h =
     elim (is_jump_text w) as (λ (t : Bool). is_jump_text w ≡ t →
-        cond (not t) (Err BadAction) (cond (eqb (decimal_value w) 0) (Err ZeroJump) (Ok (Jump (decimal_value w)))) ≡ Ok x → Acts w x) [
+    cond (not t) (Err BadAction) (cond (eqb (decimal_value w) 0) (Err ZeroJump) (Ok (Jump (decimal_value w)))) ≡ Ok x → Acts w x) [
       | false ↦ λ e f. absurd (cc)
       | true ↦ λ e f. elim (eqb (decimal_value w) 0) as (λ (t : Bool). eqb (decimal_value w) 0 ≡ t →
           cond t (Err ZeroJump) (Ok (Jump (decimal_value w))) ≡ Ok x → Acts w x) [
-        | true ↦ λ g k. absurd (cc)
-        | false ↦ λ g k. let which : Jump (decimal_value w) ≡ x = cc in subst (λ (r : Action). Acts w r) which (digits_act w e g)
-      ] refl f
+            | true ↦ λ g k. absurd (cc)
+            | false ↦ λ g k. let which : Jump (decimal_value w) ≡ x = cc in subst (λ (r : Action). Acts w r) which (digits_act w e g)
+          ] refl f
     ] refl h
 
 pub action_acts : (w : List ℕ) (x : Action) → map to_ascii_lowercase w ≡ w → action_named w ≡ Ok x → Acts w x

@@ -1,31 +1,19 @@
 -- What is written for a code, and the tokens of a text, by released Linux-PAM and by the manual pages.
-use Rattle.std.proofs.Common.{◌≡◌, one-add, ◌≤◌, ◌<◌, ◌+◌, ◌&&◌, ◌||◌, ◌++◌, ◌∙◌, ℕ, zero, suc, Bool, true, false, not, List, [], ◌∷◌, map, take, drop}
-use Rattle.std.proofs.Common.{length, get_or, cond, eqb, ap, sym, refl, subst, Option, Some, None, Result, Ok, Err, All, arith, codes}
-use Rattle.std.specs.Prelude.{if◌then◌else◌, ◌==◌, nat_lt, unwrap_or, find}
-use Rattle.std.specs.List.{list_all, prefix_len, take_while, position}
-use Rattle.std.specs.Option.{option_map, option_map_or}
-use Rattle.std.specs.Char.{to_ascii_lowercase, is_ascii_digit}
-use Rattle.std.specs.Str.{bytes_eq}
-use Rattle.std.proofs.lemmas.Bool.{agree_below, agree_below_at, and_parts, eqb-true, eq-eqb, leb-true, le-ltb, true≢false}
-use lib.Dec.{leb}
-use Rattle.std.proofs.lemmas.Slice.Eq.{bytes_eq-Decides}
+use Rattle.std.proofs.Common.{◌≡◌, one-add, ◌≤◌, ◌<◌, ◌+◌, ◌&&◌, ◌||◌, ◌++◌, ◌∙◌, ℕ, zero, suc, Bool, true, false, List, [], ◌∷◌, map, take, drop}
+use Rattle.std.proofs.Common.{length, get_or, cond, eqb, ap, sym, refl, Option, Some, None, arith}
+use Rattle.std.specs.Prelude.{nat_lt, unwrap_or}
+use Rattle.std.specs.List.{prefix_len}
+use Rattle.std.specs.Char.{to_ascii_lowercase}
+use Rattle.std.proofs.lemmas.Bool.{eqb-true, true≢false}
 use Rattle.pam_text.specs.Blanks.{is_text_blank}
-use Rattle.pam_codes.specs.Action.{action_named, decimal_value, is_jump_text}
-use Rattle.pam_codes.specs.Code.{all_codes, code_names, same_name}
-use Rattle.pam_codes.specs.Control.{◌>>=◌, Pairs, actions_of, action_of, equals_sign, first_default, last_named, pairs_of, token_actions, with_front}
-use Rattle.pam_codes.specs.Subject.{subject_of, other_subject}
+use Rattle.pam_codes.specs.Control.{Pairs, action_of, first_default, last_named}
 use Rattle.pam_codes.specs.Tokens.{begins_word, is_word_byte, tokens_of}
 use Rattle.pam_codes.specs.declared.action.Action.{Action}
-use Rattle.pam_codes.specs.declared.action.Action.TheVariants.{Ignore, Ok as Accept, Done, Bad, Die, Reset, Jump}
-use Rattle.pam_codes.specs.declared.error.ControlError.{ControlError}
-use Rattle.pam_codes.specs.declared.error.ControlError.TheVariants.{BadAction, BadControl, BadValue, ZeroJump}
-use Rattle.pam_codes.specs.declared.subject.Subject.{Subject}
+use Rattle.pam_codes.specs.declared.action.Action.TheVariants.{Bad}
 use Rattle.pam_codes.specs.declared.subject.Subject.TheVariants.{Named, Incomplete, Default}
-use Rattle.pam_codes.proofs.CodeNames.{first_code, has_name}
-use Rattle.pam_codes.proofs.CodeSets.{all_codes-within}
 use Rattle.pam_codes.proofs.TokensOf.{tokens_of-blank, tokens_of-equals, tokens_of-word}
-use Rattle.pam_released.specs.Control.{action_at, after_spaces, begins, released_actions, equals_at, is_space, jump_at, name_of, pairs_at, pairs_from}
-use Rattle.pam_released.specs.Control.{subject_at, then_some, written}
+use Rattle.pam_released.specs.Control.{after_spaces, is_space}
+use Rattle.pam_released.specs.Control.{written}
 
 -- WHAT IS WRITTEN FOR A CODE
 
@@ -41,7 +29,7 @@ written_as code None [] = refl
 written_as code (Some a) [] = refl
 written_as code before ((Named n, a) ∷ ps) =
     elim (eqb n code) as (λ (t : Bool). written code (cond t (Some a) before) ps ≡
-        or_before (cond t (Some (unwrap_or (last_named code ps) a)) (last_named code ps)) before (first_default ps)) [
+    or_before (cond t (Some (unwrap_or (last_named code ps) a)) (last_named code ps)) before (first_default ps)) [
       | true ↦ written_as code (Some a) ps ∙ named (last_named code ps)
       | false ↦ written_as code before ps
     ]
@@ -111,7 +99,7 @@ pub one_word : (b : ℕ) (bs : List ℕ) → is_word_byte b ≡ true →
     tokens_of (b ∷ bs) ≡ (b ∷ take (prefix_len is_word_byte bs) bs) ∷ tokens_of (drop (prefix_len is_word_byte bs) bs)
 one_word b bs h =
     let here : prefix_len is_word_byte (b ∷ bs) ≡ suc (prefix_len is_word_byte bs) = ap (λ (t : Bool). cond t (1 + prefix_len is_word_byte bs) 0) h
-        ∙ one-add (prefix_len is_word_byte bs) in
+    ∙ one-add (prefix_len is_word_byte bs) in
     tokens_of-word (b ∷ bs) h ∙ ap (λ (n : ℕ). take n (b ∷ bs) ∷ tokens_of (drop n (b ∷ bs))) here
 
 pub no_tokens_none : tokens_of [] ≡ []
@@ -160,7 +148,7 @@ first_token (b ∷ bs) a more h =
         | false ↦ λ g.
             let starts : is_word_byte b ≡ true = rw e (rw g refl) in
             let both : (b ∷ take (prefix_len is_word_byte bs) bs) ∷ tokens_of (drop (prefix_len is_word_byte bs) bs) ≡
-                a ∷ more = sym (one_word b bs starts) ∙ h in
+            a ∷ more = sym (one_word b bs starts) ∙ h in
             let word : b ∷ take (prefix_len is_word_byte bs) bs ≡ a = cc in
             let rest : tokens_of (drop (prefix_len is_word_byte bs) bs) ≡ more = cc in
             record {
@@ -173,9 +161,9 @@ first_token (b ∷ bs) a more h =
               shorter = let s : length (drop (prefix_len is_word_byte bs) bs) ≤ length bs = drop_short (prefix_len is_word_byte bs) bs in omega (arith, s);
               low = λ l.
                   let cut : b ∷ take (prefix_len is_word_byte bs) bs ++ drop (prefix_len is_word_byte bs) bs ≡
-                      b ∷ bs = ap (λ (r : List ℕ). b ∷ r) (take_drop (prefix_len is_word_byte bs) bs) in
+                  b ∷ bs = ap (λ (r : List ℕ). b ∷ r) (take_drop (prefix_len is_word_byte bs) bs) in
                   let two = lower_parts (b ∷ take (prefix_len is_word_byte bs) bs) (drop (prefix_len is_word_byte bs) bs) (ap (map to_ascii_lowercase) cut
-                      ∙ l ∙ sym cut) in
+                  ∙ l ∙ sym cut) in
                   (ap (map to_ascii_lowercase) (sym word) ∙ two.0 ∙ word, two.1);
             }
       ] refl
@@ -193,6 +181,6 @@ no_token (b ∷ bs) h =
         | false ↦ λ g.
             let starts : is_word_byte b ≡ true = rw e (rw g refl) in
             let both : (b ∷ take (prefix_len is_word_byte bs) bs) ∷ tokens_of (drop (prefix_len is_word_byte bs) bs) ≡ [] = sym (one_word b bs starts)
-                ∙ h in absurd (cc)
+            ∙ h in absurd (cc)
       ] refl
     ] refl

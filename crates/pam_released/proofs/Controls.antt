@@ -1,30 +1,22 @@
 -- The actions of a control in brackets by released Linux-PAM are those of the manual pages.
-use Rattle.std.proofs.Common.{◌≡◌, one-add, ◌≤◌, ◌<◌, ◌+◌, ◌&&◌, ◌||◌, ◌++◌, ◌∙◌, ℕ, zero, suc, Bool, true, false, not, List, [], ◌∷◌, map, take, drop}
-use Rattle.std.proofs.Common.{length, get_or, cond, eqb, ap, sym, refl, subst, Option, Some, None, Result, Ok, Err, All, arith, codes}
-use Rattle.std.specs.Prelude.{if◌then◌else◌, ◌==◌, nat_lt, unwrap_or, find}
-use Rattle.std.specs.List.{list_all, prefix_len, take_while, position}
+use Rattle.std.proofs.Common.{◌≡◌, ◌<◌, ◌+◌, ◌++◌, ◌∙◌, ℕ, zero, suc, Bool, true, false, List, [], ◌∷◌, map}
+use Rattle.std.proofs.Common.{length, get_or, cond, ap, sym, refl, Option, Some, None, Result, Ok, Err, arith, codes}
+use Rattle.std.specs.Prelude.{unwrap_or}
 use Rattle.std.specs.Option.{option_map, option_map_or}
-use Rattle.std.specs.Char.{to_ascii_lowercase, is_ascii_digit}
+use Rattle.std.specs.Char.{to_ascii_lowercase}
 use Rattle.std.specs.Str.{bytes_eq}
-use Rattle.std.proofs.lemmas.Bool.{agree_below, agree_below_at, and_parts, eqb-true, eq-eqb, leb-true, le-ltb, true≢false}
-use lib.Dec.{leb}
 use Rattle.std.proofs.lemmas.Slice.Eq.{bytes_eq-Decides}
-use Rattle.pam_text.specs.Blanks.{is_text_blank}
-use Rattle.pam_codes.specs.Action.{action_named, decimal_value, is_jump_text}
-use Rattle.pam_codes.specs.Code.{all_codes, code_names, same_name}
-use Rattle.pam_codes.specs.Control.{◌>>=◌, Pairs, actions_of, action_of, equals_sign, first_default, last_named, pairs_of, token_actions, with_front}
-use Rattle.pam_codes.specs.Subject.{subject_of, other_subject}
-use Rattle.pam_codes.specs.Tokens.{begins_word, is_word_byte, tokens_of}
+use Rattle.pam_codes.specs.Action.{action_named}
+use Rattle.pam_codes.specs.Code.{all_codes, code_names}
+use Rattle.pam_codes.specs.Control.{◌>>=◌, Pairs, actions_of, action_of, equals_sign, pairs_of, token_actions, with_front}
+use Rattle.pam_codes.specs.Subject.{subject_of}
+use Rattle.pam_codes.specs.Tokens.{tokens_of}
 use Rattle.pam_codes.specs.declared.action.Action.{Action}
-use Rattle.pam_codes.specs.declared.action.Action.TheVariants.{Ignore, Ok as Accept, Done, Bad, Die, Reset, Jump}
+use Rattle.pam_codes.specs.declared.action.Action.TheVariants.{Bad}
 use Rattle.pam_codes.specs.declared.error.ControlError.{ControlError}
-use Rattle.pam_codes.specs.declared.error.ControlError.TheVariants.{BadAction, BadControl, BadValue, ZeroJump}
+use Rattle.pam_codes.specs.declared.error.ControlError.TheVariants.{BadAction, BadControl}
 use Rattle.pam_codes.specs.declared.subject.Subject.{Subject}
-use Rattle.pam_codes.specs.declared.subject.Subject.TheVariants.{Named, Incomplete, Default}
-use Rattle.pam_codes.proofs.CodeNames.{first_code, has_name}
-use Rattle.pam_codes.proofs.CodeSets.{all_codes-within}
-use Rattle.pam_codes.proofs.TokensOf.{tokens_of-blank, tokens_of-equals, tokens_of-word}
-use Rattle.pam_released.specs.Control.{action_at, after_spaces, begins, released_actions, equals_at, is_space, jump_at, name_of, pairs_at, pairs_from}
+use Rattle.pam_released.specs.Control.{action_at, after_spaces, released_actions, equals_at, is_space, pairs_at, pairs_from}
 use Rattle.pam_released.specs.Control.{subject_at, then_some, written}
 use Rattle.pam_released.proofs.ControlNames.{Says, subject_said, Acts, action_acts}
 use Rattle.pam_released.proofs.ControlTokens.{same_action_of, all_alike, first_token, no_token}
@@ -45,34 +37,34 @@ pub parts_of : (a b c : List ℕ) (rest : List (List ℕ)) (ps : Pairs) → pair
 unfolding pairs_of
 parts_of a b c rest ps h =
     elim (subject_of a) as (λ (r : Result Subject ControlError). subject_of a ≡ r →
-        (r >>= λ s. equals_sign b >>= λ e. action_named c >>= λ x. with_front (s, x) (pairs_of rest)) ≡ Ok ps → Parts a b c rest ps) [
+    (r >>= λ s. equals_sign b >>= λ e. action_named c >>= λ x. with_front (s, x) (pairs_of rest)) ≡ Ok ps → Parts a b c rest ps) [
       | Err e ↦ λ i j. absurd (cc)
       | Ok s ↦ λ i j. elim (bytes_eq b (codes "=")) as (λ (t : Bool). bytes_eq b (codes "=") ≡ t →
           (cond t (Ok tt) (Err BadControl) >>= λ e. action_named c >>= λ x. with_front (s, x) (pairs_of rest)) ≡ Ok ps → Parts a b c rest ps) [
-        | false ↦ λ k l. absurd (cc)
-        | true ↦ λ k l. elim (action_named c) as (λ (r : Result Action ControlError). action_named c ≡ r →
-            (r >>= λ x. with_front (s, x) (pairs_of rest)) ≡ Ok ps → Parts a b c rest ps) [
-          | Err e ↦ λ m n. absurd (cc)
-          | Ok x ↦ λ m n. elim (pairs_of rest) as (λ (r : Result Pairs ControlError). pairs_of rest ≡ r → with_front (s, x) r ≡ Ok ps → Parts a b c rest ps) [
-            | Err e ↦ λ o p. absurd (cc)
-            | Ok qs ↦ λ o p. record {
-              subject = s;
-              action = x;
-              others = qs;
-              named = i;
-              equals = (bytes_eq-Decides b (codes "=")).0 k;
-              acts = m;
-              more = o;
-              whole = let same : (s, x) ∷ qs ≡ ps = cc in sym same;
-            }
-          ] refl n
-        ] refl l
-      ] refl j
+            | false ↦ λ k l. absurd (cc)
+            | true ↦ λ k l. elim (action_named c) as (λ (r : Result Action ControlError). action_named c ≡ r →
+                (r >>= λ x. with_front (s, x) (pairs_of rest)) ≡ Ok ps → Parts a b c rest ps) [
+                  | Err e ↦ λ m n. absurd (cc)
+                  | Ok x ↦ λ m n. elim (pairs_of rest) as (λ (r : Result Pairs ControlError). pairs_of rest ≡ r → with_front (s, x) r ≡ Ok ps → Parts a b c rest ps) [
+                    | Err e ↦ λ o p. absurd (cc)
+                    | Ok qs ↦ λ o p. record {
+                      subject = s;
+                      action = x;
+                      others = qs;
+                      named = i;
+                      equals = (bytes_eq-Decides b (codes "=")).0 k;
+                      acts = m;
+                      more = o;
+                      whole = let same : (s, x) ∷ qs ≡ ps = cc in sym same;
+                    }
+                  ] refl n
+                ] refl l
+          ] refl j
     ] refl h
 
 pub one_pair : (next : List ℕ → Option Pairs) (a u : List ℕ) → (a ≡ [] → ⊥) → pairs_from next (a ++ u) ≡
     then_some (subject_at (a ++ u)) (λ s. then_some (equals_at (after_spaces s.1))
-        (λ r. then_some (action_at (after_spaces r)) (λ x. option_map (λ ps. (s.0, x.0) ∷ ps) (next x.1))))
+    (λ r. then_some (action_at (after_spaces r)) (λ x. option_map (λ ps. (s.0, x.0) ∷ ps) (next x.1))))
 one_pair next [] u n = absurd (n refl)
 one_pair next (b ∷ a) u n = refl
 
@@ -100,7 +92,7 @@ two_fail (Ok s) (Ok e) ps h = cc
 pub by_tokens : (n : ℕ) (t : List ℕ) (ts : List (List ℕ)) (ps : Pairs) → length t < suc n → map to_ascii_lowercase t ≡ t → tokens_of t ≡ ts →
     pairs_of ts ≡ Ok ps →
     ((u : List ℕ) (qs : Pairs) → length u < n → map to_ascii_lowercase u ≡ u → pairs_of (tokens_of u) ≡ Ok qs → pairs_at n u ≡ Some qs) →
-        pairs_at (suc n) t ≡ Some ps
+    pairs_at (suc n) t ≡ Some ps
 unfolding pairs_of Says Acts
 by_tokens n t [] ps l low e h again = at_step n t ∙ ap (pairs_from (λ rest. pairs_at n rest)) (no_token t e)
     ∙ ap (λ (r : Pairs). Some r) (let none : [] ≡ ps = cc in none)
@@ -118,21 +110,21 @@ by_tokens n t (a ∷ b ∷ c ∷ rest) ps l low e h again =
     let acts = action_acts c p.action lk.0 p.acts in
     let first : after_spaces t ≡ a ++ f.rest = f.parts says.1 in
     let second : after_spaces f.rest ≡ 61 ∷ g.rest = g.parts (ap (λ (r : List ℕ). is_space (get_or r 0 0)) p.equals)
-        ∙ ap (λ (r : List ℕ). r ++ g.rest) p.equals in
+    ∙ ap (λ (r : List ℕ). r ++ g.rest) p.equals in
     let third : after_spaces g.rest ≡ c ++ k.rest = k.parts acts.1 in
     let short : length k.rest < n = (let s1 : length k.rest < length g.rest = k.shorter in let s2 : length g.rest < length f.rest = g.shorter in
-        let s3 : length f.rest < length t = f.shorter in omega (arith, s1, s2, s3, l)) in
+    let s3 : length f.rest < length t = f.shorter in omega (arith, s1, s2, s3, l)) in
     let more : pairs_at n k.rest ≡ Some p.others = again k.rest p.others short lk.1 (ap pairs_of k.others ∙ p.more) in
     let there : a ≡ [] → ⊥ = λ z. no_name p.subject (ap subject_of (sym z) ∙ p.named) in
     at_step n t
     ∙ ap (pairs_from (λ r. pairs_at n r)) first
     ∙ one_pair (λ r. pairs_at n r) a f.rest there
     ∙ ap (λ (o : Option (Subject × List ℕ)). then_some o (λ s. then_some (equals_at (after_spaces s.1))
-        (λ r. then_some (action_at (after_spaces r)) (λ x. option_map (λ qs. (s.0, x.0) ∷ qs) (pairs_at n x.1))))) (says.0 f.rest)
+    (λ r. then_some (action_at (after_spaces r)) (λ x. option_map (λ qs. (s.0, x.0) ∷ qs) (pairs_at n x.1))))) (says.0 f.rest)
     ∙ ap (λ (o : Option (List ℕ)). then_some o (λ r. then_some (action_at (after_spaces r))
-        (λ x. option_map (λ qs. (p.subject, x.0) ∷ qs) (pairs_at n x.1)))) (ap equals_at second ∙ equals_there g.rest)
+    (λ x. option_map (λ qs. (p.subject, x.0) ∷ qs) (pairs_at n x.1)))) (ap equals_at second ∙ equals_there g.rest)
     ∙ ap (λ (o : Option (Action × List ℕ)). then_some o (λ x. option_map (λ qs. (p.subject, x.0) ∷ qs) (pairs_at n x.1))) (ap action_at third
-        ∙ acts.0 k.rest (k.stops acts.2))
+    ∙ acts.0 k.rest (k.stops acts.2))
     ∙ ap (option_map (λ qs. (p.subject, p.action) ∷ qs)) more
     ∙ ap (λ (r : Pairs). Some r) (sym p.whole)
 
@@ -145,7 +137,7 @@ pub controls_alike : (inside : List ℕ) (actions : List Action) → map to_asci
 unfolding released_actions actions_of
 controls_alike inside actions h k =
     elim (pairs_of (tokens_of inside)) as (λ (r : Result Pairs ControlError). pairs_of (tokens_of inside) ≡ r →
-        (r >>= λ ps. Ok (actions_of ps)) ≡ Ok actions → released_actions inside ≡ actions) [
+    (r >>= λ ps. Ok (actions_of ps)) ≡ Ok actions → released_actions inside ≡ actions) [
       | Err e ↦ λ i j. absurd (cc)
       | Ok ps ↦ λ i j.
           let are : actions_of ps ≡ actions = cc in

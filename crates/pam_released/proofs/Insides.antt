@@ -1,7 +1,7 @@
 -- A control in brackets that has no fault: its inside has no `]` and is no keyword.
-use Rattle.std.proofs.Common.{◌≡◌, ◌<◌, ◌+◌, ◌&&◌, ◌||◌, ◌++◌, ◌∙◌, ℕ, suc, Bool, true, false, not, List, [], ◌∷◌, map, take, length, get_or, cond, eqb, ap, sym, refl}
+use Rattle.std.proofs.Common.{◌≡◌, ◌+◌, ◌&&◌, ◌||◌, ◌++◌, ◌∙◌, ℕ, Bool, true, false, not, List, [], ◌∷◌, map, take, length, cond, eqb, ap, sym, refl}
 use Rattle.std.proofs.Common.{Option, Some, None, Result, Ok, Err, arith, add-one, codes}
-use Rattle.std.specs.Prelude.{if◌then◌else◌, ◌==◌, nat_le, nat_lt, find}
+use Rattle.std.specs.Prelude.{if◌then◌else◌, ◌==◌, nat_le, nat_lt}
 use Rattle.std.specs.List.{list_all, list_any, onto_first, position}
 use Rattle.std.specs.Option.{option_map, option_map_or}
 use Rattle.std.specs.Char.{is_ascii_digit, is_ascii_uppercase, to_ascii_lowercase}
@@ -11,7 +11,7 @@ use Rattle.std.proofs.lemmas.Slice.Eq.{bytes_eq-Decides}
 use Rattle.pam_text.specs.Blanks.{is_text_blank}
 use Rattle.pam_codes.specs.Action.{action_named, decimal_value, is_jump_text}
 use Rattle.pam_codes.specs.Code.{all_codes, code_names, same_name}
-use Rattle.pam_codes.specs.Control.{◌>>=◌, Pairs, actions_of, bracket_actions, closed_actions, closing_at, control_of, keyword_pairs, keywords, pairs_of, token_actions}
+use Rattle.pam_codes.specs.Control.{◌>>=◌, Pairs, actions_of, bracket_actions, closed_actions, closing_at, control_of, pairs_of, token_actions}
 use Rattle.pam_codes.specs.Subject.{subject_of, other_subject}
 use Rattle.pam_codes.specs.Tokens.{begins_word, tokens_of}
 use Rattle.pam_codes.specs.declared.action.Action.{Action}
@@ -25,7 +25,7 @@ use Rattle.pam_codes.proofs.CodeSets.{all_codes-within}
 use Rattle.pam_conf.specs.Words.{is_inside, unescaped}
 use Rattle.pam_released.specs.Control.{name_of}
 use Rattle.pam_released.proofs.ControlNames.{found, lower_is}
-use Rattle.pam_released.proofs.Controls.{Parts, one_fails, parts_of, two_fail}
+use Rattle.pam_released.proofs.Controls.{one_fails, parts_of, two_fail}
 
 -- BYTES
 
@@ -53,20 +53,20 @@ unfolding tokens_of
 token_bytes k n [] = refl
 token_bytes k n (b ∷ bs) =
     elim (is_text_blank b) as (λ (u : Bool). is_text_blank b ≡ u → list_any (has k) (cond u (tokens_of bs)
-        (cond (eqb b 61) ((61 ∷ []) ∷ tokens_of bs) (cond (begins_word bs) (onto_first b (tokens_of bs)) ((b ∷ []) ∷ tokens_of bs))))
-        ≡ (eqb b k || has k bs)) [
+    (cond (eqb b 61) ((61 ∷ []) ∷ tokens_of bs) (cond (begins_word bs) (onto_first b (tokens_of bs)) ((b ∷ []) ∷ tokens_of bs))))
+    ≡ (eqb b k || has k bs)) [
       | true ↦ λ e. token_bytes k n bs ∙ ap (λ (u : Bool). u || has k bs) (sym (differs b k e n))
       | false ↦ λ e. elim (eqb b 61) as (λ (u : Bool). eqb b 61 ≡ u → list_any (has k)
           (cond u ((61 ∷ []) ∷ tokens_of bs) (cond (begins_word bs) (onto_first b (tokens_of bs)) ((b ∷ []) ∷ tokens_of bs)))
           ≡ (eqb b k || has k bs)) [
-        | true ↦ λ f. or_grouped (eqb 61 k) false (list_any (has k) (tokens_of bs)) ∙ ap (λ (u : Bool). eqb 61 k || u) (token_bytes k n bs)
-            ∙ ap (λ (c : ℕ). eqb c k || has k bs) (sym (eqb-true b 61 f))
-        | false ↦ λ f. elim (begins_word bs) as (λ (u : Bool). list_any (has k) (cond u (onto_first b (tokens_of bs)) ((b ∷ []) ∷ tokens_of bs))
-            ≡ (eqb b k || has k bs)) [
-          | true ↦ has_onto k b (tokens_of bs) ∙ ap (λ (u : Bool). eqb b k || u) (token_bytes k n bs)
-          | false ↦ or_grouped (eqb b k) false (list_any (has k) (tokens_of bs)) ∙ ap (λ (u : Bool). eqb b k || u) (token_bytes k n bs)
-        ]
-      ] refl
+            | true ↦ λ f. or_grouped (eqb 61 k) false (list_any (has k) (tokens_of bs)) ∙ ap (λ (u : Bool). eqb 61 k || u) (token_bytes k n bs)
+                ∙ ap (λ (c : ℕ). eqb c k || has k bs) (sym (eqb-true b 61 f))
+            | false ↦ λ f. elim (begins_word bs) as (λ (u : Bool). list_any (has k) (cond u (onto_first b (tokens_of bs)) ((b ∷ []) ∷ tokens_of bs))
+                ≡ (eqb b k || has k bs)) [
+                  | true ↦ has_onto k b (tokens_of bs) ∙ ap (λ (u : Bool). eqb b k || u) (token_bytes k n bs)
+                  | false ↦ or_grouped (eqb b k) false (list_any (has k) (tokens_of bs)) ∙ ap (λ (u : Bool). eqb b k || u) (token_bytes k n bs)
+                ]
+          ] refl
     ] refl
 
 -- `]` and `=` are no letters
@@ -114,9 +114,9 @@ subject_plain w s h =
             | true ↦ λ i g. same_has (codes "incomplete") w i
             | false ↦ λ i g. elim (same_name (codes "default") w) as (λ (t : Bool). same_name (codes "default") w ≡ t →
                 cond t (Ok Default) (Err BadValue) ≡ Ok s → has 93 w ≡ false) [
-              | true ↦ λ j k. same_has (codes "default") w j
-              | false ↦ λ j k. absurd (cc)
-            ] refl g
+                  | true ↦ λ j k. same_has (codes "default") w j
+                  | false ↦ λ j k. absurd (cc)
+                ] refl g
           ] refl f
       | Some n ↦ λ e f. code_plain w n e
     ] refl h
@@ -144,7 +144,7 @@ jump_plain : (w : List ℕ) (x : Action) →
     (if not (is_jump_text w) then Err BadAction else if decimal_value w == 0 then Err ZeroJump else Ok (Jump (decimal_value w))) ≡ Ok x → has 93 w ≡ false
 jump_plain w x h =
     elim (is_jump_text w) as (λ (t : Bool). is_jump_text w ≡ t →
-        cond (not t) (Err BadAction) (cond (eqb (decimal_value w) 0) (Err ZeroJump) (Ok (Jump (decimal_value w)))) ≡ Ok x → has 93 w ≡ false) [
+    cond (not t) (Err BadAction) (cond (eqb (decimal_value w) 0) (Err ZeroJump) (Ok (Jump (decimal_value w)))) ≡ Ok x → has 93 w ≡ false) [
       | false ↦ λ e f. absurd (cc)
       | true ↦ λ e f. digits_plain w (and_parts (nat_lt 0 (length w) && nat_lt (length w) 10) (list_all is_ascii_digit w) e).1
     ] refl h
@@ -253,9 +253,9 @@ bracket_read inside actions i h =
   where
     not_less : (m n : ℕ) → n ≡ m → nat_lt m n ≡ false
     not_less m n e = elim (nat_lt m n) as (λ (t : Bool). nat_lt m n ≡ t → t ≡ false) [
-        | true ↦ λ f. absurd (omega (arith, ltb-true m n f))
-        | false ↦ λ f. refl
-      ] refl
+      | true ↦ λ f. absurd (omega (arith, ltb-true m n f))
+      | false ↦ λ f. refl
+    ] refl
 
 -- WITHOUT CAPITALS
 

@@ -47,7 +47,7 @@ pub followed : (line next : List ℕ) (lines : List (List ℕ)) → is_line_read
 unfolding is_line_read_otherwise
 followed line next lines q =
     let z = or_parts (has_return line || has_backslash_blank line || has_backslash_comment line || goes_on_over line next)
-        (is_line_read_otherwise (next ∷ lines)) q in
+    (is_line_read_otherwise (next ∷ lines)) q in
     let a = or_parts (has_return line || has_backslash_blank line || has_backslash_comment line) (goes_on_over line next) z.0 in
     let b = or_parts (has_return line || has_backslash_blank line) (has_backslash_comment line) a.0 in
     let c = or_parts (has_return line) (has_backslash_blank line) b.0 in
@@ -178,25 +178,25 @@ alike (m ∷ k ∷ ls) e is q =
     let more : lines_152 false (k ∷ ls) ≡ Some (filled (continued (before_hash k ∷ map before_hash ls ++ e))) = alike (k ∷ ls) e is rest in
     let after : List (List ℕ) = before_hash k ∷ map before_hash ls ++ e in
     elim (is_blank_line m) as (λ (t : Bool). is_blank_line m ≡ t →
-        lines_152 false (m ∷ k ∷ ls) ≡ Some (filled (continued (before_hash m ∷ before_hash k ∷ map before_hash ls ++ e)))) [
+    lines_152 false (m ∷ k ∷ ls) ≡ Some (filled (continued (before_hash m ∷ before_hash k ∷ map before_hash ls ++ e)))) [
       | true ↦ λ h. step_empty false m (k ∷ ls) h ∙ more ∙ sym (ap (λ (r : List (List ℕ)). Some r)
           (ap filled (no_more (before_hash m) (before_hash k ∷ map before_hash ls ++ e) (blank_has_no_backslash (before_hash m) (sym a.empty ∙ h)))
           ∙ filled_no (before_hash m) (continued (before_hash k ∷ map before_hash ls ++ e)) (sym a.empty ∙ h)))
       | false ↦ λ h. elim (goes_on m) as (λ (t : Bool). goes_on m ≡ t →
           lines_152 false (m ∷ k ∷ ls) ≡ Some (filled (continued (before_hash m ∷ before_hash k ∷ map before_hash ls ++ e)))) [
-        | true ↦ λ g.
-            let w = a.whole g in
-            let fills : is_blank_line k ≡ false = next_filled m k w.0 w.1 over in
-            step_goes false m (k ∷ ls) h g
-            ∙ ap (option_map (onto_line (front_part m))) (either_way k ls fills ∙ more)
-            ∙ ap (λ (x : List ℕ). Some (onto_line x (filled (continued (before_hash k ∷ map before_hash ls ++ e))))) (a.front g)
-            ∙ ap (λ (r : List (List ℕ)). Some r) (onto_filled (last_is_space (before_hash m)) (continued (before_hash k ∷ map before_hash ls ++ e))
+            | true ↦ λ g.
+                let w = a.whole g in
+                let fills : is_blank_line k ≡ false = next_filled m k w.0 w.1 over in
+                step_goes false m (k ∷ ls) h g
+                ∙ ap (option_map (onto_line (front_part m))) (either_way k ls fills ∙ more)
+                ∙ ap (λ (x : List ℕ). Some (onto_line x (filled (continued (before_hash k ∷ map before_hash ls ++ e))))) (a.front g)
+                ∙ ap (λ (r : List (List ℕ)). Some r) (onto_filled (last_is_space (before_hash m)) (continued (before_hash k ∷ map before_hash ls ++ e))
                 (begins_filled k ls e rest fills)
-            ∙ sym (ap filled (and_more (before_hash m) (before_hash k) (map before_hash ls ++ e) (sym a.goes ∙ g))))
-        | false ↦ λ g. step_ends false m (k ∷ ls) h g ∙ ap (option_map (λ more. before_hash m ∷ more)) more ∙ sym (ap (λ (r : List (List ℕ)). Some r)
-            (ap filled (no_more (before_hash m) (before_hash k ∷ map before_hash ls ++ e) (sym a.goes ∙ g))
-            ∙ filled_yes (before_hash m) (continued (before_hash k ∷ map before_hash ls ++ e)) (sym a.empty ∙ h)))
-      ] refl
+                ∙ sym (ap filled (and_more (before_hash m) (before_hash k) (map before_hash ls ++ e) (sym a.goes ∙ g))))
+            | false ↦ λ g. step_ends false m (k ∷ ls) h g ∙ ap (option_map (λ more. before_hash m ∷ more)) more ∙ sym (ap (λ (r : List (List ℕ)). Some r)
+                (ap filled (no_more (before_hash m) (before_hash k ∷ map before_hash ls ++ e) (sym a.goes ∙ g))
+                ∙ filled_yes (before_hash m) (continued (before_hash k ∷ map before_hash ls ++ e)) (sym a.empty ∙ h)))
+          ] refl
     ] refl
 
 map_end : (ls e : List (List ℕ)) → IsEnd e → map before_hash (ls ++ e) ≡ map before_hash ls ++ e

@@ -25,9 +25,9 @@ words_after Between (b ∷ t) x y h =
     words_in (cond u (after Between t) (cond (eqb b 91) (after (Bracket false) t) (after Plain t))) x
     ≡ words_in (cond u (after Between t) (cond (eqb b 91) (after (Bracket false) t) (after Plain t))) y →
     cond u (words_in Between (t ++ x)) (cond (eqb b 91) (option_map (onto_first b) (words_in (Bracket false) (t ++ x)))
-        (option_map (onto_first b) (words_in Plain (t ++ x))))
+    (option_map (onto_first b) (words_in Plain (t ++ x))))
     ≡ cond u (words_in Between (t ++ y)) (cond (eqb b 91) (option_map (onto_first b) (words_in (Bracket false) (t ++ y)))
-        (option_map (onto_first b) (words_in Plain (t ++ y))))) [
+    (option_map (onto_first b) (words_in Plain (t ++ y))))) [
       | true ↦ λ k. words_after Between t x y k
       | false ↦ elim (eqb b 91) as (λ (v : Bool).
           words_in (cond v (after (Bracket false) t) (after Plain t)) x ≡ words_in (cond v (after (Bracket false) t) (after Plain t)) y →
@@ -65,10 +65,10 @@ unfolding words_in without_start_blanks
 skipped [] x = refl
 skipped (b ∷ t) x =
     elim (is_space_or_tab b) as (λ (u : Bool). is_space_or_tab b ≡ u →
-        words_in Between (cond u (without_start_blanks t) (b ∷ t) ++ x) ≡ words_in Between (b ∷ t ++ x)) [
+    words_in Between (cond u (without_start_blanks t) (b ∷ t) ++ x) ≡ words_in Between (b ∷ t ++ x)) [
       | true ↦ λ e. skipped t x ∙ sym (ap (λ (u : Bool). cond u (words_in Between (t ++ x))
           (cond (eqb b 91) (option_map (onto_first b) (words_in (Bracket false) (t ++ x))) (option_map (onto_first b) (words_in Plain (t ++ x)))))
-              (c_is_text b e))
+          (c_is_text b e))
       | false ↦ λ e. refl
     ] refl
 
@@ -97,13 +97,13 @@ not_plain Plain (b ∷ []) h = refl
 not_plain (Bracket e) (b ∷ []) h = refl
 not_plain Between (b ∷ c ∷ r) h =
     elim (is_blank b) as (λ (u : Bool). in_plain (cond u (after Between (last_is_space (c ∷ r)))
-        (cond (eqb b 91) (after (Bracket false) (last_is_space (c ∷ r))) (after Plain (last_is_space (c ∷ r))))) ≡ false) [
+    (cond (eqb b 91) (after (Bracket false) (last_is_space (c ∷ r))) (after Plain (last_is_space (c ∷ r))))) ≡ false) [
       | true ↦ not_plain Between (c ∷ r) h
       | false ↦ elim (eqb b 91) as (λ (u : Bool). in_plain (cond u (after (Bracket false) (last_is_space (c ∷ r))) (after Plain (last_is_space (c ∷ r)))) ≡
           false) [
-        | true ↦ not_plain (Bracket false) (c ∷ r) h
-        | false ↦ not_plain Plain (c ∷ r) h
-      ]
+            | true ↦ not_plain (Bracket false) (c ∷ r) h
+            | false ↦ not_plain Plain (c ∷ r) h
+          ]
     ]
 not_plain Plain (b ∷ c ∷ r) h =
     elim (is_blank b) as (λ (u : Bool). in_plain (cond u (after Between (last_is_space (c ∷ r))) (after Plain (last_is_space (c ∷ r)))) ≡ false) [
@@ -112,7 +112,7 @@ not_plain Plain (b ∷ c ∷ r) h =
     ]
 not_plain (Bracket e) (b ∷ c ∷ r) h =
     elim (eqb b 93 && not e) as
-        (λ (u : Bool). in_plain (cond u (after Between (last_is_space (c ∷ r))) (after (Bracket (eqb b 92)) (last_is_space (c ∷ r)))) ≡ false) [
+    (λ (u : Bool). in_plain (cond u (after Between (last_is_space (c ∷ r))) (after (Bracket (eqb b 92)) (last_is_space (c ∷ r)))) ≡ false) [
       | true ↦ not_plain Between (c ∷ r) h
       | false ↦ not_plain (Bracket (eqb b 92)) (c ∷ r) h
     ]
@@ -150,7 +150,7 @@ nothing_left [] h = refl
 nothing_left (b ∷ t) h =
     let parts = or_parts (eqb b 13) (list_any (λ d. eqb d 13) t) h in
     elim (is_space_or_tab b) as (λ (u : Bool). u ≡ is_text_blank b →
-        is_nothing (cond u (without_start_blanks t) (b ∷ t)) ≡ (is_text_blank b && list_all is_text_blank t)) [
+    is_nothing (cond u (without_start_blanks t) (b ∷ t)) ≡ (is_text_blank b && list_all is_text_blank t)) [
       | true ↦ λ e. nothing_left t parts.1 ∙ ap (λ (v : Bool). v && list_all is_text_blank t) e
       | false ↦ λ e. ap (λ (v : Bool). v && list_all is_text_blank t) e
     ] (text_blank b parts.0)
@@ -273,7 +273,7 @@ both s m (k ∷ ls) e is p q d =
       | false ↦ λ g.
           let whole : part m ≡ before_hash m = ap (λ (u : Bool). cond u (front_part m) (before_hash m)) g in
           let next : has_dropped_blank Between (k ∷ ls) ≡ false = ap (λ (u : Bool). has_dropped_blank (cond u (after s (part m)) Between) (k ∷ ls)) (sym g)
-              ∙ h.1 in
+          ∙ h.1 in
           let o = both Between k ls e is refl rest next in
           record {
             x = without_start_blanks (before_hash m);
@@ -297,7 +297,7 @@ words_same (ends e empty) = refl
 words_same (line [] y xs ys a more) = rw (sym a.blank) (words_same more)
 words_same (line (b ∷ x) y xs ys a more) =
     rw (sym a.blank) (ap (λ (r : Option (List (List ℕ))). r ∷ map words_of (not_empty xs)) a.words
-        ∙ ap (λ (r : List (Option (List (List ℕ)))). words_of y ∷ r) (words_same more))
+    ∙ ap (λ (r : List (Option (List (List ℕ)))). words_of y ∷ r) (words_same more))
 
 whole : (ls e : List (List ℕ)) → IsEnd e → is_line_read_otherwise ls ≡ false → has_dropped_blank Between ls ≡ false →
     (xs : List (List ℕ)) × (lines_170 false ls ≡ Some xs) × Same xs (continued (map before_hash ls ++ e))

@@ -101,13 +101,13 @@ uncommented_lines true [] = refl
 uncommented_lines false [] = refl
 uncommented_lines true (b ∷ bs) =
     elim (eqb b 10) as (λ (t : Bool). eqb b 10 ≡ t →
-        pieces (uncommented_bytes true (b ∷ bs)) ≡ blank_first (map before_hash (cond t ([] ∷ pieces bs) (onto_first b (pieces bs))))) [
+    pieces (uncommented_bytes true (b ∷ bs)) ≡ blank_first (map before_hash (cond t ([] ∷ pieces bs) (onto_first b (pieces bs))))) [
       | true ↦ λ e. rw e (rw e (ap (λ (r : List (List ℕ)). [] ∷ r) (uncommented_lines false bs)))
       | false ↦ λ e. rw e (uncommented_lines true bs ∙ sym (blank_onto b (pieces bs)))
     ] refl
 uncommented_lines false (b ∷ bs) =
     elim (eqb b 35) as (λ (t : Bool). eqb b 35 ≡ t →
-        pieces (cond t (uncommented_bytes true bs) (b ∷ uncommented_bytes false bs)) ≡ map before_hash (pieces (b ∷ bs))) [
+    pieces (cond t (uncommented_bytes true bs) (b ∷ uncommented_bytes false bs)) ≡ map before_hash (pieces (b ∷ bs))) [
       | true ↦ λ e. rw (hash_no_feed b e) (uncommented_lines true bs ∙ sym (hash_onto b (pieces bs) e))
       | false ↦ λ e. elim (eqb b 10) as (λ (t : Bool). cond t ([] ∷ pieces (uncommented_bytes false bs)) (onto_first b (pieces (uncommented_bytes false bs)))
           ≡ map before_hash (cond t ([] ∷ pieces bs) (onto_first b (pieces bs)))) [
@@ -185,7 +185,7 @@ joined_lines [] = last_piece []
 joined_lines (b ∷ []) = one_byte b
 joined_lines (b ∷ c ∷ bs) =
     elim (eqb b 92 && eqb c 10) as (λ (t : Bool). (eqb b 92 && eqb c 10) ≡ t →
-        pieces (cond t (32 ∷ joined_bytes bs) (b ∷ joined_bytes (c ∷ bs))) ≡ continued (pieces (b ∷ c ∷ bs))) [
+    pieces (cond t (32 ∷ joined_bytes bs) (b ∷ joined_bytes (c ∷ bs))) ≡ continued (pieces (b ∷ c ∷ bs))) [
       | true ↦ λ e.
           let both = and_parts (eqb b 92) (eqb c 10) e in
           let is : b ≡ 92 = eqb-true b 92 both.0 in

@@ -1,6 +1,6 @@
 -- Findings that are appended one after another.
 use Rattle.std.proofs.Common.{◌≡◌, ◌<◌, ◌≤◌, ◌+◌, ◌++◌, ◌∙◌, ℕ, Bool, true, false, List, [], ◌∷◌, length, map, take, drop, get_or, cond, ap, sym, refl}
-use Rattle.std.proofs.Common.{Option, Some, None, Result, Ok, Err, arith, add-one, append-nil, append_assoc, drop-cons}
+use Rattle.std.proofs.Common.{Option, Some, None, Err, arith, add-one, append-nil, append_assoc, drop-cons}
 use Rattle.std.specs.List.{prefix_len}
 use Rattle.std.proofs.lemmas.List.{drop_all}
 use Rattle.pam_conf.specs.Words.{State, or_open, words_of, words_or_fault}
@@ -8,7 +8,7 @@ use Rattle.pam_conf.specs.declared.error.FaultKind.{FaultKind}
 use Rattle.pam_conf.specs.declared.rule.Form.{Form}
 use Rattle.pam_released.specs.Bracket.{state_after}
 use Rattle.pam_released.specs.Findings.{comes_before, differences_at, from_control, line_findings, located, merged, only_if, rule_differences}
-use Rattle.pam_released.specs.Findings.{rule_findings, those, used_after, words_or_none}
+use Rattle.pam_released.specs.Findings.{rule_findings, those, used_after}
 use Rattle.pam_released.specs.Lines.{goes_on, is_blank_line}
 use Rattle.pam_released.specs.declared.difference.Difference.{Difference}
 use Rattle.pam_released.specs.declared.finding.Finding.{Finding}

@@ -1,11 +1,9 @@
 -- Without a difference, the lines of a file whose rules have no fault are read as those rules.
-use Rattle.std.proofs.Common.{◌≡◌, ◌&&◌, ◌||◌, ◌++◌, ◌∙◌, ℕ, Bool, true, false, List, [], ◌∷◌, map, drop, cond, eqb, ap, sym, refl, subst}
-use Rattle.std.proofs.Common.{Option, Some, None, Result, Ok, Err, codes}
-use Rattle.std.specs.List.{list_all, list_any, onto_first}
+use Rattle.std.proofs.Common.{◌≡◌, ◌++◌, ◌∙◌, ℕ, Bool, true, false, List, [], ◌∷◌, map, cond, eqb, ap, sym, refl, subst}
+use Rattle.std.proofs.Common.{Option, Some, None, Result, Ok, Err}
+use Rattle.std.specs.List.{list_all, onto_first}
 use Rattle.std.specs.Option.{option_map, option_map_or}
-use Rattle.std.specs.Char.{to_ascii_lowercase}
 use Rattle.std.proofs.lemmas.Bool.{and_parts, ne_eqb}
-use Rattle.pam_codes.specs.Code.{same_name}
 use Rattle.pam_codes.specs.Tokens.{is_blank}
 use Rattle.pam_text.specs.Source.{source_fault}
 use Rattle.pam_text.specs.Text.{FileByte, lines_of, text_lines, text_of}
@@ -13,24 +11,23 @@ use Rattle.pam_text.specs.Text.{onto_line as onto_text_line}
 use Rattle.pam_text.specs.declared.source.SourceFault.{SourceFault}
 use Rattle.pam_conf.specs.Lines.{at_line, fault_of_source, line_number, line_rule_of, onto_rules, rule_at, rules_in, rules_of}
 use Rattle.pam_conf.specs.Rule.{RuleText, rule_of, first_rule_of}
-use Rattle.pam_conf.specs.Words.{Between, IsSplit, nothing, blank, bracketed, plain, or_open, text_of_word, words_in, words_of, words_or_fault}
+use Rattle.pam_conf.specs.Words.{IsSplit, nothing, blank, bracketed, plain, or_open, text_of_word, words_in, words_of, words_or_fault}
 use Rattle.pam_conf.specs.declared.error.FaultKind.{FaultKind}
 use Rattle.pam_conf.specs.declared.error.RuleFault.{RuleFault}
 use Rattle.pam_conf.specs.declared.rule.Form.{Form}
 use Rattle.pam_conf.proofs.Splits.{is_split}
 use Rattle.pam_released.specs.Control.{then_some}
-use Rattle.pam_released.specs.Findings.{findings_of, from_control, has_capital, has_empty_name, located, only_if, rule_differences, rule_findings, those}
+use Rattle.pam_released.specs.Findings.{findings_of, from_control, has_capital, has_empty_name, located, rule_differences, rule_findings}
 use Rattle.pam_released.specs.Findings.{words_or_none}
-use Rattle.pam_released.specs.Laws.{HasWords, SameRules}
-use Rattle.pam_released.specs.Lines.{filled, manual_lines_of, physical_lines, pieces}
+use Rattle.pam_released.specs.Laws.{SameRules}
+use Rattle.pam_released.specs.Lines.{filled, manual_lines_of, physical_lines}
 use Rattle.pam_released.specs.Rules.{Reading, line_reading, line_readings, reading_of, rules_152, rules_170}
-use Rattle.pam_released.specs.declared.difference.Difference.{Difference}
 use Rattle.pam_released.specs.declared.difference.Difference.TheVariants.{CapitalInBrackets, EmptyModuleName}
 use Rattle.pam_released.proofs.Lines152.{IsEnd, ended}
 use Rattle.pam_released.proofs.Lines152 as lines
 use Rattle.pam_released.proofs.Manual.{split_are}
 use Rattle.pam_released.proofs.RuleReadings.{first_alike}
-use Rattle.pam_released.proofs.RuleSteps.{AllSpelled, Spelled, bare, brackets, After, bound}
+use Rattle.pam_released.proofs.RuleSteps.{AllSpelled, bare, brackets, bound}
 use Rattle.pam_released.proofs.Buffer.{unseen}
 use Rattle.pam_released.proofs.Silence.{none_if, none_located, none_of, silent}
 use Rattle.pam_released.proofs.Words.{file_words_152, file_words_170}
@@ -106,7 +103,7 @@ unfolding text_lines physical_lines
 numbered_are [] = refl
 numbered_are (m ∷ ms) =
     elim (eqb m.1 10) as (λ (t : Bool). map (λ l. l.1) (cond t ((m.0, []) ∷ text_lines ms) (onto_text_line m (text_lines ms)))
-        ≡ cond t ([] ∷ physical_lines (map (λ n. n.1) ms)) (onto_first m.1 (physical_lines (map (λ n. n.1) ms)))) [
+    ≡ cond t ([] ∷ physical_lines (map (λ n. n.1) ms)) (onto_first m.1 (physical_lines (map (λ n. n.1) ms)))) [
       | true ↦ ap (λ (r : List (List ℕ)). [] ∷ r) (numbered_are ms)
       | false ↦ onto_bytes m (text_lines ms) ∙ ap (onto_first m.1) (numbered_are ms)
     ]

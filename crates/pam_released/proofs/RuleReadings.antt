@@ -1,23 +1,22 @@
 -- A line whose words have no fault and no difference is read as the rule of the manual pages.
-use Rattle.std.proofs.Common.{◌≡◌, ◌∙◌, ℕ, Bool, true, false, List, [], ◌∷◌, map, cond, eqb, ap, sym, refl, Option, Some, None, Result, Ok, Err, codes}
+use Rattle.std.proofs.Common.{◌≡◌, ◌∙◌, ℕ, Bool, true, false, List, [], ◌∷◌, map, cond, eqb, ap, sym, refl, Option, Some, None, Ok, Err, codes}
 use Rattle.std.specs.Option.{option_map_or}
 use Rattle.std.specs.Char.{to_ascii_lowercase}
 use Rattle.std.specs.Str.{bytes_eq}
 use Rattle.std.proofs.lemmas.Bool.{eqb-true}
 use Rattle.std.proofs.lemmas.Slice.Eq.{bytes_eq-Decides}
 use Rattle.pam_codes.specs.Code.{same_name}
-use Rattle.pam_conf.specs.Rule.{◌>>=◌, RuleBody, RuleText, Include, body_of, dashed_kind_of, first_rule_of, include_rule_of, kind_named, kind_or_fault_of}
+use Rattle.pam_conf.specs.Rule.{◌>>=◌, RuleText, Include, body_of, dashed_kind_of, first_rule_of, include_rule_of, kind_named, kind_or_fault_of}
 use Rattle.pam_conf.specs.Rule.{kind_rule_of, plain_rule_of, target_of}
 use Rattle.pam_conf.specs.Words.{text_of_word}
-use Rattle.pam_conf.specs.declared.error.FaultKind.{FaultKind}
 use Rattle.pam_conf.specs.declared.error.FaultKind.TheVariants as faults
 use Rattle.pam_conf.specs.declared.rule.Form.{Form}
 use Rattle.pam_conf.specs.declared.rule.Form.TheVariants.{Dir, Single}
 use Rattle.pam_conf.specs.declared.rule.Kind.{Kind}
 use Rattle.pam_conf.specs.declared.rule.Kind.TheVariants.{Auth, Account, Password, Session}
 use Rattle.pam_released.specs.Findings.{from_control, has_capital, has_empty_name, past_kind}
-use Rattle.pam_released.specs.Rules.{Reading, Fails, control_reading, kind_reading, line_reading, reading_of, reads, target_reading, typed_reading, undashed}
-use Rattle.pam_released.proofs.RuleSteps.{AllSpelled, After, bound, control_alike, target_alike}
+use Rattle.pam_released.specs.Rules.{control_reading, kind_reading, line_reading, reading_of, target_reading, typed_reading, undashed}
+use Rattle.pam_released.proofs.RuleSteps.{AllSpelled, bound, control_alike, target_alike}
 
 -- KINDS
 
@@ -99,7 +98,7 @@ kind_alike : (form : Form) (n : ℕ) (s : Option (List ℕ)) (kind : List ℕ) (
 unfolding kind_rule_of
 kind_alike form n s kind words rule h sp capital empty =
     let b = bound (dashed_kind_of kind) (λ k. body_of form words >>= λ body.
-        Ok record { line = n; service = s; kind = Some k.1; dashed = k.0; body = body }) rule h in
+    Ok record { line = n; service = s; kind = Some k.1; dashed = k.0; body = body }) rule h in
     let c = bound (body_of form words) (λ body. Ok record { line = n; service = s; kind = Some b.x.1; dashed = b.x.0; body = body }) rule b.then in
     let is : record { line = n; service = s; kind = Some b.x.1; dashed = b.x.0; body = c.x } ≡ rule = cc c.then in
     let d = dashed kind b.x b.is in
@@ -114,7 +113,7 @@ unfolding include_rule_of target_of
 include_alike Single n t words rule i h = absurd (cc)
 include_alike Dir n t words rule i h =
     let b = bound (target_of Dir words) (λ target.
-        Ok record { line = n; service = None; kind = None; dashed = false; body = Include target }) rule h in
+    Ok record { line = n; service = None; kind = None; dashed = false; body = Include target }) rule h in
     let is : record { line = n; service = None; kind = None; dashed = false; body = Include b.x } ≡ rule = cc b.then in
     ap (λ (p : Bool × List ℕ). typed_reading None p.0 p.1 (map text_of_word words)) (include_undashed t i)
     ∙ typed_include None false t (map text_of_word words) i
@@ -136,9 +135,9 @@ pub first_alike : (form : Form) (n : ℕ) (w : List ℕ) (words : List (List ℕ
 unfolding first_rule_of from_control
 first_alike form n w words rule sp h capital empty =
     elim (same_name (codes "@include") (text_of_word w)) as (λ (t : Bool). same_name (codes "@include") (text_of_word w) ≡ t →
-        cond t (include_rule_of form n words) (plain_rule_of form n (text_of_word w) words) ≡ Ok rule →
-        has_capital (cond t [] (past_kind form words)) ≡ false → has_empty_name (cond t [] (past_kind form words)) ≡ false →
-        line_reading form (text_of_word w ∷ map text_of_word words) ≡ Some (reading_of rule)) [
+    cond t (include_rule_of form n words) (plain_rule_of form n (text_of_word w) words) ≡ Ok rule →
+    has_capital (cond t [] (past_kind form words)) ≡ false → has_empty_name (cond t [] (past_kind form words)) ≡ false →
+    line_reading form (text_of_word w ∷ map text_of_word words) ≡ Some (reading_of rule)) [
       | true ↦ λ i r c e. include_alike form n (text_of_word w) words rule i r
       | false ↦ λ i r c e. plain_alike form n (text_of_word w) words rule r sp c e
     ] refl h capital empty

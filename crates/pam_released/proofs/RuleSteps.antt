@@ -1,33 +1,29 @@
 -- A line whose rule has no fault and no difference is read as that rule.
-use Rattle.std.proofs.Common.{◌≡◌, ◌-◌, ◌&&◌, ◌||◌, ◌++◌, ◌∙◌, ℕ, Bool, true, false, not, List, [], ◌∷◌, map, take, length, cond, eqb, ap, sym, refl, subst}
+use Rattle.std.proofs.Common.{◌≡◌, ◌&&◌, ◌++◌, ◌∙◌, ℕ, Bool, true, false, not, List, [], ◌∷◌, map, cond, eqb, ap, sym, refl}
 use Rattle.std.proofs.Common.{Option, Some, None, Result, Ok, Err, codes}
 use Rattle.std.specs.List.{list_any}
-use Rattle.std.specs.Option.{option_map, option_map_or}
+use Rattle.std.specs.Option.{option_map_or}
 use Rattle.std.specs.Char.{is_ascii_uppercase, to_ascii_lowercase}
-use Rattle.std.specs.Str.{bytes_eq}
-use Rattle.std.proofs.lemmas.Bool.{and_parts, or_parts, eqb-true}
-use Rattle.std.proofs.lemmas.Slice.Eq.{bytes_eq-Decides}
 use Rattle.pam_codes.specs.Code.{same_name}
 use Rattle.pam_codes.specs.Control.{Pairs, actions_of, bracket_actions, control_of, keyword_actions, keyword_pairs, keywords, token_actions}
 use Rattle.pam_codes.specs.Tokens.{tokens_of}
 use Rattle.pam_codes.specs.declared.action.Action.{Action}
 use Rattle.pam_codes.specs.declared.error.ControlError.{ControlError}
 use Rattle.pam_codes.specs.declared.error.ControlError.TheVariants.{BadControl}
-use Rattle.pam_conf.specs.Rule.{◌>>=◌, RuleBody, RuleText, Module, Include, Sub, body_of, control_body_of, control_or_fault, dashed_kind_of, file_name_of, first_rule_of}
-use Rattle.pam_conf.specs.Rule.{in_rule, include_rule_of, kind_named, kind_or_fault_of, kind_rule_of, module_of, plain_rule_of, rule_of, target_of, without_folder_of}
+use Rattle.pam_conf.specs.Rule.{◌>>=◌, RuleBody, Module, Include, Sub, body_of, control_body_of, control_or_fault, file_name_of}
+use Rattle.pam_conf.specs.Rule.{in_rule, module_of, target_of, without_folder_of}
 use Rattle.pam_conf.specs.Words.{is_inside, text_of_word, unescaped}
 use Rattle.pam_conf.specs.declared.error.FaultKind.{FaultKind}
 use Rattle.pam_conf.specs.declared.error.FaultKind.TheVariants as faults
 use Rattle.pam_conf.specs.declared.rule.Form.{Form}
 use Rattle.pam_conf.specs.declared.rule.Form.TheVariants.{Dir, Single}
 use Rattle.pam_conf.specs.declared.rule.Kind.{Kind}
-use Rattle.pam_conf.specs.declared.rule.Kind.TheVariants.{Auth, Account, Password, Session}
 use Rattle.pam_released.specs.Control.{released_actions}
-use Rattle.pam_released.specs.Findings.{from_control, has_capital, has_empty_name, is_no_name, module_name, names_target, past_kind}
-use Rattle.pam_released.specs.Rules.{Reading, Reads, Fails, control_actions, control_reading, kind_reading, line_reading, module_reading, reading_of, reads}
-use Rattle.pam_released.specs.Rules.{target_reading, typed_reading, undashed}
+use Rattle.pam_released.specs.Findings.{has_capital, has_empty_name, is_no_name, module_name, names_target}
+use Rattle.pam_released.specs.Rules.{control_actions, control_reading, module_reading, reads}
+use Rattle.pam_released.specs.Rules.{target_reading}
 use Rattle.pam_released.proofs.Controls.{controls_alike}
-use Rattle.pam_released.proofs.Insides.{bracket_read, has, inside_lower, inside_plain, no_keyword}
+use Rattle.pam_released.proofs.Insides.{bracket_read, inside_lower, inside_plain, no_keyword}
 use Rattle.pam_released.proofs.Words.{bracket_text, plain_text}
 
 -- a word as it is written
@@ -192,17 +188,17 @@ bare_alike form s k d c cs words body n h empty =
           ∙ ap (λ (r : RuleBody). Some (reads s k d r)) is
       | false ↦ λ i. elim (same_name (codes "substack") (c ∷ cs)) as (λ (t : Bool). same_name (codes "substack") (c ∷ cs) ≡ t →
           control_reading s k d ((c ∷ cs) ∷ map text_of_word words) ≡ Some (reads s k d body)) [
-        | true ↦ λ u.
-            let b = bound (target_of form words) (λ t. Ok (Sub t)) body (sym (substack_body form (c ∷ cs) words i u) ∙ h) in
-            let is : Sub b.x ≡ body = cc b.then in
-            is_substack s k d (c ∷ cs) (map text_of_word words) i u ∙ target_alike Sub form s k d words b.x b.is
-            ∙ ap (λ (r : RuleBody). Some (reads s k d r)) is
-        | false ↦ λ u.
-            let b = bound (control_or_fault (c ∷ cs)) (λ a. module_of a words) body (sym (other_body form (c ∷ cs) words i u) ∙ h) in
-            other_control s k d (c ∷ cs) (map text_of_word words) i u
-            ∙ ap (λ (a : List Action). module_reading a s k d (map text_of_word words)) (bare_actions c cs b.x n (checked (control_of (c ∷ cs)) b.x b.is))
-            ∙ module_alike b.x s k d (c ∷ cs) words body b.then (no_target (c ∷ cs) i u) empty
-      ] refl
+            | true ↦ λ u.
+                let b = bound (target_of form words) (λ t. Ok (Sub t)) body (sym (substack_body form (c ∷ cs) words i u) ∙ h) in
+                let is : Sub b.x ≡ body = cc b.then in
+                is_substack s k d (c ∷ cs) (map text_of_word words) i u ∙ target_alike Sub form s k d words b.x b.is
+                ∙ ap (λ (r : RuleBody). Some (reads s k d r)) is
+            | false ↦ λ u.
+                let b = bound (control_or_fault (c ∷ cs)) (λ a. module_of a words) body (sym (other_body form (c ∷ cs) words i u) ∙ h) in
+                other_control s k d (c ∷ cs) (map text_of_word words) i u
+                ∙ ap (λ (a : List Action). module_reading a s k d (map text_of_word words)) (bare_actions c cs b.x n (checked (control_of (c ∷ cs)) b.x b.is))
+                ∙ module_alike b.x s k d (c ∷ cs) words body b.then (no_target (c ∷ cs) i u) empty
+          ] refl
     ] refl
 
 pub control_alike : (form : Form) (s : Option (List ℕ)) (k : Option Kind) (d : Bool) (words : List (List ℕ)) (body : RuleBody) → AllSpelled words →

@@ -1,5 +1,5 @@
 -- What a scan of bytes finds, in the words of the definitions.
-use Rattle.std.proofs.Common.{◌≡◌, ◌<◌, ◌≤◌, ◌+◌, ◌&&◌, ◌||◌, ◌++◌, ◌∙◌, ℕ, suc, Bool, true, false, not, List, [], ◌∷◌, take, drop, length, cond, eqb, ap, sym, refl, arith, add-one, one-add, append_assoc, drop-cons, get_or}
+use Rattle.std.proofs.Common.{◌≡◌, ◌<◌, ◌≤◌, ◌+◌, ◌&&◌, ◌||◌, ◌++◌, ◌∙◌, ℕ, Bool, true, false, not, List, [], ◌∷◌, take, drop, length, cond, eqb, ap, sym, refl, arith, add-one, one-add, append_assoc, drop-cons, get_or}
 use Rattle.std.specs.List.{list_all, list_any, onto_first, prefix_len}
 use Rattle.std.proofs.lemmas.Bool.{and_parts, or_parts, eq-eqb}
 use Rattle.std.proofs.lemmas.List.{drop_all}

@@ -1,7 +1,7 @@
 -- What no finding means for the lines and rules of a file.
 use Rattle.std.proofs.Common.{◌≡◌, ◌≤◌, ◌+◌, ◌&&◌, ◌||◌, ◌++◌, ◌∙◌, ℕ, Bool, true, false, List, [], ◌∷◌, map, length, take, drop, cond, ap, sym, refl, arith}
 use Rattle.std.specs.Prelude.{nat_lt}
-use Rattle.std.specs.List.{list_all, prefix_len}
+use Rattle.std.specs.List.{prefix_len}
 use Rattle.std.proofs.lemmas.Bool.{lt-ltb, ltb-false}
 use Rattle.pam_text.specs.Text.{text_lines, text_of}
 use Rattle.pam_conf.specs.Words.{State, Between}

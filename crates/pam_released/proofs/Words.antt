@@ -94,15 +94,15 @@ inside_text (b ∷ []) rest h =
 inside_text (b ∷ c ∷ bs) rest h =
     let parts = inside_parts b (c ∷ bs) h in
     elim (eqb b 92 && eqb c 93) as (λ (t : Bool). (eqb b 92 && eqb c 93) ≡ t →
-        texts_in Inside (b ∷ c ∷ bs ++ 93 ∷ rest) ≡ unescaped (b ∷ c ∷ bs) ∷ texts_in Outside rest) [
+    texts_in Inside (b ∷ c ∷ bs ++ 93 ∷ rest) ≡ unescaped (b ∷ c ∷ bs) ∷ texts_in Outside rest) [
       | true ↦ λ e.
           let two = and_parts (eqb b 92) (eqb c 93) e in
           let slash : b ≡ 92 = eqb-true b 92 two.0 in
           let close : c ≡ 93 = eqb-true c 93 two.1 in
           let more : is_inside false bs ≡ true = after_escape bs (ap (λ (d : ℕ). is_inside true (d ∷ bs)) (sym close)
-              ∙ ap (λ (t : Bool). is_inside t (c ∷ bs)) (sym two.0) ∙ parts.1) in
+          ∙ ap (λ (t : Bool). is_inside t (c ∷ bs)) (sym two.0) ∙ parts.1) in
           rw (slash, close) (escapes (bs ++ 93 ∷ rest) ∙ ap (onto_first 93) (inside_text bs rest more)
-              ∙ ap (λ (r : List ℕ). r ∷ texts_in Outside rest) (sym (unescaped_pair bs)))
+          ∙ ap (λ (r : List ℕ). r ∷ texts_in Outside rest) (sym (unescaped_pair bs)))
       | false ↦ λ e.
           stays b c (bs ++ 93 ∷ rest) parts.0 e ∙ ap (onto_first b) (inside_text (c ∷ bs) rest (still_inside (eqb b 92) c bs e parts.1))
           ∙ ap (λ (r : List ℕ). r ∷ texts_in Outside rest) (sym (unescaped_more b c bs e))
@@ -228,7 +228,7 @@ clean_manual : (bs : List ℕ) → is_line_read_otherwise (physical_lines bs) �
 clean_manual bs q =
     let (e, is, same) = manual_by_lines bs in
     rw same (clean_filled (continued (map before_hash (physical_lines bs) ++ e))
-        (clean_continued (map before_hash (physical_lines bs) ++ e) (clean_lines (physical_lines bs) e is q)))
+    (clean_continued (map before_hash (physical_lines bs) ++ e) (clean_lines (physical_lines bs) e is q)))
 
 all_words : (ls : List (List ℕ)) (words : List (List (List ℕ))) → AllClean ls → map words_of ls ≡ map (λ ws. Some ws) words →
     map released_words ls ≡ map (map text_of_word) words
@@ -239,14 +239,14 @@ all_words (l ∷ ls) (w ∷ words) a h =
     let one : words_of l ≡ Some w = cc in
     let more : map words_of ls ≡ map (λ ws. Some ws) words = cc in
     ap (λ (r : List (List ℕ)). r ∷ map released_words ls) (words_alike l w a.0 one)
-        ∙ ap (λ (r : List (List (List ℕ))). map text_of_word w ∷ r) (all_words ls words a.1 more)
+    ∙ ap (λ (r : List (List (List ℕ))). map text_of_word w ∷ r) (all_words ls words a.1 more)
 
 pub file_words_152 : (bs : List ℕ) (words : List (List (List ℕ))) → is_line_read_otherwise (physical_lines bs) ≡ false →
     map words_of (filled (manual_lines_of bs)) ≡ map (λ ws. Some ws) words →
     option_map (map released_words) (lines_152 false (physical_lines bs)) ≡ Some (map (map text_of_word) words)
 file_words_152 bs words q h =
     ap (option_map (map released_words)) (lines_alike bs q)
-        ∙ ap (λ (r : List (List (List ℕ))). Some r) (all_words (filled (manual_lines_of bs)) words (clean_manual bs q) h)
+    ∙ ap (λ (r : List (List (List ℕ))). Some r) (all_words (filled (manual_lines_of bs)) words (clean_manual bs q) h)
 
 clean_same : {xs ys : List (List ℕ)} → Same xs ys → AllClean (not_empty xs)
 unfolding not_empty

@@ -1,5 +1,5 @@
 -- The lines of 1.5.2 with its buffer of 1,024 bytes: `_pam_assemble_line` reads by `fgets`.
-use Rattle.std.specs.Prelude.{ℕ, ◌+◌, ◌==◌, ◌||◌, nat_lt, Bool, true, false, List, [], ◌∷◌, ◌++◌, length, if◌then◌else◌, Option, Some, None}
+use Rattle.std.specs.Prelude.{ℕ, ◌+◌, ◌==◌, Bool, true, false, List, [], ◌∷◌, ◌++◌, length, if◌then◌else◌, Option, Some, None}
 use Rattle.std.specs.Option.{option_map}
 use Rattle.pam_released.specs.Lines.{before_hash, front_part, goes_on, is_blank_line}
 

@@ -32,7 +32,12 @@ pub(crate) fn push_rule_differences(
     let Some(words) = from_control(form, words, &mut inside)? else {
         return Ok(());
     };
-    push_if(found, line.number, has_capital(words), Difference::CapitalInBrackets)?;
+    push_if(
+        found,
+        line.number,
+        has_capital(words),
+        Difference::CapitalInBrackets,
+    )?;
     let is_empty = has_empty_name(words, &mut inside)?;
     push_if(found, line.number, is_empty, Difference::EmptyModuleName)
 }

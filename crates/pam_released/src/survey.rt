@@ -38,11 +38,7 @@ pub fn findings(alloc: Global, source: Source<'_>, form: Form) -> Result<Vec<Fin
 
 /// Like `findings`.
 #[tactic(auto, unfolding(crate::specs::Findings::findings_of))]
-fn all_findings(
-    alloc: Global,
-    source: Source<'_>,
-    form: Form,
-) -> Result<Vec<Finding>, AllocError>
+fn all_findings(alloc: Global, source: Source<'_>, form: Form) -> Result<Vec<Finding>, AllocError>
     ensures { IfOk result (λ found. found.items ≡ findings_of form source.entry.bytes.now) }
 {
     let at_lines = line_findings(alloc, source)?;
@@ -82,11 +78,7 @@ fn merged(
 }
 
 /// The findings of rules: L6 and L8.
-fn rule_findings(
-    alloc: Global,
-    source: Source<'_>,
-    form: Form,
-) -> Result<Vec<Finding>, AllocError>
+fn rule_findings(alloc: Global, source: Source<'_>, form: Form) -> Result<Vec<Finding>, AllocError>
     ensures { IfOk result (λ found. found.items ≡ rule_findings form (text_lines (text_of 1 source.entry.bytes.now))) }
 {
     let mut text = Text::of(source);
@@ -132,13 +124,43 @@ fn push_differences(
         ++ map (located number) (differences_at used (state_of reader) line.now (physical_lines rest.now))) }
 {
     let goes_on = goes_on(line);
-    push_if(found, number, has_return(before_hash(line)), Difference::CarriageReturn)?;
-    push_if(found, number, goes_on_over_blank(line, rest), Difference::ContinuedOverBlank)?;
-    push_if(found, number, goes_on && ends_in_blank(line), Difference::BackslashBlank)?;
-    push_if(found, number, has_backslash_comment(line), Difference::BackslashComment)?;
-    push_if(found, number, goes_on && are_blank_lines(rest), Difference::EndsInContinuation)?;
+    push_if(
+        found,
+        number,
+        has_return(before_hash(line)),
+        Difference::CarriageReturn,
+    )?;
+    push_if(
+        found,
+        number,
+        goes_on_over_blank(line, rest),
+        Difference::ContinuedOverBlank,
+    )?;
+    push_if(
+        found,
+        number,
+        goes_on && ends_in_blank(line),
+        Difference::BackslashBlank,
+    )?;
+    push_if(
+        found,
+        number,
+        has_backslash_comment(line),
+        Difference::BackslashComment,
+    )?;
+    push_if(
+        found,
+        number,
+        goes_on && are_blank_lines(rest),
+        Difference::EndsInContinuation,
+    )?;
     push_if(found, number, is_cut(used, line), Difference::LongLine)?;
-    push_if(found, number, drops_blank(reader, line), Difference::DroppedBlank)
+    push_if(
+        found,
+        number,
+        drops_blank(reader, line),
+        Difference::DroppedBlank,
+    )
 }
 
 /// Whether `line` ends in a backslash, and the next line is blank.

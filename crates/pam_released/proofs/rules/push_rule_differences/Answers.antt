@@ -1,4 +1,3 @@
-use Rattle.std.proofs.Common.{sym}
 use Rattle.pam_released.proofs.Pushing.{nothing_pushed, no_words}
 use Rattle.pam_released.proofs.rules.push_rule_differences.Goals as goal
 

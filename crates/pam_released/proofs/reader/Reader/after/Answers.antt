@@ -1,4 +1,4 @@
-use Rattle.std.proofs.Common.{◌∙◌, sym}
+use Rattle.std.proofs.Common.{◌∙◌}
 use Rattle.pam_released.specs.Reader.{state_of}
 use Rattle.pam_released.proofs.Scanning.{read_all, read_byte}
 use Rattle.pam_released.proofs.reader.Reader.after.Goals as goal
