@@ -5,3 +5,4 @@ pub mod PageParts
 pub mod PageTexts
 pub mod ShowTexts
 pub mod TraceSteps
+pub mod Wanting

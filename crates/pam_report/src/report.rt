@@ -1,6 +1,6 @@
 //! Answers. Each is computed first, which finds all faults, and then written, which allocates nothing.
 
-ghost use Rattle.std.specs.Prelude.{◌≡◌};
+ghost use Rattle.std.specs.Prelude.{◌≡◌, ◌≤◌};
 ghost use Rattle.pam_report.specs.Answer.{Answers, AnswersFrom};
 ghost use Rattle.pam_report.specs.Memory.{WantsOnly, wants};
 ghost use Rattle.pam_report.specs.Report.{status_number};
@@ -40,7 +40,8 @@ pub enum Status {
 impl Status {
     /// Returns the exit status: 0 or 1.
     pub fn number(self) -> u8
-        ensures { result ≡ status_number self }
+        ensures status { result ≡ status_number self }
+        ensures bound { result ≤ 6 }
     {
         match self {
             Status::Success => 0,

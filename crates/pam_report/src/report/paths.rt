@@ -1,8 +1,8 @@
 //! The `paths` command: a page of the paths through a stack.
 
-ghost use Rattle.std.specs.Prelude.{◌≡◌, ◌++◌, IfOk, MatchResult, Err, Ok, codes, max};
+ghost use Rattle.std.specs.Prelude.{◌≡◌, ◌++◌, IfOk, MatchResult, Err, Ok, codes, is_some, max};
 ghost use Rattle.jiff.specs.Types.{DateTime as CivilTime};
-ghost use Rattle.pam_codes.specs.Out.{Writes};
+ghost use Rattle.pam_codes.specs.Out.{WritesAndFlushes};
 ghost use Rattle.pam_conf.specs.Resolution.{resolved};
 ghost use Rattle.pam_conf.specs.Stack.{Items, module_count};
 ghost use Rattle.pam_dispatch.specs.Flat.{modules_of, runs_of};
@@ -16,6 +16,7 @@ ghost use Rattle.pam_paths.specs.Paths.{path_through};
 ghost use Rattle.pam_report.specs.Answer.{login_at};
 ghost use Rattle.pam_report.specs.Header.{header_text};
 ghost use Rattle.pam_report.specs.Leaves.{LeavesSome};
+ghost use Rattle.pam_report.specs.Memory.{WantsOnly, WantsWork, of_paths, paths_tables};
 ghost use Rattle.pam_report.specs.PageView.{AnswersPart, page_view, page_with};
 ghost use Rattle.pam_report.specs.Paths.{IsPage, IsPageAt, IsPageOf, IsPart, IsStackPage, side_of};
 ghost use Rattle.pam_tables.specs.Login.{login_view};
@@ -55,7 +56,7 @@ fn write_lines<W: Write>(
     texts: LineTexts,
     out: &mut Out<W>,
 ) -> Result<(), Device>
-    ensures { Writes W.contents out.old out.new result (page_text (side listing.old) (first_page (max limit 1) (coming listing.old))) }
+    ensures { WritesAndFlushes W.contents out.old out.new result (page_text (side listing.old) (first_page (max limit 1) (coming listing.old))) }
 {
     put_page(listing, limit.max(1), texts, out)?;
     out.finish()
@@ -70,7 +71,7 @@ fn write_page<W: Write>(
 ) -> Result<(), Device>
     ensures { let page = first_page (max request.now.limit 1) (coming listing.old) in
         let header = header_text request.now.service.now request.now.kind modules in
-        Writes W.contents out.old out.new result (header ++ page_text (side listing.old) page) }
+        WritesAndFlushes W.contents out.old out.new result (header ++ page_text (side listing.old) page) }
 {
     put_header(request.service, request.kind, modules, out)?;
     write_lines(request.limit, listing, texts, out)
@@ -91,9 +92,10 @@ fn answer_listing<W: Write>(
     listing: &mut Listing<'_, Known>,
     out: &mut Out<W>,
 ) -> Result<Status, Fault>
-    ensures { (items : Items) (allows : Allowance) (part : PagePart) → modules_of paging.now.program.now ≡ module_count items
+    ensures answer { (items : Items) (allows : Allowance) (part : PagePart) → modules_of paging.now.program.now ≡ module_count items
         → side listing.old ≡ side_of part → IsPart allows items part (Ok (coming listing.old))
         → LeavesSome W.contents out.old out.new result (IsPageOf (page_with paging.now.request.now part) items allows) }
+    ensures wants { WantsWork result }
 {
     let texts = match LineTexts::new(paging.alloc) {
         Ok(texts) => texts,
@@ -115,7 +117,8 @@ fn answer_listing<W: Write>(
 // Apart, and never inlined, as the next two: else the stack has room for the listings of all three, of 27 kB each.
 #[inline(never)]
 fn answer_whole<W: Write>(paging: &Paging<'_>, out: &mut Out<W>) -> Result<Status, Fault>
-    ensures { AnswersPart W.contents out.old out.new result paging.now Whole }
+    ensures answer { AnswersPart W.contents out.old out.new result paging.now Whole }
+    ensures wants { WantsWork result }
 {
     let explorer = Explorer::start(paging.program, paging.known);
     answer_listing(paging, &mut Listing::Forward(explorer), out)
@@ -128,7 +131,8 @@ fn answer_after<W: Write>(
     text: &str,
     out: &mut Out<W>,
 ) -> Result<Status, Fault>
-    ensures { AnswersPart W.contents out.old out.new result paging.now (After text.entry) }
+    ensures answer { AnswersPart W.contents out.old out.new result paging.now (After text.entry) }
+    ensures wants { WantsWork result }
 {
     let cursor = match Cursor::read(text.as_bytes()) {
         Ok(cursor) => cursor,
@@ -147,7 +151,8 @@ fn answer_before<W: Write>(
     text: &str,
     out: &mut Out<W>,
 ) -> Result<Status, Fault>
-    ensures { AnswersPart W.contents out.old out.new result paging.now (Before text.entry) }
+    ensures answer { AnswersPart W.contents out.old out.new result paging.now (Before text.entry) }
+    ensures wants { WantsWork result }
 {
     let cursor = match Cursor::read(text.as_bytes()) {
         Ok(cursor) => cursor,
@@ -161,7 +166,8 @@ fn answer_before<W: Write>(
 
 /// Answers with a page of the part that is requested.
 fn answer_part<W: Write>(paging: &Paging<'_>, out: &mut Out<W>) -> Result<Status, Fault>
-    ensures { AnswersPart W.contents out.old out.new result paging.now paging.now.request.now.part }
+    ensures answer { AnswersPart W.contents out.old out.new result paging.now paging.now.request.now.part }
+    ensures wants { WantsWork result }
 {
     match paging.request.part {
         PagePart::Whole => answer_whole(paging, out),
@@ -178,8 +184,9 @@ fn answer_known<W: Write>(
     known: &Known,
     out: &mut Out<W>,
 ) -> Result<Status, Fault>
-    ensures { (allows : Allowance) → Agree (module_count stack.now) (may_answer known.now) allows
+    ensures answer { (allows : Allowance) → Agree (module_count stack.now) (may_answer known.now) allows
         → LeavesSome W.contents out.old out.new result (IsPageOf (page_view request.now) stack.now allows) }
+    ensures wants { WantsWork result }
 {
     let program = match Program::of(alloc, stack) {
         Ok(program) => program,
@@ -204,7 +211,8 @@ fn answer_at<W: Write>(
     moment: Option<DateTime>,
     out: &mut Out<W>,
 ) -> Result<Status, Fault>
-    ensures { LeavesSome W.contents out.old out.new result (IsPageAt (page_view request.now) (login_view login.now) inputs.now stack.now moment) }
+    ensures answer { LeavesSome W.contents out.old out.new result (IsPageAt (page_view request.now) (login_view login.now) inputs.now stack.now moment) }
+    ensures wants { WantsOnly (of_paths (paths_tables (is_some moment) inputs.now)) result }
 {
     let tables = tables_given(inputs, moment);
     match known_answers(alloc, stack, request.kind, login, &tables) {
@@ -223,7 +231,8 @@ fn answer_stack<W: Write>(
     moment: Option<Result<DateTime, MomentError>>,
     out: &mut Out<W>,
 ) -> Result<Status, Fault>
-    ensures { LeavesSome W.contents out.old out.new result (IsStackPage (page_view request.now) (login_view login.now) inputs.now stack.now moment) }
+    ensures answer { LeavesSome W.contents out.old out.new result (IsStackPage (page_view request.now) (login_view login.now) inputs.now stack.now moment) }
+    ensures wants { WantsOnly (of_paths (paths_tables (is_some moment) inputs.now)) result }
 {
     match moment {
         None => answer_at(alloc, request, login, inputs, stack, None, out),
@@ -241,9 +250,10 @@ pub(super) fn answer_paths<W: Write>(
     inputs: &Inputs,
     out: &mut Out<W>,
 ) -> Result<Status, Fault>
-    ensures { let page = page_view request.now in
+    ensures answer { let page = page_view request.now in
         let stack = resolved files.now page.service page.kind in
         LeavesSome W.contents out.old out.new result (IsPage page (login_at page.service login.entry) inputs.now moment stack) }
+    ensures wants { WantsOnly (of_paths (paths_tables (is_some moment) inputs.now)) result }
 {
     let stack = match resolve(alloc, files, request.service.as_bytes(), request.kind) {
         Ok(stack) => stack,
