@@ -1,6 +1,7 @@
 pub mod Alike
 pub mod Decision
 pub mod Flat
+pub mod Keys
 pub mod Laws
 pub mod Program
 pub mod Runs

@@ -8,7 +8,7 @@ use crate::state::State;
 pub(crate) const LISTS: usize = 16;
 
 /// The states in which the open lists were entered, outermost first.
-#[derive(Clone, Copy, Debug)]
+#[derive(Clone, Copy, Debug, PartialEq, Eq, PartialOrd, Ord)]
 pub struct Entered {
     pub(crate) states: [State; LISTS],
 }

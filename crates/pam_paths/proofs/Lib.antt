@@ -3,6 +3,7 @@ pub mod Alone
 pub mod BoundedLists
 pub mod Branches
 pub mod CachedOnes
+pub mod Choices
 pub mod CodeDigits
 pub mod Counts
 pub mod CursorTexts

@@ -6,6 +6,7 @@ pub mod CursorText
 pub mod Directions
 pub mod Exploration
 pub mod Followed
+pub mod Forks
 pub mod Frames
 pub mod Known
 pub mod Laws
