@@ -1,4 +1,7 @@
 pub mod Counting
+pub mod Following
+pub mod FrameLists
 pub mod Growing
+pub mod Sides
 pub mod Tables
 pub mod Withins

@@ -2,13 +2,17 @@
 #![tactic(auto)]
 
 mod building;
+mod direction;
 mod error;
+mod frames;
 mod goal;
 mod graph;
 mod node;
 mod tally;
+mod walks;
 
 pub use error::GraphError;
 pub use goal::Goal;
 pub use graph::{Graph, MAX_NODES};
 pub use node::{Edge, Node, Target};
+pub use walks::Walks;

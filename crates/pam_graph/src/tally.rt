@@ -1,6 +1,6 @@
 //! The number of walks that meet a goal.
 
-ghost use Rattle.std.specs.Prelude.{◌≡◌, [], IfOk, Some, length};
+ghost use Rattle.std.specs.Prelude.{◌≡◌, ◌||◌, [], IfOk, Some, length};
 ghost use Rattle.std.specs.List.{list_any};
 ghost use Rattle.pam_graph.specs.Goals.{fit, meeting, meets};
 ghost use Rattle.pam_graph.specs.Order.{AreNodes};
@@ -36,7 +36,7 @@ fn plus(one: Option<u128>, other: Option<u128>) -> Option<u128>
 }
 
 /// Whether the goal is met when a module is asked.
-pub(crate) fn met_by(goal: &Goal, module_number: usize) -> bool
+fn met_by(goal: &Goal, module_number: usize) -> bool
     ensures { result ≡ met_by goal.now module_number }
 {
     match goal {
@@ -44,6 +44,13 @@ pub(crate) fn met_by(goal: &Goal, module_number: usize) -> bool
         Goal::Decides(_) => false,
         Goal::Asks(wanted) => module_number == *wanted,
     }
+}
+
+/// Whether the goal is met once a module is asked, if it was met before where `is_met`.
+pub(crate) fn met_after(goal: &Goal, is_met: bool, module_number: usize) -> bool
+    ensures { result ≡ (is_met || met_by goal.now module_number) }
+{
+    is_met || met_by(goal, module_number)
 }
 
 /// Whether it is met at the end of a run with this decision, if it was not met before.
@@ -62,18 +69,18 @@ pub(crate) fn count_to(
     goal: &Goal,
     is_met: bool,
     tallies: &[Tally],
-    target: Target,
+    target: &Target,
 ) -> Option<u128>
-    requires { IsWithin (length tallies.now) target }
-    ensures { result ≡ count_to goal.now is_met tallies.now target }
+    requires { IsWithin (length tallies.now) target.now }
+    ensures { result ≡ count_to goal.now is_met tallies.now target.now }
 {
     match target {
         Target::At(index) => if is_met {
-            tallies[index].all
+            tallies[*index].all
         } else {
-            tallies[index].met
+            tallies[*index].met
         },
-        Target::End(decision) => if is_met || met_at_end(goal, decision) {
+        Target::End(decision) => if is_met || met_at_end(goal, *decision) {
             Some(1)
         } else {
             Some(0)
@@ -98,7 +105,7 @@ fn count_by(goal: &Goal, is_met: bool, tallies: &[Tally], edges: &[Edge]) -> Opt
 {
     let mut count = Some(0);
     for edge in edges {
-        count = plus(count, count_to(goal, is_met, tallies, edge.target));
+        count = plus(count, count_to(goal, is_met, tallies, &edge.target));
     }
     count
 }
@@ -138,7 +145,7 @@ impl Graph {
         ensures { IfOk result (λ count. count ≡ fit (length (meeting goal.now (walks self.now)))) }
     {
         let tallies = tallies(alloc, goal, &self.nodes)?;
-        Ok(count_to(goal, false, &tallies, self.start))
+        Ok(count_to(goal, false, &tallies, &self.start))
     }
 
     /// Whether a walk meets `goal`. Returns `Memory` if allocation fails.
@@ -146,6 +153,6 @@ impl Graph {
         ensures { IfOk result (λ is. is ≡ list_any (meets goal.now) (walks self.now)) }
     {
         let tallies = tallies(alloc, goal, &self.nodes)?;
-        Ok(has_walks(count_to(goal, false, &tallies, self.start)))
+        Ok(has_walks(count_to(goal, false, &tallies, &self.start)))
     }
 }

@@ -88,7 +88,7 @@ impl Path {
     }
 
     /// The same path again.
-    pub(crate) fn copied(&self) -> Path
+    pub fn copied(&self) -> Path
         ensures { result ≡ self.now }
     {
         let mut steps = BoundedList::new();
