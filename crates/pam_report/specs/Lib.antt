@@ -10,6 +10,7 @@ pub mod KnownStack
 pub mod Leaves
 pub mod Memory
 pub mod Moments
+pub mod OutcomeViews
 pub mod Outcomes
 pub mod PageView
 pub mod Paths

@@ -1,5 +1,5 @@
 -- The answer to `outcomes`: in how many ways a stack comes to each decision (pam.conf(5), DESCRIPTION), and the first of them.
-use Rattle.std.specs.Prelude.{◌≡◌, ◌⊎◌, ℕ, List, [], ◌∷◌, ◌++◌, codes, decimal, length, Option, None, Some, Ok, Err}
+use Rattle.std.specs.Prelude.{◌≡◌, ◌⊎◌, ℕ, List, [], ◌∷◌, ◌++◌, codes, decimal, length, Option, None, Some, Result, Ok, Err}
 use Rattle.std.specs.List.{concat, flat_map}
 use Rattle.pam_codes.specs.Code.{all_codes}
 use Rattle.pam_codes.specs.SetText.{set_text}
@@ -13,8 +13,11 @@ use Rattle.pam_paths.specs.Listing.{Allowance, IsListing}
 use Rattle.pam_paths.specs.Paths.{PathValue, StepValue, key, path_through}
 use Rattle.pam_report.specs.Decide.{path_at}
 use Rattle.pam_report.specs.Header.{code_name, header_text}
+use Rattle.pam_report.specs.KnownStack.{IsAnswerFrom, KnownItems}
 use Rattle.pam_report.specs.Report.{Answer}
 use Rattle.pam_report.specs.WordText.{word_text}
+use Rattle.pam_report.specs.declared.fault.Fault.{Fault}
+use Rattle.pam_report.specs.declared.fault.Fault.TheVariants as faults
 use Rattle.pam_report.specs.declared.report.Status.TheVariants.{Success}
 
 -- a decision, the number of paths that end in it, and the first of these
@@ -69,11 +72,12 @@ unfoldable pub outcomes_text : List ℕ → Kind → Items → List PathValue �
 outcomes_text service kind items paths =
     header_text service kind (module_count items) ++ flat_map (outcome_line items) (outcomes paths) ++ total_line (fit (length paths))
 
--- the answer, if these codes are allowed: the text, or that the graph of the run is too large
+-- the answer, if these codes are allowed: the text, or that a run can be in more states than a graph may have nodes
 abbrev pub IsOutcomesOf : List ℕ → Kind → Items → Allowance → Answer → Type 0
 IsOutcomesOf service kind items allows answer =
-    (paths : List PathValue) × IsListing allows (module_count items) (path_through items) paths
-    × (answer ≡ Ok (record { text = outcomes_text service kind items paths; status = Success }))
+    (answer ≡ Err faults.TooManyStates)
+    ⊎ ((paths : List PathValue) × IsListing allows (module_count items) (path_through items) paths
+    × (answer ≡ Ok (record { text = outcomes_text service kind items paths; status = Success })))
 
 -- THE ANSWER to `outcomes`: of the known stack, the text, or the first fault
 abbrev pub IsOutcomes : List ℕ → Kind → Result KnownItems Fault → Answer → Type 0

@@ -21,8 +21,8 @@ use pam_words::Usage;
 use row::Row;
 use std::alloc::{AllocError, Global};
 use table::{
-    conf_row, count_row, cursor_row, input_row, memory_row, moment_row, table_name, table_row,
-    time_row, usage_row, write_row,
+    conf_row, count_row, cursor_row, graph_row, input_row, memory_row, moment_row, table_name,
+    table_row, time_row, usage_row, write_row,
 };
 use thiserror::Error;
 
@@ -44,6 +44,9 @@ pub enum Fault {
     /// The number of codes is not that of modules.
     #[error(transparent)]
     Count(WrongCount),
+    /// The graph of the run has more nodes than `pam_graph` allows.
+    #[error("the run can be in too many states")]
+    TooManyStates,
     /// The cursor is that of no path of the stack.
     #[error(transparent)]
     Cursor(CursorError),
@@ -75,6 +78,7 @@ fn row_of(fault: &Fault) -> Row
         Fault::Time(error) => time_row(error.fault),
         Fault::Moment(error) => moment_row(*error),
         Fault::Count(_) => count_row(),
+        Fault::TooManyStates => graph_row(),
         Fault::Cursor(error) => cursor_row(*error),
         Fault::Device => write_row(),
         Fault::Memory => memory_row(),
@@ -197,7 +201,9 @@ pub fn fault_text(alloc: Global, fault: &Fault, files: &Files) -> Result<Vec<u8>
             &[Piece::Bytes(b" want "), Piece::Number(error.modules as u64)],
         ),
         Fault::Cursor(error) => cursor_line(alloc, row, *error),
-        Fault::Moment(_) | Fault::Device | Fault::Memory => line(alloc, row, &[]),
+        Fault::Moment(_) | Fault::TooManyStates | Fault::Device | Fault::Memory => {
+            line(alloc, row, &[])
+        }
     }
 }
 

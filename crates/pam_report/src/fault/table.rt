@@ -88,6 +88,12 @@ pub(super) fn memory_row() -> Row
 }
 
 /// The row of codes that are not as many as the modules.
+pub(super) fn graph_row() -> Row
+    ensures { row_view result ≡ spec.graph_row }
+{
+    Row::of("E19 TooManyStates", BAD_CONFIGURATION)
+}
+
 pub(super) fn count_row() -> Row
     ensures { row_view result ≡ spec.count_row }
 {

@@ -43,7 +43,7 @@ fn put_action<W: Write>(action: Action, out: &mut Out<W>) -> Result<(), Device>
 }
 
 #[tactic(auto, unfolding(crate::specs::Header::code_name))]
-fn name_of(code: Code) -> &'static [u8]
+pub(super) fn name_of(code: Code) -> &'static [u8]
     ensures { result.now ≡ code_name code }
 {
     code.name().as_bytes()
