@@ -65,6 +65,7 @@ MOMENT = b"2024-05-06T17:29:59"
 SHOW = ["show", "login", "auth"]
 DECIDE = ["decide", "login", "auth", "success", "auth_err", "success", "new_authtok_reqd", "ignore"]
 PATHS = ["paths", "login", "auth", "--limit", "6"]
+OUTCOMES = ["outcomes", "login", "auth"]
 TABLES = ["--access", "access", "--group", "group", "--time", "time", "--returns", "returns", "--user", "alice",
           "--at", MOMENT]
 ACCESS_WORDS = [["access", "login", "--access", "access", "--group", "group", *login] for login in (
@@ -99,14 +100,14 @@ def of_file(data, name, tree, asked, at_once=1):
 
 def configurations():
     """A folder, of which one file at a time is changed, and `pam.conf`."""
-    asked = [[*words, "--dir", "d"] for words in (SHOW, DECIDE, SHOW, PATHS, ["show", "login", "account"])]
+    asked = [[*words, "--dir", "d"] for words in (SHOW, DECIDE, SHOW, OUTCOMES, PATHS, ["show", "login", "account"])]
     for name, data in FOLDER.items():
         for change in changed(data):
             words = asked[len(change) % len(asked)]
             asked = asked[1:] + asked[:1]
             yield words, {"d": {**FOLDER, name: change}}
     yield from of_file(CONF, "pam.conf", {}, [[*words, "--conf", "pam.conf"] for words in (
-        SHOW, [*DECIDE[:3], "success", "auth_err", "success"], PATHS, ["show", "ftp", "auth"])])
+        SHOW, [*DECIDE[:3], "success", "auth_err", "success"], PATHS, OUTCOMES, ["show", "ftp", "auth"])])
 
 
 def exchanged():
@@ -126,14 +127,15 @@ def both_ways(first, second, asked):
 
 
 def tables():
-    """An access table, a group file, a time table and a returns file, alone and under `paths`."""
+    """An access table, a group file, a time table and a returns file, alone and under `paths` and `outcomes`."""
     tree = {"access": ACCESS, "group": GROUP, "time": TIME, "returns": RETURNS, "d": {"login": STACK}}
     auth = [*PATHS, "--dir", "d", *TABLES]
     account = ["paths", "login", "account", "--limit", "6", "--dir", "d", *TABLES]
+    counted = [*OUTCOMES, "--dir", "d", *TABLES]
     yield from of_file(ACCESS, "access", tree, [*ACCESS_WORDS, account])
     yield from of_file(GROUP, "group", tree, [*ACCESS_WORDS, account])
     yield from of_file(TIME, "time", tree, [*TIME_WORDS, account])
-    yield from of_file(RETURNS, "returns", tree, [auth, account])
+    yield from of_file(RETURNS, "returns", tree, [auth, account, counted])
 
 
 def words():
