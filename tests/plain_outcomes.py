@@ -35,12 +35,13 @@ def listed(paths):
 class Places:
     """The places that were looked at, each with the outcomes from there on; steps are linked, the first with the rest.
 
-    A place is the module that is asked, the state, and the entry state of each open list that may still be reset: the
+    A place is the module that is asked, the state, and the entry state of each open list in which a reset is left: the
     rest of a run depends on nothing else."""
 
     def __init__(self, allowed):
         self.allowed = allowed
         self.known = {}
+        # By the number of a module, the levels of the lists that are open there and have a reset left.
         self.levels = {}
 
     def outcomes(self, lists, state):
@@ -49,7 +50,7 @@ class Places:
         if module is None:
             return {lists: (1, None)}
         if module.number not in self.levels:
-            self.levels[module.number] = [level for level in range(len(lists)) if may_reset(module, lists, level)]
+            self.levels[module.number] = [level for level in range(len(lists)) if has_reset_left(module, lists, level)]
         place = module.number, state, tuple(lists[level][1] for level in self.levels[module.number])
         if place not in self.known:
             found = self.found(module, lists, state)
@@ -69,8 +70,8 @@ class Places:
         return found
 
 
-def may_reset(module, lists, level):
-    """Whether a module of an open list itself that is still to be asked may reset to the state in which it was entered."""
+def has_reset_left(module, lists, level):
+    """Whether a reset is left in an open list: some module of its own, that is asked now or later, takes that action."""
     own = [module] * (level == len(lists) - 1) + [item for item in lists[level][0] if isinstance(item, stacks.Module)]
     return any(b"reset" in item.control for item in own)
 
