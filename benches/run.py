@@ -1,11 +1,14 @@
 #!/usr/bin/env python3
-"""Measures the built program: python3 benches/run.py PROGRAM [--pages] [--decisions PROGRAM] [--paths PROGRAM] [--only WORD] [--runs N]
+"""Measures the built program:
+
+    python3 benches/run.py PROGRAM [--pages] [--outcomes] [--decisions PROGRAM] [--paths PROGRAM] [--only WORD] [--runs N]
 
 For each case the inputs are made anew in a temporary folder, in three sizes, the program is run once to warm up and then
 N times over each, and the least processor time and the peak memory are printed, the start of the process included. It
 needs Python's standard library and, for peak memory, /usr/bin/time. With --pages it also lists the paths of stacks in one
-page, of three lengths; with --decisions it also runs that program, which decides one stack many times by the library
-alone; with --paths that one, which explores stacks by the library alone.
+page, of three lengths; with --outcomes it counts the outcomes of these stacks and of the largest graphs; with --decisions
+it also runs that program, which decides one stack many times by the library alone; with --paths that one, which explores
+stacks by the library alone.
 """
 import argparse
 import os
@@ -169,10 +172,10 @@ def measure(program, words, folder, runs):
     return least, int(run(["/usr/bin/time", "-q", "-f", "%M", program] + words, folder)[0].split()[-1]) / 1000
 
 
-def measure_cases(program, only, runs):
+def measure_cases(program, cases, only, runs):
     print("| Case | a quarter | half | whole | MiB a second | memory: a quarter | whole |")
     print("|---|---|---|---|---|---|---|")
-    for name, words, make, sizes, files in CASES:
+    for name, words, make, sizes, files in cases:
         if only not in name:
             continue
         rows = []
@@ -225,6 +228,31 @@ STACKS = [
      lines(120, "auth [%s default=31] a.so" % " ".join("%s=%d" % (code, n + 1) for n, code in enumerate(CODES)))),
 ]
 
+OUTCOMES = ["outcomes", "login", "auth", "--dir", "d"]
+IGNORED = "auth [default=ignore] a.so"
+RESET = "auth [success=reset default=ignore] a.so"
+JUMPS = "auth [%s] a.so" % " ".join("%s=%d" % (code, n + 1) for n, code in enumerate(CODES + ["conv_again"]))
+
+
+def one_stack(text):
+    return lambda size: pam_d(login=text.encode())
+
+
+def products(line):
+    """A stack whose substack is entered in 31 states: 436 places, and for each of its last lines 930, which are the pairs of
+    an entry state and a state. If these lines jump, the second of them is never asked."""
+    return lambda count: pam_d(
+        login=(lines(1, IGNORED) + lines(1, "auth [default=ok] a.so") + lines(13, IGNORED) + lines(1, "auth substack s")).encode(),
+        s=(lines(1, "auth [success=reset default=bad] a.so") + lines(count, line) + lines(1, RESET)).encode())
+
+
+OUTCOME_CASES = [(name, OUTCOMES, one_stack(text), (0,), 0) for name, _, text in STACKS] + [
+    ("256 lines of `[success=1 default=ignore]`", OUTCOMES,
+     lambda count: pam_d(login=lines(count, "auth [success=1 default=ignore] a.so").encode()), (64, 128, 256), 0),
+    ("65,536 places with few classes", OUTCOMES, products(RESET), (17, 34, 69), 0),
+    ("65,536 places with 31 classes each", OUTCOMES, products(JUMPS), (18, 35, 70), 0),
+]
+
 
 def measure_paths(program):
     print("| Stack | million paths a second | steps a path | modules a path | peak memory |")
@@ -262,15 +290,18 @@ def main():
     parser = argparse.ArgumentParser()
     parser.add_argument("program")
     parser.add_argument("--pages", action="store_true")
+    parser.add_argument("--outcomes", action="store_true")
     parser.add_argument("--decisions")
     parser.add_argument("--paths")
     parser.add_argument("--only", default="")
     parser.add_argument("--runs", type=int, default=20)
     args = parser.parse_args()
     program = os.path.abspath(args.program)
-    measure_cases(program, args.only, args.runs)
+    measure_cases(program, CASES, args.only, args.runs)
     if args.pages:
         measure_pages(program, args.runs)
+    if args.outcomes:
+        measure_cases(program, OUTCOME_CASES, args.only, args.runs)
     if args.decisions:
         measure_decisions(os.path.abspath(args.decisions))
     if args.paths:
