@@ -11,8 +11,8 @@ ghost use Rattle.pam_released.specs.Lines.{physical_lines};
 ghost use Rattle.pam_released.specs.Reader.{state_of};
 
 use crate::lines::{
-    are_blank_lines, before_hash, ends_in_backslash, ends_in_blank, goes_on, has_hash, is_blank_line,
-    part_begins_in_blank, split_line,
+    are_blank_lines, before_hash, ends_in_backslash, ends_in_blank, goes_on, has_hash,
+    is_blank_line, part_begins_in_blank, split_line,
 };
 use crate::names::{is_no_name, module_name, names_target};
 use crate::reader::Reader;

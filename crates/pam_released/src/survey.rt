@@ -115,7 +115,10 @@ fn push_differences(
 {
     let tests = [
         (has_return(line), Difference::CarriageReturn),
-        (goes_on_over_blank(line, rest), Difference::ContinuedOverBlank),
+        (
+            goes_on_over_blank(line, rest),
+            Difference::ContinuedOverBlank,
+        ),
         (has_backslash_blank(line), Difference::BackslashBlank),
         (has_backslash_comment(line), Difference::BackslashComment),
         (ends_the_file(line, rest), Difference::EndsInContinuation),
