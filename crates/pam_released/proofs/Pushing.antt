@@ -3,13 +3,14 @@ use Rattle.std.proofs.Common.{◌≡◌, ◌<◌, ◌≤◌, ◌+◌, ◌++◌, 
 use Rattle.std.proofs.Common.{Option, Some, None, Err, arith, add-one, append-nil, append_assoc, drop-cons}
 use Rattle.std.specs.List.{prefix_len}
 use Rattle.std.proofs.lemmas.List.{drop_all}
-use Rattle.pam_conf.specs.Words.{State, or_open, words_of, words_or_fault}
+use Rattle.pam_text.specs.Text.{text_lines, text_of}
+use Rattle.pam_conf.specs.Words.{State, Between, or_open, words_of, words_or_fault}
 use Rattle.pam_conf.specs.declared.error.FaultKind.{FaultKind}
 use Rattle.pam_conf.specs.declared.rule.Form.{Form}
 use Rattle.pam_released.specs.Bracket.{state_after}
-use Rattle.pam_released.specs.Findings.{comes_before, differences_at, from_control, line_findings, located, merged, only_if, rule_differences}
+use Rattle.pam_released.specs.Findings.{comes_before, differences_at, findings_of, from_control, line_findings, located, merged, only_if, rule_differences}
 use Rattle.pam_released.specs.Findings.{rule_findings, those, used_after}
-use Rattle.pam_released.specs.Lines.{goes_on, is_blank_line}
+use Rattle.pam_released.specs.Lines.{goes_on, is_blank_line, physical_lines}
 use Rattle.pam_released.specs.declared.difference.Difference.{Difference}
 use Rattle.pam_released.specs.declared.finding.Finding.{Finding}
 
@@ -124,3 +125,12 @@ pub rule_end : (form : Form) (lines : List (ℕ × List ℕ)) (found whole : Lis
 rule_end form lines found whole is h =
     sym (append-nil found) ∙ ap (λ (r : List Finding). found ++ r) (sym (no_rule form))
     ∙ ap (λ (r : List (ℕ × List ℕ)). found ++ rule_findings form r) (sym is) ∙ h
+
+-- ALL FINDINGS
+
+pub findings_are : (form : Form) (bytes : List ℕ) (at_lines at_rules all : List Finding) → at_lines ≡ line_findings 1 0 Between (physical_lines bytes) →
+    at_rules ≡ rule_findings form (text_lines (text_of 1 bytes)) → all ≡ merged at_lines at_rules → findings_of form bytes ≡ all
+unfolding findings_of
+findings_are form bytes at_lines at_rules all lines rules is =
+    ap (λ (r : List Finding). merged r (rule_findings form (text_lines (text_of 1 bytes)))) (sym lines)
+    ∙ ap (merged at_lines) (sym rules) ∙ sym is

@@ -5,6 +5,7 @@ pub mod Findings
 pub mod Laws
 pub mod Lines
 pub mod Meanings
+pub mod NextState
 pub mod Reader
 pub mod Rules
 pub mod Words

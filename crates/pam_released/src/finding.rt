@@ -1,7 +1,7 @@
 //! A place at which released Linux-PAM reads a file otherwise.
 
 ghost use Rattle.std.specs.Prelude.{◌≡◌, ◌++◌, OnOk, map};
-ghost use Rattle.pam_released.specs.Findings.{comes_before, located, only_if};
+ghost use Rattle.pam_released.specs.Findings.{comes_before, located, those};
 
 use crate::difference::Difference;
 use std::alloc::AllocError;
@@ -23,17 +23,21 @@ pub(crate) fn comes_before(second: Finding, first: Finding) -> bool
         || (first.line == second.line && first.difference.number() < second.difference.number())
 }
 
-/// Appends a finding, if `holds`.
-pub(crate) fn push_if(
+/// Appends a finding at `line` for each difference whose test holds.
+pub(crate) fn push_those(
     findings: &mut Vec<Finding>,
     line: u32,
-    holds: bool,
-    difference: Difference,
+    tests: &[(bool, Difference)],
 ) -> Result<(), AllocError>
-    ensures { OnOk result (findings.new.items ≡ findings.old.items ++ map (located line) (only_if holds difference)) }
+    ensures { OnOk result (findings.new.items ≡ findings.old.items ++ map (located line) (those tests.now)) }
 {
-    if holds {
-        findings.push(Finding { line, difference })?;
+    for (holds, difference) in tests {
+        if *holds {
+            findings.push(Finding {
+                line,
+                difference: *difference,
+            })?;
+        }
     }
     Ok(())
 }

@@ -5,10 +5,13 @@ mod difference;
 mod finding;
 pub mod laws;
 mod lines;
+mod names;
 mod reader;
+pub mod rows;
 mod rules;
 mod survey;
 
 pub use difference::Difference;
 pub use finding::Finding;
+pub use reader::Reader;
 pub use survey::findings;

@@ -95,12 +95,6 @@ pub(crate) fn are_blank_lines(bytes: &[u8]) -> bool
     true
 }
 
-pub(crate) fn has_return(text: &[u8]) -> bool
-    ensures { result ≡ list_any (λ b. b == 13) text.now }
-{
-    text.contains(&b'\r')
-}
-
 pub(crate) fn ends_in_backslash(line: &[u8]) -> bool
     ensures { result ≡ ends_in_backslash line.now }
 {

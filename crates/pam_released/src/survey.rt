@@ -4,46 +4,37 @@ ghost use Rattle.std.specs.Prelude.{◌≡◌, [], ◌++◌, ◌≤◌, IfOk, On
 ghost use Rattle.std.specs.List.{prefix_len};
 ghost use Rattle.pam_conf.specs.Words.{Between};
 ghost use Rattle.pam_text.specs.Text.{text_lines, text_of};
-ghost use Rattle.pam_released.specs.Findings.{comes_before, differences_at, drops_blank, findings_of, goes_on_over_blank};
-ghost use Rattle.pam_released.specs.Findings.{has_backslash_comment, is_cut, line_findings, located, merged, rule_findings, used_after};
+ghost use Rattle.pam_released.specs.Findings.{comes_before, differences_at, findings_of, line_findings, located, merged};
+ghost use Rattle.pam_released.specs.Findings.{rule_findings, used_after};
 ghost use Rattle.pam_released.specs.Laws.{SameRules};
 ghost use Rattle.pam_released.specs.Lines.{physical_lines};
 ghost use Rattle.pam_released.specs.Reader.{state_of};
 
 use crate::difference::Difference;
-use crate::finding::{Finding, comes_before, push_if};
-use crate::lines::{
-    are_blank_lines, before_hash, ends_in_backslash, ends_in_blank, goes_on, has_hash, has_return,
-    is_blank_line, part_begins_in_blank, split_line,
-};
+use crate::finding::{Finding, comes_before, push_those};
+use crate::lines::{goes_on, is_blank_line, split_line};
 use crate::reader::Reader;
+use crate::rows::{
+    drops_blank, ends_the_file, goes_on_over_blank, has_backslash_blank, has_backslash_comment,
+    has_return, is_cut,
+};
 use crate::rules::push_rule_differences;
 use pam_conf::Form;
 use pam_text::{Source, Text};
 use std::alloc::{AllocError, Global};
 
-/// The bytes of a logical line that 1.5.2 has room for, one more than it reads.
-const ROOM: usize = 1024;
-
 /// The places at which Linux-PAM 1.5.2 or 1.7.0 reads a configuration file otherwise than the manual pages say, in the order
 /// of lines and then of numbers, each once. Where there is none and the file has no fault, both releases read the same rules.
 /// Takes time linear in the file.
+#[tactic(auto, unfolding(crate::specs::Findings::findings_of))]
 pub fn findings(alloc: Global, source: Source<'_>, form: Form) -> Result<Vec<Finding>, AllocError>
     ensures found { IfOk result (λ found. found.items ≡ findings_of form source.entry.bytes.now) }
     ensures silence { IfOk result (λ found. found.items ≡ [] → SameRules form source.entry.bytes.now) }
 {
-    let found = all_findings(alloc, source, form)?;
-    Ok(found)
-}
-
-/// Like `findings`.
-#[tactic(auto, unfolding(crate::specs::Findings::findings_of))]
-fn all_findings(alloc: Global, source: Source<'_>, form: Form) -> Result<Vec<Finding>, AllocError>
-    ensures { IfOk result (λ found. found.items ≡ findings_of form source.entry.bytes.now) }
-{
     let at_lines = line_findings(alloc, source)?;
     let at_rules = rule_findings(alloc, source, form)?;
-    merged(alloc, &at_lines, &at_rules)
+    let found = merged(alloc, &at_lines, &at_rules)?;
+    Ok(found)
 }
 
 /// The number of findings, from the front on, that come before `second`.
@@ -119,77 +110,25 @@ fn push_differences(
     rest: &[u8],
     found: &mut Vec<Finding>,
 ) -> Result<(), AllocError>
-    requires { used ≤ 4194304 }
     ensures { OnOk result (found.new.items ≡ found.old.items
         ++ map (located number) (differences_at used (state_of reader) line.now (physical_lines rest.now))) }
 {
-    let goes_on = goes_on(line);
-    push_if(
-        found,
-        number,
-        has_return(before_hash(line)),
-        Difference::CarriageReturn,
-    )?;
-    push_if(
-        found,
-        number,
-        goes_on_over_blank(line, rest),
-        Difference::ContinuedOverBlank,
-    )?;
-    push_if(
-        found,
-        number,
-        goes_on && ends_in_blank(line),
-        Difference::BackslashBlank,
-    )?;
-    push_if(
-        found,
-        number,
-        has_backslash_comment(line),
-        Difference::BackslashComment,
-    )?;
-    push_if(
-        found,
-        number,
-        goes_on && are_blank_lines(rest),
-        Difference::EndsInContinuation,
-    )?;
-    push_if(found, number, is_cut(used, line), Difference::LongLine)?;
-    push_if(
-        found,
-        number,
-        drops_blank(reader, line),
-        Difference::DroppedBlank,
-    )
+    let tests = [
+        (has_return(line), Difference::CarriageReturn),
+        (
+            goes_on_over_blank(line, rest),
+            Difference::ContinuedOverBlank,
+        ),
+        (has_backslash_blank(line), Difference::BackslashBlank),
+        (has_backslash_comment(line), Difference::BackslashComment),
+        (ends_the_file(line, rest), Difference::EndsInContinuation),
+        (is_cut(used, line), Difference::LongLine),
+        (drops_blank(reader, line), Difference::DroppedBlank),
+    ];
+    push_those(found, number, &tests)
 }
 
-/// Whether `line` ends in a backslash, and the next line is blank.
-fn goes_on_over_blank(line: &[u8], rest: &[u8]) -> bool
-    ensures { result ≡ goes_on_over_blank line.now (physical_lines rest.now) }
-{
-    if has_hash(line) || !ends_in_backslash(line) {
-        return false;
-    }
-    match split_line(rest) {
-        Some((next, _)) => is_blank_line(next),
-        None => false,
-    }
-}
-
-fn has_backslash_comment(line: &[u8]) -> bool
-    ensures { result ≡ has_backslash_comment line.now }
-{
-    has_hash(line) && ends_in_backslash(before_hash(line))
-}
-
-/// Whether `line` takes its logical line past what 1.5.2 has room for.
-fn is_cut(used: usize, line: &[u8]) -> bool
-    requires { used ≤ 4194304 }
-    ensures { result ≡ is_cut used line.now }
-{
-    used < ROOM && used + line.len() + 1 >= ROOM
-}
-
+/// The bytes that 1.5.2 has read of a logical line when it comes to the line after `line`.
 fn used_after(used: usize, line: &[u8]) -> usize
     requires { used ≤ 4194304 }
     ensures { result ≡ used_after used line.now }
@@ -201,11 +140,4 @@ fn used_after(used: usize, line: &[u8]) -> usize
     } else {
         0
     }
-}
-
-/// Whether `line` adds a text that begins with a blank to a word in brackets.
-fn drops_blank(reader: Reader, line: &[u8]) -> bool
-    ensures { result ≡ drops_blank (state_of reader) line.now }
-{
-    reader.is_in_bracket() && part_begins_in_blank(line)
 }

@@ -1,6 +1,6 @@
 use Rattle.std.proofs.Common.{sym}
 use Rattle.pam_released.proofs.Scanning.{found_dot, no_dot_at_all}
-use Rattle.pam_released.proofs.rules.before_last_dot.Goals as goal
+use Rattle.pam_released.proofs.names.before_last_dot.Goals as goal
 
 pub returns-then-last-eq46 : goal.returns-then-last-eq46
 returns-then-last-eq46 c =

@@ -1,6 +1,6 @@
 use Rattle.std.proofs.Common.{◌≡◌, ◌==◌, ◌++◌, ℕ, List, false, length}
 use Rattle.std.specs.List.{list_any}
-use Rattle.pam_released.proofs.rules.before_last_dot.Given as goal
+use Rattle.pam_released.proofs.names.before_last_dot.Given as goal
 
 abbrev pub invariant-loop-last : goal.invariant-loop-last
 invariant-loop-last l = (tail : List ℕ) × (l.name ≡ l.front ++ tail) × (list_any (λ b. b == 46) tail ≡ false)

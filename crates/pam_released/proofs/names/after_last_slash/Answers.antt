@@ -1,6 +1,6 @@
 use Rattle.std.proofs.Common.{◌∙◌, sym}
 use Rattle.pam_released.proofs.Scanning.{found_slash, no_slash_at_all}
-use Rattle.pam_released.proofs.rules.after_last_slash.Goals as goal
+use Rattle.pam_released.proofs.names.after_last_slash.Goals as goal
 
 pub returns-then-last-eq47 : goal.returns-then-last-eq47
 returns-then-last-eq47 c =
