@@ -1,21 +1,19 @@
 //! The explorer of the paths that allowed answers can follow.
 
-ghost use Rattle.std.specs.Prelude.{◌≡◌, ◌+◌, ◌-◌, ◌*◌, ◌≤◌, ◌∷◌, ◌++◌, [], length, take};
+ghost use Rattle.std.specs.Prelude.{◌≡◌, ◌+◌, ◌-◌, ◌*◌, ◌≤◌, ◌∷◌, [], take};
 ghost use Rattle.std.specs.Prelude.{false, IfSome, IfNone, IfOk, MatchOption, MatchResult, OnOk};
 ghost use Rattle.std.specs.Iterator.{MakesProgress, YieldsFirst, item_count};
 ghost use Rattle.pam_conf.specs.Stack.{Items};
-ghost use Rattle.pam_dispatch.specs.Flat.{IsPlaceOf, modules_of, rest_of, runs_of};
-ghost use Rattle.pam_dispatch.specs.Runs.{AsksRise};
+ghost use Rattle.pam_dispatch.specs.Flat.{modules_of, runs_of};
 ghost use Rattle.pam_dispatch.specs.Tree.{runs_of_stack};
 ghost use Rattle.pam_paths.specs.declared.direction.Direction.{Direction};
 ghost use Rattle.pam_paths.specs.Computed.{listing};
 ghost use Rattle.pam_paths.specs.Cursor.{IsAccepted, IsRefusal};
-ghost use Rattle.pam_paths.specs.Directions.{IsListingFrom, ordered};
-ghost use Rattle.pam_paths.specs.Frames.{AreFirstSteps, AreFrames, IsExploring, ahead, coming, under};
+ghost use Rattle.pam_paths.specs.Directions.{IsListingFrom};
+ghost use Rattle.pam_paths.specs.Frames.{AreFirstSteps, IsExploring, coming};
 ghost use Rattle.pam_paths.specs.Cached.{AreCached};
 ghost use Rattle.pam_paths.specs.Listing.{IsListing, IsListingAfter};
 ghost use Rattle.pam_paths.specs.Paths.{path_of, path_through};
-ghost use Rattle.pam_paths.specs.Work.{CountsOn};
 
 use crate::bounded_list::BoundedList;
 use crate::class_cache::ClassCache;

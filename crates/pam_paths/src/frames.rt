@@ -1,17 +1,16 @@
 //! The frames of an explorer: the modules asked on the path that it returned last.
 
-ghost use Rattle.std.specs.Prelude.{◌≡◌, ◌+◌, ◌-◌, ◌<◌, ◌≤◌, ◌∷◌, ◌++◌, [], drop, length, map, slice_index_or, slice_set, take};
+ghost use Rattle.std.specs.Prelude.{◌≡◌, ◌+◌, ◌-◌, ◌<◌, ◌≤◌, ◌++◌, [], drop, length, map, slice_index_or, slice_set, take};
 ghost use Rattle.std.specs.Prelude.{None, Some, IfSome, IfNone, IsTrue};
 ghost use Rattle.pam_codes.specs.declared.code.TheConstants.{CODES};
 ghost use Rattle.pam_conf.specs.declared.stack.TheConstants.{MAX_MODULES};
 ghost use Rattle.pam_dispatch.specs.Flat.{IsPlaceOf, modules_of, rest_of};
-ghost use Rattle.pam_dispatch.specs.Runs.{AsksRise, after_answer, asked_module, next_ask};
+ghost use Rattle.pam_dispatch.specs.Runs.{after_answer, asked_module, next_ask};
 ghost use Rattle.pam_paths.specs.Classes.{class_of};
 ghost use Rattle.pam_paths.specs.Computed.{after_step, listing};
 ghost use Rattle.pam_paths.specs.Directions.{ordered, past};
 ghost use Rattle.pam_paths.specs.Followed.{followed};
-ghost use Rattle.pam_paths.specs.Frames.{AreClasses, AreFrames, ahead, ahead_of, offered_at, path_to, step_in, under};
-ghost use Rattle.pam_paths.specs.Cached.{AreCached};
+ghost use Rattle.pam_paths.specs.Frames.{AreClasses, ahead_of, offered_at, step_in};
 ghost use Rattle.pam_paths.specs.Listing.{Allowance};
 ghost use Rattle.pam_paths.specs.Steps.{step_seen};
 ghost use Rattle.pam_paths.specs.Tail.{IsTail, EndsInTail};
