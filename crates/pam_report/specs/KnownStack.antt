@@ -1,5 +1,5 @@
 -- The stack of a service, with the codes that its modules may return: pam.conf(5), access.conf(5), time.conf(5).
-use Rattle.std.specs.Prelude.{◌≡◌, ℕ, List, Option, None, Some, Result, Ok, Err, ◌×◌}
+use Rattle.std.specs.Prelude.{◌≡◌, ℕ, List, Option, None, Some, Result, Ok, Err}
 use Rattle.jiff.specs.Types.{DateTime}
 use Rattle.pam_conf.specs.Stack.{Items}
 use Rattle.pam_conf.specs.declared.conf_error.ConfError.{ConfError}

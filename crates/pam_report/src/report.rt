@@ -77,7 +77,7 @@ fn stack_request<'a>(
     kind: Kind,
     knowledge: &KnowledgeSource<'a>,
 ) -> StackRequest<'a>
-    ensures service { result.service ≡ service }
+    ensures service { result.service.now ≡ service.now }
     ensures kind { result.kind ≡ kind }
     ensures login { result.login ≡ knowledge.now.login }
 {

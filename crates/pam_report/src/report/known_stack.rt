@@ -83,7 +83,7 @@ fn known_to(
     stack: &Stack,
 ) -> Result<Known, Fault>
     ensures known { FindsKnown stack.now result
-        (stack_then request.now.kind (login_at request.now.service.now request.now.login.entry) inputs.now stack.now moment) }
+        (stack_then request.now.kind (login_at request.now.service.now request.now.login) inputs.now stack.now moment) }
     ensures wants { IfErr result (IsWanting (of_paths (paths_tables (is_some moment) inputs.now))) }
 {
     match lowered(alloc, request.service) {
@@ -104,7 +104,7 @@ pub(super) fn known_stack(
     files: &Files,
     inputs: &Inputs,
 ) -> Result<KnownStack, Fault>
-    ensures stack { FindsStack result (stack_known request.now.kind (login_at request.now.service.now request.now.login.entry) inputs.now moment
+    ensures stack { FindsStack result (stack_known request.now.kind (login_at request.now.service.now request.now.login) inputs.now moment
         (resolved files.now request.now.service.now request.now.kind)) }
     ensures wants { IfErr result (IsWanting (of_paths (paths_tables (is_some moment) inputs.now))) }
 {

@@ -250,7 +250,7 @@ pub(super) fn answer_outcomes<W: Write>(
     inputs: &Inputs,
     out: &mut Out<W>,
 ) -> Result<Status, Fault>
-    ensures answer { let stack = stack_at request.now.service.now request.now.kind request.now.login.entry inputs.now moment files.now in
+    ensures answer { let stack = stack_at request.now.service.now request.now.kind request.now.login inputs.now moment files.now in
         LeavesSome W.contents out.old out.new result (IsOutcomes request.now.service.now request.now.kind stack) }
     ensures wants { WantsOnly (of_paths (paths_tables (is_some moment) inputs.now)) result }
 {

@@ -205,7 +205,7 @@ pub(super) fn answer_paths<W: Write>(
     out: &mut Out<W>,
 ) -> Result<Status, Fault>
     ensures answer { let asked = request.now.stack in
-        let stack = stack_at asked.service.now asked.kind asked.login.entry inputs.now moment files.now in
+        let stack = stack_at asked.service.now asked.kind asked.login inputs.now moment files.now in
         LeavesSome W.contents out.old out.new result (IsPage (page_view request.now) stack) }
     ensures wants { WantsOnly (of_paths (paths_tables (is_some moment) inputs.now)) result }
 {
