@@ -137,7 +137,8 @@ from_lines n used s (line ∷ rest) f m =
       shows = r.shows;
     }
 
-    parts : (Member f (line_findings (n + 1) (used_after used line) (state_after s line) rest) → From (n + 1) (used_after used line) (state_after s line) rest f) →
+    parts : (Member f (line_findings (n + 1) (used_after used line) (state_after s line) rest) →
+        From (n + 1) (used_after used line) (state_after s line) rest f) →
         Member f (map (located n) (differences_at used s line rest))
         ⊎ Member f (line_findings (n + 1) (used_after used line) (state_after s line) rest) → From n used s (line ∷ rest) f
     parts more (inl k) =
