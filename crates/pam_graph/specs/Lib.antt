@@ -2,6 +2,7 @@ pub mod Building
 pub mod Frames
 pub mod Goals
 pub mod Order
+pub mod Reached
 pub mod Tallies
 pub mod Walks
 pub mod WalksLeft
