@@ -1,6 +1,7 @@
 pub mod Building
 pub mod Frames
 pub mod Goals
+pub mod Laws
 pub mod Order
 pub mod Reached
 pub mod Tallies
