@@ -190,7 +190,8 @@ pub(crate) struct OwnedWords {
 }
 
 impl OwnedWords {
-    ghost use Rattle.pam_conf.specs.Remaining.{owned_words, words_to_come};
+    ghost use Rattle.pam_conf.specs.Owned.{owned_words};
+    ghost use Rattle.pam_conf.specs.Remaining.{words_to_come};
 
     /// Copies words, as they are written.
     pub(crate) fn of(alloc: Global, words: Words<'_>) -> Result<OwnedWords, AllocError>

@@ -2,6 +2,7 @@ pub mod Asking
 pub mod Controls
 pub mod FlatLists
 pub mod Flattening
+pub mod Keys
 pub mod ModuleParts
 pub mod Numbering
 pub mod OpenRuns

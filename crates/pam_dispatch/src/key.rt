@@ -3,14 +3,14 @@
 ghost use Rattle.std.specs.Prelude.{◌≡◌, List};
 ghost use Rattle.pam_dispatch.specs.declared.flat_item.FlatItem.{FlatItem};
 ghost use Rattle.pam_dispatch.specs.Flat.{rest_of};
-ghost use Rattle.pam_dispatch.specs.Keys.{rest_at};
+ghost use Rattle.pam_dispatch.specs.Keys.{key_of, rest_at};
 
-use crate::entered::{Entered, LISTS};
+use crate::entered::Entered;
 use crate::place::Place;
 use crate::state::State;
 
 /// What the rest of a run from a place depends on: places with one key have the same rest.
-#[derive(Clone, Copy, Debug, PartialEq, Eq, PartialOrd, Ord)]
+#[derive(Clone, Copy, Debug, PartialEq, Eq, Hash)]
 pub struct PlaceKey {
     pub(crate) position: usize,
     pub(crate) depth: usize,
@@ -22,19 +22,15 @@ pub struct PlaceKey {
 impl Place {
     /// The key of this place.
     pub fn key(&self) -> PlaceKey
-        ensures { (program : List FlatItem) → rest_at program result ≡ rest_of program self.now }
+        ensures key { result ≡ key_of self.now }
+        ensures rest { (program : List FlatItem) → rest_at program result ≡ rest_of program self.now }
     {
         let depth = usize::from(self.depth);
-        let start = State::start();
-        let mut entered = self.entered;
-        for level in depth..LISTS {
-            entered.enter(level, &start);
-        }
         PlaceKey {
             position: self.position,
             depth,
             state: self.state,
-            entered,
+            entered: self.entered.first(depth),
         }
     }
 }

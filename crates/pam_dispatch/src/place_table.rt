@@ -1,26 +1,23 @@
 //! Places that are found again.
 
-ghost use Rattle.std.specs.Prelude.{◌≡◌, ◌∷◌, ◌++◌, ◌<◌, [], IfSome, List, OnOk, length, map, slice_index_or};
+ghost use Rattle.std.specs.Prelude.{◌≡◌, ◌∷◌, ◌++◌, [], IfNone, IfSome, List, OnErr, OnOk, Some, length, slice_get};
 ghost use Rattle.pam_dispatch.specs.declared.flat_item.FlatItem.{FlatItem};
-ghost use Rattle.pam_dispatch.specs.declared.key.PlaceKey.{PlaceKey};
 ghost use Rattle.pam_dispatch.specs.Flat.{rest_of};
-ghost use Rattle.pam_dispatch.specs.Keys.{rest_at};
+ghost use Rattle.pam_dispatch.specs.Keys.{AreDifferent, DiffersFrom, key_of, rest_at};
 
 use crate::entered::Entered;
 use crate::error::Memory;
 use crate::key::PlaceKey;
 use crate::place::Place;
 use crate::state::State;
+use indexmap::IndexSet;
 use std::alloc::Global;
-use std::collections::BTreeMap;
 use std::marker::Model;
 
-/// Places of a run, in the order in which they were added. One is found by what the rest of the run depends on.
+/// Places of a run, in the order in which they were added, each found again by its key.
 #[derive(Drop)]
 pub struct PlaceTable {
-    keys: Vec<PlaceKey>,
-    /// The index in `keys` at which a key is.
-    found: BTreeMap<PlaceKey, usize>,
+    keys: IndexSet<PlaceKey>,
 }
 
 impl Model for PlaceTable {
@@ -29,11 +26,11 @@ impl Model for PlaceTable {
 
     ghost Value = { List PlaceKey };
 
-    ghost view = { λ p. p.keys.items };
+    ghost view = { λ p. p.keys.keys };
 }
 
 /// A key of these parts.
-fn key_of(position: usize, depth: usize, state: State, entered: Entered) -> PlaceKey
+fn key_from(position: usize, depth: usize, state: State, entered: Entered) -> PlaceKey
     ensures { result ≡ record { position = position; depth = depth; state = state; entered = entered } }
 {
     PlaceKey {
@@ -44,49 +41,44 @@ fn key_of(position: usize, depth: usize, state: State, entered: Entered) -> Plac
     }
 }
 
-/// The index, if `key` is there.
-fn checked(keys: &[PlaceKey], key: &PlaceKey, index: usize) -> Option<usize>
-    ensures within { IfSome result (λ i. i < length keys.now) }
-    ensures is { (other : PlaceKey) → IfSome result (λ i. slice_index_or keys.now i other ≡ key.now) }
-{
-    if index < keys.len() && keys[index] == *key {
-        return Some(index);
-    }
-    None
-}
-
 impl PlaceTable {
     /// No places.
     pub fn new(alloc: Global) -> PlaceTable
         ensures { result ≡ [] }
     {
         PlaceTable {
-            keys: Vec::new(alloc),
-            found: BTreeMap::new(alloc),
+            keys: IndexSet::new(alloc),
         }
     }
 
-    /// The index of a place from which the run goes on as from `place`. Finds each that was added.
+    /// The number of places.
+    pub fn len(&self) -> usize
+        ensures count { result ≡ length self.now }
+        ensures different { AreDifferent self.now }
+    {
+        self.keys.len()
+    }
+
+    /// The index of the place with the key of `place`.
     pub fn find(&self, place: &Place) -> Option<usize>
-        ensures within { IfSome result (λ i. i < length self.now) }
-        ensures same { (program : List FlatItem) (other : PlaceKey) → IfSome result (λ i. rest_at program (slice_index_or self.now i other) ≡ rest_of program place.now) }
+        ensures found { IfSome result (λ index. slice_get self.now index ≡ Some (key_of place.now)) }
+        ensures none { IfNone result (DiffersFrom (key_of place.now) self.now) }
+
+        // Places with one key have the same rest of the run.
+        ensures rest { (program : List FlatItem) → rest_at program (key_of place.now) ≡ rest_of program place.now }
     {
-        let key = place.key();
-        match self.found.get(&key) {
-            Some(index) => checked(&self.keys, &key, *index),
-            None => None,
-        }
+        self.keys.get_index_of(&place.key())
     }
 
-    /// Adds a place.
+    /// Adds a place. Returns `Memory` if allocation fails.
     pub fn push(&mut self, place: &Place) -> Result<(), Memory>
-        ensures { (program : List FlatItem) → OnOk result (map (rest_at program) self.new ≡ map (rest_at program) self.old ++ rest_of program place.now ∷ []) }
+        requires { DiffersFrom (key_of place.now) self.old }
+        ensures added { OnOk result (self.new ≡ self.old ++ key_of place.now ∷ []) }
+        ensures unchanged { OnErr result (self.new ≡ self.old) }
     {
-        let index = self.keys.len();
         let key = place.key();
-        let key = key_of(key.position, key.depth, key.state, key.entered);
-        self.keys.push(key)?;
-        self.found.insert(place.key(), index)?;
+        let key = key_from(key.position, key.depth, key.state, key.entered);
+        self.keys.insert(key)?;
         Ok(())
     }
 }

@@ -1,5 +1,5 @@
 -- For private contracts and proofs alone: a graph while it is built.
-use Rattle.std.specs.Prelude.{◌≡◌, ℕ, ◌+◌, ◌-◌, List, [], ◌++◌, map}
+use Rattle.std.specs.Prelude.{◌≡◌, ℕ, ◌+◌, ◌-◌, ◌<◌, List, [], ◌++◌, map}
 use Rattle.pam_dispatch.specs.declared.flat_item.FlatItem.{FlatItem}
 use Rattle.pam_dispatch.specs.declared.key.PlaceKey.{PlaceKey}
 use Rattle.pam_dispatch.specs.Keys.{rest_at}
@@ -20,6 +20,12 @@ pub record IsBuilt (allows : Allowance) (program : List FlatItem) (nodes : List 
   pub walks : walks_of nodes ≡ map (listing allows) (map (rest_at program) places)
   pub numbers : numbers_of nodes ≡ map next_number (map (rest_at program) places)
   pub order : AreNodes [] nodes
+
+-- a run asks a module next, and another ends, or asks one with a greater number
+abbrev pub IsBefore : Runs → Runs → Type 0
+IsBefore (ends s) other = ⊥
+IsBefore (asks ask next) (ends s) = Unit {0}
+IsBefore (asks ask next) (asks later after) = ask.module_number < later.module_number
 
 -- nodes were added at the end
 abbrev pub IsExtended : List Node → List Node → Type 0

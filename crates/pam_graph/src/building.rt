@@ -1,16 +1,19 @@
 //! Builds the graph of the runs of a program.
 
-ghost use Rattle.std.specs.Prelude.{◌≡◌, ◌∷◌, ◌++◌, ◌≤◌, [], IfOk, List, OnOk, ℕ, length, map};
+ghost use Rattle.std.specs.Prelude.{◌≡◌, ◌∷◌, ◌++◌, ◌≤◌, ◌<◌, [], IfErr, IfOk, List, OnOk, ℕ, length};
 ghost use Rattle.pam_conf.specs.Stack.{Items};
 ghost use Rattle.pam_conf.specs.declared.stack.TheConstants.{MAX_MODULES};
-ghost use Rattle.pam_dispatch.specs.declared.flat_item.FlatItem.{FlatItem};
+ghost use Rattle.pam_dispatch.specs.declared.key.PlaceKey.{PlaceKey};
 ghost use Rattle.pam_dispatch.specs.Flat.{IsPlaceOf, modules_of, rest_of, runs_of};
-ghost use Rattle.pam_dispatch.specs.Keys.{rest_at};
+ghost use Rattle.pam_dispatch.specs.Keys.{AreDifferent, DiffersFrom, key_of, rest_at};
 ghost use Rattle.pam_dispatch.specs.Runs.{AsksRise};
 ghost use Rattle.pam_dispatch.specs.Tree.{runs_of_stack};
 ghost use Rattle.pam_graph.specs.declared.node.Target.TheVariants.{At};
-ghost use Rattle.pam_graph.specs.Building.{IsBuilt, IsExtended};
+ghost use Rattle.pam_graph.specs.declared.error.GraphError.TheVariants.{TooManyNodes};
+ghost use Rattle.pam_graph.specs.declared.graph.TheConstants.{MAX_NODES};
+ghost use Rattle.pam_graph.specs.Building.{IsBefore, IsBuilt, IsExtended};
 ghost use Rattle.pam_graph.specs.Order.{IsAbove, numbers_of};
+ghost use Rattle.pam_graph.specs.Reached.{AreReachedKeys, IsReached, IsReason};
 ghost use Rattle.pam_graph.specs.Walks.{walks, walks_of, walks_to};
 ghost use Rattle.pam_paths.specs.Computed.{listing};
 ghost use Rattle.pam_paths.specs.Listing.{IsListing};
@@ -39,16 +42,19 @@ fn add(
     place: &Place,
     node: Node,
 ) -> Result<Target, GraphError>
+    requires same { length draft.old.nodes.items ≡ length draft.old.places }
+    requires new { DiffersFrom (key_of place.now) draft.old.places }
     ensures target { IfOk result (λ target. target ≡ At (length draft.old.nodes.items)) }
     ensures node { OnOk result (draft.new.nodes.items ≡ draft.old.nodes.items ++ node ∷ []) }
-    ensures place { (program : List FlatItem) → OnOk result
-        (map (rest_at program) draft.new.places ≡ map (rest_at program) draft.old.places ++ rest_of program place.now ∷ []) }
+    ensures place { OnOk result (draft.new.places ≡ draft.old.places ++ key_of place.now ∷ []) }
+    ensures many { IfErr result (λ e. e ≡ TooManyNodes → (keys : List PlaceKey) × (keys ≡ draft.old.places ++ key_of place.now ∷ [])
+        × (limit < length keys) × AreDifferent keys) }
 {
-    let index = draft.nodes.len();
-    if index >= limit {
+    draft.places.push(place)?;
+    if draft.places.len() > limit {
         return Err(GraphError::TooManyNodes);
     }
-    draft.places.push(place)?;
+    let index = draft.nodes.len();
     draft.nodes.push(node)?;
     Ok(Target::At(index))
 }
@@ -68,6 +74,14 @@ pub(crate) fn target_of<K: Knowledge>(
     requires place { IsPlaceOf program.now place.now }
     requires rise { AsksRise 0 (modules_of program.now) (rest_of program.now place.now) }
     requires built { IsBuilt (K.allows knowledge.now) program.now draft.old.nodes.items draft.old.places }
+    requires reached { IsReached (K.allows knowledge.now) program.now place.now }
+    requires keys { AreReachedKeys (K.allows knowledge.now) program.now draft.old.places }
+    ensures keys { OnOk result (AreReachedKeys (K.allows knowledge.now) program.now draft.new.places) }
+
+    // Places of modules that are asked earlier are not added.
+    ensures apart { (key : PlaceKey) → DiffersFrom key draft.old.places → IsBefore (rest_at program.now key) (rest_of program.now place.now)
+        → OnOk result (DiffersFrom key draft.new.places) }
+    ensures reason { IfErr result (IsReason limit (K.allows knowledge.now) program.now) }
     ensures built { OnOk result (IsBuilt (K.allows knowledge.now) program.now draft.new.nodes.items draft.new.places) }
     ensures extended { OnOk result (IsExtended draft.old.nodes.items draft.new.nodes.items) }
     ensures above { (low : ℕ) → AsksRise low (modules_of program.now) (rest_of program.now place.now)
@@ -100,7 +114,8 @@ pub(crate) fn target_of<K: Knowledge>(
 }
 
 impl Graph {
-    /// The graph of the runs that a knowledge allows.
+    /// The graph of the runs that a knowledge allows. Returns `TooManyNodes` if the runs come to more places than `MAX_NODES`,
+    /// and `Memory` if allocation fails.
     pub fn of<K: Knowledge>(
         alloc: Global,
         program: &Program,
@@ -112,6 +127,7 @@ impl Graph {
         // The same for the tree of the program's stack.
         ensures stack { (items : Items) → runs_of program.now ≡ runs_of_stack items → IfOk result (λ graph.
             IsListing (K.allows knowledge.now) (modules_of program.now) (path_through items) (walks graph)) }
+        ensures reason { IfErr result (IsReason MAX_NODES (K.allows knowledge.now) program.now) }
     {
         Graph::of_at_most(alloc, program, knowledge, MAX_NODES)
     }
@@ -127,6 +143,7 @@ impl Graph {
             IsListing (K.allows knowledge.now) (modules_of program.now) (path_of (runs_of program.now)) (walks graph)) }
         ensures stack { (items : Items) → runs_of program.now ≡ runs_of_stack items → IfOk result (λ graph.
             IsListing (K.allows knowledge.now) (modules_of program.now) (path_through items) (walks graph)) }
+        ensures reason { IfErr result (IsReason limit (K.allows knowledge.now) program.now) }
     {
         let mut draft = Draft {
             nodes: Vec::new(alloc),

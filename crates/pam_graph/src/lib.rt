@@ -7,6 +7,7 @@ mod error;
 mod frames;
 mod goal;
 mod graph;
+pub mod laws;
 mod node;
 mod tally;
 mod walks;

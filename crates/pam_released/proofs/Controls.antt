@@ -45,7 +45,8 @@ parts_of a b c rest ps h =
             | true ↦ λ k l. elim (action_named c) as (λ (r : Result Action ControlError). action_named c ≡ r →
                 (r >>= λ x. with_front (s, x) (pairs_of rest)) ≡ Ok ps → Parts a b c rest ps) [
                   | Err e ↦ λ m n. absurd (cc)
-                  | Ok x ↦ λ m n. elim (pairs_of rest) as (λ (r : Result Pairs ControlError). pairs_of rest ≡ r → with_front (s, x) r ≡ Ok ps → Parts a b c rest ps) [
+                  | Ok x ↦ λ m n. elim (pairs_of rest) as (λ (r : Result Pairs ControlError). pairs_of rest ≡ r → with_front (s, x) r ≡ Ok ps →
+                      Parts a b c rest ps) [
                     | Err e ↦ λ o p. absurd (cc)
                     | Ok qs ↦ λ o p. record {
                       subject = s;

@@ -2,13 +2,17 @@ pub mod Buffer
 pub mod ControlNames
 pub mod ControlTokens
 pub mod Controls
+pub mod FileOrder
 pub mod Insides
 pub mod LineFacts
+pub mod LineNumbers
 pub mod LineTests
 pub mod Lines152
 pub mod Lines170
 pub mod Manual
+pub mod Order
 pub mod Pushing
+pub mod RowLemmas
 pub mod RuleLines
 pub mod RuleReadings
 pub mod RuleSteps

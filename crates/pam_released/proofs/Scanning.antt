@@ -1,5 +1,6 @@
 -- What a scan of bytes finds, in the words of the definitions.
-use Rattle.std.proofs.Common.{◌≡◌, ◌<◌, ◌≤◌, ◌+◌, ◌&&◌, ◌||◌, ◌++◌, ◌∙◌, ℕ, Bool, true, false, not, List, [], ◌∷◌, take, drop, length, cond, eqb, ap, sym, refl, arith, add-one, one-add, append_assoc, drop-cons, get_or}
+use Rattle.std.proofs.Common.{◌≡◌, ◌<◌, ◌≤◌, ◌+◌, ◌&&◌, ◌||◌, ◌++◌, ◌∙◌, ℕ, Bool, true, false, not, List, [], ◌∷◌, take, drop, length, cond, eqb, ap, sym}
+use Rattle.std.proofs.Common.{refl, arith, add-one, one-add, append_assoc, drop-cons, get_or}
 use Rattle.std.specs.List.{list_all, list_any, onto_first, prefix_len}
 use Rattle.std.proofs.lemmas.Bool.{and_parts, or_parts, eq-eqb}
 use Rattle.std.proofs.lemmas.List.{drop_all}
@@ -7,7 +8,8 @@ use Rattle.pam_codes.specs.Tokens.{is_blank}
 use Rattle.pam_conf.specs.Words.{State, Between, Plain, Bracket}
 use Rattle.pam_released.specs.Bracket.{after, begins_in_blank, part, state_after}
 use Rattle.pam_released.specs.Findings.{after_last_slash, before_last_dot, ends_in_blank}
-use Rattle.pam_released.specs.Lines.{before_hash, ends_in_backslash, front_part, goes_on, has_hash, is_space_or_tab, last_is_space, physical_lines, without_end_blanks}
+use Rattle.pam_released.specs.Lines.{before_hash, ends_in_backslash, front_part, goes_on, has_hash, is_space_or_tab, last_is_space, physical_lines}
+use Rattle.pam_released.specs.Lines.{without_end_blanks}
 use Rattle.pam_released.specs.NextState.{next_state}
 
 -- LINES

@@ -106,18 +106,21 @@ none_otherwise n used state [] h = refl
 none_otherwise n used state (line ∷ []) h =
     let (q, rest) = quiet_line n used state line [] h in
     or_none (has_return line || has_backslash_blank line || has_backslash_comment line) (goes_on line)
-    (or_none (has_return line || has_backslash_blank line) (has_backslash_comment line) (or_none (has_return line) (has_backslash_blank line) q.return q.blank) q.comment)
+    (or_none (has_return line || has_backslash_blank line) (has_backslash_comment line)
+        (or_none (has_return line) (has_backslash_blank line) q.return q.blank) q.comment)
     (and_true (goes_on line) q.ends)
 none_otherwise n used state (line ∷ next ∷ lines) h =
     let (q, rest) = quiet_line n used state line (next ∷ lines) h in
     or_none (has_return line || has_backslash_blank line || has_backslash_comment line || goes_on_over_blank line (next ∷ lines))
     (is_line_read_otherwise (next ∷ lines))
     (or_none (has_return line || has_backslash_blank line || has_backslash_comment line) (goes_on_over_blank line (next ∷ lines))
-    (or_none (has_return line || has_backslash_blank line) (has_backslash_comment line) (or_none (has_return line) (has_backslash_blank line) q.return q.blank) q.comment)
+    (or_none (has_return line || has_backslash_blank line) (has_backslash_comment line)
+        (or_none (has_return line) (has_backslash_blank line) q.return q.blank) q.comment)
     q.over)
     (none_otherwise (n + 1) (used_after used line) (state_after state line) (next ∷ lines) rest)
 
-short_line : (used : ℕ) (line : List ℕ) → used ≤ 1023 → is_cut used line ≡ false → (nat_lt 1023 (used + length line + 1) ≡ false) × (used_after used line ≤ 1023)
+short_line : (used : ℕ) (line : List ℕ) → used ≤ 1023 → is_cut used line ≡ false →
+    (nat_lt 1023 (used + length line + 1) ≡ false) × (used_after used line ≤ 1023)
 short_line used line low h =
     let room : nat_lt used 1024 ≡ true = lt-ltb used 1024 (omega (arith, low)) in
     let fits : nat_lt 1023 (used + length line + 1) ≡ false = ap (λ (t : Bool). t && nat_lt 1023 (used + length line + 1)) (sym room) ∙ h in

@@ -1,6 +1,7 @@
 pub mod Bracket
 pub mod Buffer
 pub mod Control
+pub mod FindingLaws
 pub mod Findings
 pub mod Laws
 pub mod Lines

@@ -1,20 +1,21 @@
-use Rattle.std.proofs.Common.{ℕ, List, Option, Some, None, ◌≡◌, ◌∙◌, ap, sym, slice_index_or}
-use Rattle.std.specs.Prelude.{IfSome}
-use Rattle.pam_dispatch.specs.declared.flat_item.FlatItem.{FlatItem}
+use Rattle.std.proofs.Common.{◌≡◌, ◌∙◌, List, ap, subst, sym}
+use Rattle.std.specs.Prelude.{IfNone, IfSome, Some, slice_get}
 use Rattle.pam_dispatch.specs.declared.key.PlaceKey.{PlaceKey}
-use Rattle.pam_dispatch.specs.declared.place.Place.{Place}
-use Rattle.pam_dispatch.specs.Flat.{rest_of}
-use Rattle.pam_dispatch.specs.Keys.{rest_at}
-use Rattle.pam_dispatch.specs.Runs.{Runs}
+use Rattle.pam_dispatch.specs.Keys.{DiffersFrom, rest_at}
+use Rattle.pam_dispatch.proofs.Keys.{found-at, none-differs}
 use Rattle.pam_dispatch.proofs.place_table.PlaceTable.find.Goals as goal
 
--- what is at a key goes on as the place of the key
-found : (program : List FlatItem) (other key : PlaceKey) (keys own : List PlaceKey) (rest : Runs) (r : Option ℕ) → keys ≡ own →
-    IfSome r (λ i. slice_index_or keys i other ≡ key) → rest_at program key ≡ rest → IfSome r (λ i. rest_at program (slice_index_or own i other) ≡ rest)
-found program other key keys own rest None e h is = tt
-found program other key keys own rest (Some i) e h is =
-    ap (λ (x : List PlaceKey). rest_at program (slice_index_or x i other)) (sym e) ∙ ap (rest_at program) h ∙ is
+pub returns-clause-found : goal.returns-clause-found
+returns-clause-found c =
+    subst (λ (k : PlaceKey). IfSome c.get_index_of.result (λ index. slice_get c.args.self.now index ≡ Some k)) c.key.ensures.key
+    (subst (λ (ks : List PlaceKey). IfSome c.get_index_of.result (λ index. slice_get ks index ≡ Some c.key.result)) c.self.view_is
+    (found-at c.get_index_of.result c.key.result c.self.inside.keys.keys c.get_index_of.ensures.index))
 
-pub returns-in-Some-clause-same : goal.returns-in-Some-clause-same
-returns-in-Some-clause-same c program other =
-    found program other c.key-key.result c.deref.result.now c.args.self.now _ c.checked.result (c.deref.ensures.value ∙ c.self.view_is) (c.checked.ensures.is other) (c.key-key.ensures program)
+pub returns-clause-none : goal.returns-clause-none
+returns-clause-none c =
+    subst (λ (k : PlaceKey). IfNone c.get_index_of.result (DiffersFrom k c.args.self.now)) c.key.ensures.key
+    (subst (λ (ks : List PlaceKey). IfNone c.get_index_of.result (DiffersFrom c.key.result ks)) c.self.view_is
+    (none-differs c.get_index_of.result c.key.result c.self.inside.keys.keys c.get_index_of.ensures.found))
+
+pub returns-clause-rest : goal.returns-clause-rest
+returns-clause-rest c program = ap (rest_at program) (sym c.key.ensures.key) ∙ c.key.ensures.rest program

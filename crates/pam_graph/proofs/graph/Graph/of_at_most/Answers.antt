@@ -1,5 +1,6 @@
-use Rattle.std.proofs.Common.{◌∙◌, ap, arith, subst, sym}
+use Rattle.std.proofs.Common.{◌∙◌, [], ap, arith, subst, sym}
 use Rattle.pam_dispatch.specs.Flat.{modules_of, runs_of}
+use Rattle.pam_graph.specs.Reached.{AreAllowed, AreReachedKeys, after_answers}
 use Rattle.pam_graph.proofs.Growing.{built-empty}
 use Rattle.pam_paths.specs.Computed.{listing}
 use Rattle.pam_paths.specs.Listing.{IsListing}
@@ -24,3 +25,12 @@ returns-clause-listing g c =
 
 pub returns-clause-stack : goal.returns-clause-stack
 returns-clause-stack g c items is = listing-tree _ _ _ items is _ (returns-clause-listing g c)
+
+pub target_of-requires-clause-reached : goal.target_of-requires-clause-reached
+unfolding AreAllowed after_answers
+target_of-requires-clause-reached g c = ([], tt, c.first-first.ensures.whole)
+
+pub target_of-requires-clause-keys : goal.target_of-requires-clause-keys
+unfolding AreReachedKeys
+target_of-requires-clause-keys g c =
+    subst (AreReachedKeys (g.K.Knowledge.allows c.args.knowledge.now) c.args.program.now) (sym c.new-2.ensures) tt
