@@ -7,14 +7,13 @@ ghost use Rattle.pam_conf.specs.Stack.{module_count};
 ghost use Rattle.pam_graph.specs.Walks.{walks};
 ghost use Rattle.pam_known.specs.Knowledge.{Agree};
 ghost use Rattle.pam_paths.specs.Known.{may_answer};
-ghost use Rattle.pam_paths.specs.Listing.{Allowance, IsListing};
-ghost use Rattle.pam_paths.specs.Paths.{PathValue, path_through};
+ghost use Rattle.pam_paths.specs.Listing.{Allowance};
 ghost use Rattle.pam_paths.specs.Steps.{step_seen};
 ghost use Rattle.pam_report.specs.Answer.{stack_at};
 ghost use Rattle.pam_report.specs.Header.{header_text};
 ghost use Rattle.pam_report.specs.Leaves.{LeavesSome};
 ghost use Rattle.pam_report.specs.Memory.{WantsOnly, WantsWork, of_paths, paths_tables};
-ghost use Rattle.pam_report.specs.OutcomeViews.{AreOutcomes, as_list, outcome_view};
+ghost use Rattle.pam_report.specs.OutcomeViews.{AreOutcomes, FindsOutcomes, as_list, outcome_view};
 ghost use Rattle.pam_report.specs.Outcomes.{IsOutcomes, IsOutcomesOf, count_text, named_step, named_steps, next_step};
 ghost use Rattle.pam_report.specs.Outcomes.{outcome_among, outcome_line, total_line};
 
@@ -98,14 +97,24 @@ fn outcomes_of(alloc: Global, graph: &Graph) -> Result<Outcomes, GraphError>
     Ok(Outcomes { found, total })
 }
 
-/// Returns the outcomes of a stack, if its modules return the codes that are known.
-fn stack_outcomes(alloc: Global, stack: &Stack, known: &Known) -> Result<Outcomes, GraphError>
-    ensures { IfOk result (λ o. (paths : List PathValue)
-        × IsListing (may_answer known.now) (module_count stack.now) (path_through stack.now) paths × AreOutcomes o paths) }
+/// Returns the outcomes of a stack, if its modules return the codes that are known. Returns `TooManyStates` if the graph of
+/// the run would have too many nodes.
+fn stack_outcomes(alloc: Global, stack: &Stack, known: &Known) -> Result<Outcomes, Fault>
+    ensures { FindsOutcomes (may_answer known.now) stack.now result }
 {
-    let program = Program::of(alloc, stack)?;
-    let graph = Graph::of(alloc, &program, known)?;
-    outcomes_of(alloc, &graph)
+    let program = match Program::of(alloc, stack) {
+        Ok(program) => program,
+        Err(_) => return Err(Fault::Memory),
+    };
+    let graph = match Graph::of(alloc, &program, known) {
+        Ok(graph) => graph,
+        Err(GraphError::Memory) => return Err(Fault::Memory),
+        Err(GraphError::TooManyNodes) => return Err(Fault::TooManyStates),
+    };
+    match outcomes_of(alloc, &graph) {
+        Ok(outcomes) => Ok(outcomes),
+        Err(_) => Err(Fault::Memory),
+    }
 }
 
 /// Writes a number, or 2^128 with a plus for one that is not below it.
@@ -233,8 +242,7 @@ fn answer_known<W: Write>(
 {
     let outcomes = match stack_outcomes(alloc, &found.stack, &found.known) {
         Ok(outcomes) => outcomes,
-        Err(GraphError::Memory) => return Err(Fault::Memory),
-        Err(GraphError::TooManyNodes) => return Err(Fault::TooManyStates),
+        Err(fault) => return Err(fault),
     };
     match write_outcomes(request, &found.stack, &outcomes, out) {
         Ok(()) => Ok(Status::Success),
