@@ -35,23 +35,19 @@ def listed(paths):
 class Places:
     """The places that were looked at, each with the outcomes from there on; steps are linked, the first with the rest.
 
-    A place is the module that is asked, the state, and the entry state of each open list in which a reset is left: the
-    rest of a run depends on nothing else."""
+    A place is the module that is asked, the state, and the entry state of each open list: the rest of a run depends on
+    nothing else."""
 
     def __init__(self, allowed):
         self.allowed = allowed
         self.known = {}
-        # By the number of a module, the levels of the lists that are open there and have a reset left.
-        self.levels = {}
 
     def outcomes(self, lists, state):
         """The outcomes from a place on."""
         module, lists = stacks.next_module(lists, state)
         if module is None:
             return {lists: (1, None)}
-        if module.number not in self.levels:
-            self.levels[module.number] = [level for level in range(len(lists)) if has_reset_left(module, lists, level)]
-        place = module.number, state, tuple(lists[level][1] for level in self.levels[module.number])
+        place = module.number, state, tuple(entered for _, entered in lists)
         if place not in self.known:
             found = self.found(module, lists, state)
             if len(self.known) == MOST_PLACES:
@@ -68,12 +64,6 @@ class Places:
                     count, first = found.get(decision, (0, ((module.number, codes), rest)))
                     found[decision] = count + more, first
         return found
-
-
-def has_reset_left(module, lists, level):
-    """Whether a reset is left in an open list: some module of its own, that is asked now or later, takes that action."""
-    own = [module] * (level == len(lists) - 1) + [item for item in lists[level][0] if isinstance(item, stacks.Module)]
-    return any(b"reset" in item.control for item in own)
 
 
 def unlinked(steps):

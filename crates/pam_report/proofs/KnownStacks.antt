@@ -1,12 +1,16 @@
 -- What is written about a known stack, from the contract of the call that finds it.
 use Rattle.std.proofs.Common.{◌≡◌, ℕ, List, Option, Result, Ok, Err, refl, subst, sym}
+use Rattle.std.specs.Prelude.{IfErr, is_some}
+use Rattle.jiff.specs.Types.{DateTime}
 use Rattle.pam_codes.specs.Out.{Out}
 use Rattle.pam_conf.specs.Stack.{Items, module_count}
 use Rattle.pam_conf.specs.declared.conf_error.ConfError.{ConfError}
 use Rattle.pam_conf.specs.declared.error.FaultKind.{FaultKind}
 use Rattle.pam_conf.specs.declared.error.FaultKind.TheVariants as conf
+use Rattle.pam_conf.specs.declared.rule.Kind.{Kind}
 use Rattle.pam_known.specs.Answers.{IsFault, IsTableFault as IsFaultOfTable, IsTimeFault as IsFaultOfTime}
 use Rattle.pam_known.specs.Knowledge.{Agree, Knows, allows_codes}
+use Rattle.pam_known.specs.Reads.{tables_read}
 use Rattle.pam_known.specs.declared.error.KnownError.{KnownError}
 use Rattle.pam_known.specs.declared.error.KnownError.TheVariants as known
 use Rattle.pam_paths.specs.Known.{may_answer}
@@ -19,12 +23,16 @@ use Rattle.pam_times.specs.declared.error.TimeError.{TimeError}
 use Rattle.pam_times.specs.declared.error.TimeFault.{TimeFault}
 use Rattle.pam_times.specs.declared.error.TimeFault.TheVariants as times
 use Rattle.pam_report.specs.Fault.{known_fault}
-use Rattle.pam_report.specs.Known.{AreCodesOf, FindsKnown, IsErrOf, IsFaultOf}
+use Rattle.pam_report.proofs.Wanting.{wanted-given}
+use Rattle.pam_report.specs.Inputs.{tables_given}
+use Rattle.pam_report.specs.Known.{AreCodesOf, FindsKnown, IsErrOf, IsFaultOf, IsFaultOfRead}
 use Rattle.pam_report.specs.KnownStack.{IsAnswerFrom, KnownItems, known_items}
 use Rattle.pam_report.specs.Leaves.{IsConfFault, IsTableFault, IsTimeFault, LeavesFault, LeavesSome}
+use Rattle.pam_report.specs.Memory.{IsWanting, of_paths, paths_tables}
 use Rattle.pam_report.specs.Report.{Answer}
 use Rattle.pam_report.specs.declared.fault.Fault.{Fault}
 use Rattle.pam_report.specs.declared.fault.Fault.TheVariants as faults
+use Rattle.pam_report.specs.declared.inputs.Inputs.{Inputs}
 use Rattle.pam_report.specs.declared.report.Status.{Status}
 
 -- ---- what the tables tell
@@ -59,6 +67,15 @@ finds-ok items told found h = record {
   told_is = subst (λ (t : Result (ℕ → List ℕ) KnownError). known_items items t ≡ Ok (record { items = items; codes = h.0 })) (sym h.1) refl;
   agree = h.2;
 }
+
+-- ---- want of memory
+
+pub wants-read : (kind : Kind) (inputs : Inputs) (moment : Option DateTime) (items : Items) (result : Result Known Fault)
+    → IfErr result (IsFaultOfRead (tables_read kind (tables_given inputs moment) items))
+    → IfErr result (IsWanting (of_paths (paths_tables (is_some moment) inputs)))
+wants-read kind inputs moment items (Ok found) h = tt
+wants-read kind inputs moment items (Err fault) h =
+    subst (λ (f : Fault). IsWanting (of_paths (paths_tables (is_some moment) inputs)) f) (sym h.1) (wanted-given kind inputs moment items h.0 h.2)
 
 -- ---- what is written
 

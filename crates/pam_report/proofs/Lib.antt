@@ -2,6 +2,7 @@ pub mod Civil
 pub mod FlatTexts
 pub mod ItemTexts
 pub mod KnownStacks
+pub mod OutcomeTexts
 pub mod PageParts
 pub mod PageTexts
 pub mod ShowTexts

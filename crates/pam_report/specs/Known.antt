@@ -2,8 +2,11 @@
 use Rattle.std.specs.Prelude.{◌≡◌, ⊤, ℕ, List, Result, Ok, Err}
 use Rattle.pam_conf.specs.Stack.{Items, module_count}
 use Rattle.pam_known.specs.Knowledge.{Agree, allows_codes}
+use Rattle.pam_known.specs.Reads.{IsOfRead, TablesRead}
+use Rattle.pam_known.specs.declared.error.KnownError.{KnownError}
 use Rattle.pam_paths.specs.Known.{may_answer}
 use Rattle.pam_paths.specs.declared.knowledge.Known.{Known}
+use Rattle.pam_report.specs.Fault.{known_fault}
 use Rattle.pam_report.specs.KnownStack.{KnownItems}
 use Rattle.pam_report.specs.Leaves.{IsConfFault, IsTableFault, IsTimeFault}
 use Rattle.pam_report.specs.Report.{Answer}
@@ -38,3 +41,7 @@ FindsKnown items (Err fault) told = IsFaultOf told fault
 abbrev pub FindsStack : Result KnownStack Fault → Result KnownItems Fault → Type 0
 FindsStack (Ok found) told = AreCodesOf found.stack found.known told
 FindsStack (Err fault) told = IsFaultOf told fault
+
+-- a fault is of a table that is read
+abbrev pub IsFaultOfRead : TablesRead → Fault → Type 0
+IsFaultOfRead read fault = (e : KnownError) × (fault ≡ known_fault e) × IsOfRead read e

@@ -4,8 +4,11 @@ ghost use Rattle.std.specs.Prelude.{◌≡◌, IfErr, is_some};
 ghost use Rattle.jiff.specs.Types.{DateTime as CivilTime};
 ghost use Rattle.pam_conf.specs.Resolution.{resolved};
 ghost use Rattle.pam_report.specs.Answer.{login_at};
-ghost use Rattle.pam_report.specs.Known.{FindsKnown, FindsStack};
-ghost use Rattle.pam_report.specs.KnownStack.{known_at as stack_at, known_stack as stack_known, known_then as stack_then};
+ghost use Rattle.pam_known.specs.Knowledge.{knowledge};
+ghost use Rattle.pam_known.specs.Reads.{tables_read};
+ghost use Rattle.pam_known.specs.Tables.{tables_view};
+ghost use Rattle.pam_report.specs.Known.{FindsKnown, FindsStack, IsFaultOfRead};
+ghost use Rattle.pam_report.specs.KnownStack.{known_at as stack_at, known_items, known_stack as stack_known, known_then as stack_then};
 ghost use Rattle.pam_report.specs.Memory.{IsWanting, of_paths, paths_tables};
 ghost use Rattle.pam_tables.specs.Login.{login_view};
 
@@ -14,7 +17,7 @@ use crate::fault::{Fault, known_fault};
 use crate::inputs::{Inputs, tables_given};
 use jiff::civil::DateTime;
 use pam_conf::{Files, Kind, Stack, resolve};
-use pam_known::known_answers;
+use pam_known::{Tables, known_answers};
 use pam_paths::Known;
 use pam_tables::Login as TableLogin;
 use pam_times::MomentError;
@@ -36,6 +39,23 @@ pub(super) struct KnownStack {
     pub known: Known,
 }
 
+/// Returns the codes that the modules of a stack may return, from these tables.
+fn known_by(
+    alloc: Global,
+    kind: Kind,
+    login: &TableLogin<'_>,
+    stack: &Stack,
+    tables: &Tables<'_>,
+) -> Result<Known, Fault>
+    ensures known { FindsKnown stack.now result (known_items stack.now (knowledge kind (login_view login.now) (tables_view tables.now) stack.now)) }
+    ensures read { IfErr result (IsFaultOfRead (tables_read kind (tables_view tables.now) stack.now)) }
+{
+    match known_answers(alloc, stack, kind, login, tables) {
+        Ok(known) => Ok(known),
+        Err(error) => Err(known_fault(error)),
+    }
+}
+
 /// Returns the codes that the modules of a stack may return at a moment.
 fn known_at(
     alloc: Global,
@@ -49,10 +69,7 @@ fn known_at(
     ensures wants { IfErr result (IsWanting (of_paths (paths_tables (is_some moment) inputs.now))) }
 {
     let tables = tables_given(inputs, moment);
-    match known_answers(alloc, stack, kind, login, &tables) {
-        Ok(known) => Ok(known),
-        Err(error) => Err(known_fault(error)),
-    }
+    known_by(alloc, kind, login, stack, &tables)
 }
 
 /// Like `known_at`, for a moment that may be missing or invalid.

@@ -1,29 +1,23 @@
-use Rattle.std.proofs.Common.{◌∙◌, ap, subst, sym}
-use Rattle.std.specs.Prelude.{is_some}
-use Rattle.pam_conf.specs.Stack.{module_count}
-use Rattle.pam_known.specs.Answers.{IsFault}
-use Rattle.pam_known.specs.Knowledge.{Knows, knowledge}
-use Rattle.pam_known.specs.Reads.{IsOfRead, tables_read}
+use Rattle.std.proofs.Common.{Result, subst}
+use Rattle.std.specs.Prelude.{IfErr, is_some}
+use Rattle.pam_known.specs.Knowledge.{knowledge}
+use Rattle.pam_known.specs.Reads.{tables_read}
 use Rattle.pam_known.specs.Tables.{TablesText}
 use Rattle.pam_tables.specs.Login.{login_view}
-use Rattle.pam_report.proofs.KnownStacks.{finds-err, finds-ok}
 use Rattle.pam_report.proofs.Wanting.{wanted-given}
+use Rattle.pam_report.proofs.KnownStacks.{wants-read}
+use Rattle.pam_report.specs.Known.{FindsKnown, IsFaultOfRead}
 use Rattle.pam_report.specs.KnownStack.{known_items}
-use Rattle.pam_report.specs.Memory.{IsWanting, of_paths, paths_tables}
-use Rattle.pam_report.specs.declared.fault.Fault.{Fault}
 use Rattle.pam_report.proofs.report.known_stack.known_at.Goals as goal
 
-pub returns-in-Ok-clause-known : goal.returns-in-Ok-clause-known
-returns-in-Ok-clause-known c = ?
+pub returns-clause-known : goal.returns-clause-known
+returns-clause-known c =
+    let items = c.args.stack.now in
+    subst (λ (t : TablesText). FindsKnown items c.known_by.result (known_items items (knowledge c.args.kind (login_view c.args.login.now) t items)))
+    c.tables_given-tables.ensures c.known_by.ensures.known
 
-pub returns-in-Err-clause-known : goal.returns-in-Err-clause-known
-returns-in-Err-clause-known c = ?
-
-pub returns-in-Err-clause-wants : goal.returns-in-Err-clause-wants
-returns-in-Err-clause-wants c =
-    let e = c.in-Err.error in
-    let kind = c.args.kind in
-    let inputs = c.args.inputs.now in
-    let read = subst (λ (t : TablesText). IsOfRead (tables_read kind t c.args.stack.now) e) c.tables_given-tables.ensures c.in-Err.ensures.read in
-    subst (λ (fault : Fault). IsWanting (of_paths (paths_tables (is_some c.args.moment) inputs)) fault) (sym c.known_fault.ensures)
-    (wanted-given kind inputs c.args.moment c.args.stack.now e read)
+pub returns-clause-wants : goal.returns-clause-wants
+returns-clause-wants c =
+    wants-read c.args.kind c.args.inputs.now c.args.moment c.args.stack.now c.known_by.result
+    (subst (λ (t : TablesText). IfErr c.known_by.result (IsFaultOfRead (tables_read c.args.kind t c.args.stack.now)))
+    c.tables_given-tables.ensures c.known_by.ensures.read)

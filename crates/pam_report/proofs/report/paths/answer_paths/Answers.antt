@@ -1,9 +1,13 @@
 use Rattle.std.proofs.Common.{refl}
 use Rattle.pam_report.proofs.KnownStacks.{answer-leaves, fault-leaves}
+use Rattle.pam_report.specs.PageView.{page_view}
+use Rattle.pam_report.specs.Paths.{IsPageOf}
 use Rattle.pam_report.proofs.report.paths.answer_paths.Goals as goal
 
 pub returns-in-Ok-clause-answer : goal.returns-in-Ok-clause-answer
-returns-in-Ok-clause-answer g c = answer-leaves _ _ _ _ _ _ _ _ c.in-Ok.ensures.stack c.answer_known.ensures.answer
+returns-in-Ok-clause-answer g c =
+    answer-leaves g.W.Write.contents _ _ (IsPageOf (page_view c.args.request.now)) _ _ _ _ c.in-Ok.ensures.stack c.answer_known.ensures.answer
 
 pub returns-in-Err-clause-answer : goal.returns-in-Err-clause-answer
-returns-in-Err-clause-answer g c = fault-leaves _ _ _ _ _ _ c.in-Err.ensures.stack refl
+returns-in-Err-clause-answer g c =
+    fault-leaves g.W.Write.contents _ _ (IsPageOf (page_view c.args.request.now)) _ _ c.in-Err.ensures.stack refl
