@@ -1,5 +1,6 @@
 -- Graphs to which nodes are added.
-use Rattle.std.proofs.Common.{◌≡◌, ℕ, ◌+◌, ◌-◌, ◌<◌, ◌≤◌, List, [], ◌∷◌, ◌++◌, map, refl, sym, ◌∙◌, ap, subst, arith, append_assoc, append-nil, length, slice_index_or, Result, Ok, Err, None, Some}
+use Rattle.std.proofs.Common.{◌≡◌, ℕ, ◌+◌, ◌-◌, ◌<◌, ◌≤◌, List, [], ◌∷◌, ◌++◌, map, refl, sym}
+use Rattle.std.proofs.Common.{◌∙◌, ap, subst, arith, append_assoc, append-nil, length, slice_index_or, Result, Ok, Err, None, Some}
 use Rattle.std.specs.Prelude.{IfOk, OnOk}
 use Rattle.std.proofs.lemmas.List.{flat_map_more, length-append, length-map, map-append, get_or-map}
 use Rattle.std.proofs.Math.ListN.{get_or-append}
@@ -197,7 +198,8 @@ module _ (allows : Allowance) (program : List FlatItem) where
       paths_from allows program fork bound ≡ paths_by allows program fork.module_number choice ++ paths_from allows program fork choice.next →
       walks_to (walks_of new) target ≡ listing allows (rest_of program choice.place) →
       flat_map (walks_by (walks_of old) number) edges ++ paths_from allows program fork bound ≡ all →
-      flat_map (walks_by (walks_of new) number) (edges ++ record { class = choice.class; target = target } ∷ []) ++ paths_from allows program fork choice.next ≡ all
+      flat_map (walks_by (walks_of new) number)
+          (edges ++ record { class = choice.class; target = target } ∷ []) ++ paths_from allows program fork choice.next ≡ all
   walks-choice fork bound number old new edges choice target all ext within numbered paths walks is =
       let edge : Edge = record { class = choice.class; target = target } in
       let after : List PathValue = paths_from allows program fork choice.next in
