@@ -65,9 +65,11 @@ pub AreNodes-push : (before : List ℕ) (nodes : List Node) (node : Node) → Ar
     AreNodes before (nodes ++ node ∷ [])
 unfolding AreNodes
 AreNodes-push before [] node h k = (subst (λ (x : List ℕ). IsNode x node) (append-nil before) k, tt)
-AreNodes-push before (x ∷ nodes) node h k =
-    (h.0, AreNodes-push (before ++ x.module_number ∷ []) nodes node h.1
-    (subst (λ (y : List ℕ). IsNode y node) (sym (append_assoc before (x.module_number ∷ []) (numbers_of nodes))) k))
+AreNodes-push before (x ∷ nodes) node h k = (
+  h.0,
+  AreNodes-push (before ++ x.module_number ∷ []) nodes node h.1
+      (subst (λ (y : List ℕ). IsNode y node) (sym (append_assoc before (x.module_number ∷ []) (numbers_of nodes))) k),
+)
 
 -- ADDED NODES
 
@@ -199,7 +201,7 @@ module _ (allows : Allowance) (program : List FlatItem) where
       walks_to (walks_of new) target ≡ listing allows (rest_of program choice.place) →
       flat_map (walks_by (walks_of old) number) edges ++ paths_from allows program fork bound ≡ all →
       flat_map (walks_by (walks_of new) number)
-          (edges ++ record { class = choice.class; target = target } ∷ []) ++ paths_from allows program fork choice.next ≡ all
+      (edges ++ record { class = choice.class; target = target } ∷ []) ++ paths_from allows program fork choice.next ≡ all
   walks-choice fork bound number old new edges choice target all ext within numbered paths walks is =
       let edge : Edge = record { class = choice.class; target = target } in
       let after : List PathValue = paths_from allows program fork choice.next in
