@@ -1,5 +1,5 @@
 -- The keys of places.
-use Rattle.std.proofs.Common.{◌≡◌, ◌≢◌, ℕ, ◌+◌, ◌-◌, ◌<◌, ◌≤◌, Bool, true, false, ◌&&◌, ◌||◌, eqb, List, [], ◌∷◌, ◌++◌, refl, sym, ◌∙◌, ap, subst, arith}
+use Rattle.std.proofs.Common.{◌≡◌, ◌≢◌, ℕ, ◌+◌, ◌<◌, Bool, true, false, ◌&&◌, ◌||◌, eqb, List, [], ◌∷◌, refl, sym, ◌∙◌, ap, arith}
 use Rattle.std.proofs.Common.{None, Some, Option, cond, inl, inr, length, slice_get, suc}
 use Rattle.std.proofs.lemmas.Bool.{and_from, and_parts, cases_lt, cond-false, cond-true, eq-eqb, eqb-true, false≢true, le-ltb, lt-ltb}
 use Rattle.std.specs.List.{AllByRecursion, IsDistinct, list_any, position, position_or_len}
@@ -132,11 +132,11 @@ found-at None k ks h = tt
 found-at (Some i) k ks h =
     elim (cases_lt (position_or_len (same_key k) ks) (length ks)) [
       | inl l ↦
-      let is : Some i ≡ Some (position_or_len (same_key k) ks) =
-      h ∙ cond-true (nat_lt (position_or_len (same_key k) ks) (length ks)) _ _ (lt-ltb _ _ l) in
-      let same : i ≡ position_or_len (same_key k) ks = cc in
-      ap (slice_get ks) same ∙ first-at k ks l
+          let is : Some i ≡ Some (position_or_len (same_key k) ks) =
+          h ∙ cond-true (nat_lt (position_or_len (same_key k) ks) (length ks)) _ _ (lt-ltb _ _ l) in
+          let same : i ≡ position_or_len (same_key k) ks = cc in
+          ap (slice_get ks) same ∙ first-at k ks l
       | inr l ↦
-      let is : Some i ≡ None = h ∙ cond-false (nat_lt (position_or_len (same_key k) ks) (length ks)) _ _ (le-ltb _ _ l) in
-      absurd (let bad : ⊥ = cc in bad)
+          let is : Some i ≡ None = h ∙ cond-false (nat_lt (position_or_len (same_key k) ks) (length ks)) _ _ (le-ltb _ _ l) in
+          absurd (let bad : ⊥ = cc in bad)
     ]

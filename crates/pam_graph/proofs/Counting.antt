@@ -1,5 +1,6 @@
 -- The numbers of walks.
-use Rattle.std.proofs.Common.{◌≡◌, ℕ, ◌+◌, ◌<◌, ◌≤◌, ◌^◌, ◌==◌, Bool, true, false, ◌||◌, List, [], ◌∷◌, ◌++◌, Option, None, Some, map, cond, refl, sym, ◌∙◌, ap, arith}
+use Rattle.std.proofs.Common.{◌≡◌, ℕ, ◌+◌, ◌<◌, ◌≤◌, ◌^◌, ◌==◌, Bool, true, false, ◌||◌, List}
+use Rattle.std.proofs.Common.{[], ◌∷◌, ◌++◌, Option, None, Some, map, cond, refl, sym, ◌∙◌, ap, arith}
 use Rattle.std.proofs.Common.{append_assoc, append-nil, length, filter, inl, inr, subst}
 use Rattle.std.proofs.lemmas.Bool.{cases_lt, cond-false, cond-true, false≢true, le-ltb, lt-ltb}
 use Rattle.std.proofs.lemmas.List.{length-append, length-map, map-append}
@@ -17,7 +18,8 @@ use Rattle.pam_graph.specs.declared.node.Target.{Target}
 use Rattle.pam_graph.specs.declared.node.Target.TheVariants.{At, End}
 use Rattle.pam_graph.specs.declared.tally.Tally.{Tally}
 use Rattle.pam_graph.specs.Goals.{asks_module, fit, meets}
-use Rattle.pam_graph.specs.Tallies.{count_to, has_walks, met_at_end, met_by, number, plus, sum_from, tallies_of, tally_at, tally_by, tally_of, wanted, wanted_of}
+use Rattle.pam_graph.specs.Tallies.{count_to, has_walks, met_at_end, met_by, number, plus}
+use Rattle.pam_graph.specs.Tallies.{sum_from, tallies_of, tally_at, tally_by, tally_of, wanted, wanted_of}
 use Rattle.pam_graph.specs.Walks.{table, walks_at, walks_by, walks_of, walks_to}
 use Rattle.pam_graph.specs.Within.{IsWithin}
 use Rattle.pam_graph.proofs.Tables.{length-walks_of}

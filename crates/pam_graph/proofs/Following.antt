@@ -1,5 +1,6 @@
 -- The steps of a walk that is followed.
-use Rattle.std.proofs.Common.{◌≡◌, ℕ, ◌+◌, ◌-◌, ◌<◌, ◌≤◌, Bool, true, false, List, [], ◌∷◌, ◌++◌, map, refl, sym, ◌∙◌, ap, subst, arith, append-nil, length, take, IfNone, IfSome, None, Some, Option, slice_index_or, zero, suc}
+use Rattle.std.proofs.Common.{◌≡◌, ℕ, ◌+◌, ◌-◌, ◌<◌, ◌≤◌, Bool, true, false, List, [], ◌∷◌, ◌++◌, map, refl}
+use Rattle.std.proofs.Common.{sym, ◌∙◌, ap, subst, arith, append-nil, length, take, IfNone, IfSome, None, Some, Option, slice_index_or, zero, suc}
 use Rattle.std.proofs.lemmas.Bool.{false≢true}
 use Rattle.std.proofs.lemmas.List.{length-map, length-take, take-map, take-take, take_all}
 use Rattle.pam_conf.specs.declared.stack.TheConstants.{MAX_MODULES}

@@ -1,5 +1,6 @@
 -- Frames, and the walks that are ahead of them.
-use Rattle.std.proofs.Common.{◌≡◌, ℕ, ◌+◌, ◌<◌, ◌≤◌, Bool, true, false, ◌||◌, List, [], ◌∷◌, ◌++◌, map, cond, refl, sym, ◌∙◌, ap, subst, arith, append_assoc, append-nil, drop, length, slice_index_or}
+use Rattle.std.proofs.Common.{◌≡◌, ℕ, ◌+◌, ◌<◌, ◌≤◌, Bool, true, false, ◌||◌, List, [], ◌∷◌, ◌++◌}
+use Rattle.std.proofs.Common.{map, cond, refl, sym, ◌∙◌, ap, subst, arith, append_assoc, append-nil, drop, length, slice_index_or}
 use Rattle.std.proofs.lemmas.Bool.{false≢true}
 use Rattle.std.proofs.lemmas.List.{drop_all, map-append, get_or-map}
 use Rattle.pam_conf.specs.declared.stack.TheConstants.{MAX_MODULES}

@@ -1,5 +1,6 @@
 -- Graphs to which nodes are added.
-use Rattle.std.proofs.Common.{◌≡◌, ℕ, ◌+◌, ◌-◌, ◌<◌, ◌≤◌, List, [], ◌∷◌, ◌++◌, map, refl, sym, ◌∙◌, ap, subst, arith, append_assoc, append-nil, length, slice_index_or, Result, Ok, Err, None, Some}
+use Rattle.std.proofs.Common.{◌≡◌, ℕ, ◌+◌, ◌-◌, ◌<◌, ◌≤◌, List, [], ◌∷◌, ◌++◌, map, refl, sym}
+use Rattle.std.proofs.Common.{◌∙◌, ap, subst, arith, append_assoc, append-nil, length, slice_index_or, Result, Ok, Err, None, Some}
 use Rattle.std.specs.Prelude.{IfOk, OnOk}
 use Rattle.std.proofs.lemmas.List.{flat_map_more, length-append, length-map, map-append, get_or-map}
 use Rattle.std.proofs.Math.ListN.{get_or-append}
@@ -64,9 +65,11 @@ pub AreNodes-push : (before : List ℕ) (nodes : List Node) (node : Node) → Ar
     AreNodes before (nodes ++ node ∷ [])
 unfolding AreNodes
 AreNodes-push before [] node h k = (subst (λ (x : List ℕ). IsNode x node) (append-nil before) k, tt)
-AreNodes-push before (x ∷ nodes) node h k =
-    (h.0, AreNodes-push (before ++ x.module_number ∷ []) nodes node h.1
-    (subst (λ (y : List ℕ). IsNode y node) (sym (append_assoc before (x.module_number ∷ []) (numbers_of nodes))) k))
+AreNodes-push before (x ∷ nodes) node h k = (
+  h.0,
+  AreNodes-push (before ++ x.module_number ∷ []) nodes node h.1
+      (subst (λ (y : List ℕ). IsNode y node) (sym (append_assoc before (x.module_number ∷ []) (numbers_of nodes))) k),
+)
 
 -- ADDED NODES
 
@@ -197,7 +200,8 @@ module _ (allows : Allowance) (program : List FlatItem) where
       paths_from allows program fork bound ≡ paths_by allows program fork.module_number choice ++ paths_from allows program fork choice.next →
       walks_to (walks_of new) target ≡ listing allows (rest_of program choice.place) →
       flat_map (walks_by (walks_of old) number) edges ++ paths_from allows program fork bound ≡ all →
-      flat_map (walks_by (walks_of new) number) (edges ++ record { class = choice.class; target = target } ∷ []) ++ paths_from allows program fork choice.next ≡ all
+      flat_map (walks_by (walks_of new) number)
+      (edges ++ record { class = choice.class; target = target } ∷ []) ++ paths_from allows program fork choice.next ≡ all
   walks-choice fork bound number old new edges choice target all ext within numbered paths walks is =
       let edge : Edge = record { class = choice.class; target = target } in
       let after : List PathValue = paths_from allows program fork choice.next in

@@ -1,5 +1,6 @@
 -- The places to which the runs of a program come.
-use Rattle.std.proofs.Common.{◌≡◌, ◌≢◌, ℕ, ◌<◌, true, List, [], ◌∷◌, ◌++◌, Some, Result, Ok, Err, map, refl, sym, ◌∙◌, ap, subst, arith, length, slice_get, slice_index_or, suc, zero}
+use Rattle.std.proofs.Common.{◌≡◌, ◌≢◌, ℕ, ◌<◌, true, List, [], ◌∷◌, ◌++◌, Some, Result, Ok}
+use Rattle.std.proofs.Common.{Err, map, refl, sym, ◌∙◌, ap, subst, arith, length, slice_get, slice_index_or, suc, zero}
 use Rattle.std.proofs.lemmas.List.{map-append}
 use Rattle.std.specs.Prelude.{IfErr, IsSome, OnOk}
 use Rattle.pam_dispatch.specs.declared.flat_item.FlatItem.{FlatItem}
@@ -68,10 +69,11 @@ pub reached-on : (allows : Allowance) (program : List FlatItem) (m code : ℕ) (
     asked_module (rest_of program place) ≡ Some m → code < 31 → allows m code ≡ true → rest_of program after ≡ after_answer (rest_of program place) code →
     IsReached allows program after
 reached-on allows program m code place after h asked low may is =
-    let runs = runs_of program in
-    (h.0 ++ code ∷ [],
-    allowed-push allows m runs h.0 code h.1 (ap asked_module (sym h.2) ∙ asked) low may,
-    is ∙ ap (λ (r : Runs). after_answer r code) h.2 ∙ sym (answers-push runs h.0 code))
+    let runs = runs_of program in (
+      h.0 ++ code ∷ [],
+      allowed-push allows m runs h.0 code h.1 (ap asked_module (sym h.2) ∙ asked) low may,
+      is ∙ ap (λ (r : Runs). after_answer r code) h.2 ∙ sym (answers-push runs h.0 code),
+    )
 
 AreReachedKeys-push : (allows : Allowance) (program : List FlatItem) (keys : List PlaceKey) (key : PlaceKey) → AreReachedKeys allows program keys →
     IsReachedKey allows program key → AreReachedKeys allows program (keys ++ key ∷ [])

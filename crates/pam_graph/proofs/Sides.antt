@@ -1,7 +1,8 @@
 -- Edges and walks in the order of a direction.
 use Rattle.std.proofs.Common.{◌≡◌, ℕ, ◌+◌, ◌-◌, ◌<◌, Bool, true, false, ◌||◌, List, [], ◌∷◌, ◌++◌, map, reverse, cond, refl, sym, ◌∙◌, ap, subst, arith}
 use Rattle.std.proofs.Common.{append_assoc, append-nil, drop, filter, length, slice_index_or, take, zero, suc}
-use Rattle.std.proofs.lemmas.List.{drop_more, get_or-reverse, length-append, length-map, length-reverse, length-take-le, map-append, reverse-append, take-append-drop}
+use Rattle.std.proofs.lemmas.List.{drop_more, get_or-reverse, length-append, length-map}
+use Rattle.std.proofs.lemmas.List.{length-reverse, length-take-le, map-append, reverse-append, take-append-drop}
 use Rattle.std.proofs.lemmas.List.Elements.{filter-append}
 use Rattle.std.proofs.Math.ListN.{get_or-map}
 use Rattle.std.proofs.Math.Seq.{get_or-append_seam}
@@ -202,7 +203,8 @@ module _ (nodes : List Node) (order : AreNodes [] nodes) (i : ℕ) (node : Node)
 -- WANTED WALKS
 
 -- the first of some edges, and the others
-pub wanted-first : (goal : Goal) (before is_met : Bool) (known : List (List PathValue)) (m : ℕ) (e : Edge) (es : List Edge) → is_met ≡ (before || met_by goal m) →
+pub wanted-first : (goal : Goal) (before is_met : Bool) (known : List (List PathValue)) (m : ℕ) (e : Edge) (es : List Edge) → is_met ≡
+    (before || met_by goal m) →
     wanted_by goal before known m (e ∷ es)
     ≡ map (after_step (record { module_number = m; class = e.class })) (wanted_of goal is_met (walks_to known e.target)) ++ wanted_by goal before known m es
 wanted-first goal before is_met known m e es same =
@@ -212,7 +214,8 @@ wanted-first goal before is_met known m e es same =
     (wanted-stepped goal before step (walks_to known e.target)
     ∙ ap (λ (t : Bool). map (after_step step) (wanted_of goal t (walks_to known e.target))) (sym same))
 
-pub wanted-in : (d : Direction) (goal : Goal) (is_met : Bool) (walks : List PathValue) → wanted_of goal is_met (ordered d walks) ≡ ordered d (wanted_of goal is_met walks)
+pub wanted-in : (d : Direction) (goal : Goal) (is_met : Bool) (walks : List PathValue) → wanted_of goal is_met (ordered d walks) ≡ ordered d
+    (wanted_of goal is_met walks)
 wanted-in Forward goal is_met walks = refl
 wanted-in Backward goal is_met walks = filter-reverse (wanted goal is_met) walks
 

@@ -36,12 +36,7 @@ pub(crate) struct Draft {
 
 /// Adds a node at `place`, if there are fewer than `limit`.
 #[inline(never)]
-fn add(
-    limit: usize,
-    draft: &mut Draft,
-    place: &Place,
-    node: Node,
-) -> Result<Target, GraphError>
+fn add(limit: usize, draft: &mut Draft, place: &Place, node: Node) -> Result<Target, GraphError>
     requires same { length draft.old.nodes.items ≡ length draft.old.places }
     requires new { DiffersFrom (key_of place.now) draft.old.places }
     ensures target { IfOk result (λ target. target ≡ At (length draft.old.nodes.items)) }

@@ -123,11 +123,7 @@ fn tally_by(goal: &Goal, tallies: &[Tally], node: &Node) -> Tally
 }
 
 /// The numbers of the walks from each node on.
-pub(crate) fn tallies(
-    alloc: Global,
-    goal: &Goal,
-    nodes: &[Node],
-) -> Result<Vec<Tally>, GraphError>
+pub(crate) fn tallies(alloc: Global, goal: &Goal, nodes: &[Node]) -> Result<Vec<Tally>, GraphError>
     requires { AreNodes [] nodes.now }
     ensures { IfOk result (λ tallies. tallies.items ≡ tallies_of goal.now nodes.now) }
 {

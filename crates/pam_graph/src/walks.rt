@@ -175,7 +175,12 @@ impl Walks<'_> {
             nodes: self.graph.nodes(),
             tallies: &self.tallies,
         };
-        search.follow(self.graph.start(), at_start, &mut self.frames, &mut self.path)
+        search.follow(
+            self.graph.start(),
+            at_start,
+            &mut self.frames,
+            &mut self.path,
+        )
     }
 
     /// The walk followed last. It has no steps before the first one is followed, and when none is left.

@@ -77,7 +77,9 @@ impl Fork {
                 let mut work = Work::new();
                 program.step_on(&mut place, code, &mut work);
                 Some(Choice {
-                    class: self.classes.class_of(program, &self.place, self.module_number, code),
+                    class: self
+                        .classes
+                        .class_of(program, &self.place, self.module_number, code),
                     place,
                     next: code.number() + 1,
                 })

@@ -47,18 +47,18 @@ parts_of a b c rest ps h =
                   | Err e ↦ λ m n. absurd (cc)
                   | Ok x ↦ λ m n. elim (pairs_of rest) as (λ (r : Result Pairs ControlError). pairs_of rest ≡ r → with_front (s, x) r ≡ Ok ps →
                       Parts a b c rest ps) [
-                    | Err e ↦ λ o p. absurd (cc)
-                    | Ok qs ↦ λ o p. record {
-                      subject = s;
-                      action = x;
-                      others = qs;
-                      named = i;
-                      equals = (bytes_eq-Decides b (codes "=")).0 k;
-                      acts = m;
-                      more = o;
-                      whole = let same : (s, x) ∷ qs ≡ ps = cc in sym same;
-                    }
-                  ] refl n
+                        | Err e ↦ λ o p. absurd (cc)
+                        | Ok qs ↦ λ o p. record {
+                          subject = s;
+                          action = x;
+                          others = qs;
+                          named = i;
+                          equals = (bytes_eq-Decides b (codes "=")).0 k;
+                          acts = m;
+                          more = o;
+                          whole = let same : (s, x) ∷ qs ≡ ps = cc in sym same;
+                        }
+                      ] refl n
                 ] refl l
           ] refl j
     ] refl h

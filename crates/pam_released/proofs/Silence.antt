@@ -107,7 +107,7 @@ none_otherwise n used state (line ∷ []) h =
     let (q, rest) = quiet_line n used state line [] h in
     or_none (has_return line || has_backslash_blank line || has_backslash_comment line) (goes_on line)
     (or_none (has_return line || has_backslash_blank line) (has_backslash_comment line)
-        (or_none (has_return line) (has_backslash_blank line) q.return q.blank) q.comment)
+    (or_none (has_return line) (has_backslash_blank line) q.return q.blank) q.comment)
     (and_true (goes_on line) q.ends)
 none_otherwise n used state (line ∷ next ∷ lines) h =
     let (q, rest) = quiet_line n used state line (next ∷ lines) h in
@@ -115,7 +115,7 @@ none_otherwise n used state (line ∷ next ∷ lines) h =
     (is_line_read_otherwise (next ∷ lines))
     (or_none (has_return line || has_backslash_blank line || has_backslash_comment line) (goes_on_over_blank line (next ∷ lines))
     (or_none (has_return line || has_backslash_blank line) (has_backslash_comment line)
-        (or_none (has_return line) (has_backslash_blank line) q.return q.blank) q.comment)
+    (or_none (has_return line) (has_backslash_blank line) q.return q.blank) q.comment)
     q.over)
     (none_otherwise (n + 1) (used_after used line) (state_after state line) (next ∷ lines) rest)
 

@@ -13,6 +13,7 @@
 
 mod assignments;
 mod cursors;
+mod graphs;
 mod lines;
 mod pages;
 mod released;
@@ -84,6 +85,7 @@ fn test(rt: &HostRuntime, words: &[&str]) -> Result<(), Error> {
         "page" if words.len() >= 5 => pages::page(rt, words),
         "ways" => ways::ways(rt, words[1]),
         "cursor" if words.len() == 3 => cursors::cursor(rt, words[1], words[2]),
+        "graph" => graphs::graph(rt, words[1]),
         "assign" => assignments::assign(rt, words[1]),
         "findings" => released::print_findings(rt, words[1], &words[2..]),
         _ => {

@@ -1,4 +1,4 @@
-use Rattle.std.proofs.Common.{◌≡◌, ◌+◌, ◌-◌, ◌<◌, ◌≤◌, ◌∷◌, ◌++◌, ◌∙◌, [], ℕ, List, ap, append-nil, append_assoc, arith, length, refl, replicate, sym, take}
+use Rattle.std.proofs.Common.{◌≡◌, ◌-◌, ◌<◌, ◌∷◌, ◌++◌, ◌∙◌, [], ℕ, List, ap, append-nil, append_assoc, arith, length, refl, replicate, sym, take}
 use Rattle.std.proofs.lemmas.List.{length-set, replicate_more, take-set-le, take_all, take_more_set}
 use Rattle.pam_dispatch.specs.declared.state.State.{State}
 use Rattle.pam_dispatch.specs.State.{start_state}

@@ -10,7 +10,8 @@ use Rattle.pam_graph.specs.declared.node.Node.{Node}
 use Rattle.pam_graph.specs.Building.{modules_left}
 use Rattle.pam_graph.specs.Order.{AreAbove, IsAbove, IsNode, LeastRise, numbers_of}
 use Rattle.pam_graph.specs.Walks.{walks_by, walks_of}
-use Rattle.pam_graph.proofs.Growing.{AreAbove-push, LeastRise-more, LeastRise-push, above-extended, added-above, added-built, added-extended, added-walks, built-found}
+use Rattle.pam_graph.proofs.Growing.{AreAbove-push, LeastRise-more, LeastRise-push, above-extended}
+use Rattle.pam_graph.proofs.Growing.{added-above, added-built, added-extended, added-walks, built-found}
 use Rattle.pam_graph.proofs.Growing.{built-length, extended-trans, found-above, left-at, left-fewer, listing-end, number-is, walks-all, walks-choice}
 use Rattle.pam_graph.proofs.Reaching.{added-apart, added-keys, added-reason, added-rests, before-later, before-trans, get-at, key-apart, reached-on}
 use Rattle.pam_paths.specs.Forks.{paths_from}

@@ -32,5 +32,6 @@ loop-edge-preserved c =
 pub returns : goal.returns
 unfolding sum_from
 returns c =
-    sym (ap (sum_from c.args.goal.now c.args.is_met c.args.tallies.now c.loop-edge.count) (drop_all c.loop-edge.edge-index c.args.edges.now c.loop-edge-test.false))
+    sym (ap (sum_from c.args.goal.now c.args.is_met c.args.tallies.now c.loop-edge.count)
+    (drop_all c.loop-edge.edge-index c.args.edges.now c.loop-edge-test.false))
     ∙ c.loop-edge.invariant.sum

@@ -10,7 +10,7 @@ unfolding key_of
 returns-clause-key c =
     let place = c.args.self.now in
     let key : ℕ → List State →
-        PlaceKey = λ depth states. record { position = place.position; depth = depth; state = place.state; entered = record { states = states } } in
+    PlaceKey = λ depth states. record { position = place.position; depth = depth; state = place.state; entered = record { states = states } } in
     ap (key c.from-depth.result) c.first.ensures.states
     ∙ ap (λ (depth : ℕ). key depth (first_states depth place.entered.states)) c.from-depth.ensures
 

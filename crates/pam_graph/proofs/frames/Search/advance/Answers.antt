@@ -61,7 +61,8 @@ returns-in-Some-edge_from-clause-above c =
     subst (λ (n : ℕ). IsAbove (numbers_of s.nodes.now) n c.in-Some-edge_from.found.target) (sym long)
     (frame-above s.direction s.goal.now s.nodes.now c.requires.search.order _ c.in-Some.frame node k.1 c.index-self-frame.is
     c.in-Some-edge_from.found.target
-    (λ numbers high h. c.in-Some-edge_from.ensures.above numbers high (subst (AreAbove numbers high) (sym (c.deref.ensures.value ∙ ap edges_of (sym c.index-self-frame.is))) h)))
+    (λ numbers high h. c.in-Some-edge_from.ensures.above numbers high (subst (AreAbove numbers high) (sym (c.deref.ensures.value ∙ ap edges_of
+    (sym c.index-self-frame.is))) h)))
 
 pub returns-in-Some-edge_from-clause-walks : goal.returns-in-Some-edge_from-clause-walks
 returns-in-Some-edge_from-clause-walks c =
@@ -79,11 +80,13 @@ returns-in-Some-edge_from-clause-walks c =
     (ap (λ (x : Frame). x.module_number) follows) in
     let same : wanted_by s.goal.now f.is_met known f.module_number (drop f.next (edges_in s.direction node.edges.items))
     ≡ map (after_step (step_in g)) below ++ left_at s.direction s.goal.now s.nodes.now g =
-    ap (λ (es : List Edge). wanted_by s.goal.now f.is_met known f.module_number (drop f.next (edges_in s.direction es))) (sym (c.deref.ensures.value ∙ ap edges_of (sym c.index-self-frame.is)))
+    ap (λ (es : List Edge). wanted_by s.goal.now f.is_met known f.module_number (drop f.next (edges_in s.direction es))) (sym
+    (c.deref.ensures.value ∙ ap edges_of (sym c.index-self-frame.is)))
     ∙ c.in-Some-edge_from.ensures.some known f.module_number f.is_met
     (tallies-in s.direction s.goal.now s.nodes.now s.tallies.now c.requires.search.tallies) c.met_after-is_met.ensures
     ∙ ap (λ (es : List Edge). map (after_step (record { module_number = f.module_number; class = found.class })) below
-    ++ wanted_by s.goal.now f.is_met known f.module_number (drop found.next (edges_in s.direction es))) (c.deref.ensures.value ∙ ap edges_of (sym c.index-self-frame.is))
+    ++ wanted_by s.goal.now f.is_met known f.module_number (drop found.next (edges_in s.direction es))) (c.deref.ensures.value ∙ ap edges_of
+    (sym c.index-self-frame.is))
     ∙ ap (λ (x : Frame). map (after_step (step_in x)) below
     ++ wanted_by s.goal.now x.is_met known x.module_number (drop x.next (edges_in s.direction node.edges.items))) (sym follows)
     ∙ ap (λ (x : List PathValue). map (after_step (step_in g)) below ++ x)
@@ -109,7 +112,8 @@ loop-frame-preserved c =
     let node = c.index-self-frame.result in
     let none : left_at s.direction s.goal.now s.nodes.now f ≡ [] =
     frame-left s.direction s.goal.now s.nodes.now c.requires.search.order _ f node k.1 c.index-self-frame.is
-    ∙ ap (λ (es : List Edge). wanted_by s.goal.now f.is_met known f.module_number (drop f.next (edges_in s.direction es))) (sym (c.deref.ensures.value ∙ ap edges_of (sym c.index-self-frame.is)))
+    ∙ ap (λ (es : List Edge). wanted_by s.goal.now f.is_met known f.module_number (drop f.next (edges_in s.direction es))) (sym
+    (c.deref.ensures.value ∙ ap edges_of (sym c.index-self-frame.is)))
     ∙ c.in_default-edge_from.ensures.none known f.module_number f.is_met
     (tallies-in s.direction s.goal.now s.nodes.now s.tallies.now c.requires.search.tallies) c.met_after-is_met.ensures in
     record {
