@@ -1,5 +1,5 @@
 -- What is written about a known stack, from the contract of the call that finds it.
-use Rattle.std.proofs.Common.{◌≡◌, ℕ, List, Option, Result, Ok, Err, refl, subst, sym}
+use Rattle.std.proofs.Common.{◌≡◌, ◌∙◌, ℕ, List, None, Option, Result, Ok, Err, ap, refl, subst, sym}
 use Rattle.std.specs.Prelude.{IfErr, is_some}
 use Rattle.jiff.specs.Types.{DateTime}
 use Rattle.pam_codes.specs.Out.{Out}
@@ -11,6 +11,7 @@ use Rattle.pam_conf.specs.declared.rule.Kind.{Kind}
 use Rattle.pam_known.specs.Answers.{IsFault, IsTableFault as IsFaultOfTable, IsTimeFault as IsFaultOfTime}
 use Rattle.pam_known.specs.Knowledge.{Agree, Knows, allows_codes}
 use Rattle.pam_known.specs.Reads.{tables_read}
+use Rattle.pam_known.specs.Tables.{TablesText, TimedText}
 use Rattle.pam_known.specs.declared.error.KnownError.{KnownError}
 use Rattle.pam_known.specs.declared.error.KnownError.TheVariants as known
 use Rattle.pam_paths.specs.Known.{may_answer}
@@ -25,7 +26,7 @@ use Rattle.pam_times.specs.declared.error.TimeFault.TheVariants as times
 use Rattle.pam_report.specs.Fault.{known_fault}
 use Rattle.pam_report.proofs.Wanting.{wanted-given}
 use Rattle.pam_report.specs.Inputs.{tables_given}
-use Rattle.pam_report.specs.Known.{AreCodesOf, FindsKnown, IsErrOf, IsFaultOf, IsFaultOfRead}
+use Rattle.pam_report.specs.Known.{AreCodesOf, FindsKnown, IsErrOf, IsFaultOf, IsFaultOfRead, with_time}
 use Rattle.pam_report.specs.KnownStack.{IsAnswerFrom, KnownItems, known_items}
 use Rattle.pam_report.specs.Leaves.{IsConfFault, IsTableFault, IsTimeFault, LeavesFault, LeavesSome}
 use Rattle.pam_report.specs.Memory.{IsWanting, of_paths, paths_tables}
@@ -33,6 +34,7 @@ use Rattle.pam_report.specs.Report.{Answer}
 use Rattle.pam_report.specs.declared.fault.Fault.{Fault}
 use Rattle.pam_report.specs.declared.fault.Fault.TheVariants as faults
 use Rattle.pam_report.specs.declared.inputs.Inputs.{Inputs}
+use Rattle.pam_report.specs.declared.inputs.Inputs.TheVariants as inputs
 use Rattle.pam_report.specs.declared.report.Status.{Status}
 
 -- ---- what the tables tell
@@ -68,14 +70,27 @@ finds-ok items told found h = record {
   agree = h.2;
 }
 
+-- ---- tables
+
+with_its : (given : Inputs) (moment : Option DateTime) → with_time (tables_given given None) (tables_given given moment).time ≡ tables_given given moment
+with_its (inputs.Paths files groups access time returns) moment = refl
+with_its (inputs.Stack files) moment = refl
+with_its (inputs.Access table groups) moment = refl
+with_its (inputs.Time table) moment = refl
+
+-- the tables of these inputs at a moment
+pub tables-are : (given : Inputs) (moment : Option DateTime) (tables : TablesText) (time : Option TimedText)
+    → tables ≡ with_time (tables_given given None) time → time ≡ (tables_given given moment).time → tables ≡ tables_given given moment
+tables-are given moment tables time e f = e ∙ ap (λ (t : Option TimedText). with_time (tables_given given None) t) f ∙ with_its given moment
+
 -- ---- want of memory
 
-pub wants-read : (kind : Kind) (inputs : Inputs) (moment : Option DateTime) (items : Items) (result : Result Known Fault)
-    → IfErr result (IsFaultOfRead (tables_read kind (tables_given inputs moment) items))
-    → IfErr result (IsWanting (of_paths (paths_tables (is_some moment) inputs)))
-wants-read kind inputs moment items (Ok found) h = tt
-wants-read kind inputs moment items (Err fault) h =
-    subst (λ (f : Fault). IsWanting (of_paths (paths_tables (is_some moment) inputs)) f) (sym h.1) (wanted-given kind inputs moment items h.0 h.2)
+pub wants-read : (kind : Kind) (given : Inputs) (moment : Option DateTime) (items : Items) (result : Result Known Fault)
+    → IfErr result (IsFaultOfRead (tables_read kind (tables_given given moment) items))
+    → IfErr result (IsWanting (of_paths (paths_tables (is_some moment) given)))
+wants-read kind given moment items (Ok found) h = tt
+wants-read kind given moment items (Err fault) h =
+    subst (λ (f : Fault). IsWanting (of_paths (paths_tables (is_some moment) given)) f) (sym h.1) (wanted-given kind given moment items h.0 h.2)
 
 -- ---- what is written
 

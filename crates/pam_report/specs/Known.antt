@@ -1,8 +1,9 @@
 -- For private contracts and proofs alone: a known stack that is found, or why there is none.
-use Rattle.std.specs.Prelude.{◌≡◌, ⊤, ℕ, List, Result, Ok, Err}
+use Rattle.std.specs.Prelude.{◌≡◌, ⊤, ℕ, List, Option, Result, Ok, Err}
 use Rattle.pam_conf.specs.Stack.{Items, module_count}
 use Rattle.pam_known.specs.Knowledge.{Agree, allows_codes}
 use Rattle.pam_known.specs.Reads.{IsOfRead, TablesRead}
+use Rattle.pam_known.specs.Tables.{TablesText, TimedText}
 use Rattle.pam_known.specs.declared.error.KnownError.{KnownError}
 use Rattle.pam_paths.specs.Known.{may_answer}
 use Rattle.pam_paths.specs.declared.knowledge.Known.{Known}
@@ -45,3 +46,7 @@ FindsStack (Err fault) told = IsFaultOf told fault
 -- a fault is of a table that is read
 abbrev pub IsFaultOfRead : TablesRead → Fault → Type 0
 IsFaultOfRead read fault = (e : KnownError) × (fault ≡ known_fault e) × IsOfRead read e
+
+-- tables with this time table
+abbrev pub with_time : TablesText → Option TimedText → TablesText
+with_time tables time = record { groups = tables.groups; access = tables.access; time = time; returns = tables.returns }

@@ -1,7 +1,8 @@
 //! The contents of the files that a request names.
 
-ghost use Rattle.std.specs.Prelude.{◌≡◌, option_map};
+ghost use Rattle.std.specs.Prelude.{◌≡◌, None, option_map};
 ghost use Rattle.pam_report.specs.Inputs.{tables_given as tables_in, timed as timed_text};
+ghost use Rattle.pam_report.specs.Known.{with_time};
 ghost use Rattle.pam_known.specs.Tables.{tables_view, timed_view};
 
 use jiff::civil::DateTime;
@@ -171,27 +172,48 @@ fn timed(bytes: &Option<Vec<u8>>, moment: Option<DateTime>) -> Option<TimedTable
     }
 }
 
-/// Returns the tables of `paths` and `outcomes`, which tell the codes of modules at a moment.
-pub(crate) fn tables_given(inputs: &Inputs, moment: Option<DateTime>) -> Tables<'_>
-    ensures { tables_view result ≡ tables_in inputs.now moment }
+/// Returns the time table of `paths` and `outcomes` with a moment, if both are given.
+pub(crate) fn timed_given(inputs: &Inputs, moment: Option<DateTime>) -> Option<TimedTable<'_>>
+    ensures { option_map timed_view result ≡ (tables_in inputs.now moment).time }
+{
+    match inputs {
+        Inputs::Paths { time, .. } => timed(time, moment),
+        _ => None,
+    }
+}
+
+fn copied<'a>(time: &Option<TimedTable<'a>>) -> Option<TimedTable<'a>>
+    ensures { option_map timed_view result ≡ option_map timed_view time.now }
+{
+    match time {
+        Some(table) => Some(TimedTable {
+            bytes: table.bytes,
+            moment: table.moment,
+        }),
+        None => None,
+    }
+}
+
+/// Returns the tables of `paths` and `outcomes`, with this time table, from which the codes of modules are known.
+pub(crate) fn tables_with<'a>(inputs: &'a Inputs, time: &Option<TimedTable<'a>>) -> Tables<'a>
+    ensures { tables_view result ≡ with_time (tables_in inputs.now None) (option_map timed_view time.now) }
 {
     match inputs {
         Inputs::Paths {
             groups,
             access,
-            time,
             returns,
             ..
         } => Tables {
             groups: slice_given(groups),
             access: slice_given(access),
-            time: timed(time, moment),
+            time: copied(time),
             returns: slice_given(returns),
         },
         _ => Tables {
             groups: None,
             access: None,
-            time: None,
+            time: copied(time),
             returns: None,
         },
     }

@@ -1,23 +1,24 @@
 //! What the commands about paths begin with: the stack of a service, and what is known of the answers of its modules.
 
-ghost use Rattle.std.specs.Prelude.{◌≡◌, IfErr, is_some};
+ghost use Rattle.std.specs.Prelude.{◌≡◌, IfErr, None, is_some, option_map};
 ghost use Rattle.jiff.specs.Types.{DateTime as CivilTime};
 ghost use Rattle.pam_conf.specs.Resolution.{resolved};
 ghost use Rattle.pam_report.specs.Answer.{login_at};
 ghost use Rattle.pam_known.specs.Knowledge.{knowledge};
 ghost use Rattle.pam_known.specs.Reads.{tables_read};
-ghost use Rattle.pam_known.specs.Tables.{tables_view};
-ghost use Rattle.pam_report.specs.Known.{FindsKnown, FindsStack, IsFaultOfRead};
+ghost use Rattle.pam_known.specs.Tables.{tables_view, timed_view};
+ghost use Rattle.pam_report.specs.Inputs.{tables_given as tables_in};
+ghost use Rattle.pam_report.specs.Known.{FindsKnown, FindsStack, IsFaultOfRead, with_time};
 ghost use Rattle.pam_report.specs.KnownStack.{known_at as stack_at, known_items, known_stack as stack_known, known_then as stack_then};
 ghost use Rattle.pam_report.specs.Memory.{IsWanting, of_paths, paths_tables};
 ghost use Rattle.pam_tables.specs.Login.{login_view};
 
 use super::login::{login_to, lowered};
 use crate::fault::{Fault, known_fault};
-use crate::inputs::{Inputs, tables_given};
+use crate::inputs::{Inputs, tables_with, timed_given};
 use jiff::civil::DateTime;
 use pam_conf::{Files, Kind, Stack, resolve};
-use pam_known::{Tables, known_answers};
+use pam_known::{Tables, TimedTable, known_answers};
 use pam_paths::Known;
 use pam_tables::Login as TableLogin;
 use pam_times::MomentError;
@@ -56,6 +57,24 @@ fn known_by(
     }
 }
 
+/// Returns the codes that the modules of a stack may return, with this time table.
+fn known_with(
+    alloc: Global,
+    kind: Kind,
+    login: &TableLogin<'_>,
+    inputs: &Inputs,
+    stack: &Stack,
+    time: &Option<TimedTable<'_>>,
+) -> Result<Known, Fault>
+    ensures known { let tables = with_time (tables_in inputs.now None) (option_map timed_view time.now) in
+        FindsKnown stack.now result (known_items stack.now (knowledge kind (login_view login.now) tables stack.now)) }
+    ensures read { let tables = with_time (tables_in inputs.now None) (option_map timed_view time.now) in
+        IfErr result (IsFaultOfRead (tables_read kind tables stack.now)) }
+{
+    let tables = tables_with(inputs, time);
+    known_by(alloc, kind, login, stack, &tables)
+}
+
 /// Returns the codes that the modules of a stack may return at a moment.
 fn known_at(
     alloc: Global,
@@ -68,8 +87,14 @@ fn known_at(
     ensures known { FindsKnown stack.now result (stack_at kind (login_view login.now) inputs.now stack.now moment) }
     ensures wants { IfErr result (IsWanting (of_paths (paths_tables (is_some moment) inputs.now))) }
 {
-    let tables = tables_given(inputs, moment);
-    known_by(alloc, kind, login, stack, &tables)
+    known_with(
+        alloc,
+        kind,
+        login,
+        inputs,
+        stack,
+        &timed_given(inputs, moment),
+    )
 }
 
 /// Like `known_at`, for a moment that may be missing or invalid.

@@ -1,8 +1,9 @@
 //! The `outcomes` command: in how many ways a stack comes to each decision, and the first of them.
 
-ghost use Rattle.std.specs.Prelude.{◌≡◌, ◌++◌, IfOk, List, OnOk, is_some, map};
+ghost use Rattle.std.specs.Prelude.{◌≡◌, ◌++◌, ◌<◌, IfOk, List, OnOk, is_some, map};
 ghost use Rattle.std.specs.List.{flat_map};
 ghost use Rattle.pam_codes.specs.Out.{Writes, WritesAndFlushes};
+ghost use Rattle.pam_codes.specs.declared.code.TheConstants.{CODES};
 ghost use Rattle.pam_conf.specs.Stack.{module_count};
 ghost use Rattle.pam_graph.specs.Walks.{walks};
 ghost use Rattle.pam_known.specs.Knowledge.{Agree};
@@ -83,15 +84,21 @@ fn push_outcome(
     Ok(())
 }
 
+/// Returns the code of this number.
+fn code_numbered(number: usize) -> Code
+    requires { number < CODES }
+    ensures { result ≡ number }
+{
+    Code::new(number as u8).unwrap()
+}
+
 /// Returns the outcomes of the walks of a graph.
 fn outcomes_of(alloc: Global, graph: &Graph) -> Result<Outcomes, GraphError>
     ensures { IfOk result (λ o. AreOutcomes o (walks graph.now)) }
 {
     let mut found = Vec::new(alloc);
     for number in 0..CODES {
-        if let Some(decision) = Code::new(number as u8) {
-            push_outcome(alloc, graph, decision, &mut found)?;
-        }
+        push_outcome(alloc, graph, code_numbered(number), &mut found)?;
     }
     let total = graph.count(alloc, &Goal::Any)?;
     Ok(Outcomes { found, total })

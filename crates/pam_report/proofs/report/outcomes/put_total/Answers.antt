@@ -1,10 +1,11 @@
 use Rattle.pam_codes.proofs.Writing.{all-then, err-front, front-longer, front-then, writes-then}
-use Rattle.pam_report.specs.Outcomes.{total_line}
+use Rattle.std.proofs.Common.{codes}
+use Rattle.pam_report.specs.Outcomes.{count_text, total_line}
 use Rattle.pam_report.proofs.report.outcomes.put_total.Goals as goal
 
 pub returns-in_err-put : goal.returns-in_err-put
 unfolding total_line
-returns-in_err-put g c = err-front _ c.from_residual.ensures.0 (front-longer _ (front-longer _ c.in_err-put.ensures))
+returns-in_err-put g c = err-front _ c.from_residual.ensures.0 (front-longer (codes " ways\n") (front-longer (count_text c.args.total) c.in_err-put.ensures))
 
 pub returns-in_err-put_count : goal.returns-in_err-put_count
 unfolding total_line
