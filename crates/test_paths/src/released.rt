@@ -2,7 +2,7 @@
 
 use anyhow::Error;
 use pam_conf::Form;
-use pam_released::findings;
+use pam_released::{Finding, findings};
 use pam_text::Source;
 use std::alloc::Global;
 
@@ -43,24 +43,41 @@ fn bytes_of(alloc: Global, text: &[u8]) -> Result<Vec<u8>, Error> {
     Ok(bytes)
 }
 
-/// Prints the findings of the file whose bytes the words and the blanks between them stand for.
-pub(crate) fn print_findings(rt: &HostRuntime, form: &str, words: &[&str]) -> Result<(), Error> {
-    let mut text = Vec::new(rt.alloc());
+/// The bytes that the words and the blanks between them stand for.
+fn bytes_of_words(alloc: Global, words: &[&str]) -> Result<Vec<u8>, Error> {
+    let mut text = Vec::new(alloc);
     for word in words {
         if !text.is_empty() {
             text.push(b' ')?;
         }
         text.extend_from_slice(word.as_bytes())?;
     }
-    let bytes = bytes_of(rt.alloc(), &text)?;
-    let form = if form == "pam.conf" {
+    bytes_of(alloc, &text)
+}
+
+fn form_named(name: &str) -> Form {
+    if name == "pam.conf" {
         Form::Single
     } else {
         Form::Dir
-    };
-    let found = findings(rt.alloc(), Source::of(&bytes)?, form)?;
+    }
+}
+
+fn print_finding(rt: &HostRuntime, finding: Finding) -> Result<(), Error> {
+    println!(rt; "{} {}", finding.line, finding.difference.name())?;
+    Ok(())
+}
+
+fn print_all(rt: &HostRuntime, form: Form, bytes: &[u8]) -> Result<(), Error> {
+    let found = findings(rt.alloc(), Source::of(bytes)?, form)?;
     for finding in &found {
-        println!(rt; "{} {}", finding.line, finding.difference.name())?;
+        print_finding(rt, *finding)?;
     }
     Ok(())
+}
+
+/// Prints the findings of the file whose bytes the words stand for.
+pub(crate) fn print_findings(rt: &HostRuntime, form: &str, words: &[&str]) -> Result<(), Error> {
+    let bytes = bytes_of_words(rt.alloc(), words)?;
+    print_all(rt, form_named(form), &bytes)
 }
