@@ -1,11 +1,14 @@
 #!/usr/bin/env python3
-"""Measures the built program: python3 benches/run.py PROGRAM [--pages] [--decisions PROGRAM] [--paths PROGRAM] [--only WORD] [--runs N]
+"""Measures the built program:
+
+    python3 benches/run.py PROGRAM [--pages] [--outcomes] [--decisions PROGRAM] [--paths PROGRAM] [--only WORD] [--runs N]
 
 For each case the inputs are made anew in a temporary folder, in three sizes, the program is run once to warm up and then
 N times over each, and the least processor time and the peak memory are printed, the start of the process included. It
 needs Python's standard library and, for peak memory, /usr/bin/time. With --pages it also lists the paths of stacks in one
-page, of three lengths; with --decisions it also runs that program, which decides one stack many times by the library
-alone; with --paths that one, which explores stacks by the library alone.
+page, of three lengths; with --outcomes it counts the outcomes of these stacks and of the largest graphs; with --decisions
+it also runs that program, which decides one stack many times by the library alone; with --paths that one, which explores
+stacks by the library alone.
 """
 import argparse
 import os
@@ -85,6 +88,45 @@ def time_tables(size):
     return make
 
 
+def pairs():
+    """The 676 names of two letters."""
+    letters = b"abcdefghijklmnopqrstuvwxyz"
+    return [bytes((one, other)) for one in letters for other in letters]
+
+
+def group_tables(size):
+    """Each token of the table is the name of a group, and the login is in none of them."""
+    def make(folder):
+        names = pairs()
+        put(folder, "access", b"-:" + b" ".join((names * (size // (3 * len(names)) + 1))[:size // 3]) + b":ALL\n")
+        members = b",".join(b"member%d" % n for n in range(size // (9 * len(names))))
+        put(folder, "group", b"".join(b"%s:x:1:%s\n" % (name, members) for name in names))
+    return make
+
+
+def table_readers(arguments):
+    """Modules that read one access table of a quarter of a MiB, each with these arguments."""
+    def sized(count):
+        def make(folder):
+            os.mkdir(os.path.join(folder, "d"))
+            put(folder, "d/login", b"".join(b"account required pam_access.so " + arguments(n) + b"\n" for n in range(count)))
+            put(folder, "access", repeated(b"-:root bob:10.0.0.0/8 192.0.2.7\n", MIB // 4))
+        return make
+    return sized
+
+
+def included_files(count):
+    """A service that includes this number of files of 4 kB, one after another."""
+    def make(folder):
+        os.mkdir(os.path.join(folder, "d"))
+        put(folder, "d/login", b"".join(b"auth include part%d\n" % n for n in range(count)))
+        for n in range(count):
+            put(folder, "d/part%d" % n, STACK + repeated(b"session required pam_x.so debug\n", 4096))
+    return make
+
+
+READERS = ["paths", "login", "account", "--dir", "d", "--access", "access", "--user", "alice", "--limit", "1"]
+
 CASES = [
     # name, words, the maker of the input of a size, the sizes, and the files of a size's bytes
     ("start-up: one decide of two lines", ["decide", "login", "auth", "success", "auth_err", "--dir", "d"],
@@ -100,6 +142,12 @@ CASES = [
     ("256 includes of a 60 kB file", ["show", "login", "auth", "--dir", "d"],
      lambda count: pam_d(login=b"auth include big\n" * count + STACK, big=repeated(b"session required pam_x.so debug\n", 60000)),
      (64, 128, 256), 0),
+    ("256 includes of a file each, of 4 kB", ["show", "login", "auth", "--dir", "d"], included_files, (64, 128, 256), 0),
+    ("256 modules that read one access table, equally", READERS, table_readers(lambda n: b"nodefgroup"), (64, 128, 256), 0),
+    ("256 modules that read it with separators of their own", READERS, table_readers(lambda n: b"fieldsep=:" + pairs()[n].upper()),
+     (64, 128, 256), 0),
+    ("names of groups of 1 MiB, and 676 groups", ["access", "login", "--access", "access", "--group", "group", "--user", "alice"],
+     group_tables, SIZES, 2),
     ("an access table and a group file of 1 MiB each", ["access", "login", "--access", "access", "--group", "group", "--user", "alice",
                                                         "--rhost", "10.1.2.3"], access_tables, SIZES, 2),
     ("a time table of 1 MiB", ["time", "login", "--time", "time", "--user", "alice", "--tty", "tty1", "--at", "2024-05-06T10:00"],
@@ -124,10 +172,10 @@ def measure(program, words, folder, runs):
     return least, int(run(["/usr/bin/time", "-q", "-f", "%M", program] + words, folder)[0].split()[-1]) / 1000
 
 
-def measure_cases(program, only, runs):
+def measure_cases(program, cases, only, runs):
     print("| Case | a quarter | half | whole | MiB a second | memory: a quarter | whole |")
     print("|---|---|---|---|---|---|---|")
-    for name, words, make, sizes, files in CASES:
+    for name, words, make, sizes, files in cases:
         if only not in name:
             continue
         rows = []
@@ -180,6 +228,31 @@ STACKS = [
      lines(120, "auth [%s default=31] a.so" % " ".join("%s=%d" % (code, n + 1) for n, code in enumerate(CODES)))),
 ]
 
+OUTCOMES = ["outcomes", "login", "auth", "--dir", "d"]
+IGNORED = "auth [default=ignore] a.so"
+RESET = "auth [success=reset default=ignore] a.so"
+JUMPS = "auth [%s] a.so" % " ".join("%s=%d" % (code, n + 1) for n, code in enumerate(CODES + ["conv_again"]))
+
+
+def one_stack(text):
+    return lambda size: pam_d(login=text.encode())
+
+
+def products(line):
+    """A stack whose substack is entered in 31 states: 436 places, and for each of its last lines 930, which are the pairs of
+    an entry state and a state. If these lines jump, the second of them is never asked."""
+    return lambda count: pam_d(
+        login=(lines(1, IGNORED) + lines(1, "auth [default=ok] a.so") + lines(13, IGNORED) + lines(1, "auth substack s")).encode(),
+        s=(lines(1, "auth [success=reset default=bad] a.so") + lines(count, line) + lines(1, RESET)).encode())
+
+
+OUTCOME_CASES = [(name, OUTCOMES, one_stack(text), (0,), 0) for name, _, text in STACKS] + [
+    ("256 lines of `[success=1 default=ignore]`", OUTCOMES,
+     lambda count: pam_d(login=lines(count, "auth [success=1 default=ignore] a.so").encode()), (64, 128, 256), 0),
+    ("65,536 places with few classes", OUTCOMES, products(RESET), (17, 34, 69), 0),
+    ("65,536 places with 31 classes each", OUTCOMES, products(JUMPS), (18, 35, 70), 0),
+]
+
 
 def measure_paths(program):
     print("| Stack | million paths a second | steps a path | modules a path | peak memory |")
@@ -217,15 +290,18 @@ def main():
     parser = argparse.ArgumentParser()
     parser.add_argument("program")
     parser.add_argument("--pages", action="store_true")
+    parser.add_argument("--outcomes", action="store_true")
     parser.add_argument("--decisions")
     parser.add_argument("--paths")
     parser.add_argument("--only", default="")
     parser.add_argument("--runs", type=int, default=20)
     args = parser.parse_args()
     program = os.path.abspath(args.program)
-    measure_cases(program, args.only, args.runs)
+    measure_cases(program, CASES, args.only, args.runs)
     if args.pages:
         measure_pages(program, args.runs)
+    if args.outcomes:
+        measure_cases(program, OUTCOME_CASES, args.only, args.runs)
     if args.decisions:
         measure_decisions(os.path.abspath(args.decisions))
     if args.paths:

@@ -34,7 +34,7 @@ STACKS = WORDS + [E17]
 # The moment takes no memory, so there is no M3. The service is put into lower case, and fitted.
 LOGINS = STACKS + [KEPT]
 TABLES = LOGINS + [TE11]
-# The flat program, and the texts of a page; a cursor takes no memory.
+# The flat program, and the texts of a page or a graph and what is counted over it; a cursor takes no memory.
 PAGES = LOGINS + [E17]
 TABLE_PAGES = TABLES + [E17]
 
@@ -63,6 +63,8 @@ ASKED = [
     (["time", "login", *TIME_TABLE, "--user", "alice", "--tty", "tty1"], TABLES),
     (["time", "login", "--time", "time", "--user", "alice", "--at-unix", "1715400000",
       "--zone", "CET-1CEST,M3.5.0,M10.5.0/3"], TABLES),
+    (["outcomes", "login", "auth", "--dir", "stack"], PAGES),
+    (["outcomes", "login", "account", "--dir", "stack", *ACCESS_TABLE, *TIME_TABLE, *RETURNS_FILE], TABLE_PAGES),
     (["show", "login"], WORDS),
     (["show", "login", "atuh", "--dir", "d"], [*WORDS, UNSAID]),
     (["time", "login", "--time", "time", "--user", "alice"], [*WORDS, UNSAID]),

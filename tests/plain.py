@@ -7,22 +7,25 @@ words that it does not take is its own, so standard error is `None` then. Help i
 import re
 from itertools import islice
 
+import plain_outcomes
 import plain_stacks as stacks
 import plain_tables as tables
 import plain_zones as zones
 from plain_faults import Fault
 
+KNOWING = b" --access --time --group --returns --user --rhost --tty --at --at-unix --zone"
 OPTIONS = {
     b"show": b"--dir --conf",
     b"decide": b"--dir --conf",
-    b"paths": b"--dir --conf --limit --after --before --access --time --group --returns --user --rhost --tty --at "
-              b"--at-unix --zone",
+    b"paths": b"--dir --conf --limit --after --before" + KNOWING,
+    b"outcomes": b"--dir --conf" + KNOWING,
     b"access": b"--access --user --group --rhost --tty",
     b"time": b"--time --user --tty --at --at-unix --zone",
 }
 REQUIRED = {b"access": [b"--access", b"--user"], b"time": [b"--time", b"--user"]}
-MOST_ARGUMENTS = {b"show": 2, b"paths": 2, b"time": 1}
-LEAST_ARGUMENTS = {b"show": 2, b"decide": 2, b"paths": 2, b"access": 1, b"time": 1}
+MOST_ARGUMENTS = {b"show": 2, b"paths": 2, b"outcomes": 2, b"time": 1}
+LEAST_ARGUMENTS = {b"show": 2, b"decide": 2, b"paths": 2, b"outcomes": 2, b"access": 1, b"time": 1}
+MOST_COUNTED = 2 ** 128
 
 
 class WrongWords(Exception):
@@ -77,6 +80,19 @@ def cursor_text(key):
     return b".".join(b"%d" % number for number in key) or b"-"
 
 
+def count_text(count):
+    """A number of paths as it is printed."""
+    return b"%d" % count if count < MOST_COUNTED else b"%d+" % MOST_COUNTED
+
+
+def outcome_line(decision, count, steps, modules):
+    """The line of a decision, with the first of its paths."""
+    text = b"%s %s ways, first %s" % (decision, count_text(count), cursor_text(stacks.key_of(steps)))
+    names = [word_text(modules[number - 1].path.rpartition(b"/")[2]) for number, _ in steps]
+    answers = [b" %s %s" % (name, class_text(codes)) for name, (_, codes) in zip(names, steps)]
+    return text + b":" * bool(steps) + b",".join(answers) + b"\n"
+
+
 # Requests
 
 class Request:
@@ -90,7 +106,7 @@ class Request:
                 raise Fault("U1") from None
         self.command, self.arguments, self.options = parsed(words)
         self.service = self.arguments[0].lower()
-        if self.command in (b"show", b"decide", b"paths"):
+        if self.command in (b"show", b"decide", b"paths", b"outcomes"):
             if (b"--dir" in self.options) == (b"--conf" in self.options):
                 raise Fault("U2")
             self.kind = self.arguments[1].lower()
@@ -100,7 +116,7 @@ class Request:
             self.codes = [code.lower() for code in self.arguments[2:]]
             if not set(self.codes) <= set(stacks.CODES):
                 raise Fault("U4")
-        if self.command in (b"paths", b"time"):
+        if self.command in (b"paths", b"outcomes", b"time"):
             self.judge_login_and_moment()
 
     def judge_login_and_moment(self):
@@ -136,6 +152,8 @@ class Request:
         if self.command == b"decide":
             text, status = self.decide(items, modules)
             return header + text, status
+        if self.command == b"outcomes":
+            return header + self.outcomes(items, modules), 0
         return header + self.page(items, modules), 0
 
     def read_source(self, tree):
@@ -213,6 +231,12 @@ class Request:
                 known[position] = {b"success" if answers[0] else b"perm_denied"}
         returns = tables.returns_of(self.tables.get(b"--returns", b""))
         return [codes or returns.get(name, set(stacks.CODES)) for codes, name in zip(known, names)]
+
+    def outcomes(self, items, modules):
+        """The lines of `outcomes` after the header."""
+        found = plain_outcomes.outcomes(items, self.known(modules))
+        lines = [outcome_line(code, *found[code], modules) for code in stacks.CODES if code in found]
+        return b"".join(lines) + b"total %s ways\n" % count_text(sum(count for count, _ in found.values()))
 
     def page(self, items, modules):
         """The lines of `paths` after the header."""

@@ -19,6 +19,7 @@ NAMES = dict(line.split() for line in """
     E15 NoService
     E16 FileTooLong
     E18 TooManyFollowed
+    E19 TooManyStates
     DE1 WrongCount
     TE1 MissingField
     TE2 BadPermission

@@ -304,17 +304,12 @@ def run(items, codes):
 
 def classes(module, lists, state):
     """The classes of codes at a module, in the order of their least codes, each with where it leads."""
-    found = []
+    found = {}
     for code in CODES:
         after = answered(module, lists, state, code)
         outcome = after[1], len(after[0][-1][0])
-        for known, codes, _ in found:
-            if known == outcome:
-                codes.append(code)
-                break
-        else:
-            found.append((outcome, [code], after))
-    return [(codes, after) for _, codes, after in found]
+        found.setdefault(outcome, ([], after))[0].append(code)
+    return list(found.values())
 
 
 def listing(lists, state, allowed):

@@ -19,7 +19,8 @@ SHOW = ["show", "login", "auth", "--dir", "d"]
 LONG = ["paths", "login", "auth", "--dir", "d", "--limit", "5000"]
 ACCESS = ["access", "login", "--access", "access", "--group", "group", "--user", "alice"]
 TIME = ["time", "login", "--time", "time", "--user", "alice", "--at", "2024-05-06T10:00"]
-ANSWERED = [SHOW, ["decide", "login", "auth", *["success"] * 12, "--dir", "d"], LONG, ACCESS, TIME]
+OUTCOMES = ["outcomes", "login", "auth", "--dir", "d"]
+ANSWERED = [SHOW, ["decide", "login", "auth", *["success"] * 12, "--dir", "d"], LONG, OUTCOMES, ACCESS, TIME]
 REFUSED = [["show", "ftp", "auth", "--dir", "d"], ["show", "login", "auth"], ["show", "login"], [*LONG, "--after", "x"],
            ["show", "login", "auth", "--dir", "gone"]]
 V2 = b"pamcheck: V2 Write\n"
@@ -237,16 +238,18 @@ def sources(program):
         check_like(program, ["show", "login", "auth", "--dir", name], tree)
         runs += 1
     endless = {**TREE, "/dev/zero": b"\0" * 1048577, "/dev/null": b""}
-    base = ["paths", "login", "auth", "--dir", "d", "--user", "alice", "--at", "2024-05-06T10:00", "--limit", "3"]
+    known = ["login", "auth", "--dir", "d", "--user", "alice", "--at", "2024-05-06T10:00"]
+    base = ["paths", *known, "--limit", "3"]
     for name in ("ring", "d", "gone", "/dev/zero", "/dev/null"):
         check_like(program, ["show", "login", "auth", "--conf", name], endless)
         for option in ("--access", "--group", "--time", "--returns"):
             check_like(program, [*base, option, name], endless)
+            check_like(program, ["outcomes", *known, option, name], endless)
         check_like(program, ["access", "login", "--user", "a", "--access", name], endless)
         check_like(program, ["access", "login", "--user", "a", "--access", "access", "--group", name], endless)
         check_like(program, ["time", "login", "--user", "a", "--time", name, "--at", "2024-05-06T10:00"], endless)
         check_like(program, [*base, "--returns", "gone", "--time", "gone2", "--access", name, "--group", "d"], endless)
-        runs += 9
+        runs += 13
     os.remove("ring")
     os.remove("link")
     os.rmdir("empty")

@@ -52,7 +52,7 @@ a.so success auth_err
 pam_unix.so  new_authtok_reqd\tsuccess
 pam_time.so abort
 """
-EXCHANGED = ["paths", "login", "account", "--dir", "d", "--user", "alice"]
+EXCHANGED = [[command, "login", "account", "--dir", "d", "--user", "alice"] for command in ("paths", "outcomes")]
 STACK = b"""auth required a.so
 auth [success=1 default=ignore] b.so
 auth sufficient pam_unix.so
@@ -65,6 +65,10 @@ MOMENT = b"2024-05-06T17:29:59"
 SHOW = ["show", "login", "auth"]
 DECIDE = ["decide", "login", "auth", "success", "auth_err", "success", "new_authtok_reqd", "ignore"]
 PATHS = ["paths", "login", "auth", "--limit", "6"]
+OUTCOMES = ["outcomes", "login", "auth"]
+# Words of `paths`, and too few words for what they begin with, and too many.
+OTHER_WORDS = [["--limit", "3"], ["--after", "0"], ["--before", "0"], ["more"], ["--access", "access"], ["--returns"],
+               ["--time", "time", "--user", "alice"], ["--zone", "UTC0"], ["--at-unix", "x"], ["--conf", "pam.conf"]]
 TABLES = ["--access", "access", "--group", "group", "--time", "time", "--returns", "returns", "--user", "alice",
           "--at", MOMENT]
 ACCESS_WORDS = [["access", "login", "--access", "access", "--group", "group", *login] for login in (
@@ -99,14 +103,14 @@ def of_file(data, name, tree, asked, at_once=1):
 
 def configurations():
     """A folder, of which one file at a time is changed, and `pam.conf`."""
-    asked = [[*words, "--dir", "d"] for words in (SHOW, DECIDE, SHOW, PATHS, ["show", "login", "account"])]
+    asked = [[*words, "--dir", "d"] for words in (SHOW, DECIDE, SHOW, OUTCOMES, PATHS, ["show", "login", "account"])]
     for name, data in FOLDER.items():
         for change in changed(data):
             words = asked[len(change) % len(asked)]
             asked = asked[1:] + asked[:1]
             yield words, {"d": {**FOLDER, name: change}}
     yield from of_file(CONF, "pam.conf", {}, [[*words, "--conf", "pam.conf"] for words in (
-        SHOW, [*DECIDE[:3], "success", "auth_err", "success"], PATHS, ["show", "ftp", "auth"])])
+        SHOW, [*DECIDE[:3], "success", "auth_err", "success"], PATHS, OUTCOMES, ["show", "ftp", "auth"])])
 
 
 def exchanged():
@@ -114,10 +118,11 @@ def exchanged():
     an access table each way."""
     group, access = b"-:ALL:10:bob ALL\n", b"+:ALL:10:bob ALL\n"
     yield from both_ways(group, access, ["access", "login", "--group", "first", "--access", "second", "--user", "alice"])
-    yield from both_ways(group, access, [*EXCHANGED, "--group", "first", "--access", "second"])
-    yield from both_ways(b"", b"*;*;*;!Al0000-2400\n", [*EXCHANGED, "--returns", "first", "--time", "second", "--at", MOMENT])
-    yield from both_ways(b"", b"-:ALL:ALL\n", [*EXCHANGED, "--returns", "first", "--access", "second"])
-    yield from both_ways(b"", b"-:ALL:ALL\n", [*EXCHANGED, "--time", "first", "--access", "second", "--at", MOMENT])
+    for asked in EXCHANGED:
+        yield from both_ways(group, access, [*asked, "--group", "first", "--access", "second"])
+        yield from both_ways(b"", b"*;*;*;!Al0000-2400\n", [*asked, "--returns", "first", "--time", "second", "--at", MOMENT])
+        yield from both_ways(b"", b"-:ALL:ALL\n", [*asked, "--returns", "first", "--access", "second"])
+        yield from both_ways(b"", b"-:ALL:ALL\n", [*asked, "--time", "first", "--access", "second", "--at", MOMENT])
 
 
 def both_ways(first, second, asked):
@@ -126,14 +131,15 @@ def both_ways(first, second, asked):
 
 
 def tables():
-    """An access table, a group file, a time table and a returns file, alone and under `paths`."""
+    """An access table, a group file, a time table and a returns file, alone and under `paths` and `outcomes`."""
     tree = {"access": ACCESS, "group": GROUP, "time": TIME, "returns": RETURNS, "d": {"login": STACK}}
     auth = [*PATHS, "--dir", "d", *TABLES]
     account = ["paths", "login", "account", "--limit", "6", "--dir", "d", *TABLES]
+    counted = [*OUTCOMES, "--dir", "d", *TABLES]
     yield from of_file(ACCESS, "access", tree, [*ACCESS_WORDS, account])
     yield from of_file(GROUP, "group", tree, [*ACCESS_WORDS, account])
     yield from of_file(TIME, "time", tree, [*TIME_WORDS, account])
-    yield from of_file(RETURNS, "returns", tree, [auth, account])
+    yield from of_file(RETURNS, "returns", tree, [auth, account, counted])
 
 
 def words():
@@ -145,7 +151,10 @@ def words():
                 yield [*PATHS, "--dir", "d", "--returns", "returns", side, change], tree
     for change in changed(MOMENT):
         yield ["time", "login", "--time", "time", "--user", "alice", "--at", change], tree
+    for more in OTHER_WORDS:
+        yield [*OUTCOMES, "--dir", "d", *more], tree
     for template in (["show", "{}", "auth", "--dir", "d"], ["show", "login", "{}", "--dir", "d"],
+                     ["outcomes", "login", "{}", "--dir", "d"],
                      ["decide", "login", "account", "success", "{}", "--dir", "d"],
                      ["access", "login", "{}", "--access", "access", "--user", "bob"],
                      ["access", "login", "--access", "access", "--user", "bob", "--rhost", "{}"],

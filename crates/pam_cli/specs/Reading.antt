@@ -7,18 +7,19 @@ use Rattle.clap.specs.Words.{Text}
 use Rattle.pam_conf.specs.Files.{Folder}
 use Rattle.pam_conf.specs.declared.rule.Form.TheVariants as forms
 use Rattle.pam_conf.specs.declared.rule.Kind.{Kind}
-use Rattle.pam_report.specs.Inputs.{fits_task}
+use Rattle.pam_report.specs.Inputs.{fits_knowledge, fits_task}
 use Rattle.pam_report.specs.declared.inputs.InputError.{InputError}
 use Rattle.pam_report.specs.declared.inputs.InputError.TheVariants.{Read, Memory}
 use Rattle.pam_report.specs.declared.inputs.Inputs.{Inputs}
 use Rattle.pam_report.specs.declared.inputs.Inputs.TheVariants as inputs
 use Rattle.pam_words.specs.declared.wanted.ConfSource.{ConfSource}
 use Rattle.pam_words.specs.declared.wanted.ConfSource.TheVariants.{Dir, Conf}
+use Rattle.pam_words.specs.declared.wanted.KnowledgeSource.{KnowledgeSource}
 use Rattle.pam_words.specs.declared.wanted.Login.{Login}
 use Rattle.pam_words.specs.declared.wanted.Moment.{Moment}
 use Rattle.pam_words.specs.declared.wanted.PagePart.{PagePart}
 use Rattle.pam_words.specs.declared.wanted.Task.{Task}
-use Rattle.pam_words.specs.declared.wanted.Task.TheVariants.{Show, Decide, Access, Time, Paths}
+use Rattle.pam_words.specs.declared.wanted.Task.TheVariants.{Show, Decide, Access, Time, Paths, Outcomes}
 
 -- ---- what is read
 
@@ -28,12 +29,17 @@ IsFrom (Dir folder) files = files.form ≡ forms.Dir
 IsFrom (Conf name) files =
     (bytes : List ℕ) × (files ≡ record { form = forms.Single; entries = (codes "pam.conf", bytes) ∷ [] })
 
--- the configuration of a task that has one is in the form of its source
+-- a configuration is in the form of its source
+abbrev pub HasFiles : ConfSource → Inputs → Type 0
+HasFiles source (inputs.Stack files) = IsFrom source files
+HasFiles source (inputs.Paths files groups access time returns) = IsFrom source files
+HasFiles source given = ⊤
+
 abbrev pub HasSource : Task → Inputs → Type 0
-HasSource (Show source kind) (inputs.Stack files) = IsFrom source files
-HasSource (Decide source kind answered) (inputs.Stack files) = IsFrom source files
-HasSource (Paths source kind limit part login access_named time_named groups_named returns_named moment) (inputs.Paths files groups access time returns) =
-    IsFrom source files
+HasSource (Show source kind) given = HasFiles source given
+HasSource (Decide source kind answered) given = HasFiles source given
+HasSource (Paths source kind limit part knowledge) given = HasFiles source given
+HasSource (Outcomes source kind knowledge) given = HasFiles source given
 HasSource task given = ⊤
 
 -- THE INPUTS of a task: those of exactly the files that it names
@@ -51,15 +57,20 @@ IsInSource (Conf file) name = name ≡ file.now
 abbrev pub IsNamed : Option (List ℕ) → List ℕ → Type 0
 IsNamed named name = named ≡ Some name
 
+-- a name of the source, or of a table or returns file that is named
+abbrev pub IsOfKnowledge : ConfSource → KnowledgeSource → List ℕ → Type 0
+IsOfKnowledge source named name =
+    IsInSource source name ⊎ IsNamed (option_copied named.groups) name ⊎ IsNamed (option_copied named.access) name
+    ⊎ IsNamed (option_copied named.time) name ⊎ IsNamed (option_copied named.returns) name
+
 -- a name of the task's source or of a file that it names
 abbrev pub IsOfTask : Task → List ℕ → Type 0
 IsOfTask (Show source kind) name = IsInSource source name
 IsOfTask (Decide source kind answered) name = IsInSource source name
 IsOfTask (Access table groups login arguments) name = IsNamed (option_copied groups) name ⊎ (name ≡ table.now)
 IsOfTask (Time table login moment) name = name ≡ table.now
-IsOfTask (Paths source kind limit part login access time groups returns moment) name =
-    IsInSource source name ⊎ IsNamed (option_copied groups) name ⊎ IsNamed (option_copied access) name
-    ⊎ IsNamed (option_copied time) name ⊎ IsNamed (option_copied returns) name
+IsOfTask (Paths source kind limit part knowledge) name = IsOfKnowledge source knowledge name
+IsOfTask (Outcomes source kind knowledge) name = IsOfKnowledge source knowledge name
 
 -- an allocation failed, or a file with such a name cannot be read
 abbrev pub IsUnread : (List ℕ → Type 0) → InputError → Type 0
@@ -82,8 +93,7 @@ abbrev pub IsAccessReading : Bor Text → Option (Bor Text) → Result Inputs In
 IsAccessReading table groups result =
     (login : Login) (arguments : List Text) → IsReading (Access table groups login arguments) result
 
--- what is read for each `paths` of this configuration and these tables
-abbrev pub IsPathsReading : Folder → Option (Bor Text) × Option (Bor Text) → Option (Bor Text) × Option (Bor Text) → Result Inputs InputError → Type 0
-IsPathsReading files of_access others result =
-    (source : ConfSource) (kind : Kind) (limit : ℕ) (part : PagePart) (login : Login) (moment : Option Moment) → IsFrom source files
-    → IsReading (Paths source kind limit part login of_access.1 others.0 of_access.0 others.1 moment) result
+-- what is read for each task about this source with what is known of answers
+abbrev pub IsKnowledgeReading : ConfSource → KnowledgeSource → Result Inputs InputError → Type 0
+IsKnowledgeReading source named (Ok given) = (fits_knowledge named given ≡ true) × HasFiles source given
+IsKnowledgeReading source named (Err error) = IsUnread (IsOfKnowledge source named) error

@@ -1,6 +1,6 @@
 //! A run of the program: reads the command line, answers on standard output, and reports faults on standard error.
 
-ghost use Rattle.std.specs.Prelude.{◌≡◌, ◌⊎◌, map, string_bytes};
+ghost use Rattle.std.specs.Prelude.{◌≡◌, ◌≤◌, ◌⊎◌, map, string_bytes};
 ghost use Rattle.pam_report.specs.Fault.{status_of_fault, status_of_input, status_of_usage};
 ghost use Rattle.pam_report.specs.declared.fault.Fault.TheVariants as faults;
 ghost use Rattle.pam_cli.specs.Run.{EndsAnswered, EndsRefused, EndsRequest, Runs};
@@ -26,7 +26,8 @@ pub fn run<R: Files + AllocGlobal + Clone + Drop, W: Write, V: Write>(
     out: &mut Out<W>,
     err: &mut Out<V>,
 ) -> u8
-    ensures { Runs W.contents out.old out.new result (map string_bytes words.now) }
+    ensures run { Runs W.contents out.old out.new result (map string_bytes words.now) }
+    ensures status { result ≤ 6 }
 {
     match request(alloc, words) {
         Ok(request) => answer_request(rt, alloc, &request, out, err),
@@ -41,7 +42,8 @@ fn help_or_refuse<W: Write, V: Write>(
     out: &mut Out<W>,
     err: &mut Out<V>,
 ) -> u8
-    ensures { EndsRefused W.contents out.old out.new result usage.now }
+    ensures run { EndsRefused W.contents out.old out.new result usage.now }
+    ensures status { result ≤ 6 }
 {
     match usage {
         Usage::Help(text) => help(alloc, text, out, err),
@@ -51,7 +53,8 @@ fn help_or_refuse<W: Write, V: Write>(
 
 /// Reports wrong words on standard error, and returns the exit status.
 pub fn refuse<V: Write>(alloc: Global, usage: &Usage, err: &mut Out<V>) -> u8
-    ensures { result ≡ status_of_usage usage.now }
+    ensures usage { result ≡ status_of_usage usage.now }
+    ensures status { result ≤ 6 }
 {
     match usage {
         Usage::Help(text) | Usage::Words(text) => {
@@ -65,7 +68,8 @@ pub fn refuse<V: Write>(alloc: Global, usage: &Usage, err: &mut Out<V>) -> u8
 
 /// Reports an allocation that failed while no words were read, and returns the exit status.
 pub fn refuse_without_memory<V: Write>(alloc: Global, err: &mut Out<V>) -> u8
-    ensures { result ≡ status_of_fault faults.Memory }
+    ensures fault { result ≡ status_of_fault faults.Memory }
+    ensures status { result ≤ 6 }
 {
     refuse_by(alloc, &Fault::Memory, None, err)
 }
@@ -78,7 +82,8 @@ fn answer_request<R: Files + AllocGlobal + Clone + Drop, W: Write, V: Write>(
     out: &mut Out<W>,
     err: &mut Out<V>,
 ) -> u8
-    ensures { EndsRequest W.contents out.old out.new result request.now }
+    ensures run { EndsRequest W.contents out.old out.new result request.now }
+    ensures status { result ≤ 6 }
 {
     match inputs_of(rt, alloc, request) {
         Ok(inputs) => report(alloc, request, &inputs, out, err),
@@ -88,7 +93,8 @@ fn answer_request<R: Files + AllocGlobal + Clone + Drop, W: Write, V: Write>(
 
 /// Reports an input that cannot be read on standard error, and returns the exit status.
 fn refuse_input<V: Write>(alloc: Global, error: &InputError, err: &mut Out<V>) -> u8
-    ensures { result ≡ status_of_input error.now }
+    ensures fault { result ≡ status_of_input error.now }
+    ensures status { result ≤ 6 }
 {
     say(input_text(alloc, error), err);
     input_status(error)
@@ -101,7 +107,8 @@ fn report<W: Write, V: Write>(
     out: &mut Out<W>,
     err: &mut Out<V>,
 ) -> u8
-    ensures { EndsAnswered W.contents out.old out.new result request.now inputs.now }
+    ensures run { EndsAnswered W.contents out.old out.new result request.now inputs.now }
+    ensures status { result ≤ 6 }
 {
     match answer(alloc, request, inputs, out) {
         Ok(status) => status.number(),
@@ -115,7 +122,8 @@ fn help<W: Write, V: Write>(
     out: &mut Out<W>,
     err: &mut Out<V>,
 ) -> u8
-    ensures { (result ≡ 0) ⊎ (result ≡ status_of_fault faults.Device) }
+    ensures run { (result ≡ 0) ⊎ (result ≡ status_of_fault faults.Device) }
+    ensures status { result ≤ 6 }
 {
     let written = match write!(out, "{text}") {
         Ok(()) => out.flush(),
@@ -134,7 +142,8 @@ fn refuse_by<V: Write>(
     files: Option<&ConfFiles>,
     err: &mut Out<V>,
 ) -> u8
-    ensures { result ≡ status_of_fault fault.now }
+    ensures fault { result ≡ status_of_fault fault.now }
+    ensures status { result ≤ 6 }
 {
     let line = match files {
         Some(files) => fault_text(alloc, fault, files),

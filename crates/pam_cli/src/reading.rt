@@ -3,11 +3,11 @@
 ghost use Rattle.std.specs.Prelude.{◌≡◌, ◌⊎◌, IfErr, IfOk, IsOkUnless, MatchResult, OnOk, codes, string_bytes};
 ghost use Rattle.std.specs.Option.{option_copied};
 ghost use Rattle.pam_conf.specs.Files.{put_file};
-ghost use Rattle.pam_cli.specs.Reading.{IsAccessReading, IsFrom, IsGiven, IsInSource, IsNamed, IsPathsReading, IsReading, IsUnread};
+ghost use Rattle.pam_cli.specs.Reading.{IsAccessReading, IsFrom, IsGiven, IsInSource, IsKnowledgeReading, IsNamed, IsReading, IsUnread};
 
 use pam_conf::{Files, Form};
 use pam_report::{InputError, Inputs};
-use pam_words::{ConfSource, Request, Task};
+use pam_words::{ConfSource, KnowledgeSource, Request, Task};
 use std::alloc::{AllocError, Global};
 use std::fs::OpenFile;
 use std::io::{ErrorKind, Read};
@@ -241,21 +241,19 @@ fn access_inputs<R: std::rt::Files>(
     Ok(Inputs::Access { table, groups })
 }
 
-/// Reads the tables of `paths` that are named, after its configuration: the group file, the access table, the time
-/// table and the returns file.
-fn paths_inputs<R: std::rt::Files>(
+/// Reads a configuration, and then what is named of the answers of its modules: the group file, the access table, the
+/// time table and the returns file.
+fn knowledge_inputs<R: std::rt::Files + AllocGlobal + Clone + Drop>(
     rt: &R,
     alloc: Global,
-    files: Files,
-    access_named: (Option<&str>, Option<&str>),
-    others_named: (Option<&str>, Option<&str>),
+    source: ConfSource<'_>,
+    named: &KnowledgeSource<'_>,
 ) -> Result<Inputs, InputError>
-    ensures { IsPathsReading files access_named.entry others_named.entry result }
+    ensures { IsKnowledgeReading source.entry named.now result }
 {
-    let (groups, access) = access_named;
-    let of_access = optional_files(rt, alloc, groups, access)?;
-    let (time, returns) = others_named;
-    let others = optional_files(rt, alloc, time, returns)?;
+    let files = source_files(rt, alloc, source)?;
+    let of_access = optional_files(rt, alloc, named.groups, named.access)?;
+    let others = optional_files(rt, alloc, named.time, named.returns)?;
     Ok(Inputs::Paths {
         files,
         groups: of_access.0,
@@ -284,14 +282,13 @@ pub(crate) fn inputs_of<R: std::rt::Files + AllocGlobal + Clone + Drop>(
         }),
         Task::Paths {
             source,
-            access,
-            time,
-            groups,
-            returns,
+            knowledge,
             ..
-        } => {
-            let files = source_files(rt, alloc, *source)?;
-            paths_inputs(rt, alloc, files, (*groups, *access), (*time, *returns))
-        }
+        } => knowledge_inputs(rt, alloc, *source, knowledge),
+        Task::Outcomes {
+            source,
+            knowledge,
+            ..
+        } => knowledge_inputs(rt, alloc, *source, knowledge),
     }
 }

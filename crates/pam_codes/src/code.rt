@@ -17,7 +17,7 @@ pub fn is_name(name: &[u8], text: &[u8]) -> bool
 }
 
 /// A return code of a module: one of the 31 that pam.conf(5) names.
-#[derive(Clone, Copy, Debug, PartialEq, Eq, PartialOrd, Ord)]
+#[derive(Clone, Copy, Debug, PartialEq, Eq, PartialOrd, Ord, Hash)]
 pub struct Code {
     number: u8,
 }

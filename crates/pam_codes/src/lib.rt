@@ -19,4 +19,5 @@ pub use error::ControlError;
 pub use pam_text::{Device, Out, Piece};
 pub use parts::{Part, Parts};
 pub use set::CodeSet;
+pub use subject::Subject;
 pub use tokens::is_blank_byte;

@@ -8,7 +8,7 @@ use crate::error::ControlError;
 
 /// The value of a pair `value=action` of a control.
 #[derive(Clone, Copy, Debug, PartialEq, Eq)]
-pub(crate) enum Subject {
+pub enum Subject {
     Named(Code),
     /// The value `incomplete`, which is read and never used.
     Incomplete,

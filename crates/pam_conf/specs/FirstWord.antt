@@ -1,11 +1,7 @@
 -- For proofs alone: the words of a line by its first word: pam.conf(5), on brackets in arguments.
 use Rattle.std.specs.Prelude.{ℕ, List, [], ◌∷◌, Option, Some, None}
-use Rattle.std.specs.Option.{option_map, option_map_or}
+use Rattle.std.specs.Option.{option_map}
 use Rattle.pam_conf.specs.Words.{words_of}
-
--- the words of a line, none if a bracket stays open
-abbrev pub words_left : List ℕ → List (List ℕ)
-words_left line = option_map_or (λ ws. ws) (words_of line) []
 
 -- the words of a line with this first word and these bytes after it, if it has a word
 abbrev pub words_from : Option (List ℕ × List ℕ) → Option (List (List ℕ))

@@ -2,7 +2,7 @@
 use Rattle.std.specs.Prelude.{List, ℕ}
 use Rattle.std.specs.Option.{option_map}
 use Rattle.pam_conf.specs.Calls.{arguments_in, control_in, path_in}
-use Rattle.pam_conf.specs.Remaining.{owned_words}
+use Rattle.pam_conf.specs.Owned.{owned_words}
 use Rattle.pam_conf.specs.Rule.{RuleText, RuleBody, Module, Include, Sub}
 use Rattle.pam_conf.specs.declared.call.Call.{Call}
 use Rattle.pam_conf.specs.declared.kept.KeptBody.{KeptBody}

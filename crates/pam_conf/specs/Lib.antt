@@ -5,6 +5,7 @@ pub mod ItemsOf
 pub mod Kept
 pub mod Laws
 pub mod Lines
+pub mod Owned
 pub mod Progress
 pub mod Remaining
 pub mod Resolution

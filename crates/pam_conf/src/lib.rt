@@ -27,3 +27,4 @@ pub use rule::{Body, Form, Kind, Rule};
 pub use stack::{Item, MAX_MODULES, Module, Stack, Sub};
 pub use trail::MAX_OPEN_FILES;
 pub use walk::MAX_FOLLOWS;
+pub use words::{Words, text_of};

@@ -57,6 +57,13 @@ impl Progress {
     }
 }
 
+/// Where a rule is.
+#[derive(Clone, Copy, Debug)]
+pub(crate) struct Location {
+    pub file: usize,
+    pub line: usize,
+}
+
 /// A fault at a line of a file.
 fn fault(file: usize, line: usize, kind: FaultKind) -> ConfError
     ensures { result ≡ fault_at file line kind }
@@ -255,11 +262,14 @@ impl Walker<'_> {
         if !self.counts(rule) {
             return Ok(());
         }
-        let line = rule.line;
+        let at = Location {
+            file,
+            line: rule.line,
+        };
         match &rule.body {
             KeptBody::Module(call) => {
                 if progress.modules == MAX_MODULES {
-                    return Err(fault(file, line, FaultKind::TooManyModules));
+                    return Err(fault(file, at.line, FaultKind::TooManyModules));
                 }
                 let number = progress.modules + 1;
                 let module = module_of(self.alloc, number, file, rule, call)?;
@@ -268,22 +278,15 @@ impl Walker<'_> {
                 Ok(())
             }
             KeptBody::Include(target) => {
-                self.follow(progress, trail, file, line, target.as_slice(), items)?;
+                self.follow(progress, trail, at, target.as_slice(), items)?;
                 Ok(())
             }
             KeptBody::Sub(target) => {
                 let mut inner = Vec::new(self.alloc);
-                let target = self.follow(
-                    progress,
-                    trail,
-                    file,
-                    line,
-                    target.as_slice(),
-                    &mut inner,
-                )?;
+                let target = self.follow(progress, trail, at, target.as_slice(), &mut inner)?;
                 let sub = Sub {
                     file,
-                    line,
+                    line: at.line,
                     target,
                     items: inner,
                 };
@@ -293,14 +296,13 @@ impl Walker<'_> {
         }
     }
 
-    /// Follows the target of the rule at `line` of `file`, and returns the target's position.
+    /// Follows the target of the rule at `at`, and returns the target's position.
     #[cycle(walk)]
     fn follow(
         &self,
         progress: &mut Progress,
         trail: &Trail,
-        file: usize,
-        line: usize,
+        at: Location,
         target: &[u8],
         items: &mut Vec<Item>,
     ) -> Result<usize, ConfError>
@@ -311,20 +313,20 @@ impl Walker<'_> {
             MatchResult result
             (λ position. IsOkAnd found (λ t. (t.0 ≡ position)
             × Passes progress.old.modules progress.old.follows (items_of items.old.items)
-            (followed file line t.1) progress.new.modules progress.new.follows (items_of items.new.items)))
-            (λ e. Refuses progress.old.modules progress.old.follows (include_walk file line found) e) }
+            (followed at.file at.line t.1) progress.new.modules progress.new.follows (items_of items.new.items)))
+            (λ e. Refuses progress.old.modules progress.old.follows (include_walk at.file at.line found) e) }
     {
         let Some(position) = self.files.find(target) else {
-            return Err(fault(file, line, FaultKind::NoService));
+            return Err(fault(at.file, at.line, FaultKind::NoService));
         };
         if trail.contains(position) {
-            return Err(fault(file, line, FaultKind::Cycle));
+            return Err(fault(at.file, at.line, FaultKind::Cycle));
         }
         if trail.room() == 0 {
-            return Err(fault(file, line, FaultKind::TooDeep));
+            return Err(fault(at.file, at.line, FaultKind::TooDeep));
         }
         if progress.follows == MAX_FOLLOWS {
-            return Err(fault(file, line, FaultKind::TooManyFollowed));
+            return Err(fault(at.file, at.line, FaultKind::TooManyFollowed));
         }
         progress.follows += 1;
         let longer = trail.with(position);

@@ -138,7 +138,7 @@ pub(crate) fn is_closed(line: &[u8]) -> bool
 
 /// The remaining words of a line in which each bracket is closed.
 #[derive(Clone, Copy)]
-pub(crate) struct Words<'a> {
+pub struct Words<'a> {
     rest: &'a [u8],
     ghost closed: { IsSome (words_of rest.now) },
 }
@@ -147,7 +147,7 @@ impl<'a> Words<'a> {
     ghost use Rattle.pam_conf.specs.Remaining.{words_to_come};
 
     /// The words of a line, or its fault if a bracket stays open.
-    pub(crate) fn of(line: &'a [u8]) -> Result<Words<'a>, FaultKind>
+    pub fn of(line: &'a [u8]) -> Result<Words<'a>, FaultKind>
         ensures { MatchResult result (λ words. words_or_fault line.now ≡ Ok (words_to_come words)) (λ kind. words_or_fault line.now ≡ Err kind) }
     {
         match open_bracket(line) {
@@ -157,7 +157,7 @@ impl<'a> Words<'a> {
     }
 
     /// Returns the first word, as it is written, and the words after it.
-    pub(crate) fn split_first(self) -> Option<(&'a [u8], Words<'a>)>
+    pub fn split_first(self) -> Option<(&'a [u8], Words<'a>)>
         ensures value { MatchOption result (words_to_come self.entry ≡ []) (λ p. words_to_come self.entry ≡ p.0.now ∷ words_to_come p.1) }
         ensures shorter { IfSome result (λ p. length p.1.rest.now < length self.entry.rest.now) }
     {
@@ -190,7 +190,8 @@ pub(crate) struct OwnedWords {
 }
 
 impl OwnedWords {
-    ghost use Rattle.pam_conf.specs.Remaining.{owned_words, words_to_come};
+    ghost use Rattle.pam_conf.specs.Owned.{owned_words};
+    ghost use Rattle.pam_conf.specs.Remaining.{words_to_come};
 
     /// Copies words, as they are written.
     pub(crate) fn of(alloc: Global, words: Words<'_>) -> Result<OwnedWords, AllocError>
@@ -241,7 +242,7 @@ fn unescape(word: &mut Vec<u8>)
 /// The text of a word: itself, or if it has brackets the unescaped text between them, which replaces the contents of
 /// `inside`.
 #[inline(always)]
-fn text_of<'a>(word: &'a [u8], inside: &'a mut Vec<u8>) -> Result<&'a [u8], AllocError>
+pub fn text_of<'a>(word: &'a [u8], inside: &'a mut Vec<u8>) -> Result<&'a [u8], AllocError>
     ensures { IfOk result (λ text. text.now ≡ text_of_word word.now) }
 {
     if word.is_empty() || word[0] != b'[' {

@@ -7,8 +7,8 @@ use Rattle.std.proofs.lemmas.List.{get_or_default}
 use Rattle.pam_codes.specs.declared.action.Action.{Action}
 use Rattle.pam_codes.specs.declared.parts.Part.{Part}
 use Rattle.pam_codes.specs.Parts.{IsParts}
-use Rattle.pam_dispatch.specs.declared.entry.Entry.{Entry}
-use Rattle.pam_dispatch.specs.declared.entry.Entry.TheVariants.{Module, Substack}
+use Rattle.pam_dispatch.specs.declared.flat_item.FlatItem.{FlatItem}
+use Rattle.pam_dispatch.specs.declared.flat_item.FlatItem.TheVariants.{Module, Substack}
 use Rattle.pam_dispatch.specs.declared.place.Place.{Place}
 use Rattle.pam_dispatch.specs.Runs.{Runs, asked_module, next_ask}
 use Rattle.pam_dispatch.specs.Flat.{IsNumbered, IsPlaceOf, controls_in, control_at, modules_of, rest_of}
@@ -26,14 +26,14 @@ all_zipped_at (x ∷ xs) (y ∷ ys) zero c p h within = h.0
 all_zipped_at (x ∷ xs) (y ∷ ys) (suc index) c p h within = all_zipped_at xs ys index c p h.1 (omega (arith, within))
 
 -- each module of a program has a position
-pub length-positions : (entries program : List Entry) (positions : List ℕ) {parts : List (List Part)} {flat tail : ℕ} →
-    IsProgram entries positions parts flat tail → entries ≡ program →
+pub length-positions : (flat_items program : List FlatItem) (positions : List ℕ) {parts : List (List Part)} {flat tail : ℕ} →
+    IsProgram flat_items positions parts flat tail → flat_items ≡ program →
     length positions ≡ modules_of program
-length-positions entries program positions p is =
-    ap (λ (x : List ℕ). length x) p.found ∙ length-positions_from 0 entries ∙ ap (λ (ts : List Entry). modules_of ts) is
+length-positions flat_items program positions p is =
+    ap (λ (x : List ℕ). length x) p.found ∙ length-positions_from 0 flat_items ∙ ap (λ (ts : List FlatItem). modules_of ts) is
 
 -- a module of a program has the control of its number
-pub control_at-module : (program : List Entry) (position : ℕ) (past : Entry) (level number : ℕ) (control : List Action) (after : ℕ) →
+pub control_at-module : (program : List FlatItem) (position : ℕ) (past : FlatItem) (level number : ℕ) (control : List Action) (after : ℕ) →
     IsNumbered 0 program → position < length program → get_or program position past ≡ Module level number control after →
     control_at program number ≡ control
 control_at-module program position past level number control after n within is =
@@ -42,13 +42,13 @@ control_at-module program position past level number control after n within is =
     ap (λ (x : ℕ). get_or (controls_in program) x []) same ∙ found.2
 
 -- a place that asks a module is at that module, and no other
-at_entry : (program : List Entry) (place : Place) (number : ℕ) → IsNumbered 0 program → IsPlaceOf program place →
+at_item : (program : List FlatItem) (place : Place) (number : ℕ) → IsNumbered 0 program → IsPlaceOf program place →
     asked_module (rest_of program place) ≡ Some number → place.position < length program →
-    (e : Entry) → get_or program place.position (Substack 0) ≡ e → (next_ask (rest_of program place)).control ≡ control_at program number
+    (e : FlatItem) → get_or program place.position (Substack 0) ≡ e → (next_ask (rest_of program place)).control ≡ control_at program number
 unfolding ask_at
-at_entry program place number numbered valid asked within (Substack level) is =
+at_item program place number numbered valid asked within (Substack level) is =
     absurd (place_no_substack program place valid (Substack 0) level within is)
-at_entry program place number numbered valid asked within (Module level m control after) is =
+at_item program place number numbered valid asked within (Module level m control after) is =
     let asks = place_asks program place valid (Substack 0) level m control after within is in
     let same : m ≡ number = sym (ap (λ (r : Runs). (next_ask r).module_number) asks) ∙ number-next_ask (rest_of program place) number asked in
     ap (λ (r : Runs). (next_ask r).control) asks
@@ -56,28 +56,29 @@ at_entry program place number numbered valid asked within (Module level m contro
     ∙ ap (λ (x : ℕ). control_at program x) same
 
 -- how a module of a program is asked, by its number
-pub place-control : (program : List Entry) (place : Place) (number : ℕ) → IsNumbered 0 program → IsPlaceOf program place →
+pub place-control : (program : List FlatItem) (place : Place) (number : ℕ) → IsNumbered 0 program → IsPlaceOf program place →
     asked_module (rest_of program place) ≡ Some number → (next_ask (rest_of program place)).control ≡ control_at program number
 place-control program place number numbered valid asked =
-    at_entry program place number numbered valid asked (place_within program place valid (ap is_some asked))
+    at_item program place number numbered valid asked (place_within program place valid (ap is_some asked))
     (get_or program place.position (Substack 0)) refl
 
-module _ (entries program : List Entry) (positions : List ℕ) {parts : List (List Part)} {flat tail : ℕ} (p : IsProgram entries positions parts flat tail)
-    (is : entries ≡ program) (number : ℕ) (first : 1 ≤ number) (last : number ≤ modules_of program) where
-  index_within : number - 1 < modules_of entries
-  index_within = omega (arith, first, last, ap (λ (ts : List Entry). modules_of ts) is)
+module _ (flat_items program : List FlatItem) (positions : List ℕ) {parts : List (List Part)} {flat tail : ℕ}
+    (p : IsProgram flat_items positions parts flat tail)
+    (is : flat_items ≡ program) (number : ℕ) (first : 1 ≤ number) (last : number ≤ modules_of program) where
+  index_within : number - 1 < modules_of flat_items
+  index_within = omega (arith, first, last, ap (λ (ts : List FlatItem). modules_of ts) is)
 
   pub number_within : number - 1 < length positions
-  number_within = omega (arith, first, last, length-positions entries program positions p is)
+  number_within = omega (arith, first, last, length-positions flat_items program positions p is)
 
   pub parts_within : number - 1 < length parts
-  parts_within = omega (arith, index_within, AllZip-long IsParts (controls_in entries) parts p.divided)
+  parts_within = omega (arith, index_within, AllZip-long IsParts (controls_in flat_items) parts p.divided)
 
   -- the parts of a number are those of its control
   pub parts_at : (past : List Part) → IsParts (control_at program number) (get_or parts (number - 1) past)
   parts_at past =
-      subst (λ (ts : List Entry). IsParts (control_at ts number) (get_or parts (number - 1) past)) is
-      (all_zipped_at (controls_in entries) parts (number - 1) [] past p.divided index_within)
+      subst (λ (ts : List FlatItem). IsParts (control_at ts number) (get_or parts (number - 1) past)) is
+      (all_zipped_at (controls_in flat_items) parts (number - 1) [] past p.divided index_within)
 
   pub parts_asked : (past : List Part) (place : Place) → IsPlaceOf program place → asked_module (rest_of program place) ≡ Some number →
       IsParts (next_ask (rest_of program place)).control (get_or parts (number - 1) past)
@@ -90,33 +91,33 @@ module _ (entries program : List Entry) (positions : List ℕ) {parts : List (Li
   control_asked place valid asked = place-control program place number (subst (λ ts. IsNumbered 0 ts) is p.numbered) valid asked
 
   module _ (position : ℕ) (at : position ≡ get_or positions (number - 1) position) where
-    module_there : ModuleAt entries position number (get_or (controls_in entries) (number - 1) [])
+    module_there : ModuleAt flat_items position number (get_or (controls_in flat_items) (number - 1) [])
     module_there =
-        let found = at_positions_from entries 0 0 (number - 1) p.numbered index_within in
+        let found = at_positions_from flat_items 0 0 (number - 1) p.numbered index_within in
         let here : found.0 ≡ position =
         sym (at ∙ get_or_default positions (number - 1) position 0 number_within
         ∙ ap (λ (x : List ℕ). get_or x (number - 1) 0) p.found ∙ found.1 ∙ (let z : 0 + found.0 ≡ found.0 = omega arith in z)) in
         let same : 0 + (number - 1) + 1 ≡ number = omega (arith, first) in
-        subst (λ (x : ℕ). ModuleAt entries x number (get_or (controls_in entries) (number - 1) [])) here
-        (subst (λ (x : ℕ). ModuleAt entries found.0 x (get_or (controls_in entries) (number - 1) [])) same found.2)
+        subst (λ (x : ℕ). ModuleAt flat_items x number (get_or (controls_in flat_items) (number - 1) [])) here
+        (subst (λ (x : ℕ). ModuleAt flat_items found.0 x (get_or (controls_in flat_items) (number - 1) [])) same found.2)
 
-    pub position_within : position < length entries
+    pub position_within : position < length flat_items
     position_within = module_there.within
 
-    module _ (e : Entry) (there : e ≡ get_or entries position e) where
-      -- the entry that was found is the module of the number
-      found_module : e ≡ Module module_there.level number (get_or (controls_in entries) (number - 1) []) module_there.after
+    module _ (e : FlatItem) (there : e ≡ get_or flat_items position e) where
+      -- the item that was found is the module of the number
+      found_module : e ≡ Module module_there.level number (get_or (controls_in flat_items) (number - 1) []) module_there.after
       found_module = there ∙ module_there.is e
 
       pub found_no_substack : (level : ℕ) → e ≡ Substack level → ⊥
       found_no_substack level substack =
-          let no : Module module_there.level number (get_or (controls_in entries) (number - 1) []) module_there.after ≡ Substack level =
+          let no : Module module_there.level number (get_or (controls_in flat_items) (number - 1) []) module_there.after ≡ Substack level =
           sym found_module ∙ substack in
           cc
 
       pub found_control : (level m : ℕ) (control : List Action) (after : ℕ) → e ≡ Module level m control after → control ≡ control_at program number
       found_control level m control after found =
-          ap control_of (sym found ∙ found_module) ∙ ap (λ (ts : List Entry). control_at ts number) is
+          ap control_of (sym found ∙ found_module) ∙ ap (λ (ts : List FlatItem). control_at ts number) is
 
       pub found_asked : (level m : ℕ) (control : List Action) (after : ℕ) → e ≡ Module level m control after →
           (place : Place) → IsPlaceOf program place → asked_module (rest_of program place) ≡ Some number →

@@ -8,8 +8,8 @@ use Rattle.pam_conf.specs.declared.stack.Item.TheVariants.{Module as ModuleItem,
 use Rattle.pam_conf.specs.Stack.{Items, SubList, depth}
 use Rattle.pam_conf.specs.ItemsOf.{items_of}
 use Rattle.pam_conf.proofs.StackTree.{items_of-drop_module, items_of-drop_sub}
-use Rattle.pam_dispatch.specs.declared.entry.Entry.{Entry}
-use Rattle.pam_dispatch.specs.declared.entry.Entry.TheVariants.{Module as ModuleEntry, Substack}
+use Rattle.pam_dispatch.specs.declared.flat_item.FlatItem.{FlatItem}
+use Rattle.pam_dispatch.specs.declared.flat_item.FlatItem.TheVariants.{Module as FlatModule, Substack}
 use Rattle.pam_dispatch.specs.Tree.{count}
 use Rattle.pam_dispatch.specs.Flat.{flat_list}
 
@@ -19,39 +19,41 @@ count-items_of [] = refl
 count-items_of (ModuleItem m ∷ xs) = ap suc (count-items_of xs)
 count-items_of (SubItem s ∷ xs) = ap suc (count-items_of xs)
 
--- a module comes after the entries of the items before it
-pub flat_list-module : (level i after : ℕ) (xs : List Item) (entries : List Entry) (d : Item) (m : Module) → i < length xs → get_or xs i d ≡ ModuleItem m →
+-- a module comes after the flat list of the items before it
+pub flat_list-module : (level i after : ℕ) (xs : List Item) (flat_items : List FlatItem) (d : Item) (m : Module) → i < length xs →
+    get_or xs i d ≡ ModuleItem m →
     after + (i + 1) ≡ length xs →
-    (entries ++ ModuleEntry level m.number m.control after ∷ []) ++ flat_list level (items_of (drop (i + 1) xs)) ≡ entries ++ flat_list level
+    (flat_items ++ FlatModule level m.number m.control after ∷ []) ++ flat_list level (items_of (drop (i + 1) xs)) ≡ flat_items ++ flat_list level
     (items_of (drop i xs))
 unfolding flat_list
-flat_list-module level i after xs entries d m h e b =
+flat_list-module level i after xs flat_items d m h e b =
     let next : i + 1 ≡ suc i = omega arith in
     let left : length (drop (suc i) xs) ≡ after = length-drop (suc i) xs ∙ omega (arith, b) in
-    append_assoc entries (ModuleEntry level m.number m.control after ∷ []) (flat_list level (items_of (drop (i + 1) xs)))
-    ∙ ap (λ (k : ℕ). entries ++ ModuleEntry level m.number m.control after ∷ flat_list level (items_of (drop k xs))) next
-    ∙ ap (λ (k : ℕ). entries ++ ModuleEntry level m.number m.control k ∷ flat_list level (items_of (drop (suc i) xs)))
+    append_assoc flat_items (FlatModule level m.number m.control after ∷ []) (flat_list level (items_of (drop (i + 1) xs)))
+    ∙ ap (λ (k : ℕ). flat_items ++ FlatModule level m.number m.control after ∷ flat_list level (items_of (drop k xs))) next
+    ∙ ap (λ (k : ℕ). flat_items ++ FlatModule level m.number m.control k ∷ flat_list level (items_of (drop (suc i) xs)))
     (sym (count-items_of (drop (suc i) xs) ∙ left))
-    ∙ ap (λ (x : Items). entries ++ flat_list level x) (sym (items_of-drop_module xs i d m h e))
+    ∙ ap (λ (x : Items). flat_items ++ flat_list level x) (sym (items_of-drop_module xs i d m h e))
 
--- a substack and its entries come after the entries of the items before it
-pub flat_list-sub : (level i : ℕ) (xs : List Item) (entries : List Entry) (d : Item) (s : SubList) → i < length xs → get_or xs i d ≡ SubItem s →
-    ((entries ++ Substack level ∷ []) ++ flat_list (level + 1) s.inner) ++ flat_list level (items_of (drop (i + 1) xs)) ≡ entries ++ flat_list level
+-- a substack and its flat list come after that of the items before it
+pub flat_list-sub : (level i : ℕ) (xs : List Item) (flat_items : List FlatItem) (d : Item) (s : SubList) → i < length xs → get_or xs i d ≡ SubItem s →
+    ((flat_items ++ Substack level ∷ []) ++ flat_list (level + 1) s.inner) ++ flat_list level (items_of (drop (i + 1) xs)) ≡ flat_items ++ flat_list level
     (items_of (drop i xs))
 unfolding flat_list
-flat_list-sub level i xs entries d s h e =
+flat_list-sub level i xs flat_items d s h e =
     let next : i + 1 ≡ suc i = omega arith in
     let after = flat_list level (items_of (drop (i + 1) xs)) in
-    append_assoc (entries ++ Substack level ∷ []) (flat_list (level + 1) s.inner) after
-    ∙ append_assoc entries (Substack level ∷ []) (flat_list (level + 1) s.inner ++ after)
-    ∙ ap (λ (k : ℕ). entries ++ Substack level ∷ (flat_list (level + 1) s.inner ++ flat_list level (items_of (drop k xs)))) next
-    ∙ ap (λ (x : Items). entries ++ flat_list level x) (sym (items_of-drop_sub xs i d s h e))
+    append_assoc (flat_items ++ Substack level ∷ []) (flat_list (level + 1) s.inner) after
+    ∙ append_assoc flat_items (Substack level ∷ []) (flat_list (level + 1) s.inner ++ after)
+    ∙ ap (λ (k : ℕ). flat_items ++ Substack level ∷ (flat_list (level + 1) s.inner ++ flat_list level (items_of (drop k xs)))) next
+    ∙ ap (λ (x : Items). flat_items ++ flat_list level x) (sym (items_of-drop_sub xs i d s h e))
 
 -- nothing is left after the last item
-pub flat_list-end : (level i : ℕ) (xs : List Item) (entries : List Entry) → length xs ≤ i → entries ++ flat_list level (items_of (drop i xs)) ≡ entries
+pub flat_list-end : (level i : ℕ) (xs : List Item) (flat_items : List FlatItem) → length xs ≤ i →
+    flat_items ++ flat_list level (items_of (drop i xs)) ≡ flat_items
 unfolding flat_list
-flat_list-end level i xs entries h =
-    ap (λ (ys : List Item). entries ++ flat_list level (items_of ys)) (drop_of_length-le xs h) ∙ append-nil entries
+flat_list-end level i xs flat_items h =
+    ap (λ (ys : List Item). flat_items ++ flat_list level (items_of ys)) (drop_of_length-le xs h) ∙ append-nil flat_items
 
 depth-drop_suc : (xs : List Item) (i : ℕ) → depth (items_of (drop (suc i) xs)) ≤ depth (items_of (drop i xs))
 depth-drop_suc [] i = rw (drop-nil i) (omega arith)

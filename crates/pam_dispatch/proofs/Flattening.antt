@@ -4,8 +4,8 @@ use Rattle.std.proofs.Common.{append_assoc, append-nil}
 use Rattle.std.proofs.lemmas.List.{take_all, take-append-le, get_or-append_right, length-append, get_or_append_left}
 use Rattle.pam_dispatch.specs.declared.state.State.{State}
 use Rattle.pam_dispatch.specs.declared.step.Outcome.{Outcome}
-use Rattle.pam_dispatch.specs.declared.entry.Entry.{Entry}
-use Rattle.pam_dispatch.specs.declared.entry.Entry.TheVariants.{Module, Substack}
+use Rattle.pam_dispatch.specs.declared.flat_item.FlatItem.{FlatItem}
+use Rattle.pam_dispatch.specs.declared.flat_item.FlatItem.TheVariants.{Module, Substack}
 use Rattle.pam_dispatch.specs.Runs.{Runs, asks}
 use Rattle.pam_dispatch.specs.Tree.{count, runs_after, runs_of_stack}
 use Rattle.pam_conf.specs.Stack.{Items, End, ThenModule, ThenSub}
@@ -13,12 +13,12 @@ use Rattle.pam_dispatch.specs.Flat.{level_of, resume, flat_list, runs_of}
 use Rattle.pam_dispatch.specs.State.{start_state}
 use Rattle.pam_dispatch.proofs.Resume.{resume-deeper, resume-item, resume-sub, resume-module, ask_at}
 
--- the first entry, if there is one, has a lower level
-unfoldable pub HeadBelow : ℕ → List Entry → Type 0
+-- the first item, if there is one, has a lower level
+unfoldable pub HeadBelow : ℕ → List FlatItem → Type 0
 HeadBelow level [] = Unit {0}
 HeadBelow level (e ∷ ts) = level_of e < level
 
-HeadBelow-flat_list : (level high : ℕ) (items : Items) (ts : List Entry) → level < high → HeadBelow level ts → HeadBelow high (flat_list level items ++ ts)
+HeadBelow-flat_list : (level high : ℕ) (items : Items) (ts : List FlatItem) → level < high → HeadBelow level ts → HeadBelow high (flat_list level items ++ ts)
 unfolding HeadBelow flat_list
 HeadBelow-flat_list level high End [] l h = tt
 HeadBelow-flat_list level high End (t ∷ ts) l h = omega (arith, h)
@@ -26,7 +26,7 @@ HeadBelow-flat_list level high (ThenModule m rest) ts l h = l
 HeadBelow-flat_list level high (ThenSub sub inner rest) ts l h = l
 
 -- the run of a flat list depends neither on the number to skip at a deeper level, nor on deeper entry states
-same_above : (ts : List Entry) (level l1 k1 l2 k2 : ℕ) (es fs : List State) (s : State) → HeadBelow level ts → level ≤ suc l1 → level ≤ suc l2 →
+same_above : (ts : List FlatItem) (level l1 k1 l2 k2 : ℕ) (es fs : List State) (s : State) → HeadBelow level ts → level ≤ suc l1 → level ≤ suc l2 →
     ((here : ℕ) → here < level → here ≡ l1 → 0 < k1 → ⊥) → ((here : ℕ) → here < level → here ≡ l2 → 0 < k2 → ⊥) →
     ((here : ℕ) → here < level → take (here + 1) es ≡ take (here + 1) fs) →
     ((here : ℕ) → here < level → get_or es here start_state ≡ get_or fs here start_state) →
@@ -46,7 +46,7 @@ same_above (Substack here ∷ ts) level l1 k1 l2 k2 es fs s h a b p q t g =
     ∙ sym (resume-sub here ts l2 k2 fs s (omega arith) (q here h))
 
 -- deeper items are skipped
-pass_deeper : (deep : ℕ) (items : Items) (ts : List Entry) (level skip : ℕ) (es : List State) (s : State) → level < deep →
+pass_deeper : (deep : ℕ) (items : Items) (ts : List FlatItem) (level skip : ℕ) (es : List State) (s : State) → level < deep →
     resume (flat_list deep items ++ ts) level skip es s ≡ resume ts level skip es s
 unfolding flat_list
 pass_deeper deep End ts level skip es s h = refl
@@ -55,12 +55,12 @@ pass_deeper deep (ThenModule m rest) ts level skip es s h =
     ∙ pass_deeper deep rest ts level skip es s h
 pass_deeper deep (ThenSub sub inner rest) ts level skip es s h =
     resume-deeper (Substack deep) ((flat_list (deep + 1) inner ++ flat_list deep rest) ++ ts) level skip es s h
-    ∙ ap (λ (x : List Entry). resume x level skip es s) (append_assoc (flat_list (deep + 1) inner) (flat_list deep rest) ts)
+    ∙ ap (λ (x : List FlatItem). resume x level skip es s) (append_assoc (flat_list (deep + 1) inner) (flat_list deep rest) ts)
     ∙ pass_deeper (deep + 1) inner (flat_list deep rest ++ ts) level skip es s (omega arith)
     ∙ pass_deeper deep rest ts level skip es s h
 
 -- the run of a flat list is that of its items
-pub flat_runs : (items : Items) (level skip : ℕ) (ts : List Entry) (es : List State) (s e : State) → HeadBelow level ts → skip ≤ count items →
+pub flat_runs : (items : Items) (level skip : ℕ) (ts : List FlatItem) (es : List State) (s e : State) → HeadBelow level ts → skip ≤ count items →
     length es ≡ level + 1 → get_or es level start_state ≡ e →
     resume (flat_list level items ++ ts) level skip es s ≡ runs_after skip items s e (λ t. resume ts level 0 es t)
 unfolding flat_list runs_after count ask_at
@@ -76,7 +76,7 @@ flat_runs (ThenSub sub inner rest) level (suc k) ts es s e h le len is =
     let one : suc k - 1 ≡ k = omega arith in
     resume-item (Substack level) ((flat_list (level + 1) inner ++ flat_list level rest) ++ ts) level (suc k) es s refl (omega arith)
     ∙ ap (λ (x : ℕ). resume ((flat_list (level + 1) inner ++ flat_list level rest) ++ ts) level x es s) one
-    ∙ ap (λ (x : List Entry). resume x level k es s) (append_assoc (flat_list (level + 1) inner) (flat_list level rest) ts)
+    ∙ ap (λ (x : List FlatItem). resume x level k es s) (append_assoc (flat_list (level + 1) inner) (flat_list level rest) ts)
     ∙ pass_deeper (level + 1) inner (flat_list level rest ++ ts) level k es s (omega arith)
     ∙ flat_runs rest level k ts es s e h (omega arith) len is
 flat_runs (ThenModule m rest) level zero ts es s e h le len is =
@@ -100,7 +100,7 @@ flat_runs (ThenSub sub inner rest) level zero ts es s e h le len is =
     ∙ get_or-append_right es (s ∷ []) (level + 1) (level + 1) start_state len (omega arith)
     ∙ ap (λ (x : ℕ). get_or (s ∷ []) x start_state) (let z : (level + 1) - (level + 1) ≡ 0 = omega arith in z) in
     resume-sub level ((flat_list (level + 1) inner ++ flat_list level rest) ++ ts) level 0 es s (omega arith) (λ i z. omega arith)
-    ∙ ap (λ (x : List Entry). resume x (level + 1) 0 more s) (append_assoc (flat_list (level + 1) inner) (flat_list level rest) ts)
+    ∙ ap (λ (x : List FlatItem). resume x (level + 1) 0 more s) (append_assoc (flat_list (level + 1) inner) (flat_list level rest) ts)
     ∙ flat_runs inner (level + 1) 0 rests more s s (HeadBelow-flat_list level (level + 1) rest ts (omega arith) h) (omega arith) long last
     ∙ ap (λ (f : State → Runs). runs_after 0 inner s s f) (λ i t.
     (same_above rests (level + 1) (level + 1) 0 level 0 more es t (HeadBelow-flat_list level (level + 1) rest ts (omega arith) h)
@@ -113,5 +113,5 @@ flat_runs (ThenSub sub inner rest) level zero ts es s e h le len is =
 pub runs_of-flat_list : (items : Items) → runs_of (flat_list 0 items) ≡ runs_of_stack items
 unfolding HeadBelow resume runs_of
 runs_of-flat_list items =
-    ap (λ (x : List Entry). resume x 0 0 (start_state ∷ []) start_state) (sym (append-nil (flat_list 0 items)))
+    ap (λ (x : List FlatItem). resume x 0 0 (start_state ∷ []) start_state) (sym (append-nil (flat_list 0 items)))
     ∙ flat_runs items 0 0 [] (start_state ∷ []) start_state start_state tt (omega arith) refl refl

@@ -2,6 +2,7 @@ pub mod Asking
 pub mod Controls
 pub mod FlatLists
 pub mod Flattening
+pub mod Keys
 pub mod ModuleParts
 pub mod Numbering
 pub mod OpenRuns
@@ -9,5 +10,5 @@ pub mod Places
 pub mod Positions
 pub mod Resume
 pub mod Retelling
+pub mod SettledRuns
 pub mod StackLists
-pub mod Tails

@@ -4,8 +4,8 @@ use Rattle.std.proofs.lemmas.Bool.{cond_both}
 use Rattle.pam_codes.specs.declared.action.Action.{Action}
 use Rattle.pam_conf.specs.Stack.{Items, IsNumberedFrom, module_count}
 use Rattle.pam_dispatch.specs.declared.state.State.{State}
-use Rattle.pam_dispatch.specs.declared.entry.Entry.{Entry}
-use Rattle.pam_dispatch.specs.declared.entry.Entry.TheVariants.{Module, Substack}
+use Rattle.pam_dispatch.specs.declared.flat_item.FlatItem.{FlatItem}
+use Rattle.pam_dispatch.specs.declared.flat_item.FlatItem.TheVariants.{Module, Substack}
 use Rattle.pam_dispatch.specs.Runs.{Runs, ends, asks, AsksRise}
 use Rattle.pam_dispatch.specs.Flat.{flat_list, resume, runs_of, controls_in, modules_of, positions_from, IsNumbered}
 use Rattle.pam_dispatch.specs.Tree.{runs_of_stack}
@@ -19,7 +19,7 @@ AsksRise-lower low above high (ends s) le h = tt
 AsksRise-lower low above high (asks ask next) le h = (omega (arith, h.0), h.1, h.2)
 
 -- a run of numbered modules asks them in order
-AsksRise-resume : (ts : List Entry) (before high level skip : ℕ) (es : List State) (s : State) →
+AsksRise-resume : (ts : List FlatItem) (before high level skip : ℕ) (es : List State) (s : State) →
     IsNumbered before ts → before + modules_of ts ≤ high → AsksRise before high (resume ts level skip es s)
 unfolding IsNumbered resume AsksRise controls_in
 AsksRise-resume [] before high level skip es s n h = tt
@@ -42,7 +42,7 @@ AsksRise-resume (Substack here ∷ rest) before high level skip es s n h =
     (λ j. AsksRise-resume rest before high level (skip - 1) es s n h)
     (λ j. AsksRise-resume rest before high (here + 1) 0 _ s n h))
 
-pub AsksRise-runs_of : (program : List Entry) → IsNumbered 0 program → AsksRise 0 (modules_of program) (runs_of program)
+pub AsksRise-runs_of : (program : List FlatItem) → IsNumbered 0 program → AsksRise 0 (modules_of program) (runs_of program)
 unfolding runs_of
 AsksRise-runs_of program n = AsksRise-resume program 0 (modules_of program) 0 0 _ _ n (omega arith)
 
@@ -55,35 +55,35 @@ AsksRise-stack items numbered =
     (AsksRise-runs_of (flat_list 0 items) (numbered-flat_list 0 0 items (subst (λ (n : ℕ). IsNumberedFrom n items) first numbered))))
 
 -- each module has a position
-pub length-positions_from : (before : ℕ) (ts : List Entry) → length (positions_from before ts) ≡ modules_of ts
+pub length-positions_from : (before : ℕ) (ts : List FlatItem) → length (positions_from before ts) ≡ modules_of ts
 unfolding positions_from controls_in
 length-positions_from before [] = refl
 length-positions_from before (Module level number control after ∷ rest) = ap suc (length-positions_from (before + 1) rest)
 length-positions_from before (Substack level ∷ rest) = length-positions_from (before + 1) rest
 
--- the number and the control of an entry
-abbrev pub number_of : Entry → ℕ
+-- the number and the control of an item
+abbrev pub number_of : FlatItem → ℕ
 number_of (Module level number control after) = number
 number_of (Substack level) = 0
 
-abbrev pub control_of : Entry → List Action
+abbrev pub control_of : FlatItem → List Action
 control_of (Module level number control after) = control
 control_of (Substack level) = []
 
--- the entry at a position is the module of a number, with its control
-pub record ModuleAt (ts : List Entry) (position number : ℕ) (control : List Action) : Type 0 where
+-- the item at a position is the module of a number, with its control
+pub record ModuleAt (ts : List FlatItem) (position number : ℕ) (control : List Action) : Type 0 where
   pub level : ℕ
   pub after : ℕ
   pub within : position < length ts
-  pub is : (past : Entry) → get_or ts position past ≡ Module level number control after
+  pub is : (past : FlatItem) → get_or ts position past ≡ Module level number control after
 
--- after one more entry
-ModuleAt-next : (e : Entry) (ts : List Entry) (position number : ℕ) (control : List Action) →
+-- after one more item
+ModuleAt-next : (e : FlatItem) (ts : List FlatItem) (position number : ℕ) (control : List Action) →
     ModuleAt ts position number control → ModuleAt (e ∷ ts) (suc position) number control
 ModuleAt-next e ts position number control m = record { level = m.level; after = m.after; within = omega (arith, m.within); is = m.is }
 
 -- the module of an index is at its position in the list of positions
-pub at_positions_from : (ts : List Entry) (before numbered index : ℕ) → IsNumbered numbered ts → index < modules_of ts →
+pub at_positions_from : (ts : List FlatItem) (before numbered index : ℕ) → IsNumbered numbered ts → index < modules_of ts →
     (position : ℕ) × (get_or (positions_from before ts) index 0 ≡ before + position)
     × ModuleAt ts position (numbered + index + 1) (get_or (controls_in ts) index [])
 unfolding IsNumbered positions_from controls_in
@@ -106,7 +106,7 @@ at_positions_from (Substack level ∷ rest) before numbered index n h =
     (suc deeper.0, deeper.1 ∙ omega arith, ModuleAt-next (Substack level) rest deeper.0 _ _ deeper.2)
 
 -- a module of the list has the control of its number
-pub control_in-module : (ts : List Entry) (before position : ℕ) (past : Entry) (level number : ℕ) (control : List Action) (after : ℕ) →
+pub control_in-module : (ts : List FlatItem) (before position : ℕ) (past : FlatItem) (level number : ℕ) (control : List Action) (after : ℕ) →
     IsNumbered before ts → position < length ts → get_or ts position past ≡ Module level number control after →
     (index : ℕ) × (number ≡ before + index + 1) × (get_or (controls_in ts) index [] ≡ control)
 unfolding IsNumbered controls_in

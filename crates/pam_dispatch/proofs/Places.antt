@@ -9,8 +9,8 @@ use Rattle.pam_dispatch.specs.declared.state.State.{State}
 use Rattle.pam_dispatch.specs.declared.place.Place.{Place}
 use Rattle.pam_codes.specs.declared.action.Action.{Action}
 use Rattle.pam_codes.specs.declared.action.Action.TheVariants.{Ignore}
-use Rattle.pam_dispatch.specs.declared.entry.Entry.{Entry}
-use Rattle.pam_dispatch.specs.declared.entry.Entry.TheVariants.{Module, Substack}
+use Rattle.pam_dispatch.specs.declared.flat_item.FlatItem.{FlatItem}
+use Rattle.pam_dispatch.specs.declared.flat_item.FlatItem.TheVariants.{Module, Substack}
 use Rattle.pam_dispatch.specs.State.{start_state, act, left_of}
 use Rattle.pam_dispatch.specs.declared.step.Outcome.{Outcome}
 use Rattle.pam_dispatch.specs.Runs.{Ask, outcome_of, Runs, asked_module, state_in, after_answer, next_ask}
@@ -38,7 +38,7 @@ outcome-made ask state entry after code action made s e a acts new left =
     ∙ ap (λ (x : ℕ). outcome made.state x) (sym left)
 
 -- a run begins in its state
-pub state_in-resume : (ts : List Entry) (level skip : ℕ) (es : List State) (s : State) → state_in (resume ts level skip es s) ≡ s
+pub state_in-resume : (ts : List FlatItem) (level skip : ℕ) (es : List State) (s : State) → state_in (resume ts level skip es s) ≡ s
 unfolding resume
 state_in-resume [] level skip es s = refl
 state_in-resume (Module here m control after ∷ rest) level skip es s =
@@ -54,7 +54,7 @@ state_in-resume (Substack here ∷ rest) level skip es s =
     (λ r. state_in r ≡ s)
     (λ j. state_in-resume rest level (skip - 1) es s) (λ j. state_in-resume rest (here + 1) 0 _ s))
 
-asked-resume : (ts : List Entry) (depth : ℕ) (n : Option ℕ) (es : List State) (s : State) → IsAt ts depth n → n ≡ asked_module (resume ts depth 0 es s)
+asked-resume : (ts : List FlatItem) (depth : ℕ) (n : Option ℕ) (es : List State) (s : State) → IsAt ts depth n → n ≡ asked_module (resume ts depth 0 es s)
 unfolding resume
 asked-resume [] depth n es s h = h
 asked-resume (Module here m control after ∷ rest) depth n es s h =
@@ -63,7 +63,7 @@ asked-resume (Module here m control after ∷ rest) depth n es s h =
     ∙ sym (ap asked_module (resume-module here m control after rest depth 0 es s (omega (arith, h.0)) (λ e l. omega arith)))
 asked-resume (Substack here ∷ rest) depth n es s h = absurd h
 
-module _ (program : List Entry) (place : Place) (valid : IsPlaceOf program place) where
+module _ (program : List FlatItem) (place : Place) (valid : IsPlaceOf program place) where
   -- a place has the module asked and the state
   pub place_module : place.module_number ≡ asked_module (rest_of program place)
   unfolding IsPlaceOf rest_of
@@ -84,17 +84,17 @@ module _ (program : List Entry) (place : Place) (valid : IsPlaceOf program place
             absurd (false≢true (subst (λ ts. IsSome (asked_module (resume ts place.depth 0 (take place.depth place.entered.states) place.state))) e some))
       ]
 
-  pub place_no_substack : (d : Entry) (l : ℕ) → place.position < length program → get_or program place.position d ≡ Substack l → ⊥
+  pub place_no_substack : (d : FlatItem) (l : ℕ) → place.position < length program → get_or program place.position d ≡ Substack l → ⊥
   unfolding IsPlaceOf
   place_no_substack d l within is =
       subst (λ ts. IsAt ts place.depth place.module_number) (at_index program place.position d (Substack l) within is) valid
 
-  module _ (d : Entry) (l m : ℕ) (control : List Action) (after : ℕ) (within : place.position < length program)
+  module _ (d : FlatItem) (l m : ℕ) (control : List Action) (after : ℕ) (within : place.position < length program)
       (is : get_or program place.position d ≡ Module l m control after) where
     pub place_depth : place.depth ≡ l + 1
     unfolding IsPlaceOf
     place_depth =
-        let P : List Entry → Type 0 = λ ts. IsAt ts place.depth place.module_number in
+        let P : List FlatItem → Type 0 = λ ts. IsAt ts place.depth place.module_number in
         let k : P (Module l m control after ∷ drop (place.position + 1) program) =
         subst P (at_index program place.position d (Module l m control after) within is) valid in
         k.0
@@ -117,7 +117,7 @@ module _ (program : List Entry) (place : Place) (valid : IsPlaceOf program place
     pub place_deep : 1 ≤ place.depth
     place_deep = deep (get_or program place.position (Substack 0)) refl
       where
-        deep : (e : Entry) → get_or program place.position (Substack 0) ≡ e → 1 ≤ place.depth
+        deep : (e : FlatItem) → get_or program place.position (Substack 0) ≡ e → 1 ≤ place.depth
         deep (Module l m control after) is = omega (arith, place_depth (Substack 0) l m control after (place_within asking) is)
         deep (Substack l) is = absurd (place_no_substack (Substack 0) l (place_within asking) is)
 
@@ -127,13 +127,13 @@ module _ (program : List Entry) (place : Place) (valid : IsPlaceOf program place
       pub answer_rest : after_answer (rest_of program place) code
           ≡ resume (drop (place.position + 1) program) level skip (take place.depth place.entered.states) made.state
       unfolding ask_at
-      answer_rest = at_entry (get_or program place.position (Substack 0)) refl
+      answer_rest = at_item (get_or program place.position (Substack 0)) refl
         where
-          at_entry : (e : Entry) → get_or program place.position (Substack 0) ≡ e →
+          at_item : (e : FlatItem) → get_or program place.position (Substack 0) ≡ e →
               after_answer (rest_of program place) code
               ≡ resume (drop (place.position + 1) program) level skip (take place.depth place.entered.states) made.state
-          at_entry (Substack l) is = absurd (place_no_substack (Substack 0) l (place_within asking) is)
-          at_entry (Module l m control after) is =
+          at_item (Substack l) is = absurd (place_no_substack (Substack 0) l (place_within asking) is)
+          at_item (Module l m control after) is =
               let rest = drop (place.position + 1) program in
               let asks = place_asks (Substack 0) l m control after (place_within asking) is in
               let deeper = place_depth (Substack 0) l m control after (place_within asking) is in

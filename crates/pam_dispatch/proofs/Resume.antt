@@ -1,4 +1,4 @@
--- The effect of each entry on a run over a flat list.
+-- The effect of each item on a run over a flat list.
 use Rattle.std.proofs.Common.{◌≡◌, ℕ, ◌+◌, ◌-◌, ◌<◌, ◌≤◌, false, ◌&&◌, List, [], ◌∷◌, ◌++◌, eqb, ltb, zero, suc, refl, sym, ◌∙◌, ap, arith, take}
 use Rattle.std.proofs.Common.{drop, length, get_or, drop-cons, add-one, add-suc, slice_set, min, subst, Some}
 use Rattle.std.proofs.lemmas.List.{drop-drop, get_or-take, length-drop}
@@ -7,8 +7,8 @@ use Rattle.std.proofs.Math.Seq.{take-suc-set}
 use Rattle.std.proofs.lemmas.Bool.{cond-true, cond-false, lt-ltb, le-ltb, eq-eqb, and_from, and_right, ne_eqb, and_left}
 use Rattle.pam_dispatch.specs.declared.state.State.{State}
 use Rattle.pam_codes.specs.declared.action.Action.{Action}
-use Rattle.pam_dispatch.specs.declared.entry.Entry.{Entry}
-use Rattle.pam_dispatch.specs.declared.entry.Entry.TheVariants.{Module, Substack}
+use Rattle.pam_dispatch.specs.declared.flat_item.FlatItem.{FlatItem}
+use Rattle.pam_dispatch.specs.declared.flat_item.FlatItem.TheVariants.{Module, Substack}
 use Rattle.pam_dispatch.specs.State.{start_state}
 use Rattle.pam_dispatch.specs.Runs.{Runs, asks, asked_module}
 use Rattle.pam_dispatch.specs.Flat.{AreOutermost, level_of, resume}
@@ -19,15 +19,15 @@ take-take (suc m) zero xs h = absurd (omega arith)
 take-take (suc m) (suc d) [] h = refl
 take-take (suc m) (suc d) (x ∷ xs) h = ap (λ zs. x ∷ zs) (take-take m d xs (omega arith))
 
--- a deeper entry is skipped
-pub resume-deeper : (e : Entry) (rest : List Entry) (level skip : ℕ) (es : List State) (s : State) → level < level_of e →
+-- a deeper item is skipped
+pub resume-deeper : (e : FlatItem) (rest : List FlatItem) (level skip : ℕ) (es : List State) (s : State) → level < level_of e →
     resume (e ∷ rest) level skip es s ≡ resume rest level skip es s
 unfolding resume
 resume-deeper (Module here m control after) rest level skip es s h = cond-true (ltb level here) _ _ (lt-ltb _ _ h)
 resume-deeper (Substack here) rest level skip es s h = cond-true (ltb level here) _ _ (lt-ltb _ _ h)
 
 -- an item of the level is skipped while some are left to skip
-pub resume-item : (e : Entry) (rest : List Entry) (level skip : ℕ) (es : List State) (s : State) → level_of e ≡ level → 0 < skip →
+pub resume-item : (e : FlatItem) (rest : List FlatItem) (level skip : ℕ) (es : List State) (s : State) → level_of e ≡ level → 0 < skip →
     resume (e ∷ rest) level skip es s ≡ resume rest level (skip - 1) es s
 unfolding resume
 resume-item (Module here m control after) rest level skip es s e h =
@@ -42,7 +42,7 @@ stays here level zero h = and_right (eqb here level) _ refl
 stays here level (suc k) h = and_left (eqb here level) _ (ne_eqb here level (λ e. h e (omega arith)))
 
 -- a substack is entered
-pub resume-sub : (here : ℕ) (rest : List Entry) (level skip : ℕ) (es : List State) (s : State) → here ≤ level → (here ≡ level → 0 < skip → ⊥) →
+pub resume-sub : (here : ℕ) (rest : List FlatItem) (level skip : ℕ) (es : List State) (s : State) → here ≤ level → (here ≡ level → 0 < skip → ⊥) →
     resume (Substack here ∷ rest) level skip es s ≡ resume rest (here + 1) 0 (take (here + 1) es ++ s ∷ []) s
 unfolding resume
 resume-sub here rest level skip es s l h =
@@ -50,17 +50,17 @@ resume-sub here rest level skip es s l h =
     ∙ cond-false (eqb here level && ltb 0 skip) _ _ (stays here level skip h)
 
 -- a module is asked
-unfoldable pub ask_at : ℕ → ℕ → List Action → ℕ → List Entry → List State → State → Runs
+unfoldable pub ask_at : ℕ → ℕ → List Action → ℕ → List FlatItem → List State → State → Runs
 ask_at here m control after rest es s = asks
     (record { module_number = m; control = control; state = s; entry = get_or es here start_state; after = after })
     (λ o. resume rest here (after - o.left) (take (here + 1) es) o.state)
 
-pub asked_module-ask_at : (here m : ℕ) (control : List Action) (after : ℕ) (rest : List Entry) (es : List State) (s : State) →
+pub asked_module-ask_at : (here m : ℕ) (control : List Action) (after : ℕ) (rest : List FlatItem) (es : List State) (s : State) →
     asked_module (ask_at here m control after rest es s) ≡ Some m
 unfolding ask_at
 asked_module-ask_at here m control after rest es s = refl
 
-pub resume-module : (here m : ℕ) (control : List Action) (after : ℕ) (rest : List Entry) (level skip : ℕ) (es : List State) (s : State) →
+pub resume-module : (here m : ℕ) (control : List Action) (after : ℕ) (rest : List FlatItem) (level skip : ℕ) (es : List State) (s : State) →
     here ≤ level → (here ≡ level → 0 < skip → ⊥) →
     resume (Module here m control after ∷ rest) level skip es s ≡ ask_at here m control after rest es s
 unfolding resume ask_at
@@ -69,7 +69,7 @@ resume-module here m control after rest level skip es s l h =
     ∙ cond-false (eqb here level && ltb 0 skip) _ _ (stays here level skip h)
 
 -- entry states deeper than the module's level are not used
-pub ask_at-take : (here m : ℕ) (control : List Action) (after : ℕ) (rest : List Entry) (d : ℕ) (es : List State) (s : State) → here < d →
+pub ask_at-take : (here m : ℕ) (control : List Action) (after : ℕ) (rest : List FlatItem) (d : ℕ) (es : List State) (s : State) → here < d →
     ask_at here m control after rest (take d es) s ≡ ask_at here m control after rest es s
 unfolding ask_at
 ask_at-take here m control after rest d es s h =
@@ -81,25 +81,25 @@ ask_at-take here m control after rest d es s h =
     (λ o. resume rest here (after - o.left) x o.state)) t
 
 -- the same, at a place of a list
-module _ (program : List Entry) (at : ℕ) (d e : Entry) (within : at < length program) (is : get_or program at d ≡ e) where
+module _ (program : List FlatItem) (at : ℕ) (d e : FlatItem) (within : at < length program) (is : get_or program at d ≡ e) where
   pub at_index : drop at program ≡ e ∷ drop (at + 1) program
-  at_index = rw (add-one, drop-cons program at d) (ap (λ (x : Entry). x ∷ drop (suc at) program) is)
+  at_index = rw (add-one, drop-cons program at d) (ap (λ (x : FlatItem). x ∷ drop (suc at) program) is)
 
   pub at_index-deeper : (level skip : ℕ) (es : List State) (s : State) → level < level_of e →
       resume (drop (at + 1) program) level skip es s ≡ resume (drop at program) level skip es s
   at_index-deeper level skip es s h =
-      sym (ap (λ (x : List Entry). resume x level skip es s) at_index ∙ resume-deeper e (drop (at + 1) program) level skip es s h)
+      sym (ap (λ (x : List FlatItem). resume x level skip es s) at_index ∙ resume-deeper e (drop (at + 1) program) level skip es s h)
 
   pub at_index-item : (level skip : ℕ) (es : List State) (s : State) → level_of e ≡ level → 0 < skip →
       resume (drop (at + 1) program) level (skip - 1) es s ≡ resume (drop at program) level skip es s
   at_index-item level skip es s l h =
-      sym (ap (λ (x : List Entry). resume x level skip es s) at_index ∙ resume-item e (drop (at + 1) program) level skip es s l h)
+      sym (ap (λ (x : List FlatItem). resume x level skip es s) at_index ∙ resume-item e (drop (at + 1) program) level skip es s l h)
 
 taken : (here : ℕ) (held : List State) (s : State) → here + 1 < length held →
     take (here + 2) (slice_set held (here + 1) s) ≡ take (here + 1) held ++ s ∷ []
 taken here held s fits = rw (add-suc, take-suc-set) refl
 
-module _ (program : List Entry) (at : ℕ) (d : Entry) (here : ℕ) (within : at < length program) (is : get_or program at d ≡ Substack here)
+module _ (program : List FlatItem) (at : ℕ) (d : FlatItem) (here : ℕ) (within : at < length program) (is : get_or program at d ≡ Substack here)
     (held : List State) (depth level skip : ℕ) (s : State) where
   pub at_substack : here ≤ level → (here ≡ level → 0 < skip → ⊥) → level < depth → here + 1 < length held →
       resume (drop (at + 1) program) (here + 1) 0 (take (here + 2) (slice_set held (here + 1) s)) s
@@ -108,15 +108,15 @@ module _ (program : List Entry) (at : ℕ) (d : Entry) (here : ℕ) (within : at
       let e1 : take (here + 2) (slice_set held (here + 1) s) ≡ take (here + 1) held ++ s ∷ [] = taken here held s fits in
       let e2 : take (here + 1) (take depth held) ≡ take (here + 1) held = take-take (here + 1) depth held (omega arith) in
       ap (λ (x : List State). resume (drop (at + 1) program) (here + 1) 0 x s) (e1 ∙ ap (λ (x : List State). x ++ s ∷ []) (sym e2))
-      ∙ sym (ap (λ (x : List Entry). resume x level skip (take depth held) s) (at_index program at d (Substack here) within is)
+      ∙ sym (ap (λ (x : List FlatItem). resume x level skip (take depth held) s) (at_index program at d (Substack here) within is)
       ∙ resume-sub here (drop (at + 1) program) level skip (take depth held) s low stays)
 
-module _ (program : List Entry) (at : ℕ) (d : Entry) (here m : ℕ) (control : List Action) (after : ℕ) (within : at < length program)
+module _ (program : List FlatItem) (at : ℕ) (d : FlatItem) (here m : ℕ) (control : List Action) (after : ℕ) (within : at < length program)
     (is : get_or program at d ≡ Module here m control after) (held : List State) (s : State) where
   pub at_module-asks : (depth level skip : ℕ) → here ≤ level → (here ≡ level → 0 < skip → ⊥) → here < depth →
       resume (drop at program) level skip (take depth held) s ≡ ask_at here m control after (drop (at + 1) program) held s
   at_module-asks depth level skip low stays deep =
-      ap (λ (x : List Entry). resume x level skip (take depth held) s) (at_index program at d (Module here m control after) within is)
+      ap (λ (x : List FlatItem). resume x level skip (take depth held) s) (at_index program at d (Module here m control after) within is)
       ∙ resume-module here m control after (drop (at + 1) program) level skip (take depth held) s low stays
       ∙ ask_at-take here m control after (drop (at + 1) program) depth held s (omega arith)
 
@@ -126,7 +126,7 @@ module _ (program : List Entry) (at : ℕ) (d : Entry) (here m : ℕ) (control :
       at_module-asks (here + 1) (here + 1) 0 (omega arith) (λ e l. omega arith) (omega arith) ∙ sym (at_module-asks depth level skip low stays (omega arith))
 
 -- of items of the outermost list, any number is skipped in one step: `skip` of them, or all if there are fewer
-pub resume-flat : (l : List Entry) (skip skipped : ℕ) (es : List State) (s : State) → AreOutermost l → skipped ≤ skip
+pub resume-flat : (l : List FlatItem) (skip skipped : ℕ) (es : List State) (s : State) → AreOutermost l → skipped ≤ skip
     → (skipped < skip → length l ≤ skipped) → resume (drop skipped l) 0 0 es s ≡ resume l 0 skip es s
 unfolding resume
 resume-flat [] skip zero es s flat less all = refl
@@ -142,7 +142,7 @@ resume-flat (e ∷ l) (suc skip) (suc skipped) es s flat less all =
     ∙ sym (resume-item e l 0 (suc skip) es s (flat zero e (omega arith)) (omega arith))
 
 -- the same, from a place of a program on
-pub resume-outermost : (program : List Entry) (flat from skip skipped : ℕ) (es : List State) (s : State) → AreOutermost (drop flat program)
+pub resume-outermost : (program : List FlatItem) (flat from skip skipped : ℕ) (es : List State) (s : State) → AreOutermost (drop flat program)
     → flat ≤ from → from ≤ length program → skipped ≡ min skip (length program - from)
     → resume (drop (from + skipped) program) 0 0 es s ≡ resume (drop from program) 0 skip es s
 resume-outermost program flat from skip skipped es s outermost after within least =
@@ -150,6 +150,6 @@ resume-outermost program flat from skip skipped es s outermost after within leas
     let at : flat + (from - flat) ≡ from = omega (arith, after) in
     let here : AreOutermost (drop from program) =
     subst AreOutermost (drop-drop (from - flat) flat program ∙ ap (λ (n : ℕ). drop n program) at)
-    (All-drop (λ (e : Entry). level_of e ≡ 0) (from - flat) _ outermost) in
-    ap (λ (x : List Entry). resume x 0 0 es s) (sym (drop-drop skipped from program))
+    (All-drop (λ (e : FlatItem). level_of e ≡ 0) (from - flat) _ outermost) in
+    ap (λ (x : List FlatItem). resume x 0 0 es s) (sym (drop-drop skipped from program))
     ∙ resume-flat (drop from program) skip skipped es s here (omega (arith, least)) (λ fewer. omega (arith, least, left, fewer))

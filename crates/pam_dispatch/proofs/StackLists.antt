@@ -11,12 +11,12 @@ use Rattle.pam_codes.specs.Parts.{IsParts}
 use Rattle.pam_conf.specs.Stack.{Items, ModuleText, End, ThenModule, ThenSub, IsNumberedFrom, module_count, depth, first_there, module_at}
 use Rattle.pam_conf.proofs.StackTree.{depth-pos, numbered-module_parts, numbered-sub_parts, module_at-range}
 use Rattle.pam_conf.specs.declared.stack.TheConstants.{MAX_MODULES}
-use Rattle.pam_dispatch.specs.declared.entry.Entry.{Entry}
-use Rattle.pam_dispatch.specs.declared.entry.Entry.TheVariants.{Module, Substack}
+use Rattle.pam_dispatch.specs.declared.flat_item.FlatItem.{FlatItem}
+use Rattle.pam_dispatch.specs.declared.flat_item.FlatItem.TheVariants.{Module, Substack}
 use Rattle.pam_dispatch.specs.Tree.{count, controls_of}
 use Rattle.pam_dispatch.specs.Flat.{AreOutermost, flat_list, controls_in, control_at, modules_of, positions_from, IsBounded, IsNumbered}
 use Rattle.pam_dispatch.specs.Program.{IsProgram}
-use Rattle.pam_dispatch.specs.Tail.{KeepFailure}
+use Rattle.pam_dispatch.specs.Settled.{KeepFailure}
 
 -- LEVELS AND NUMBERS
 
@@ -38,7 +38,7 @@ bounded-flat_list level first (ThenSub sub inner rest) h numbered few =
 
 -- CONTROLS
 
-controls_in-append : (xs ys : List Entry) → controls_in (xs ++ ys) ≡ controls_in xs ++ controls_in ys
+controls_in-append : (xs ys : List FlatItem) → controls_in (xs ++ ys) ≡ controls_in xs ++ controls_in ys
 unfolding controls_in
 controls_in-append [] ys = refl
 controls_in-append (Module level number control after ∷ xs) ys = ap (λ (cs : List (List Action)). control ∷ cs) (controls_in-append xs ys)
@@ -65,7 +65,7 @@ modules_of-flat_list level items = ap length (controls_in-flat_list level items)
 
 -- NUMBERS
 
-IsNumbered-append : (before : ℕ) (xs ys : List Entry) → IsNumbered before xs → IsNumbered (before + modules_of xs) ys → IsNumbered before (xs ++ ys)
+IsNumbered-append : (before : ℕ) (xs ys : List FlatItem) → IsNumbered before xs → IsNumbered (before + modules_of xs) ys → IsNumbered before (xs ++ ys)
 unfolding IsNumbered controls_in
 IsNumbered-append before [] ys a b =
     let none : before + 0 ≡ before = omega arith in
@@ -162,7 +162,7 @@ program-flat_list items positions parts flat tail few shallow numbered found div
     }
 
 -- the flat list, appended to an empty list
-pub whole_list : (items list : Items) (front entries : List Entry) → front ≡ [] → list ≡ items → entries ≡ front ++ flat_list 0 list
-    → entries ≡ flat_list 0 items
-whole_list items list front entries f l e =
-    e ∙ ap (λ (x : List Entry). x ++ flat_list 0 list) f ∙ ap (flat_list 0) l
+pub whole_list : (items list : Items) (front flat_items : List FlatItem) → front ≡ [] → list ≡ items → flat_items ≡ front ++ flat_list 0 list
+    → flat_items ≡ flat_list 0 items
+whole_list items list front flat_items f l e =
+    e ∙ ap (λ (x : List FlatItem). x ++ flat_list 0 list) f ∙ ap (flat_list 0) l

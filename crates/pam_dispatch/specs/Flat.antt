@@ -5,8 +5,8 @@ use Rattle.pam_codes.specs.declared.action.Action.{Action}
 use Rattle.pam_conf.specs.Stack.{Items, End, ThenModule, ThenSub}
 use Rattle.pam_conf.specs.declared.stack.TheConstants.{MAX_MODULES}
 use Rattle.pam_dispatch.specs.declared.state.State.{State}
-use Rattle.pam_dispatch.specs.declared.entry.Entry.{Entry}
-use Rattle.pam_dispatch.specs.declared.entry.Entry.TheVariants.{Module, Substack}
+use Rattle.pam_dispatch.specs.declared.flat_item.FlatItem.{FlatItem}
+use Rattle.pam_dispatch.specs.declared.flat_item.FlatItem.TheVariants.{Module, Substack}
 use Rattle.pam_dispatch.specs.declared.entered.TheConstants.{LISTS}
 use Rattle.pam_dispatch.specs.declared.place.Place.{Place}
 use Rattle.pam_dispatch.specs.State.{start_state}
@@ -14,54 +14,54 @@ use Rattle.pam_dispatch.specs.Runs.{Runs, ends, asks}
 use Rattle.pam_dispatch.specs.Tree.{count}
 
 -- each item with its level, a substack before its items
-unfoldable pub flat_list : ℕ → Items → List Entry
+unfoldable pub flat_list : ℕ → Items → List FlatItem
 flat_list level End = []
 flat_list level (ThenModule m rest) = Module level m.number m.control (count rest) ∷ flat_list level rest
 flat_list level (ThenSub sub inner rest) = Substack level ∷ (flat_list (level + 1) inner ++ flat_list level rest)
 
--- the number of substacks around an entry
-abbrev pub level_of : Entry → ℕ
+-- the number of substacks around an item
+abbrev pub level_of : FlatItem → ℕ
 level_of (Module level number control after) = level
 level_of (Substack level) = level
 
 -- items of the outermost list
-abbrev pub AreOutermost : List Entry → Type 0
-AreOutermost entries = All (λ entry. level_of entry ≡ 0) entries
+abbrev pub AreOutermost : List FlatItem → Type 0
+AreOutermost flat_items = All (λ item. level_of item ≡ 0) flat_items
 
 -- the controls of the modules, from the left
-unfoldable pub controls_in : List Entry → List (List Action)
+unfoldable pub controls_in : List FlatItem → List (List Action)
 controls_in [] = []
 controls_in (Module level number control after ∷ rest) = control ∷ controls_in rest
 controls_in (Substack level ∷ rest) = controls_in rest
 
 -- the number of modules
-abbrev pub modules_of : List Entry → ℕ
+abbrev pub modules_of : List FlatItem → ℕ
 modules_of program = length (controls_in program)
 
 -- the control of the module with this number, from 1
-abbrev pub control_at : List Entry → ℕ → List Action
+abbrev pub control_at : List FlatItem → ℕ → List Action
 control_at program number = slice_index_or (controls_in program) (number - 1) []
 
--- the positions of the modules, from the left, if `before` entries come before the list
-unfoldable pub positions_from : ℕ → List Entry → List ℕ
+-- the positions of the modules, from the left, if `before` items come before the list
+unfoldable pub positions_from : ℕ → List FlatItem → List ℕ
 positions_from before [] = []
 positions_from before (Module level number control after ∷ rest) = before ∷ positions_from (before + 1) rest
 positions_from before (Substack level ∷ rest) = positions_from (before + 1) rest
 
 -- the modules are numbered from the left, if `before` modules come before the list
-unfoldable pub IsNumbered : ℕ → List Entry → Type 0
+unfoldable pub IsNumbered : ℕ → List FlatItem → Type 0
 IsNumbered before [] = Unit {0}
 IsNumbered before (Module level number control after ∷ rest) = (number ≡ before + 1) × IsNumbered (before + 1) rest
 IsNumbered before (Substack level ∷ rest) = IsNumbered before rest
 
 -- at most 16 lists are open at a module, or in a substack, and a module's number is at most that of modules in a stack
-abbrev pub IsBounded : Entry → Type 0
+abbrev pub IsBounded : FlatItem → Type 0
 IsBounded (Module level number control after) = (level < LISTS) × (number ≤ MAX_MODULES)
 IsBounded (Substack level) = level + 1 < LISTS
 
--- the open run of a flat list: skips the entries deeper than `level` and `skip` items of that level; `entered` has
+-- the open run of a flat list: skips the items deeper than `level` and `skip` items of that level; `entered` has
 -- the entry states of the open lists, outermost first, and `s` is the state
-unfoldable pub resume : List Entry → ℕ → ℕ → List State → State → Runs
+unfoldable pub resume : List FlatItem → ℕ → ℕ → List State → State → Runs
 resume [] level skip entered s = ends s
 resume (Module here number control after ∷ rest) level skip entered s =
     if nat_lt level here then resume rest level skip entered s
@@ -75,20 +75,20 @@ resume (Substack here ∷ rest) level skip entered s =
     else resume rest (here + 1) 0 (take (here + 1) entered ++ s ∷ []) s
 
 -- THE OPEN RUN of a program
-unfoldable pub runs_of : List Entry → Runs
+unfoldable pub runs_of : List FlatItem → Runs
 runs_of program = resume program 0 0 (start_state ∷ []) start_state
 
 -- the rest of the open run from a place on
-unfoldable pub rest_of : List Entry → Place → Runs
+unfoldable pub rest_of : List FlatItem → Place → Runs
 rest_of program place =
     resume (drop place.position program) place.depth 0 (take place.depth place.entered.states) place.state
 
 -- a place is at a module, with an entry state for each open list, or at the end
-abbrev pub IsAt : List Entry → ℕ → Option ℕ → Type 0
+abbrev pub IsAt : List FlatItem → ℕ → Option ℕ → Type 0
 IsAt [] depth here = here ≡ None
 IsAt (Module level number control after ∷ rest) depth here = (depth ≡ level + 1) × (here ≡ Some number)
 IsAt (Substack level ∷ rest) depth here = ⊥
 
 -- a place is one of the program
-unfoldable pub IsPlaceOf : List Entry → Place → Type 0
+unfoldable pub IsPlaceOf : List FlatItem → Place → Type 0
 IsPlaceOf program place = IsAt (drop place.position program) place.depth place.module_number

@@ -8,7 +8,7 @@ use Rattle.pam_dispatch.specs.Runs.{Ask, AsksRise, Assignment, Runs, outcome_of,
 use Rattle.pam_dispatch.specs.Decision.{decision_of}
 use Rattle.pam_dispatch.specs.State.{action_of, start_state}
 use Rattle.pam_dispatch.specs.Alike.{IsDenial, looks_at_code, retold}
-use Rattle.pam_dispatch.specs.Tail.{IsSettled}
+use Rattle.pam_dispatch.specs.Settled.{IsSettled}
 use Rattle.pam_dispatch.specs.Tree.{count, ask_of, last_items, run, asked, decided, runs_of_stack}
 
 -- an empty list leaves the state as it is, and asks nothing

@@ -1,10 +1,11 @@
 pub mod Alike
 pub mod Decision
 pub mod Flat
+pub mod Keys
 pub mod Laws
 pub mod Program
 pub mod Runs
+pub mod Settled
 pub mod Situations
 pub mod State
-pub mod Tail
 pub mod Tree

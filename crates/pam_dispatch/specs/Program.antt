@@ -4,17 +4,17 @@ use Rattle.pam_conf.specs.declared.stack.TheConstants.{MAX_MODULES}
 use Rattle.std.specs.List.{AllZip}
 use Rattle.pam_codes.specs.declared.parts.Part.{Part}
 use Rattle.pam_codes.specs.Parts.{IsParts}
-use Rattle.pam_dispatch.specs.declared.entry.Entry.{Entry}
+use Rattle.pam_dispatch.specs.declared.flat_item.FlatItem.{FlatItem}
 use Rattle.pam_dispatch.specs.Flat.{AreOutermost, IsNumbered, IsBounded, controls_in, modules_of, positions_from}
-use Rattle.pam_dispatch.specs.Tail.{KeepFailure}
+use Rattle.pam_dispatch.specs.Settled.{KeepFailure}
 
--- a flat list of a stack's items, with the positions of its modules and the parts of their controls; from `flat` on the
--- entries are items of the outermost list, and from `tail` on no entry changes a failed stack
-pub record IsProgram (entries : List Entry) (positions : List ℕ) (parts : List (List Part)) (flat tail : ℕ) : Type 0 where
-  pub bounded : All IsBounded entries
-  pub numbered : IsNumbered 0 entries
-  pub few : modules_of entries ≤ MAX_MODULES
-  pub found : positions ≡ positions_from 0 entries
-  pub divided : AllZip IsParts (controls_in entries) parts
-  pub outermost : AreOutermost (drop flat entries)
-  pub settled : KeepFailure (drop tail entries)
+-- a flat list of a stack's items, with the positions of its modules and the parts of their controls; from `outermost_from` on the
+-- items are items of the outermost list, and from `harmless_from` on no item changes a failed stack
+pub record IsProgram (flat_items : List FlatItem) (positions : List ℕ) (parts : List (List Part)) (outermost_from harmless_from : ℕ) : Type 0 where
+  pub bounded : All IsBounded flat_items
+  pub numbered : IsNumbered 0 flat_items
+  pub few : modules_of flat_items ≤ MAX_MODULES
+  pub found : positions ≡ positions_from 0 flat_items
+  pub divided : AllZip IsParts (controls_in flat_items) parts
+  pub outermost : AreOutermost (drop outermost_from flat_items)
+  pub settled : KeepFailure (drop harmless_from flat_items)

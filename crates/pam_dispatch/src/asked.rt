@@ -62,13 +62,13 @@ impl Situation {
 
 /// A module as it is asked: what the outcomes of its answers depend on.
 #[derive(Debug, Drop)]
-pub struct Asked<'a> {
+pub struct Question<'a> {
     pub(crate) module_number: usize,
     pub(crate) control: &'a Control,
     pub(crate) situation: Situation,
 }
 
-impl<'a> Model for Asked<'a> {
+impl<'a> Model for Question<'a> {
     ghost use Rattle.pam_dispatch.specs.Runs.{Ask};
 
     ghost Value = { Ask };
@@ -82,7 +82,7 @@ impl<'a> Model for Asked<'a> {
     } };
 }
 
-impl Asked<'_> {
+impl Question<'_> {
     /// The state of the run before the answer.
     pub fn state(&self) -> State
         ensures { result ≡ self.now.state }

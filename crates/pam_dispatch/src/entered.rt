@@ -1,6 +1,7 @@
 //! The states in which the open lists were entered.
 
-ghost use Rattle.std.specs.Prelude.{◌≡◌, ◌<◌, slice_index_or, slice_set};
+ghost use Rattle.std.specs.Prelude.{◌≡◌, ◌<◌, ◌≤◌, slice_index_or, slice_set, take};
+ghost use Rattle.pam_dispatch.specs.Keys.{first_states};
 
 use crate::state::State;
 
@@ -8,9 +9,20 @@ use crate::state::State;
 pub(crate) const LISTS: usize = 16;
 
 /// The states in which the open lists were entered, outermost first.
-#[derive(Clone, Copy, Debug)]
+#[derive(Clone, Copy, Debug, PartialEq, Eq, Hash)]
 pub struct Entered {
     pub(crate) states: [State; LISTS],
+}
+
+/// Keeps the first `depth` states; the others become the state in which a run begins.
+fn clear_from(states: &mut [State; LISTS], depth: usize)
+    requires { depth ≤ LISTS }
+    ensures states { states.new ≡ first_states depth states.old }
+    ensures front { take depth states.new ≡ take depth states.old }
+{
+    for level in depth..LISTS {
+        states[level] = State::start();
+    }
 }
 
 impl Entered {
@@ -22,6 +34,17 @@ impl Entered {
         ensures { result ≡ slice_index_or self.now.states level start_state }
     {
         self.states[level]
+    }
+
+    /// The states of the first `depth` lists, and then the state in which a run begins.
+    pub(crate) fn first(&self, depth: usize) -> Entered
+        requires { depth ≤ LISTS }
+        ensures states { result.states ≡ first_states depth self.now.states }
+        ensures front { take depth result.states ≡ take depth self.now.states }
+    {
+        let mut kept = *self;
+        clear_from(&mut kept.states, depth);
+        kept
     }
 
     /// Enters the list at `level` in this state.

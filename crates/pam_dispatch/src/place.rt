@@ -40,13 +40,13 @@ impl Default for Place {
 
 impl Place {
     ghost use Rattle.std.specs.Prelude.{◌≡◌, List};
-    ghost use Rattle.pam_dispatch.specs.declared.entry.Entry.{Entry};
+    ghost use Rattle.pam_dispatch.specs.declared.flat_item.FlatItem.{FlatItem};
     ghost use Rattle.pam_dispatch.specs.Flat.{IsPlaceOf, rest_of};
     ghost use Rattle.pam_dispatch.specs.Runs.{asked_module, state_in};
 
     /// The number of the module asked here; `None` at the end.
     pub fn module(&self) -> Option<usize>
-        ensures { (program : List Entry) → IsPlaceOf program self.now → result ≡ asked_module (rest_of program self.now) }
+        ensures { (program : List FlatItem) → IsPlaceOf program self.now → result ≡ asked_module (rest_of program self.now) }
     {
         match self.module_number {
             Some(number) => Some(usize::from(number)),
@@ -56,7 +56,7 @@ impl Place {
 
     /// The state of the run here.
     pub fn state(&self) -> State
-        ensures { (program : List Entry) → IsPlaceOf program self.now → result ≡ state_in (rest_of program self.now) }
+        ensures { (program : List FlatItem) → IsPlaceOf program self.now → result ≡ state_in (rest_of program self.now) }
     {
         self.state
     }

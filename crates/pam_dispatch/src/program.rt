@@ -1,6 +1,6 @@
 //! The program of a stack, and the steps of its runs.
 
-ghost use Rattle.std.specs.Prelude.{◌≡◌, ◌≢◌, ◌∷◌, ◌+◌, ◌-◌, ◌≤◌, ◌^◌, ◌<◌, ℕ, All, drop, length, min, take};
+ghost use Rattle.std.specs.Prelude.{◌≡◌, ◌≢◌, ◌∷◌, ◌+◌, ◌-◌, ◌≤◌, ◌^◌, ◌<◌, ℕ, All, drop, length, min, slice_get, take};
 ghost use Rattle.std.specs.Prelude.{IfErr, IfNone, IfOk, IfSome, IsSome, None, OnOk, Some};
 ghost use Rattle.std.specs.List.{AllZip};
 ghost use Rattle.pam_codes.specs.Parts.{IsParts};
@@ -9,22 +9,22 @@ ghost use Rattle.pam_conf.specs.declared.stack.TheConstants.{MAX_MODULES};
 ghost use Rattle.pam_dispatch.specs.Decision.{decision_of};
 ghost use Rattle.pam_dispatch.specs.Flat.{AreOutermost, IsBounded, IsPlaceOf, control_at, controls_in, modules_of, positions_from, resume, rest_of, runs_of};
 ghost use Rattle.pam_dispatch.specs.Runs.{AsksRise, Assignment, after_answer, answers_of, asked_by, asked_module, final_state, next_ask, outcome_in, state_in};
-ghost use Rattle.pam_dispatch.specs.Tail.{IsSettled};
+ghost use Rattle.pam_dispatch.specs.Settled.{IsSettled};
 ghost use Rattle.pam_dispatch.specs.Tree.{decided, runs_of_stack};
 
-use crate::asked::{Asked, Situation};
+use crate::asked::{Question, Situation};
 use crate::decision::Decision;
 use crate::entered::{Entered, LISTS};
-use crate::entry::Entry;
 use crate::error::{Memory, WrongCount};
+use crate::flat_item::FlatItem;
 use crate::flatten::flatten;
 use crate::place::Place;
-use crate::settle::settle;
+use crate::seek::seek;
+use crate::settled::{SettledRun, first_harmless, first_outermost};
 use crate::state::State;
 use crate::step::{Outcome, Step};
-use crate::tail::{Rest, flat_of, tail_of};
 use crate::work::Work;
-use pam_codes::{Code, Control, Parts};
+use pam_codes::{Action, Code, Control, Parts};
 use pam_conf::Stack;
 use std::alloc::Global;
 use std::marker::Model;
@@ -32,72 +32,72 @@ use std::marker::Model;
 /// The program of a stack: its items as a flat list.
 #[derive(Debug, Drop)]
 pub struct Program {
-    entries: Vec<Entry>,
-    /// The indices of the modules in `entries`, in the order of their numbers.
+    flat_items: Vec<FlatItem>,
+    /// The indices of the modules in `items`, in the order of their numbers.
     positions: Vec<usize>,
     /// The parts of the modules' controls, in the same order.
     parts: Vec<Parts>,
-    /// The index in `entries` from which on all are items of the outermost list.
-    flat: usize,
-    /// The index in `entries` from which on no answer changes a failed stack.
-    tail: usize,
+    /// The index in `items` from which on all are items of the outermost list.
+    outermost_from: usize,
+    /// The index in `items` from which on no answer changes a failed stack.
+    harmless_from: usize,
 }
 
 impl Model for Program {
     ghost use Rattle.std.specs.Prelude.{◌≡◌, ◌≤◌, All, List};
-    ghost use Rattle.pam_dispatch.specs.declared.entry.Entry.{Entry};
+    ghost use Rattle.pam_dispatch.specs.declared.flat_item.FlatItem.{FlatItem};
 
-    ghost Value = { List Entry };
+    ghost Value = { List FlatItem };
 
     ghost use Rattle.pam_dispatch.specs.Program.{IsProgram};
 
-    ghost view = { λ p. p.entries.items };
+    ghost view = { λ p. p.flat_items.items };
 
-    ghost invariant = { λ p. IsProgram p.entries.items p.positions.items p.parts.items p.flat p.tail };
+    ghost invariant = { λ p. IsProgram p.flat_items.items p.positions.items p.parts.items p.outermost_from p.harmless_from };
 }
 
 /// The indices of the modules in a flat list.
-fn module_positions(alloc: Global, entries: &[Entry]) -> Result<Vec<usize>, Memory>
-    ensures { IfOk result (λ positions. positions.items ≡ positions_from 0 entries.now) }
+fn module_positions(alloc: Global, flat_items: &[FlatItem]) -> Result<Vec<usize>, Memory>
+    ensures { IfOk result (λ positions. positions.items ≡ positions_from 0 flat_items.now) }
 {
     let mut positions = Vec::new(alloc);
-    for (position, entry) in entries.iter().enumerate() {
-        match entry {
-            Entry::Module { .. } => positions.push(position)?,
-            Entry::Substack { .. } => {}
+    for (position, flat_item) in flat_items.iter().enumerate() {
+        match flat_item {
+            FlatItem::Module { .. } => positions.push(position)?,
+            FlatItem::Substack { .. } => {}
         }
     }
     Ok(positions)
 }
 
 /// The parts of the controls in a flat list.
-fn module_parts(alloc: Global, entries: &[Entry]) -> Result<Vec<Parts>, Memory>
-    ensures { IfOk result (λ parts. AllZip IsParts (controls_in entries.now) parts.items) }
+fn module_parts(alloc: Global, flat_items: &[FlatItem]) -> Result<Vec<Parts>, Memory>
+    ensures { IfOk result (λ parts. AllZip IsParts (controls_in flat_items.now) parts.items) }
 {
     let mut parts = Vec::new(alloc);
-    for entry in entries {
-        match entry {
-            Entry::Module { control, .. } => parts.push(control.parts())?,
-            Entry::Substack { .. } => {}
+    for flat_item in flat_items {
+        match flat_item {
+            FlatItem::Module { control, .. } => parts.push(control.parts())?,
+            FlatItem::Substack { .. } => {}
         }
     }
     Ok(parts)
 }
 
 /// The module asked at `place`.
-fn asked_at<'a>(entries: &'a [Entry], place: &Place) -> Asked<'a>
-    requires entries { All IsBounded entries.now }
-    requires place { IsPlaceOf entries.now place.now }
-    requires asking { IsSome (asked_module (rest_of entries.now place.now)) }
-    ensures { result ≡ next_ask (rest_of entries.now place.now) }
+fn asked_at<'a>(flat_items: &'a [FlatItem], place: &Place) -> Question<'a>
+    requires flat_items { All IsBounded flat_items.now }
+    requires place { IsPlaceOf flat_items.now place.now }
+    requires asking { IsSome (asked_module (rest_of flat_items.now place.now)) }
+    ensures { result ≡ next_ask (rest_of flat_items.now place.now) }
 {
-    match &entries[place.position] {
-        Entry::Module {
+    match &flat_items[place.position] {
+        FlatItem::Module {
             level,
             number,
             control,
             items_after,
-        } => Asked {
+        } => Question {
             module_number: *number,
             control,
             situation: Situation {
@@ -106,13 +106,14 @@ fn asked_at<'a>(entries: &'a [Entry], place: &Place) -> Asked<'a>
                 items_after: *items_after,
             },
         },
-        Entry::Substack { .. } => unreachable!(),
+        FlatItem::Substack { .. } => unreachable!(),
     }
 }
 
-/// The outcome of an answer, and where the run continues.
+/// What an answer does, and where the run continues.
 #[derive(Clone, Copy)]
 struct Answered {
+    action: Action,
     outcome: Outcome,
     /// The level of the list that continues.
     level: usize,
@@ -122,19 +123,22 @@ struct Answered {
 
 /// Answers the module at `place` with `code`.
 #[inline(always)]
-fn answer_at(entries: &[Entry], place: &Place, code: Code) -> Answered
-    requires entries { All IsBounded entries.now }
-    requires place { IsPlaceOf entries.now place.now }
-    requires asking { IsSome (asked_module (rest_of entries.now place.now)) }
-    ensures outcome { outcome_in (rest_of entries.now place.now) code ≡ result.outcome }
-    ensures rest { after_answer (rest_of entries.now place.now) code
-        ≡ resume (drop (place.now.position + 1) entries.now) result.level result.skip (take place.now.depth place.now.entered.states) result.outcome.state }
+fn answer_at(flat_items: &[FlatItem], place: &Place, code: Code) -> Answered
+    requires flat_items { All IsBounded flat_items.now }
+    requires place { IsPlaceOf flat_items.now place.now }
+    requires asking { IsSome (asked_module (rest_of flat_items.now place.now)) }
+    ensures action { slice_get (next_ask (rest_of flat_items.now place.now)).control code ≡ Some result.action }
+    ensures outcome { outcome_in (rest_of flat_items.now place.now) code ≡ result.outcome }
+    ensures rest { after_answer (rest_of flat_items.now place.now) code
+        ≡ resume (drop (place.now.position + 1) flat_items.now) result.level result.skip (take place.now.depth place.now.entered.states) result.outcome.state }
     ensures below { result.level < place.now.depth }
-    ensures within { place.now.position < length entries.now }
+    ensures within { place.now.position < length flat_items.now }
 {
-    let asked = asked_at(entries, place);
-    let outcome = asked.outcome(asked.control.action(code), code);
+    let asked = asked_at(flat_items, place);
+    let action = asked.control.action(code);
+    let outcome = asked.outcome(action, code);
     Answered {
+        action,
         outcome,
         level: usize::from(place.depth) - 1,
         skip: asked.situation.items_after - outcome.left,
@@ -143,22 +147,34 @@ fn answer_at(entries: &[Entry], place: &Place, code: Code) -> Answered
 
 /// Makes the step from `place` with the answer `code`.
 #[inline(always)]
-fn step_in(entries: &[Entry], flat: usize, place: &mut Place, code: Code) -> Outcome
-    requires entries { All IsBounded entries.now }
-    requires outermost { AreOutermost (drop flat entries.now) }
-    requires place { IsPlaceOf entries.now place.old }
-    requires asking { IsSome (asked_module (rest_of entries.now place.old)) }
-    ensures place { IsPlaceOf entries.now place.new }
-    ensures rest { rest_of entries.now place.new ≡ after_answer (rest_of entries.now place.old) code }
-    ensures outcome { outcome_in (rest_of entries.now place.old) code ≡ result }
-    ensures state { place.new.state ≡ result.state }
+fn step_in(
+    flat_items: &[FlatItem],
+    outermost_from: usize,
+    place: &mut Place,
+    code: Code,
+) -> Answered
+    requires flat_items { All IsBounded flat_items.now }
+    requires outermost { AreOutermost (drop outermost_from flat_items.now) }
+    requires place { IsPlaceOf flat_items.now place.old }
+    requires asking { IsSome (asked_module (rest_of flat_items.now place.old)) }
+    ensures place { IsPlaceOf flat_items.now place.new }
+    ensures rest { rest_of flat_items.now place.new ≡ after_answer (rest_of flat_items.now place.old) code }
+    ensures action { slice_get (next_ask (rest_of flat_items.now place.old)).control code ≡ Some result.action }
+    ensures outcome { outcome_in (rest_of flat_items.now place.old) code ≡ result.outcome }
+    ensures state { place.new.state ≡ result.outcome.state }
 {
-    let answered = answer_at(entries, place, code);
+    let answered = answer_at(flat_items, place, code);
     let outcome = answered.outcome;
     place.position = place.position + 1;
     place.state = outcome.state;
-    settle(entries, flat, place, answered.level, answered.skip);
-    outcome
+    seek(
+        flat_items,
+        outermost_from,
+        place,
+        answered.level,
+        answered.skip,
+    );
+    answered
 }
 
 impl Program {
@@ -168,18 +184,18 @@ impl Program {
         ensures modules { IfOk result (λ program. modules_of program ≡ module_count stack.now) }
         ensures control { IfOk result (λ program. (number : ℕ) → IfSome (module_at number stack.now) (λ m. control_at program number ≡ m.control)) }
     {
-        let mut entries = Vec::new(alloc);
-        flatten(stack.items(), 0, &mut entries)?;
-        let positions = module_positions(alloc, &entries)?;
-        let parts = module_parts(alloc, &entries)?;
-        let flat = flat_of(&entries);
-        let tail = tail_of(&entries);
+        let mut flat_items = Vec::new(alloc);
+        flatten(stack.items(), 0, &mut flat_items)?;
+        let positions = module_positions(alloc, &flat_items)?;
+        let parts = module_parts(alloc, &flat_items)?;
+        let outermost_from = first_outermost(&flat_items);
+        let harmless_from = first_harmless(&flat_items);
         Ok(Program {
-            entries,
+            flat_items,
             positions,
             parts,
-            flat,
-            tail,
+            outermost_from,
+            harmless_from,
         })
     }
 
@@ -202,9 +218,9 @@ impl Program {
         ensures asked { (place : Place) → IsPlaceOf self.now place → asked_module (rest_of self.now place) ≡ Some number
             → (next_ask (rest_of self.now place)).control ≡ result.now }
     {
-        match &self.entries[self.positions[number - 1]] {
-            Entry::Module { control, .. } => control,
-            Entry::Substack { .. } => unreachable!(),
+        match &self.flat_items[self.positions[number - 1]] {
+            FlatItem::Module { control, .. } => control,
+            FlatItem::Substack { .. } => unreachable!(),
         }
     }
 
@@ -240,17 +256,17 @@ impl Program {
             state: start,
             depth: 1,
         };
-        settle(&self.entries, self.flat, &mut place, 0, 0);
+        seek(&self.flat_items, self.outermost_from, &mut place, 0, 0);
         place
     }
 
     /// The module asked at `place`.
-    pub fn asked(&self, place: &Place) -> Asked<'_>
+    pub fn asked(&self, place: &Place) -> Question<'_>
         requires place { IsPlaceOf self.now place.now }
         requires asking { IsSome (asked_module (rest_of self.now place.now)) }
         ensures { result ≡ next_ask (rest_of self.now place.now) }
     {
-        asked_at(&self.entries, place)
+        asked_at(&self.flat_items, place)
     }
 
     /// The outcome of answering the module at `place` with `code`, without making the step.
@@ -259,7 +275,7 @@ impl Program {
         requires asking { IsSome (asked_module (rest_of self.now place.now)) }
         ensures { outcome_in (rest_of self.now place.now) code ≡ result }
     {
-        answer_at(&self.entries, place, code).outcome
+        answer_at(&self.flat_items, place, code).outcome
     }
 
     /// Makes the step from `place` with the answer `code`, and counts it in `work`.
@@ -267,6 +283,7 @@ impl Program {
         requires place { IsPlaceOf self.now place.now }
         requires asking { IsSome (asked_module (rest_of self.now place.now)) }
         ensures place { IsPlaceOf self.now result.place }
+        ensures action { slice_get (next_ask (rest_of self.now place.now)).control code ≡ Some result.action }
         ensures outcome { outcome_in (rest_of self.now place.now) code ≡ result.outcome }
         ensures state { state_in (rest_of self.now result.place) ≡ result.outcome.state }
         ensures rest { rest_of self.now result.place ≡ after_answer (rest_of self.now place.now) code }
@@ -280,11 +297,13 @@ impl Program {
             → asked_by (rest_of self.now place.now) answers ≡ next_ask (rest_of self.now place.now) ∷ asked_by (rest_of self.now result.place) answers }
         ensures counted { work.new ≡ min (work.old + 1) (2 ^ 64 - 1) }
     {
+        work.count();
         let mut next = *place;
-        let outcome = self.step_on(&mut next, code, work);
+        let answered = self.step_by(&mut next, code);
         Step {
             place: next,
-            outcome,
+            action: answered.action,
+            outcome: answered.outcome,
         }
     }
 
@@ -301,25 +320,26 @@ impl Program {
         ensures counted { work.new ≡ min (work.old + 1) (2 ^ 64 - 1) }
     {
         work.count();
-        self.step_by(place, code)
+        self.step_by(place, code).outcome
     }
 
     /// Like `step_on`, without counting.
     #[inline(always)]
-    fn step_by(&self, place: &mut Place, code: Code) -> Outcome
+    fn step_by(&self, place: &mut Place, code: Code) -> Answered
         requires place { IsPlaceOf self.now place.old }
         requires asking { IsSome (asked_module (rest_of self.now place.old)) }
         ensures place { IsPlaceOf self.now place.new }
         ensures rest { rest_of self.now place.new ≡ after_answer (rest_of self.now place.old) code }
-        ensures outcome { outcome_in (rest_of self.now place.old) code ≡ result }
-        ensures state { place.new.state ≡ result.state }
+        ensures action { slice_get (next_ask (rest_of self.now place.old)).control code ≡ Some result.action }
+        ensures outcome { outcome_in (rest_of self.now place.old) code ≡ result.outcome }
+        ensures state { place.new.state ≡ result.outcome.state }
     {
-        step_in(&self.entries, self.flat, place, code)
+        step_in(&self.flat_items, self.outermost_from, place, code)
     }
 
     /// The rest of the run from `place`, if it is settled: it is at its end, or the stack has failed and no remaining
     /// module can change that. Returns `None` too if a substack, a jump, `die` or `reset` remains that no answer reaches.
-    pub fn settled(&self, place: &Place) -> Option<Rest>
+    pub fn settled(&self, place: &Place) -> Option<SettledRun>
         requires place { IsPlaceOf self.now place.now }
         ensures settled { IfSome result (λ rest. IsSettled (modules_of self.now + 1 - rest.modules) rest.modules
             (state_in (rest_of self.now place.now)) (rest_of self.now place.now)) }
@@ -329,16 +349,16 @@ impl Program {
     {
         let decision = Decision::of(place.state());
         if place.module().is_none() {
-            return Some(Rest {
+            return Some(SettledRun {
                 modules: 0,
                 decision,
             });
         }
-        if place.position < self.tail || !place.state.has_failed() {
+        if place.position < self.harmless_from || !place.state.has_failed() {
             return None;
         }
-        Some(Rest {
-            modules: self.entries.len() - place.position,
+        Some(SettledRun {
+            modules: self.flat_items.len() - place.position,
             decision,
         })
     }

@@ -8,7 +8,7 @@ ghost use Rattle.pam_dispatch.specs.declared.state.Impression.TheVariants.{Negat
 use pam_codes::{Action, Code};
 
 /// The impression that the modules so far have made.
-#[derive(Clone, Copy, Debug, PartialEq, Eq)]
+#[derive(Clone, Copy, Debug, PartialEq, Eq, Hash)]
 pub enum Impression {
     Undef,
     Positive,
@@ -16,7 +16,7 @@ pub enum Impression {
 }
 
 /// The state of a run through a stack: pam.conf(5).
-#[derive(Clone, Copy, Debug, PartialEq, Eq)]
+#[derive(Clone, Copy, Debug, PartialEq, Eq, Hash)]
 pub struct State {
     pub impression: Impression,
     pub status: Code,

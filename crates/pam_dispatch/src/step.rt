@@ -89,6 +89,7 @@ fn jump(items: usize, state: State, items_after: usize) -> Outcome
 #[derive(Clone, Copy, Debug)]
 pub struct Step {
     pub(crate) place: Place,
+    pub(crate) action: Action,
     pub(crate) outcome: Outcome,
 }
 
@@ -98,6 +99,13 @@ impl Step {
         ensures { result ≡ self.now.place }
     {
         self.place
+    }
+
+    /// The action of the answer in the control of the module.
+    pub fn action(&self) -> Action
+        ensures { result ≡ self.now.action }
+    {
+        self.action
     }
 
     /// The outcome of the answer.

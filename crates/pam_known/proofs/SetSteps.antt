@@ -45,7 +45,7 @@ module _ (n : ℕ) (before done : ℕ → List ℕ → Type 0) (old : ℕ → Li
 
 -- ---- sets and codes
 
-any_of_run : (test : ℕ → Bool) (a n k : ℕ) → a ≤ k → k < a + n → test k ≡ true → list_any test (range_with_len a n) ≡ true
+pub any_of_run : (test : ℕ → Bool) (a n k : ℕ) → a ≤ k → k < a + n → test k ≡ true → list_any test (range_with_len a n) ≡ true
 any_of_run test a zero k low high t = absurd (omega arith)
 any_of_run test a (suc n) k low high t = elim (cases_eq a k) [
   | inl e ↦ or_left (test a) (list_any test (range_with_len (a + 1) n)) (ap test e ∙ t)

@@ -1,5 +1,6 @@
 pub mod Answers
 pub mod Knowledge
 pub mod Laws
+pub mod Reads
 pub mod Sets
 pub mod Tables

@@ -1,5 +1,6 @@
 -- For proofs alone: the sets of codes, while they are found module by module.
-use Rattle.std.specs.Prelude.{◌≡◌, ◌≢◌, ℕ, ◌<◌, ◌≤◌, List, [], Option, Some, None, IfSome, All, Result, Ok, Err}
+use Rattle.std.specs.Prelude.{◌≡◌, ◌≢◌, ℕ, ◌<◌, ◌≤◌, Bool, false, ◌&&◌, is_some, List, [], Option, Some, None, IfSome, All, Result, Ok, Err}
+use Rattle.std.specs.List.{list_any}
 use Rattle.std.specs.Option.{option_map}
 use Rattle.pam_codes.specs.Set.{is_in, IsCodeSet}
 use Rattle.pam_conf.specs.Stack.{Items, ModuleText}
@@ -11,9 +12,10 @@ use Rattle.pam_tables.specs.Login.{LoginText, login_view}
 use Rattle.pam_tables.specs.Options.{Options}
 use Rattle.pam_tables.specs.declared.error.Table.TheVariants.{Access}
 use Rattle.pam_known.specs.declared.error.KnownError.{KnownError}
-use Rattle.pam_known.specs.Answers.{IsFault, access_code, read_as, result_map, table_answer, time_told}
-use Rattle.pam_known.specs.Knowledge.{codes_by, first_fault, numbers, told_at}
-use Rattle.pam_known.specs.Tables.{tables_view}
+use Rattle.pam_known.specs.Answers.{IsFault, access_code, access_read, read_as, result_map, table_answer, time_read, time_told}
+use Rattle.pam_known.specs.Knowledge.{codes_by, first_fault, numbers, reads_access, told_at}
+use Rattle.pam_known.specs.Reads.{TablesRead, reads_time}
+use Rattle.pam_known.specs.Tables.{TablesText, tables_view}
 use Rattle.pam_known.specs.declared.known.AccessCode.{AccessCode}
 use Rattle.pam_known.specs.declared.known.Kept.{Kept}
 use Rattle.pam_known.specs.declared.known.Lookup.{Lookup}
@@ -77,3 +79,39 @@ IsLineSet told line number set = Lets (codes_by (told number) (line number)) set
 abbrev pub TellsAll : ℕ → (ℕ → Option (Result ℕ KnownError)) → List ℕ → Result Known KnownError → Type 0
 TellsAll n told numbers (Ok known) = (first_fault told numbers ≡ None) × ((m : ℕ) → 1 ≤ m → m ≤ n → IsTableSet told m (set_for known m))
 TellsAll n told numbers (Err e) = IsFault e (first_fault told numbers ≡ Some e)
+
+-- ---- the tables that are read
+
+-- an access table or a time table, and no other file
+abbrev pub of_module : Bool → Bool → TablesRead
+of_module access time = record { groups = false; access = access; time = time; returns = false }
+
+-- what a module reads, and the module of a number, and some module
+abbrev pub module_reads : Lookup → ModuleText → TablesRead
+module_reads l m = of_module (is_some (access_read (tables_view l.tables.now) m)) (is_some (time_read l.kind (tables_view l.tables.now) m))
+
+abbrev pub number_reads : Lookup → Items → ℕ → TablesRead
+number_reads l items number = of_module (reads_access (tables_view l.tables.now) items number) (reads_time l.kind (tables_view l.tables.now) items number)
+
+abbrev pub some_read : Lookup → Items → TablesRead
+some_read l items =
+    of_module (list_any (reads_access (tables_view l.tables.now) items) (numbers items))
+    (list_any (reads_time l.kind (tables_view l.tables.now) items) (numbers items))
+
+-- the group file, if it is given and a module reads the access table
+abbrev pub of_groups : TablesText → Items → TablesRead
+of_groups tables items = record {
+  groups = is_some tables.groups && list_any (reads_access tables items) (numbers items);
+  access = false;
+  time = false;
+  returns = false;
+}
+
+-- each table that is given
+abbrev pub all_given : TablesText → TablesRead
+all_given tables = record {
+  groups = is_some tables.groups;
+  access = is_some tables.access;
+  time = is_some tables.time;
+  returns = is_some tables.returns;
+}

@@ -1,12 +1,13 @@
 //! The answer of one module, from the table that it reads.
 
-ghost use Rattle.std.specs.Prelude.{◌≡◌, ◌≤◌, ◌==◌, nat_eq, not, length};
+ghost use Rattle.std.specs.Prelude.{◌≡◌, ◌≤◌, ◌==◌, IfErr, false, nat_eq, not, length, true};
 ghost use Rattle.std.specs.List.{list_any, starts_with, suffix_len};
 ghost use Rattle.std.specs.Option.{option_map};
 ghost use Rattle.pam_conf.specs.ItemsOf.{module_text};
 ghost use Rattle.pam_known.specs.Answers.{TellsError, access_code, access_read, is_reader};
 ghost use Rattle.pam_known.specs.Answers.{name_of_path, time_code, time_read, time_told};
-ghost use Rattle.pam_known.specs.Sets.{told_under};
+ghost use Rattle.pam_known.specs.Reads.{IsOfRead};
+ghost use Rattle.pam_known.specs.Sets.{of_module, told_under};
 ghost use Rattle.pam_known.specs.Tables.{tables_view, timed_view};
 ghost use Rattle.pam_tables.specs.Login.{login_view};
 ghost use Rattle.pam_text.specs.Gives.{Gives};
@@ -29,7 +30,7 @@ fn bytes_after_slash(path: &[u8]) -> usize
 
 /// Returns the name of the module at a path: the text after the last slash.
 #[tactic(auto, unfolding(crate::specs::Answers::name_of_path))]
-pub(crate) fn name_of_path(path: &[u8]) -> &[u8]
+pub fn name_of_path(path: &[u8]) -> &[u8]
     ensures { result.now ≡ name_of_path path.now }
 {
     path.split_at(path.len() - bytes_after_slash(path)).1
@@ -104,7 +105,8 @@ pub(crate) fn access_told(
     options: &AccessOptions<'_>,
     bytes: &[u8],
 ) -> Result<Code, KnownError>
-    ensures { Gives (λ e. TellsError e) (λ code. code) result (told_under (login_view login.now) groups.now options.now bytes.now) }
+    ensures told { Gives (λ e. TellsError e) (λ code. code) result (told_under (login_view login.now) groups.now options.now bytes.now) }
+    ensures read { IfErr result (IsOfRead (of_module true false)) }
 {
     match AccessTable::read(alloc, bytes, options) {
         Ok(table) => Ok(access_code(table.decide(login, groups))),
@@ -119,7 +121,8 @@ pub(crate) fn time_told(
     login: &Login<'_>,
     table: &TimedTable<'_>,
 ) -> Result<Code, KnownError>
-    ensures { Gives (λ e. TellsError e) (λ code. code) result (time_told (login_view login.now) (timed_view table.now)) }
+    ensures told { Gives (λ e. TellsError e) (λ code. code) result (time_told (login_view login.now) (timed_view table.now)) }
+    ensures read { IfErr result (IsOfRead (of_module false true)) }
 {
     match TimeTable::read(alloc, table.bytes) {
         Ok(rules) => Ok(time_code(rules.decide(login, &table.moment))),

@@ -1,11 +1,13 @@
 //! The codes that the modules of a stack may return.
 
-ghost use Rattle.std.specs.Prelude.{◌≡◌, ◌≤◌, ℕ, IfSome, Some, is_some};
+ghost use Rattle.std.specs.Prelude.{◌≡◌, ◌≤◌, ℕ, IfErr, IfSome, Some, false, is_some, true};
 ghost use Rattle.std.specs.List.{list_any};
 ghost use Rattle.pam_conf.specs.ItemsOf.{module_text};
 ghost use Rattle.pam_conf.specs.Stack.{module_count};
 ghost use Rattle.pam_known.specs.Answers.{TellsError, access_told, name_of_path, time_told};
 ghost use Rattle.pam_known.specs.Knowledge.{Knows, groups_read, knowledge, line_at, numbers, reads_access};
+ghost use Rattle.pam_known.specs.Reads.{IsOfRead, tables_read};
+ghost use Rattle.pam_known.specs.Sets.{module_reads, number_reads, of_groups, of_module, some_read};
 ghost use Rattle.pam_known.specs.Sets.{Adds, IsKept, TellsAll, TellsIfAny, IsAccessCode, IsLineSet, IsTableSet, told_of, told_of_number};
 ghost use Rattle.pam_known.specs.Tables.{tables_view, timed_view};
 ghost use Rattle.pam_paths.specs.Known.{set_for};
@@ -52,7 +54,8 @@ fn groups_read<'a>(
     stack: &Stack,
     tables: &Tables<'a>,
 ) -> Result<Groups<'a>, KnownError>
-    ensures { Gives (λ e. TellsError e) (λ groups. groups) result (groups_read (tables_view tables.now) stack.now) }
+    ensures told { Gives (λ e. TellsError e) (λ groups. groups) result (groups_read (tables_view tables.now) stack.now) }
+    ensures read { IfErr result (IsOfRead (of_groups (tables_view tables.now) stack.now)) }
 {
     if !some_reads_access(stack, tables) {
         return Ok(Groups::new(alloc));
@@ -98,6 +101,7 @@ impl Lookup<'_, '_, '_> {
         requires kept { IsKept self.now kept.old }
         requires table { (tables_view self.now.tables.now).time ≡ Some (timed_view table.now) }
         ensures told { Gives (λ e. TellsError e) (λ code. code) result (time_told (login_view self.now.login.now) (timed_view table.now)) }
+        ensures read { IfErr result (IsOfRead (of_module false true)) }
         ensures kept { IsKept self.now kept.new }
     {
         match kept.by_time {
@@ -136,6 +140,7 @@ impl Lookup<'_, '_, '_> {
         requires table { (tables_view self.now.tables.now).access ≡ Some bytes.now }
         ensures told { Gives (λ e. TellsError e) (λ code. code) result
             (access_told (login_view self.now.login.now) self.now.groups arguments.now bytes.now) }
+        ensures read { IfErr result (IsOfRead (of_module true false)) }
         ensures kept { IsKept self.now kept.new }
     {
         let options = AccessOptions::of(arguments);
@@ -159,6 +164,7 @@ impl Lookup<'_, '_, '_> {
     ) -> Result<Option<Code>, KnownError>
         requires { IsKept self.now kept.old }
         ensures told { TellsIfAny result (told_of self.now (module_text «module».now)) }
+        ensures read { IfErr result (IsOfRead (module_reads self.now (module_text «module».now))) }
         ensures kept { IsKept self.now kept.new }
     {
         if let Some(bytes) = access_read(self.tables, module) {
@@ -184,6 +190,7 @@ impl Lookup<'_, '_, '_> {
     ) -> Result<Option<Code>, KnownError>
         requires { IsKept self.now kept.old }
         ensures told { TellsIfAny result (told_of_number self.now stack.now number) }
+        ensures read { IfErr result (IsOfRead (number_reads self.now stack.now number)) }
         ensures kept { IsKept self.now kept.new }
     {
         match stack.module(number) {
@@ -194,7 +201,8 @@ impl Lookup<'_, '_, '_> {
 
     /// Returns the codes of all modules that read a table.
     fn table_answers(&self, alloc: Global, stack: &Stack) -> Result<Known, KnownError>
-        ensures { TellsAll (module_count stack.now) (told_of_number self.now stack.now) (numbers stack.now) result }
+        ensures told { TellsAll (module_count stack.now) (told_of_number self.now stack.now) (numbers stack.now) result }
+        ensures read { IfErr result (IsOfRead (some_read self.now stack.now)) }
     {
         let mut known = Known::new();
         let mut kept = Kept {
@@ -264,7 +272,7 @@ impl Lookup<'_, '_, '_> {
 ///
 /// Returns the first fault: of the group file, which is read only if a module reads the access table; then of the
 /// table that a module reads, in the order of the modules; then of the returns file. A failed allocation is `Memory`
-/// of either kind, with line 0.
+/// of the kind of a table that is read, with line 0.
 pub fn known_answers<'x>(
     alloc: Global,
     stack: &Stack,
@@ -272,7 +280,8 @@ pub fn known_answers<'x>(
     login: &'x Login<'_>,
     tables: &'x Tables<'_>,
 ) -> Result<Known, KnownError>
-    ensures { Knows (module_count stack.now) result (knowledge kind (login_view login.now) (tables_view tables.now) stack.now) }
+    ensures known { Knows (module_count stack.now) result (knowledge kind (login_view login.now) (tables_view tables.now) stack.now) }
+    ensures read { IfErr result (IsOfRead (tables_read kind (tables_view tables.now) stack.now)) }
 {
     let groups = groups_read(alloc, stack, tables)?;
     let lookup = Lookup {

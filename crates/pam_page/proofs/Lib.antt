@@ -1,5 +1,4 @@
 pub mod AddedLines
-pub mod AlikeTexts
 pub mod CodeTexts
 pub mod FlatTexts
 pub mod KeptTexts
@@ -8,3 +7,4 @@ pub mod ListingSteps
 pub mod PaddedTexts
 pub mod PageTexts
 pub mod SameSets
+pub mod TailTexts

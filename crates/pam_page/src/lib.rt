@@ -2,7 +2,6 @@
 //! A line copies the text of the steps it shares with the line before it.
 #![tactic(auto)]
 
-mod alike;
 mod buffer;
 mod classes;
 mod code_texts;
@@ -10,6 +9,7 @@ mod copied;
 pub mod laws;
 mod listing;
 mod page;
+mod tail_texts;
 mod texts;
 mod written;
 

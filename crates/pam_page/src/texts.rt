@@ -7,13 +7,13 @@ ghost use Rattle.pam_codes.specs.SetText.{set_text};
 ghost use Rattle.pam_page.specs.KeptSteps.{code_text};
 ghost use Rattle.pam_page.specs.Page.{path_line, step_text};
 ghost use Rattle.pam_paths.specs.Steps.{step_seen};
-ghost use Rattle.pam_paths.specs.Tail.{AreAlike};
+ghost use Rattle.pam_paths.specs.Tail.{IsTail};
 
-use crate::alike::AlikeTexts;
 use crate::buffer::Buffer;
 use crate::classes::ClassTexts;
 use crate::code_texts::{append_name, append_number};
 use crate::copied::append_line;
+use crate::tail_texts::TailTexts;
 use pam_codes::{CODES, CodeSet};
 use pam_dispatch::MAX_MODULES;
 use pam_paths::{Path, PathStep};
@@ -50,7 +50,7 @@ pub struct LineTexts {
     /// ` NUMBER=CLASS` for each step.
     steps: Buffer,
     /// The texts of the steps after those, at which the answers no longer matter.
-    alike: AlikeTexts,
+    tail_texts: TailTexts,
     /// The texts of the classes of more than one code that were appended last.
     classes: ClassTexts,
     /// The buffer for lines that are not written yet.
@@ -98,7 +98,7 @@ fn append_class(steps: &mut Buffer, classes: &mut ClassTexts, class: CodeSet) ->
 /// Appends the text of a step. Returns whether there was room.
 fn append_step(
     steps: &mut Buffer,
-    alike: &mut AlikeTexts,
+    tail_texts: &mut TailTexts,
     classes: &mut ClassTexts,
     step: &PathStep,
 ) -> bool
@@ -108,10 +108,10 @@ fn append_step(
     if number == 0 {
         return false;
     }
-    if !alike.reach(number) {
+    if !tail_texts.reach(number) {
         return false;
     }
-    alike.append_number_to(steps, number) && append_class(steps, classes, step.class())
+    tail_texts.append_number_to(steps, number) && append_class(steps, classes, step.class())
 }
 
 /// Appends a step if there is room. Returns whether there was.
@@ -131,7 +131,7 @@ impl LineTexts {
             kept: Vec::with_capacity(alloc, MAX_MODULES)?,
             cursor: Buffer::with_capacity(alloc, CODE_BYTES * MAX_MODULES)?,
             steps: Buffer::with_capacity(alloc, STEP_BYTES * MAX_MODULES)?,
-            alike: AlikeTexts::new(alloc)?,
+            tail_texts: TailTexts::new(alloc)?,
             classes: ClassTexts::new(alloc)?,
             lines: Buffer::with_capacity(alloc, LINES_BYTES)?,
         })
@@ -156,7 +156,12 @@ impl LineTexts {
         ensures { self.new ≡ (if result then self.old ++ step_seen step.now ∷ [] else []) }
     {
         if append_code(&mut self.cursor, step)
-            && append_step(&mut self.steps, &mut self.alike, &mut self.classes, step)
+            && append_step(
+                &mut self.steps,
+                &mut self.tail_texts,
+                &mut self.classes,
+                step,
+            )
         {
             let kept = KeptStep {
                 step: *step,
@@ -210,15 +215,15 @@ impl LineTexts {
         if self.kept.len() != path.steps().len() - tail.len() {
             return false;
         }
-        let Some((before, last)) = self.alike.reach_tail(tail) else {
+        let Some((before, last)) = self.tail_texts.reach_tail(tail) else {
             return false;
         };
         append_line(
             lines,
             &self.cursor,
-            self.alike.codes(tail.len()),
+            self.tail_texts.codes(tail.len()),
             &self.steps,
-            self.alike.steps(before, last),
+            self.tail_texts.steps(before, last),
             path,
         )
     }

@@ -4,7 +4,7 @@ use Rattle.std.proofs.lemmas.Bool.{false≢true}
 use Rattle.std.specs.Prelude.{IfSome, MatchResult, OnOk}
 use Rattle.pam_conf.specs.declared.stack.TheConstants.{MAX_MODULES}
 use Rattle.pam_dispatch.specs.Flat.{modules_of}
-use Rattle.pam_dispatch.specs.declared.entry.Entry.{Entry}
+use Rattle.pam_dispatch.specs.declared.flat_item.FlatItem.{FlatItem}
 use Rattle.pam_dispatch.specs.Runs.{AsksRise, Runs}
 use Rattle.pam_paths.specs.declared.cursor.CursorError.{CursorError}
 use Rattle.pam_paths.specs.declared.direction.Direction.{Direction}
@@ -63,7 +63,7 @@ module _ (n : ℕ) (runs : Runs) (codes k : List ℕ) (same : codes ≡ k) (rise
 
 -- THE SAME, OF A CALL THAT MAY REFUSE THE CURSOR
 
-pub exploring_on : (r : Result (Unit {0}) CursorError) (allows : Allowance) (program : List Entry) (frames : List Frame) → modules_of program ≤ MAX_MODULES
+pub exploring_on : (r : Result (Unit {0}) CursorError) (allows : Allowance) (program : List FlatItem) (frames : List Frame) → modules_of program ≤ MAX_MODULES
     → OnOk r (AreFrames allows program 0 frames) → OnOk r (IsExploring allows program false frames)
 exploring_on (Ok x) allows program frames few valid = record { few = few; valid = valid; start = λ e. absurd (false≢true e) }
 exploring_on (Err e) allows program frames few valid = tt

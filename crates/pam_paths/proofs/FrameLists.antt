@@ -4,7 +4,7 @@ use Rattle.std.proofs.Common.{Bool, Some, false, true}
 use Rattle.std.proofs.lemmas.Bool.{false≢true}
 use Rattle.std.proofs.lemmas.List.{map-append, reverse-reverse}
 use Rattle.pam_codes.specs.Code.{all_codes}
-use Rattle.pam_dispatch.specs.declared.entry.Entry.{Entry}
+use Rattle.pam_dispatch.specs.declared.flat_item.FlatItem.{FlatItem}
 use Rattle.pam_dispatch.specs.declared.place.Place.{Place}
 use Rattle.pam_dispatch.specs.Flat.{IsPlaceOf, modules_of, rest_of, runs_of}
 use Rattle.pam_dispatch.specs.Runs.{AsksRise, Runs, after_answer, asked_module, asks, ends, next_ask, outcome_of}
@@ -43,14 +43,14 @@ under-nil (f ∷ fs) = ap (map (after_step (step_in f))) (under-nil fs)
 
 -- THE FRAMES OF A PROGRAM
 
-AreFrames-push : (allows : Allowance) (program : List Entry) (low : ℕ) (fs : List Frame) (f : Frame) → AreFrames allows program low fs →
+AreFrames-push : (allows : Allowance) (program : List FlatItem) (low : ℕ) (fs : List Frame) (f : Frame) → AreFrames allows program low fs →
     IsFrame allows program (low + length fs) f → AreFrames allows program low (fs ++ f ∷ [])
 unfolding AreFrames
 AreFrames-push allows program low [] f h k = (subst (λ x. IsFrame allows program x f) (omega arith) k, tt)
 AreFrames-push allows program low (g ∷ fs) f h k =
     (h.0, AreFrames-push allows program (low + 1) fs f h.1 (subst (λ x. IsFrame allows program x f) (omega arith) k))
 
-AreFrames-pop : (allows : Allowance) (program : List Entry) (low : ℕ) (fs : List Frame) (f : Frame) → AreFrames allows program low (fs ++ f ∷ []) →
+AreFrames-pop : (allows : Allowance) (program : List FlatItem) (low : ℕ) (fs : List Frame) (f : Frame) → AreFrames allows program low (fs ++ f ∷ []) →
     AreFrames allows program low fs × IsFrame allows program (low + length fs) f
 unfolding AreFrames
 AreFrames-pop allows program low [] f h = (tt, subst (λ x. IsFrame allows program x f) (omega arith) h.0)
@@ -58,13 +58,13 @@ AreFrames-pop allows program low (g ∷ fs) f h =
     let k = AreFrames-pop allows program (low + 1) fs f h.1 in
     ((h.0, k.0), subst (λ x. IsFrame allows program x f) (omega arith) k.1)
 
-pub popped : (allows : Allowance) (program : List Entry) (items fs : List Frame) (f : Frame) → items ≡ fs ++ f ∷ [] → AreFrames allows program 0 items →
+pub popped : (allows : Allowance) (program : List FlatItem) (items fs : List Frame) (f : Frame) → items ≡ fs ++ f ∷ [] → AreFrames allows program 0 items →
     AreFrames allows program 0 fs × IsFrame allows program (length fs) f
 popped allows program items fs f e h =
     let k = AreFrames-pop allows program 0 fs f (subst (λ x. AreFrames allows program 0 x) e h) in
     (k.0, subst (λ x. IsFrame allows program x f) (omega arith) k.1)
 
-pub pushed : (allows : Allowance) (program : List Entry) (fs : List Frame) (f : Frame) → AreFrames allows program 0 fs →
+pub pushed : (allows : Allowance) (program : List FlatItem) (fs : List Frame) (f : Frame) → AreFrames allows program 0 fs →
     IsFrame allows program (length fs) f → AreFrames allows program 0 (fs ++ f ∷ [])
 pushed allows program fs f h k = AreFrames-push allows program 0 fs f h (subst (λ x. IsFrame allows program x f) (omega arith) k)
 
@@ -82,20 +82,20 @@ unfolding AsksRise
 AsksRise-lower low high n (ends s) l h = tt
 AsksRise-lower low high n (asks ask next) l h = (omega (arith, h.0), h.1, h.2)
 
-pub frame_number : (allows : Allowance) (program : List Entry) (low : ℕ) (f : Frame) → IsFrame allows program low f →
+pub frame_number : (allows : Allowance) (program : List FlatItem) (low : ℕ) (f : Frame) → IsFrame allows program low f →
     (low < f.module_number) × (f.module_number ≤ modules_of program)
 frame_number allows program low f h = let k = rise_after low (modules_of program) f.module_number 0 _ h.rise h.asking in (k.0, k.1)
 
-pub frame_room : (allows : Allowance) (program : List Entry) (low : ℕ) (f : Frame) → IsFrame allows program low f → low < modules_of program
+pub frame_room : (allows : Allowance) (program : List FlatItem) (low : ℕ) (f : Frame) → IsFrame allows program low f → low < modules_of program
 frame_room allows program low f h = let k = frame_number allows program low f h in omega arith
 
-pub frame_after : (allows : Allowance) (program : List Entry) (low : ℕ) (f : Frame) (c : ℕ) (p : Place) → IsFrame allows program low f →
+pub frame_after : (allows : Allowance) (program : List FlatItem) (low : ℕ) (f : Frame) (c : ℕ) (p : Place) → IsFrame allows program low f →
     rest_of program p ≡ after_answer (rest_of program f.place) c → AsksRise (low + 1) (modules_of program) (rest_of program p)
 frame_after allows program low f c p h e =
     let k = rise_after low (modules_of program) f.module_number c _ h.rise h.asking in
     subst (λ x. AsksRise (low + 1) (modules_of program) x) (sym e) (AsksRise-lower (low + 1) f.module_number (modules_of program) _ (omega arith) k.2)
 
-pub AreFrames-length : (allows : Allowance) (program : List Entry) (low : ℕ) (fs : List Frame) → low ≤ modules_of program →
+pub AreFrames-length : (allows : Allowance) (program : List FlatItem) (low : ℕ) (fs : List Frame) → low ≤ modules_of program →
     AreFrames allows program low fs → low + length fs ≤ modules_of program
 unfolding AreFrames
 AreFrames-length allows program low [] l h = omega arith
@@ -104,7 +104,7 @@ AreFrames-length allows program low (f ∷ fs) l h =
     let k = AreFrames-length allows program (low + 1) fs (omega arith) h.1 in omega arith
 
 -- a frame follows another branch
-pub frame_same : (allows : Allowance) (program : List Entry) (low : ℕ) (f g : Frame) → IsFrame allows program low f →
+pub frame_same : (allows : Allowance) (program : List FlatItem) (low : ℕ) (f g : Frame) → IsFrame allows program low f →
     g.place ≡ f.place → g.module_number ≡ f.module_number → g.classes ≡ f.classes → g.code < 31 → IsFrame allows program low g
 frame_same allows program low f g is place number classes code = record {
   place = subst (λ (x : Place). IsPlaceOf program x) (sym place) is.place;
@@ -140,7 +140,7 @@ pub ordered-some : (d : Direction) (allows : Allowance) (low n : ℕ) (r : Runs)
 ordered-some Forward allows low n r rise lawful e = listing-some allows low n r rise lawful e
 ordered-some Backward allows low n r rise lawful e = listing-some allows low n r rise lawful (reverse-empty (listing allows r) e)
 
-module _ (d : Direction) (allows : Allowance) (program : List Entry) where
+module _ (d : Direction) (allows : Allowance) (program : List FlatItem) where
   abbrev from : Frame → List PathValue
   from f = ahead_of d allows (rest_of program f.place) (past d f.code)
 

@@ -2,7 +2,7 @@
 use Rattle.std.specs.Prelude.{slice_set}
 use Rattle.std.proofs.Common.{◌≡◌, ℕ, ◌+◌, ◌-◌, ◌<◌, ◌≤◌, ◌∷◌, ◌++◌, [], List, get_or, length, take, arith, ap, sym, refl, subst, ◌∙◌}
 use Rattle.std.proofs.lemmas.List.{length-set, take_all, take_more, take_more_set}
-use Rattle.pam_dispatch.specs.declared.entry.Entry.{Entry}
+use Rattle.pam_dispatch.specs.declared.flat_item.FlatItem.{FlatItem}
 use Rattle.pam_dispatch.specs.Flat.{modules_of}
 use Rattle.pam_paths.specs.declared.frames.Branch.{Branch}
 use Rattle.pam_paths.specs.declared.frames.Frame.{Frame}
@@ -24,7 +24,7 @@ module _ {A : Type 0} (items : List A) (n : ℕ) (count : n ≡ length items) (s
       ∙ take_more_set items (n - 1) x (omega (arith, count, some))
 
 -- the last of n frames, and those before it
-pub record LastFrame (allows : Allowance) (program : List Entry) (items : List Frame) (n : ℕ) (f : Frame) : Type 0 where
+pub record LastFrame (allows : Allowance) (program : List FlatItem) (items : List Frame) (n : ℕ) (f : Frame) : Type 0 where
   pub split : items ≡ take (n - 1) items ++ f ∷ []
   pub earlier : AreFrames allows program 0 (take (n - 1) items)
   pub is : IsFrame allows program (length (take (n - 1) items)) f
@@ -32,14 +32,14 @@ pub record LastFrame (allows : Allowance) (program : List Entry) (items : List F
   pub last : f.module_number ≤ modules_of program
 
 -- the same once another branch is followed at the last frame
-pub record FollowedLast (allows : Allowance) (program : List Entry) (items put : List Frame) (n : ℕ) (f h : Frame) : Type 0 where
+pub record FollowedLast (allows : Allowance) (program : List FlatItem) (items put : List Frame) (n : ℕ) (f h : Frame) : Type 0 where
   pub was : LastFrame allows program items n f
   pub is : put ≡ take (n - 1) items ++ h ∷ []
   pub frames : AreFrames allows program 0 put
   pub place : h.place ≡ f.place
   pub number : h.module_number ≡ f.module_number
 
-module _ (allows : Allowance) (program : List Entry) (items : List Frame) (n : ℕ) (f : Frame)
+module _ (allows : Allowance) (program : List FlatItem) (items : List Frame) (n : ℕ) (f : Frame)
     (count : n ≡ length items) (some : 0 < n) (frames : AreFrames allows program 0 items) where
   pub last_frame : (now : List Frame) → now ≡ items → f ≡ get_or now (n - 1) f → LastFrame allows program items n f
   last_frame now same at =

@@ -1,13 +1,15 @@
 pub mod Alike
 pub mod Alone
+pub mod BoundedLists
 pub mod Branches
+pub mod CachedOnes
+pub mod Choices
 pub mod CodeDigits
 pub mod Counts
 pub mod CursorTexts
 pub mod Ends
 pub mod FrameLists
 pub mod Fronts
-pub mod KeptOnes
 pub mod Keys
 pub mod KnownCodes
 pub mod LastFrames
@@ -19,7 +21,6 @@ pub mod OneAction
 pub mod PageProofs
 pub mod Parts
 pub mod Retracing
-pub mod Rows
 pub mod Sets
 pub mod Sharing
 pub mod Situations

@@ -18,7 +18,7 @@ use Rattle.pam_dispatch.specs.declared.state.State.{State}
 use Rattle.pam_dispatch.specs.declared.step.Outcome.{Outcome}
 use Rattle.pam_dispatch.specs.Alike.{looks_at_code}
 use Rattle.pam_dispatch.specs.Runs.{Ask, Runs, asked_module, asks, ends, next_ask, outcome_in, outcome_of, state_in}
-use Rattle.pam_dispatch.specs.Tail.{keeps_failure}
+use Rattle.pam_dispatch.specs.Settled.{keeps_failure}
 use Rattle.pam_paths.specs.Classes.{class_at, class_of, least, same_outcome}
 use Rattle.pam_paths.specs.Computed.{is_offered}
 use Rattle.pam_paths.specs.Frames.{offered_at}

@@ -10,9 +10,9 @@ use Rattle.pam_dispatch.specs.declared.step.Outcome.{Outcome}
 use Rattle.pam_dispatch.specs.Alike.{fails, looks_at_code, told_status}
 use Rattle.pam_dispatch.specs.Runs.{Ask, outcome_of}
 use Rattle.pam_dispatch.specs.State.{action_of}
-use Rattle.pam_dispatch.specs.Tail.{keeps_failure, unchanged}
+use Rattle.pam_dispatch.specs.Settled.{keeps_failure, unchanged}
 use Rattle.pam_dispatch.proofs.Retelling.{outcome-retold, outcome-shared, outcomes-differ}
-use Rattle.pam_dispatch.proofs.Tails.{failed-outcome}
+use Rattle.pam_dispatch.proofs.SettledRuns.{failed-outcome}
 
 action_at : (ask : Ask) (c : ℕ) (a : Action) → slice_get ask.control c ≡ Some a → action_of ask.control c ≡ a
 action_at ask c a h = get_or_from_slice_get ask.control c a Ignore h

@@ -3,7 +3,7 @@ use Rattle.std.proofs.Common.{◌≡◌, ◌≢◌, ℕ, drop-cons, ◌+◌, ◌
 use Rattle.std.proofs.Common.{arith, length, drop, get_or, append_assoc, append-nil, Some, None}
 use Rattle.std.proofs.lemmas.Bool.{false≢true}
 use Rattle.std.proofs.lemmas.List.{length-append}
-use Rattle.pam_dispatch.specs.declared.entry.Entry.{Entry}
+use Rattle.pam_dispatch.specs.declared.flat_item.FlatItem.{FlatItem}
 use Rattle.pam_dispatch.specs.Flat.{rest_of}
 use Rattle.pam_dispatch.specs.Runs.{Runs, after_answer, asked_module, asks, ends, next_ask}
 use Rattle.pam_paths.specs.declared.direction.Direction.{Direction}
@@ -63,7 +63,7 @@ under-cond : (fs : List Frame) (b : Bool) (xs : List PathValue) → under fs (co
 under-cond fs true xs = refl
 under-cond fs false xs = under-nil fs
 
-module _ (d : Direction) (allows : Allowance) (program : List Entry) (fs : List Frame) (f : Frame) (r q : Runs) (m c : ℕ) (k : List ℕ)
+module _ (d : Direction) (allows : Allowance) (program : List FlatItem) (fs : List Frame) (f : Frame) (r q : Runs) (m c : ℕ) (k : List ℕ)
     (asking : asked_module r ≡ Some m) (here : r ≡ rest_of program f.place) (code : f.code ≡ c)
     (step : step_in f ≡ step_of (next_ask r) c) (at : q ≡ after_answer r c) where
   -- one more frame
@@ -95,7 +95,7 @@ module _ (d : Direction) (allows : Allowance) (program : List Entry) (fs : List 
       part-pushed whole is ∙ ap (λ (b : Bool). cond b (under (fs ++ f ∷ []) (part d allows q k)) [] ++ ahead d allows program (fs ++ f ∷ [])) (sym e)
   part-kept false more whole e is = is
 
-pub kept-frames : (allows : Allowance) (program : List Entry) (fs : List Frame) (f : Frame) (offered : Bool) (n : ℕ) →
+pub kept-frames : (allows : Allowance) (program : List FlatItem) (fs : List Frame) (f : Frame) (offered : Bool) (n : ℕ) →
     (offered ≡ true → length fs ≡ n) → AreFrames allows program 0 fs → IsFrame allows program n f →
     AreFrames allows program 0 (cond offered (fs ++ f ∷ []) fs)
 kept-frames allows program fs f true n count are is = pushed allows program fs f are (subst (λ (x : ℕ). IsFrame allows program x f) (sym (count refl)) is)
@@ -117,11 +117,11 @@ left-cons codes i c l e =
     drop-cons codes i c l ∙ ap (λ (x : ℕ). get_or codes i c ∷ drop x codes) next ∙ ap (λ (x : ℕ). x ∷ drop (i + 1) codes) (sym e)
 
 -- at the beginning there is no frame
-pub first_frames : (allows : Allowance) (program : List Entry) (fs : List Frame) → fs ≡ [] → AreFrames allows program 0 fs
+pub first_frames : (allows : Allowance) (program : List FlatItem) (fs : List Frame) → fs ≡ [] → AreFrames allows program 0 fs
 unfolding AreFrames
 first_frames allows program fs e = subst (AreFrames allows program 0) (sym e) tt
 
-pub first_part : (d : Direction) (allows : Allowance) (program : List Entry) (fs : List Frame) (paths : List PathValue) → fs ≡ [] →
+pub first_part : (d : Direction) (allows : Allowance) (program : List FlatItem) (fs : List Frame) (paths : List PathValue) → fs ≡ [] →
     paths ≡ under fs paths ++ ahead d allows program fs
 unfolding under ahead
 first_part d allows program fs paths e = sym (append-nil paths) ∙ ap (λ (x : List Frame). under x paths ++ ahead d allows program x) (sym e)
@@ -131,7 +131,7 @@ nothing : (fs : List Frame) (offered : Bool) (paths : List PathValue) → paths 
 nothing fs true paths e = ap (under fs) e ∙ under-nil fs
 nothing fs false paths e = refl
 
-pub nothing_left : (d : Direction) (allows : Allowance) (program : List Entry) (fs : List Frame) (r : Runs) (offered : Bool) (k : List ℕ) →
+pub nothing_left : (d : Direction) (allows : Allowance) (program : List FlatItem) (fs : List Frame) (r : Runs) (offered : Bool) (k : List ℕ) →
     asked_module r ≡ None →
     cond offered (under fs (part d allows r k)) [] ++ ahead d allows program fs ≡ ahead d allows program fs
 nothing_left d allows program fs r offered k e =

@@ -1,3 +1,4 @@
+pub mod Cached
 pub mod Classes
 pub mod Computed
 pub mod Cursor
@@ -5,8 +6,8 @@ pub mod CursorText
 pub mod Directions
 pub mod Exploration
 pub mod Followed
+pub mod Forks
 pub mod Frames
-pub mod Kept
 pub mod Known
 pub mod Laws
 pub mod Listing

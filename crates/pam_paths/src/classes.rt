@@ -8,14 +8,14 @@ ghost use Rattle.pam_codes.specs.Set.{IsCodeSet, codes_where, is_in};
 ghost use Rattle.pam_dispatch.specs.declared.place.Place.{Place};
 ghost use Rattle.pam_dispatch.specs.Flat.{IsPlaceOf, control_at, modules_of, rest_of};
 ghost use Rattle.pam_dispatch.specs.Runs.{asked_module, next_ask, outcome_of};
-ghost use Rattle.pam_dispatch.specs.Tail.{keeps_failure};
+ghost use Rattle.pam_dispatch.specs.Settled.{keeps_failure};
 ghost use Rattle.pam_paths.specs.Classes.{class_at, class_of, impression_number, least, same_outcome};
 ghost use Rattle.pam_paths.specs.Frames.{AreClasses, offered_at};
 ghost use Rattle.pam_paths.specs.Listing.{Allowance};
 ghost use Rattle.pam_paths.specs.Sharing.{is_offered_by, shared_code};
 
 use pam_codes::{Action, Code, CodeSet, Part};
-use pam_dispatch::{Asked, Impression, Outcome, Place, Program, State, keeps_failure};
+use pam_dispatch::{Impression, Outcome, Place, Program, Question, State, keeps_failure};
 
 /// The classes computed for a module that is asked.
 #[derive(Clone, Copy, Debug)]
@@ -62,7 +62,7 @@ fn is_same(one: &Outcome, other: &Outcome) -> bool
 
 /// Whether `code`, whose action is `action`, leads to `outcome`.
 #[inline(always)]
-fn leads_to(asked: &Asked<'_>, action: Action, code: Code, outcome: &Outcome) -> bool
+fn leads_to(asked: &Question<'_>, action: Action, code: Code, outcome: &Outcome) -> bool
     requires { slice_get asked.now.control code ≡ Some action }
     ensures { result ≡ same_outcome outcome.now (outcome_of asked.now code) }
 {
@@ -70,7 +70,7 @@ fn leads_to(asked: &Asked<'_>, action: Action, code: Code, outcome: &Outcome) ->
 }
 
 /// The set with `code` alone if it is in `part` and leads to `outcome`; else the empty set.
-fn code_alike(asked: &Asked<'_>, part: &Part, code: Code, outcome: &Outcome) -> CodeSet
+fn code_alike(asked: &Question<'_>, part: &Part, code: Code, outcome: &Outcome) -> CodeSet
     requires { IsPart asked.now.control part.now }
     ensures { result ≡ codes_where (λ d. (d == code) && (is_in d part.now.codes && same_outcome outcome.now (outcome_of asked.now d))) }
 {
@@ -82,7 +82,7 @@ fn code_alike(asked: &Asked<'_>, part: &Part, code: Code, outcome: &Outcome) -> 
 
 /// The codes of `part` that lead to `outcome`. If the action of the part looks at the code, the status determines the
 /// code, except that ignore can count as perm_denied.
-fn codes_alike(asked: &Asked<'_>, part: &Part, outcome: &Outcome) -> CodeSet
+fn codes_alike(asked: &Question<'_>, part: &Part, outcome: &Outcome) -> CodeSet
     requires { IsPart asked.now.control part.now }
     ensures { result ≡ codes_where (λ d. is_in d part.now.codes && same_outcome outcome.now (outcome_of asked.now d)) }
 {
@@ -103,7 +103,7 @@ fn codes_alike(asked: &Asked<'_>, part: &Part, outcome: &Outcome) -> CodeSet
 }
 
 /// The codes that lead to `outcome`.
-fn class_at(asked: &Asked<'_>, parts: &[Part], outcome: &Outcome) -> CodeSet
+fn class_at(asked: &Question<'_>, parts: &[Part], outcome: &Outcome) -> CodeSet
     requires { IsParts asked.now.control parts.now }
     ensures { result ≡ class_at asked.now outcome.now }
 {
@@ -214,7 +214,7 @@ impl Classes {
 
     /// The classes of the answers of a module. At first every allowed code is offered; then, part by part, only one code
     /// of each class that can have further ones.
-    fn by_parts(asked: &Asked<'_>, parts: &[Part], allowed: CodeSet) -> Classes
+    fn by_parts(asked: &Question<'_>, parts: &[Part], allowed: CodeSet) -> Classes
         requires parts { IsParts asked.now.control parts.now }
         requires allowed { IsCodeSet allowed }
         ensures offered { result.offered ≡ codes_where (is_offered_by allowed asked.now) }

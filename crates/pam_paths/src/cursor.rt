@@ -1,6 +1,7 @@
 //! Cursors, from which a listing continues.
 
 ghost use Rattle.std.specs.Prelude.{◌≡◌, ◌≢◌, ℕ, ◌-◌, ◌<◌, ◌≤◌, ◌^◌, All, IfErr, IfOk, List, length, map};
+ghost use Rattle.pam_codes.specs.declared.code.TheConstants.{CODES};
 ghost use Rattle.pam_conf.specs.declared.stack.TheConstants.{MAX_MODULES};
 ghost use Rattle.pam_codes.specs.Out.{Writes};
 ghost use Rattle.pam_paths.specs.Classes.{least};
@@ -102,7 +103,7 @@ impl Cursor {
     /// The numbers of the codes, in the order of the steps.
     pub(crate) fn codes(&self) -> &[u8]
         ensures value { result.now ≡ self.now }
-        ensures codes { All (λ code. code < 31) result.now }
+        ensures codes { All (λ code. code < CODES) result.now }
     {
         self.codes.as_slice()
     }
@@ -124,7 +125,7 @@ fn least_codes(steps: &[PathStep]) -> ArrayVec<u8, MAX_MODULES>
 /// The least code of a class; 0 if it is empty.
 pub(crate) fn least_number(class: CodeSet) -> u8
     ensures value { result ≡ least class }
-    ensures code { result < 31 }
+    ensures code { result < CODES }
 {
     match class.least() {
         Some(code) => code.number(),
@@ -134,7 +135,7 @@ pub(crate) fn least_number(class: CodeSet) -> u8
 
 /// The code with this number.
 pub(crate) fn code_numbered(number: u8) -> Code
-    requires { number < 31 }
+    requires { number < CODES }
     ensures { result ≡ number }
 {
     Code::new(number).unwrap()

@@ -1,6 +1,7 @@
 //! The direction in which a listing is explored.
 
 ghost use Rattle.std.specs.Prelude.{◌≡◌, ◌<◌, ◌≤◌, ℕ, IfNone, IfSome, IsTrue, false};
+ghost use Rattle.pam_codes.specs.declared.code.TheConstants.{CODES};
 ghost use Rattle.pam_codes.specs.Set.{is_in};
 ghost use Rattle.pam_paths.specs.Directions.{IsAhead, IsNearer, outset, past};
 
@@ -19,7 +20,7 @@ impl Direction {
     /// The bound with every code ahead.
     pub(crate) fn outset(self) -> u8
         ensures value { result ≡ outset self }
-        ensures range { result ≤ 31 }
+        ensures range { result ≤ CODES }
     {
         match self {
             Direction::Forward => 0,
@@ -30,7 +31,7 @@ impl Direction {
     /// The bound with exactly the codes after `code` ahead.
     pub(crate) fn past(self, code: Code) -> u8
         ensures value { result ≡ past self code }
-        ensures range { result ≤ 31 }
+        ensures range { result ≤ CODES }
     {
         match self {
             Direction::Forward => code.number() + 1,
@@ -40,10 +41,10 @@ impl Direction {
 
     /// The first of `codes` that is ahead of `bound`.
     pub(crate) fn first(self, codes: CodeSet, bound: u8) -> Option<Code>
-        requires { bound ≤ 31 }
-        ensures found { IfSome result (λ found. IsAhead self bound found × (found < 31) × IsTrue (is_in found codes)) }
+        requires { bound ≤ CODES }
+        ensures found { IfSome result (λ found. IsAhead self bound found × (found < CODES) × IsTrue (is_in found codes)) }
         ensures nearest { IfSome result (λ found. (c : ℕ) → IsAhead self bound c → IsNearer self c found → is_in c codes ≡ false) }
-        ensures none { IfNone result ((c : ℕ) → c < 31 → IsAhead self bound c → is_in c codes ≡ false) }
+        ensures none { IfNone result ((c : ℕ) → c < CODES → IsAhead self bound c → is_in c codes ≡ false) }
     {
         match self {
             Direction::Forward => codes.least_from(bound),

@@ -1,31 +1,31 @@
 //! The explorer of the paths that allowed answers can follow.
 
-ghost use Rattle.std.specs.Prelude.{◌≡◌, ◌+◌, ◌-◌, ◌*◌, ◌≤◌, ◌∷◌, ◌++◌, [], length, take};
+ghost use Rattle.std.specs.Prelude.{◌≡◌, ◌+◌, ◌-◌, ◌*◌, ◌≤◌, ◌∷◌, [], take};
 ghost use Rattle.std.specs.Prelude.{false, IfSome, IfNone, IfOk, MatchOption, MatchResult, OnOk};
 ghost use Rattle.std.specs.Iterator.{MakesProgress, YieldsFirst, item_count};
 ghost use Rattle.pam_conf.specs.Stack.{Items};
-ghost use Rattle.pam_dispatch.specs.Flat.{IsPlaceOf, modules_of, rest_of, runs_of};
-ghost use Rattle.pam_dispatch.specs.Runs.{AsksRise};
+ghost use Rattle.pam_dispatch.specs.Flat.{modules_of, runs_of};
 ghost use Rattle.pam_dispatch.specs.Tree.{runs_of_stack};
 ghost use Rattle.pam_paths.specs.declared.direction.Direction.{Direction};
 ghost use Rattle.pam_paths.specs.Computed.{listing};
 ghost use Rattle.pam_paths.specs.Cursor.{IsAccepted, IsRefusal};
-ghost use Rattle.pam_paths.specs.Directions.{IsListingFrom, ordered};
-ghost use Rattle.pam_paths.specs.Frames.{AreFirstSteps, AreFrames, IsExploring, ahead, coming, under};
-ghost use Rattle.pam_paths.specs.Kept.{AreKept};
+ghost use Rattle.pam_paths.specs.Directions.{IsListingFrom};
+ghost use Rattle.pam_paths.specs.Frames.{AreFirstSteps, IsExploring, coming};
+ghost use Rattle.pam_paths.specs.Cached.{AreCached};
 ghost use Rattle.pam_paths.specs.Listing.{IsListing, IsListingAfter};
 ghost use Rattle.pam_paths.specs.Paths.{path_of, path_through};
-ghost use Rattle.pam_paths.specs.Work.{CountsOn};
 
+use crate::bounded_list::BoundedList;
+use crate::class_cache::ClassCache;
 use crate::cursor::{Cursor, CursorError};
 use crate::direction::Direction;
-use crate::frames::{Frames, advance, descend, retell};
-use crate::kept::KeptClasses;
+use crate::frames::Frames;
 use crate::knowledge::Knowledge;
 use crate::path::Path;
+use crate::progress::Progress;
 use crate::retrace::retrace;
-use crate::row::Row;
-use crate::tail::AlikeSteps;
+use crate::scope::Scope;
+use crate::tail_steps::TailSteps;
 use pam_dispatch::{MAX_MODULES, Place, Program, Work};
 use std::marker::Model;
 
@@ -33,22 +33,14 @@ use std::marker::Model;
 /// least codes of their classes, or those before a cursor, last first.
 #[derive(Drop)]
 pub struct Explorer<'a, K: Knowledge> {
-    program: &'a Program,
-    knowledge: &'a K,
-    direction: Direction,
+    scope: Scope<'a, K>,
     /// Whether the next path is the first of all.
     at_start: bool,
-    /// The modules asked on the path returned last, at first on that of the cursor.
-    frames: Frames,
-    /// Room for the place from which the next path continues.
-    place: Place,
+    progress: Progress,
     /// The path returned last.
     path: Path,
-    /// The classes of the modules asked so far.
-    kept: KeptClasses,
     /// The steps at which the answers no longer matter are copied from here.
-    alike: AlikeSteps,
-    work: Work,
+    tail_steps: TailSteps,
 }
 
 impl<'a, K: Knowledge> Model for Explorer<'a, K> {
@@ -56,127 +48,44 @@ impl<'a, K: Knowledge> Model for Explorer<'a, K> {
     ghost use Rattle.pam_dispatch.specs.Flat.{modules_of};
     ghost use Rattle.pam_paths.specs.Exploration.{Exploration};
     ghost use Rattle.pam_paths.specs.Frames.{AreFirstSteps, IsExploring, coming};
-    ghost use Rattle.pam_paths.specs.Kept.{AreKept};
+    ghost use Rattle.pam_paths.specs.Cached.{AreCached};
 
     ghost Value = { Exploration };
 
     ghost view = { λ e. record {
-      coming = coming e.direction (K.allows e.knowledge.now) e.program.now e.at_start e.frames.items;
+      coming = coming e.scope.direction (K.allows e.scope.knowledge.now) e.scope.program.now e.at_start e.progress.frames.items;
       path = e.path;
-      work = e.work;
-      modules = modules_of e.program.now;
+      work = e.progress.work;
+      modules = modules_of e.scope.program.now;
     } };
 
-    ghost invariant = { λ e. IsExploring (K.allows e.knowledge.now) e.program.now e.at_start e.frames.items
-        × AreFirstSteps e.frames.items e.path.steps × AreKept (K.allows e.knowledge.now) e.program.now e.kept.modules
-        × (e.work ≤ 2 ^ 64 - 1) };
-}
-
-/// Makes `place` the place from which the next path continues, after the steps of `frames`; `None` if no path is left.
-fn go_on<K: Knowledge>(
-    program: &Program,
-    knowledge: &K,
-    direction: Direction,
-    at_start: bool,
-    frames: &mut Frames,
-    place: &mut Place,
-    work: &mut Work,
-) -> Option<()>
-    requires exploring { IsExploring (K.allows knowledge.now) program.now at_start frames.old.items }
-    ensures none { IfNone result (coming direction (K.allows knowledge.now) program.now at_start frames.old.items ≡ []) }
-    ensures emptied { IfNone result (frames.new.items ≡ []) }
-    ensures place { IfSome result (λ _. IsPlaceOf program.now place.new) }
-    ensures frames { AreFrames (K.allows knowledge.now) program.now 0 frames.new.items }
-    ensures rise { IfSome result (λ _. AsksRise (length frames.new.items) (modules_of program.now) (rest_of program.now place.new)) }
-    ensures earlier { take (length frames.new.items - 1) frames.new.items ≡ take (length frames.new.items - 1) frames.old.items }
-    ensures paths { IfSome result (λ _. coming direction (K.allows knowledge.now) program.now at_start frames.old.items
-        ≡ under frames.new.items (ordered direction (listing (K.allows knowledge.now) (rest_of program.now place.new)))
-        ++ ahead direction (K.allows knowledge.now) program.now frames.new.items) }
-    ensures work { work.new ≤ work.old + modules_of program.now }
-    ensures grows { CountsOn work.old work.new }
-{
-    if at_start {
-        *place = program.first();
-        return Some(());
-    }
-    advance(program, knowledge, direction, frames, place, work)
-}
-
-/// The number of first steps that stay, of `steps` steps, if only the last of `frames` frames may have changed.
-fn shared_count(steps: usize, frames: usize) -> usize
-    ensures within { result ≤ steps }
-    ensures unchanged { result ≤ frames - 1 }
-{
-    if steps < frames {
-        return steps;
-    }
-    frames.saturating_sub(1)
-}
-
-/// Makes `path` the next path in `direction`. Returns the number of its first steps that it shares with the path before
-/// it; `None` if no path is left, and then `path` has no steps.
-fn follow<K: Knowledge>(
-    program: &Program,
-    knowledge: &K,
-    direction: Direction,
-    at_start: bool,
-    frames: &mut Frames,
-    place: &mut Place,
-    path: &mut Path,
-    kept: &mut KeptClasses,
-    alike: &AlikeSteps,
-    work: &mut Work,
-) -> Option<usize>
-    requires exploring { IsExploring (K.allows knowledge.now) program.now at_start frames.old.items }
-    requires steps { AreFirstSteps frames.old.items path.old.steps }
-    requires kept { AreKept (K.allows knowledge.now) program.now kept.old.modules }
-    ensures kept { AreKept (K.allows knowledge.now) program.now kept.new.modules }
-    ensures exploring { IsExploring (K.allows knowledge.now) program.now false frames.new.items }
-    ensures steps { AreFirstSteps frames.new.items path.new.steps }
-    ensures none { IfNone result (coming direction (K.allows knowledge.now) program.now at_start frames.old.items ≡ []) }
-    ensures stays { IfNone result (coming direction (K.allows knowledge.now) program.now false frames.new.items ≡ []) }
-    ensures path { IfSome result (λ _. coming direction (K.allows knowledge.now) program.now at_start frames.old.items
-        ≡ path.new ∷ coming direction (K.allows knowledge.now) program.now false frames.new.items) }
-    ensures no_steps { IfNone result (path.new.steps ≡ []) }
-    ensures shared { IfSome result (λ shared. take shared path.new.steps ≡ take shared path.old.steps) }
-    ensures work { work.new ≤ work.old + 64 * (modules_of program.now + 1) }
-    ensures grows { CountsOn work.old work.new }
-{
-    let Some(()) = go_on(program, knowledge, direction, at_start, frames, place, work) else {
-        path.steps.truncate(0);
-        path.tail = 0;
-        return None;
-    };
-    let shared = shared_count(path.steps.len(), frames.len());
-    let rest = descend(program, knowledge, direction, frames, kept, place, work);
-    let tail = alike.last(program.modules(), rest.modules);
-    retell(&mut path.steps, frames.as_slice(), tail, shared, path.tail);
-    path.tail = rest.modules;
-    path.decision = rest.decision.code();
-    Some(shared)
+    ghost invariant = { λ e. IsExploring (K.allows e.scope.knowledge.now) e.scope.program.now e.at_start e.progress.frames.items
+        × AreFirstSteps e.progress.frames.items e.path.steps
+        × AreCached (K.allows e.scope.knowledge.now) e.scope.program.now e.progress.cache.modules
+        × (e.progress.work ≤ 2 ^ 64 - 1) };
 }
 
 /// Pushes the frames from which the paths after `cursor` follow, and those before it. Refuses it like `after`.
 fn frames_at<K: Knowledge>(
-    program: &Program,
-    knowledge: &K,
+    scope: &Scope<'_, K>,
     cursor: &Cursor,
     frames: &mut Frames,
     work: &mut Work,
 ) -> Result<(), CursorError>
     requires none { frames.old.items ≡ [] }
     ensures verdict { MatchResult result
-        (λ _. IsAccepted (modules_of program.now) (path_of (runs_of program.now)) cursor.now)
-        (IsRefusal (modules_of program.now) (path_of (runs_of program.now)) cursor.now) }
-    ensures tree { (items : Items) → runs_of program.now ≡ runs_of_stack items → MatchResult result
-        (λ _. IsAccepted (modules_of program.now) (path_through items) cursor.now)
-        (IsRefusal (modules_of program.now) (path_through items) cursor.now) }
-    ensures exploring { OnOk result (IsExploring (K.allows knowledge.now) program.now false frames.new.items) }
-    ensures listing { (direction : Direction) → OnOk result (IsListingFrom direction (K.allows knowledge.now) (modules_of program.now)
-        (path_of (runs_of program.now)) cursor.now (coming direction (K.allows knowledge.now) program.now false frames.new.items)) }
-    ensures work { work.new ≤ work.old + 64 * (modules_of program.now + 1) }
+        (λ _. IsAccepted (modules_of scope.now.program.now) (path_of (runs_of scope.now.program.now)) cursor.now)
+        (IsRefusal (modules_of scope.now.program.now) (path_of (runs_of scope.now.program.now)) cursor.now) }
+    ensures tree { (items : Items) → runs_of scope.now.program.now ≡ runs_of_stack items → MatchResult result
+        (λ _. IsAccepted (modules_of scope.now.program.now) (path_through items) cursor.now)
+        (IsRefusal (modules_of scope.now.program.now) (path_through items) cursor.now) }
+    ensures exploring { OnOk result (IsExploring (K.allows scope.now.knowledge.now) scope.now.program.now false frames.new.items) }
+    ensures listing { (direction : Direction) → OnOk result (IsListingFrom direction (K.allows scope.now.knowledge.now) (modules_of scope.now.program.now)
+        (path_of (runs_of scope.now.program.now)) cursor.now
+        (coming direction (K.allows scope.now.knowledge.now) scope.now.program.now false frames.new.items)) }
+    ensures work { work.new ≤ work.old + 64 * (modules_of scope.now.program.now + 1) }
 {
-    retrace(program, knowledge, cursor.codes(), frames, work)
+    retrace(scope, cursor.codes(), frames, work)
 }
 
 impl<'a, K: Knowledge> Explorer<'a, K> {
@@ -196,16 +105,20 @@ impl<'a, K: Knowledge> Explorer<'a, K> {
         let modules = program.modules();
         prove!(modules <= MAX_MODULES);
         Explorer {
-            program,
-            knowledge,
-            direction: Direction::Forward,
+            scope: Scope {
+                program,
+                knowledge,
+                direction: Direction::Forward,
+            },
             at_start: true,
-            frames: Row::new(),
-            place: Place::default(),
+            progress: Progress {
+                frames: BoundedList::new(),
+                place: Place::default(),
+                cache: ClassCache::new(),
+                work: Work::new(),
+            },
             path: Path::empty(),
-            kept: KeptClasses::new(),
-            alike: AlikeSteps::new(),
-            work: Work::new(),
+            tail_steps: TailSteps::new(),
         }
     }
 
@@ -262,21 +175,26 @@ impl<'a, K: Knowledge> Explorer<'a, K> {
         ensures modules { IfOk result (λ e. e.modules ≡ modules_of program.now) }
         ensures work { IfOk result (λ e. e.work ≤ 64 * (modules_of program.now + 1)) }
     {
-        let mut frames = Row::new();
+        let scope = Scope {
+            program,
+            knowledge,
+            direction,
+        };
+        let mut frames = BoundedList::new();
         let mut work = Work::new();
-        match frames_at(program, knowledge, cursor, &mut frames, &mut work) {
+        match frames_at(&scope, cursor, &mut frames, &mut work) {
             Err(refusal) => Err(refusal),
             Ok(()) => Ok(Explorer {
-                program,
-                knowledge,
-                direction,
+                scope,
                 at_start: false,
-                frames,
-                place: Place::default(),
+                progress: Progress {
+                    frames,
+                    place: Place::default(),
+                    cache: ClassCache::new(),
+                    work,
+                },
                 path: Path::empty(),
-                kept: KeptClasses::new(),
-                alike: AlikeSteps::new(),
-                work,
+                tail_steps: TailSteps::new(),
             }),
         }
     }
@@ -293,18 +211,8 @@ impl<'a, K: Knowledge> Explorer<'a, K> {
     {
         let at_start = self.at_start;
         self.at_start = false;
-        follow(
-            self.program,
-            self.knowledge,
-            self.direction,
-            at_start,
-            &mut self.frames,
-            &mut self.place,
-            &mut self.path,
-            &mut self.kept,
-            &self.alike,
-            &mut self.work,
-        )
+        self.progress
+            .follow(&self.scope, at_start, &mut self.path, &self.tail_steps)
     }
 
     /// The path followed last. It has no steps before the first one is followed, and when none is left.
@@ -318,7 +226,7 @@ impl<'a, K: Knowledge> Explorer<'a, K> {
     pub fn work(&self) -> u64
         ensures { result ≡ self.now.work }
     {
-        self.work.steps()
+        self.progress.work.steps()
     }
 }
 

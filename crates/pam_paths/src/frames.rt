@@ -1,32 +1,30 @@
 //! The frames of an explorer: the modules asked on the path that it returned last.
 
-ghost use Rattle.std.specs.Prelude.{◌≡◌, ◌+◌, ◌-◌, ◌<◌, ◌≤◌, ◌∷◌, ◌++◌, [], drop, length, map, slice_index_or, slice_set, take};
+ghost use Rattle.std.specs.Prelude.{◌≡◌, ◌+◌, ◌-◌, ◌<◌, ◌≤◌, ◌++◌, [], drop, length, map, slice_index_or, slice_set, take};
 ghost use Rattle.std.specs.Prelude.{None, Some, IfSome, IfNone, IsTrue};
+ghost use Rattle.pam_codes.specs.declared.code.TheConstants.{CODES};
 ghost use Rattle.pam_conf.specs.declared.stack.TheConstants.{MAX_MODULES};
 ghost use Rattle.pam_dispatch.specs.Flat.{IsPlaceOf, modules_of, rest_of};
-ghost use Rattle.pam_dispatch.specs.Runs.{AsksRise, after_answer, asked_module, next_ask};
+ghost use Rattle.pam_dispatch.specs.Runs.{after_answer, asked_module, next_ask};
 ghost use Rattle.pam_paths.specs.Classes.{class_of};
 ghost use Rattle.pam_paths.specs.Computed.{after_step, listing};
 ghost use Rattle.pam_paths.specs.Directions.{ordered, past};
 ghost use Rattle.pam_paths.specs.Followed.{followed};
-ghost use Rattle.pam_paths.specs.Frames.{AreClasses, AreFrames, ahead, ahead_of, offered_at, path_to, step_in, under};
-ghost use Rattle.pam_paths.specs.Kept.{AreKept};
+ghost use Rattle.pam_paths.specs.Frames.{AreClasses, ahead_of, offered_at, step_in};
 ghost use Rattle.pam_paths.specs.Listing.{Allowance};
 ghost use Rattle.pam_paths.specs.Steps.{step_seen};
-ghost use Rattle.pam_paths.specs.Tail.{AreAlike, EndAlike};
+ghost use Rattle.pam_paths.specs.Tail.{IsTail, EndsInTail};
 ghost use Rattle.pam_paths.specs.Work.{CountsOn};
 
+use crate::bounded_list::BoundedList;
 use crate::classes::Classes;
 use crate::direction::Direction;
-use crate::kept::KeptClasses;
-use crate::knowledge::Knowledge;
 use crate::path::PathStep;
-use crate::row::Row;
 use pam_codes::{Code, CodeSet};
-use pam_dispatch::{MAX_MODULES, Place, Program, Rest, Work};
+use pam_dispatch::{MAX_MODULES, Place, Program, Work};
 
 /// The frames of a path, outermost first.
-pub(crate) type Frames = Row<Frame>;
+pub(crate) type Frames = BoundedList<Frame>;
 
 /// A module asked on a path, with the class that is followed.
 #[derive(Clone, Copy, Debug)]
@@ -66,7 +64,7 @@ impl Frame {
         ensures place { result.place ≡ place }
         ensures number { result.module_number ≡ module_number }
         ensures classes { result.classes ≡ classes }
-        ensures code { result.code < 31 }
+        ensures code { result.code < CODES }
     {
         Frame {
             place,
@@ -133,11 +131,11 @@ impl Frame {
         requires first { 1 ≤ self.now.module_number }
         requires last { self.now.module_number ≤ modules_of program.now }
         requires classes { AreClasses (next_ask (rest_of program.now self.now.place)) self.now.classes }
-        requires bound { bound ≤ 31 }
+        requires bound { bound ≤ CODES }
         ensures none { (allows : Allowance) → self.now.classes.offered ≡ offered_at allows (rest_of program.now self.now.place)
             → IfNone result (ahead_of direction allows (rest_of program.now self.now.place) bound ≡ []) }
         ensures place { IfSome result (λ _. IsPlaceOf program.now place.new) }
-        ensures code { IfSome result (λ b. b.code < 31) }
+        ensures code { IfSome result (λ b. b.code < CODES) }
         ensures rest { IfSome result (λ b. rest_of program.now place.new ≡ after_answer (rest_of program.now self.now.place) b.code) }
         ensures paths { (allows : Allowance) → self.now.classes.offered ≡ offered_at allows (rest_of program.now self.now.place)
             → IfSome result (λ b. ahead_of direction allows (rest_of program.now self.now.place) bound
@@ -183,10 +181,10 @@ impl Frame {
     }
 }
 
-impl Row<Frame> {
+impl BoundedList<Frame> {
     /// Follows `branch` at the frame at `index`.
     #[inline(always)]
-    fn follow(&mut self, index: usize, branch: &Branch)
+    pub(crate) fn follow(&mut self, index: usize, branch: &Branch)
         requires { index < length self.old.items }
         ensures { (frame : Frame) → frame ≡ slice_index_or self.old.items index frame
             → self.new.items ≡ slice_set self.old.items index (followed frame branch.now) }
@@ -197,86 +195,8 @@ impl Row<Frame> {
     }
 }
 
-/// Pops frames up to the innermost one that has a further branch, and follows that branch. Makes `place` the place after
-/// it; `None` if no frame has one.
-pub(crate) fn advance<K: Knowledge>(
-    program: &Program,
-    knowledge: &K,
-    direction: Direction,
-    frames: &mut Frames,
-    place: &mut Place,
-    work: &mut Work,
-) -> Option<()>
-    requires few { modules_of program.now ≤ MAX_MODULES }
-    requires frames { AreFrames (K.allows knowledge.now) program.now 0 frames.old.items }
-    ensures none { IfNone result (ahead direction (K.allows knowledge.now) program.now frames.old.items ≡ []) }
-    ensures emptied { IfNone result (frames.new.items ≡ []) }
-    ensures place { IfSome result (λ _. IsPlaceOf program.now place.new) }
-    ensures frames { AreFrames (K.allows knowledge.now) program.now 0 frames.new.items }
-    ensures rise { IfSome result (λ _. AsksRise (length frames.new.items) (modules_of program.now) (rest_of program.now place.new)) }
-    ensures earlier { take (length frames.new.items - 1) frames.new.items ≡ take (length frames.new.items - 1) frames.old.items }
-    ensures paths { IfSome result (λ _. ahead direction (K.allows knowledge.now) program.now frames.old.items
-        ≡ under frames.new.items (ordered direction (listing (K.allows knowledge.now) (rest_of program.now place.new)))
-        ++ ahead direction (K.allows knowledge.now) program.now frames.new.items) }
-    ensures work { work.new ≤ work.old + length frames.old.items }
-    ensures grows { CountsOn work.old work.new }
-{
-    while !frames.is_empty() {
-        let last = frames.len() - 1;
-        let frame = &frames.as_slice()[last];
-        let bound = direction.past(frame.code);
-        if let Some(branch) = frame.branch_ahead(program, direction, bound, place, work) {
-            frames.follow(last, &branch);
-            return Some(());
-        }
-        frames.truncate(last);
-    }
-    None
-}
-
-/// Follows the first branch of each module, from `place` on, until the run is settled. Returns the rest of it.
-pub(crate) fn descend<K: Knowledge>(
-    program: &Program,
-    knowledge: &K,
-    direction: Direction,
-    frames: &mut Frames,
-    kept: &mut KeptClasses,
-    place: &mut Place,
-    work: &mut Work,
-) -> Rest
-    requires few { modules_of program.now ≤ MAX_MODULES }
-    requires kept { AreKept (K.allows knowledge.now) program.now kept.old.modules }
-    requires frames { AreFrames (K.allows knowledge.now) program.now 0 frames.old.items }
-    requires place { IsPlaceOf program.now place.old }
-    requires rise { AsksRise (length frames.old.items) (modules_of program.now) (rest_of program.now place.old) }
-    ensures frames { AreFrames (K.allows knowledge.now) program.now 0 frames.new.items }
-    ensures kept { AreKept (K.allows knowledge.now) program.now kept.new.modules }
-    ensures path { under frames.old.items (ordered direction (listing (K.allows knowledge.now) (rest_of program.now place.old)))
-        ++ ahead direction (K.allows knowledge.now) program.now frames.old.items
-        ≡ path_to (modules_of program.now) frames.new.items result ∷ ahead direction (K.allows knowledge.now) program.now frames.new.items }
-    ensures within { length frames.new.items + result.modules ≤ modules_of program.now }
-    ensures earlier { take (length frames.old.items) frames.new.items ≡ frames.old.items }
-    ensures work { work.new + length frames.old.items ≤ work.old + length frames.new.items }
-    ensures grows { CountsOn work.old work.new }
-{
-    loop {
-        if let Some(rest) = program.settled(place) {
-            return rest;
-        }
-        let Some(module_number) = place.module() else {
-            unreachable!()
-        };
-        let classes = kept.at(program, knowledge, place, module_number);
-        let frame = Frame::at(*place, module_number, classes);
-        match frame.branch_ahead(program, direction, direction.outset(), place, work) {
-            Some(branch) => frames.push(frame.following(&branch)),
-            None => unreachable!(),
-        }
-    }
-}
-
 /// Makes the first of `steps` those of `frames`. The first `shared` of them, and those after all, stay.
-fn rewrite(steps: &mut Row<PathStep>, frames: &[Frame], shared: usize)
+fn rewrite(steps: &mut BoundedList<PathStep>, frames: &[Frame], shared: usize)
     requires room { length frames.now ≤ length steps.old.items }
     requires within { shared ≤ length frames.now }
     requires same { take shared (map step_seen steps.old.items) ≡ take shared (map step_in frames.now) }
@@ -295,7 +215,7 @@ fn rewrite(steps: &mut Row<PathStep>, frames: &[Frame], shared: usize)
 }
 
 /// Makes `steps` the steps of `frames` and then those of `tail`. The first `shared` of them stay.
-fn write(steps: &mut Row<PathStep>, frames: &[Frame], tail: &[PathStep], shared: usize)
+fn write(steps: &mut BoundedList<PathStep>, frames: &[Frame], tail: &[PathStep], shared: usize)
     requires few { length frames.now + length tail.now ≤ MAX_MODULES }
     requires within { shared ≤ length frames.now }
     requires same { take shared (map step_seen steps.old.items) ≡ take shared (map step_in frames.now) }
@@ -309,38 +229,38 @@ fn write(steps: &mut Row<PathStep>, frames: &[Frame], tail: &[PathStep], shared:
     steps.extend(tail);
 }
 
-/// Whether `steps` is certain to be `count` steps and then `tail`. The last `kept` of `steps`, and those of `tail`, are of
+/// Whether `steps` is certain to be `count` steps and then `tail`. The last `settled` of `steps`, and those of `tail`, are of
 /// consecutive modules, each with every code, so that comparing their counts and their first numbers is enough.
-fn ends_with(steps: &[PathStep], count: usize, tail: &[PathStep], kept: usize) -> bool
-    requires end { EndAlike kept (map step_seen steps.now) }
-    requires alike { AreAlike (map step_seen tail.now) }
+fn ends_with(steps: &[PathStep], count: usize, tail: &[PathStep], settled: usize) -> bool
+    requires end { EndsInTail settled (map step_seen steps.now) }
+    requires tail { IsTail (map step_seen tail.now) }
     ensures within { IsTrue result → count ≤ length steps.now }
     ensures same { IsTrue result → drop count (map step_seen steps.now) ≡ map step_seen tail.now }
 {
-    if tail.len() != kept || steps.len() - kept != count {
+    if tail.len() != settled || steps.len() - settled != count {
         return false;
     }
-    kept == 0 || steps[count].number == tail[0].number
+    settled == 0 || steps[count].number == tail[0].number
 }
 
 /// Makes `steps` the steps of `frames` and then those of `tail`. The first `shared` of them stay, and often all of the
-/// last: the path before had `kept` steps at its end at which the answers no longer matter, and they are those of `tail`
+/// last: the path before had `settled` steps at its end at which the answers no longer matter, and they are those of `tail`
 /// too.
 pub(crate) fn retell(
-    steps: &mut Row<PathStep>,
+    steps: &mut BoundedList<PathStep>,
     frames: &[Frame],
     tail: &[PathStep],
     shared: usize,
-    kept: usize,
+    settled: usize,
 )
     requires few { length frames.now + length tail.now ≤ MAX_MODULES }
     requires within { shared ≤ length frames.now }
     requires same { take shared (map step_seen steps.old.items) ≡ take shared (map step_in frames.now) }
-    requires end { EndAlike kept (map step_seen steps.old.items) }
-    requires alike { AreAlike (map step_seen tail.now) }
+    requires end { EndsInTail settled (map step_seen steps.old.items) }
+    requires tail { IsTail (map step_seen tail.now) }
     ensures { map step_seen steps.new.items ≡ map step_in frames.now ++ map step_seen tail.now }
 {
-    if ends_with(steps.as_slice(), frames.len(), tail, kept) {
+    if ends_with(steps.as_slice(), frames.len(), tail, settled) {
         rewrite(steps, frames, shared);
     } else {
         write(steps, frames, tail, shared);

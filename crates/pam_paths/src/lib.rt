@@ -3,22 +3,27 @@
 #![tactic(auto)]
 
 mod before;
+mod bounded_list;
+mod class_cache;
 mod classes;
 mod cursor;
 mod digits;
 mod direction;
 mod explorer;
+mod fork;
 mod frames;
-mod kept;
 mod knowledge;
 pub mod laws;
 mod path;
+mod path_parts;
+mod progress;
 mod retrace;
-mod row;
-mod tail;
+mod scope;
+mod tail_steps;
 
 pub use before::Before;
 pub use cursor::{Cursor, CursorError};
 pub use explorer::Explorer;
+pub use fork::{Choice, Fork};
 pub use knowledge::{Free, Knowledge, Known};
 pub use path::{Path, PathStep};

@@ -3,10 +3,10 @@
 ghost use Rattle.std.specs.Prelude.{◌≡◌, ◌-◌, ◌<◌, ◌≤◌, drop, length, map};
 ghost use Rattle.pam_paths.specs.CursorText.{IsCursor};
 ghost use Rattle.pam_paths.specs.Paths.{key};
-ghost use Rattle.pam_paths.specs.Tail.{AreAlike};
+ghost use Rattle.pam_paths.specs.Tail.{IsTail};
 
+use crate::bounded_list::BoundedList;
 use crate::cursor::Cursor;
-use crate::row::Row;
 use pam_codes::{Code, CodeSet};
 use std::marker::Model;
 
@@ -51,7 +51,7 @@ impl PathStep {
 /// A path through a stack: the modules asked, each with the class of its answer, and the decision.
 #[derive(Drop)]
 pub struct Path {
-    pub(crate) steps: Row<PathStep>,
+    pub(crate) steps: BoundedList<PathStep>,
     /// The number of last steps at which the answers no longer matter.
     pub(crate) tail: usize,
     pub(crate) decision: Code,
@@ -67,9 +67,9 @@ impl Model for Path {
 
     ghost view = { λ p. record { steps = map step_seen p.steps.items; decision = p.decision } };
 
-    ghost use Rattle.pam_paths.specs.Tail.{EndAlike};
+    ghost use Rattle.pam_paths.specs.Tail.{EndsInTail};
 
-    ghost invariant = { λ p. EndAlike p.tail (map step_seen p.steps.items) };
+    ghost invariant = { λ p. EndsInTail p.tail (map step_seen p.steps.items) };
 }
 
 impl Path {
@@ -81,17 +81,17 @@ impl Path {
         ensures { result.steps ≡ [] }
     {
         Path {
-            steps: Row::new(),
+            steps: BoundedList::new(),
             tail: 0,
             decision: Code::SUCCESS,
         }
     }
 
     /// The same path again.
-    pub(crate) fn copied(&self) -> Path
+    pub fn copied(&self) -> Path
         ensures { result ≡ self.now }
     {
-        let mut steps = Row::new();
+        let mut steps = BoundedList::new();
         steps.extend(self.steps.as_slice());
         Path {
             steps,
@@ -111,7 +111,7 @@ impl Path {
     pub fn tail(&self) -> &[PathStep]
         ensures within { length result.now ≤ length self.now.steps }
         ensures last { map step_seen result.now ≡ drop (length self.now.steps - length result.now) self.now.steps }
-        ensures alike { AreAlike (map step_seen result.now) }
+        ensures tail { IsTail (map step_seen result.now) }
     {
         let steps = self.steps.as_slice();
         &steps[steps.len() - self.tail..]

@@ -1,7 +1,10 @@
 pub mod Civil
 pub mod FlatTexts
 pub mod ItemTexts
+pub mod KnownStacks
+pub mod OutcomeTexts
 pub mod PageParts
 pub mod PageTexts
 pub mod ShowTexts
 pub mod TraceSteps
+pub mod Wanting

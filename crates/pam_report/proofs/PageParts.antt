@@ -1,8 +1,7 @@
 -- The part of a listing that a page is taken from, and the answer, from the contract of the explorer.
 use Rattle.std.proofs.Common.{◌≡◌, ◌≢◌, ℕ, List, Result, Ok, Err, Option, refl, sym, subst, ◌∙◌}
-use Rattle.pam_codes.specs.Out.{Out}
 use Rattle.pam_conf.specs.Stack.{Items, module_count}
-use Rattle.pam_known.specs.Knowledge.{Agree, allows_codes}
+use Rattle.pam_known.specs.Knowledge.{Agree}
 use Rattle.pam_known.proofs.Listings.{same_listing, same_listing_after, same_listing_before}
 use Rattle.pam_paths.specs.Cursor.{IsAccepted, IsRefusal}
 use Rattle.pam_paths.specs.CursorText.{IsCursor, cursor_text}
@@ -12,11 +11,7 @@ use Rattle.pam_paths.specs.declared.cursor.CursorError.{CursorError}
 use Rattle.pam_paths.specs.declared.cursor.CursorError.TheVariants.{Syntax, NotLeast, TooShort, TooLong}
 use Rattle.pam_words.specs.declared.wanted.PagePart.{PagePart}
 use Rattle.pam_words.specs.declared.wanted.PagePart.TheVariants.{Whole, After, Before}
-use Rattle.pam_known.specs.declared.error.KnownError.{KnownError}
-use Rattle.pam_report.specs.Leaves.{LeavesSome}
-use Rattle.pam_report.specs.Paths.{IsKnownPage, IsPageOf, IsPart, IsTaken, PageRequest}
-use Rattle.pam_report.specs.declared.fault.Fault.{Fault}
-use Rattle.pam_report.specs.declared.report.Status.{Status}
+use Rattle.pam_report.specs.Paths.{IsPart, IsTaken}
 
 -- a part under one knowledge is that under another that allows the same codes
 module _ (one other : Allowance) (items : Items) (agree : Agree (module_count items) one other) where
@@ -65,10 +60,3 @@ module _ (items : Items) (text cursor : List ℕ) (n : ℕ) (counted : n ≡ mod
     subst (λ (k : ℕ). IsAccepted k (path_through items) cursor) counted accepted,
     subst (λ (k : ℕ). IsRest k cursor paths) counted rest,
   )
-
--- what is written of a page, if the tables tell these codes
-pub known-page : {W : Type 0} (contents : W → Option (List ℕ)) (old new : Out W) (result : Result Status Fault) (request : PageRequest) (items : Items)
-    (codes : ℕ → List ℕ) (told : Result (ℕ → List ℕ) KnownError) → told ≡ Ok codes →
-    LeavesSome contents old new result (IsPageOf request items (allows_codes codes)) → LeavesSome contents old new result (IsKnownPage request items told)
-known-page contents old new result request items codes told is h =
-    subst (λ (t : Result (ℕ → List ℕ) KnownError). LeavesSome contents old new result (IsKnownPage request items t)) (sym is) h

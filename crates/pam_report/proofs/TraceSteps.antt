@@ -6,7 +6,7 @@ use Rattle.std.proofs.lemmas.List.{get_or_default, map-append}
 use Rattle.pam_codes.specs.declared.action.Action.{Action}
 use Rattle.pam_conf.specs.Stack.{Items, module_count}
 use Rattle.pam_conf.specs.declared.rule.Kind.{Kind}
-use Rattle.pam_dispatch.specs.declared.entry.Entry.{Entry}
+use Rattle.pam_dispatch.specs.declared.flat_item.FlatItem.{FlatItem}
 use Rattle.pam_dispatch.specs.declared.place.Place.{Place}
 use Rattle.pam_dispatch.specs.declared.state.State.{State}
 use Rattle.pam_dispatch.specs.Decision.{decision_of}
@@ -82,7 +82,7 @@ module _ (items : Items) (answers : Assignment) where
       ∙ before
 
 -- a step from a place that asks the module of a number
-module _ (program : List Entry) (place : Place) (number : ℕ)
+module _ (program : List FlatItem) (place : Place) (number : ℕ)
     (rise : AsksRise 0 (modules_of program) (rest_of program place)) (is : number_asked (rest_of program place) ≡ Some number) where
   range : (0 < number) × (number ≤ modules_of program) × ((code : ℕ) → AsksRise number (modules_of program) (after_answer (rest_of program place) code))
   range = AsksRise-step 0 _ _ number rise is

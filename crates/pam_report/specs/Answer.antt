@@ -27,12 +27,14 @@ use Rattle.pam_times.specs.declared.times.TimeAnswer.{TimeAnswer}
 use Rattle.pam_times.specs.declared.times.TimeAnswer.TheVariants as times
 use Rattle.pam_words.specs.declared.wanted.Login.{Login}
 use Rattle.pam_words.specs.declared.wanted.Task.{Task}
-use Rattle.pam_words.specs.declared.wanted.Task.TheVariants.{Show, Decide, Access, Time, Paths}
+use Rattle.pam_words.specs.declared.wanted.Task.TheVariants.{Show, Decide, Access, Time, Paths, Outcomes}
 use Rattle.pam_report.specs.Decide.{decide_text}
 use Rattle.pam_report.specs.Inputs.{access_given, files_given, group_file, groups_in, no_files, time_given}
+use Rattle.pam_report.specs.KnownStack.{KnownItems, known_stack}
 use Rattle.pam_report.specs.Leaves.{IsTableFault, IsTimeFault, Leaves, LeavesSome}
 use Rattle.pam_report.specs.Memory.{WantsOnly, wants}
 use Rattle.pam_report.specs.Moments.{IsGivenMoment, IsMoment}
+use Rattle.pam_report.specs.Outcomes.{IsOutcomes}
 use Rattle.pam_report.specs.Paths.{IsPage}
 use Rattle.pam_report.specs.Report.{Answer, Report}
 use Rattle.pam_report.specs.Show.{show_text}
@@ -114,6 +116,10 @@ login_in service login = record { user = login.user.now; service = service; tty 
 abbrev pub login_at : List ℕ → Login → LoginText
 login_at service login = login_in (map to_ascii_lowercase service) login
 
+-- the stack of a service for a kind, from these files, with the codes that its modules may return to a login at a moment
+abbrev pub stack_at : List ℕ → Kind → Login → Inputs → Option (Result DateTime MomentError) → Folder → Result KnownItems Fault
+stack_at service kind login inputs moment files = known_stack kind (login_at service login) inputs moment (resolved files service kind)
+
 -- the answer to a task for a service, from these files and the tables of these inputs, and what the call writes
 abbrev pub AnswersFrom : {W : Type 0} → (W → Option (List ℕ)) → Out W → Out W → Result Status Fault → List ℕ → Task → Folder → Inputs → Type 0
 AnswersFrom contents old new result service (Show source kind) files inputs =
@@ -125,10 +131,13 @@ AnswersFrom contents old new result service (Access table groups login arguments
 AnswersFrom contents old new result service (Time table login moment) files inputs =
     (at : Result DateTime MomentError) × IsMoment moment at
     × Leaves contents old new result (timed (login_at service login) (time_given inputs) at)
-AnswersFrom contents old new result service (Paths source kind limit part login access time groups returns moment) files inputs =
-    (at : Option (Result DateTime MomentError)) × IsGivenMoment moment at
+AnswersFrom contents old new result service (Paths source kind limit part knowledge) files inputs =
+    (at : Option (Result DateTime MomentError)) × IsGivenMoment knowledge.moment at
     × LeavesSome contents old new result
-    (IsPage (record { service = service; kind = kind; limit = limit; part = part }) (login_at service login) inputs at (resolved files service kind))
+    (IsPage (record { service = service; kind = kind; limit = limit; part = part }) (stack_at service kind knowledge.login inputs at files))
+AnswersFrom contents old new result service (Outcomes source kind knowledge) files inputs =
+    (at : Option (Result DateTime MomentError)) × IsGivenMoment knowledge.moment at
+    × LeavesSome contents old new result (IsOutcomes service kind (stack_at service kind knowledge.login inputs at files))
 
 -- THE ANSWER to a task for a service, from these inputs, and what the call writes
 abbrev pub Answers : {W : Type 0} → (W → Option (List ℕ)) → Out W → Out W → Result Status Fault → List ℕ → Task → Inputs → Type 0

@@ -72,6 +72,9 @@ conf_row conf.TooManyFollowed = row (codes "E18 TooManyFollowed") 3
 
 -- ---- codes and cursors
 
+abbrev pub graph_row : Row
+graph_row = row (codes "E19 TooManyStates") 3
+
 abbrev pub count_row : Row
 count_row = row (codes "DE1 WrongCount") 2
 

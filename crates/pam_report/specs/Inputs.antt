@@ -9,7 +9,8 @@ use Rattle.pam_known.specs.Tables.{TablesText, TimedText}
 use Rattle.pam_tables.specs.Groups.{Group, groups_of}
 use Rattle.pam_tables.specs.declared.error.TableFault.{TableFault}
 use Rattle.pam_words.specs.declared.wanted.Task.{Task}
-use Rattle.pam_words.specs.declared.wanted.Task.TheVariants.{Show, Decide, Access, Time, Paths}
+use Rattle.pam_words.specs.declared.wanted.KnowledgeSource.{KnowledgeSource}
+use Rattle.pam_words.specs.declared.wanted.Task.TheVariants.{Show, Decide, Access, Time, Paths, Outcomes}
 use Rattle.pam_report.specs.declared.inputs.Inputs.{Inputs}
 use Rattle.pam_report.specs.declared.inputs.Inputs.TheVariants as inputs
 
@@ -45,17 +46,23 @@ time_given _ = []
 
 -- ---- inputs that fit
 
+-- a configuration, and the contents of exactly the tables and returns file that are named
+abbrev pub fits_knowledge : KnowledgeSource → Inputs → Bool
+fits_knowledge named (inputs.Paths files groups access time returns) =
+    beq (is_some groups) (is_some named.groups)
+    && (beq (is_some access) (is_some named.access)
+    && (beq (is_some time) (is_some named.time)
+    && beq (is_some returns) (is_some named.returns)))
+fits_knowledge named _ = false
+
 -- the contents of exactly the files that a task names are given
 abbrev pub fits_task : Task → Inputs → Bool
 fits_task (Show source kind) (inputs.Stack files) = true
 fits_task (Decide source kind answered) (inputs.Stack files) = true
 fits_task (Access name groups_named login arguments) (inputs.Access table groups) = beq (is_some groups) (is_some groups_named)
 fits_task (Time name login moment) (inputs.Time table) = true
-fits_task (Paths source kind limit part login access_named time_named groups_named returns_named moment) (inputs.Paths files groups access time returns) =
-    beq (is_some groups) (is_some groups_named)
-    && (beq (is_some access) (is_some access_named)
-    && (beq (is_some time) (is_some time_named)
-    && beq (is_some returns) (is_some returns_named)))
+fits_task (Paths source kind limit part knowledge) inputs = fits_knowledge knowledge inputs
+fits_task (Outcomes source kind knowledge) inputs = fits_knowledge knowledge inputs
 fits_task _ _ = false
 
 -- ---- the tables that tell the codes of modules
@@ -69,7 +76,7 @@ timed None moment = None
 abbrev pub no_tables : TablesText
 no_tables = record { groups = None; access = None; time = None; returns = None }
 
--- the tables of `paths`
+-- the tables of `paths` and `outcomes`
 abbrev pub tables_given : Inputs → Option DateTime → TablesText
 tables_given (inputs.Paths files groups access time returns) moment = record {
   groups = option_map (λ b. b.items) groups;

@@ -1,6 +1,6 @@
 -- The text that a call writes when it answers.
 use Rattle.std.specs.Prelude.{◌≡◌, ℕ, List, Option, None, Result, Ok, Err}
-use Rattle.pam_codes.specs.Out.{Out, TookAll, TookFront}
+use Rattle.pam_codes.specs.Out.{Out, TookFlushed, TookFront}
 use Rattle.pam_conf.specs.declared.error.FaultKind.{FaultKind}
 use Rattle.pam_conf.specs.declared.error.FaultKind.TheVariants as conf
 use Rattle.pam_conf.specs.declared.conf_error.ConfError.{ConfError}
@@ -28,14 +28,15 @@ abbrev pub IsTimeFault : (Answer → Type 0) → TimeError → TimeFault → Typ
 IsTimeFault IsAnswer error times.Memory = error.line ≡ 0
 IsTimeFault IsAnswer error _ = IsAnswer (Err (faults.Time error))
 
--- the text is written in full if there is an answer, up to some byte if a write failed, and not at all if there is a
--- fault or an allocation failed
+-- the text is written in full and then flushed once if there is an answer, written up to some byte and not flushed if
+-- the writer failed, and not written at all if there is a fault or an allocation failed
 module _ {W : Type 0} (contents : W → Option (List ℕ)) (old new : Out W) where
   abbrev pub LeavesFault : (Answer → Type 0) → Fault → Type 0
   LeavesFault IsAnswer faults.Device = (report : Report) × IsAnswer (Ok report) × TookFront contents old new report.text
   LeavesFault IsAnswer faults.Memory = new ≡ old
   LeavesFault IsAnswer (faults.Conf e) = (new ≡ old) × IsConfFault IsAnswer e e.kind
   LeavesFault IsAnswer (faults.Count e) = (new ≡ old) × IsAnswer (Err (faults.Count e))
+  LeavesFault IsAnswer faults.TooManyStates = (new ≡ old) × IsAnswer (Err faults.TooManyStates)
   LeavesFault IsAnswer (faults.Moment e) = (new ≡ old) × IsAnswer (Err (faults.Moment e))
   LeavesFault IsAnswer (faults.Cursor e) = (new ≡ old) × IsAnswer (Err (faults.Cursor e))
   LeavesFault IsAnswer (faults.Table e) = (new ≡ old) × IsTableFault IsAnswer e e.fault
@@ -43,7 +44,7 @@ module _ {W : Type 0} (contents : W → Option (List ℕ)) (old new : Out W) whe
 
   -- for an answer that satisfies a relation
   abbrev pub LeavesSome : Result Status Fault → (Answer → Type 0) → Type 0
-  LeavesSome (Ok status) IsAnswer = (text : List ℕ) × IsAnswer (Ok (record { text = text; status = status })) × TookAll contents old new text
+  LeavesSome (Ok status) IsAnswer = (text : List ℕ) × IsAnswer (Ok (record { text = text; status = status })) × TookFlushed contents old new text
   LeavesSome (Err fault) IsAnswer = LeavesFault IsAnswer fault
 
   -- for this answer

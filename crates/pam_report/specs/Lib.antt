@@ -5,9 +5,13 @@ pub mod FaultTable
 pub mod FaultViews
 pub mod Header
 pub mod Inputs
+pub mod Known
+pub mod KnownStack
 pub mod Leaves
 pub mod Memory
 pub mod Moments
+pub mod OutcomeViews
+pub mod Outcomes
 pub mod PageView
 pub mod Paths
 pub mod Report

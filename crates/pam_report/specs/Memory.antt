@@ -1,16 +1,18 @@
 -- Want of memory: the faults that a failed allocation may give, by the task.
-use Rattle.std.specs.Prelude.{◌≡◌, ⊤, Bool, true, false, is_some, Result, IfErr}
+use Rattle.std.specs.Prelude.{◌≡◌, ⊤, Bool, ◌&&◌, true, false, is_some, Result, IfErr}
 use Rattle.pam_conf.specs.declared.error.FaultKind.TheVariants as conf
+use Rattle.pam_known.specs.Reads.{TablesRead}
 use Rattle.pam_tables.specs.declared.error.Table.{Table}
 use Rattle.pam_tables.specs.declared.error.Table.TheVariants.{Access as AccessTable, Group, Returns}
 use Rattle.pam_tables.specs.declared.error.TableFault.TheVariants as reasons
 use Rattle.pam_times.specs.declared.error.TimeFault.TheVariants as times
 use Rattle.pam_words.specs.declared.wanted.Task.{Task}
-use Rattle.pam_words.specs.declared.wanted.Task.TheVariants.{Show, Decide, Access, Time, Paths}
+use Rattle.pam_words.specs.declared.wanted.Task.TheVariants.{Show, Decide, Access, Time, Paths, Outcomes}
 use Rattle.pam_report.specs.Inputs.{group_file}
 use Rattle.pam_report.specs.declared.fault.Fault.{Fault}
 use Rattle.pam_report.specs.declared.fault.Fault.TheVariants as faults
 use Rattle.pam_report.specs.declared.inputs.Inputs.{Inputs}
+use Rattle.pam_report.specs.declared.inputs.Inputs.TheVariants as inputs
 use Rattle.pam_report.specs.declared.report.Status.{Status}
 
 -- what is read or made, and may want memory
@@ -33,9 +35,22 @@ of_stack work = record { configuration = true; access = false; groups = false; r
 abbrev pub of_tables : Bool → Bool → Bool → Wants
 of_tables access groups time = record { configuration = false; access = access; groups = groups; returns = false; time = time; work = true }
 
--- anything
-abbrev pub of_all : Wants
-of_all = record { configuration = true; access = true; groups = true; returns = true; time = true; work = true }
+-- the tables of `paths` that are given, at a moment or at none
+abbrev pub paths_tables : Bool → Inputs → TablesRead
+paths_tables timed (inputs.Paths files groups access time returns) =
+    record { groups = is_some groups; access = is_some access; time = is_some time && timed; returns = is_some returns }
+paths_tables timed _ = record { groups = false; access = false; time = false; returns = false }
+
+-- a stack is read, and these tables
+abbrev pub of_paths : TablesRead → Wants
+of_paths given = record {
+  configuration = true;
+  access = given.access;
+  groups = given.groups;
+  returns = given.returns;
+  time = given.time;
+  work = true;
+}
 
 -- THE WANTS of a task with these inputs
 abbrev pub wants : Task → Inputs → Wants
@@ -43,7 +58,8 @@ wants (Show source kind) inputs = of_stack false
 wants (Decide source kind answered) inputs = of_stack true
 wants (Access table groups login arguments) inputs = of_tables true (is_some (group_file inputs)) false
 wants (Time table login moment) inputs = of_tables false false true
-wants (Paths source kind limit part login access time groups returns moment) inputs = of_all
+wants (Paths source kind limit part knowledge) inputs = of_paths (paths_tables (is_some knowledge.moment) inputs)
+wants (Outcomes source kind knowledge) inputs = of_paths (paths_tables (is_some knowledge.moment) inputs)
 
 abbrev pub wants_table : Wants → Table → Bool
 wants_table wants AccessTable = wants.access
@@ -61,3 +77,7 @@ IsWanting wants _ = ⊤
 -- the same, for a result
 abbrev pub WantsOnly : Wants → Result Status Fault → Type 0
 WantsOnly wants result = IfErr result (IsWanting wants)
+
+-- for private contracts and proofs alone: if it is a failed allocation, it is of what is made
+abbrev pub WantsWork : Result Status Fault → Type 0
+WantsWork result = (wants : Wants) → wants.work ≡ true → WantsOnly wants result

@@ -17,7 +17,7 @@ use Rattle.pam_report.specs.declared.report.paths.Paging.{Paging}
 
 -- a request for this part
 abbrev pub page_with : PageRequest → PagePart → paths.PageRequest
-page_with request part = record { service = request.service.now; kind = request.kind; limit = request.limit; part = part }
+page_with request part = record { service = request.stack.service.now; kind = request.stack.kind; limit = request.limit; part = part }
 
 abbrev pub page_view : PageRequest → paths.PageRequest
 page_view request = page_with request request.part

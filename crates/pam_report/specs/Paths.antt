@@ -1,10 +1,7 @@
 -- The answer to `paths`: a page of the paths through a stack (pam.conf(5), DESCRIPTION), given what modules may return.
 use Rattle.std.specs.Prelude.{◌≡◌, ◌≢◌, ℕ, max, List, ◌++◌, codes, Option, None, Some, Result, Ok, Err}
-use Rattle.jiff.specs.Types.{DateTime}
 use Rattle.pam_conf.specs.Stack.{Items, module_count}
-use Rattle.pam_conf.specs.declared.conf_error.ConfError.{ConfError}
 use Rattle.pam_conf.specs.declared.rule.Kind.{Kind}
-use Rattle.pam_known.specs.Knowledge.{allows_codes, knowledge}
 use Rattle.pam_page.specs.Page.{first_page, page_text}
 use Rattle.pam_paths.specs.Cursor.{IsAccepted, IsRefusal}
 use Rattle.pam_paths.specs.CursorText.{IsCursor, cursor_text}
@@ -12,17 +9,13 @@ use Rattle.pam_paths.specs.Listing.{Allowance, IsListing, IsListingAfter, IsList
 use Rattle.pam_paths.specs.Paths.{PathValue, path_through}
 use Rattle.pam_paths.specs.declared.cursor.CursorError.{CursorError}
 use Rattle.pam_paths.specs.declared.cursor.CursorError.TheVariants.{Syntax}
-use Rattle.pam_tables.specs.Login.{LoginText}
-use Rattle.pam_known.specs.declared.error.KnownError.{KnownError}
-use Rattle.pam_times.specs.declared.moments.MomentError.{MomentError}
 use Rattle.pam_words.specs.declared.wanted.PagePart.{PagePart}
 use Rattle.pam_words.specs.declared.wanted.PagePart.TheVariants.{Whole, After, Before}
-use Rattle.pam_report.specs.Fault.{known_fault}
 use Rattle.pam_report.specs.Header.{header_text}
-use Rattle.pam_report.specs.Inputs.{tables_given}
+use Rattle.pam_report.specs.KnownStack.{IsAnswerFrom, KnownItems}
 use Rattle.pam_report.specs.Report.{Answer}
+use Rattle.pam_report.specs.declared.fault.Fault.{Fault}
 use Rattle.pam_report.specs.declared.fault.Fault.TheVariants as faults
-use Rattle.pam_report.specs.declared.inputs.Inputs.{Inputs}
 use Rattle.pam_report.specs.declared.report.Status.TheVariants.{Success}
 
 -- the paths after or before the cursor of a text, or the reason why it is the cursor of no path
@@ -61,27 +54,11 @@ paged request modules (Ok paths) = Ok (record {
   status = Success;
 })
 
--- ---- the order of faults: the configuration, the moment, the tables, the cursor
-
--- the answer, if these codes are allowed
+-- the answer, if these codes are allowed: a fault of the cursor comes last
 abbrev pub IsPageOf : PageRequest → Items → Allowance → Answer → Type 0
 IsPageOf request items allows answer =
     (given : Result (List PathValue) CursorError) × IsPart allows items request.part given × (answer ≡ paged request (module_count items) given)
 
-abbrev pub IsKnownPage : PageRequest → Items → Result (ℕ → List ℕ) KnownError → Answer → Type 0
-IsKnownPage request items (Err e) answer = answer ≡ Err (known_fault e)
-IsKnownPage request items (Ok allowed) answer = IsPageOf request items (allows_codes allowed) answer
-
-abbrev pub IsPageAt : PageRequest → LoginText → Inputs → Items → Option DateTime → Answer → Type 0
-IsPageAt request login inputs items moment answer = IsKnownPage request items (knowledge request.kind login (tables_given inputs moment) items) answer
-
--- a given moment must be valid even if no table needs it
-abbrev pub IsStackPage : PageRequest → LoginText → Inputs → Items → Option (Result DateTime MomentError) → Answer → Type 0
-IsStackPage request login inputs items None answer = IsPageAt request login inputs items None answer
-IsStackPage request login inputs items (Some (Ok moment)) answer = IsPageAt request login inputs items (Some moment) answer
-IsStackPage request login inputs items (Some (Err e)) answer = answer ≡ Err (faults.Moment e)
-
--- THE ANSWER to `paths`
-abbrev pub IsPage : PageRequest → LoginText → Inputs → Option (Result DateTime MomentError) → Result Items ConfError → Answer → Type 0
-IsPage request login inputs moment (Err e) answer = answer ≡ Err (faults.Conf e)
-IsPage request login inputs moment (Ok items) answer = IsStackPage request login inputs items moment answer
+-- THE ANSWER to `paths`: of the known stack, the page, or the first fault
+abbrev pub IsPage : PageRequest → Result KnownItems Fault → Answer → Type 0
+IsPage request = IsAnswerFrom (IsPageOf request)

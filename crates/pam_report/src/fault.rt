@@ -1,11 +1,12 @@
 //! Faults: why a request has no answer, with their lines and exit statuses.
 
-ghost use Rattle.std.specs.Prelude.{◌≡◌, ◌++◌, IfOk, OnOk, option_map};
+ghost use Rattle.std.specs.Prelude.{◌≡◌, ◌++◌, ◌≤◌, IfOk, OnOk, option_map};
 ghost use Rattle.pam_codes.specs.Line.{line_text, piece_text};
 ghost use Rattle.pam_report.specs.Fault as spec;
 ghost use Rattle.pam_report.specs.Fault.{IsNumbered};
 ghost use Rattle.pam_report.specs.FaultViews.{row_view};
 
+mod row;
 mod table;
 
 use crate::inputs::InputError;
@@ -17,10 +18,11 @@ use pam_paths::CursorError;
 use pam_tables::{TableError, TableFault};
 use pam_times::{MomentError, TimeError, TimeFault};
 use pam_words::Usage;
+use row::Row;
 use std::alloc::{AllocError, Global};
 use table::{
-    Row, conf_row, count_row, cursor_row, input_row, memory_row, moment_row, table_name, table_row,
-    time_row, usage_row, write_row,
+    conf_row, count_row, cursor_row, graph_row, input_row, memory_row, moment_row, table_name,
+    table_row, time_row, usage_row, write_row,
 };
 use thiserror::Error;
 
@@ -42,6 +44,9 @@ pub enum Fault {
     /// The number of codes is not that of modules.
     #[error(transparent)]
     Count(WrongCount),
+    /// The graph of the run has more nodes than `pam_graph` allows.
+    #[error("the run can be in too many states")]
+    TooManyStates,
     /// The cursor is that of no path of the stack.
     #[error(transparent)]
     Cursor(CursorError),
@@ -73,6 +78,7 @@ fn row_of(fault: &Fault) -> Row
         Fault::Time(error) => time_row(error.fault),
         Fault::Moment(error) => moment_row(*error),
         Fault::Count(_) => count_row(),
+        Fault::TooManyStates => graph_row(),
         Fault::Cursor(error) => cursor_row(*error),
         Fault::Device => write_row(),
         Fault::Memory => memory_row(),
@@ -195,13 +201,16 @@ pub fn fault_text(alloc: Global, fault: &Fault, files: &Files) -> Result<Vec<u8>
             &[Piece::Bytes(b" want "), Piece::Number(error.modules as u64)],
         ),
         Fault::Cursor(error) => cursor_line(alloc, row, *error),
-        Fault::Moment(_) | Fault::Device | Fault::Memory => line(alloc, row, &[]),
+        Fault::Moment(_) | Fault::TooManyStates | Fault::Device | Fault::Memory => {
+            line(alloc, row, &[])
+        }
     }
 }
 
 /// Returns the exit status of a fault.
 pub fn fault_status(fault: &Fault) -> u8
-    ensures { result ≡ spec.status_of_fault fault.now }
+    ensures status { result ≡ spec.status_of_fault fault.now }
+    ensures bound { result ≤ 6 }
 {
     row_of(fault).status
 }
@@ -224,7 +233,8 @@ pub fn input_text(alloc: Global, error: &InputError) -> Result<Vec<u8>, AllocErr
 
 /// Returns the exit status of an input that cannot be read.
 pub fn input_status(error: &InputError) -> u8
-    ensures { result ≡ spec.status_of_input error.now }
+    ensures status { result ≡ spec.status_of_input error.now }
+    ensures bound { result ≤ 6 }
 {
     input_row(error).status
 }
@@ -240,7 +250,8 @@ pub fn usage_text(alloc: Global, usage: &Usage) -> Result<Vec<u8>, AllocError>
 
 /// Returns the exit status of words that are refused: 0 for help, 2 for wrong words, 6 for a failed allocation.
 pub fn usage_status(usage: &Usage) -> u8
-    ensures { result ≡ spec.status_of_usage usage.now }
+    ensures status { result ≡ spec.status_of_usage usage.now }
+    ensures bound { result ≤ 6 }
 {
     usage_row(usage).status
 }

@@ -1,13 +1,14 @@
 //! The contents of the files that a request names.
 
-ghost use Rattle.std.specs.Prelude.{◌≡◌, option_map};
+ghost use Rattle.std.specs.Prelude.{◌≡◌, None, option_map};
 ghost use Rattle.pam_report.specs.Inputs.{tables_given as tables_in, timed as timed_text};
+ghost use Rattle.pam_report.specs.Known.{with_time};
 ghost use Rattle.pam_known.specs.Tables.{tables_view, timed_view};
 
 use jiff::civil::DateTime;
 use pam_conf::Files;
 use pam_known::{Tables, TimedTable};
-use pam_words::{Request, Task};
+use pam_words::{KnowledgeSource, Request, Task};
 use std::alloc::{AllocError, AllocFailed};
 use thiserror::Error;
 
@@ -53,6 +54,7 @@ pub enum Inputs {
     Time {
         table: Vec<u8>,
     },
+    /// For `paths` and `outcomes`.
     Paths {
         files: Files,
         groups: Option<Vec<u8>>,
@@ -64,7 +66,7 @@ pub enum Inputs {
 
 impl Inputs {
     ghost use Rattle.std.specs.Prelude.{◌≡◌, option_map};
-    ghost use Rattle.pam_report.specs.Inputs.{access_given, files_given, fits_task, group_file, time_given};
+    ghost use Rattle.pam_report.specs.Inputs.{access_given, files_given, fits_knowledge, fits_task, group_file, time_given};
 
     /// Whether these are the contents of exactly the files that the request names.
     pub fn fits(&self, request: &Request<'_>) -> bool
@@ -77,26 +79,28 @@ impl Inputs {
                 groups.is_some() == named.is_some()
             }
             (Inputs::Time { .. }, Task::Time { .. }) => true,
-            (
-                Inputs::Paths {
-                    groups,
-                    access,
-                    time,
-                    returns,
-                    ..
-                },
-                Task::Paths {
-                    groups: groups_named,
-                    access: access_named,
-                    time: time_named,
-                    returns: returns_named,
-                    ..
-                },
-            ) => {
-                groups.is_some() == groups_named.is_some()
-                    && access.is_some() == access_named.is_some()
-                    && time.is_some() == time_named.is_some()
-                    && returns.is_some() == returns_named.is_some()
+            (inputs, Task::Paths { knowledge, .. }) => inputs.fits_knowledge(knowledge),
+            (inputs, Task::Outcomes { knowledge, .. }) => inputs.fits_knowledge(knowledge),
+            _ => false,
+        }
+    }
+
+    /// Whether these are a configuration, and the contents of exactly the tables and the returns file that are named.
+    fn fits_knowledge(&self, named: &KnowledgeSource<'_>) -> bool
+        ensures { result ≡ fits_knowledge named.now self.now }
+    {
+        match self {
+            Inputs::Paths {
+                groups,
+                access,
+                time,
+                returns,
+                ..
+            } => {
+                groups.is_some() == named.groups.is_some()
+                    && access.is_some() == named.access.is_some()
+                    && time.is_some() == named.time.is_some()
+                    && returns.is_some() == named.returns.is_some()
             }
             _ => false,
         }
@@ -168,27 +172,48 @@ fn timed(bytes: &Option<Vec<u8>>, moment: Option<DateTime>) -> Option<TimedTable
     }
 }
 
-/// Returns the tables of `paths`, which tell the codes of modules at a moment.
-pub(crate) fn tables_given(inputs: &Inputs, moment: Option<DateTime>) -> Tables<'_>
-    ensures { tables_view result ≡ tables_in inputs.now moment }
+/// Returns the time table of `paths` and `outcomes` with a moment, if both are given.
+pub(crate) fn timed_given(inputs: &Inputs, moment: Option<DateTime>) -> Option<TimedTable<'_>>
+    ensures { option_map timed_view result ≡ (tables_in inputs.now moment).time }
+{
+    match inputs {
+        Inputs::Paths { time, .. } => timed(time, moment),
+        _ => None,
+    }
+}
+
+fn copied<'a>(time: &Option<TimedTable<'a>>) -> Option<TimedTable<'a>>
+    ensures { option_map timed_view result ≡ option_map timed_view time.now }
+{
+    match time {
+        Some(table) => Some(TimedTable {
+            bytes: table.bytes,
+            moment: table.moment,
+        }),
+        None => None,
+    }
+}
+
+/// Returns the tables of `paths` and `outcomes`, with this time table, from which the codes of modules are known.
+pub(crate) fn tables_with<'a>(inputs: &'a Inputs, time: &Option<TimedTable<'a>>) -> Tables<'a>
+    ensures { tables_view result ≡ with_time (tables_in inputs.now None) (option_map timed_view time.now) }
 {
     match inputs {
         Inputs::Paths {
             groups,
             access,
-            time,
             returns,
             ..
         } => Tables {
             groups: slice_given(groups),
             access: slice_given(access),
-            time: timed(time, moment),
+            time: copied(time),
             returns: slice_given(returns),
         },
         _ => Tables {
             groups: None,
             access: None,
-            time: None,
+            time: copied(time),
             returns: None,
         },
     }

@@ -1,6 +1,6 @@
 //! Answers. Each is computed first, which finds all faults, and then written, which allocates nothing.
 
-ghost use Rattle.std.specs.Prelude.{◌≡◌};
+ghost use Rattle.std.specs.Prelude.{◌≡◌, ◌≤◌};
 ghost use Rattle.pam_report.specs.Answer.{Answers, AnswersFrom};
 ghost use Rattle.pam_report.specs.Memory.{WantsOnly, wants};
 ghost use Rattle.pam_report.specs.Report.{status_number};
@@ -8,7 +8,9 @@ ghost use Rattle.pam_report.specs.Report.{status_number};
 mod access;
 mod decide;
 mod header;
+mod known_stack;
 mod login;
+mod outcomes;
 mod paths;
 mod show;
 mod time;
@@ -19,9 +21,11 @@ use crate::fault::Fault;
 use crate::inputs::Inputs;
 use access::answer_access;
 use decide::answer_decide;
+use known_stack::StackRequest;
+use outcomes::answer_outcomes;
 use pam_codes::Out;
-use pam_conf::{Files, Form};
-use pam_words::{Request, Task};
+use pam_conf::{Files, Form, Kind};
+use pam_words::{KnowledgeSource, Request, Task};
 use paths::{PageRequest, answer_paths};
 use show::answer_show;
 use std::alloc::Global;
@@ -40,7 +44,8 @@ pub enum Status {
 impl Status {
     /// Returns the exit status: 0 or 1.
     pub fn number(self) -> u8
-        ensures { result ≡ status_number self }
+        ensures status { result ≡ status_number self }
+        ensures bound { result ≤ 6 }
     {
         match self {
             Status::Success => 0,
@@ -64,6 +69,22 @@ pub fn answer<W: Write>(
     match inputs.files() {
         Some(files) => answer_from(alloc, request, files, inputs, out),
         None => answer_from(alloc, request, &Files::new(alloc, Form::Dir), inputs, out),
+    }
+}
+
+fn stack_request<'a>(
+    service: &'a str,
+    kind: Kind,
+    knowledge: &KnowledgeSource<'a>,
+) -> StackRequest<'a>
+    ensures service { result.service.now ≡ service.now }
+    ensures kind { result.kind ≡ kind }
+    ensures login { result.login ≡ knowledge.now.login }
+{
+    StackRequest {
+        service,
+        kind,
+        login: knowledge.login,
     }
 }
 
@@ -97,18 +118,25 @@ fn answer_from<W: Write>(
             kind,
             limit,
             part,
-            login,
-            moment,
+            knowledge,
             ..
         } => {
             let page = PageRequest {
-                service,
-                kind: *kind,
+                stack: stack_request(service, *kind, knowledge),
                 limit: *limit,
                 part: *part,
             };
-            let moment = given_moment(*moment);
-            answer_paths(alloc, &page, *login, moment, files, inputs, out)
+            let moment = given_moment(knowledge.moment);
+            answer_paths(alloc, &page, moment, files, inputs, out)
+        }
+        Task::Outcomes {
+            kind,
+            knowledge,
+            ..
+        } => {
+            let stack = stack_request(service, *kind, knowledge);
+            let moment = given_moment(knowledge.moment);
+            answer_outcomes(alloc, &stack, moment, files, inputs, out)
         }
     }
 }

@@ -1,6 +1,6 @@
 -- How the effects of calls that write combine. A function that writes `a ++ b ++ c` by three calls needs, at the call
 -- that fails, `err-then` or `err-then-more` over `all-then` of the calls before it, and for a last call without `?`
--- `writes-then`.
+-- `writes-then`; one that ends with a flush, `flushes-then` or `flushes-last` and `err-flushes`.
 use Rattle.std.proofs.Common.{◌≡◌, ℕ, ◌+◌, ◌-◌, ◌<◌, ◌≤◌, List, [], ◌++◌, length, take, drop, ◌==◌, ◌&&◌, not, if◌then◌else◌, ◌∷◌, refl, sym, ap}
 use Rattle.std.proofs.Common.{subst, ◌∙◌, arith, length-append, append_assoc, append-nil, Option, Some, None, Result, Ok, Err}
 use Rattle.std.proofs.lemmas.List.{take-append-drop}
@@ -8,7 +8,7 @@ use Rattle.std.proofs.KnownBytes.{Appends-trans, Appends-nil}
 use lib.Seq.{take-add, take-take}
 use Rattle.std.specs.Io.KnownBytes.{Appends, Keeps}
 use Rattle.pam_text.proofs.TextSteps.{unequal}
-use Rattle.pam_text.specs.Out.{Took, TookAll, TookFront, Writes, saturated}
+use Rattle.pam_text.specs.Out.{Took, TookAll, TookFlushed, TookFront, Writes, WritesAndFlushes, saturated}
 use Rattle.std.specs.Prelude.{IsErr}
 use Rattle.pam_text.specs.declared.out.Out.{Out}
 use Rattle.pam_text.specs.declared.out.Device.{Device}
@@ -29,20 +29,28 @@ Appends-kept_nil (Some x) (Some y) k = k ∙ sym (append-nil x)
 module _ {W : Type 0} {contents : W → Option (List ℕ)} where
   -- nothing is written
   pub took-none : (s : Out W) → Took contents s s []
-  took-none s = let fits = s.countable in record { held = Appends-nil _; counted = omega arith }
+  took-none s = let fits = s.countable in record { held = Appends-nil _; counted = omega arith; unflushed = refl }
 
   -- an empty text is written
   pub all-none : (s : Out W) → TookAll contents s s []
   all-none s = record { took = took-none s; as_before = refl }
 
   -- a call that wrote nothing
-  pub took-kept : {old new : Out W} → Keeps (contents old.inner) (contents new.inner) → new.taken ≡ old.taken → Took contents old new []
-  took-kept {old} k e = let fits = old.countable in record { held = Appends-kept_nil _ _ k; counted = omega arith }
+  pub took-kept : {old new : Out W} → Keeps (contents old.inner) (contents new.inner) → new.taken ≡ old.taken → new.flushes ≡ old.flushes
+      → Took contents old new []
+  took-kept {old} k e f = let fits = old.countable in record { held = Appends-kept_nil _ _ k; counted = omega arith; unflushed = f }
+
+  -- a flush that succeeded
+  pub flushed-kept : {old new : Out W} → Keeps (contents old.inner) (contents new.inner) → new.taken ≡ old.taken
+      → new.flushes ≡ saturated (old.flushes + 1) → new.failures ≡ old.failures → TookFlushed contents old new []
+  flushed-kept {old} k e f g =
+      let fits = old.countable in record { held = Appends-kept_nil _ _ k; counted = omega arith; flushed = f; as_before = g }
 
   pub took-then : {old mid new : Out W} {a b : List ℕ} → Took contents old mid a → Took contents mid new b → Took contents old new (a ++ b)
   took-then {a} {b} s t = record {
     held = Appends-trans _ _ _ _ _ s.held t.held;
     counted = let e = length-append a b in let f = s.counted in let g = t.counted in omega (arith, e, f, g);
+    unflushed = t.unflushed ∙ s.unflushed;
   }
 
   -- one more piece of the bytes, after the first k
@@ -94,6 +102,33 @@ module _ {W : Type 0} {contents : W → Option (List ℕ)} where
   writes-then new b (Ok x) s t = all-then s t
   writes-then new b (Err x) s t = front-then s t
 
+  -- a text written whole, and then one that is flushed too
+  pub flushed-then : {old mid new : Out W} {a b : List ℕ} → TookAll contents old mid a → TookFlushed contents mid new b
+      → TookFlushed contents old new (a ++ b)
+  flushed-then {a} {b} s t = record {
+    held = Appends-trans _ _ _ _ _ s.took.held t.held;
+    counted = let e = length-append a b in let f = s.took.counted in let g = t.counted in omega (arith, e, f, g);
+    flushed = t.flushed ∙ ap (λ n. saturated (n + 1)) s.took.unflushed;
+    as_before = t.as_before ∙ s.as_before;
+  }
+
+  -- the call that ends a function and flushes
+  pub flushes-then : {old mid : Out W} {a : List ℕ} (new : Out W) (b : List ℕ) (r : Result (Unit {0}) Device) → TookAll contents old mid a
+      → WritesAndFlushes contents mid new r b → WritesAndFlushes contents old new r (a ++ b)
+  flushes-then new b (Ok x) s t = flushed-then s t
+  flushes-then new b (Err x) s t = front-then s t
+
+  -- the flush that ends a function
+  pub flushes-last : {old mid : Out W} {a : List ℕ} (new : Out W) (r : Result (Unit {0}) Device) → TookAll contents old mid a
+      → WritesAndFlushes contents mid new r [] → WritesAndFlushes contents old new r a
+  flushes-last {old = old} {a = a} new r s t =
+      subst (λ (l : List ℕ). WritesAndFlushes contents old new r l) (append-nil a) (flushes-then new [] r s t)
+
+  pub err-flushes : {old new : Out W} {text : List ℕ} (r : Result (Unit {0}) Device) → IsErr r → TookFront contents old new text
+      → WritesAndFlushes contents old new r text
+  err-flushes (Ok x) e s = cc
+  err-flushes (Err x) e s = s
+
   -- the call that failed ends a function
   pub err-front : {old new : Out W} {text : List ℕ} (r : Result (Unit {0}) Device) → IsErr r → TookFront contents old new text → Writes contents old new r text
   err-front (Ok x) e s = cc
@@ -114,6 +149,9 @@ module _ {W : Type 0} {contents : W → Option (List ℕ)} where
 
   pub front-is : {old new : Out W} {a b : List ℕ} → TookFront contents old new a → a ≡ b → TookFront contents old new b
   front-is {old} {new} s e = subst (λ l. TookFront contents old new l) e s
+
+  pub flushed-is : {old new : Out W} {a b : List ℕ} → TookFlushed contents old new a → a ≡ b → TookFlushed contents old new b
+  flushed-is {old} {new} s e = subst (λ l. TookFlushed contents old new l) e s
 
 pub writes-is : {W : Type 0} (contents : W → Option (List ℕ)) (old new : Out W) (a b : List ℕ) (r : Result (Unit {0}) Device)
     → Writes contents old new r a → a ≡ b → Writes contents old new r b

@@ -1,4 +1,4 @@
-//! A writer that counts bytes and failures.
+//! A writer that counts bytes, failures and flushes.
 
 ghost use Rattle.std.specs.Prelude.{◌<◌, ◌^◌};
 
@@ -12,29 +12,32 @@ use thiserror::Error;
 #[error("the writer failed")]
 pub struct Device;
 
-/// A writer that counts the bytes written to an inner writer, and its failed calls. Both counts saturate at `u64::MAX`.
-/// It has no buffer of its own.
+/// A writer that counts the bytes written to an inner writer, its failed calls and its flushes that succeeded. The
+/// counts saturate at `u64::MAX`. It has no buffer of its own.
 #[derive(Drop)]
 pub struct Out<W> {
     inner: W,
     taken: u64,
     failures: u64,
-    pub ghost countable: { (taken < 2 ^ 64) × (failures < 2 ^ 64) },
+    flushes: u64,
+    pub ghost countable: { (taken < 2 ^ 64) × ((failures < 2 ^ 64) × (flushes < 2 ^ 64)) },
 }
 
 impl<W: Write> Out<W> {
     ghost use Rattle.std.specs.Prelude.{◌≡◌, decimal, []};
-    ghost use Rattle.pam_text.specs.Out.{Writes};
+    ghost use Rattle.pam_text.specs.Out.{Writes, WritesAndFlushes};
 
     pub fn new(inner: W) -> Self
         ensures inner { result.inner ≡ inner }
         ensures taken { result.taken ≡ 0 }
         ensures failures { result.failures ≡ 0 }
+        ensures flushes { result.flushes ≡ 0 }
     {
         Out {
             inner,
             taken: 0,
             failures: 0,
+            flushes: 0,
         }
     }
 
@@ -57,6 +60,13 @@ impl<W: Write> Out<W> {
         ensures { result ≡ self.now.failures }
     {
         self.failures
+    }
+
+    /// The number of flushes of the inner writer that succeeded.
+    pub fn flushes(&self) -> u64
+        ensures { result ≡ self.now.flushes }
+    {
+        self.flushes
     }
 
     /// Writes all of `bytes`. Continues after a short write, and retries no failure, not even an interrupted write.
@@ -84,7 +94,7 @@ impl<W: Write> Out<W> {
 
     /// Flushes the inner writer, once.
     pub fn finish(&mut self) -> Result<(), Device>
-        ensures { Writes W.contents self.old self.new result [] }
+        ensures { WritesAndFlushes W.contents self.old self.new result [] }
     {
         match self.flush() {
             Ok(()) => Ok(()),
@@ -98,7 +108,7 @@ impl<W: Write> Write for Out<W> {
     ghost use Rattle.std.specs.Prelude.{◌≡◌, ◌+◌};
     ghost use Rattle.std.specs.Io.{WritesAtMost};
     ghost use Rattle.std.specs.Io.KnownBytes.{Keeps, WriteAppends};
-    ghost use Rattle.pam_text.specs.Out.{saturated, bytes_taken, write_failures, flush_failures};
+    ghost use Rattle.pam_text.specs.Out.{saturated, bytes_taken, write_failures, flush_failures, flushes_done};
 
     ghost contents = { λ o. W.contents o.inner };
 
@@ -107,6 +117,7 @@ impl<W: Write> Write for Out<W> {
         ensures bytes { WriteAppends (W.contents self.old.inner) (W.contents self.new.inner) result buf.now }
         ensures taken { self.new.taken ≡ saturated (self.old.taken + bytes_taken result) }
         ensures failures { self.new.failures ≡ saturated (self.old.failures + write_failures result buf.now) }
+        ensures flushes { self.new.flushes ≡ self.old.flushes }
     {
         let answer = self.inner.write(buf);
         match &answer {
@@ -125,10 +136,12 @@ impl<W: Write> Write for Out<W> {
         ensures bytes { Keeps (W.contents self.old.inner) (W.contents self.new.inner) }
         ensures taken { self.new.taken ≡ self.old.taken }
         ensures failures { self.new.failures ≡ saturated (self.old.failures + flush_failures result) }
+        ensures flushes { self.new.flushes ≡ saturated (self.old.flushes + flushes_done result) }
     {
         let answer = self.inner.flush();
-        if answer.is_err() {
-            self.failures = self.failures.saturating_add(1);
+        match &answer {
+            Ok(()) => self.flushes = self.flushes.saturating_add(1),
+            Err(_) => self.failures = self.failures.saturating_add(1),
         }
         answer
     }

@@ -2,6 +2,7 @@
 
 ghost use Rattle.std.specs.Prelude.{◌≡◌, ◌∷◌, ◌++◌, ◌+◌, ◌^◌, ◌≤◌, ◌<◌, ◌==◌, ◌||◌, [], ℕ, List, length, not, if◌then◌else◌, true};
 ghost use Rattle.std.specs.Prelude.{MatchOption, IfOk, IfSome, OnOk};
+ghost use Rattle.std.specs.Result.{OnErr};
 ghost use Rattle.std.specs.List.{prefix_len};
 ghost use Rattle.pam_text.specs.Blanks.{is_text_blank};
 ghost use Rattle.pam_text.specs.Text.{text_of, past_comment, is_plain};
@@ -46,6 +47,7 @@ impl<'a> Text<'a> {
     }
 
     /// Returns the next line. A line in one piece is a slice of the file; a joined one replaces the contents of `joined`.
+    /// If an allocation fails, the text is unchanged, and what `joined` holds is not specified.
     pub fn next_line<'b>(&mut self, joined: &'b mut Vec<u8>) -> Result<Option<Line<'b>>, AllocError>
     where
         'a: 'b,
@@ -55,6 +57,7 @@ impl<'a> Text<'a> {
             (λ line. (line.number ≡ self.old.line) × (line.bytes.now ≡ first_line (text_left self.old)))) }
         ensures rest { OnOk result (text_left self.new ≡ after_line (text_left self.old)) }
         ensures shorter { IfOk result (λ l. IfSome l (λ _. length self.new.rest.now < length self.old.rest.now)) }
+        ensures unchanged { OnErr result (self.new ≡ self.old) }
     {
         let number = self.line;
         let (front, after) = self.rest.split_at(far_plain_len(self.rest));
@@ -70,9 +73,12 @@ impl<'a> Text<'a> {
                 }))
             }
             Some(step) => {
-                self.rest = step.after;
-                self.line += step.feeds;
+                let mut next = Text {
+                    rest: step.after,
+                    line: number + step.feeds,
+                };
                 if step.byte == b'\n' {
+                    *self = next;
                     return Ok(Some(Line {
                         number,
                         bytes: front,
@@ -81,7 +87,8 @@ impl<'a> Text<'a> {
                 joined.clear();
                 joined.extend_from_slice(front)?;
                 joined.push(step.byte)?;
-                self.join_line(joined)?;
+                next.join_line(joined)?;
+                *self = next;
                 Ok(Some(Line {
                     number,
                     bytes: joined.as_slice(),

@@ -43,11 +43,8 @@ pub record TimeTask : Type 0 where
   pub login : LoginText
   pub moment : MomentText
 
-pub record PathsTask : Type 0 where
-  pub source : SourceText
-  pub kind : Kind
-  pub limit : ℕ
-  pub part : PartText
+-- what says which codes modules may return
+pub record KnowledgeText : Type 0 where
   pub login : LoginText
   pub access : Option Text
   pub time : Option Text
@@ -55,12 +52,25 @@ pub record PathsTask : Type 0 where
   pub returns : Option Text
   pub moment : Option MomentText
 
+pub record PathsTask : Type 0 where
+  pub source : SourceText
+  pub kind : Kind
+  pub limit : ℕ
+  pub part : PartText
+  pub knowledge : KnowledgeText
+
+pub record OutcomesTask : Type 0 where
+  pub source : SourceText
+  pub kind : Kind
+  pub knowledge : KnowledgeText
+
 pub data TaskText : Type 0 where
   show : SourceText → Kind → TaskText
   decide : SourceText → Kind → List ℕ → TaskText
   access : AccessTask → TaskText
   time : TimeTask → TaskText
   paths : PathsTask → TaskText
+  outcomes : OutcomesTask → TaskText
 
 pub record RequestText : Type 0 where
   pub service : Text
@@ -211,25 +221,34 @@ abbrev pub moment_if_needed : List Row → Result (Option MomentText) Refusal
 moment_if_needed rows =
     if needs_moment rows then or_refuse (moment_of rows) moment (λ at. Ok (Some at)) else Ok None
 
--- `paths SERVICE KIND`
-abbrev pub paths_task : List Row → Result TaskText Refusal
-paths_task rows =
-    stack_of rows >>= λ stack.
+-- a login and a moment, tables and a returns file
+abbrev pub knowledge_of : List Row → Result KnowledgeText Refusal
+knowledge_of rows =
     if lacks_user rows then Err login else
     moment_if_needed rows >>= λ at.
-    or_refuse (part_of rows) both_ends (λ part.
-    Ok (paths (record {
-      source = stack.0;
-      kind = stack.1;
-      limit = limit_of rows;
-      part = part;
+    Ok (record {
       login = login_of rows;
       access = first_of (codes "access") rows;
       time = first_of (codes "time") rows;
       groups = first_of (codes "group") rows;
       returns = first_of (codes "returns") rows;
       moment = at;
-    })))
+    })
+
+-- `paths SERVICE KIND`
+abbrev pub paths_task : List Row → Result TaskText Refusal
+paths_task rows =
+    stack_of rows >>= λ stack.
+    knowledge_of rows >>= λ knowledge.
+    or_refuse (part_of rows) both_ends (λ part.
+    Ok (paths (record { source = stack.0; kind = stack.1; limit = limit_of rows; part = part; knowledge = knowledge })))
+
+-- `outcomes SERVICE KIND`
+abbrev pub outcomes_task : List Row → Result TaskText Refusal
+outcomes_task rows =
+    stack_of rows >>= λ stack.
+    knowledge_of rows >>= λ knowledge.
+    Ok (outcomes (record { source = stack.0; kind = stack.1; knowledge = knowledge }))
 
 -- `access SERVICE [ARGUMENT]...`
 abbrev pub access_task : List Row → Result TaskText Refusal
@@ -255,6 +274,7 @@ task_of command rows =
     if bytes_eq command (codes "show") then show_task rows
     else if bytes_eq command (codes "decide") then decide_task rows
     else if bytes_eq command (codes "paths") then paths_task rows
+    else if bytes_eq command (codes "outcomes") then outcomes_task rows
     else if bytes_eq command (codes "access") then access_task rows
     else time_task rows
 

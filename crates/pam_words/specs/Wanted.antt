@@ -4,17 +4,18 @@ use Rattle.std.specs.Option.{option_copied}
 use Rattle.clap.specs.Words.{IsAmong, Kinds, kind_of}
 use Rattle.clap.specs.declared.Error.{Error}
 use Rattle.clap.specs.declared.error.ErrorKind.TheVariants.{DisplayHelp, OutOfMemory}
-use Rattle.pam_words.specs.Request.{LoginText, MomentText, PartText, Refusal, RequestText, SourceText, TaskText}
+use Rattle.pam_words.specs.Request.{KnowledgeText, LoginText, MomentText, PartText, Refusal, RequestText, SourceText, TaskText}
 use Rattle.pam_words.specs.Request as spec
 use Rattle.pam_words.specs.declared.wanted.ConfSource.{ConfSource}
 use Rattle.pam_words.specs.declared.wanted.ConfSource.TheVariants.{Dir, Conf}
+use Rattle.pam_words.specs.declared.wanted.KnowledgeSource.{KnowledgeSource}
 use Rattle.pam_words.specs.declared.wanted.Login.{Login}
 use Rattle.pam_words.specs.declared.wanted.Moment.{Moment}
 use Rattle.pam_words.specs.declared.wanted.Moment.TheVariants.{Civil, Instant}
 use Rattle.pam_words.specs.declared.wanted.PagePart.{PagePart}
 use Rattle.pam_words.specs.declared.wanted.PagePart.TheVariants.{Whole, After, Before}
 use Rattle.pam_words.specs.declared.wanted.Task.{Task}
-use Rattle.pam_words.specs.declared.wanted.Task.TheVariants.{Show, Decide, Access, Time, Paths}
+use Rattle.pam_words.specs.declared.wanted.Task.TheVariants.{Show, Decide, Access, Time, Paths, Outcomes}
 use Rattle.pam_words.specs.declared.wanted.Request.{Request}
 use Rattle.pam_words.specs.declared.wanted.Usage.{Usage}
 use Rattle.pam_words.specs.declared.wanted.Usage.TheVariants as usage
@@ -37,6 +38,16 @@ part_view (Before cursor) = spec.before cursor.now
 abbrev pub login_view : Login → LoginText
 login_view login = record { user = login.user.now; rhost = login.rhost.now; tty = login.tty.now }
 
+abbrev pub knowledge_view : KnowledgeSource → KnowledgeText
+knowledge_view k = record {
+  login = login_view k.login;
+  access = option_copied k.access;
+  time = option_copied k.time;
+  groups = option_copied k.groups;
+  returns = option_copied k.returns;
+  moment = option_map moment_view k.moment;
+}
+
 abbrev pub task_view : Task → TaskText
 task_view (Show source kind) = spec.show (source_view source) kind
 task_view (Decide source kind codes) = spec.decide (source_view source) kind codes.items
@@ -51,17 +62,17 @@ task_view (Time table login moment) = spec.time (record {
   login = login_view login;
   moment = moment_view moment;
 })
-task_view (Paths source kind limit part login access time groups returns moment) = spec.paths (record {
+task_view (Paths source kind limit part knowledge) = spec.paths (record {
   source = source_view source;
   kind = kind;
   limit = limit;
   part = part_view part;
-  login = login_view login;
-  access = option_copied access;
-  time = option_copied time;
-  groups = option_copied groups;
-  returns = option_copied returns;
-  moment = option_map moment_view moment;
+  knowledge = knowledge_view knowledge;
+})
+task_view (Outcomes source kind knowledge) = spec.outcomes (record {
+  source = source_view source;
+  kind = kind;
+  knowledge = knowledge_view knowledge;
 })
 
 abbrev pub request_view : Request → RequestText

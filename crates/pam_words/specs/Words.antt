@@ -70,9 +70,17 @@ with_tables app = with_options app (codes "access" ∷ codes "time" ∷ codes "g
 abbrev pub with_moment : App → App
 with_moment app = with_options app (codes "at" ∷ codes "at-unix" ∷ codes "zone" ∷ [])
 
+-- the options that say which codes modules may return
+abbrev pub with_knowledge : App → App
+with_knowledge app = with_moment (with_tables (with_login app))
+
 -- `paths SERVICE KIND`
 unfoldable pub paths_app : App
-paths_app = with_moment (with_tables (with_login (with_page (stack_app (codes "paths")))))
+paths_app = with_knowledge (with_page (stack_app (codes "paths")))
+
+-- `outcomes SERVICE KIND`
+unfoldable pub outcomes_app : App
+outcomes_app = with_knowledge (stack_app (codes "outcomes"))
 
 -- `NAME SERVICE`, with the table given by `--NAME`, a user and a terminal
 abbrev pub login_app : Text → App
@@ -97,8 +105,8 @@ bare_app = let app = new_app (codes "pamcheck") in record app { top = record app
 -- the commands that read a stack
 abbrev pub with_stacks : App → App
 with_stacks app =
-    with_subcommand (with_subcommand (with_subcommand app
-    show_app.top) decide_app.top) paths_app.top
+    with_subcommand (with_subcommand (with_subcommand (with_subcommand app
+    show_app.top) decide_app.top) paths_app.top) outcomes_app.top
 
 unfoldable pub pamcheck_app : App
 pamcheck_app =

@@ -8,4 +8,4 @@ mod wanted;
 mod words;
 
 pub use reading::request;
-pub use wanted::{ConfSource, Login, Moment, PagePart, Request, Task, Usage};
+pub use wanted::{ConfSource, KnowledgeSource, Login, Moment, PagePart, Request, Task, Usage};

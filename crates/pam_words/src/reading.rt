@@ -12,6 +12,7 @@ ghost use Rattle.pam_words.specs.Wanted.{Answers, Gives, GivesTask, IsRead, IsRe
 ghost use Rattle.pam_words.specs.Wanted.{login_view, moment_view, source_view};
 ghost use Rattle.pam_words.specs.Words.{pamcheck_app};
 
+mod knowledge;
 mod paths;
 
 use crate::wanted::{ConfSource, Login, Moment, Request, Task, Usage};
@@ -241,6 +242,8 @@ fn task<'a>(alloc: Global, command: &str, matches: &ArgMatches<'a>) -> Result<Ta
         decide(alloc, matches)
     } else if command == "paths" {
         paths::paths(matches)
+    } else if command == "outcomes" {
+        knowledge::outcomes(matches)
     } else if command == "access" {
         access(alloc, matches)
     } else {

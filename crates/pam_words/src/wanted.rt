@@ -23,7 +23,7 @@ pub enum Moment<'a> {
     Instant { seconds: i64, zone: &'a str },
 }
 
-/// A login. A remote host or terminal that is not given is empty, and so is the user in `paths` without a table.
+/// A login. A remote host or terminal that is not given is empty, and so is the user where no table needs one.
 #[derive(Clone, Copy)]
 pub struct Login<'a> {
     pub user: &'a str,
@@ -40,6 +40,17 @@ pub enum PagePart<'a> {
     After(&'a str),
     /// The paths before this cursor, in descending order.
     Before(&'a str),
+}
+
+/// What says which codes modules may return: a returns file, and the tables in which they look up a login at a moment.
+#[derive(Clone, Copy)]
+pub struct KnowledgeSource<'a> {
+    pub login: Login<'a>,
+    pub access: Option<&'a str>,
+    pub time: Option<&'a str>,
+    pub groups: Option<&'a str>,
+    pub returns: Option<&'a str>,
+    pub moment: Option<Moment<'a>>,
 }
 
 /// A command for a service.
@@ -75,12 +86,13 @@ pub enum Task<'a> {
         kind: Kind,
         limit: u32,
         part: PagePart<'a>,
-        login: Login<'a>,
-        access: Option<&'a str>,
-        time: Option<&'a str>,
-        groups: Option<&'a str>,
-        returns: Option<&'a str>,
-        moment: Option<Moment<'a>>,
+        knowledge: KnowledgeSource<'a>,
+    },
+    /// Counts the paths through the stack by their decisions.
+    Outcomes {
+        source: ConfSource<'a>,
+        kind: Kind,
+        knowledge: KnowledgeSource<'a>,
     },
 }
 
@@ -116,7 +128,7 @@ pub enum Usage {
     #[error("a table without a user")]
     Login,
     /// U6: not exactly one form of the moment is given, `--zone` is given without `--at-unix`, or the seconds are not
-    /// 1 to 12 digits. `paths` needs a moment only for a time table.
+    /// 1 to 12 digits. `paths` and `outcomes` need a moment only for a time table.
     #[error("not exactly one moment")]
     Moment,
     /// U8: both `--after` and `--before` are given.

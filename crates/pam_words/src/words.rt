@@ -197,7 +197,7 @@ struct CommandRow {
     args: &'static [ArgRow],
 }
 
-static COMMANDS: [CommandRow; 5] = [
+static COMMANDS: [CommandRow; 6] = [
     CommandRow {
         name: "show",
         about: "Shows the modules of a stack",
@@ -214,6 +214,14 @@ static COMMANDS: [CommandRow; 5] = [
         args: &[
             SERVICE, KIND, DIR, CONF, LIMIT, AFTER, BEFORE, USER, RHOST, TTY, ACCESS, TIME, GROUP,
             RETURNS, AT, AT_UNIX, ZONE,
+        ],
+    },
+    CommandRow {
+        name: "outcomes",
+        about: "Counts the paths through a stack by their decisions",
+        args: &[
+            SERVICE, KIND, DIR, CONF, USER, RHOST, TTY, ACCESS, TIME, GROUP, RETURNS, AT, AT_UNIX,
+            ZONE,
         ],
     },
     CommandRow {

@@ -1,4 +1,5 @@
-//! Tests of the paths of stacks through the public calls of the libraries. Each line of standard input is a test:
+//! Tests of the paths of stacks, and of findings, through the public calls of the libraries. Each line of standard input is a
+//! test:
 //!
 //! - `list SERVICE FIRST LAST [NUMBER=NAME,...]...`: how many paths there are, and the lines from FIRST to LAST.
 //! - `first SERVICE COUNT`: the lines of the first COUNT paths.
@@ -6,12 +7,16 @@
 //! - `ways SERVICE`: whether the paths after each path, and those before it, are exactly the others.
 //! - `cursor SERVICE TEXT`: whether a cursor is accepted or refused, in both directions.
 //! - `assign SERVICE`: whether each assignment of three codes agrees with exactly one path, which has its decision.
+//! - `findings folder TEXT` or `findings pam.conf TEXT`: where released Linux-PAM reads this file otherwise. In TEXT `\n`, `\r`,
+//!   `\t` and `\s` are a line feed, a carriage return, a tab and a space, `\L` is a thousand letters, and `\\` a backslash.
 #![tactic(auto)]
 
 mod assignments;
 mod cursors;
+mod graphs;
 mod lines;
 mod pages;
+mod released;
 mod stacks;
 mod ways;
 
@@ -80,7 +85,9 @@ fn test(rt: &HostRuntime, words: &[&str]) -> Result<(), Error> {
         "page" if words.len() >= 5 => pages::page(rt, words),
         "ways" => ways::ways(rt, words[1]),
         "cursor" if words.len() == 3 => cursors::cursor(rt, words[1], words[2]),
+        "graph" => graphs::graph(rt, words[1]),
         "assign" => assignments::assign(rt, words[1]),
+        "findings" => released::print_findings(rt, words[1], &words[2..]),
         _ => {
             println!(rt; "no such test")?;
             Ok(())

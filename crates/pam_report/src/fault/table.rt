@@ -4,6 +4,7 @@ ghost use Rattle.std.specs.Prelude.{◌≡◌};
 ghost use Rattle.pam_report.specs.FaultTable as spec;
 ghost use Rattle.pam_report.specs.FaultViews.{row_view};
 
+use super::row::Row;
 use crate::inputs::InputError;
 use pam_codes::ControlError;
 use pam_conf::FaultKind;
@@ -25,23 +26,6 @@ const BAD_TABLE: u8 = 4;
 const FAILED: u8 = 5;
 
 const NO_MEMORY: u8 = 6;
-
-/// A row of the table.
-#[derive(Clone, Copy)]
-pub(super) struct Row {
-    /// The number and the name.
-    pub name: &'static str,
-    /// The exit status.
-    pub status: u8,
-}
-
-impl Row {
-    fn of(name: &'static str, status: u8) -> Row
-        ensures { row_view result ≡ spec.row name.now status }
-    {
-        Row { name, status }
-    }
-}
 
 #[tactic(auto, unfolding(crate::specs::FaultTable::usage_row))]
 pub(super) fn usage_row(usage: &Usage) -> Row
@@ -104,6 +88,12 @@ pub(super) fn memory_row() -> Row
 }
 
 /// The row of codes that are not as many as the modules.
+pub(super) fn graph_row() -> Row
+    ensures { row_view result ≡ spec.graph_row }
+{
+    Row::of("E19 TooManyStates", BAD_CONFIGURATION)
+}
+
 pub(super) fn count_row() -> Row
     ensures { row_view result ≡ spec.count_row }
 {

@@ -1,7 +1,7 @@
 //! The `access` command: the line of an access table that decides.
 
 ghost use Rattle.std.specs.Prelude.{◌≡◌, Bool, IfErr, is_some, true, false, option_map};
-ghost use Rattle.pam_codes.specs.Out.{Writes};
+ghost use Rattle.pam_codes.specs.Out.{Writes, WritesAndFlushes};
 ghost use Rattle.pam_tables.specs.Access.{table_of};
 ghost use Rattle.pam_tables.specs.Error.{Gives};
 ghost use Rattle.pam_tables.specs.Login.{login_view};
@@ -105,7 +105,7 @@ fn look_up(
 }
 
 fn write_answer<W: Write>(answer: AccessAnswer, out: &mut Out<W>) -> Result<(), Device>
-    ensures { Writes W.contents out.old out.new result (access_text answer) }
+    ensures { WritesAndFlushes W.contents out.old out.new result (access_text answer) }
 {
     put_answer(answer, out)?;
     out.finish()

@@ -1,7 +1,7 @@
 //! The `decide` command: the modules that a run asks, and the decision.
 
 ghost use Rattle.std.specs.Prelude.{◌≡◌, ◌++◌, map, true};
-ghost use Rattle.pam_codes.specs.Out.{Writes};
+ghost use Rattle.pam_codes.specs.Out.{Writes, WritesAndFlushes};
 ghost use Rattle.pam_conf.specs.Resolution.{resolved};
 ghost use Rattle.pam_report.specs.Answer.{decided_by, status_of_decision, with_stack};
 ghost use Rattle.pam_report.specs.Leaves.{Leaves};
@@ -43,7 +43,7 @@ fn put_action<W: Write>(action: Action, out: &mut Out<W>) -> Result<(), Device>
 }
 
 #[tactic(auto, unfolding(crate::specs::Header::code_name))]
-fn name_of(code: Code) -> &'static [u8]
+pub(super) fn name_of(code: Code) -> &'static [u8]
     ensures { result.now ≡ code_name code }
 {
     code.name().as_bytes()
@@ -133,7 +133,7 @@ fn write_trace<W: Write>(
     trace: &Trace,
     out: &mut Out<W>,
 ) -> Result<(), Device>
-    ensures { Writes W.contents out.old out.new result
+    ensures { WritesAndFlushes W.contents out.old out.new result
         (header_text service.now kind modules ++ trace_text (map asked_view trace.now.asked.items) ++ decision_text trace.now.decision) }
 {
     put_header(service, kind, modules, out)?;

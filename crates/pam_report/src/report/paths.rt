@@ -1,9 +1,8 @@
 //! The `paths` command: a page of the paths through a stack.
 
-ghost use Rattle.std.specs.Prelude.{◌≡◌, ◌++◌, IfOk, MatchResult, Err, Ok, codes, max};
+ghost use Rattle.std.specs.Prelude.{◌≡◌, ◌++◌, IfOk, MatchResult, Err, Ok, codes, is_some, max};
 ghost use Rattle.jiff.specs.Types.{DateTime as CivilTime};
-ghost use Rattle.pam_codes.specs.Out.{Writes};
-ghost use Rattle.pam_conf.specs.Resolution.{resolved};
+ghost use Rattle.pam_codes.specs.Out.{WritesAndFlushes};
 ghost use Rattle.pam_conf.specs.Stack.{Items, module_count};
 ghost use Rattle.pam_dispatch.specs.Flat.{modules_of, runs_of};
 ghost use Rattle.pam_dispatch.specs.Tree.{runs_of_stack};
@@ -13,37 +12,34 @@ ghost use Rattle.pam_page.specs.Page.{first_page, page_text};
 ghost use Rattle.pam_paths.specs.Known.{may_answer};
 ghost use Rattle.pam_paths.specs.Listing.{Allowance, IsListingAfter, IsListingBefore};
 ghost use Rattle.pam_paths.specs.Paths.{path_through};
-ghost use Rattle.pam_report.specs.Answer.{login_at};
+ghost use Rattle.pam_report.specs.Answer.{stack_at};
 ghost use Rattle.pam_report.specs.Header.{header_text};
 ghost use Rattle.pam_report.specs.Leaves.{LeavesSome};
+ghost use Rattle.pam_report.specs.Memory.{WantsOnly, WantsWork, of_paths, paths_tables};
 ghost use Rattle.pam_report.specs.PageView.{AnswersPart, page_view, page_with};
-ghost use Rattle.pam_report.specs.Paths.{IsPage, IsPageAt, IsPageOf, IsPart, IsStackPage, side_of};
-ghost use Rattle.pam_tables.specs.Login.{login_view};
+ghost use Rattle.pam_report.specs.Paths.{IsPage, IsPageOf, IsPart, side_of};
 ghost use Rattle.pam_words.specs.declared.wanted.PagePart.{PagePart};
 ghost use Rattle.pam_words.specs.declared.wanted.PagePart.TheVariants.{After, Before, Whole};
 
 use super::Status;
 use super::header::put_header;
-use super::login::{login_to, lowered};
-use crate::fault::{Fault, known_fault};
-use crate::inputs::{Inputs, tables_given};
+use super::known_stack::{KnownStack, StackRequest, known_stack};
+use crate::fault::Fault;
+use crate::inputs::Inputs;
 use jiff::civil::DateTime;
 use pam_codes::{Device, Out};
-use pam_conf::{Files, Kind, Stack, resolve};
+use pam_conf::Files;
 use pam_dispatch::Program;
-use pam_known::known_answers;
 use pam_page::{LineTexts, Listing, put_page};
 use pam_paths::{Cursor, Explorer, Known};
-use pam_tables::Login as TableLogin;
 use pam_times::MomentError;
-use pam_words::{Login, PagePart};
+use pam_words::PagePart;
 use std::alloc::Global;
 use std::io::Write;
 
 #[derive(Clone, Copy)]
 pub(super) struct PageRequest<'a> {
-    pub service: &'a str,
-    pub kind: Kind,
+    pub stack: StackRequest<'a>,
     pub limit: u32,
     pub part: PagePart<'a>,
 }
@@ -55,7 +51,7 @@ fn write_lines<W: Write>(
     texts: LineTexts,
     out: &mut Out<W>,
 ) -> Result<(), Device>
-    ensures { Writes W.contents out.old out.new result (page_text (side listing.old) (first_page (max limit 1) (coming listing.old))) }
+    ensures { WritesAndFlushes W.contents out.old out.new result (page_text (side listing.old) (first_page (max limit 1) (coming listing.old))) }
 {
     put_page(listing, limit.max(1), texts, out)?;
     out.finish()
@@ -69,10 +65,11 @@ fn write_page<W: Write>(
     out: &mut Out<W>,
 ) -> Result<(), Device>
     ensures { let page = first_page (max request.now.limit 1) (coming listing.old) in
-        let header = header_text request.now.service.now request.now.kind modules in
-        Writes W.contents out.old out.new result (header ++ page_text (side listing.old) page) }
+        let header = header_text request.now.stack.service.now request.now.stack.kind modules in
+        WritesAndFlushes W.contents out.old out.new result (header ++ page_text (side listing.old) page) }
 {
-    put_header(request.service, request.kind, modules, out)?;
+    let stack = &request.stack;
+    put_header(stack.service, stack.kind, modules, out)?;
     write_lines(request.limit, listing, texts, out)
 }
 
@@ -91,9 +88,10 @@ fn answer_listing<W: Write>(
     listing: &mut Listing<'_, Known>,
     out: &mut Out<W>,
 ) -> Result<Status, Fault>
-    ensures { (items : Items) (allows : Allowance) (part : PagePart) → modules_of paging.now.program.now ≡ module_count items
+    ensures answer { (items : Items) (allows : Allowance) (part : PagePart) → modules_of paging.now.program.now ≡ module_count items
         → side listing.old ≡ side_of part → IsPart allows items part (Ok (coming listing.old))
         → LeavesSome W.contents out.old out.new result (IsPageOf (page_with paging.now.request.now part) items allows) }
+    ensures wants { WantsWork result }
 {
     let texts = match LineTexts::new(paging.alloc) {
         Ok(texts) => texts,
@@ -115,7 +113,8 @@ fn answer_listing<W: Write>(
 // Apart, and never inlined, as the next two: else the stack has room for the listings of all three, of 27 kB each.
 #[inline(never)]
 fn answer_whole<W: Write>(paging: &Paging<'_>, out: &mut Out<W>) -> Result<Status, Fault>
-    ensures { AnswersPart W.contents out.old out.new result paging.now Whole }
+    ensures answer { AnswersPart W.contents out.old out.new result paging.now Whole }
+    ensures wants { WantsWork result }
 {
     let explorer = Explorer::start(paging.program, paging.known);
     answer_listing(paging, &mut Listing::Forward(explorer), out)
@@ -128,7 +127,8 @@ fn answer_after<W: Write>(
     text: &str,
     out: &mut Out<W>,
 ) -> Result<Status, Fault>
-    ensures { AnswersPart W.contents out.old out.new result paging.now (After text.entry) }
+    ensures answer { AnswersPart W.contents out.old out.new result paging.now (After text.entry) }
+    ensures wants { WantsWork result }
 {
     let cursor = match Cursor::read(text.as_bytes()) {
         Ok(cursor) => cursor,
@@ -147,7 +147,8 @@ fn answer_before<W: Write>(
     text: &str,
     out: &mut Out<W>,
 ) -> Result<Status, Fault>
-    ensures { AnswersPart W.contents out.old out.new result paging.now (Before text.entry) }
+    ensures answer { AnswersPart W.contents out.old out.new result paging.now (Before text.entry) }
+    ensures wants { WantsWork result }
 {
     let cursor = match Cursor::read(text.as_bytes()) {
         Ok(cursor) => cursor,
@@ -161,7 +162,8 @@ fn answer_before<W: Write>(
 
 /// Answers with a page of the part that is requested.
 fn answer_part<W: Write>(paging: &Paging<'_>, out: &mut Out<W>) -> Result<Status, Fault>
-    ensures { AnswersPart W.contents out.old out.new result paging.now paging.now.request.now.part }
+    ensures answer { AnswersPart W.contents out.old out.new result paging.now paging.now.request.now.part }
+    ensures wants { WantsWork result }
 {
     match paging.request.part {
         PagePart::Whole => answer_whole(paging, out),
@@ -170,18 +172,18 @@ fn answer_part<W: Write>(paging: &Paging<'_>, out: &mut Out<W>) -> Result<Status
     }
 }
 
-/// Answers `paths` for a resolved stack, with the codes that its modules may return.
+/// Answers `paths` for a known stack.
 fn answer_known<W: Write>(
     alloc: Global,
     request: &PageRequest<'_>,
-    stack: &Stack,
-    known: &Known,
+    found: &KnownStack,
     out: &mut Out<W>,
 ) -> Result<Status, Fault>
-    ensures { (allows : Allowance) → Agree (module_count stack.now) (may_answer known.now) allows
-        → LeavesSome W.contents out.old out.new result (IsPageOf (page_view request.now) stack.now allows) }
+    ensures answer { (allows : Allowance) → Agree (module_count found.now.stack) (may_answer found.now.known) allows
+        → LeavesSome W.contents out.old out.new result (IsPageOf (page_view request.now) found.now.stack allows) }
+    ensures wants { WantsWork result }
 {
-    let program = match Program::of(alloc, stack) {
+    let program = match Program::of(alloc, &found.stack) {
         Ok(program) => program,
         Err(_) => return Err(Fault::Memory),
     };
@@ -189,71 +191,26 @@ fn answer_known<W: Write>(
         alloc,
         request,
         program: &program,
-        known,
+        known: &found.known,
     };
     answer_part(&paging, out)
-}
-
-/// Answers `paths` for a resolved stack, at a moment.
-fn answer_at<W: Write>(
-    alloc: Global,
-    request: &PageRequest<'_>,
-    login: &TableLogin<'_>,
-    inputs: &Inputs,
-    stack: &Stack,
-    moment: Option<DateTime>,
-    out: &mut Out<W>,
-) -> Result<Status, Fault>
-    ensures { LeavesSome W.contents out.old out.new result (IsPageAt (page_view request.now) (login_view login.now) inputs.now stack.now moment) }
-{
-    let tables = tables_given(inputs, moment);
-    match known_answers(alloc, stack, request.kind, login, &tables) {
-        Ok(known) => answer_known(alloc, request, stack, &known, out),
-        Err(error) => Err(known_fault(error)),
-    }
-}
-
-/// Answers `paths` for a resolved stack.
-fn answer_stack<W: Write>(
-    alloc: Global,
-    request: &PageRequest<'_>,
-    login: &TableLogin<'_>,
-    inputs: &Inputs,
-    stack: &Stack,
-    moment: Option<Result<DateTime, MomentError>>,
-    out: &mut Out<W>,
-) -> Result<Status, Fault>
-    ensures { LeavesSome W.contents out.old out.new result (IsStackPage (page_view request.now) (login_view login.now) inputs.now stack.now moment) }
-{
-    match moment {
-        None => answer_at(alloc, request, login, inputs, stack, None, out),
-        Some(Ok(moment)) => answer_at(alloc, request, login, inputs, stack, Some(moment), out),
-        Some(Err(error)) => Err(Fault::Moment(error)),
-    }
 }
 
 pub(super) fn answer_paths<W: Write>(
     alloc: Global,
     request: &PageRequest<'_>,
-    login: Login<'_>,
     moment: Option<Result<DateTime, MomentError>>,
     files: &Files,
     inputs: &Inputs,
     out: &mut Out<W>,
 ) -> Result<Status, Fault>
-    ensures { let page = page_view request.now in
-        let stack = resolved files.now page.service page.kind in
-        LeavesSome W.contents out.old out.new result (IsPage page (login_at page.service login.entry) inputs.now moment stack) }
+    ensures answer { let asked = request.now.stack in
+        let stack = stack_at asked.service.now asked.kind asked.login inputs.now moment files.now in
+        LeavesSome W.contents out.old out.new result (IsPage (page_view request.now) stack) }
+    ensures wants { WantsOnly (of_paths (paths_tables (is_some moment) inputs.now)) result }
 {
-    let stack = match resolve(alloc, files, request.service.as_bytes(), request.kind) {
-        Ok(stack) => stack,
-        Err(error) => return Err(Fault::Conf(error)),
-    };
-    match lowered(alloc, request.service) {
-        Ok(service) => {
-            let login = login_to(&service, login);
-            answer_stack(alloc, request, &login, inputs, &stack, moment, out)
-        }
-        Err(_) => Err(Fault::Memory),
+    match known_stack(alloc, &request.stack, moment, files, inputs) {
+        Ok(found) => answer_known(alloc, request, &found, out),
+        Err(fault) => Err(fault),
     }
 }

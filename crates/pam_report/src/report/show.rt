@@ -1,7 +1,7 @@
 //! The `show` command: the stack, rule by rule.
 
 ghost use Rattle.std.specs.Prelude.{◌≡◌, ◌≤◌, ◌+◌, ◌++◌, codes, false};
-ghost use Rattle.pam_codes.specs.Out.{Writes};
+ghost use Rattle.pam_codes.specs.Out.{Writes, WritesAndFlushes};
 ghost use Rattle.pam_conf.specs.ItemsOf.{items_of, module_text};
 ghost use Rattle.pam_conf.specs.Resolution.{resolved};
 ghost use Rattle.pam_conf.specs.Stack.{depth};
@@ -164,7 +164,7 @@ fn write_stack<W: Write>(
     stack: &Stack,
     out: &mut Out<W>,
 ) -> Result<(), Device>
-    ensures { Writes W.contents out.old out.new result (show_text service.now kind files.now stack.now) }
+    ensures { WritesAndFlushes W.contents out.old out.new result (show_text service.now kind files.now stack.now) }
 {
     put_header(service, kind, stack.modules(), out)?;
     put_items(files, 0, stack.items(), out)?;

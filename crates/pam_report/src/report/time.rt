@@ -1,8 +1,8 @@
 //! The `time` command: the line of a time table that denies.
 
-ghost use Rattle.std.specs.Prelude.{◌≡◌, IfErr, Ok, Result, true, false};
+ghost use Rattle.std.specs.Prelude.{◌≡◌, IfErr, Ok, Result, is_some, true, false};
 ghost use Rattle.jiff.specs.Types.{DateTime as CivilTime};
-ghost use Rattle.pam_codes.specs.Out.{Writes};
+ghost use Rattle.pam_codes.specs.Out.{Writes, WritesAndFlushes};
 ghost use Rattle.pam_times.specs.Login.{login_view};
 ghost use Rattle.pam_report.specs.Answer.{FindsTime, login_at, time_status, timed, with_rules};
 ghost use Rattle.pam_report.specs.Leaves.{Leaves};
@@ -55,7 +55,8 @@ pub(super) fn moment_of(wanted: Moment<'_>) -> Result<DateTime, MomentError>
 
 /// Like `moment_of`, for a moment that may be missing.
 pub(super) fn given_moment(moment: Option<Moment<'_>>) -> Option<Result<DateTime, MomentError>>
-    ensures { IsGivenMoment moment.entry result }
+    ensures moment { IsGivenMoment moment.entry result }
+    ensures given { is_some result ≡ is_some moment.entry }
 {
     match moment {
         Some(moment) => Some(moment_of(moment)),
@@ -80,7 +81,7 @@ fn look_up(
 }
 
 fn write_answer<W: Write>(answer: TimeAnswer, out: &mut Out<W>) -> Result<(), Device>
-    ensures { Writes W.contents out.old out.new result (time_text answer) }
+    ensures { WritesAndFlushes W.contents out.old out.new result (time_text answer) }
 {
     put_answer(answer, out)?;
     out.finish()

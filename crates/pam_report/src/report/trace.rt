@@ -28,7 +28,7 @@ pub(super) struct Trace {
 
 /// Returns the path of a module, by number.
 #[tactic(auto, unfolding(crate::specs::Decide::path_at))]
-fn path_at(stack: &Stack, number: usize) -> &[u8]
+pub(super) fn path_at(stack: &Stack, number: usize) -> &[u8]
     ensures { result.now ≡ path_in_items number stack.now }
 {
     match stack.module(number) {

@@ -56,7 +56,8 @@ fn ended(rt: &impl Abort, out: &Out<&mut Halting>, room: usize, is_ok: bool) {
     same(rt, "failures", &out.failures(), &if is_ok { 0 } else { 1 });
 }
 
-/// Asserts what such a writer takes of the lines, in one piece or in many.
+/// Asserts what such a writer takes of the lines, in one piece or in many. A flush counts if it succeeds, and is a
+/// failure if not.
 fn takes(rt: &impl Abort, alloc: Global, row: &(usize, usize, End, bool, bool), is_one: bool) {
     let (step, room, end, can_flush, is_ok) = *row;
     let mut writer = Halting::new(alloc, step, room, end, can_flush);
@@ -68,6 +69,7 @@ fn takes(rt: &impl Abort, alloc: Global, row: &(usize, usize, End, bool, bool), 
     };
     same(rt, "written", &answer.is_ok(), &is_ok);
     ended(rt, &out, room, is_ok);
+    same(rt, "flushes", &out.flushes(), &if is_ok { 1 } else { 0 });
     same(
         rt,
         "bytes",

@@ -1,13 +1,36 @@
-use Rattle.std.proofs.Common.{subst, sym}
-use Rattle.pam_cli.specs.Reading.{IsReading}
+use Rattle.std.proofs.Common.{ℕ, Result, Ok, Err, subst, sym}
+use Rattle.pam_cli.specs.Reading.{IsKnowledgeReading, IsReading}
+use Rattle.pam_conf.specs.declared.rule.Kind.{Kind}
+use Rattle.pam_report.specs.declared.inputs.InputError.{InputError}
+use Rattle.pam_report.specs.declared.inputs.Inputs.{Inputs}
+use Rattle.pam_words.specs.declared.wanted.ConfSource.{ConfSource}
+use Rattle.pam_words.specs.declared.wanted.KnowledgeSource.{KnowledgeSource}
+use Rattle.pam_words.specs.declared.wanted.PagePart.{PagePart}
+use Rattle.pam_words.specs.declared.wanted.Task.TheVariants.{Outcomes, Paths}
 use Rattle.pam_cli.proofs.reading.inputs_of.Goals as goal
+
+module _ (source : ConfSource) (kind : Kind) (knowledge : KnowledgeSource) where
+  paths-read : (limit : ℕ) (part : PagePart) (r : Result Inputs InputError) → IsKnowledgeReading source knowledge r
+      → IsReading (Paths source kind limit part knowledge) r
+  paths-read limit part (Ok given) h = h
+  paths-read limit part (Err error) h = h
+
+  outcomes-read : (r : Result Inputs InputError) → IsKnowledgeReading source knowledge r → IsReading (Outcomes source kind knowledge) r
+  outcomes-read (Ok given) h = h
+  outcomes-read (Err error) h = h
 
 pub returns-in-Access : goal.returns-in-Access
 returns-in-Access g c =
     subst (λ t. IsReading t c.access_inputs.result) (sym c.in-Access.is) (c.access_inputs.ensures c.in-Access.login c.in-Access.arguments)
 
-pub returns-in_ok-files-in-Paths : goal.returns-in_ok-files-in-Paths
-returns-in_ok-files-in-Paths g c =
+pub returns-in-Paths : goal.returns-in-Paths
+returns-in-Paths g c =
     let paths = c.in-Paths in
-    let read = c.paths_inputs.ensures paths.source paths.kind paths.limit paths.part paths.login paths.moment c.in_ok-files-in-Paths.ensures in
-    subst (λ t. IsReading t c.paths_inputs.result) (sym paths.is) read
+    subst (λ t. IsReading t c.knowledge_inputs.result) (sym paths.is)
+    (paths-read paths.source paths.kind paths.knowledge paths.limit paths.part c.knowledge_inputs.result c.knowledge_inputs.ensures)
+
+pub returns-in-Outcomes : goal.returns-in-Outcomes
+returns-in-Outcomes g c =
+    let outcomes = c.in-Outcomes in
+    subst (λ t. IsReading t c.knowledge_inputs.result) (sym outcomes.is)
+    (outcomes-read outcomes.source outcomes.kind outcomes.knowledge c.knowledge_inputs.result c.knowledge_inputs.ensures)

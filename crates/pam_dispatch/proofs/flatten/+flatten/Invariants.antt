@@ -9,6 +9,6 @@ decreases-flatten l = goal.size-flatten l
 
 abbrev pub invariant-loop-item : goal.invariant-loop-item
 invariant-loop-item l =
-    (l.entries.items ++ flat_list l.level (items_of (drop l.item-index l.items)) ≡ l.initial.entries.items ++ flat_list l.level (items_of l.items))
+    (l.flat_items.items ++ flat_list l.level (items_of (drop l.item-index l.items)) ≡ l.initial.flat_items.items ++ flat_list l.level (items_of l.items))
     × (l.items_after + l.item-index ≡ length l.items)
     × (l.level + depth (items_of (drop l.item-index l.items)) ≤ 16)

@@ -1,4 +1,4 @@
-use Rattle.pam_dispatch.proofs.Tails.{settled-asks, settled-ends}
+use Rattle.pam_dispatch.proofs.SettledRuns.{settled-asks, settled-ends}
 use Rattle.pam_dispatch.proofs.laws.settled_run.Goals as goal
 
 pub returns-clause-asks : goal.returns-clause-asks

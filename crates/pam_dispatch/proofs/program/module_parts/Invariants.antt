@@ -1,5 +1,5 @@
 use Rattle.pam_dispatch.proofs.ModuleParts.{AreCompleted}
 use Rattle.pam_dispatch.proofs.program.module_parts.Given as goal
 
-abbrev pub invariant-loop-entry : goal.invariant-loop-entry
-invariant-loop-entry l = AreCompleted l.entries l.parts.items l.entry-index
+abbrev pub invariant-loop-flat_item : goal.invariant-loop-flat_item
+invariant-loop-flat_item l = AreCompleted l.flat_items l.parts.items l.flat_item-index

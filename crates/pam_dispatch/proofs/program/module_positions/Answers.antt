@@ -7,10 +7,10 @@ use Rattle.pam_dispatch.proofs.program.module_positions.Goals.{in-Module+in_ok-p
 pub loop-position-preserved : goal.loop-position-preserved
 loop-position-preserved c =
     let l = c.loop-position in
-    let ts = c.args.entries.now in
-    let e = c.index-entries-position in
+    let ts = c.args.flat_items.now in
+    let e = c.index-flat_items-position in
     let more = positions_from (l.position + 1) (drop (l.position + 1) ts) in
-    elim c.match-entry.branch [
+    elim c.match-flat_item.branch [
       | in-Module+in_ok-push-in-Module w ↦
           ap (λ v. v.items ++ more) w.positions-is
           ∙ ap (λ (x : List ℕ). x ++ more) w.in_ok-push-in-Module.ensures.items
@@ -24,5 +24,5 @@ loop-position-preserved c =
 
 pub returns : goal.returns
 returns c =
-    sym (positions-end c.args.entries.now c.loop-position.position c.loop-position.positions.items c.loop-position-test.false)
+    sym (positions-end c.args.flat_items.now c.loop-position.position c.loop-position.positions.items c.loop-position-test.false)
     ∙ c.loop-position.invariant

@@ -3,4 +3,4 @@ use Rattle.pam_dispatch.specs.Flat.{positions_from}
 use Rattle.pam_dispatch.proofs.program.module_positions.Given as goal
 
 abbrev pub invariant-loop-position : goal.invariant-loop-position
-invariant-loop-position l = l.positions.items ++ positions_from l.position (drop l.position l.entries) ≡ positions_from 0 l.entries
+invariant-loop-position l = l.positions.items ++ positions_from l.position (drop l.position l.flat_items) ≡ positions_from 0 l.flat_items

@@ -7,7 +7,7 @@ use Rattle.pam_paths.proofs.explorer.frames_at.Goals as goal
 
 pub returns-clause-verdict : goal.returns-clause-verdict
 returns-clause-verdict g c =
-    verdict_on (modules_of c.args.program.now) (runs_of c.args.program.now) c.codes.result.now c.args.cursor.now c.codes.ensures.value
+    verdict_on (modules_of c.args.scope.now.program.now) (runs_of c.args.scope.now.program.now) c.codes.result.now c.args.cursor.now c.codes.ensures.value
     c.retrace.ensures.rise c.retrace.result c.codes.ensures.codes c.retrace.ensures.verdict
 
 pub returns-clause-tree : goal.returns-clause-tree
@@ -19,8 +19,8 @@ returns-clause-exploring g c = exploring_on c.retrace.result _ _ _ c.retrace.ens
 pub returns-clause-listing : goal.returns-clause-listing
 unfolding coming
 returns-clause-listing g c direction =
-    let allows = g.K.Knowledge.allows c.args.knowledge.now in
-    from_on (modules_of c.args.program.now) (runs_of c.args.program.now) c.codes.result.now c.args.cursor.now c.codes.ensures.value
-    c.retrace.ensures.rise allows (λ d. ahead d allows c.args.program.now c.retrace.new.frames.items)
-    (λ m first last. g.met.K.Knowledge.lawful c.args.knowledge.now m first (omega (arith, last, c.retrace.ensures.few)))
+    let allows = g.K.Knowledge.allows c.args.scope.now.knowledge.now in
+    from_on (modules_of c.args.scope.now.program.now) (runs_of c.args.scope.now.program.now) c.codes.result.now c.args.cursor.now c.codes.ensures.value
+    c.retrace.ensures.rise allows (λ d. ahead d allows c.args.scope.now.program.now c.retrace.new.frames.items)
+    (λ m first last. g.met.K.Knowledge.lawful c.args.scope.now.knowledge.now m first (omega (arith, last, c.retrace.ensures.few)))
     c.retrace.result c.retrace.ensures.verdict c.retrace.ensures.paths direction

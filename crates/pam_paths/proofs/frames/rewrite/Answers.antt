@@ -6,7 +6,7 @@ use Rattle.pam_paths.specs.declared.path.PathStep.{PathStep}
 use Rattle.pam_paths.specs.Frames.{step_in}
 use Rattle.pam_paths.specs.Paths.{StepValue}
 use Rattle.pam_paths.specs.Steps.{step_seen}
-use Rattle.pam_paths.proofs.Rows.{rewritten-first, rewritten-last}
+use Rattle.pam_paths.proofs.BoundedLists.{rewritten-first, rewritten-last}
 use Rattle.pam_paths.proofs.frames.rewrite.Goals as goal
 
 pub loop-index-preserved : goal.loop-index-preserved

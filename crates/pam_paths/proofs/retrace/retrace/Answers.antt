@@ -1,4 +1,4 @@
-use Rattle.std.proofs.Common.{◌≡◌, ◌+◌, ◌≤◌, ◌++◌, ◌&&◌, ◌∷◌, [], ℕ, Bool, List, cond, drop, length, get_or, sym, ap, subst, ◌∙◌, arith, Some}
+use Rattle.std.proofs.Common.{◌≡◌, ◌+◌, ◌≤◌, ◌++◌, ◌&&◌, ◌∷◌, [], ℕ, Bool, List, cond, drop, length, get_or, lit<, sym, ap, subst, ◌∙◌, arith, Some}
 use Rattle.std.proofs.lemmas.List.{drop_all, get_or_default}
 use Rattle.pam_dispatch.specs.declared.place.Place.{Place}
 use Rattle.pam_dispatch.specs.Flat.{modules_of, rest_of, runs_of}
@@ -15,8 +15,8 @@ use Rattle.pam_paths.proofs.retrace.retrace.Goals as goal
 
 pub loop-index-init : goal.loop-index-init
 loop-index-init g c =
-    let allows = g.K.Knowledge.allows c.args.knowledge.now in
-    let program = c.args.program.now in
+    let allows = g.K.Knowledge.allows c.args.scope.now.knowledge.now in
+    let program = c.args.scope.now.program.now in
     let codes = c.args.codes.now in
     let none = c.requires.none in
     let whole : runs_of program ≡ rest_of program c.first-place.result = sym c.first-place.ensures.whole in
@@ -36,16 +36,16 @@ loop-index-init g c =
 
 pub loop-index-preserved : goal.loop-index-preserved
 loop-index-preserved g c =
-    let allows = g.K.Knowledge.allows c.args.knowledge.now in
-    let program = c.args.program.now in
+    let allows = g.K.Knowledge.allows c.args.scope.now.knowledge.now in
+    let program = c.args.scope.now.program.now in
     let codes = c.args.codes.now in
     let i = c.loop-index.invariant in
     let n = c.loop-index.index in
     let fs = c.loop-index.frames.items in
-    let t = c.in-Some-take_turn.turn in
-    let e = c.in-Some-take_turn.ensures in
+    let t = c.in-Some-retrace_step.step in
+    let e = c.in-Some-retrace_step.ensures in
     let m = c.in-Some.module_number in
-    let code = c.code_numbered.result in
+    let code = c.code_numbered-code.result in
     let r = rest_of program c.loop-index.place in
     let q = rest_of program t.place in
     let asked = sym (c.in-Some.ensures program i.place) in
@@ -54,8 +54,8 @@ loop-index-preserved g c =
     subst (λ (x : Runs). AsksRise (n + 1) (modules_of program) x) (sym e.rest) (AsksRise-lower (n + 1) m (modules_of program) _ (omega (arith, k.0)) k.2) in
     let here : r ≡ rest_of program t.frame.place = ap (λ (x : Place). rest_of program x) (sym e.at) in
     let left : drop n codes ≡ code ∷ drop (n + 1) codes =
-    left-cons codes n code c.loop-index-test.true (c.code_numbered.ensures ∙ get_or_default codes n 0 code c.loop-index-test.true) in
-    let kept = e.kept in
+    left-cons codes n code c.loop-index-test.true (c.code_numbered-code.ensures ∙ get_or_default codes n 0 code c.loop-index-test.true) in
+    let kept = c.push_if.ensures in
     let again : Direction → List Frame → Bool → Type 0 = λ d x b.
     part d allows (runs_of program) codes ≡ cond b (under x (part d allows q (drop (n + 1) codes))) [] ++ ahead d allows program x in
     let both : (c.loop-index.offered && t.offered) ≡ c.both-offered.result = sym c.both-offered.ensures in
@@ -69,23 +69,23 @@ loop-index-preserved g c =
       many = subst (λ (x : List Frame). length x ≤ n + 1) (sym kept) (kept-many fs t.frame c.loop-index.offered n i.many);
       each = λ h. ap (λ (x : List Frame). length x) kept ∙ kept-each fs t.frame c.loop-index.offered t.offered n i.each (both ∙ h);
       within = omega (arith, k.0, k.1);
-      paths = λ d. subst (again d c.take_turn.new.frames.items) both (subst (λ (x : List Frame). again d x (c.loop-index.offered && t.offered)) (sym kept)
+      paths = λ d. subst (again d c.push_if.new.self.items) both (subst (λ (x : List Frame). again d x (c.loop-index.offered && t.offered)) (sym kept)
           (part-kept d allows program fs t.frame r q m code (drop (n + 1) codes) asked here e.code e.step e.rest c.loop-index.offered t.offered _ e.offered
           (i.paths d ∙ ap (λ (x : List ℕ). cond c.loop-index.offered (under fs (part d allows r x)) [] ++ ahead d allows program fs) left)));
-      work = omega (arith, i.work, c.take_turn.ensures.work);
+      work = omega (arith, i.work, c.retrace_step.ensures.work);
     }
 
-pub take_turn-requires-clause-room : goal.take_turn-requires-clause-room
-take_turn-requires-clause-room g c h =
+pub push_if-requires : goal.push_if-requires
+push_if-requires g c =
     let i = c.loop-index.invariant in
-    let program = c.args.program.now in
+    let program = c.args.scope.now.program.now in
     let k = rise_after c.loop-index.index (modules_of program) _ 0 _ i.rise (sym (c.in-Some.ensures program i.place)) in
-    omega (arith, i.each h, k.0, k.1, c.first-place.ensures.few)
+    (lit< tt, λ h. omega (arith, i.each h, k.0, k.1, c.first-place.ensures.few))
 
 pub returns-in_default-clause-verdict : goal.returns-in_default-clause-verdict
 returns-in_default-clause-verdict g c =
     let i = c.loop-index.invariant in
-    let program = c.args.program.now in
+    let program = c.args.scope.now.program.now in
     let codes : List ℕ = c.args.codes.now in
     let n = c.loop-index.index in
     let code : ℕ = get_or codes n 0 in
@@ -95,24 +95,24 @@ returns-in_default-clause-verdict g c =
     left-cons codes n code c.loop-index-test.true (get_or_default codes n 0 code c.loop-index-test.true) in
     ap Some (sym (i.verdict ∙ ap (λ (x : List ℕ). further n (verdict_of r x)) left ∙ ap (further n) (verdict-long r code (drop (n + 1) codes) ended)))
 
-pub returns-in_default-take_turn-clause-verdict : goal.returns-in_default-take_turn-clause-verdict
-returns-in_default-take_turn-clause-verdict g c =
+pub returns-in_default-retrace_step-clause-verdict : goal.returns-in_default-retrace_step-clause-verdict
+returns-in_default-retrace_step-clause-verdict g c =
     let i = c.loop-index.invariant in
-    let program = c.args.program.now in
+    let program = c.args.scope.now.program.now in
     let codes : List ℕ = c.args.codes.now in
     let n = c.loop-index.index in
-    let code : ℕ = c.code_numbered.result in
+    let code : ℕ = c.code_numbered-code.result in
     let r = rest_of program c.loop-index.place in
     let asked = sym (c.in-Some.ensures program i.place) in
     let left : drop n codes ≡ code ∷ drop (n + 1) codes =
-    left-cons codes n code c.loop-index-test.true (c.code_numbered.ensures ∙ get_or_default codes n 0 code c.loop-index-test.true) in
+    left-cons codes n code c.loop-index-test.true (c.code_numbered-code.ensures ∙ get_or_default codes n 0 code c.loop-index-test.true) in
     ap Some (sym (i.verdict ∙ ap (λ (x : List ℕ). further n (verdict_of r x)) left
-    ∙ ap (further n) (verdict-refused r c.in-Some.module_number code (drop (n + 1) codes) asked c.in_default-take_turn.ensures.not_least)))
+    ∙ ap (further n) (verdict-refused r c.in-Some.module_number code (drop (n + 1) codes) asked c.in_default-retrace_step.ensures.not_least)))
 
 pub returns-in-Some-module-clause-verdict : goal.returns-in-Some-module-clause-verdict
 returns-in-Some-module-clause-verdict g c =
     let i = c.loop-index.invariant in
-    let program = c.args.program.now in
+    let program = c.args.scope.now.program.now in
     let r = rest_of program c.loop-index.place in
     let asked = sym (c.in-Some-module.ensures program i.place) in
     ap Some (sym (i.verdict ∙ ap (λ (x : List ℕ). further c.loop-index.index (verdict_of r x))
@@ -122,7 +122,7 @@ returns-in-Some-module-clause-verdict g c =
 pub returns-in-None-clause-verdict : goal.returns-in-None-clause-verdict
 returns-in-None-clause-verdict g c =
     let i = c.loop-index.invariant in
-    let program = c.args.program.now in
+    let program = c.args.scope.now.program.now in
     let r = rest_of program c.loop-index.place in
     let ended = sym (c.in-None.ensures program i.place) in
     i.verdict ∙ ap (λ (x : List ℕ). further c.loop-index.index (verdict_of r x)) (drop_all c.loop-index.index c.args.codes.now c.loop-index-test.false)
@@ -131,19 +131,20 @@ returns-in-None-clause-verdict g c =
 pub returns-in-None-clause-paths : goal.returns-in-None-clause-paths
 returns-in-None-clause-paths g c d =
     let i = c.loop-index.invariant in
-    let program = c.args.program.now in
+    let program = c.args.scope.now.program.now in
     let ended = sym (c.in-None.ensures program i.place) in
     sym (i.paths d
-    ∙ nothing_left d (g.K.Knowledge.allows c.args.knowledge.now) program c.loop-index.frames.items
+    ∙ nothing_left d (g.K.Knowledge.allows c.args.scope.now.knowledge.now) program c.loop-index.frames.items
     (rest_of program c.loop-index.place) c.loop-index.offered _ ended)
 
-pub take_turn-requires-clause-first : goal.take_turn-requires-clause-first
-take_turn-requires-clause-first g c =
+pub retrace_step-requires-clause-first : goal.retrace_step-requires-clause-first
+retrace_step-requires-clause-first g c =
     let i = c.loop-index.invariant in
-    let k = rise_after c.loop-index.index (modules_of c.args.program.now) _ 0 _ i.rise (sym (c.in-Some.ensures c.args.program.now i.place)) in
+    let program = c.args.scope.now.program.now in
+    let k = rise_after c.loop-index.index (modules_of program) _ 0 _ i.rise (sym (c.in-Some.ensures program i.place)) in
     omega (arith, k.0)
 
-pub take_turn-requires-clause-last : goal.take_turn-requires-clause-last
-take_turn-requires-clause-last g c =
+pub retrace_step-requires-clause-last : goal.retrace_step-requires-clause-last
+retrace_step-requires-clause-last g c =
     let i = c.loop-index.invariant in
-    (rise_after c.loop-index.index (modules_of c.args.program.now) _ 0 _ i.rise (sym (c.in-Some.ensures c.args.program.now i.place))).1
+    (rise_after c.loop-index.index (modules_of c.args.scope.now.program.now) _ 0 _ i.rise (sym (c.in-Some.ensures c.args.scope.now.program.now i.place))).1

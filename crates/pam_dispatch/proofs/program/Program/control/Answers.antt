@@ -10,7 +10,7 @@ index-requires c =
 pub index-requires-2 : goal.index-requires-2
 index-requires-2 c =
     let h = position_within _ _ _ c.self.invariant c.self.view_is c.args.number c.requires.first c.requires.last _ c.index.ensures in
-    omega (arith, h, c.self.inside.entries.ok)
+    omega (arith, h, c.self.inside.flat_items.ok)
 
 pub unreachable-requires : goal.unreachable-requires
 unreachable-requires c =

@@ -1,5 +1,5 @@
 use Rattle.std.proofs.Common.{ap, arith, List}
-use Rattle.pam_dispatch.specs.declared.entry.Entry.{Entry}
+use Rattle.pam_dispatch.specs.declared.flat_item.FlatItem.{FlatItem}
 use Rattle.pam_dispatch.specs.Flat.{modules_of}
 use Rattle.pam_dispatch.proofs.Controls.{length-positions}
 use Rattle.pam_dispatch.proofs.Numbering.{AsksRise-runs_of}
@@ -13,7 +13,7 @@ returns-clause-count c =
 pub returns-clause-most : goal.returns-clause-most
 returns-clause-most c =
     let all = length-positions _ _ _ c.self.invariant c.self.view_is in
-    let same = ap (λ (ts : List Entry). modules_of ts) c.self.view_is in
+    let same = ap (λ (ts : List FlatItem). modules_of ts) c.self.view_is in
     omega (arith, c.len.ensures, c.self.inside.positions.ok, all, same, c.self.invariant.few)
 
 pub returns-clause-rise : goal.returns-clause-rise

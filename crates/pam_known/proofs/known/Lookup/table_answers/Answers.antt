@@ -8,12 +8,13 @@ use Rattle.pam_known.specs.Sets.{AreDone, IsUnset, IsTableSet, told_of_number}
 use Rattle.pam_known.specs.Tables.{tables_view}
 use Rattle.pam_known.proofs.FaultSteps.{fault_found, faults_done, no_fault, none_here, told_none, told_some}
 use Rattle.pam_known.proofs.ReaderSteps.{code_small_at}
+use Rattle.pam_known.proofs.ReadTables.{some_of}
 use Rattle.pam_known.proofs.SetSteps.{changes, stays, told_set, untold_set}
 use Rattle.pam_known.proofs.known.Lookup.table_answers.Goals as goal
 use Rattle.pam_known.proofs.known.Lookup.table_answers.Goals.{in-Some, in_default}
 
-pub returns-in_err-code : goal.returns-in_err-code
-returns-in_err-code c =
+pub returns-in_err-code-clause-told : goal.returns-in_err-code-clause-told
+returns-in_err-code-clause-told c =
     let n = module_count c.args.stack.now in
     let told = told_of_number c.args.self.now c.args.stack.now in
     let within : c.loop-index.index < module_count c.args.stack.now = omega (arith, c.modules-index-end.ensures.count, c.loop-index-test.true) in
@@ -54,7 +55,13 @@ loop-index-preserved c =
           }
     ]
 
-pub returns : goal.returns
-returns c =
+pub returns-clause-told : goal.returns-clause-told
+returns-clause-told c =
     let end : c.loop-index.index ≡ module_count c.args.stack.now = omega (arith, c.modules-index-end.ensures.count, c.loop-index-test.false) in
     (faults_done _ _ _ _ end c.loop-index.invariant.faults, λ m low high. c.loop-index.invariant.sets.first m low (omega (arith, end, high)))
+
+pub returns-in_err-code-clause-read : goal.returns-in_err-code-clause-read
+returns-in_err-code-clause-read c =
+    let within : c.loop-index.index < module_count c.args.stack.now = omega (arith, c.modules-index-end.ensures.count, c.loop-index-test.true) in
+    let p = err_from_is_err_and c.from_residual.result c.from_residual.ensures.1 in
+    rw (p.1, p.2) (some_of c.args.self.now c.args.stack.now c.loop-index.index c.in_err-code.field-0.0 within c.in_err-code.ensures.read)

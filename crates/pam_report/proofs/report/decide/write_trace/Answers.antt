@@ -1,5 +1,5 @@
-use Rattle.std.proofs.Common.{◌≡◌, List, [], map, ap, append-nil}
-use Rattle.pam_codes.proofs.Writing.{all-is, all-then, err-front, front-is, front-longer, front-then, writes-is, writes-then}
+use Rattle.std.proofs.Common.{◌≡◌, List, map, ap}
+use Rattle.pam_codes.proofs.Writing.{all-is, all-then, err-flushes, flushes-last, front-is, front-longer, front-then}
 use Rattle.pam_report.specs.Decide.{trace_text}
 use Rattle.pam_report.specs.TraceViews.{asked_view}
 use Rattle.pam_report.specs.declared.report.trace.AskedModule.{AskedModule}
@@ -10,18 +10,16 @@ lines is = ap (λ (modules : List AskedModule). trace_text (map asked_view modul
 
 pub returns-in_err-put_trace : goal.returns-in_err-put_trace
 returns-in_err-put_trace g c =
-    err-front _ c.from_residual-in_err-put_trace.ensures.0
+    err-flushes _ c.from_residual-in_err-put_trace.ensures.0
     (front-longer _ (front-then c.in_ok-put_header.ensures (front-is c.in_err-put_trace.ensures (lines c.deref.ensures.value))))
 
 pub returns-in_err-put_decision : goal.returns-in_err-put_decision
 returns-in_err-put_decision g c =
-    err-front _ c.from_residual-in_err-put_decision.ensures.0
+    err-flushes _ c.from_residual-in_err-put_decision.ensures.0
     (front-then (all-then c.in_ok-put_header.ensures (all-is c.in_ok-put_trace.ensures (lines c.deref.ensures.value))) c.in_err-put_decision.ensures)
 
 pub returns : goal.returns
 returns g c =
-    writes-is _ _ _ _ _ _
-    (writes-then _ [] _
+    flushes-last _ _
     (all-then (all-then c.in_ok-put_header.ensures (all-is c.in_ok-put_trace.ensures (lines c.deref.ensures.value))) c.in_ok-put_decision.ensures)
-    c.finish.ensures)
-    (append-nil _)
+    c.finish.ensures

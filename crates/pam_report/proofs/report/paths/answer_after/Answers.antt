@@ -7,22 +7,22 @@ use Rattle.pam_words.specs.declared.wanted.PagePart.TheVariants.{After}
 use Rattle.pam_report.proofs.PageParts.{cursor-refused, cursor-taken, part-same, text-refused}
 use Rattle.pam_report.proofs.report.paths.answer_after.Goals as goal
 
-pub returns-in-Err : goal.returns-in-Err
-returns-in-Err g c items allows runs counted agree =
+pub returns-in-Err-clause-answer : goal.returns-in-Err-clause-answer
+returns-in-Err-clause-answer g c items allows runs counted agree =
     let IsRest = IsListingAfter allows (module_count items) (path_through items) in
     (refl, (Err c.in-Err.error, text-refused IsRest items _ _ _ c.as_bytes.ensures.value c.in-Err.ensures.err, refl))
 
-pub returns-in-Ok-after : goal.returns-in-Ok-after
-returns-in-Ok-after g c items allows runs counted agree =
+pub returns-in-Ok-after-clause-answer : goal.returns-in-Ok-after-clause-answer
+returns-in-Ok-after-clause-answer g c items allows runs counted agree =
     let explored = c.in-Ok-after.ensures in
     let known = may_answer c.args.paging.now.known.now in
     let same = c.in-Ok.ensures.ok ∙ c.as_bytes.ensures.value in
     let taken = cursor-taken items c.args.text.now c.in-Ok.cursor _ counted c.in-Ok.ensures.cursor same (λ n. IsListingAfter known n (path_through items))
     c.in-Ok-after.explorer.coming (explored.tree items runs) (explored.stack items runs) in
-    c.answer_listing.ensures items allows (After c.args.text) counted refl (part-same known allows items agree (After c.args.text) (Ok _) taken)
+    c.answer_listing.ensures.answer items allows (After c.args.text) counted refl (part-same known allows items agree (After c.args.text) (Ok _) taken)
 
-pub returns-in-Err-after : goal.returns-in-Err-after
-returns-in-Err-after g c items allows runs counted agree =
+pub returns-in-Err-after-clause-answer : goal.returns-in-Err-after-clause-answer
+returns-in-Err-after-clause-answer g c items allows runs counted agree =
     let IsRest = IsListingAfter allows (module_count items) (path_through items) in
     let same = c.in-Ok.ensures.ok ∙ c.as_bytes.ensures.value in
     let refused = cursor-refused items _ c.in-Ok.cursor _ counted c.in-Ok.ensures.cursor same IsRest _ (c.in-Err-after.ensures.tree items runs) in

@@ -7,22 +7,22 @@ use Rattle.pam_words.specs.declared.wanted.PagePart.TheVariants.{Before}
 use Rattle.pam_report.proofs.PageParts.{cursor-refused, cursor-taken, part-same, text-refused}
 use Rattle.pam_report.proofs.report.paths.answer_before.Goals as goal
 
-pub returns-in-Err : goal.returns-in-Err
-returns-in-Err g c items allows runs counted agree =
+pub returns-in-Err-clause-answer : goal.returns-in-Err-clause-answer
+returns-in-Err-clause-answer g c items allows runs counted agree =
     let IsRest = IsListingBefore allows (module_count items) (path_through items) in
     (refl, (Err c.in-Err.error, text-refused IsRest items _ _ _ c.as_bytes.ensures.value c.in-Err.ensures.err, refl))
 
-pub returns-in-Ok-before : goal.returns-in-Ok-before
-returns-in-Ok-before g c items allows runs counted agree =
+pub returns-in-Ok-before-clause-answer : goal.returns-in-Ok-before-clause-answer
+returns-in-Ok-before-clause-answer g c items allows runs counted agree =
     let explored = c.in-Ok-before.ensures in
     let known = may_answer c.args.paging.now.known.now in
     let same = c.in-Ok.ensures.ok ∙ c.as_bytes.ensures.value in
     let taken = cursor-taken items c.args.text.now c.in-Ok.cursor _ counted c.in-Ok.ensures.cursor same (λ n. IsListingBefore known n (path_through items))
     c.in-Ok-before.before.coming (explored.tree items runs) (explored.stack items runs) in
-    c.answer_listing.ensures items allows (Before c.args.text) counted refl (part-same known allows items agree (Before c.args.text) (Ok _) taken)
+    c.answer_listing.ensures.answer items allows (Before c.args.text) counted refl (part-same known allows items agree (Before c.args.text) (Ok _) taken)
 
-pub returns-in-Err-before : goal.returns-in-Err-before
-returns-in-Err-before g c items allows runs counted agree =
+pub returns-in-Err-before-clause-answer : goal.returns-in-Err-before-clause-answer
+returns-in-Err-before-clause-answer g c items allows runs counted agree =
     let IsRest = IsListingBefore allows (module_count items) (path_through items) in
     let same = c.in-Ok.ensures.ok ∙ c.as_bytes.ensures.value in
     let refused = cursor-refused items _ c.in-Ok.cursor _ counted c.in-Ok.ensures.cursor same IsRest _ (c.in-Err-before.ensures.tree items runs) in

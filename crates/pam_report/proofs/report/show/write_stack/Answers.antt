@@ -1,6 +1,6 @@
-use Rattle.std.proofs.Common.{ℕ, [], ◌++◌, ap, append-nil}
-use Rattle.pam_codes.proofs.Writing.{all-is, all-then, err-front, front-is, front-longer, front-then, writes-is, writes-then}
-use Rattle.pam_conf.specs.Stack.{Items, module_count}
+use Rattle.std.proofs.Common.{ℕ, ap}
+use Rattle.pam_codes.proofs.Writing.{all-is, all-then, err-flushes, flushes-last, front-is, front-longer, front-then}
+use Rattle.pam_conf.specs.Stack.{Items}
 use Rattle.pam_report.specs.Header.{header_text}
 use Rattle.pam_report.specs.Show.{items_text, show_text}
 use Rattle.pam_report.proofs.report.show.write_stack.Goals as goal
@@ -9,7 +9,7 @@ pub returns-in_err-put_header : goal.returns-in_err-put_header
 unfolding show_text
 returns-in_err-put_header g c =
     let header = λ (modules : ℕ). header_text c.args.service.now c.args.kind modules in
-    err-front _ c.from_residual.ensures.0 (front-longer (items_text c.args.files.now 0 c.args.stack.now)
+    err-flushes _ c.from_residual.ensures.0 (front-longer (items_text c.args.files.now 0 c.args.stack.now)
     (front-is c.in_err-put_header.ensures (ap header c.modules.ensures.count)))
 
 pub returns-in_err-put_items : goal.returns-in_err-put_items
@@ -17,7 +17,7 @@ unfolding show_text
 returns-in_err-put_items g c =
     let header = λ (modules : ℕ). header_text c.args.service.now c.args.kind modules in
     let lines = λ (items : Items). items_text c.args.files.now 0 items in
-    err-front _ c.from_residual-in_err-put_items.ensures.0
+    err-flushes _ c.from_residual-in_err-put_items.ensures.0
     (front-then (all-is c.in_ok-put_header.ensures (ap header c.modules.ensures.count)) (front-is c.in_err-put_items.ensures (ap lines c.items.ensures.items)))
 
 pub returns : goal.returns
@@ -25,8 +25,6 @@ unfolding show_text
 returns g c =
     let header = λ (modules : ℕ). header_text c.args.service.now c.args.kind modules in
     let lines = λ (items : Items). items_text c.args.files.now 0 items in
-    writes-is _ _ _ _ _ _
-    (writes-then _ [] _
+    flushes-last _ _
     (all-then (all-is c.in_ok-put_header.ensures (ap header c.modules.ensures.count)) (all-is c.in_ok-put_items.ensures (ap lines c.items.ensures.items)))
-    c.finish.ensures)
-    (append-nil (header (module_count c.args.stack.now) ++ lines c.args.stack.now))
+    c.finish.ensures

@@ -1,0 +1,142 @@
+-- The keys of places.
+use Rattle.std.proofs.Common.{◌≡◌, ◌≢◌, ℕ, ◌+◌, ◌<◌, Bool, true, false, ◌&&◌, ◌||◌, eqb, List, [], ◌∷◌, refl, sym, ◌∙◌, ap, arith}
+use Rattle.std.proofs.Common.{None, Some, Option, cond, inl, inr, length, slice_get, suc}
+use Rattle.std.proofs.lemmas.Bool.{and_from, and_parts, cases_lt, cond-false, cond-true, eq-eqb, eqb-true, false≢true, le-ltb, lt-ltb}
+use Rattle.std.specs.List.{AllByRecursion, IsDistinct, list_any, position, position_or_len}
+use Rattle.std.specs.Option.{is_some}
+use Rattle.std.specs.Prelude.{IfNone, IfSome, nat_lt, not}
+use denote.Enum.Bare.{sameb, same_true, true_same}
+use lib.Pointwise.{pointwise}
+use Rattle.pam_dispatch.specs.contracts.state.Impression.{the_type}
+use Rattle.pam_dispatch.specs.declared.key.PlaceKey.{PlaceKey}
+use Rattle.pam_dispatch.specs.declared.state.Impression.{Impression}
+use Rattle.pam_dispatch.specs.declared.state.State.{State}
+use Rattle.pam_dispatch.specs.Keys.{AreDifferent, DiffersFrom}
+
+-- KEYS WITH THE SAME PARTS
+
+-- the tests that are derived
+abbrev same_state : State → State → Bool
+same_state a b = sameb the_type a.impression b.impression && eqb a.status b.status
+
+abbrev pub same_key : PlaceKey → PlaceKey → Bool
+same_key a b =
+    eqb a.position b.position
+    && (eqb a.depth b.depth && (same_state a.state b.state && pointwise same_state a.entered.states b.entered.states))
+
+state_of : (i : Impression) (s : ℕ) → State
+state_of i s = record { impression = i; status = s }
+
+same_state-true : (a b : State) → same_state a b ≡ true → a ≡ b
+unfolding state_of
+same_state-true a b t =
+    let parts = and_parts (sameb the_type a.impression b.impression) (eqb a.status b.status) t in
+    ap (λ (i : Impression). state_of i a.status) (same_true the_type tt a.impression b.impression parts.0)
+    ∙ ap (state_of b.impression) (eqb-true a.status b.status parts.1)
+
+same_state-self : (a : State) → same_state a a ≡ true
+same_state-self a =
+    and_from (sameb the_type a.impression a.impression) (eqb a.status a.status) (true_same the_type a.impression a.impression refl)
+    (eq-eqb a.status a.status refl)
+
+states-true : (xs ys : List State) → pointwise same_state xs ys ≡ true → xs ≡ ys
+states-true [] [] t = refl
+states-true [] (y ∷ ys) t = absurd (false≢true t)
+states-true (x ∷ xs) [] t = absurd (false≢true t)
+states-true (x ∷ xs) (y ∷ ys) t =
+    let parts = and_parts (same_state x y) (pointwise same_state xs ys) t in
+    ap (λ (z : State). z ∷ xs) (same_state-true x y parts.0) ∙ ap (λ (zs : List State). y ∷ zs) (states-true xs ys parts.1)
+
+states-self : (xs : List State) → pointwise same_state xs xs ≡ true
+states-self [] = refl
+states-self (x ∷ xs) = and_from (same_state x x) (pointwise same_state xs xs) (same_state-self x) (states-self xs)
+
+pub same_key-true : (a b : PlaceKey) → same_key a b ≡ true → a ≡ b
+same_key-true a b t =
+    let one = and_parts (eqb a.position b.position) _ t in
+    let two = and_parts (eqb a.depth b.depth) _ one.1 in
+    let three = and_parts (same_state a.state b.state) (pointwise same_state a.entered.states b.entered.states) two.1 in
+    ap (λ (n : ℕ). record { position = n; depth = a.depth; state = a.state; entered = a.entered }) (eqb-true _ _ one.0)
+    ∙ ap (λ (n : ℕ). record { position = b.position; depth = n; state = a.state; entered = a.entered }) (eqb-true _ _ two.0)
+    ∙ ap (λ (s : State). record { position = b.position; depth = b.depth; state = s; entered = a.entered }) (same_state-true a.state b.state three.0)
+    ∙ ap (λ (s : List State). record { position = b.position; depth = b.depth; state = b.state; entered = record { states = s } })
+    (states-true a.entered.states b.entered.states three.1)
+
+same_key-self : (a : PlaceKey) → same_key a a ≡ true
+same_key-self a =
+    and_from (eqb a.position a.position) _ (eq-eqb a.position a.position refl)
+    (and_from (eqb a.depth a.depth) _ (eq-eqb a.depth a.depth refl)
+    (and_from (same_state a.state a.state) (pointwise same_state a.entered.states a.entered.states) (same_state-self a.state) (states-self a.entered.states)))
+
+-- KEYS IN A LIST
+
+apart : (k other : PlaceKey) → same_key k other ≡ false → k ≢ other
+apart k other h e = false≢true (sym h ∙ ap (same_key k) (sym e) ∙ same_key-self k)
+
+or-first : (a b : Bool) → (a || b) ≡ false → a ≡ false
+or-first true b e = absurd (false≢true (sym e))
+or-first false b e = refl
+
+or-second : (a b : Bool) → (a || b) ≡ false → b ≡ false
+or-second true b e = absurd (false≢true (sym e))
+or-second false b e = e
+
+differs-none : (k : PlaceKey) (ks : List PlaceKey) → list_any (same_key k) ks ≡ false → DiffersFrom k ks
+unfolding DiffersFrom
+differs-none k [] h = tt
+differs-none k (other ∷ ks) h =
+    (apart k other (or-first (same_key k other) (list_any (same_key k) ks) h), differs-none k ks (or-second (same_key k other) (list_any (same_key k) ks) h))
+
+differs-all : (k : PlaceKey) (ks : List PlaceKey) → AllByRecursion (λ other. same_key k other ≡ false) ks → DiffersFrom k ks
+unfolding DiffersFrom
+differs-all k [] h = tt
+differs-all k (other ∷ ks) h = (apart k other h.0, differs-all k ks h.1)
+
+pub distinct-different : (ks : List PlaceKey) → IsDistinct same_key ks → AreDifferent ks
+unfolding IsDistinct AreDifferent
+distinct-different [] h = tt
+distinct-different (k ∷ ks) h = (differs-all k ks h.0, distinct-different ks h.1)
+
+-- a key that differs from all is not found
+pub differs-any : (k : PlaceKey) (ks : List PlaceKey) → DiffersFrom k ks → list_any (same_key k) ks ≡ false
+unfolding DiffersFrom
+differs-any k [] h = refl
+differs-any k (other ∷ ks) h =
+    elim (same_key k other) as (λ (t : Bool). same_key k other ≡ t → (t || list_any (same_key k) ks) ≡ false) [
+      | true ↦ λ e. absurd (h.0 (same_key-true k other e))
+      | false ↦ λ e. differs-any k ks h.1
+    ] refl
+
+-- what a search gives
+pub none-differs : (r : Option ℕ) (k : PlaceKey) (ks : List PlaceKey) → is_some r ≡ list_any (same_key k) ks → IfNone r (DiffersFrom k ks)
+none-differs None k ks h = differs-none k ks (sym h)
+none-differs (Some i) k ks h = tt
+
+at-next : (other : PlaceKey) (ks : List PlaceKey) (n : ℕ) → slice_get (other ∷ ks) (1 + n) ≡ slice_get ks n
+at-next other ks n = ap (slice_get (other ∷ ks)) (one_more n)
+  where
+    one_more : (n : ℕ) → 1 + n ≡ suc n
+    one_more n = omega arith
+
+first-at : (k : PlaceKey) (ks : List PlaceKey) → position_or_len (same_key k) ks < length ks → slice_get ks (position_or_len (same_key k) ks) ≡ Some k
+first-at k [] l = absurd (omega arith)
+first-at k (other ∷ ks) l =
+    elim (same_key k other) as (λ (t : Bool). same_key k other ≡ t → cond (not t) (1 + position_or_len (same_key k) ks) 0 < length (other ∷ ks)
+    → slice_get (other ∷ ks) (cond (not t) (1 + position_or_len (same_key k) ks) 0) ≡ Some k) [
+      | true ↦ λ e m. ap (λ (x : PlaceKey). Some x) (sym (same_key-true k other e))
+      | false ↦ λ e m. at-next other ks (position_or_len (same_key k) ks) ∙ first-at k ks (omega (arith, m))
+    ] refl l
+
+pub found-at : (r : Option ℕ) (k : PlaceKey) (ks : List PlaceKey) → r ≡ position (same_key k) ks → IfSome r (λ i. slice_get ks i ≡ Some k)
+found-at None k ks h = tt
+found-at (Some i) k ks h =
+    elim (cases_lt (position_or_len (same_key k) ks) (length ks)) [
+      | inl l ↦
+          let is : Some i ≡ Some (position_or_len (same_key k) ks) =
+          h ∙ cond-true (nat_lt (position_or_len (same_key k) ks) (length ks)) _ _ (lt-ltb _ _ l) in
+          let same : i ≡ position_or_len (same_key k) ks = cc in
+          ap (slice_get ks) same ∙ first-at k ks l
+      | inr l ↦
+          let is : Some i ≡ None = h ∙ cond-false (nat_lt (position_or_len (same_key k) ks) (length ks)) _ _ (le-ltb _ _ l) in
+          absurd (let bad : ⊥ = cc in bad)
+    ]

@@ -1,9 +1,0 @@
-use Rattle.std.proofs.Common.{◌∷◌, [], subst, sym}
-use Rattle.pam_dispatch.specs.declared.entry.Entry.{Entry}
-use Rattle.pam_dispatch.specs.Tail.{KeepFailure}
-use Rattle.pam_dispatch.proofs.tail.is_kept.Goals as goal
-
-pub returns-then-level-eq0 : goal.returns-then-level-eq0
-unfolding KeepFailure
-returns-then-level-eq0 c kept =
-    subst (λ (e : Entry). KeepFailure (e ∷ [])) (sym c.in-Module.is) (c.if-level-eq0.true, c.all_keep_failure.ensures kept, tt)

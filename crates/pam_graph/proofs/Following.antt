@@ -1,0 +1,108 @@
+-- The steps of a walk that is followed.
+use Rattle.std.proofs.Common.{◌≡◌, ℕ, ◌+◌, ◌-◌, ◌<◌, ◌≤◌, Bool, true, false, List, [], ◌∷◌, ◌++◌, map, refl}
+use Rattle.std.proofs.Common.{sym, ◌∙◌, ap, subst, arith, append-nil, length, take, IfNone, IfSome, None, Some, Option, slice_index_or, zero, suc}
+use Rattle.std.proofs.lemmas.Bool.{false≢true}
+use Rattle.std.proofs.lemmas.List.{length-map, length-take, take-map, take-take, take_all}
+use Rattle.pam_conf.specs.declared.stack.TheConstants.{MAX_MODULES}
+use Rattle.pam_graph.specs.declared.direction.Direction.{Direction}
+use Rattle.pam_graph.specs.declared.frames.Frame.{Frame}
+use Rattle.pam_graph.specs.declared.frames.Way.{Way}
+use Rattle.pam_graph.specs.declared.goal.Goal.{Goal}
+use Rattle.pam_graph.specs.declared.node.Node.{Node}
+use Rattle.pam_graph.specs.declared.node.Target.{Target}
+use Rattle.pam_graph.specs.Frames.{AreFirstSteps, AreFrames, IsExploring, ahead, along, coming, step_in, under, walk_to}
+use Rattle.pam_graph.specs.Order.{AreNodes, numbers_of}
+use Rattle.pam_paths.specs.Paths.{PathValue, StepValue}
+
+-- no frames
+pub no-steps : (frames : List Frame) (steps : List StepValue) → frames ≡ [] → AreFirstSteps frames steps
+no-steps frames steps none =
+    subst (λ (x : List Frame). AreFirstSteps x steps) (sym none) (sym (nothing (length steps)))
+  where
+    nothing : (n : ℕ) → take n (map step_in []) ≡ []
+    nothing n = take_all n [] (omega arith)
+
+-- the steps of all frames
+pub all-steps : (frames : List Frame) (steps : List StepValue) → steps ≡ map step_in frames → AreFirstSteps frames steps
+all-steps frames steps is =
+    subst (λ (x : List StepValue). take (length frames) x ≡ take (length x) (map step_in frames)) (sym is)
+    (ap (λ (n : ℕ). take n (map step_in frames)) (sym (length-map frames step_in)))
+
+-- the steps that a walk shares with the one before it: those of the frames that were neither changed nor added
+pub shared_steps : (steps : List StepValue) (before mid after : List Frame) (shared : ℕ) → AreFirstSteps before steps
+    → take (length mid - 1) mid ≡ take (length mid - 1) before → take (length mid) after ≡ mid → shared ≤ length steps → shared ≤ length mid - 1
+    → take shared steps ≡ take shared (map step_in after)
+shared_steps steps before mid after shared first changed added few within =
+    let kept : length mid - 1 ≤ length before =
+    omega (arith, ap length changed, length-take (length mid - 1) mid, length-take (length mid - 1) before) in
+    let whole = take-take shared (length steps) (map step_in before) few in
+    let own = sym (take-take shared (length before) steps (omega (arith, kept, within))) in
+    let same : take shared before ≡ take shared mid =
+    sym (take-take shared (length mid - 1) before within) ∙ ap (take shared) (sym changed) ∙ take-take shared (length mid - 1) mid within in
+    let longer : take shared mid ≡ take shared after =
+    ap (take shared) (sym added) ∙ take-take shared (length mid) after (omega (arith, within)) in
+    own ∙ ap (take shared) first ∙ whole ∙ take-map step_in shared before ∙ ap (map step_in) (same ∙ longer) ∙ sym (take-map step_in shared after)
+
+module _ (d : Direction) (goal : Goal) (nodes : List Node) (start : Target) where
+  -- at the start all are left from where a run begins
+  pub coming-all : (at_start : Bool) (fs : List Frame) (way : Way) → at_start ≡ true → IsExploring nodes at_start fs →
+      way ≡ record { target = start; is_met = false } →
+      coming d goal nodes start at_start fs ≡ under fs (along d goal nodes way) ++ ahead d goal nodes fs
+  unfolding coming under ahead
+  coming-all false fs way e whole is = absurd (false≢true e)
+  coming-all true fs way e whole is =
+      let none : fs ≡ [] = whole.start refl in
+      ap (along d goal nodes) (sym is) ∙ sym (append-nil (along d goal nodes way))
+      ∙ ap (λ (x : List Frame). under x (along d goal nodes way) ++ ahead d goal nodes x) (sym none)
+
+  pub coming-start : (at_start : Bool) (fs : List Frame) → at_start ≡ true →
+      coming d goal nodes start at_start fs ≡ along d goal nodes (record { target = start; is_met = false })
+  unfolding coming
+  coming-start false fs e = absurd (false≢true e)
+  coming-start true fs e = refl
+
+  pub coming-ahead : (at_start : Bool) (fs : List Frame) → at_start ≡ false → coming d goal nodes start at_start fs ≡ ahead d goal nodes fs
+  unfolding coming
+  coming-ahead false fs e = refl
+  coming-ahead true fs e = absurd (false≢true (sym e))
+
+-- WHAT IS FOUND
+
+pub told-none : (r : Option Way) (one other : List PathValue) → other ≡ one → IfNone r (one ≡ []) → IfNone r (other ≡ [])
+told-none None one other is h = is ∙ h
+told-none (Some way) one other is h = tt
+
+pub told-walks : (r : Option Way) (one other : List PathValue) (there : Way → List PathValue) → other ≡ one → IfSome r (λ way. one ≡ there way) →
+    IfSome r (λ way. other ≡ there way)
+told-walks None one other there is h = tt
+told-walks (Some way) one other there is h = is ∙ h
+
+pub told-start : (d : Direction) (goal : Goal) (nodes : List Node) (start : Target) (at_start : Bool) (fs : List Frame) (r : Option Way) → at_start ≡ true →
+    IsExploring nodes at_start fs → IfSome r (λ way. way ≡ record { target = start; is_met = false }) →
+    IfSome r (λ way. coming d goal nodes start at_start fs ≡ under fs (along d goal nodes way) ++ ahead d goal nodes fs)
+told-start d goal nodes start at_start fs None e h is = tt
+told-start d goal nodes start at_start fs (Some way) e h is = coming-all d goal nodes start at_start fs way e h is
+
+-- MODULES' NUMBERS
+
+numbers-most : (before : List ℕ) (nodes : List Node) (i : ℕ) → AreNodes before nodes → i < length nodes → slice_index_or (numbers_of nodes) i 0 ≤ MAX_MODULES
+unfolding AreNodes
+numbers-most before [] i h l = absurd (omega arith)
+numbers-most before (node ∷ nodes) zero h l = h.0.last
+numbers-most before (node ∷ nodes) (suc i) h l = numbers-most (before ++ node.module_number ∷ []) nodes i h.1 (omega (arith, l))
+
+pub frames-most : (nodes : List Node) (low : ℕ) (fs : List Frame) (k : ℕ) (d : Frame) → AreNodes [] nodes → AreFrames nodes low fs → k < length fs →
+    (slice_index_or fs k d).module_number ≤ MAX_MODULES
+unfolding AreFrames
+frames-most nodes low [] k d order h l = absurd (omega arith)
+frames-most nodes low (f ∷ fs) zero d order h l =
+    let most = numbers-most [] nodes f.node order h.0.node in omega (arith, most, h.0.number)
+frames-most nodes low (f ∷ fs) (suc k) d order h l = frames-most nodes (low + 1) fs k d order h.1 (omega (arith, l))
+
+-- the walk that is followed, by its steps and its decision
+pub walk-told : (walk : PathValue) (fs : List Frame) (decision : ℕ) → walk.steps ≡ map step_in fs → walk.decision ≡ decision → walk_to fs decision ≡ walk
+walk-told walk fs decision steps end =
+    ap (λ (x : List StepValue). path x decision) (sym steps) ∙ ap (path walk.steps) (sym end)
+  where
+    path : List StepValue → ℕ → PathValue
+    path s d = record { steps = s; decision = d }

@@ -1,0 +1,206 @@
+use Rattle.std.proofs.Common.{◌≡◌, ◌<◌, ◌≤◌, ◌+◌, ◌++◌, ◌∷◌, ◌∙◌, [], ℕ, List, Some, ap, append-nil, arith, length, refl, rules, subst, sym, true}
+use Rattle.std.specs.List.{flat_map}
+use Rattle.std.specs.Prelude.{IsSome}
+use Rattle.pam_dispatch.specs.declared.place.Place.{Place}
+use Rattle.pam_dispatch.specs.Flat.{modules_of, rest_of}
+use Rattle.pam_dispatch.specs.Keys.{key_of, rest_at}
+use Rattle.pam_dispatch.specs.Runs.{AsksRise, after_answer, asked_module}
+use Rattle.pam_graph.specs.declared.node.Edge.{Edge}
+use Rattle.pam_graph.specs.declared.node.Node.{Node}
+use Rattle.pam_graph.specs.Building.{modules_left}
+use Rattle.pam_graph.specs.Order.{AreAbove, IsAbove, IsNode, LeastRise, numbers_of}
+use Rattle.pam_graph.specs.Walks.{walks_by, walks_of}
+use Rattle.pam_graph.proofs.Growing.{AreAbove-push, LeastRise-more, LeastRise-push, above-extended}
+use Rattle.pam_graph.proofs.Growing.{added-above, added-built, added-extended, added-walks, built-found}
+use Rattle.pam_graph.proofs.Growing.{built-length, extended-trans, found-above, left-at, left-fewer, listing-end, number-is, walks-all, walks-choice}
+use Rattle.pam_graph.proofs.Reaching.{added-apart, added-keys, added-reason, added-rests, before-later, before-trans, get-at, key-apart, reached-on}
+use Rattle.pam_paths.specs.Forks.{paths_from}
+use Rattle.pam_paths.proofs.FrameLists.{AsksRise-lower, rise_after}
+use Rattle.pam_graph.proofs.building.+target_of.Goals as goal
+
+pub returns-in_default-clause-walks : goal.returns-in_default-clause-walks
+returns-in_default-clause-walks g t c =
+    let program = c.args.program.now in
+    listing-end _ (rest_of program c.args.place.now) c.code.result
+    (sym (c.module.ensures program c.requires.place) ∙ c.in_default.is) (c.code.ensures ∙ c.decision.ensures)
+
+pub returns-in-Some-find-clause-above : goal.returns-in-Some-find-clause-above
+returns-in-Some-find-clause-above g t c low rise =
+    let program = c.args.program.now in
+    let at = c.args.place.now in
+    let asked = sym (c.module.ensures program c.requires.place) ∙ c.in-Some.is in
+    let k = get-at c.args.draft.now.places c.in-Some-find.index (key_of at) c.in-Some-find.ensures.found in
+    found-above _ program c.args.draft.now.nodes.items c.args.draft.now.places c.in-Some-find.index low (modules_of program) c.in-Some.module_number
+    (key_of at) (rest_of program at) c.requires.built k.0 (ap (rest_at program) k.1 ∙ c.in-Some-find.ensures.rest program) asked rise
+
+pub returns-in-Some-find-clause-walks : goal.returns-in-Some-find-clause-walks
+returns-in-Some-find-clause-walks g t c =
+    let program = c.args.program.now in
+    let at = c.args.place.now in
+    let k = get-at c.args.draft.now.places c.in-Some-find.index (key_of at) c.in-Some-find.ensures.found in
+    built-found _ program c.args.draft.now.nodes.items c.args.draft.now.places c.in-Some-find.index (key_of at) (rest_of program at) c.requires.built
+    k.0 (ap (rest_at program) k.1 ∙ c.in-Some-find.ensures.rest program)
+
+pub loop-choice-init : goal.loop-choice-init
+unfolding AreAbove LeastRise
+loop-choice-init g t c =
+    let allows = g.K.Knowledge.allows c.args.knowledge.now in
+    let nodes = c.args.draft.now.nodes.items in
+    record {
+      bound = omega arith;
+      built = c.requires.built;
+      extended = ([], sym (append-nil _));
+      later = subst (AreAbove (numbers_of nodes) c.in-Some.module_number) (sym c.new-edges.ensures.items) tt;
+      rise = subst (LeastRise 0 0) (sym c.new-edges.ensures.items) (omega arith);
+      keys = c.requires.keys;
+      new = c.in_default-find.ensures.none;
+      apart = λ key h before. h;
+      walks = ap (λ (x : List Edge). flat_map (walks_by (walks_of nodes) c.in-Some.module_number) x
+          ++ paths_from allows c.args.program.now c.at-fork.result 0) c.new-edges.ensures.items ∙ c.at-fork.ensures.paths;
+    }
+
+pub target_of-requires : goal.target_of-requires
+target_of-requires g t c κs within =
+    let allows = g.K.Knowledge.allows c.args.knowledge.now in
+    let program = c.args.program.now in
+    let n = modules_of program in
+    let m = c.in-Some.module_number in
+    let after = rest_of program c.in-Some-choice.choice.place in
+    let is = c.in-Some-choice.ensures.choice allows c.at-fork.ensures.fork in
+    let asked : asked_module (rest_of program c.args.place.now) ≡ Some m = sym (c.in-Some.ensures program c.requires.place) in
+    let k = rise_after 0 n m 0 _ c.requires.rise asked in
+    let later : AsksRise m n after = subst (λ (x : ℕ). AsksRise x n after) c.at-fork.ensures.number is.rise in
+    let rise : AsksRise 0 n after = AsksRise-lower 0 m n after (omega arith) later in
+    let few = left-fewer m n after later k.1 in
+    let here = left-at m n (rest_of program c.args.place.now) asked in
+    let smaller : modules_left n after < modules_left n (rest_of program c.args.place.now) = omega (arith, few, here) in
+    let built = c.loop-choice.invariant.built in
+    let place = is.place in
+    let reached = reached-on allows program m is.code c.args.place.now c.in-Some-choice.choice.place c.requires.reached asked is.is_code
+    (subst (λ (x : ℕ). allows x is.code ≡ true) c.at-fork.ensures.number is.allowed)
+    (is.rest ∙ ap (λ (p : Place). after_answer (rest_of program p) is.code) c.at-fork.ensures.place) in
+    let keys = c.loop-choice.invariant.keys in
+    let d = c.decreases in
+    search rules
+
+pub loop-choice-preserved : goal.loop-choice-preserved
+loop-choice-preserved g t c =
+    let allows = g.K.Knowledge.allows c.args.knowledge.now in
+    let program = c.args.program.now in
+    let n = modules_of program in
+    let m = c.in-Some.module_number in
+    let old = c.loop-choice.draft.nodes.items in
+    let new = c.target_of.new.draft.nodes.items in
+    let edges = c.loop-choice.edges.items in
+    let choice = c.in-Some-choice.choice in
+    let i = c.loop-choice.invariant in
+    let e = c.in_ok-target.ensures in
+    let pushed = c.in_ok-push.ensures.items in
+    let low = c.in-Some-choice.ensures.least in
+    let edge : Edge = record { class = choice.class; target = c.in_ok-target.target } in
+    let asked : asked_module (rest_of program c.args.place.now) ≡ Some m = sym (c.in-Some.ensures program c.requires.place) in
+    let is = c.in-Some-choice.ensures.choice allows c.at-fork.ensures.fork in
+    let later : AsksRise m n (rest_of program choice.place) = subst (λ (x : ℕ). AsksRise x n (rest_of program choice.place)) c.at-fork.ensures.number is.rise in
+    record {
+      bound = low.2;
+      built = e.built;
+      extended = extended-trans c.args.draft.now.nodes.items old new i.extended e.extended;
+      later = subst (AreAbove (numbers_of new) m) (sym pushed)
+          (AreAbove-push (numbers_of new) m edges edge (above-extended old new m edges e.extended i.later) (e.above m later));
+      rise = subst (LeastRise 0 choice.next) (sym pushed)
+          (subst (λ (h : ℕ). LeastRise 0 h (edges ++ edge ∷ [])) (sym low.1) (LeastRise-push 0 c.loop-choice.bound edges edge i.rise low.0));
+      keys = e.keys;
+      new = e.apart (key_of c.args.place.now) i.new
+          (before-later m n _ _ (ap asked_module (c.in_default-find.ensures.rest program) ∙ asked) later);
+      apart = λ key h before. e.apart key (i.apart key h before) (before-trans m n _ _ _ before asked later);
+      walks = ap (λ (x : List Edge). flat_map (walks_by (walks_of new) m) x ++ paths_from allows program c.at-fork.result choice.next) pushed
+          ∙ walks-choice allows program c.at-fork.result c.loop-choice.bound m old new edges choice c.in_ok-target.target _
+          e.extended i.later c.at-fork.ensures.number (c.in-Some-choice.ensures.paths allows c.at-fork.ensures.fork) e.walks i.walks;
+    }
+
+pub returns-clause-built : goal.returns-clause-built
+returns-clause-built g t c =
+    let allows = g.K.Knowledge.allows c.args.knowledge.now in
+    let program = c.args.program.now in
+    let nodes = c.loop-choice.draft.nodes.items in
+    let node : Node = record { module_number = c.in-Some.module_number; edges = c.loop-choice.edges } in
+    let i = c.loop-choice.invariant in
+    let none = c.in_default-choice.ensures.none allows c.at-fork.ensures.fork in
+    let asked = sym (c.in-Some.ensures program c.requires.place) in
+    let k = rise_after 0 (modules_of program) c.in-Some.module_number 0 _ c.requires.rise asked in
+    let valid : IsNode (numbers_of nodes) node = record {
+      first = omega (arith, k.0);
+      last = omega (arith, k.1, c.requires.few);
+      later = i.later;
+      rise = LeastRise-more 0 c.loop-choice.bound 31 c.loop-choice.edges.items i.rise i.bound;
+    } in
+    added-built allows program nodes c.add.new.draft.nodes.items c.loop-choice.draft.places c.add.new.draft.places node (rest_of program c.args.place.now)
+    c.add.result i.built valid (number-is c.in-Some.module_number (rest_of program c.args.place.now) asked)
+    (walks-all allows program c.at-fork.result c.loop-choice.bound node nodes _ none i.walks) c.add.ensures.node
+    (added-rests program c.loop-choice.draft.places c.add.new.draft.places (key_of c.args.place.now) (rest_of program c.args.place.now) c.add.result
+    (c.in_default-find.ensures.rest program) c.add.ensures.place)
+
+pub returns-clause-extended : goal.returns-clause-extended
+returns-clause-extended g t c =
+    added-extended c.loop-choice.draft.nodes.items c.add.new.draft.nodes.items c.args.draft.now.nodes.items _ c.add.result
+    c.loop-choice.invariant.extended c.add.ensures.node
+
+pub returns-clause-above : goal.returns-clause-above
+returns-clause-above g t c low rise =
+    let program = c.args.program.now in
+    let node : Node = record { module_number = c.in-Some.module_number; edges = c.loop-choice.edges } in
+    let asked = sym (c.in-Some.ensures program c.requires.place) in
+    let k = rise_after low (modules_of program) c.in-Some.module_number 0 _ rise asked in
+    added-above c.loop-choice.draft.nodes.items c.add.new.draft.nodes.items node low c.add.result k.0 c.add.ensures.node c.add.ensures.target
+
+pub returns-clause-walks : goal.returns-clause-walks
+returns-clause-walks g t c =
+    let allows = g.K.Knowledge.allows c.args.knowledge.now in
+    let program = c.args.program.now in
+    let nodes = c.loop-choice.draft.nodes.items in
+    let node : Node = record { module_number = c.in-Some.module_number; edges = c.loop-choice.edges } in
+    let i = c.loop-choice.invariant in
+    let none = c.in_default-choice.ensures.none allows c.at-fork.ensures.fork in
+    added-walks allows program nodes c.add.new.draft.nodes.items node (rest_of program c.args.place.now) c.add.result
+    (walks-all allows program c.at-fork.result c.loop-choice.bound node nodes _ none i.walks) c.add.ensures.node c.add.ensures.target
+
+pub add-requires-clause-same : goal.add-requires-clause-same
+add-requires-clause-same g t c =
+    built-length _ c.args.program.now c.loop-choice.draft.nodes.items c.loop-choice.draft.places c.loop-choice.invariant.built
+
+pub returns-clause-keys : goal.returns-clause-keys
+returns-clause-keys g t c =
+    let program = c.args.program.now in
+    let asked = sym (c.in-Some.ensures program c.requires.place) in
+    added-keys c.args.limit (g.K.Knowledge.allows c.args.knowledge.now) program c.loop-choice.draft.places c.add.new.draft.places (key_of c.args.place.now)
+    c.add.result c.loop-choice.invariant.keys
+    (record {
+      place = c.args.place.now;
+      is_place = c.requires.place;
+      asks = subst IsSome (sym asked) refl;
+      reached = c.requires.reached;
+      is_key = refl;
+    })
+    c.add.ensures.place
+
+pub returns-clause-apart : goal.returns-clause-apart
+returns-clause-apart g t c key h before =
+    let program = c.args.program.now in
+    added-apart c.args.limit (g.K.Knowledge.allows c.args.knowledge.now) program c.loop-choice.draft.places c.add.new.draft.places key
+    (key_of c.args.place.now) c.add.result (c.loop-choice.invariant.apart key h before)
+    (key-apart program key c.args.place.now (c.in_default-find.ensures.rest program) before) c.add.ensures.place
+
+pub returns-clause-reason : goal.returns-clause-reason
+returns-clause-reason g t c =
+    let program = c.args.program.now in
+    let asked = sym (c.in-Some.ensures program c.requires.place) in
+    added-reason c.args.limit (g.K.Knowledge.allows c.args.knowledge.now) program c.loop-choice.draft.places (key_of c.args.place.now)
+    c.add.result c.loop-choice.invariant.keys
+    (record {
+      place = c.args.place.now;
+      is_place = c.requires.place;
+      asks = subst IsSome (sym asked) refl;
+      reached = c.requires.reached;
+      is_key = refl;
+    })
+    c.add.ensures.many

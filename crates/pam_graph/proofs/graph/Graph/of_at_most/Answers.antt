@@ -1,0 +1,36 @@
+use Rattle.std.proofs.Common.{◌∙◌, [], ap, arith, subst, sym}
+use Rattle.pam_dispatch.specs.Flat.{modules_of, runs_of}
+use Rattle.pam_graph.specs.Reached.{AreAllowed, AreReachedKeys, after_answers}
+use Rattle.pam_graph.proofs.Growing.{built-empty}
+use Rattle.pam_paths.specs.Computed.{listing}
+use Rattle.pam_paths.specs.Listing.{IsListing}
+use Rattle.pam_paths.specs.Paths.{path_of}
+use Rattle.pam_paths.proofs.Listings.{listing-is, some_assignment}
+use Rattle.pam_paths.proofs.Trees.{listing-tree}
+use Rattle.pam_graph.proofs.graph.Graph.of_at_most.Goals as goal
+
+pub target_of-requires-clause-built : goal.target_of-requires-clause-built
+target_of-requires-clause-built g c = built-empty _ c.args.program.now _ _ c.new.ensures.items c.new-2.ensures
+
+pub returns-clause-listing : goal.returns-clause-listing
+returns-clause-listing g c =
+    let allows = g.K.Knowledge.allows c.args.knowledge.now in
+    let program = c.args.program.now in
+    let n = modules_of program in
+    let some = some_assignment allows n
+    (λ m first last. g.met.K.Knowledge.lawful c.args.knowledge.now m first (omega (arith, last, c.first-first.ensures.few))) in
+    subst (IsListing allows n (path_of (runs_of program)))
+    (sym (c.in_ok-start.ensures.walks ∙ ap (listing allows) c.first-first.ensures.whole))
+    (listing-is allows n (runs_of program) c.first-first.ensures.rise some.0 some.1)
+
+pub returns-clause-stack : goal.returns-clause-stack
+returns-clause-stack g c items is = listing-tree _ _ _ items is _ (returns-clause-listing g c)
+
+pub target_of-requires-clause-reached : goal.target_of-requires-clause-reached
+unfolding AreAllowed after_answers
+target_of-requires-clause-reached g c = ([], tt, c.first-first.ensures.whole)
+
+pub target_of-requires-clause-keys : goal.target_of-requires-clause-keys
+unfolding AreReachedKeys
+target_of-requires-clause-keys g c =
+    subst (AreReachedKeys (g.K.Knowledge.allows c.args.knowledge.now) c.args.program.now) (sym c.new-2.ensures) tt

@@ -1,0 +1,37 @@
+use Rattle.std.proofs.Common.{◌+◌, ◌∙◌, ◌∷◌, Option, ℕ, ap, drop, length, subst, sym}
+use Rattle.std.proofs.lemmas.List.{drop_all, drop_more}
+use Rattle.pam_graph.specs.declared.node.Edge.{Edge}
+use Rattle.pam_graph.specs.Tallies.{plus, sum_from}
+use Rattle.pam_graph.specs.Within.{AreWithin}
+use Rattle.pam_graph.proofs.tally.count_by.Goals as goal
+
+pub count_to-requires : goal.count_to-requires
+unfolding AreWithin
+count_to-requires c =
+    let edges = c.args.edges.now in
+    let i = c.loop-edge.edge-index in
+    let left = drop_more edges i c.edge-item.result c.loop-edge-test.true ∙ ap (λ (x : Edge). x ∷ drop (i + 1) edges) (sym c.edge-item.is) in
+    (subst (AreWithin (length c.args.tallies.now)) left c.loop-edge.invariant.within).0
+
+pub loop-edge-preserved : goal.loop-edge-preserved
+unfolding AreWithin sum_from
+loop-edge-preserved c =
+    let edges = c.args.edges.now in
+    let goal = c.args.goal.now in
+    let is_met = c.args.is_met in
+    let tallies = c.args.tallies.now in
+    let i = c.loop-edge.edge-index in
+    let count = c.loop-edge.count in
+    let left = drop_more edges i c.edge-item.result c.loop-edge-test.true ∙ ap (λ (x : Edge). x ∷ drop (i + 1) edges) (sym c.edge-item.is) in
+    record {
+      sum = ap (λ (x : Option ℕ). sum_from goal is_met tallies x (drop (i + 1) edges)) (c.plus-count.ensures ∙ ap (plus count) c.count_to.ensures)
+          ∙ sym (ap (sum_from goal is_met tallies count) left) ∙ c.loop-edge.invariant.sum;
+      within = (subst (AreWithin (length tallies)) left c.loop-edge.invariant.within).1;
+    }
+
+pub returns : goal.returns
+unfolding sum_from
+returns c =
+    sym (ap (sum_from c.args.goal.now c.args.is_met c.args.tallies.now c.loop-edge.count)
+    (drop_all c.loop-edge.edge-index c.args.edges.now c.loop-edge-test.false))
+    ∙ c.loop-edge.invariant.sum

@@ -1,0 +1,10 @@
+use Rattle.std.proofs.Common.{◌≡◌, Some, drop, length}
+use Rattle.pam_graph.specs.Tallies.{sum_from}
+use Rattle.pam_graph.specs.Within.{AreWithin}
+use Rattle.pam_graph.proofs.tally.count_by.Given as goal
+
+abbrev pub invariant-loop-edge : goal.invariant-loop-edge
+invariant-loop-edge l = record {
+  sum : sum_from l.goal l.is_met l.tallies l.count (drop l.edge-index l.edges) ≡ sum_from l.goal l.is_met l.tallies (Some 0) l.edges;
+  within : AreWithin (length l.tallies) (drop l.edge-index l.edges);
+}

@@ -1,0 +1,100 @@
+-- For private contracts and proofs alone: the part of the walks that is left, by the frames of the walk that was followed last.
+use Rattle.std.specs.Prelude.{◌≡◌, ℕ, ◌<◌, ◌+◌, Bool, true, false, if◌then◌else◌, List, [], ◌∷◌, ◌++◌, drop, length, map, reverse, slice_index_or, take}
+use Rattle.std.specs.List.{flat_map}
+use Rattle.pam_graph.specs.declared.direction.Direction.{Direction}
+use Rattle.pam_graph.specs.declared.direction.Direction.TheVariants.{Forward, Backward}
+use Rattle.pam_graph.specs.declared.frames.Frame.{Frame}
+use Rattle.pam_graph.specs.declared.frames.Search.{Search}
+use Rattle.pam_graph.specs.declared.frames.Way.{Way}
+use Rattle.pam_graph.specs.declared.goal.Goal.{Goal}
+use Rattle.pam_graph.specs.declared.node.Edge.{Edge}
+use Rattle.pam_graph.specs.declared.node.Node.{Node}
+use Rattle.pam_graph.specs.declared.node.Target.{Target}
+use Rattle.pam_graph.specs.Order.{AreNodes, IsAbove, IsStart, numbers_of}
+use Rattle.pam_graph.specs.Tallies.{tallies_of, wanted_of}
+use Rattle.pam_graph.specs.Walks.{walks_by, walks_of, walks_to}
+use Rattle.pam_paths.specs.Computed.{after_step}
+use Rattle.pam_paths.specs.Paths.{PathValue, StepValue}
+
+-- in the order of a direction: some edges, and some walks
+abbrev pub edges_in : Direction → List Edge → List Edge
+edges_in Forward edges = edges
+edges_in Backward edges = reverse edges
+
+abbrev pub ordered : Direction → List PathValue → List PathValue
+ordered Forward walks = walks
+ordered Backward walks = reverse walks
+
+-- the walks from each node on, in the order of a direction
+abbrev pub known_in : Direction → List Node → List (List PathValue)
+known_in direction nodes = map (ordered direction) (walks_of nodes)
+
+-- the edges of a node
+abbrev pub edges_of : Node → List Edge
+edges_of node = node.edges.items
+
+abbrev pub edges_at : List Node → ℕ → List Edge
+edges_at nodes index = slice_index_or (map edges_of nodes) index []
+
+-- the step of a frame
+abbrev pub step_in : Frame → StepValue
+step_in frame = record { module_number = frame.module_number; class = frame.class }
+
+-- the wanted walks from a target on
+abbrev pub along : Direction → Goal → List Node → Way → List PathValue
+along direction goal nodes way = wanted_of goal way.is_met (walks_to (known_in direction nodes) way.target)
+
+-- the wanted walks that begin with these edges of a node whose module has this number
+abbrev pub wanted_by : Goal → Bool → List (List PathValue) → ℕ → List Edge → List PathValue
+wanted_by goal is_met known number edges = wanted_of goal is_met (flat_map (walks_by known number) edges)
+
+-- those that begin with the edges of a frame that are left
+abbrev pub left_at : Direction → Goal → List Node → Frame → List PathValue
+left_at direction goal nodes frame =
+    wanted_by goal frame.is_met (known_in direction nodes) frame.module_number
+    (drop frame.next (edges_in direction (edges_at nodes frame.node)))
+
+-- the walks, each with the steps of the frames before it
+unfoldable pub under : List Frame → List PathValue → List PathValue
+under [] walks = walks
+under (frame ∷ frames) walks = map (after_step (step_in frame)) (under frames walks)
+
+-- the wanted walks after all that begin with the steps of the frames
+unfoldable pub ahead : Direction → Goal → List Node → List Frame → List PathValue
+ahead direction goal nodes [] = []
+ahead direction goal nodes (frame ∷ frames) =
+    map (after_step (step_in frame)) (ahead direction goal nodes frames) ++ left_at direction goal nodes frame
+
+-- the walk along frames, to a decision
+abbrev pub walk_to : List Frame → ℕ → PathValue
+walk_to frames decision = record { steps = map step_in frames; decision = decision }
+
+-- steps are those of the frames, as far as there are both
+abbrev pub AreFirstSteps : List Frame → List StepValue → Type 0
+AreFirstSteps frames steps = take (length frames) steps ≡ take (length steps) (map step_in frames)
+
+-- a frame is at a node, whose module has a number above `low`
+pub record IsFrame (nodes : List Node) (low : ℕ) (frame : Frame) : Type 0 where
+  pub node : frame.node < length nodes
+  pub number : frame.module_number ≡ slice_index_or (numbers_of nodes) frame.node 0
+  pub above : low < frame.module_number
+
+-- frames of a walk, after `low` frames
+unfoldable pub AreFrames : List Node → ℕ → List Frame → Type 0
+AreFrames nodes low [] = Unit {0}
+AreFrames nodes low (frame ∷ frames) = IsFrame nodes low frame × AreFrames nodes (low + 1) frames
+
+-- a search through the nodes of a graph, with the numbers of walks that belong to it
+pub record IsSearch (search : Search) : Type 0 where
+  pub order : AreNodes [] search.nodes.now
+  pub tallies : search.tallies.now ≡ tallies_of search.goal.now search.nodes.now
+
+-- the walks that are left: all from where a run begins, or those after all that begin with the steps of the frames
+unfoldable pub coming : Direction → Goal → List Node → Target → Bool → List Frame → List PathValue
+coming direction goal nodes start at_start frames =
+    if at_start then along direction goal nodes (record { target = start; is_met = false }) else ahead direction goal nodes frames
+
+-- frames of a walk; there are none at the start
+pub record IsExploring (nodes : List Node) (at_start : Bool) (frames : List Frame) : Type 0 where
+  pub valid : AreFrames nodes 0 frames
+  pub start : at_start ≡ true → frames ≡ []

@@ -1,0 +1,25 @@
+-- What is wanted of a run, and how many walks have it: pam.conf(5), DESCRIPTION.
+use Rattle.std.specs.Prelude.{ℕ, ◌^◌, ◌==◌, nat_lt, Bool, true, if◌then◌else◌, List, Option, None, Some, filter}
+use Rattle.std.specs.List.{list_any}
+use Rattle.pam_codes.specs.Set.{is_in}
+use Rattle.pam_graph.specs.declared.goal.Goal.{Goal}
+use Rattle.pam_graph.specs.declared.goal.Goal.TheVariants.{Any, Decides, Asks}
+use Rattle.pam_paths.specs.Paths.{PathValue, StepValue}
+
+-- a step asks the module with this number
+abbrev pub asks_module : ℕ → StepValue → Bool
+asks_module number step = step.module_number == number
+
+-- a path meets a goal
+abbrev pub meets : Goal → PathValue → Bool
+meets Any path = true
+meets (Decides codes) path = is_in path.decision codes
+meets (Asks number) path = list_any (asks_module number) path.steps
+
+-- THE PATHS THAT MEET A GOAL, in their order
+abbrev pub meeting : Goal → List PathValue → List PathValue
+meeting goal paths = filter (meets goal) paths
+
+-- a number, if it is below 2^128
+unfoldable pub fit : ℕ → Option ℕ
+fit n = if nat_lt n (2 ^ 128) then Some n else None

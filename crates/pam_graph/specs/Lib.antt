@@ -1,0 +1,10 @@
+pub mod Building
+pub mod Frames
+pub mod Goals
+pub mod Laws
+pub mod Order
+pub mod Reached
+pub mod Tallies
+pub mod Walks
+pub mod WalksLeft
+pub mod Within

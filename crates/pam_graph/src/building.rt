@@ -1,0 +1,154 @@
+//! Builds the graph of the runs of a program.
+
+ghost use Rattle.std.specs.Prelude.{◌≡◌, ◌∷◌, ◌++◌, ◌≤◌, ◌<◌, [], IfErr, IfOk, List, OnOk, ℕ, length};
+ghost use Rattle.pam_conf.specs.Stack.{Items};
+ghost use Rattle.pam_conf.specs.declared.stack.TheConstants.{MAX_MODULES};
+ghost use Rattle.pam_dispatch.specs.declared.key.PlaceKey.{PlaceKey};
+ghost use Rattle.pam_dispatch.specs.Flat.{IsPlaceOf, modules_of, rest_of, runs_of};
+ghost use Rattle.pam_dispatch.specs.Keys.{AreDifferent, DiffersFrom, key_of, rest_at};
+ghost use Rattle.pam_dispatch.specs.Runs.{AsksRise};
+ghost use Rattle.pam_dispatch.specs.Tree.{runs_of_stack};
+ghost use Rattle.pam_graph.specs.declared.node.Target.TheVariants.{At};
+ghost use Rattle.pam_graph.specs.declared.error.GraphError.TheVariants.{TooManyNodes};
+ghost use Rattle.pam_graph.specs.declared.graph.TheConstants.{MAX_NODES};
+ghost use Rattle.pam_graph.specs.Building.{IsBefore, IsBuilt, IsExtended};
+ghost use Rattle.pam_graph.specs.Order.{IsAbove, numbers_of};
+ghost use Rattle.pam_graph.specs.Reached.{AreReachedKeys, IsReached, IsReason};
+ghost use Rattle.pam_graph.specs.Walks.{walks, walks_of, walks_to};
+ghost use Rattle.pam_paths.specs.Computed.{listing};
+ghost use Rattle.pam_paths.specs.Listing.{IsListing};
+ghost use Rattle.pam_paths.specs.Paths.{path_of, path_through};
+
+use crate::error::GraphError;
+use crate::graph::{Graph, MAX_NODES};
+use crate::node::{Edge, Node, Target};
+use pam_dispatch::{Place, PlaceTable, Program};
+use pam_paths::{Fork, Knowledge};
+use std::alloc::Global;
+
+/// A graph while it is built.
+#[derive(Drop)]
+pub(crate) struct Draft {
+    pub(crate) nodes: Vec<Node>,
+    /// The place of each node.
+    pub(crate) places: PlaceTable,
+}
+
+/// Adds a node at `place`, if there are fewer than `limit`.
+#[inline(never)]
+fn add(limit: usize, draft: &mut Draft, place: &Place, node: Node) -> Result<Target, GraphError>
+    requires same { length draft.old.nodes.items ≡ length draft.old.places }
+    requires new { DiffersFrom (key_of place.now) draft.old.places }
+    ensures target { IfOk result (λ target. target ≡ At (length draft.old.nodes.items)) }
+    ensures node { OnOk result (draft.new.nodes.items ≡ draft.old.nodes.items ++ node ∷ []) }
+    ensures place { OnOk result (draft.new.places ≡ draft.old.places ++ key_of place.now ∷ []) }
+    ensures many { IfErr result (λ e. e ≡ TooManyNodes → (keys : List PlaceKey) × (keys ≡ draft.old.places ++ key_of place.now ∷ [])
+        × (limit < length keys) × AreDifferent keys) }
+{
+    draft.places.push(place)?;
+    if draft.places.len() > limit {
+        return Err(GraphError::TooManyNodes);
+    }
+    let index = draft.nodes.len();
+    draft.nodes.push(node)?;
+    Ok(Target::At(index))
+}
+
+/// Where a run that has come to `place` continues: a node, added after all that it leads to if it is not there yet, or an
+/// end.
+// It calls itself once for each module of a path: so its frame is small, and what it calls is not put in line.
+pub(crate) fn target_of<K: Knowledge>(
+    alloc: Global,
+    program: &Program,
+    knowledge: &K,
+    limit: usize,
+    place: &Place,
+    draft: &mut Draft,
+) -> Result<Target, GraphError>
+    requires few { modules_of program.now ≤ MAX_MODULES }
+    requires place { IsPlaceOf program.now place.now }
+    requires rise { AsksRise 0 (modules_of program.now) (rest_of program.now place.now) }
+    requires built { IsBuilt (K.allows knowledge.now) program.now draft.old.nodes.items draft.old.places }
+    requires reached { IsReached (K.allows knowledge.now) program.now place.now }
+    requires keys { AreReachedKeys (K.allows knowledge.now) program.now draft.old.places }
+    ensures keys { OnOk result (AreReachedKeys (K.allows knowledge.now) program.now draft.new.places) }
+
+    // Places of modules that are asked earlier are not added.
+    ensures apart { (key : PlaceKey) → DiffersFrom key draft.old.places → IsBefore (rest_at program.now key) (rest_of program.now place.now)
+        → OnOk result (DiffersFrom key draft.new.places) }
+    ensures reason { IfErr result (IsReason limit (K.allows knowledge.now) program.now) }
+    ensures built { OnOk result (IsBuilt (K.allows knowledge.now) program.now draft.new.nodes.items draft.new.places) }
+    ensures extended { OnOk result (IsExtended draft.old.nodes.items draft.new.nodes.items) }
+    ensures above { (low : ℕ) → AsksRise low (modules_of program.now) (rest_of program.now place.now)
+        → IfOk result (IsAbove (numbers_of draft.new.nodes.items) low) }
+    ensures walks { IfOk result (λ target.
+        walks_to (walks_of draft.new.nodes.items) target ≡ listing (K.allows knowledge.now) (rest_of program.now place.now)) }
+{
+    let Some(module_number) = place.module() else {
+        return Ok(Target::End(program.decision(place).code()));
+    };
+    if let Some(index) = draft.places.find(place) {
+        return Ok(Target::At(index));
+    }
+    let fork = Fork::at(program, knowledge, place, module_number);
+    let mut edges = Vec::new(alloc);
+    let mut bound = 0;
+    while let Some(choice) = fork.choice(program, bound) {
+        let target = target_of(alloc, program, knowledge, limit, &choice.place, draft)?;
+        edges.push(Edge {
+            class: choice.class,
+            target,
+        })?;
+        bound = choice.next;
+    }
+    let node = Node {
+        module_number,
+        edges,
+    };
+    add(limit, draft, place, node)
+}
+
+impl Graph {
+    /// The graph of the runs that a knowledge allows. Returns `TooManyNodes` if the runs come to more places than `MAX_NODES`,
+    /// and `Memory` if allocation fails.
+    pub fn of<K: Knowledge>(
+        alloc: Global,
+        program: &Program,
+        knowledge: &K,
+    ) -> Result<Graph, GraphError>
+        ensures listing { IfOk result (λ graph.
+            IsListing (K.allows knowledge.now) (modules_of program.now) (path_of (runs_of program.now)) (walks graph)) }
+
+        // The same for the tree of the program's stack.
+        ensures stack { (items : Items) → runs_of program.now ≡ runs_of_stack items → IfOk result (λ graph.
+            IsListing (K.allows knowledge.now) (modules_of program.now) (path_through items) (walks graph)) }
+        ensures reason { IfErr result (IsReason MAX_NODES (K.allows knowledge.now) program.now) }
+    {
+        Graph::of_at_most(alloc, program, knowledge, MAX_NODES)
+    }
+
+    /// The graph, if it has at most `limit` nodes.
+    pub(crate) fn of_at_most<K: Knowledge>(
+        alloc: Global,
+        program: &Program,
+        knowledge: &K,
+        limit: usize,
+    ) -> Result<Graph, GraphError>
+        ensures listing { IfOk result (λ graph.
+            IsListing (K.allows knowledge.now) (modules_of program.now) (path_of (runs_of program.now)) (walks graph)) }
+        ensures stack { (items : Items) → runs_of program.now ≡ runs_of_stack items → IfOk result (λ graph.
+            IsListing (K.allows knowledge.now) (modules_of program.now) (path_through items) (walks graph)) }
+        ensures reason { IfErr result (IsReason limit (K.allows knowledge.now) program.now) }
+    {
+        let mut draft = Draft {
+            nodes: Vec::new(alloc),
+            places: PlaceTable::new(alloc),
+        };
+        let first = program.first();
+        let start = target_of(alloc, program, knowledge, limit, &first, &mut draft)?;
+        Ok(Graph {
+            nodes: draft.nodes,
+            start,
+        })
+    }
+}

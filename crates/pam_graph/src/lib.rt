@@ -1,0 +1,19 @@
+//! The graph of all runs of a stack: the paths that the answers of its modules can take, with what they share stored once.
+#![tactic(auto)]
+
+mod building;
+mod direction;
+mod error;
+mod frames;
+mod goal;
+mod graph;
+pub mod laws;
+mod node;
+mod tally;
+mod walks;
+
+pub use error::GraphError;
+pub use goal::Goal;
+pub use graph::{Graph, MAX_NODES};
+pub use node::{Edge, Node, Target};
+pub use walks::Walks;

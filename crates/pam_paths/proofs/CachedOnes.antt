@@ -1,0 +1,88 @@
+-- Classes that are kept of modules.
+use Rattle.std.proofs.Common.{◌≡◌, ◌≢◌, Bool, true, false, eqb, refl, ℕ, ◌-◌, ◌<◌, ◌≤◌, List, Some, ap, sym, ◌∙◌, subst, arith, get_or, length, slice_set}
+use Rattle.std.proofs.lemmas.List.{get_or-set_other}
+use Rattle.std.proofs.lemmas.Bool.{eqb-true, eqb-false}
+use Rattle.std.proofs.lemmas.Grind.{get_or-set_at}
+use Rattle.pam_codes.specs.Set.{codes_where}
+use Rattle.pam_codes.specs.declared.action.Action.{Action}
+use Rattle.pam_dispatch.specs.declared.asked.Situation.{Situation}
+use Rattle.pam_dispatch.specs.declared.flat_item.FlatItem.{FlatItem}
+use Rattle.pam_dispatch.specs.declared.place.Place.{Place}
+use Rattle.pam_dispatch.specs.Flat.{IsPlaceOf, control_at, modules_of, rest_of}
+use Rattle.pam_dispatch.specs.Runs.{Ask, AsksRise, asked_module, next_ask, situation_of}
+use Rattle.pam_dispatch.specs.Situations.{representative}
+use Rattle.pam_dispatch.proofs.Asking.{number-next_ask}
+use Rattle.pam_paths.specs.declared.classes.Classes.{Classes}
+use Rattle.pam_paths.specs.declared.frames.Frame.{Frame}
+use Rattle.pam_paths.specs.declared.class_cache.CachedClasses.{CachedClasses}
+use Rattle.pam_paths.specs.Computed.{is_offered}
+use Rattle.pam_paths.specs.Frames.{AreClasses, IsFrame, offered_at}
+use Rattle.pam_paths.specs.Cached.{AreCached, IsCachedFor}
+use Rattle.pam_paths.specs.Listing.{Allowance}
+use Rattle.pam_paths.proofs.Situations.{from-normal, normal, same-offered, to-normal}
+
+-- a module with one control is asked in one way in each situation
+same-ask : (a b : Ask) → a.module_number ≡ b.module_number → a.control ≡ b.control → situation_of a ≡ situation_of b → a ≡ b
+same-ask a b number control situation =
+    ap (λ (n : ℕ). record { module_number = n; control = a.control; state = a.state; entry = a.entry; after = a.after }) number
+    ∙ ap (λ (x : List Action). record { module_number = b.module_number; control = x; state = a.state; entry = a.entry; after = a.after }) control
+    ∙ ap (λ (s : Situation). record { module_number = b.module_number; control = b.control; state = s.state; entry = s.entry; after = s.items_after })
+    situation
+
+some-is : (s t : Situation) → Some s ≡ Some t → s ≡ t
+some-is s t e = cc
+
+module _ (allows : Allowance) (program : List FlatItem) (number : ℕ) where
+  -- classes computed at a place are those of the module that is asked there, in each situation with the same representative
+  pub cached-of : (at : Place) (kept : CachedClasses) → IsPlaceOf program at → asked_module (rest_of program at) ≡ Some number →
+      ((other : Place) → IsPlaceOf program other → asked_module (rest_of program other) ≡ Some number →
+      (next_ask (rest_of program other)).control ≡ control_at program number) →
+      kept.situation ≡ Some (representative (situation_of (next_ask (rest_of program at)))) → kept.classes.offered ≡ offered_at allows (rest_of program at) →
+      AreClasses (next_ask (rest_of program at)) kept.classes → IsCachedFor allows program number kept
+  unfolding IsCachedFor
+  cached-of at kept there here control situation offered classes place valid asked is =
+      let here_asked = next_ask (rest_of program at) in
+      let there_asked = next_ask (rest_of program place) in
+      let same : normal here_asked ≡ normal there_asked =
+      same-ask _ _ (number-next_ask (rest_of program at) number here ∙ sym (number-next_ask (rest_of program place) number asked))
+      (control at there here ∙ sym (control place valid asked)) (some-is _ _ (sym situation ∙ is)) in (
+        offered ∙ sym (same-offered allows here_asked) ∙ ap (λ (a : Ask). codes_where (is_offered allows a)) same ∙ same-offered allows there_asked,
+        from-normal there_asked kept.classes
+            (subst (λ (a : Ask). AreClasses a kept.classes) same (to-normal here_asked kept.classes classes)),
+      )
+
+  -- those of one module are replaced
+  pub cached-set : (modules : List CachedClasses) (kept : CachedClasses) → AreCached allows program modules → length modules ≡ 256 → 1 ≤ number → number ≤ 256 →
+      IsCachedFor allows program number kept → AreCached allows program (slice_set modules (number - 1) kept)
+  unfolding AreCached
+  cached-set modules kept before long first last is other low high past =
+      let set = slice_set modules (number - 1) kept in
+      elim (eqb other number) as (λ (t : Bool). eqb other number ≡ t → IsCachedFor allows program other (get_or set (other - 1) past)) [
+        | true ↦ λ e.
+            let same : other ≡ number = eqb-true other number e in
+            let there : get_or set (other - 1) past ≡ kept =
+            get_or-set_at modules (number - 1) (other - 1) kept past (omega (arith, same)) (omega (arith, first, last, long)) in
+            subst (λ (n : ℕ). IsCachedFor allows program n (get_or set (other - 1) past)) (sym same)
+            (subst (λ (k : CachedClasses). IsCachedFor allows program number k) (sym there) is)
+        | false ↦ λ e.
+            let differ : other ≢ number = eqb-false other number e in
+            let apart : other - 1 ≢ number - 1 = λ equal. differ (omega (arith, equal, low, first)) in
+            subst (λ (k : CachedClasses). IsCachedFor allows program other k) (sym (get_or-set_other modules (number - 1) (other - 1) kept past apart))
+            (before other low high past)
+      ] refl
+
+-- the frame of a module that is asked, with its classes
+pub frame_of : (allows : Allowance) (program : List FlatItem) (low : ℕ) (frame : Frame) (place : Place) (number : ℕ) (classes : Classes) →
+    frame.place ≡ place → frame.module_number ≡ number → frame.classes ≡ classes → frame.code < 31 → IsPlaceOf program place →
+    asked_module (rest_of program place) ≡ Some number → AsksRise low (modules_of program) (rest_of program place) →
+    classes.offered ≡ offered_at allows (rest_of program place) → AreClasses (next_ask (rest_of program place)) classes →
+    IsFrame allows program low frame
+frame_of allows program low frame place number classes there numbered known code valid asked rise offered are = record {
+  place = subst (λ (p : Place). IsPlaceOf program p) (sym there) valid;
+  asking = ap (λ (p : Place). asked_module (rest_of program p)) there ∙ asked ∙ ap (λ (n : ℕ). Some n) (sym numbered);
+  rise = subst (λ (p : Place). AsksRise low (modules_of program) (rest_of program p)) (sym there) rise;
+  offered = ap (λ (k : Classes). k.offered) known ∙ offered ∙ ap (λ (p : Place). offered_at allows (rest_of program p)) (sym there);
+  classes = subst (λ (p : Place). AreClasses (next_ask (rest_of program p)) frame.classes) (sym there)
+      (subst (λ (k : Classes). AreClasses (next_ask (rest_of program place)) k) (sym known) are);
+  code = code;
+}

@@ -1,0 +1,12 @@
+pub mod Bracket
+pub mod Buffer
+pub mod Control
+pub mod FindingLaws
+pub mod Findings
+pub mod Laws
+pub mod Lines
+pub mod Meanings
+pub mod NextState
+pub mod Reader
+pub mod Rules
+pub mod Words

@@ -1,0 +1,131 @@
+-- What is written about a known stack, from the contract of the call that finds it.
+use Rattle.std.proofs.Common.{◌≡◌, ◌∙◌, ℕ, List, None, Option, Result, Ok, Err, ap, refl, subst, sym}
+use Rattle.std.specs.Prelude.{IfErr, is_some}
+use Rattle.jiff.specs.Types.{DateTime}
+use Rattle.pam_codes.specs.Out.{Out}
+use Rattle.pam_conf.specs.Stack.{Items, module_count}
+use Rattle.pam_conf.specs.declared.conf_error.ConfError.{ConfError}
+use Rattle.pam_conf.specs.declared.error.FaultKind.{FaultKind}
+use Rattle.pam_conf.specs.declared.error.FaultKind.TheVariants as conf
+use Rattle.pam_conf.specs.declared.rule.Kind.{Kind}
+use Rattle.pam_known.specs.Answers.{IsFault, IsTableFault as IsFaultOfTable, IsTimeFault as IsFaultOfTime}
+use Rattle.pam_known.specs.Knowledge.{Agree, Knows, allows_codes}
+use Rattle.pam_known.specs.Reads.{tables_read}
+use Rattle.pam_known.specs.Tables.{TablesText, TimedText}
+use Rattle.pam_known.specs.declared.error.KnownError.{KnownError}
+use Rattle.pam_known.specs.declared.error.KnownError.TheVariants as known
+use Rattle.pam_paths.specs.Known.{may_answer}
+use Rattle.pam_paths.specs.Listing.{Allowance}
+use Rattle.pam_paths.specs.declared.knowledge.Known.{Known}
+use Rattle.pam_tables.specs.declared.error.TableError.{TableError}
+use Rattle.pam_tables.specs.declared.error.TableFault.{TableFault}
+use Rattle.pam_tables.specs.declared.error.TableFault.TheVariants as tables
+use Rattle.pam_times.specs.declared.error.TimeError.{TimeError}
+use Rattle.pam_times.specs.declared.error.TimeFault.{TimeFault}
+use Rattle.pam_times.specs.declared.error.TimeFault.TheVariants as times
+use Rattle.pam_report.specs.Fault.{known_fault}
+use Rattle.pam_report.proofs.Wanting.{wanted-given}
+use Rattle.pam_report.specs.Inputs.{tables_given}
+use Rattle.pam_report.specs.Known.{AreCodesOf, FindsKnown, IsErrOf, IsFaultOf, IsFaultOfRead, with_time}
+use Rattle.pam_report.specs.KnownStack.{IsAnswerFrom, KnownItems, known_items}
+use Rattle.pam_report.specs.Leaves.{IsConfFault, IsTableFault, IsTimeFault, LeavesFault, LeavesSome}
+use Rattle.pam_report.specs.Memory.{IsWanting, of_paths, paths_tables}
+use Rattle.pam_report.specs.Report.{Answer}
+use Rattle.pam_report.specs.declared.fault.Fault.{Fault}
+use Rattle.pam_report.specs.declared.fault.Fault.TheVariants as faults
+use Rattle.pam_report.specs.declared.inputs.Inputs.{Inputs}
+use Rattle.pam_report.specs.declared.inputs.Inputs.TheVariants as inputs
+use Rattle.pam_report.specs.declared.report.Status.{Status}
+
+-- ---- what the tables tell
+
+-- the fault of a table, as that of the known stack
+module _ (items : Items) (told : Result (ℕ → List ℕ) KnownError) where
+  err-is : (e : KnownError) → told ≡ Err e → known_items items told ≡ Err (known_fault e)
+  err-is e h = subst (λ (t : Result (ℕ → List ℕ) KnownError). known_items items t ≡ Err (known_fault e)) (sym h) refl
+
+  table-fault : (e : TableError) (fault : TableFault) → IsFaultOfTable fault e.line (told ≡ Err (known.Table e))
+      → IsTableFault (IsErrOf (known_items items told)) e fault
+  table-fault e tables.Memory h = h
+  table-fault e _ h = err-is (known.Table e) h
+
+  time-fault : (e : TimeError) (fault : TimeFault) → IsFaultOfTime fault e.line (told ≡ Err (known.Time e))
+      → IsTimeFault (IsErrOf (known_items items told)) e fault
+  time-fault e times.Memory h = h
+  time-fault e _ h = err-is (known.Time e) h
+
+  fault-told : (e : KnownError) → IsFault e (told ≡ Err e) → IsFaultOf (known_items items told) (known_fault e)
+  fault-told (known.Table e) h = table-fault e e.fault h
+  fault-told (known.Time e) h = time-fault e e.fault h
+
+pub finds-err : (items : Items) (told : Result (ℕ → List ℕ) KnownError) (e : KnownError) (fault : Fault) → IsFault e (told ≡ Err e) → fault ≡ known_fault e
+    → FindsKnown items (Err fault) (known_items items told)
+finds-err items told e fault h same = subst (λ (f : Fault). IsFaultOf (known_items items told) f) (sym same) (fault-told items told e h)
+
+pub finds-ok : (items : Items) (told : Result (ℕ → List ℕ) KnownError) (found : Known) → Knows (module_count items) (Ok found) told
+    → FindsKnown items (Ok found) (known_items items told)
+finds-ok items told found h = record {
+  codes = h.0;
+  told_is = subst (λ (t : Result (ℕ → List ℕ) KnownError). known_items items t ≡ Ok (record { items = items; codes = h.0 })) (sym h.1) refl;
+  agree = h.2;
+}
+
+-- ---- tables
+
+with_its : (given : Inputs) (moment : Option DateTime) → with_time (tables_given given None) (tables_given given moment).time ≡ tables_given given moment
+with_its (inputs.Paths files groups access time returns) moment = refl
+with_its (inputs.Stack files) moment = refl
+with_its (inputs.Access table groups) moment = refl
+with_its (inputs.Time table) moment = refl
+
+-- the tables of these inputs at a moment
+pub tables-are : (given : Inputs) (moment : Option DateTime) (tables : TablesText) (time : Option TimedText)
+    → tables ≡ with_time (tables_given given None) time → time ≡ (tables_given given moment).time → tables ≡ tables_given given moment
+tables-are given moment tables time e f = e ∙ ap (λ (t : Option TimedText). with_time (tables_given given None) t) f ∙ with_its given moment
+
+-- ---- want of memory
+
+pub wants-read : (kind : Kind) (given : Inputs) (moment : Option DateTime) (items : Items) (result : Result Known Fault)
+    → IfErr result (IsFaultOfRead (tables_read kind (tables_given given moment) items))
+    → IfErr result (IsWanting (of_paths (paths_tables (is_some moment) given)))
+wants-read kind given moment items (Ok found) h = tt
+wants-read kind given moment items (Err fault) h =
+    subst (λ (f : Fault). IsWanting (of_paths (paths_tables (is_some moment) given)) f) (sym h.1) (wanted-given kind given moment items h.0 h.2)
+
+-- ---- what is written
+
+module _ {W : Type 0} (contents : W → Option (List ℕ)) (old new : Out W) (IsAnswerOf : Items → Allowance → Answer → Type 0) (told : Result KnownItems Fault) where
+  from-err : (fault : Fault) → told ≡ Err fault → IsAnswerFrom IsAnswerOf told (Err fault)
+  from-err fault h = subst (λ (t : Result KnownItems Fault). IsAnswerFrom IsAnswerOf t (Err fault)) (sym h) refl
+
+  from-conf : (e : ConfError) (kind : FaultKind) → IsConfFault (IsErrOf told) e kind → IsConfFault (IsAnswerFrom IsAnswerOf told) e kind
+  from-conf e conf.Memory h = h
+  from-conf e _ h = from-err (faults.Conf e) h
+
+  from-table : (e : TableError) (fault : TableFault) → IsTableFault (IsErrOf told) e fault → IsTableFault (IsAnswerFrom IsAnswerOf told) e fault
+  from-table e tables.Memory h = h
+  from-table e _ h = from-err (faults.Table e) h
+
+  from-time : (e : TimeError) (fault : TimeFault) → IsTimeFault (IsErrOf told) e fault → IsTimeFault (IsAnswerFrom IsAnswerOf told) e fault
+  from-time e times.Memory h = h
+  from-time e _ h = from-err (faults.Time e) h
+
+  -- nothing, if there is no known stack
+  pub fault-leaves : (fault : Fault) → IsFaultOf told fault → new ≡ old → LeavesFault contents old new (IsAnswerFrom IsAnswerOf told) fault
+  fault-leaves faults.Device h same = absurd h
+  fault-leaves faults.Memory h same = same
+  fault-leaves (faults.Conf e) h same = (same, from-conf e e.kind h)
+  fault-leaves (faults.Count e) h same = (same, from-err (faults.Count e) h)
+  fault-leaves faults.TooManyStates h same = (same, from-err faults.TooManyStates h)
+  fault-leaves (faults.Moment e) h same = (same, from-err (faults.Moment e) h)
+  fault-leaves (faults.Cursor e) h same = (same, from-err (faults.Cursor e) h)
+  fault-leaves (faults.Table e) h same = (same, from-table e e.fault h)
+  fault-leaves (faults.Time e) h same = (same, from-time e e.fault h)
+
+  -- the answer about it, if there is one
+  pub answer-leaves : (result : Result Status Fault) (items : Items) (found : Known) → AreCodesOf items found told
+      → ((allows : Allowance) → Agree (module_count items) (may_answer found) allows → LeavesSome contents old new result (IsAnswerOf items allows))
+      → LeavesSome contents old new result (IsAnswerFrom IsAnswerOf told)
+  answer-leaves result items found h answer =
+      subst (λ (t : Result KnownItems Fault). LeavesSome contents old new result (IsAnswerFrom IsAnswerOf t)) (sym h.told_is)
+      (answer (allows_codes h.codes) h.agree)

@@ -1,0 +1,18 @@
+use Rattle.std.proofs.Common.{◌≡◌, ◌∙◌, arith}
+use Rattle.pam_codes.specs.declared.code.TheConstants.{CODES}
+use Rattle.pam_graph.specs.Walks.{walks}
+use Rattle.pam_report.proofs.OutcomeTexts.{outcomes-all, outcomes-more, total-is}
+use Rattle.pam_report.specs.Outcomes.{outcome_among}
+use Rattle.pam_report.proofs.report.outcomes.outcomes_of.Goals as goal
+
+pub loop-number-preserved : goal.loop-number-preserved
+loop-number-preserved c =
+    outcomes-more (outcome_among (walks c.args.graph.now)) c.loop-number.number _ _ _ c.loop-number.invariant c.code_numbered.ensures c.in_ok-push_outcome.ensures
+
+pub returns : goal.returns
+returns c =
+    let all : c.loop-number.number ≡ CODES = omega (arith, c.loop-number-test.false, c.loop-number.auto.number-end) in
+    record {
+      found = outcomes-all (walks c.args.graph.now) _ c.loop-number.number all c.loop-number.invariant;
+      total = c.in_ok-total.ensures ∙ total-is (walks c.args.graph.now);
+    }

@@ -1,0 +1,52 @@
+-- For private contracts and proofs alone: a known stack that is found, or why there is none.
+use Rattle.std.specs.Prelude.{◌≡◌, ⊤, ℕ, List, Option, Result, Ok, Err}
+use Rattle.pam_conf.specs.Stack.{Items, module_count}
+use Rattle.pam_known.specs.Knowledge.{Agree, allows_codes}
+use Rattle.pam_known.specs.Reads.{IsOfRead, TablesRead}
+use Rattle.pam_known.specs.Tables.{TablesText, TimedText}
+use Rattle.pam_known.specs.declared.error.KnownError.{KnownError}
+use Rattle.pam_paths.specs.Known.{may_answer}
+use Rattle.pam_paths.specs.declared.knowledge.Known.{Known}
+use Rattle.pam_report.specs.Fault.{known_fault}
+use Rattle.pam_report.specs.KnownStack.{KnownItems}
+use Rattle.pam_report.specs.Leaves.{IsConfFault, IsTableFault, IsTimeFault}
+use Rattle.pam_report.specs.Report.{Answer}
+use Rattle.pam_report.specs.declared.fault.Fault.{Fault}
+use Rattle.pam_report.specs.declared.fault.Fault.TheVariants as faults
+use Rattle.pam_report.specs.declared.report.known_stack.KnownStack.{KnownStack}
+
+-- an answer that is the fault of a result
+abbrev pub IsErrOf : {A : Type 0} → Result A Fault → Answer → Type 0
+IsErrOf told (Ok report) = ⊥
+IsErrOf told (Err fault) = told ≡ Err fault
+
+-- a fault is that of a result, unless an allocation failed
+abbrev pub IsFaultOf : {A : Type 0} → Result A Fault → Fault → Type 0
+IsFaultOf told faults.Memory = ⊤
+IsFaultOf told faults.Device = ⊥
+IsFaultOf told (faults.Conf e) = IsConfFault (IsErrOf told) e e.kind
+IsFaultOf told (faults.Table e) = IsTableFault (IsErrOf told) e e.fault
+IsFaultOf told (faults.Time e) = IsTimeFault (IsErrOf told) e e.fault
+IsFaultOf told fault = told ≡ Err fault
+
+-- these are the codes that the modules of a known stack may return
+pub record AreCodesOf (items : Items) (known : Known) (told : Result KnownItems Fault) : Type 0 where
+  pub codes : ℕ → List ℕ
+  pub told_is : told ≡ Ok (record { items = items; codes = codes })
+  pub agree : Agree (module_count items) (may_answer known) (allows_codes codes)
+
+abbrev pub FindsKnown : Items → Result Known Fault → Result KnownItems Fault → Type 0
+FindsKnown items (Ok known) told = AreCodesOf items known told
+FindsKnown items (Err fault) told = IsFaultOf told fault
+
+abbrev pub FindsStack : Result KnownStack Fault → Result KnownItems Fault → Type 0
+FindsStack (Ok found) told = AreCodesOf found.stack found.known told
+FindsStack (Err fault) told = IsFaultOf told fault
+
+-- a fault is of a table that is read
+abbrev pub IsFaultOfRead : TablesRead → Fault → Type 0
+IsFaultOfRead read fault = (e : KnownError) × (fault ≡ known_fault e) × IsOfRead read e
+
+-- tables with this time table
+abbrev pub with_time : TablesText → Option TimedText → TablesText
+with_time tables time = record { groups = tables.groups; access = tables.access; time = time; returns = tables.returns }

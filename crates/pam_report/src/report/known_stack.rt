@@ -1,0 +1,161 @@
+//! What the commands about paths begin with: the stack of a service, and what is known of the answers of its modules.
+
+ghost use Rattle.std.specs.Prelude.{◌≡◌, IfErr, None, is_some, option_map};
+ghost use Rattle.jiff.specs.Types.{DateTime as CivilTime};
+ghost use Rattle.pam_conf.specs.Resolution.{resolved};
+ghost use Rattle.pam_report.specs.Answer.{login_at};
+ghost use Rattle.pam_known.specs.Knowledge.{knowledge};
+ghost use Rattle.pam_known.specs.Reads.{tables_read};
+ghost use Rattle.pam_known.specs.Tables.{tables_view, timed_view};
+ghost use Rattle.pam_report.specs.Inputs.{tables_given as tables_in};
+ghost use Rattle.pam_report.specs.Known.{FindsKnown, FindsStack, IsFaultOfRead, with_time};
+ghost use Rattle.pam_report.specs.KnownStack.{known_at as stack_at, known_items, known_stack as stack_known, known_then as stack_then};
+ghost use Rattle.pam_report.specs.Memory.{IsWanting, of_paths, paths_tables};
+ghost use Rattle.pam_tables.specs.Login.{login_view};
+
+use super::login::{login_to, lowered};
+use crate::fault::{Fault, known_fault};
+use crate::inputs::{Inputs, tables_with, timed_given};
+use jiff::civil::DateTime;
+use pam_conf::{Files, Kind, Stack, resolve};
+use pam_known::{Tables, TimedTable, known_answers};
+use pam_paths::Known;
+use pam_tables::Login as TableLogin;
+use pam_times::MomentError;
+use pam_words::Login;
+use std::alloc::Global;
+
+/// A stack that is asked for, and the login that its modules decide on.
+#[derive(Clone, Copy)]
+pub(super) struct StackRequest<'a> {
+    pub service: &'a str,
+    pub kind: Kind,
+    pub login: Login<'a>,
+}
+
+/// A stack, and the codes that its modules may return.
+#[derive(Drop)]
+pub(super) struct KnownStack {
+    pub stack: Stack,
+    pub known: Known,
+}
+
+/// Returns the codes that the modules of a stack may return, from these tables.
+fn known_by(
+    alloc: Global,
+    kind: Kind,
+    login: &TableLogin<'_>,
+    stack: &Stack,
+    tables: &Tables<'_>,
+) -> Result<Known, Fault>
+    ensures known { FindsKnown stack.now result (known_items stack.now (knowledge kind (login_view login.now) (tables_view tables.now) stack.now)) }
+    ensures read { IfErr result (IsFaultOfRead (tables_read kind (tables_view tables.now) stack.now)) }
+{
+    match known_answers(alloc, stack, kind, login, tables) {
+        Ok(known) => Ok(known),
+        Err(error) => Err(known_fault(error)),
+    }
+}
+
+/// Returns the codes that the modules of a stack may return, with this time table.
+fn known_with(
+    alloc: Global,
+    kind: Kind,
+    login: &TableLogin<'_>,
+    inputs: &Inputs,
+    stack: &Stack,
+    time: &Option<TimedTable<'_>>,
+) -> Result<Known, Fault>
+    ensures known { let tables = with_time (tables_in inputs.now None) (option_map timed_view time.now) in
+        FindsKnown stack.now result (known_items stack.now (knowledge kind (login_view login.now) tables stack.now)) }
+    ensures read { let tables = with_time (tables_in inputs.now None) (option_map timed_view time.now) in
+        IfErr result (IsFaultOfRead (tables_read kind tables stack.now)) }
+{
+    let tables = tables_with(inputs, time);
+    known_by(alloc, kind, login, stack, &tables)
+}
+
+/// Returns the codes that the modules of a stack may return at a moment.
+fn known_at(
+    alloc: Global,
+    kind: Kind,
+    login: &TableLogin<'_>,
+    inputs: &Inputs,
+    stack: &Stack,
+    moment: Option<DateTime>,
+) -> Result<Known, Fault>
+    ensures known { FindsKnown stack.now result (stack_at kind (login_view login.now) inputs.now stack.now moment) }
+    ensures wants { IfErr result (IsWanting (of_paths (paths_tables (is_some moment) inputs.now))) }
+{
+    known_with(
+        alloc,
+        kind,
+        login,
+        inputs,
+        stack,
+        &timed_given(inputs, moment),
+    )
+}
+
+/// Like `known_at`, for a moment that may be missing or invalid.
+fn known_then(
+    alloc: Global,
+    kind: Kind,
+    login: &TableLogin<'_>,
+    inputs: &Inputs,
+    stack: &Stack,
+    moment: Option<Result<DateTime, MomentError>>,
+) -> Result<Known, Fault>
+    ensures known { FindsKnown stack.now result (stack_then kind (login_view login.now) inputs.now stack.now moment) }
+    ensures wants { IfErr result (IsWanting (of_paths (paths_tables (is_some moment) inputs.now))) }
+{
+    match moment {
+        None => known_at(alloc, kind, login, inputs, stack, None),
+        Some(Ok(moment)) => known_at(alloc, kind, login, inputs, stack, Some(moment)),
+        Some(Err(error)) => Err(Fault::Moment(error)),
+    }
+}
+
+/// Like `known_then`, for the login of a request.
+fn known_to(
+    alloc: Global,
+    request: &StackRequest<'_>,
+    moment: Option<Result<DateTime, MomentError>>,
+    inputs: &Inputs,
+    stack: &Stack,
+) -> Result<Known, Fault>
+    ensures known { FindsKnown stack.now result
+        (stack_then request.now.kind (login_at request.now.service.now request.now.login) inputs.now stack.now moment) }
+    ensures wants { IfErr result (IsWanting (of_paths (paths_tables (is_some moment) inputs.now))) }
+{
+    match lowered(alloc, request.service) {
+        Ok(service) => {
+            let login = login_to(&service, request.login);
+            known_then(alloc, request.kind, &login, inputs, stack, moment)
+        }
+        Err(_) => Err(Fault::Memory),
+    }
+}
+
+/// Returns the stack, and the codes that its modules may return, or the first fault: of the configuration, then of the
+/// moment, then of the tables.
+pub(super) fn known_stack(
+    alloc: Global,
+    request: &StackRequest<'_>,
+    moment: Option<Result<DateTime, MomentError>>,
+    files: &Files,
+    inputs: &Inputs,
+) -> Result<KnownStack, Fault>
+    ensures stack { FindsStack result (stack_known request.now.kind (login_at request.now.service.now request.now.login) inputs.now moment
+        (resolved files.now request.now.service.now request.now.kind)) }
+    ensures wants { IfErr result (IsWanting (of_paths (paths_tables (is_some moment) inputs.now))) }
+{
+    let stack = match resolve(alloc, files, request.service.as_bytes(), request.kind) {
+        Ok(stack) => stack,
+        Err(error) => return Err(Fault::Conf(error)),
+    };
+    match known_to(alloc, request, moment, inputs, &stack) {
+        Ok(known) => Ok(KnownStack { stack, known }),
+        Err(fault) => Err(fault),
+    }
+}
