@@ -32,5 +32,5 @@ returns-in-Paths g c =
 pub returns-in-Outcomes : goal.returns-in-Outcomes
 returns-in-Outcomes g c =
     let outcomes = c.in-Outcomes in
-    subst (λ t. IsReading t c.knowledge_inputs.result) (sym outcomes.is)
-    (outcomes-read outcomes.source outcomes.kind outcomes.knowledge c.knowledge_inputs.result c.knowledge_inputs.ensures)
+    subst (λ t. IsReading t c.knowledge_inputs-in-Outcomes.result) (sym outcomes.is)
+    (outcomes-read outcomes.source outcomes.kind outcomes.knowledge c.knowledge_inputs-in-Outcomes.result c.knowledge_inputs-in-Outcomes.ensures)
