@@ -98,8 +98,10 @@ def group_tables(size):
     """Each token of the table is the name of a group, and the login is in none of them."""
     def make(folder):
         names = pairs()
-        put(folder, "access", b"-:" + b" ".join((names * (size // (3 * len(names)) + 1))[:size // 3]) + b":ALL\n")
-        members = b",".join(b"member%d" % n for n in range(size // (9 * len(names))))
+        tokens = (size - len(b"-::ALL\n")) // len(b"aa ")
+        put(folder, "access", b"-:" + b" ".join((names * (tokens // len(names) + 1))[:tokens]) + b":ALL\n")
+        count = (size // len(names) - len(b"aa:x:1:\n")) // len(b"member000,")
+        members = b",".join(b"member%03d" % n for n in range(count))
         put(folder, "group", b"".join(b"%s:x:1:%s\n" % (name, members) for name in names))
     return make
 
