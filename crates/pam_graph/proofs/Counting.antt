@@ -1,5 +1,5 @@
 -- The numbers of walks.
-use Rattle.std.proofs.Common.{◌≡◌, ℕ, ◌+◌, ◌<◌, ◌≤◌, ◌^◌, ◌==◌, Bool, true, false, ◌||◌, List}
+use Rattle.std.proofs.Common.{◌≡◌, ℕ, ◌+◌, ◌<◌, ◌≤◌, ◌^◌, Bool, true, false, ◌||◌, List}
 use Rattle.std.proofs.Common.{[], ◌∷◌, ◌++◌, Option, None, Some, map, cond, refl, sym, ◌∙◌, ap, arith}
 use Rattle.std.proofs.Common.{append_assoc, append-nil, length, filter, inl, inr, subst}
 use Rattle.std.proofs.lemmas.Bool.{cases_lt, cond-false, cond-true, false≢true, le-ltb, lt-ltb}
@@ -9,7 +9,6 @@ use Rattle.std.proofs.Math.ListN.{get_or-map}
 use Rattle.std.specs.List.{flat_map, list_any}
 use Rattle.std.specs.Option.{SomeIff}
 use Rattle.std.specs.Prelude.{nat_lt}
-use Rattle.pam_codes.specs.Set.{is_in}
 use Rattle.pam_graph.specs.declared.goal.Goal.{Goal}
 use Rattle.pam_graph.specs.declared.goal.Goal.TheVariants.{Any, Decides, Asks}
 use Rattle.pam_graph.specs.declared.node.Edge.{Edge}
@@ -17,7 +16,7 @@ use Rattle.pam_graph.specs.declared.node.Node.{Node}
 use Rattle.pam_graph.specs.declared.node.Target.{Target}
 use Rattle.pam_graph.specs.declared.node.Target.TheVariants.{At, End}
 use Rattle.pam_graph.specs.declared.tally.Tally.{Tally}
-use Rattle.pam_graph.specs.Goals.{asks_module, fit, meets}
+use Rattle.pam_graph.specs.Goals.{fit, meets}
 use Rattle.pam_graph.specs.Tallies.{count_to, has_walks, met_at_end, met_by, number, plus}
 use Rattle.pam_graph.specs.Tallies.{sum_from, tallies_of, tally_at, tally_by, tally_of, wanted, wanted_of}
 use Rattle.pam_graph.specs.Walks.{table, walks_at, walks_by, walks_of, walks_to}
@@ -68,7 +67,7 @@ sum-fits None a b h = elim (cases_lt (a + b) (2 ^ 128)) [ inl l ↦ absurd (h l)
 abbrev pub ended : ℕ → PathValue
 ended decision = record { steps = []; decision = decision }
 
-filter-map : (p q : PathValue → Bool) (f : PathValue → PathValue) → ((x : PathValue) → p (f x) ≡ q x) →
+pub filter-map : (p q : PathValue → Bool) (f : PathValue → PathValue) → ((x : PathValue) → p (f x) ≡ q x) →
     (xs : List PathValue) → filter p (map f xs) ≡ map f (filter q xs)
 filter-map p q f h [] = refl
 filter-map p q f h (x ∷ xs) =

@@ -1,7 +1,6 @@
 -- The steps of a walk that is followed.
-use Rattle.std.proofs.Common.{◌≡◌, ℕ, ◌+◌, ◌-◌, ◌<◌, ◌≤◌, Bool, true, false, List, [], ◌∷◌, ◌++◌, map, refl}
-use Rattle.std.proofs.Common.{sym, ◌∙◌, ap, subst, arith, append-nil, length, take, IfNone, IfSome, None, Some, Option, slice_index_or, zero, suc}
-use Rattle.std.proofs.lemmas.Bool.{false≢true}
+use Rattle.std.proofs.Common.{◌≡◌, ℕ, ◌+◌, ◌-◌, ◌<◌, ◌≤◌, List, [], ◌∷◌, ◌++◌, map, refl}
+use Rattle.std.proofs.Common.{sym, ◌∙◌, ap, subst, arith, length, take, IfNone, IfSome, None, Some, Option, slice_index_or, zero, suc}
 use Rattle.std.proofs.lemmas.List.{length-map, length-take, take-map, take-take, take_all}
 use Rattle.pam_conf.specs.declared.stack.TheConstants.{MAX_MODULES}
 use Rattle.pam_graph.specs.declared.direction.Direction.{Direction}
@@ -9,9 +8,9 @@ use Rattle.pam_graph.specs.declared.frames.Frame.{Frame}
 use Rattle.pam_graph.specs.declared.frames.Way.{Way}
 use Rattle.pam_graph.specs.declared.goal.Goal.{Goal}
 use Rattle.pam_graph.specs.declared.node.Node.{Node}
-use Rattle.pam_graph.specs.declared.node.Target.{Target}
-use Rattle.pam_graph.specs.Frames.{AreFirstSteps, AreFrames, IsExploring, ahead, along, coming, step_in, under, walk_to}
+use Rattle.pam_graph.specs.Frames.{AreFirstSteps, AreFrames, ahead, along, coming, step_in, under, walk_to}
 use Rattle.pam_graph.specs.Order.{AreNodes, numbers_of}
+use Rattle.pam_graph.proofs.FrameLists.{under-nil}
 use Rattle.pam_paths.specs.Paths.{PathValue, StepValue}
 
 -- no frames
@@ -43,28 +42,19 @@ shared_steps steps before mid after shared first changed added few within =
     ap (take shared) (sym added) ∙ take-take shared (length mid) after (omega (arith, within)) in
     own ∙ ap (take shared) first ∙ whole ∙ take-map step_in shared before ∙ ap (map step_in) (same ∙ longer) ∙ sym (take-map step_in shared after)
 
-module _ (d : Direction) (goal : Goal) (nodes : List Node) (start : Target) where
-  -- at the start all are left from where a run begins
-  pub coming-all : (at_start : Bool) (fs : List Frame) (way : Way) → at_start ≡ true → IsExploring nodes at_start fs →
-      way ≡ record { target = start; is_met = false } →
-      coming d goal nodes start at_start fs ≡ under fs (along d goal nodes way) ++ ahead d goal nodes fs
-  unfolding coming under ahead
-  coming-all false fs way e whole is = absurd (false≢true e)
-  coming-all true fs way e whole is =
-      let none : fs ≡ [] = whole.start refl in
-      ap (along d goal nodes) (sym is) ∙ sym (append-nil (along d goal nodes way))
-      ∙ ap (λ (x : List Frame). under x (along d goal nodes way) ++ ahead d goal nodes x) (sym none)
-
-  pub coming-start : (at_start : Bool) (fs : List Frame) → at_start ≡ true →
-      coming d goal nodes start at_start fs ≡ along d goal nodes (record { target = start; is_met = false })
+module _ (d : Direction) (goal : Goal) (nodes : List Node) where
+  -- a way on is there
+  pub coming-on : (pending : Option Way) (fs : List Frame) (way : Way) → pending ≡ Some way →
+      coming d goal nodes pending fs ≡ under fs (along d goal nodes way) ++ ahead d goal nodes fs
   unfolding coming
-  coming-start false fs e = absurd (false≢true e)
-  coming-start true fs e = refl
+  coming-on pending fs way is = ap (λ (p : Option Way). coming d goal nodes p fs) is
 
-  pub coming-ahead : (at_start : Bool) (fs : List Frame) → at_start ≡ false → coming d goal nodes start at_start fs ≡ ahead d goal nodes fs
+  -- no wanted walk is on it
+  pub coming-ahead : (pending : Option Way) (fs : List Frame) → IfSome pending (λ way. along d goal nodes way ≡ []) →
+      coming d goal nodes pending fs ≡ ahead d goal nodes fs
   unfolding coming
-  coming-ahead false fs e = refl
-  coming-ahead true fs e = absurd (false≢true (sym e))
+  coming-ahead None fs none = refl
+  coming-ahead (Some way) fs none = ap (λ (x : List PathValue). x ++ ahead d goal nodes fs) (ap (under fs) none ∙ under-nil fs)
 
 -- WHAT IS FOUND
 
@@ -76,12 +66,6 @@ pub told-walks : (r : Option Way) (one other : List PathValue) (there : Way → 
     IfSome r (λ way. other ≡ there way)
 told-walks None one other there is h = tt
 told-walks (Some way) one other there is h = is ∙ h
-
-pub told-start : (d : Direction) (goal : Goal) (nodes : List Node) (start : Target) (at_start : Bool) (fs : List Frame) (r : Option Way) → at_start ≡ true →
-    IsExploring nodes at_start fs → IfSome r (λ way. way ≡ record { target = start; is_met = false }) →
-    IfSome r (λ way. coming d goal nodes start at_start fs ≡ under fs (along d goal nodes way) ++ ahead d goal nodes fs)
-told-start d goal nodes start at_start fs None e h is = tt
-told-start d goal nodes start at_start fs (Some way) e h is = coming-all d goal nodes start at_start fs way e h is
 
 -- MODULES' NUMBERS
 

@@ -1,8 +1,7 @@
 -- Frames, and the walks that are ahead of them.
-use Rattle.std.proofs.Common.{◌≡◌, ℕ, ◌+◌, ◌<◌, ◌≤◌, Bool, true, false, ◌||◌, List, [], ◌∷◌, ◌++◌}
+use Rattle.std.proofs.Common.{◌≡◌, ℕ, ◌+◌, ◌<◌, ◌≤◌, Bool, true, false, List, [], ◌∷◌, ◌++◌}
 use Rattle.std.proofs.Common.{map, cond, refl, sym, ◌∙◌, ap, subst, arith, append_assoc, append-nil, drop, length, slice_index_or}
-use Rattle.std.proofs.lemmas.Bool.{false≢true}
-use Rattle.std.proofs.lemmas.List.{drop_all, map-append, get_or-map}
+use Rattle.std.proofs.lemmas.List.{length-map, map-append, get_or-map}
 use Rattle.pam_conf.specs.declared.stack.TheConstants.{MAX_MODULES}
 use Rattle.pam_graph.specs.declared.direction.Direction.{Direction}
 use Rattle.pam_graph.specs.declared.frames.Frame.{Frame}
@@ -13,13 +12,13 @@ use Rattle.pam_graph.specs.declared.node.Node.{Node}
 use Rattle.pam_graph.specs.declared.node.Target.{Target}
 use Rattle.pam_graph.specs.declared.node.Target.TheVariants.{At, End}
 use Rattle.pam_graph.specs.Frames.{AreFrames, IsFrame, ahead, along, edges_at, edges_in, edges_of, known_in, left_at, step_in, under, walk_to, wanted_by}
-use Rattle.pam_graph.specs.Order.{AreAbove, AreNodes, IsAbove, numbers_of}
-use Rattle.pam_graph.specs.Tallies.{met_at_end, wanted, wanted_of}
+use Rattle.pam_graph.specs.Order.{AreAbove, AreNodes, IsAbove, number_of, numbers_of}
+use Rattle.pam_graph.specs.Tallies.{wanted, wanted_of}
 use Rattle.pam_graph.specs.Walks.{walks_to}
-use Rattle.pam_graph.proofs.Counting.{ended, meets-end}
+use Rattle.pam_graph.proofs.Counting.{ended}
 use Rattle.pam_graph.proofs.Sides.{node-valid, number-at}
 use Rattle.pam_paths.specs.Computed.{after_step}
-use Rattle.pam_paths.specs.Paths.{PathValue, StepValue}
+use Rattle.pam_paths.specs.Paths.{PathValue}
 
 -- WALKS UNDER FRAMES
 
@@ -34,7 +33,7 @@ unfolding under
 under-push [] f ps = refl
 under-push (g ∷ fs) f ps = ap (map (after_step (step_in g))) (under-push fs f ps)
 
-under-nil : (fs : List Frame) → under fs [] ≡ []
+pub under-nil : (fs : List Frame) → under fs [] ≡ []
 unfolding under
 under-nil [] = refl
 under-nil (f ∷ fs) = ap (map (after_step (step_in f))) (under-nil fs)
@@ -129,6 +128,22 @@ module _ (d : Direction) (goal : Goal) (nodes : List Node) where
       only = there ∙ one (wanted goal way.is_met (ended decision)) (λ e. some (there ∙ e))
 
 -- THE NODE OF A FRAME
+
+-- a node that is entered after `low` frames
+module _ (nodes : List Node) (order : AreNodes [] nodes) (index : ℕ) (node : Node) (at : node ≡ slice_index_or nodes index node) (low : ℕ)
+    (above : IsAbove (numbers_of nodes) low (At index)) where
+  pub node-inside : index < length nodes
+  node-inside = omega (arith, above.0, length-map nodes number_of)
+
+  -- its frame
+  pub node-framed : (f : Frame) → f.node ≡ index → f.module_number ≡ node.module_number → IsFrame nodes low f
+  node-framed f there numbered =
+      let number = number-at nodes order index node node-inside at in
+      record {
+        node = subst (λ (n : ℕ). n < length nodes) (sym there) node-inside;
+        number = numbered ∙ sym number ∙ ap (λ (n : ℕ). slice_index_or (numbers_of nodes) n 0) (sym there);
+        above = omega (arith, above.1, number, numbered);
+      }
 
 module _ (d : Direction) (goal : Goal) (nodes : List Node) (order : AreNodes [] nodes) (low : ℕ) (f : Frame) (node : Node) (is : IsFrame nodes low f)
     (at : node ≡ slice_index_or nodes f.node node) where

@@ -5,4 +5,5 @@ pub mod Growing
 pub mod Reaching
 pub mod Sides
 pub mod Tables
+pub mod Turning
 pub mod Withins

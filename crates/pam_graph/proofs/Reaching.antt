@@ -2,7 +2,7 @@
 use Rattle.std.proofs.Common.{◌≡◌, ◌≢◌, ℕ, ◌<◌, true, List, [], ◌∷◌, ◌++◌, Some, Result, Ok}
 use Rattle.std.proofs.Common.{Err, map, refl, sym, ◌∙◌, ap, subst, arith, length, slice_get, slice_index_or, suc, zero}
 use Rattle.std.proofs.lemmas.List.{map-append}
-use Rattle.std.specs.Prelude.{IfErr, IsSome, OnOk}
+use Rattle.std.specs.Prelude.{IfErr, OnOk}
 use Rattle.pam_dispatch.specs.declared.flat_item.FlatItem.{FlatItem}
 use Rattle.pam_dispatch.specs.declared.key.PlaceKey.{PlaceKey}
 use Rattle.pam_dispatch.specs.declared.place.Place.{Place}

@@ -1,7 +1,7 @@
 -- Edges and walks in the order of a direction.
 use Rattle.std.proofs.Common.{◌≡◌, ℕ, ◌+◌, ◌-◌, ◌<◌, Bool, true, false, ◌||◌, List, [], ◌∷◌, ◌++◌, map, reverse, cond, refl, sym, ◌∙◌, ap, subst, arith}
 use Rattle.std.proofs.Common.{append_assoc, append-nil, drop, filter, length, slice_index_or, take, zero, suc}
-use Rattle.std.proofs.lemmas.List.{drop_more, get_or-reverse, length-append, length-map}
+use Rattle.std.proofs.lemmas.List.{drop_more, get_or-reverse, length-map}
 use Rattle.std.proofs.lemmas.List.{length-reverse, length-take-le, map-append, reverse-append, take-append-drop}
 use Rattle.std.proofs.lemmas.List.Elements.{filter-append}
 use Rattle.std.proofs.Math.ListN.{get_or-map}
@@ -31,7 +31,7 @@ use Rattle.pam_paths.proofs.Branches.{map-reverse}
 
 -- REVERSED LISTS
 
-filter-reverse : (p : PathValue → Bool) (xs : List PathValue) → filter p (reverse xs) ≡ reverse (filter p xs)
+pub filter-reverse : (p : PathValue → Bool) (xs : List PathValue) → filter p (reverse xs) ≡ reverse (filter p xs)
 filter-reverse p [] = refl
 filter-reverse p (x ∷ xs) =
     ap (filter p) (reverse-append (x ∷ []) xs)

@@ -1,5 +1,6 @@
 -- For private contracts and proofs alone: the part of the walks that is left, by the frames of the walk that was followed last.
-use Rattle.std.specs.Prelude.{◌≡◌, ℕ, ◌<◌, ◌+◌, Bool, true, false, if◌then◌else◌, List, [], ◌∷◌, ◌++◌, drop, length, map, reverse, slice_index_or, take}
+use Rattle.std.specs.Prelude.{◌≡◌, ℕ, ◌<◌, ◌+◌, Bool, List, [], ◌∷◌, ◌++◌, drop, length, map, reverse, slice_index_or, take}
+use Rattle.std.specs.Prelude.{IfSome, Option, None, Some}
 use Rattle.std.specs.List.{flat_map}
 use Rattle.pam_graph.specs.declared.direction.Direction.{Direction}
 use Rattle.pam_graph.specs.declared.direction.Direction.TheVariants.{Forward, Backward}
@@ -9,8 +10,7 @@ use Rattle.pam_graph.specs.declared.frames.Way.{Way}
 use Rattle.pam_graph.specs.declared.goal.Goal.{Goal}
 use Rattle.pam_graph.specs.declared.node.Edge.{Edge}
 use Rattle.pam_graph.specs.declared.node.Node.{Node}
-use Rattle.pam_graph.specs.declared.node.Target.{Target}
-use Rattle.pam_graph.specs.Order.{AreNodes, IsAbove, IsStart, numbers_of}
+use Rattle.pam_graph.specs.Order.{AreNodes, IsAbove, numbers_of}
 use Rattle.pam_graph.specs.Tallies.{tallies_of, wanted_of}
 use Rattle.pam_graph.specs.Walks.{walks_by, walks_of, walks_to}
 use Rattle.pam_paths.specs.Computed.{after_step}
@@ -89,12 +89,13 @@ pub record IsSearch (search : Search) : Type 0 where
   pub order : AreNodes [] search.nodes.now
   pub tallies : search.tallies.now ≡ tallies_of search.goal.now search.nodes.now
 
--- the walks that are left: all from where a run begins, or those after all that begin with the steps of the frames
-unfoldable pub coming : Direction → Goal → List Node → Target → Bool → List Frame → List PathValue
-coming direction goal nodes start at_start frames =
-    if at_start then along direction goal nodes (record { target = start; is_met = false }) else ahead direction goal nodes frames
+-- the walks that are left: those on a way after the steps of the frames, if there is one, then those after all that begin
+-- with these steps
+unfoldable pub coming : Direction → Goal → List Node → Option Way → List Frame → List PathValue
+coming direction goal nodes None frames = ahead direction goal nodes frames
+coming direction goal nodes (Some way) frames = under frames (along direction goal nodes way) ++ ahead direction goal nodes frames
 
--- frames of a walk; there are none at the start
-pub record IsExploring (nodes : List Node) (at_start : Bool) (frames : List Frame) : Type 0 where
+-- frames of a walk, and a way on after them, if there is one
+pub record IsExploring (nodes : List Node) (pending : Option Way) (frames : List Frame) : Type 0 where
   pub valid : AreFrames nodes 0 frames
-  pub start : at_start ≡ true → frames ≡ []
+  pub way : IfSome pending (λ way. IsAbove (numbers_of nodes) (length frames) way.target)

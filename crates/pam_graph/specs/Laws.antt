@@ -1,9 +1,12 @@
--- What the definition of goals implies.
-use Rattle.std.specs.Prelude.{◌≡◌, false, List, []}
+-- What the definition of goals implies, and of walks after a cursor.
+use Rattle.std.specs.Prelude.{◌≡◌, ℕ, ◌≤◌, false, All, List, []}
 use Rattle.std.specs.List.{list_any}
+use Rattle.pam_dispatch.specs.Runs.{Assignment}
 use Rattle.pam_graph.specs.declared.goal.Goal.{Goal}
 use Rattle.pam_graph.specs.declared.goal.Goal.TheVariants.{Any}
 use Rattle.pam_graph.specs.Goals.{meeting, meets}
+use Rattle.pam_paths.specs.Listing.{Allowance, IsListing}
+use Rattle.pam_paths.specs.Pages.{ArePrefix, after, pages}
 use Rattle.pam_paths.specs.Paths.{PathValue}
 
 -- each path meets the goal that wants nothing
@@ -13,3 +16,10 @@ AllMeetAny = (paths : List PathValue) → meeting Any paths ≡ paths
 -- a goal that no path meets has none
 abbrev pub NoneMeets : Type 0
 NoneMeets = (goal : Goal) (paths : List PathValue) → list_any (meets goal) paths ≡ false → meeting goal paths ≡ []
+
+-- the pages of the paths of a listing that meet a goal, each begun at the cursor of the one before, are a prefix of these paths
+abbrev pub MeetingPagesJoin : Type 0
+MeetingPagesJoin =
+    (goal : Goal) (allows : Allowance) (n : ℕ) (path_by : Assignment → PathValue) (all : List PathValue) (sizes : List ℕ) →
+    IsListing allows n path_by all → All (λ size. 1 ≤ size) sizes →
+    ArePrefix (pages (λ k. meeting goal (after k all)) (meeting goal all) sizes) (meeting goal all)

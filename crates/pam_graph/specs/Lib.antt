@@ -3,6 +3,7 @@ pub mod Frames
 pub mod Goals
 pub mod Laws
 pub mod Order
+pub mod Parts
 pub mod Reached
 pub mod Tallies
 pub mod Walks

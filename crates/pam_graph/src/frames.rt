@@ -1,6 +1,6 @@
 //! The frames of a walk: the nodes on it, with the edges that are left at each.
 
-ghost use Rattle.std.specs.Prelude.{◌≡◌, ◌≢◌, ◌-◌, ◌<◌, ◌∷◌, ◌++◌, ◌||◌, [], Bool, false, IfNone, IfSome, List, ℕ, drop, length, map, take};
+ghost use Rattle.std.specs.Prelude.{◌≡◌, ◌≢◌, ◌-◌, ◌<◌, ◌∷◌, ◌++◌, ◌||◌, [], Bool, false, IfNone, IfSome, List, Some, ℕ, drop, length, map, take};
 ghost use Rattle.pam_conf.specs.declared.stack.TheConstants.{MAX_MODULES};
 ghost use Rattle.pam_graph.specs.Frames.{AreFrames, IsSearch, ahead, along, edges_in, under, walk_to, wanted_by};
 ghost use Rattle.pam_graph.specs.Order.{AreAbove, IsAbove, numbers_of};
@@ -115,19 +115,20 @@ impl Search<'_> {
         None
     }
 
-    /// The way on which a run begins, if a wanted walk begins there.
-    pub(crate) fn begin(&self, start: Target) -> Option<Way>
+    /// The way, if there is one and a wanted walk goes on it.
+    pub(crate) fn begin(&self, pending: Option<Way>) -> Option<Way>
         requires search { IsSearch self.now }
-        requires within { IsWithin (length self.now.nodes.now) start }
-        ensures none { IfNone result (along self.now.direction self.now.goal.now self.now.nodes.now (record { target = start; is_met = false }) ≡ []) }
-        ensures way { IfSome result (λ way. way ≡ record { target = start; is_met = false }) }
+        requires within { IfSome pending (λ way. IsWithin (length self.now.nodes.now) way.target) }
+        ensures none { IfNone result (IfSome pending (λ way. along self.now.direction self.now.goal.now self.now.nodes.now way ≡ [])) }
+        ensures way { IfSome result (λ way. pending ≡ Some way) }
         ensures wanted { IfSome result (λ way. along self.now.direction self.now.goal.now self.now.nodes.now way ≢ []) }
     {
-        if has_walks(count_to(self.goal, false, self.tallies, &start)) {
-            return Some(Way {
-                target: start,
-                is_met: false,
-            });
+        let Some(way) = pending else {
+            return None;
+        };
+        let target = way.target;
+        if has_walks(count_to(self.goal, way.is_met, self.tallies, &target)) {
+            return Some(way);
         }
         None
     }

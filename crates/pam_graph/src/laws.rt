@@ -1,9 +1,15 @@
 //! Laws of the definitions that the contracts cite: each is the contract of an empty function.
 
-ghost use Rattle.pam_graph.specs.Laws.{AllMeetAny, NoneMeets};
+ghost use Rattle.pam_graph.specs.Laws.{AllMeetAny, MeetingPagesJoin, NoneMeets};
 
 /// Each path meets the goal `Any`, and a goal that no path meets has none.
 pub fn goals()
     ensures any { AllMeetAny }
     ensures none { NoneMeets }
+{}
+
+/// The pages of the paths that meet a goal, each begun at the cursor of the one before, are a prefix of these paths, and all of
+/// them if the last page says `end`.
+pub fn pages()
+    ensures { MeetingPagesJoin }
 {}

@@ -9,6 +9,7 @@ mod goal;
 mod graph;
 pub mod laws;
 mod node;
+mod retrace;
 mod tally;
 mod walks;
 

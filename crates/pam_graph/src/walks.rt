@@ -1,21 +1,22 @@
 //! The walks of a graph that meet a goal, one after another.
 
-ghost use Rattle.std.specs.Prelude.{◌≡◌, ◌≢◌, ◌-◌, ◌≤◌, ◌∷◌, ◌++◌, [], All, IfNone, IfOk, IfSome, MatchOption, false, length, map, slice_get, take};
+ghost use Rattle.std.specs.Prelude.{◌≡◌, ◌≢◌, ◌-◌, ◌≤◌, ◌∷◌, ◌++◌, [], All, IfNone, IfOk, IfSome, MatchOption, None, length, map, slice_get, take};
 ghost use Rattle.pam_conf.specs.declared.stack.TheConstants.{MAX_MODULES};
-ghost use Rattle.pam_graph.specs.Frames.{AreFirstSteps, AreFrames, IsExploring, IsSearch, ahead, along, coming, step_in, under};
+ghost use Rattle.pam_graph.specs.Frames.{AreFirstSteps, AreFrames, IsExploring, IsSearch, ahead, along, coming, ordered, step_in, under};
 ghost use Rattle.pam_graph.specs.Goals.{meeting};
-ghost use Rattle.pam_graph.specs.Order.{IsAbove, IsStart, numbers_of};
+ghost use Rattle.pam_graph.specs.Order.{IsAbove, numbers_of};
+ghost use Rattle.pam_graph.specs.Parts.{part};
 ghost use Rattle.pam_graph.specs.Walks.{walks};
+ghost use Rattle.pam_paths.specs.Pages.{after, before};
 
 use crate::direction::Direction;
 use crate::error::GraphError;
 use crate::frames::{Frame, Frames, Search, Way};
 use crate::goal::Goal;
 use crate::graph::Graph;
-use crate::node::Target;
 use crate::tally::{Tally, tallies};
 use arrayvec::ArrayVec;
-use pam_paths::Path;
+use pam_paths::{Cursor, Path};
 use std::alloc::Global;
 use std::marker::Model;
 
@@ -27,8 +28,8 @@ pub struct Walks<'a> {
     direction: Direction,
     /// The numbers of the walks from each node on.
     tallies: Vec<Tally>,
-    /// Whether the next walk is the first of all.
-    at_start: bool,
+    /// Where the next walks lead on from, after the steps of the frames, if it is no edge of theirs.
+    pending: Option<Way>,
     /// The nodes on the walk followed last.
     frames: Frames,
     /// The walk followed last.
@@ -37,7 +38,6 @@ pub struct Walks<'a> {
 
 impl<'a> Model for Walks<'a> {
     ghost use Rattle.pam_graph.specs.Frames.{AreFirstSteps, IsExploring, coming};
-    ghost use Rattle.pam_graph.specs.Order.{AreNodes, IsStart};
     ghost use Rattle.pam_graph.specs.Tallies.{tallies_of};
     ghost use Rattle.pam_graph.specs.WalksLeft.{WalksLeft};
     ghost use Rattle.std.specs.Prelude.{◌≡◌, []};
@@ -45,59 +45,51 @@ impl<'a> Model for Walks<'a> {
     ghost Value = { WalksLeft };
 
     ghost view = { λ w. record {
-      coming = coming w.direction w.goal w.graph.now.nodes w.graph.now.start w.at_start w.frames.items;
+      coming = coming w.direction w.goal w.graph.now.nodes w.pending w.frames.items;
       path = w.path;
     } };
 
-    ghost invariant = { λ w. IsExploring w.graph.now.nodes w.at_start w.frames.items × AreFirstSteps w.frames.items w.path.steps
+    ghost invariant = { λ w. IsExploring w.graph.now.nodes w.pending w.frames.items × AreFirstSteps w.frames.items w.path.steps
         × (w.tallies.items ≡ tallies_of w.goal w.graph.now.nodes) };
 }
 
 impl Search<'_> {
     /// Where the next walk leads on from, after the steps of `frames`; `None` if no wanted walk is left.
-    fn go_on(&self, start: Target, at_start: bool, frames: &mut Frames) -> Option<Way>
+    fn go_on(&self, pending: Option<Way>, frames: &mut Frames) -> Option<Way>
         requires search { IsSearch self.now }
-        requires start { IsStart self.now.nodes.now start }
-        requires exploring { IsExploring self.now.nodes.now at_start frames.old.items }
-        ensures none { IfNone result (coming self.now.direction self.now.goal.now self.now.nodes.now start at_start frames.old.items ≡ []) }
+        requires exploring { IsExploring self.now.nodes.now pending frames.old.items }
+        ensures none { IfNone result (coming self.now.direction self.now.goal.now self.now.nodes.now pending frames.old.items ≡ []) }
         ensures emptied { IfNone result (frames.new.items ≡ []) }
         ensures frames { AreFrames self.now.nodes.now 0 frames.new.items }
-        ensures walks { IfSome result (λ way. coming self.now.direction self.now.goal.now self.now.nodes.now start at_start frames.old.items
+        ensures walks { IfSome result (λ way. coming self.now.direction self.now.goal.now self.now.nodes.now pending frames.old.items
             ≡ under frames.new.items (along self.now.direction self.now.goal.now self.now.nodes.now way)
             ++ ahead self.now.direction self.now.goal.now self.now.nodes.now frames.new.items) }
         ensures wanted { IfSome result (λ way. along self.now.direction self.now.goal.now self.now.nodes.now way ≢ []) }
         ensures above { IfSome result (λ way. IsAbove (numbers_of self.now.nodes.now) (length frames.new.items) way.target) }
         ensures earlier { take (length frames.new.items - 1) frames.new.items ≡ take (length frames.new.items - 1) frames.old.items }
     {
-        if at_start {
-            return self.begin(start);
+        match self.begin(pending) {
+            Some(way) => Some(way),
+            None => self.advance(frames),
         }
-        self.advance(frames)
     }
 
     /// Makes `path` the next walk. Returns the number of its first steps that it shares with the walk before it; `None` if no
     /// wanted walk is left, and then `path` has no steps.
-    fn follow(
-        &self,
-        start: Target,
-        at_start: bool,
-        frames: &mut Frames,
-        path: &mut Path,
-    ) -> Option<usize>
+    fn follow(&self, pending: Option<Way>, frames: &mut Frames, path: &mut Path) -> Option<usize>
         requires search { IsSearch self.now }
-        requires start { IsStart self.now.nodes.now start }
-        requires exploring { IsExploring self.now.nodes.now at_start frames.old.items }
+        requires exploring { IsExploring self.now.nodes.now pending frames.old.items }
         requires steps { AreFirstSteps frames.old.items path.old.steps }
-        ensures exploring { IsExploring self.now.nodes.now false frames.new.items }
+        ensures exploring { IsExploring self.now.nodes.now None frames.new.items }
         ensures steps { AreFirstSteps frames.new.items path.new.steps }
-        ensures none { IfNone result (coming self.now.direction self.now.goal.now self.now.nodes.now start at_start frames.old.items ≡ []) }
-        ensures stays { IfNone result (coming self.now.direction self.now.goal.now self.now.nodes.now start false frames.new.items ≡ []) }
-        ensures path { IfSome result (λ _. coming self.now.direction self.now.goal.now self.now.nodes.now start at_start frames.old.items
-            ≡ path.new ∷ coming self.now.direction self.now.goal.now self.now.nodes.now start false frames.new.items) }
+        ensures none { IfNone result (coming self.now.direction self.now.goal.now self.now.nodes.now pending frames.old.items ≡ []) }
+        ensures stays { IfNone result (coming self.now.direction self.now.goal.now self.now.nodes.now None frames.new.items ≡ []) }
+        ensures path { IfSome result (λ _. coming self.now.direction self.now.goal.now self.now.nodes.now pending frames.old.items
+            ≡ path.new ∷ coming self.now.direction self.now.goal.now self.now.nodes.now None frames.new.items) }
         ensures no_steps { IfNone result (path.new.steps ≡ []) }
         ensures shared { IfSome result (λ shared. take shared path.new.steps ≡ take shared path.old.steps) }
     {
-        let Some(way) = self.go_on(start, at_start, frames) else {
+        let Some(way) = self.go_on(pending, frames) else {
             path.truncate(0);
             return None;
         };
@@ -139,13 +131,76 @@ impl Graph {
         ensures path { IfOk result (λ w. w.path.steps ≡ []) }
     {
         let tallies = tallies(alloc, &goal, &self.nodes)?;
+        let start = Way {
+            target: self.start(),
+            is_met: false,
+        };
         Ok(Walks {
             graph: self,
             goal,
             direction: Direction::Forward,
             tallies,
-            at_start: true,
+            pending: Some(start),
             frames: ArrayVec::new(),
+            path: Path::new(),
+        })
+    }
+
+    /// The walks that meet `goal` and come after `cursor`, in order. `cursor` need not be that of a walk. Returns `Memory` if
+    /// allocation fails.
+    pub fn walks_after(
+        &self,
+        alloc: Global,
+        goal: Goal,
+        cursor: &Cursor,
+    ) -> Result<Walks<'_>, GraphError>
+        ensures walks { IfOk result (λ w. w.coming ≡ meeting goal (after cursor.now (walks self.now))) }
+        ensures path { IfOk result (λ w. w.path.steps ≡ []) }
+    {
+        self.walks_past(alloc, goal, Direction::Forward, cursor)
+    }
+
+    /// The walks that meet `goal` and come before `cursor`, the last one first. `cursor` need not be that of a walk. Returns
+    /// `Memory` if allocation fails.
+    pub fn walks_before(
+        &self,
+        alloc: Global,
+        goal: Goal,
+        cursor: &Cursor,
+    ) -> Result<Walks<'_>, GraphError>
+        ensures walks { IfOk result (λ w. w.coming ≡ meeting goal (before cursor.now (walks self.now))) }
+        ensures path { IfOk result (λ w. w.path.steps ≡ []) }
+    {
+        self.walks_past(alloc, goal, Direction::Backward, cursor)
+    }
+
+    /// The walks that meet `goal` and come after `cursor` in a direction.
+    fn walks_past(
+        &self,
+        alloc: Global,
+        goal: Goal,
+        direction: Direction,
+        cursor: &Cursor,
+    ) -> Result<Walks<'_>, GraphError>
+        ensures walks { IfOk result (λ w. w.coming ≡ part direction cursor.now (meeting goal (ordered direction (walks self.now)))) }
+        ensures path { IfOk result (λ w. w.path.steps ≡ []) }
+    {
+        let tallies = tallies(alloc, &goal, &self.nodes)?;
+        let search = Search {
+            direction,
+            goal: &goal,
+            nodes: self.nodes(),
+            tallies: &tallies,
+        };
+        let mut frames = ArrayVec::new();
+        let pending = search.retrace(self.start(), cursor.codes(), &mut frames);
+        Ok(Walks {
+            graph: self,
+            goal,
+            direction,
+            tallies,
+            pending,
+            frames,
             path: Path::new(),
         })
     }
@@ -167,20 +222,15 @@ impl Walks<'_> {
         ensures no_steps { IfNone result (self.new.path.steps ≡ []) }
         ensures shared { IfSome result (λ shared. take shared self.new.path.steps ≡ take shared self.old.path.steps) }
     {
-        let at_start = self.at_start;
-        self.at_start = false;
+        let pending = self.pending;
+        self.pending = None;
         let search = Search {
             direction: self.direction,
             goal: &self.goal,
             nodes: self.graph.nodes(),
             tallies: &self.tallies,
         };
-        search.follow(
-            self.graph.start(),
-            at_start,
-            &mut self.frames,
-            &mut self.path,
-        )
+        search.follow(pending, &mut self.frames, &mut self.path)
     }
 
     /// The walk followed last. It has no steps before the first one is followed, and when none is left.

@@ -48,7 +48,7 @@ rising_back [] p ys h q m = PrecedesAll-at (key p) ys q h.0 m
 rising_back (x ∷ xs) p ys h q m = rising_back xs p ys h.1 q m
 
 -- the paths after one of them, and those before it
-split_after : (all xs : List PathValue) (p : PathValue) (ys : List PathValue) → all ≡ xs ++ p ∷ ys → IsRising all → after (key p) all ≡ ys
+pub split_after : (all xs : List PathValue) (p : PathValue) (ys : List PathValue) → all ≡ xs ++ p ∷ ys → IsRising all → after (key p) all ≡ ys
 split_after all xs p ys e rise =
     let rising : IsRising (xs ++ p ∷ ys) = subst IsRising e rise in
     let test : PathValue → Bool = λ q. precedes (key p) (key q) in
@@ -105,7 +105,7 @@ last_of_some [] h = absurd (omega (arith, h))
 last_of_some (p ∷ ps) h = last_of p ps
 
 -- a cursor leads to the paths after its own
-abbrev GoesOn : (List ℕ → List PathValue) → List PathValue → Type 0
+abbrev pub GoesOn : (List ℕ → List PathValue) → List PathValue → Type 0
 GoesOn go all = (front rest : List PathValue) (p : PathValue) → all ≡ front ++ p ∷ rest → go (key p) ≡ rest
 
 end_later : (paths : List PathValue) (k : List ℕ) (ps : List Page) → SayEnd (record { paths = paths; more = Some k } ∷ ps) → SayEnd ps
@@ -113,7 +113,7 @@ unfolding SayEnd
 end_later paths k [] h = absurd (let x : ⊥ = cc in x)
 end_later paths k (q ∷ qs) h = h
 
-pages_front : (go : List ℕ → List PathValue) (all front left : List PathValue) (sizes : List ℕ) → GoesOn go all → all ≡ front ++ left →
+pub pages_front : (go : List ℕ → List PathValue) (all front left : List PathValue) (sizes : List ℕ) → GoesOn go all → all ≡ front ++ left →
     All (λ size. 1 ≤ size) sizes → ArePrefix (pages go left sizes) left
 unfolding pages joined SayEnd
 pages_front go all front left [] on e ok = (left, refl, λ h. absurd h)

@@ -101,7 +101,7 @@ impl Cursor {
     }
 
     /// The numbers of the codes, in the order of the steps.
-    pub(crate) fn codes(&self) -> &[u8]
+    pub fn codes(&self) -> &[u8]
         ensures value { result.now ≡ self.now }
         ensures codes { All (λ code. code < CODES) result.now }
     {
@@ -122,8 +122,8 @@ fn least_codes(steps: &[PathStep]) -> ArrayVec<u8, MAX_MODULES>
     codes
 }
 
-/// The least code of a class; 0 if it is empty.
-pub(crate) fn least_number(class: CodeSet) -> u8
+/// The number of the least code of a class; 0 if it is empty.
+pub fn least_number(class: CodeSet) -> u8
     ensures value { result ≡ least class }
     ensures code { result < CODES }
 {

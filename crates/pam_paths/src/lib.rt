@@ -22,7 +22,7 @@ mod scope;
 mod tail_steps;
 
 pub use before::Before;
-pub use cursor::{Cursor, CursorError};
+pub use cursor::{Cursor, CursorError, least_number};
 pub use explorer::Explorer;
 pub use fork::{Choice, Fork};
 pub use knowledge::{Free, Knowledge, Known};

@@ -1,4 +1,4 @@
-use Rattle.std.proofs.Common.{◌≡◌, ◌<◌, ◌≤◌, ◌+◌, ◌++◌, ◌∷◌, ◌∙◌, [], ℕ, List, Some, ap, append-nil, arith, length, refl, rules, subst, sym, true}
+use Rattle.std.proofs.Common.{◌≡◌, ◌<◌, ◌++◌, ◌∷◌, ◌∙◌, [], ℕ, List, Some, ap, append-nil, arith, refl, rules, subst, sym, true}
 use Rattle.std.specs.List.{flat_map}
 use Rattle.std.specs.Prelude.{IsSome}
 use Rattle.pam_dispatch.specs.declared.place.Place.{Place}
@@ -8,7 +8,7 @@ use Rattle.pam_dispatch.specs.Runs.{AsksRise, after_answer, asked_module}
 use Rattle.pam_graph.specs.declared.node.Edge.{Edge}
 use Rattle.pam_graph.specs.declared.node.Node.{Node}
 use Rattle.pam_graph.specs.Building.{modules_left}
-use Rattle.pam_graph.specs.Order.{AreAbove, IsAbove, IsNode, LeastRise, numbers_of}
+use Rattle.pam_graph.specs.Order.{AreAbove, IsNode, LeastRise, numbers_of}
 use Rattle.pam_graph.specs.Walks.{walks_by, walks_of}
 use Rattle.pam_graph.proofs.Growing.{AreAbove-push, LeastRise-more, LeastRise-push, above-extended}
 use Rattle.pam_graph.proofs.Growing.{added-above, added-built, added-extended, added-walks, built-found}

@@ -1,4 +1,4 @@
-use Rattle.std.proofs.Common.{◌+◌, ◌++◌, ◌∷◌, ◌∙◌, [], List, arith, ap, length, map, slice_index_or, sym, take}
+use Rattle.std.proofs.Common.{◌++◌, ◌∷◌, ◌∙◌, [], List, arith, ap, map, sym, take}
 use Rattle.std.proofs.lemmas.List.{get_or-map, length-map, take_more}
 use Rattle.pam_graph.specs.Frames.{step_in}
 use Rattle.pam_graph.proofs.walks.push_steps.Goals as goal

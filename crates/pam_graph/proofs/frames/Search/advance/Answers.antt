@@ -1,4 +1,4 @@
-use Rattle.std.proofs.Common.{◌≡◌, ◌+◌, ◌-◌, ◌<◌, ◌++◌, ◌∷◌, ◌∙◌, [], List, ℕ, ap, drop, length, lit<, map, rules, slice_index_or, subst, sym}
+use Rattle.std.proofs.Common.{◌≡◌, ◌<◌, ◌++◌, ◌∷◌, ◌∙◌, [], List, ℕ, ap, drop, length, lit<, map, rules, slice_index_or, subst, sym}
 use Rattle.std.proofs.lemmas.List.{length-append}
 use Rattle.pam_graph.specs.declared.frames.Frame.{Frame}
 use Rattle.pam_graph.specs.declared.node.Edge.{Edge}
@@ -7,7 +7,7 @@ use Rattle.pam_graph.specs.Order.{AreAbove, IsAbove, numbers_of}
 use Rattle.pam_graph.specs.Tallies.{wanted_of}
 use Rattle.pam_graph.specs.Walks.{walks_to}
 use Rattle.pam_graph.specs.Within.{AreWithin}
-use Rattle.pam_graph.proofs.FrameLists.{ahead-next, ahead-none, frame-above, frame-follows, frame-left, frame-number, frame-room, popped, pushed}
+use Rattle.pam_graph.proofs.FrameLists.{ahead-next, ahead-none, frame-above, frame-follows, frame-left, frame-room, popped, pushed}
 use Rattle.pam_graph.proofs.Sides.{node-within, tallies-in}
 use Rattle.pam_graph.proofs.frames.Search.advance.Goals as goal
 use Rattle.pam_paths.specs.Computed.{after_step}

@@ -1,4 +1,4 @@
-use Rattle.std.proofs.Common.{◌∙◌, ap}
+use Rattle.std.proofs.Common.{◌∙◌}
 use Rattle.pam_graph.proofs.FrameLists.{ahead-end}
 use Rattle.pam_graph.proofs.frames.Search.descend.Goals as goal
 

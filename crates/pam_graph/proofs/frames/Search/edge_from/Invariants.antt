@@ -1,4 +1,4 @@
-use Rattle.std.proofs.Common.{◌≡◌, ◌≤◌, ◌||◌, Bool, List, ℕ, drop, map}
+use Rattle.std.proofs.Common.{◌≡◌, ◌||◌, Bool, List, ℕ, drop, map}
 use Rattle.pam_graph.specs.Frames.{edges_in, wanted_by}
 use Rattle.pam_graph.specs.Tallies.{met_by, tally_of}
 use Rattle.pam_paths.specs.Paths.{PathValue}

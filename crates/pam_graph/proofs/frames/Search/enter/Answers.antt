@@ -1,18 +1,17 @@
-use Rattle.std.proofs.Common.{◌≡◌, ◌+◌, ◌<◌, ◌++◌, ◌∷◌, ◌∙◌, [], List, ℕ, arith, ap, drop, length, lit<, map, refl, slice_index_or, subst, sym}
-use Rattle.std.proofs.lemmas.List.{length-append, length-map}
+use Rattle.std.proofs.Common.{◌≡◌, ◌<◌, ◌++◌, ◌∙◌, [], List, ℕ, ap, drop, length, lit<, map, refl, slice_index_or, subst, sym}
+use Rattle.std.proofs.lemmas.List.{length-append}
 use Rattle.pam_graph.specs.declared.frames.Frame.{Frame}
 use Rattle.pam_graph.specs.declared.node.Edge.{Edge}
 use Rattle.pam_graph.specs.declared.node.Node.{Node}
 use Rattle.pam_graph.specs.declared.node.Target.TheVariants.{At}
-use Rattle.pam_graph.specs.Frames.{AreFrames, IsFrame, ahead, edges_at, edges_in, known_in, left_at, step_in, under, wanted_by}
-use Rattle.pam_graph.specs.Order.{AreAbove, IsAbove, number_of, numbers_of}
+use Rattle.pam_graph.specs.Frames.{AreFrames, IsFrame, ahead, edges_in, known_in, step_in, under, wanted_by}
+use Rattle.pam_graph.specs.Order.{AreAbove, IsAbove, numbers_of}
 use Rattle.pam_graph.specs.Tallies.{wanted_of}
 use Rattle.pam_graph.specs.Walks.{walks_to}
 use Rattle.pam_graph.specs.Within.{AreWithin}
-use Rattle.pam_graph.proofs.FrameLists.{ahead-enter, edges-are, frame-above, frame-room, pushed}
-use Rattle.pam_graph.proofs.Sides.{node-lower, node-within, number-at, tallies-in, walks-in}
+use Rattle.pam_graph.proofs.FrameLists.{ahead-enter, edges-are, frame-above, frame-room, node-framed, node-inside, pushed}
+use Rattle.pam_graph.proofs.Sides.{node-lower, node-within, tallies-in, walks-in}
 use Rattle.pam_paths.specs.Computed.{after_step}
-use Rattle.pam_paths.specs.Paths.{PathValue}
 use Rattle.pam_graph.proofs.frames.Search.enter.Goals as goal
 use Rattle.pam_graph.proofs.frames.Search.enter.Goals.{After-deref}
 
@@ -24,7 +23,7 @@ at : (c : After-deref) → node c ≡ slice_index_or c.args.self.now.nodes.now c
 at c = ap (slice_index_or c.args.self.now.nodes.now c.args.index) c.index-self-index.is
 
 low : (c : After-deref) → c.args.index < length c.args.self.now.nodes.now
-low c = let k = c.requires.above.0 in omega (arith, k, length-map c.args.self.now.nodes.now number_of)
+low c = node-inside c.args.self.now.nodes.now c.requires.search.order c.args.index (node c) (at c) _ c.requires.above
 
 pub edge_from-requires : goal.edge_from-requires
 edge_from-requires c =
@@ -53,15 +52,7 @@ unreachable-requires c =
 -- the frame of the node
 framed : (c : After-deref) (f : Frame) → f.node ≡ c.args.index → f.module_number ≡ (node c).module_number →
     IsFrame c.args.self.now.nodes.now (length c.args.frames.now.items) f
-framed c f there numbered =
-    let s = c.args.self.now in
-    let number = number-at s.nodes.now c.requires.search.order c.args.index (node c) (low c) (at c) in
-    let above = c.requires.above.1 in
-    record {
-      node = subst (λ (n : ℕ). n < length s.nodes.now) (sym there) (low c);
-      number = numbered ∙ sym number ∙ ap (λ (n : ℕ). slice_index_or (numbers_of s.nodes.now) n 0) (sym there);
-      above = omega (arith, above, number, numbered);
-    }
+framed c = node-framed c.args.self.now.nodes.now c.requires.search.order c.args.index (node c) (at c) _ c.requires.above
 
 pub push-requires : goal.push-requires
 push-requires c =

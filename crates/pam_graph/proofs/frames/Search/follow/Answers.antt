@@ -6,7 +6,7 @@ use Rattle.pam_graph.specs.Frames.{ahead, coming, step_in}
 use Rattle.pam_graph.proofs.Following.{frames-most, shared_steps, walk-told}
 use Rattle.pam_graph.proofs.frames.Search.follow.Goals as goal
 use Rattle.pam_graph.proofs.frames.Search.follow.Goals.{After-as_slice}
-use Rattle.pam_paths.specs.Paths.{PathValue, StepValue}
+use Rattle.pam_paths.specs.Paths.{PathValue}
 use Rattle.pam_paths.specs.Steps.{step_seen}
 
 pub returns-in_default-clause-stays : goal.returns-in_default-clause-stays

@@ -1,4 +1,4 @@
-use Rattle.std.proofs.Common.{◌∙◌, List, ap, false, sym}
+use Rattle.std.proofs.Common.{◌∙◌, List, ap, false}
 use Rattle.std.specs.List.{list_any}
 use Rattle.pam_graph.specs.declared.tally.Tally.{Tally}
 use Rattle.pam_graph.specs.Goals.{meets}
