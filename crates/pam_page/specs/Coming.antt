@@ -2,33 +2,39 @@
 use Rattle.std.specs.Prelude.{ℕ, ◌+◌, ◌*◌, List, codes}
 use Rattle.pam_paths.specs.Paths.{PathValue}
 use Rattle.pam_page.specs.declared.listing.Listing.{Listing}
-use Rattle.pam_page.specs.declared.listing.Listing.TheVariants.{Forward, Backward}
+use Rattle.pam_page.specs.declared.listing.Listing.TheVariants.{Forward, Backward, WalksForward, WalksBackward}
 
 -- the remaining paths, in order
 abbrev pub coming : {K : Type 0} → Listing K → List PathValue
 coming (Forward explorer) = explorer.coming
 coming (Backward before) = before.coming
+coming (WalksForward walks) = walks.coming
+coming (WalksBackward walks) = walks.coming
 
 -- the path followed last
 abbrev pub followed : {K : Type 0} → Listing K → PathValue
 followed (Forward explorer) = explorer.path
 followed (Backward before) = before.path
+followed (WalksForward walks) = walks.path
+followed (WalksBackward walks) = walks.path
 
 -- the option that, with the last cursor of a page, lists the next page
 abbrev pub side : {K : Type 0} → Listing K → List ℕ
 side (Forward explorer) = codes "after"
 side (Backward before) = codes "before"
+side (WalksForward walks) = codes "after"
+side (WalksBackward walks) = codes "before"
 
--- the number of steps made so far
+-- the number of steps made so far; walks of a graph make none
 abbrev pub work : {K : Type 0} → Listing K → ℕ
 work (Forward explorer) = explorer.work
 work (Backward before) = before.work
-
--- the number of modules of the program
-abbrev pub modules : {K : Type 0} → Listing K → ℕ
-modules (Forward explorer) = explorer.modules
-modules (Backward before) = before.modules
+work (WalksForward walks) = 0
+work (WalksBackward walks) = 0
 
 -- the most steps that following one path makes
 abbrev pub most_steps : {K : Type 0} → Listing K → ℕ
-most_steps listing = 64 * (modules listing + 1)
+most_steps (Forward explorer) = 64 * (explorer.modules + 1)
+most_steps (Backward before) = 64 * (before.modules + 1)
+most_steps (WalksForward walks) = 0
+most_steps (WalksBackward walks) = 0

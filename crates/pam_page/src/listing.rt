@@ -1,8 +1,9 @@
 //! The paths that a page is taken from, in either direction.
 
 ghost use Rattle.std.specs.Prelude.{◌≡◌, ◌≤◌, ◌+◌, ◌∷◌, [], IfSome, MatchOption, drop, take};
-ghost use Rattle.pam_page.specs.Coming.{coming, followed, modules, most_steps, side, work};
+ghost use Rattle.pam_page.specs.Coming.{coming, followed, most_steps, side, work};
 
+use pam_graph::Walks;
 use pam_paths::{Before, Explorer, Knowledge, Path};
 
 /// The remaining paths through a stack, in either direction.
@@ -12,6 +13,10 @@ pub enum Listing<'a, K: Knowledge> {
     Forward(Explorer<'a, K>),
     /// In descending order of cursors.
     Backward(Before<'a, K>),
+    /// The walks of a graph, in ascending order of cursors.
+    WalksForward(Walks<'a>),
+    /// The walks of a graph, in descending order of cursors.
+    WalksBackward(Walks<'a>),
 }
 
 impl<K: Knowledge> Listing<'_, K> {
@@ -22,13 +27,15 @@ impl<K: Knowledge> Listing<'_, K> {
         ensures shared { IfSome result (λ shared. take shared (followed self.new).steps ≡ take shared (followed self.old).steps) }
         ensures left { coming self.new ≡ drop 1 (coming self.old) }
         ensures side { side self.new ≡ side self.old }
-        ensures modules { modules self.new ≡ modules self.old }
+        ensures most { most_steps self.new ≡ most_steps self.old }
         ensures work { work self.new ≤ work self.old + most_steps self.old }
         ensures grows { work self.old ≤ work self.new }
     {
         match self {
             Listing::Forward(explorer) => explorer.follow(),
             Listing::Backward(before) => before.follow(),
+            Listing::WalksForward(walks) => walks.follow(),
+            Listing::WalksBackward(walks) => walks.follow(),
         }
     }
 
@@ -39,6 +46,8 @@ impl<K: Knowledge> Listing<'_, K> {
         match self {
             Listing::Forward(explorer) => explorer.path(),
             Listing::Backward(before) => before.path(),
+            Listing::WalksForward(walks) => walks.path(),
+            Listing::WalksBackward(walks) => walks.path(),
         }
     }
 
@@ -49,6 +58,8 @@ impl<K: Knowledge> Listing<'_, K> {
         match self {
             Listing::Forward(_) => b"after",
             Listing::Backward(_) => b"before",
+            Listing::WalksForward(_) => b"after",
+            Listing::WalksBackward(_) => b"before",
         }
     }
 }

@@ -2,7 +2,7 @@
 
 ghost use Rattle.std.specs.Prelude.{◌≡◌, ◌+◌, ◌-◌, ◌*◌, ◌<◌, ◌≤◌, ◌^◌, [], OnOk, drop, length, take};
 ghost use Rattle.pam_codes.specs.Out.{Writes};
-ghost use Rattle.pam_page.specs.Coming.{coming, followed, modules, most_steps, side, work};
+ghost use Rattle.pam_page.specs.Coming.{coming, followed, most_steps, side, work};
 ghost use Rattle.pam_page.specs.Lines.{Adds};
 ghost use Rattle.pam_page.specs.Page.{first_page, page_text, path_line, text_after};
 
@@ -28,7 +28,7 @@ pub fn put_page<K: Knowledge, W: Write>(
     ensures written { Writes W.contents out.old out.new result (page_text (side listing.old) (first_page limit (coming listing.old))) }
     ensures left { OnOk result (coming listing.new ≡ drop (limit + 1) (coming listing.old)) }
     ensures side { side listing.new ≡ side listing.old }
-    ensures modules { modules listing.new ≡ modules listing.old }
+    ensures most { most_steps listing.new ≡ most_steps listing.old }
     ensures work { work listing.new ≤ work listing.old + most_steps listing.old * (limit + 1) }
     ensures grows { work listing.old ≤ work listing.new }
 {
@@ -53,7 +53,7 @@ fn put_lines<K: Knowledge, W: Write>(
     ensures written { Writes W.contents out.old out.new result (page_text (side listing.old) (first_page limit (coming listing.old))) }
     ensures left { OnOk result (coming listing.new ≡ drop (limit + 1) (coming listing.old)) }
     ensures side { side listing.new ≡ side listing.old }
-    ensures modules { modules listing.new ≡ modules listing.old }
+    ensures most { most_steps listing.new ≡ most_steps listing.old }
     ensures work { work listing.new ≤ work listing.old + most_steps listing.old * (limit + 1) }
     ensures grows { work listing.old ≤ work listing.new }
 {
@@ -85,7 +85,7 @@ fn put_rest<K: Knowledge, W: Write>(
     ensures written { Writes W.contents out.old out.new result (text_after (side listing.old) count (first_page 1 (coming listing.old))) }
     ensures left { OnOk result (coming listing.new ≡ drop 2 (coming listing.old)) }
     ensures side { side listing.new ≡ side listing.old }
-    ensures modules { modules listing.new ≡ modules listing.old }
+    ensures most { most_steps listing.new ≡ most_steps listing.old }
     ensures work { work listing.new ≤ work listing.old + most_steps listing.old * 2 }
     ensures grows { work listing.old ≤ work listing.new }
 {

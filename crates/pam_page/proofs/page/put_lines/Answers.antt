@@ -1,4 +1,4 @@
-use Rattle.std.proofs.Common.{◌≡◌, ◌+◌, ◌*◌, ◌≤◌, ◌-◌, ◌∙◌, ◌++◌, List, None, refl, ℕ, drop, sym, subst, ap, arith, length, take}
+use Rattle.std.proofs.Common.{◌≡◌, ◌+◌, ◌≤◌, ◌-◌, ◌∙◌, ◌++◌, List, None, refl, ℕ, drop, sym, subst, ap, arith, length, take}
 use Rattle.std.specs.List.{flat_map}
 use Rattle.std.specs.Prelude.{OnOk}
 use Rattle.std.proofs.lemmas.List.{drop-drop}
@@ -66,8 +66,8 @@ loop-count-preserved g c =
       kept = subst (λ (l : List StepValue). l ≡ take (length l) (followed c.follow.new.self).steps) (sym c.in_ok-add_line.ensures.kept)
           (c.replace.ensures ∙ ap (take _) (ap (λ (p : PathValue). p.steps) c.path-path.ensures));
       within = omega (arith, next.inside);
-      same = c.in-Some.ensures.modules ∙ l.invariant.same;
-      steps = steps_more _ _ _ _ _ _ l.invariant.steps (ap (λ (modules : ℕ). 64 * (modules + 1)) l.invariant.same) c.in-Some.ensures.work;
+      same = c.in-Some.ensures.most ∙ l.invariant.same;
+      steps = steps_more _ _ _ _ _ _ l.invariant.steps l.invariant.same c.in-Some.ensures.work;
       grows = omega (arith, l.invariant.grows, c.in-Some.ensures.grows);
     }
 

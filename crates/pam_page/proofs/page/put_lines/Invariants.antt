@@ -1,7 +1,7 @@
 -- the lines so far are written or kept, and the later paths remain
 use Rattle.std.proofs.Common.{◌≡◌, ◌+◌, ◌*◌, ◌≤◌, take, drop, length}
 use Rattle.std.specs.List.{flat_map}
-use Rattle.pam_page.specs.Coming.{coming, followed, modules, most_steps, side, work}
+use Rattle.pam_page.specs.Coming.{coming, followed, most_steps, side, work}
 use Rattle.pam_page.specs.Lines.{Holds}
 use Rattle.pam_page.specs.Page.{path_line}
 use Rattle.pam_page.proofs.page.put_lines.Given as goal
@@ -13,7 +13,7 @@ invariant-loop-count g l = record {
   side : side l.listing ≡ side l.fn.listing;
   kept : l.texts ≡ take (length l.texts) (followed l.listing).steps;
   within : l.count ≤ length (coming l.fn.listing);
-  same : modules l.listing ≡ modules l.fn.listing;
+  same : most_steps l.listing ≡ most_steps l.fn.listing;
   steps : work l.listing ≤ work l.fn.listing + most_steps l.fn.listing * l.count;
   grows : work l.fn.listing ≤ work l.listing;
 }
