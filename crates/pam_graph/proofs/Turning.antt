@@ -262,7 +262,8 @@ module _ (d : Direction) (goal : Goal) where
   end-part : (is_met has_code : Bool) (decision : ℕ) (k : List ℕ) → is_past d k (ended decision) ≡ has_code →
       part d k (wanted_of goal is_met (ended decision ∷ [])) ≡ cond has_code (wanted_of goal is_met (ended decision ∷ [])) []
   end-part is_met has_code decision k h =
-      elim (wanted goal is_met (ended decision)) as (λ (t : Bool). part d k (cond t (ended decision ∷ []) []) ≡ cond has_code (cond t (ended decision ∷ []) []) []) [
+      elim (wanted goal is_met (ended decision)) as (λ (t : Bool).
+      part d k (cond t (ended decision ∷ []) []) ≡ cond has_code (cond t (ended decision ∷ []) []) []) [
         | true ↦ ap (λ (t : Bool). cond t (ended decision ∷ []) []) h
         | false ↦ sym (nothing has_code)
       ]
@@ -271,7 +272,8 @@ module _ (d : Direction) (goal : Goal) where
       nothing true = refl
       nothing false = refl
 
-  at-edges : (is_met past : Bool) (known : List (List PathValue)) (m : ℕ) → ((step : StepValue) (walk : PathValue) → is_past d [] (after_step step walk) ≡ past) →
+  at-edges : (is_met past : Bool) (known : List (List PathValue)) (m : ℕ) →
+      ((step : StepValue) (walk : PathValue) → is_past d [] (after_step step walk) ≡ past) →
       (es : List Edge) → part d [] (wanted_by goal is_met known m es) ≡ cond past (wanted_by goal is_met known m es) []
   at-edges is_met true known m h [] = refl
   at-edges is_met false known m h [] = refl

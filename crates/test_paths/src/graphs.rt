@@ -10,7 +10,7 @@ use pam_paths::{Explorer, Free, Path};
 use std::alloc::Global;
 
 /// Whether a path is one that a goal wants.
-fn is_wanted(goal: &Goal, path: &Path) -> bool {
+pub(crate) fn is_wanted(goal: &Goal, path: &Path) -> bool {
     match goal {
         Goal::Any => true,
         Goal::Decides(codes) => codes.contains(path.decision()),
@@ -48,11 +48,8 @@ fn agrees(alloc: Global, program: &Program, graph: &Graph, goal: Goal) -> Result
     Ok(walks.next().is_none() && graph.count(alloc, &goal)? == Some(count) && is_met == (count > 0))
 }
 
-/// Prints how many goals have the same walks in the graph as paths in the listing.
-pub(crate) fn graph(rt: &HostRuntime, service: &str) -> Result<(), Error> {
-    let alloc = rt.alloc();
-    let program = program_of(rt, service)?;
-    let graph = Graph::of(alloc, &program, &Free)?;
+/// Each goal: none, each decision, and each module.
+pub(crate) fn goals_of(alloc: Global, program: &Program) -> Result<Vec<Goal>, Error> {
     let mut goals = vec![in alloc; Goal::Any; 1]?;
     for number in 0..CODES {
         if let Some(code) = Code::new(number as u8) {
@@ -62,6 +59,15 @@ pub(crate) fn graph(rt: &HostRuntime, service: &str) -> Result<(), Error> {
     for number in 0..program.modules() {
         goals.push(Goal::Asks(number + 1))?;
     }
+    Ok(goals)
+}
+
+/// Prints how many goals have the same walks in the graph as paths in the listing.
+pub(crate) fn graph(rt: &HostRuntime, service: &str) -> Result<(), Error> {
+    let alloc = rt.alloc();
+    let program = program_of(rt, service)?;
+    let graph = Graph::of(alloc, &program, &Free)?;
+    let goals = goals_of(alloc, &program)?;
     let mut same: usize = 0;
     for goal in &goals {
         if agrees(alloc, &program, &graph, *goal)? {

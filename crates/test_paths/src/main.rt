@@ -18,6 +18,7 @@ mod lines;
 mod pages;
 mod released;
 mod stacks;
+mod walks;
 mod ways;
 
 use anyhow::Error;
@@ -86,6 +87,7 @@ fn test(rt: &HostRuntime, words: &[&str]) -> Result<(), Error> {
         "ways" => ways::ways(rt, words[1]),
         "cursor" if words.len() == 3 => cursors::cursor(rt, words[1], words[2]),
         "graph" => graphs::graph(rt, words[1]),
+        "walks" if words.len() == 3 => walks::walks(rt, words[1], words[2]),
         "assign" => assignments::assign(rt, words[1]),
         "findings" => released::print_findings(rt, words[1], &words[2..]),
         _ => {

@@ -63,7 +63,8 @@ returns-clause-walks c =
     let frames = c.loop-code.frames.items in
     sym (c.loop-code.invariant.same
     ∙ ap (λ (x : List PathValue). under frames x ++ ahead s.direction s.goal.now s.nodes.now frames)
-    (ap (λ (k : List ℕ). part s.direction k (along s.direction s.goal.now s.nodes.now way)) (drop_all c.loop-code.code-index c.args.codes.now c.loop-code-test.false)
+    (ap (λ (k : List ℕ). part s.direction k (along s.direction s.goal.now s.nodes.now way))
+    (drop_all c.loop-code.code-index c.args.codes.now c.loop-code-test.false)
     ∙ past-key s.direction s.goal.now s.nodes.now way.is_met way.target _ c.requires.order c.loop-code.invariant.above)
     ∙ taken s.direction s.goal.now s.nodes.now frames way (is_past_end s.direction false way.target)
     ∙ ap (λ (p : Option Way). coming s.direction s.goal.now s.nodes.now p frames) (sym c.way_past-2.ensures))

@@ -25,8 +25,8 @@ pub returns-clause-walks : goal.returns-clause-walks
 unfolding coming under ahead
 returns-clause-walks c =
     let g = c.args.self.now in
-    ap (λ (x : List Frame). under x (along Forward c.args.goal g.nodes (record { target = c.start.result; is_met = false })) ++ ahead Forward c.args.goal g.nodes x)
-    c.new.ensures
+    ap (λ (x : List Frame). under x (along Forward c.args.goal g.nodes (record { target = c.start.result; is_met = false }))
+    ++ ahead Forward c.args.goal g.nodes x) c.new.ensures
     ∙ append-nil _
     ∙ ap (λ (t : Target). along Forward c.args.goal g.nodes (record { target = t; is_met = false })) c.start.ensures.start
     ∙ ap (wanted_of c.args.goal false) (known-at Forward g.nodes g.start)

@@ -1,0 +1,105 @@
+//! Compares the walks of a graph after a cursor, and those before it, with the paths of an explorer, for each goal.
+
+use crate::graphs::{goals_of, is_wanted};
+use crate::lines::line_of;
+use crate::stacks::program_of;
+use anyhow::Error;
+use pam_codes::Out;
+use pam_dispatch::Program;
+use pam_graph::{Goal, Graph};
+use pam_page::{LineTexts, Listing, put_page};
+use pam_paths::{Cursor, Explorer, Free};
+use std::alloc::Global;
+
+/// The lines of the paths that a goal wants and whose codes come before those of a cursor, and of those that come after them.
+#[derive(Drop)]
+struct Parts {
+    before: Vec<Vec<u8>>,
+    after: Vec<Vec<u8>>,
+}
+
+fn parts_of(alloc: Global, program: &Program, goal: &Goal, cursor: &Cursor) -> Result<Parts, Error> {
+    let mut parts = Parts {
+        before: Vec::new(alloc),
+        after: Vec::new(alloc),
+    };
+    let mut explorer = Explorer::start(program, &Free);
+    for _ in 0..u64::MAX {
+        let Some(path) = explorer.next() else {
+            break;
+        };
+        if !is_wanted(goal, &path) {
+            continue;
+        }
+        let own = path.cursor();
+        let line = line_of(alloc, &path)?;
+        if own.codes() < cursor.codes() {
+            parts.before.push(line)?;
+        } else if own.codes() > cursor.codes() {
+            parts.after.push(line)?;
+        }
+    }
+    Ok(parts)
+}
+
+/// The text of a listing, as one page.
+fn page_of(alloc: Global, listing: &mut Listing<'_, Free>) -> Result<Vec<u8>, Error> {
+    let mut text = Vec::new(alloc);
+    put_page(
+        listing,
+        u32::MAX,
+        LineTexts::new(alloc)?,
+        &mut Out::new(&mut text),
+    )?;
+    Ok(text)
+}
+
+/// The text of a page with these lines, the last one first if `is_reversed`.
+fn text_of(alloc: Global, lines: &[Vec<u8>], is_reversed: bool) -> Result<Vec<u8>, Error> {
+    let mut text = Vec::new(alloc);
+    for index in 0..lines.len() {
+        let at = if is_reversed { lines.len() - 1 - index } else { index };
+        text.extend_from_slice(&lines[at])?;
+        text.push(b'\n')?;
+    }
+    let mut out = Out::new(&mut text);
+    out.put(b"end ")?;
+    out.put_number(lines.len() as u64)?;
+    out.put(b" paths\n")?;
+    Ok(text)
+}
+
+/// Whether the walks that meet a goal, after a cursor and before it, are those of the explorer.
+fn agrees(
+    alloc: Global,
+    program: &Program,
+    graph: &Graph,
+    goal: Goal,
+    cursor: &Cursor,
+) -> Result<bool, Error> {
+    let parts = parts_of(alloc, program, &goal, cursor)?;
+    let after = graph.walks_after(alloc, goal, cursor)?;
+    let after = page_of(alloc, &mut Listing::WalksForward(after))?;
+    let before = graph.walks_before(alloc, goal, cursor)?;
+    let before = page_of(alloc, &mut Listing::WalksBackward(before))?;
+    let after_is = text_of(alloc, &parts.after, false)?;
+    let before_is = text_of(alloc, &parts.before, true)?;
+    Ok(after.as_slice() == after_is.as_slice() && before.as_slice() == before_is.as_slice())
+}
+
+/// Prints how many goals have the same walks after a cursor, and before it, as paths in the listing.
+pub(crate) fn walks(rt: &HostRuntime, service: &str, text: &str) -> Result<(), Error> {
+    let alloc = rt.alloc();
+    let program = program_of(rt, service)?;
+    let graph = Graph::of(alloc, &program, &Free)?;
+    let cursor = Cursor::read(text.as_bytes())?;
+    let goals = goals_of(alloc, &program)?;
+    let mut same: usize = 0;
+    for goal in &goals {
+        if agrees(alloc, &program, &graph, *goal, &cursor)? {
+            same = same.saturating_add(1);
+        }
+    }
+    println!(rt; "{same} of {} goals agree", goals.len())?;
+    Ok(())
+}
