@@ -2,6 +2,7 @@ pub mod Counting
 pub mod Following
 pub mod FrameLists
 pub mod Growing
+pub mod Paging
 pub mod Reaching
 pub mod Sides
 pub mod Tables

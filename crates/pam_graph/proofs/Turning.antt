@@ -48,7 +48,7 @@ filter-none p f h (x ∷ xs) =
     ap (λ (t : Bool). cond t (f x ∷ filter p (map f xs)) (filter p (map f xs))) (h x) ∙ filter-none p f h xs
 
 -- two tests, in either order
-filter-swap : (p q : PathValue → Bool) (xs : List PathValue) → filter p (filter q xs) ≡ filter q (filter p xs)
+pub filter-swap : (p q : PathValue → Bool) (xs : List PathValue) → filter p (filter q xs) ≡ filter q (filter p xs)
 filter-swap p q [] = refl
 filter-swap p q (x ∷ xs) = each (p x) (q x) refl refl (filter-swap p q xs)
   where

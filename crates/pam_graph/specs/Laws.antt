@@ -6,7 +6,7 @@ use Rattle.pam_graph.specs.declared.goal.Goal.{Goal}
 use Rattle.pam_graph.specs.declared.goal.Goal.TheVariants.{Any}
 use Rattle.pam_graph.specs.Goals.{meeting, meets}
 use Rattle.pam_paths.specs.Listing.{Allowance, IsListing}
-use Rattle.pam_paths.specs.Pages.{ArePrefix, after, pages}
+use Rattle.pam_paths.specs.Pages.{ArePrefix, after, before, pages}
 use Rattle.pam_paths.specs.Paths.{PathValue}
 
 -- each path meets the goal that wants nothing
@@ -23,3 +23,10 @@ MeetingPagesJoin =
     (goal : Goal) (allows : Allowance) (n : ℕ) (path_by : Assignment → PathValue) (all : List PathValue) (sizes : List ℕ) →
     IsListing allows n path_by all → All (λ size. 1 ≤ size) sizes →
     ArePrefix (pages (λ k. meeting goal (after k all)) (meeting goal all) sizes) (meeting goal all)
+
+-- the same of the paths before a cursor, last first
+abbrev pub MeetingPagesJoinBackwards : Type 0
+MeetingPagesJoinBackwards =
+    (goal : Goal) (allows : Allowance) (n : ℕ) (path_by : Assignment → PathValue) (k : List ℕ) (all : List PathValue) (sizes : List ℕ) →
+    IsListing allows n path_by all → All (λ size. 1 ≤ size) sizes →
+    ArePrefix (pages (λ j. meeting goal (before j all)) (meeting goal (before k all)) sizes) (meeting goal (before k all))

@@ -1,6 +1,6 @@
 //! Laws of the definitions that the contracts cite: each is the contract of an empty function.
 
-ghost use Rattle.pam_graph.specs.Laws.{AllMeetAny, MeetingPagesJoin, NoneMeets};
+ghost use Rattle.pam_graph.specs.Laws.{AllMeetAny, MeetingPagesJoin, MeetingPagesJoinBackwards, NoneMeets};
 
 /// Each path meets the goal `Any`, and a goal that no path meets has none.
 pub fn goals()
@@ -9,7 +9,8 @@ pub fn goals()
 {}
 
 /// The pages of the paths that meet a goal, each begun at the cursor of the one before, are a prefix of these paths, and all of
-/// them if the last page says `end`.
+/// them if the last page says `end`; so are the pages of those before a cursor, last first.
 pub fn pages()
-    ensures { MeetingPagesJoin }
+    ensures after { MeetingPagesJoin }
+    ensures before { MeetingPagesJoinBackwards }
 {}

@@ -60,7 +60,7 @@ split_after all xs p ys e rise =
     ∙ ap (λ (b : Bool). cond b (p ∷ filter test ys) (filter test ys)) (not_before (key p) (key p) (Precedes-irreflexive (key p)))
     ∙ filter_all test ys (λ q m. Precedes-to (key p) (key q) (rising_back xs p ys rising q m))
 
-split_front : (all xs : List PathValue) (p : PathValue) (ys : List PathValue) → all ≡ xs ++ p ∷ ys → IsRising all →
+pub split_front : (all xs : List PathValue) (p : PathValue) (ys : List PathValue) → all ≡ xs ++ p ∷ ys → IsRising all →
     filter (λ q. precedes (key q) (key p)) all ≡ xs
 split_front all xs p ys e rise =
     let rising : IsRising (xs ++ p ∷ ys) = subst IsRising e rise in

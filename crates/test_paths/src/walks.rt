@@ -11,14 +11,20 @@ use pam_page::{LineTexts, Listing, put_page};
 use pam_paths::{Cursor, Explorer, Free};
 use std::alloc::Global;
 
-/// The lines of the paths that a goal wants and whose codes come before those of a cursor, and of those that come after them.
+/// The lines of the paths that a goal wants and whose codes come before those of a cursor, the last one first, and of those
+/// whose codes come after them.
 #[derive(Drop)]
 struct Parts {
     before: Vec<Vec<u8>>,
     after: Vec<Vec<u8>>,
 }
 
-fn parts_of(alloc: Global, program: &Program, goal: &Goal, cursor: &Cursor) -> Result<Parts, Error> {
+fn parts_of(
+    alloc: Global,
+    program: &Program,
+    goal: &Goal,
+    cursor: &Cursor,
+) -> Result<Parts, Error> {
     let mut parts = Parts {
         before: Vec::new(alloc),
         after: Vec::new(alloc),
@@ -34,7 +40,7 @@ fn parts_of(alloc: Global, program: &Program, goal: &Goal, cursor: &Cursor) -> R
         let own = path.cursor();
         let line = line_of(alloc, &path)?;
         if own.codes() < cursor.codes() {
-            parts.before.push(line)?;
+            parts.before.insert(0, line)?;
         } else if own.codes() > cursor.codes() {
             parts.after.push(line)?;
         }
@@ -54,12 +60,11 @@ fn page_of(alloc: Global, listing: &mut Listing<'_, Free>) -> Result<Vec<u8>, Er
     Ok(text)
 }
 
-/// The text of a page with these lines, the last one first if `is_reversed`.
-fn text_of(alloc: Global, lines: &[Vec<u8>], is_reversed: bool) -> Result<Vec<u8>, Error> {
+/// The text of a page with these lines.
+fn text_of(alloc: Global, lines: &[Vec<u8>]) -> Result<Vec<u8>, Error> {
     let mut text = Vec::new(alloc);
-    for index in 0..lines.len() {
-        let at = if is_reversed { lines.len() - 1 - index } else { index };
-        text.extend_from_slice(&lines[at])?;
+    for line in lines {
+        text.extend_from_slice(line)?;
         text.push(b'\n')?;
     }
     let mut out = Out::new(&mut text);
@@ -82,8 +87,8 @@ fn agrees(
     let after = page_of(alloc, &mut Listing::WalksForward(after))?;
     let before = graph.walks_before(alloc, goal, cursor)?;
     let before = page_of(alloc, &mut Listing::WalksBackward(before))?;
-    let after_is = text_of(alloc, &parts.after, false)?;
-    let before_is = text_of(alloc, &parts.before, true)?;
+    let after_is = text_of(alloc, &parts.after)?;
+    let before_is = text_of(alloc, &parts.before)?;
     Ok(after.as_slice() == after_is.as_slice() && before.as_slice() == before_is.as_slice())
 }
 
