@@ -17,7 +17,7 @@ KNOWING = b" --access --time --group --returns --user --rhost --tty --at --at-un
 OPTIONS = {
     b"show": b"--dir --conf",
     b"decide": b"--dir --conf",
-    b"paths": b"--dir --conf --limit --after --before" + KNOWING,
+    b"paths": b"--dir --conf --limit --after --before --decision --asks" + KNOWING,
     b"outcomes": b"--dir --conf" + KNOWING,
     b"access": b"--access --user --group --rhost --tty",
     b"time": b"--time --user --tty --at --at-unix --zone",
@@ -116,6 +116,7 @@ class Request:
             self.codes = [code.lower() for code in self.arguments[2:]]
             if not set(self.codes) <= set(stacks.CODES):
                 raise Fault("U4")
+        self.decisions = decisions_of(self.options[b"--decision"]) if b"--decision" in self.options else set()
         if self.command in (b"paths", b"outcomes", b"time"):
             self.judge_login_and_moment()
 
@@ -131,6 +132,8 @@ class Request:
             raise Fault("U6")
         if b"--after" in given and b"--before" in given:
             raise Fault("U8")
+        if b"--decision" in given and b"--asks" in given:
+            raise Fault("U11")
 
     def answer(self, tree):
         """The text on standard output and the status."""
@@ -238,10 +241,19 @@ class Request:
         lines = [outcome_line(code, *found[code], modules) for code in stacks.CODES if code in found]
         return b"".join(lines) + b"total %s ways\n" % count_text(sum(count for count, _ in found.values()))
 
+    def paths(self, items, modules, allowed):
+        """The paths that the filter lets through, in order."""
+        if b"--decision" not in self.options and b"--asks" not in self.options:
+            return stacks.listing([(items, stacks.START)], stacks.START, allowed)
+        number = int(self.options.get(b"--asks", b"0"))
+        if number > len(modules):
+            raise Fault("U9")
+        plain_outcomes.outcomes(items, allowed)  # refuses too many places
+        return plain_outcomes.meeting(items, allowed, self.decisions, number)
+
     def page(self, items, modules):
         """The lines of `paths` after the header."""
-        allowed = self.known(modules)
-        paths = stacks.listing([(items, stacks.START)], stacks.START, allowed)
+        paths = self.paths(items, modules, self.known(modules))
         for option in (b"--after", b"--before"):
             if option in self.options:
                 cursor = stacks.cursor_of(self.options[option])
@@ -264,6 +276,17 @@ class Request:
         return text + b"more %d paths %s %s\n" % (limit, side, last)
 
 
+def decisions_of(text):
+    """The codes of a set in the form in which `paths` prints it."""
+    if text == b"any":
+        return set(stacks.CODES)
+    but = text.startswith(b"but:")
+    named = {name.lower() for name in text[4 * but:].split(b",")}
+    if not named <= set(stacks.CODES):
+        raise Fault("U4")
+    return set(stacks.CODES) - named if but else named
+
+
 def parsed(words):
     """The command, its arguments and its options by name; an option has its value after `=` or as the next word."""
     if not words or words[0] not in OPTIONS:
@@ -284,9 +307,9 @@ def parsed(words):
         raise WrongWords
     if any(name not in options for name in REQUIRED.get(command, [])):
         raise WrongWords
-    limit = options.get(b"--limit", b"1")
-    if not re.fullmatch(rb"[0-9]{1,7}", limit) or not 1 <= int(limit) <= 1000000:
-        raise WrongWords
+    for number in (options.get(b"--limit", b"1"), options.get(b"--asks", b"1")):
+        if not re.fullmatch(rb"[0-9]{1,7}", number) or not 1 <= int(number) <= 1000000:
+            raise WrongWords
     return command, arguments, options
 
 

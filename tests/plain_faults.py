@@ -48,6 +48,8 @@ NAMES = dict(line.split() for line in """
     U5 Login
     U6 Moment
     U8 BothEnds
+    U9 NoSuchModule
+    U11 BothFilters
     V1 Read
     V2 Write
 """.strip().splitlines())

@@ -23,6 +23,25 @@ def outcomes(items, allowed):
     return counted
 
 
+def meeting(items, allowed, decisions, number):
+    """The paths that end in one of these decisions or, where there are none, ask the module with this number, in order."""
+    places = Places(allowed)
+
+    def paths(lists, state, is_met):
+        module, lists = stacks.next_module(lists, state)
+        if module is None:
+            if is_met or lists in decisions:
+                yield [], lists
+            return
+        is_met = is_met or module.number == number
+        for codes, after in stacks.classes(module, lists, state):
+            if any(code in allowed[module.number - 1] for code in codes) and (is_met or places.can_meet(after, decisions, number)):
+                for steps, decision in paths(*after, is_met):
+                    yield [(module.number, codes)] + steps, decision
+
+    return paths([(items, stacks.START)], stacks.START, False)
+
+
 def listed(paths):
     """The outcomes of paths that are listed."""
     found = {}
@@ -41,6 +60,22 @@ class Places:
     def __init__(self, allowed):
         self.allowed = allowed
         self.known = {}
+        self.meets = {}
+
+    def can_meet(self, place, decisions, number):
+        """Whether a path from a place on ends in one of the decisions, or asks the module with the number."""
+        lists, state = place
+        module, lists = stacks.next_module(lists, state)
+        if module is None:
+            return lists in decisions
+        if module.number == number:
+            return True
+        place = module.number, state, tuple(entered for _, entered in lists)
+        if place not in self.meets:
+            self.meets[place] = any(
+                self.can_meet(after, decisions, number) for codes, after in stacks.classes(module, lists, state)
+                if any(code in self.allowed[module.number - 1] for code in codes))
+        return self.meets[place]
 
     def outcomes(self, lists, state):
         """The outcomes from a place on."""

@@ -38,7 +38,7 @@ HasFiles source given = ⊤
 abbrev pub HasSource : Task → Inputs → Type 0
 HasSource (Show source kind) given = HasFiles source given
 HasSource (Decide source kind answered) given = HasFiles source given
-HasSource (Paths source kind limit part knowledge) given = HasFiles source given
+HasSource (Paths source kind limit part filter knowledge) given = HasFiles source given
 HasSource (Outcomes source kind knowledge) given = HasFiles source given
 HasSource task given = ⊤
 
@@ -69,7 +69,7 @@ IsOfTask (Show source kind) name = IsInSource source name
 IsOfTask (Decide source kind answered) name = IsInSource source name
 IsOfTask (Access table groups login arguments) name = IsNamed (option_copied groups) name ⊎ (name ≡ table.now)
 IsOfTask (Time table login moment) name = name ≡ table.now
-IsOfTask (Paths source kind limit part knowledge) name = IsOfKnowledge source knowledge name
+IsOfTask (Paths source kind limit part filter knowledge) name = IsOfKnowledge source knowledge name
 IsOfTask (Outcomes source kind knowledge) name = IsOfKnowledge source knowledge name
 
 -- an allocation failed, or a file with such a name cannot be read

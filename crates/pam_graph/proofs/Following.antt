@@ -1,7 +1,7 @@
 -- The steps of a walk that is followed.
-use Rattle.std.proofs.Common.{◌≡◌, ℕ, ◌+◌, ◌-◌, ◌<◌, ◌≤◌, List, [], ◌∷◌, ◌++◌, map, refl}
+use Rattle.std.proofs.Common.{◌≡◌, ℕ, ◌+◌, ◌<◌, ◌≤◌, List, [], ◌∷◌, ◌++◌, map, refl}
 use Rattle.std.proofs.Common.{sym, ◌∙◌, ap, subst, arith, length, take, IfNone, IfSome, None, Some, Option, slice_index_or, zero, suc}
-use Rattle.std.proofs.lemmas.List.{length-map, length-take, take-map, take-take, take_all}
+use Rattle.std.proofs.lemmas.List.{length-map, take_all}
 use Rattle.pam_conf.specs.declared.stack.TheConstants.{MAX_MODULES}
 use Rattle.pam_graph.specs.declared.direction.Direction.{Direction}
 use Rattle.pam_graph.specs.declared.frames.Frame.{Frame}
@@ -26,21 +26,6 @@ pub all-steps : (frames : List Frame) (steps : List StepValue) → steps ≡ map
 all-steps frames steps is =
     subst (λ (x : List StepValue). take (length frames) x ≡ take (length x) (map step_in frames)) (sym is)
     (ap (λ (n : ℕ). take n (map step_in frames)) (sym (length-map frames step_in)))
-
--- the steps that a walk shares with the one before it: those of the frames that were neither changed nor added
-pub shared_steps : (steps : List StepValue) (before mid after : List Frame) (shared : ℕ) → AreFirstSteps before steps
-    → take (length mid - 1) mid ≡ take (length mid - 1) before → take (length mid) after ≡ mid → shared ≤ length steps → shared ≤ length mid - 1
-    → take shared steps ≡ take shared (map step_in after)
-shared_steps steps before mid after shared first changed added few within =
-    let kept : length mid - 1 ≤ length before =
-    omega (arith, ap length changed, length-take (length mid - 1) mid, length-take (length mid - 1) before) in
-    let whole = take-take shared (length steps) (map step_in before) few in
-    let own = sym (take-take shared (length before) steps (omega (arith, kept, within))) in
-    let same : take shared before ≡ take shared mid =
-    sym (take-take shared (length mid - 1) before within) ∙ ap (take shared) (sym changed) ∙ take-take shared (length mid - 1) mid within in
-    let longer : take shared mid ≡ take shared after =
-    ap (take shared) (sym added) ∙ take-take shared (length mid) after (omega (arith, within)) in
-    own ∙ ap (take shared) first ∙ whole ∙ take-map step_in shared before ∙ ap (map step_in) (same ∙ longer) ∙ sym (take-map step_in shared after)
 
 module _ (d : Direction) (goal : Goal) (nodes : List Node) where
   -- a way on is there

@@ -8,8 +8,9 @@ use Rattle.std.proofs.Math.Seq.{get_or-append_seam}
 use Rattle.std.specs.List.{flat_map}
 use Rattle.pam_dispatch.specs.declared.flat_item.FlatItem.{FlatItem}
 use Rattle.pam_dispatch.specs.declared.key.PlaceKey.{PlaceKey}
+use Rattle.pam_dispatch.specs.declared.state.State.{State}
 use Rattle.pam_dispatch.specs.Decision.{decision_of}
-use Rattle.pam_dispatch.specs.Flat.{rest_of}
+use Rattle.pam_dispatch.specs.Flat.{modules_of, rest_of}
 use Rattle.pam_dispatch.specs.Keys.{rest_at}
 use Rattle.pam_dispatch.specs.Runs.{AsksRise, Runs, asked_module, asks, ends, state_in}
 use Rattle.pam_graph.specs.declared.error.GraphError.{GraphError}
@@ -17,7 +18,7 @@ use Rattle.pam_graph.specs.declared.node.Edge.{Edge}
 use Rattle.pam_graph.specs.declared.node.Node.{Node}
 use Rattle.pam_graph.specs.declared.node.Target.{Target}
 use Rattle.pam_graph.specs.declared.node.Target.TheVariants.{At, End}
-use Rattle.pam_graph.specs.Building.{IsBuilt, IsExtended, modules_left, next_number}
+use Rattle.pam_graph.specs.Building.{AreAsking, IsAsking, IsBuilt, IsExtended, IsNodeFor, modules_left, next_number, state_of, states_of}
 use Rattle.pam_graph.specs.Order.{AreAbove, AreNodes, IsAbove, IsNode, LeastRise, number_of, numbers_of}
 use Rattle.pam_graph.specs.Walks.{table, walks_at, walks_by, walks_of, walks_to}
 use Rattle.pam_graph.proofs.Tables.{edges-added, length-walks_of, table-push}
@@ -71,6 +72,11 @@ AreNodes-push before (x ∷ nodes) node h k = (
       (subst (λ (y : List ℕ). IsNode y node) (sym (append_assoc before (x.module_number ∷ []) (numbers_of nodes))) k),
 )
 
+AreAsking-push : (n : ℕ) (all : List Runs) (r : Runs) → AreAsking n all → IsAsking n r → AreAsking n (all ++ r ∷ [])
+unfolding AreAsking
+AreAsking-push n [] r h k = (k, tt)
+AreAsking-push n (x ∷ all) r h k = (h.0, AreAsking-push n all r h.1 k)
+
 -- ADDED NODES
 
 pub extended-length : (old new : List Node) → IsExtended old new → length old ≤ length new
@@ -105,6 +111,13 @@ number-above low n m (asks ask next) asked h = h.0
 pub number-is : (m : ℕ) (r : Runs) → asked_module r ≡ Some m → m ≡ next_number r
 number-is m (ends s) e = absurd (let k : ⊥ = cc in k)
 number-is m (asks ask next) e = let is : ask.module_number ≡ m = cc in sym is
+
+-- the node of a module that a run asks
+pub node-for : (n m : ℕ) (r : Runs) (node : Node) → asked_module r ≡ Some m → AsksRise 0 n r → node.module_number ≡ m → node.state ≡ state_in r →
+    IsNodeFor n r node
+node-for n m r node asked rise number state =
+    let is = number-is m r asked in
+    record { number = number ∙ is; state = state; asking = record { asked = asked ∙ ap Some is; rise = rise } }
 
 -- THE MEASURE
 
@@ -169,18 +182,25 @@ module _ (allows : Allowance) (program : List FlatItem) where
   -- a node is added
   pub built-push : (old new : List Node) (places after : List PlaceKey) (node : Node) (r : Runs) → IsBuilt allows program old places →
       new ≡ old ++ node ∷ [] → map (rest_at program) after ≡ map (rest_at program) places ++ r ∷ [] → IsNode (numbers_of old) node →
-      node.module_number ≡ next_number r → walks_at (walks_of old) node ≡ listing allows r → IsBuilt allows program new after
-  built-push old new places after node r built is at valid numbered same = record {
+      IsNodeFor (modules_of program) r node → walks_at (walks_of old) node ≡ listing allows r → IsBuilt allows program new after
+  built-push old new places after node r built is at valid here same = record {
     walks = ap walks_of is ∙ table-push walks_at [] old node
         ∙ ap (λ (x : List PathValue). walks_of old ++ x ∷ []) same
         ∙ ap (λ (x : List (List PathValue)). x ++ listing allows r ∷ []) built.walks
         ∙ sym (map-append (listing allows) (map (rest_at program) places) (r ∷ []))
         ∙ sym (ap (map (listing allows)) at);
     numbers = ap numbers_of is ∙ map-append number_of old (node ∷ [])
-        ∙ ap (λ (x : ℕ). numbers_of old ++ x ∷ []) numbered
+        ∙ ap (λ (x : ℕ). numbers_of old ++ x ∷ []) here.number
         ∙ ap (λ (x : List ℕ). x ++ next_number r ∷ []) built.numbers
         ∙ sym (map-append next_number (map (rest_at program) places) (r ∷ []))
         ∙ sym (ap (map next_number) at);
+    states = ap states_of is ∙ map-append state_of old (node ∷ [])
+        ∙ ap (λ (x : State). states_of old ++ x ∷ []) here.state
+        ∙ ap (λ (x : List State). x ++ state_in r ∷ []) built.states
+        ∙ sym (map-append state_in (map (rest_at program) places) (r ∷ []))
+        ∙ sym (ap (map state_in) at);
+    asking = subst (AreAsking (modules_of program)) (sym at)
+        (AreAsking-push (modules_of program) (map (rest_at program) places) r built.asking here.asking);
     order = subst (AreNodes []) (sym is) (AreNodes-push [] old node built.order valid);
   }
 
@@ -226,18 +246,19 @@ module _ (allows : Allowance) (program : List FlatItem) where
 
   -- a graph without nodes
   pub built-empty : (nodes : List Node) (places : List PlaceKey) → nodes ≡ [] → places ≡ [] → IsBuilt allows program nodes places
-  unfolding table AreNodes
+  unfolding table AreAsking AreNodes
   built-empty nodes places e f =
       subst (λ (x : List Node). IsBuilt allows program x places) (sym e)
-      (subst (λ (x : List PlaceKey). IsBuilt allows program [] x) (sym f) (record { walks = refl; numbers = refl; order = tt }))
+      (subst (λ (x : List PlaceKey). IsBuilt allows program [] x) (sym f)
+      (record { walks = refl; numbers = refl; states = refl; asking = tt; order = tt }))
 
   -- what is added to a graph keeps it built
   pub added-built : (old new : List Node) (places after : List PlaceKey) (node : Node) (r : Runs) (result : Result Target GraphError) →
-      IsBuilt allows program old places → IsNode (numbers_of old) node → node.module_number ≡ next_number r → walks_at (walks_of old) node ≡ listing allows r →
+      IsBuilt allows program old places → IsNode (numbers_of old) node → IsNodeFor (modules_of program) r node → walks_at (walks_of old) node ≡ listing allows r →
       OnOk result (new ≡ old ++ node ∷ []) → OnOk result (map (rest_at program) after ≡ map (rest_at program) places ++ r ∷ []) →
       OnOk result (IsBuilt allows program new after)
-  added-built old new places after node r (Ok target) built valid numbered same is at = built-push old new places after node r built is at valid numbered same
-  added-built old new places after node r (Err e) built valid numbered same is at = tt
+  added-built old new places after node r (Ok target) built valid here same is at = built-push old new places after node r built is at valid here same
+  added-built old new places after node r (Err e) built valid here same is at = tt
 
   pub added-walks : (old new : List Node) (node : Node) (r : Runs) (result : Result Target GraphError) → walks_at (walks_of old) node ≡ listing allows r →
       OnOk result (new ≡ old ++ node ∷ []) → IfOk result (λ target. target ≡ At (length old)) →

@@ -3,6 +3,7 @@ pub mod Following
 pub mod FrameLists
 pub mod Growing
 pub mod Paging
+pub mod Placing
 pub mod Reaching
 pub mod Sides
 pub mod Tables

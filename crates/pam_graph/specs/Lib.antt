@@ -4,6 +4,7 @@ pub mod Goals
 pub mod Laws
 pub mod Order
 pub mod Parts
+pub mod Places
 pub mod Reached
 pub mod Tallies
 pub mod Walks

@@ -13,6 +13,7 @@ ghost use Rattle.pam_graph.specs.declared.error.GraphError.TheVariants.{TooManyN
 ghost use Rattle.pam_graph.specs.declared.graph.TheConstants.{MAX_NODES};
 ghost use Rattle.pam_graph.specs.Building.{IsBefore, IsBuilt, IsExtended};
 ghost use Rattle.pam_graph.specs.Order.{IsAbove, numbers_of};
+ghost use Rattle.pam_graph.specs.Places.{AreNodesOf};
 ghost use Rattle.pam_graph.specs.Reached.{AreReachedKeys, IsReached, IsReason};
 ghost use Rattle.pam_graph.specs.Walks.{walks, walks_of, walks_to};
 ghost use Rattle.pam_paths.specs.Computed.{listing};
@@ -101,8 +102,10 @@ pub(crate) fn target_of<K: Knowledge>(
         })?;
         bound = choice.next;
     }
+    let state = place.state();
     let node = Node {
         module_number,
+        state,
         edges,
     };
     add(limit, draft, place, node)
@@ -122,6 +125,7 @@ impl Graph {
         // The same for the tree of the program's stack.
         ensures stack { (items : Items) → runs_of program.now ≡ runs_of_stack items → IfOk result (λ graph.
             IsListing (K.allows knowledge.now) (modules_of program.now) (path_through items) (walks graph)) }
+        ensures nodes { IfOk result (λ graph. AreNodesOf (K.allows knowledge.now) program.now graph.nodes) }
         ensures reason { IfErr result (IsReason MAX_NODES (K.allows knowledge.now) program.now) }
     {
         Graph::of_at_most(alloc, program, knowledge, MAX_NODES)
@@ -138,6 +142,7 @@ impl Graph {
             IsListing (K.allows knowledge.now) (modules_of program.now) (path_of (runs_of program.now)) (walks graph)) }
         ensures stack { (items : Items) → runs_of program.now ≡ runs_of_stack items → IfOk result (λ graph.
             IsListing (K.allows knowledge.now) (modules_of program.now) (path_through items) (walks graph)) }
+        ensures nodes { IfOk result (λ graph. AreNodesOf (K.allows knowledge.now) program.now graph.nodes) }
         ensures reason { IfErr result (IsReason limit (K.allows knowledge.now) program.now) }
     {
         let mut draft = Draft {
@@ -146,6 +151,8 @@ impl Graph {
         };
         let first = program.first();
         let start = target_of(alloc, program, knowledge, limit, &first, &mut draft)?;
+        // A table says with its length that its places differ.
+        let _count = draft.places.len();
         Ok(Graph {
             nodes: draft.nodes,
             start,

@@ -1,8 +1,8 @@
 -- The choices at a fork.
-use Rattle.std.proofs.Common.{◌≡◌, ℕ, ◌<◌, ◌==◌, true, Some, sym, ◌∙◌, ap, subst}
+use Rattle.std.proofs.Common.{◌≡◌, ℕ, ◌<◌, ◌==◌, true, Some, ◌∙◌, ap, subst}
 use Rattle.std.proofs.lemmas.Bool.{and_parts, eqb-true}
 use Rattle.std.specs.List.{list_any}
-use Rattle.pam_dispatch.specs.Runs.{Ask, Runs, after_answer, asked_module, asks, ends, next_ask, outcome_of}
+use Rattle.pam_dispatch.specs.Runs.{Ask, Runs, after_answer, asked_module, asks, ends, next_ask}
 use Rattle.pam_paths.specs.Classes.{class_of, least}
 use Rattle.pam_paths.specs.Computed.{is_offered}
 use Rattle.pam_paths.specs.Listing.{Allowance}

@@ -1,9 +1,6 @@
 -- The first elements of a list that grows or shrinks at its end.
 use Rattle.std.proofs.Common.{◌≡◌, ℕ, ◌-◌, ◌≤◌, ◌∷◌, ◌++◌, [], List, length, map, take, arith, ap, sym, ◌∙◌, length-append}
 use Rattle.std.proofs.lemmas.List.{length-take, length-take-le, take-append-le, take-map, take-take, take_at}
-use Rattle.pam_paths.specs.declared.frames.Frame.{Frame}
-use Rattle.pam_paths.specs.Frames.{AreFirstSteps, step_in}
-use Rattle.pam_paths.specs.Paths.{StepValue}
 
 module _ {A : Type 0} (all xs : List A) where
   -- the last of the first elements is taken away
@@ -27,16 +24,16 @@ module _ {A : Type 0} (all xs : List A) where
       ap (take (length all)) pushed ∙ take-append-le (length all) xs (x ∷ []) within ∙ front
 
 -- the steps that a path shares with the one before it: those of the frames that were neither changed nor added
-pub shared_steps : (steps : List StepValue) (before mid after : List Frame) (shared : ℕ) → AreFirstSteps before steps
-    → take (length mid - 1) mid ≡ take (length mid - 1) before → take (length mid) after ≡ mid → shared ≤ length steps → shared ≤ length mid - 1
-    → take shared steps ≡ take shared (map step_in after)
-shared_steps steps before mid after shared first changed added few within =
+pub shared_steps : {A B : Type 0} (step : A → B) (steps : List B) (before mid after : List A) (shared : ℕ)
+    → take (length before) steps ≡ take (length steps) (map step before) → take (length mid - 1) mid ≡ take (length mid - 1) before
+    → take (length mid) after ≡ mid → shared ≤ length steps → shared ≤ length mid - 1 → take shared steps ≡ take shared (map step after)
+shared_steps step steps before mid after shared first changed added few within =
     let kept : length mid - 1 ≤ length before =
     omega (arith, ap length changed, length-take (length mid - 1) mid, length-take (length mid - 1) before) in
-    let whole = take-take shared (length steps) (map step_in before) few in
+    let whole = take-take shared (length steps) (map step before) few in
     let own = sym (take-take shared (length before) steps (omega (arith, kept, within))) in
     let same : take shared before ≡ take shared mid =
     sym (take-take shared (length mid - 1) before within) ∙ ap (take shared) (sym changed) ∙ take-take shared (length mid - 1) mid within in
     let longer : take shared mid ≡ take shared after =
     ap (take shared) (sym added) ∙ take-take shared (length mid) after (omega (arith, within)) in
-    own ∙ ap (take shared) first ∙ whole ∙ take-map step_in shared before ∙ ap (map step_in) (same ∙ longer) ∙ sym (take-map step_in shared after)
+    own ∙ ap (take shared) first ∙ whole ∙ take-map step shared before ∙ ap (map step) (same ∙ longer) ∙ sym (take-map step shared after)

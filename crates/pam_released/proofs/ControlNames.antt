@@ -158,29 +158,18 @@ subject_said w s low h =
 unfoldable pub Acts : List ℕ → Action → Type 0
 Acts w x = ((u : List ℕ) → begins_word u ≡ false → action_at (w ++ u) ≡ Some (x, u)) × (is_space (get_or w 0 0) ≡ false) × (begins_word w ≡ true)
 
-pub ignore_acts : Acts (codes "ignore") Ignore
+-- the names of the actions that are no jumps
+pub names_act : Acts (codes "ignore") Ignore × Acts (codes "bad") Bad × Acts (codes "die") Die × Acts (codes "ok") Accept
+    × Acts (codes "done") Done × Acts (codes "reset") Reset
 unfolding Acts action_at
-ignore_acts = (λ u n. refl, refl, refl)
-
-pub bad_acts : Acts (codes "bad") Bad
-unfolding Acts action_at
-bad_acts = (λ u n. refl, refl, refl)
-
-pub die_acts : Acts (codes "die") Die
-unfolding Acts action_at
-die_acts = (λ u n. refl, refl, refl)
-
-pub ok_acts : Acts (codes "ok") Accept
-unfolding Acts action_at
-ok_acts = (λ u n. refl, refl, refl)
-
-pub done_acts : Acts (codes "done") Done
-unfolding Acts action_at
-done_acts = (λ u n. refl, refl, refl)
-
-pub reset_acts : Acts (codes "reset") Reset
-unfolding Acts action_at
-reset_acts = (λ u n. refl, refl, refl)
+names_act = (
+  (λ u n. refl, refl, refl),
+  (λ u n. refl, refl, refl),
+  (λ u n. refl, refl, refl),
+  (λ u n. refl, refl, refl),
+  (λ u n. refl, refl, refl),
+  (λ u n. refl, refl, refl),
+)
 
 -- one name of an action: it is that, or it is read on
 pub acts_or : (n w : List ℕ) (y x : Action) (more : Result Action ControlError) → map to_ascii_lowercase w ≡ w → map to_ascii_lowercase n ≡ n → Acts n y →
@@ -277,9 +266,9 @@ jump_acts w x h =
 pub action_acts : (w : List ℕ) (x : Action) → map to_ascii_lowercase w ≡ w → action_named w ≡ Ok x → Acts w x
 unfolding action_named
 action_acts w x low h =
-    acts_or (codes "ignore") w Ignore x _ low refl ignore_acts h (λ h1.
-    acts_or (codes "bad") w Bad x _ low refl bad_acts h1 (λ h2.
-    acts_or (codes "die") w Die x _ low refl die_acts h2 (λ h3.
-    acts_or (codes "ok") w Accept x _ low refl ok_acts h3 (λ h4.
-    acts_or (codes "done") w Done x _ low refl done_acts h4 (λ h5.
-    acts_or (codes "reset") w Reset x _ low refl reset_acts h5 (λ h6. jump_acts w x h6))))))
+    acts_or (codes "ignore") w Ignore x _ low refl names_act.0 h (λ h1.
+    acts_or (codes "bad") w Bad x _ low refl names_act.1 h1 (λ h2.
+    acts_or (codes "die") w Die x _ low refl names_act.2 h2 (λ h3.
+    acts_or (codes "ok") w Accept x _ low refl names_act.3 h3 (λ h4.
+    acts_or (codes "done") w Done x _ low refl names_act.4 h4 (λ h5.
+    acts_or (codes "reset") w Reset x _ low refl names_act.5 h5 (λ h6. jump_acts w x h6))))))

@@ -117,6 +117,7 @@ module _ {W : Type 0} (contents : W → Option (List ℕ)) (old new : Out W) (Is
   fault-leaves (faults.Conf e) h same = (same, from-conf e e.kind h)
   fault-leaves (faults.Count e) h same = (same, from-err (faults.Count e) h)
   fault-leaves faults.TooManyStates h same = (same, from-err faults.TooManyStates h)
+  fault-leaves faults.NoSuchModule h same = (same, from-err faults.NoSuchModule h)
   fault-leaves (faults.Moment e) h same = (same, from-err (faults.Moment e) h)
   fault-leaves (faults.Cursor e) h same = (same, from-err (faults.Cursor e) h)
   fault-leaves (faults.Table e) h same = (same, from-table e e.fault h)

@@ -1,5 +1,7 @@
+pub mod Answering
 pub mod Civil
 pub mod FlatTexts
+pub mod GoalPages
 pub mod ItemTexts
 pub mod KnownStacks
 pub mod OutcomeTexts

@@ -1,5 +1,5 @@
 -- The part of a listing that a page is taken from, and the answer, from the contract of the explorer.
-use Rattle.std.proofs.Common.{◌≡◌, ◌≢◌, ℕ, List, Result, Ok, Err, Option, refl, sym, subst, ◌∙◌}
+use Rattle.std.proofs.Common.{◌≡◌, ◌≢◌, ℕ, List, Result, Ok, Err, refl, sym, subst, ◌∙◌}
 use Rattle.pam_conf.specs.Stack.{Items, module_count}
 use Rattle.pam_known.specs.Knowledge.{Agree}
 use Rattle.pam_known.proofs.Listings.{same_listing, same_listing_after, same_listing_before}

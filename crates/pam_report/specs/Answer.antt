@@ -131,10 +131,10 @@ AnswersFrom contents old new result service (Access table groups login arguments
 AnswersFrom contents old new result service (Time table login moment) files inputs =
     (at : Result DateTime MomentError) × IsMoment moment at
     × Leaves contents old new result (timed (login_at service login) (time_given inputs) at)
-AnswersFrom contents old new result service (Paths source kind limit part knowledge) files inputs =
+AnswersFrom contents old new result service (Paths source kind limit part filter knowledge) files inputs =
     (at : Option (Result DateTime MomentError)) × IsGivenMoment knowledge.moment at
     × LeavesSome contents old new result
-    (IsPage (record { service = service; kind = kind; limit = limit; part = part }) (stack_at service kind knowledge.login inputs at files))
+    (IsPage (record { service = service; kind = kind; limit = limit; part = part; filter = filter }) (stack_at service kind knowledge.login inputs at files))
 AnswersFrom contents old new result service (Outcomes source kind knowledge) files inputs =
     (at : Option (Result DateTime MomentError)) × IsGivenMoment knowledge.moment at
     × LeavesSome contents old new result (IsOutcomes service kind (stack_at service kind knowledge.login inputs at files))

@@ -9,7 +9,7 @@ use Rattle.pam_known.specs.declared.error.KnownError.{KnownError}
 use Rattle.pam_known.specs.declared.error.KnownError.TheVariants as known
 use Rattle.pam_paths.specs.declared.cursor.CursorError.{CursorError}
 use Rattle.pam_paths.specs.declared.cursor.CursorError.TheVariants as cursor
-use Rattle.pam_report.specs.FaultTable.{Row, conf_row, count_row, cursor_row, graph_row, input_row, memory_row, moment_row}
+use Rattle.pam_report.specs.FaultTable.{Row, conf_row, count_row, cursor_row, graph_row, input_row, memory_row, module_row, moment_row}
 use Rattle.pam_report.specs.FaultTable.{table_name, table_row, time_row, usage_row, write_row}
 use Rattle.pam_report.specs.declared.fault.Fault.{Fault}
 use Rattle.pam_report.specs.declared.fault.Fault.TheVariants as faults
@@ -36,6 +36,7 @@ row_of (faults.Time e) = time_row e.fault
 row_of (faults.Moment e) = moment_row e
 row_of (faults.Count e) = count_row
 row_of faults.TooManyStates = graph_row
+row_of faults.NoSuchModule = module_row
 row_of (faults.Cursor e) = cursor_row e
 row_of faults.Device = write_row
 row_of faults.Memory = memory_row

@@ -40,6 +40,7 @@ usage_row usage.Login = row (codes "U5 Login") 2
 usage_row usage.Moment = row (codes "U6 Moment") 2
 usage_row usage.Memory = row (codes "U7 Memory") 6
 usage_row usage.BothEnds = row (codes "U8 BothEnds") 2
+usage_row usage.BothFilters = row (codes "U11 BothFilters") 2
 
 -- ---- the configuration
 
@@ -74,6 +75,9 @@ conf_row conf.TooManyFollowed = row (codes "E18 TooManyFollowed") 3
 
 abbrev pub graph_row : Row
 graph_row = row (codes "E19 TooManyStates") 3
+
+abbrev pub module_row : Row
+module_row = row (codes "U9 NoSuchModule") 2
 
 abbrev pub count_row : Row
 count_row = row (codes "DE1 WrongCount") 2

@@ -61,7 +61,7 @@ fits_task (Show source kind) (inputs.Stack files) = true
 fits_task (Decide source kind answered) (inputs.Stack files) = true
 fits_task (Access name groups_named login arguments) (inputs.Access table groups) = beq (is_some groups) (is_some groups_named)
 fits_task (Time name login moment) (inputs.Time table) = true
-fits_task (Paths source kind limit part knowledge) inputs = fits_knowledge knowledge inputs
+fits_task (Paths source kind limit part filter knowledge) inputs = fits_knowledge knowledge inputs
 fits_task (Outcomes source kind knowledge) inputs = fits_knowledge knowledge inputs
 fits_task _ _ = false
 

@@ -37,6 +37,7 @@ module _ {W : Type 0} (contents : W → Option (List ℕ)) (old new : Out W) whe
   LeavesFault IsAnswer (faults.Conf e) = (new ≡ old) × IsConfFault IsAnswer e e.kind
   LeavesFault IsAnswer (faults.Count e) = (new ≡ old) × IsAnswer (Err (faults.Count e))
   LeavesFault IsAnswer faults.TooManyStates = (new ≡ old) × IsAnswer (Err faults.TooManyStates)
+  LeavesFault IsAnswer faults.NoSuchModule = (new ≡ old) × IsAnswer (Err faults.NoSuchModule)
   LeavesFault IsAnswer (faults.Moment e) = (new ≡ old) × IsAnswer (Err (faults.Moment e))
   LeavesFault IsAnswer (faults.Cursor e) = (new ≡ old) × IsAnswer (Err (faults.Cursor e))
   LeavesFault IsAnswer (faults.Table e) = (new ≡ old) × IsTableFault IsAnswer e e.fault

@@ -17,5 +17,6 @@ pub mod Paths
 pub mod Report
 pub mod Show
 pub mod Tables
+pub mod TooLarge
 pub mod TraceViews
 pub mod WordText

@@ -58,7 +58,7 @@ wants (Show source kind) inputs = of_stack false
 wants (Decide source kind answered) inputs = of_stack true
 wants (Access table groups login arguments) inputs = of_tables true (is_some (group_file inputs)) false
 wants (Time table login moment) inputs = of_tables false false true
-wants (Paths source kind limit part knowledge) inputs = of_paths (paths_tables (is_some knowledge.moment) inputs)
+wants (Paths source kind limit part filter knowledge) inputs = of_paths (paths_tables (is_some knowledge.moment) inputs)
 wants (Outcomes source kind knowledge) inputs = of_paths (paths_tables (is_some knowledge.moment) inputs)
 
 abbrev pub wants_table : Wants → Table → Bool
@@ -79,5 +79,5 @@ abbrev pub WantsOnly : Wants → Result Status Fault → Type 0
 WantsOnly wants result = IfErr result (IsWanting wants)
 
 -- for private contracts and proofs alone: if it is a failed allocation, it is of what is made
-abbrev pub WantsWork : Result Status Fault → Type 0
-WantsWork result = (wants : Wants) → wants.work ≡ true → WantsOnly wants result
+abbrev pub WantsWork : {A : Type 0} → Result A Fault → Type 0
+WantsWork result = (wants : Wants) → wants.work ≡ true → IfErr result (IsWanting wants)

@@ -1,19 +1,13 @@
 -- The answer to `outcomes`: in how many ways a stack comes to each decision (pam.conf(5), DESCRIPTION), and the first of them.
 use Rattle.std.specs.Prelude.{◌≡◌, ◌⊎◌, ℕ, List, [], ◌∷◌, ◌++◌, codes, decimal, length, Option, None, Some, Result, Ok, Err}
-use Rattle.std.specs.List.{concat, flat_map}
+use Rattle.std.specs.List.{flat_map}
 use Rattle.pam_codes.specs.Code.{all_codes}
 use Rattle.pam_codes.specs.SetText.{set_text}
 use Rattle.pam_conf.specs.Stack.{Items, module_count}
 use Rattle.pam_conf.specs.declared.rule.Kind.{Kind}
-use Rattle.pam_dispatch.specs.Flat.{runs_of}
-use Rattle.pam_dispatch.specs.Tree.{runs_of_stack}
-use Rattle.pam_dispatch.specs.declared.flat_item.FlatItem.{FlatItem}
 use Rattle.pam_graph.specs.Goals.{fit, meeting}
-use Rattle.pam_graph.specs.Reached.{HasMorePlaces}
-use Rattle.pam_graph.specs.declared.graph.TheConstants.{MAX_NODES}
 use Rattle.pam_graph.specs.declared.goal.Goal.TheVariants.{Decides}
 use Rattle.pam_known.specs.Answers.{name_of_path}
-use Rattle.pam_known.specs.Knowledge.{Agree}
 use Rattle.pam_paths.specs.CursorText.{cursor_text}
 use Rattle.pam_paths.specs.Listing.{Allowance, IsListing}
 use Rattle.pam_paths.specs.Paths.{PathValue, StepValue, key, path_through}
@@ -21,6 +15,7 @@ use Rattle.pam_report.specs.Decide.{path_at}
 use Rattle.pam_report.specs.Header.{code_name, header_text}
 use Rattle.pam_report.specs.KnownStack.{IsAnswerFrom, KnownItems}
 use Rattle.pam_report.specs.Report.{Answer}
+use Rattle.pam_report.specs.TooLarge.{IsTooLarge}
 use Rattle.pam_report.specs.WordText.{word_text}
 use Rattle.pam_report.specs.declared.fault.Fault.{Fault}
 use Rattle.pam_report.specs.declared.fault.Fault.TheVariants as faults
@@ -77,12 +72,6 @@ total_line count = codes "total " ++ count_text count ++ codes " ways\n"
 unfoldable pub outcomes_text : List ℕ → Kind → Items → List PathValue → List ℕ
 outcomes_text service kind items paths =
     header_text service kind (module_count items) ++ flat_map (outcome_line items) (outcomes paths) ++ total_line (fit (length paths))
-
--- the run of a stack comes to more places than a graph may have nodes, if modules return codes that are allowed
-abbrev pub IsTooLarge : Items → Allowance → Type 0
-IsTooLarge items allows =
-    (program : List FlatItem) × (other : Allowance) × (runs_of program ≡ runs_of_stack items) × Agree (module_count items) other allows
-    × HasMorePlaces MAX_NODES other program
 
 -- the answer, if these codes are allowed: the text, or that the run comes to too many places
 abbrev pub IsOutcomesOf : List ℕ → Kind → Items → Allowance → Answer → Type 0

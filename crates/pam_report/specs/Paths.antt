@@ -1,7 +1,10 @@
 -- The answer to `paths`: a page of the paths through a stack (pam.conf(5), DESCRIPTION), given what modules may return.
-use Rattle.std.specs.Prelude.{◌≡◌, ◌≢◌, ℕ, max, List, ◌++◌, codes, Option, None, Some, Result, Ok, Err}
+use Rattle.std.specs.Prelude.{◌≡◌, ◌≢◌, ◌⊎◌, ℕ, max, nat_lt, Bool, true, false, List, ◌++◌, codes, Result, Ok, Err}
 use Rattle.pam_conf.specs.Stack.{Items, module_count}
 use Rattle.pam_conf.specs.declared.rule.Kind.{Kind}
+use Rattle.pam_graph.specs.Goals.{meeting}
+use Rattle.pam_graph.specs.declared.goal.Goal.{Goal}
+use Rattle.pam_graph.specs.declared.goal.Goal.TheVariants as goals
 use Rattle.pam_page.specs.Page.{first_page, page_text}
 use Rattle.pam_paths.specs.Cursor.{IsAccepted, IsRefusal}
 use Rattle.pam_paths.specs.CursorText.{IsCursor, cursor_text}
@@ -11,9 +14,12 @@ use Rattle.pam_paths.specs.declared.cursor.CursorError.{CursorError}
 use Rattle.pam_paths.specs.declared.cursor.CursorError.TheVariants.{Syntax}
 use Rattle.pam_words.specs.declared.wanted.PagePart.{PagePart}
 use Rattle.pam_words.specs.declared.wanted.PagePart.TheVariants.{Whole, After, Before}
+use Rattle.pam_words.specs.declared.wanted.PathFilter.{PathFilter}
+use Rattle.pam_words.specs.declared.wanted.PathFilter.TheVariants.{All, Decides, Asks}
 use Rattle.pam_report.specs.Header.{header_text}
 use Rattle.pam_report.specs.KnownStack.{IsAnswerFrom, KnownItems}
 use Rattle.pam_report.specs.Report.{Answer}
+use Rattle.pam_report.specs.TooLarge.{IsTooLarge}
 use Rattle.pam_report.specs.declared.fault.Fault.{Fault}
 use Rattle.pam_report.specs.declared.fault.Fault.TheVariants as faults
 use Rattle.pam_report.specs.declared.report.Status.TheVariants.{Success}
@@ -45,6 +51,7 @@ pub record PageRequest : Type 0 where
   pub kind : Kind
   pub limit : ℕ
   pub part : PagePart
+  pub filter : PathFilter
 
 -- the page with its header, or the reason why its cursor is refused. It has room for at least one path
 abbrev pub paged : PageRequest → ℕ → Result (List PathValue) CursorError → Answer
@@ -55,9 +62,35 @@ paged request modules (Ok paths) = Ok (record {
 })
 
 -- the answer, if these codes are allowed: a fault of the cursor comes last
-abbrev pub IsPageOf : PageRequest → Items → Allowance → Answer → Type 0
-IsPageOf request items allows answer =
+abbrev pub IsListedPage : PageRequest → Items → Allowance → Answer → Type 0
+IsListedPage request items allows answer =
     (given : Result (List PathValue) CursorError) × IsPart allows items request.part given × (answer ≡ paged request (module_count items) given)
+
+-- those of a part that meet a goal
+abbrev pub met_of : Goal → Result (List PathValue) CursorError → Result (List PathValue) CursorError
+met_of goal (Err e) = Err e
+met_of goal (Ok paths) = Ok (meeting goal paths)
+
+-- the answer with the paths that meet a goal: or the run comes to too many places
+abbrev pub IsMeetingPage : Goal → PageRequest → Items → Allowance → Answer → Type 0
+IsMeetingPage goal request items allows answer =
+    (IsTooLarge items allows × (answer ≡ Err faults.TooManyStates))
+    ⊎ ((given : Result (List PathValue) CursorError) × IsPart allows items request.part given
+    × (answer ≡ paged request (module_count items) (met_of goal given)))
+
+-- the answer with the paths that ask a module, which is past the last of the stack or not
+abbrev pub IsAskingPage : Bool → ℕ → PageRequest → Items → Allowance → Answer → Type 0
+IsAskingPage true number request items allows answer = answer ≡ Err faults.NoSuchModule
+IsAskingPage false number request items allows answer = IsMeetingPage (goals.Asks number) request items allows answer
+
+-- the answer with a filter
+abbrev pub IsFilteredPage : PathFilter → PageRequest → Items → Allowance → Answer → Type 0
+IsFilteredPage All request items allows answer = IsListedPage request items allows answer
+IsFilteredPage (Decides decisions) request items allows answer = IsMeetingPage (goals.Decides decisions) request items allows answer
+IsFilteredPage (Asks number) request items allows answer = IsAskingPage (nat_lt (module_count items) number) number request items allows answer
+
+abbrev pub IsPageOf : PageRequest → Items → Allowance → Answer → Type 0
+IsPageOf request = IsFilteredPage request.filter request
 
 -- THE ANSWER to `paths`: of the known stack, the page, or the first fault
 abbrev pub IsPage : PageRequest → Result KnownItems Fault → Answer → Type 0

@@ -21,8 +21,8 @@ use pam_words::Usage;
 use row::Row;
 use std::alloc::{AllocError, Global};
 use table::{
-    conf_row, count_row, cursor_row, graph_row, input_row, memory_row, moment_row, table_name,
-    table_row, time_row, usage_row, write_row,
+    conf_row, count_row, cursor_row, graph_row, input_row, memory_row, module_row, moment_row,
+    table_name, table_row, time_row, usage_row, write_row,
 };
 use thiserror::Error;
 
@@ -47,6 +47,9 @@ pub enum Fault {
     /// The graph of the run has more nodes than `pam_graph` allows.
     #[error("the run can be in too many states")]
     TooManyStates,
+    /// The stack has no module with the number that paths are to ask.
+    #[error("the stack has no such module")]
+    NoSuchModule,
     /// The cursor is that of no path of the stack.
     #[error(transparent)]
     Cursor(CursorError),
@@ -79,6 +82,7 @@ fn row_of(fault: &Fault) -> Row
         Fault::Moment(error) => moment_row(*error),
         Fault::Count(_) => count_row(),
         Fault::TooManyStates => graph_row(),
+        Fault::NoSuchModule => module_row(),
         Fault::Cursor(error) => cursor_row(*error),
         Fault::Device => write_row(),
         Fault::Memory => memory_row(),
@@ -201,9 +205,11 @@ pub fn fault_text(alloc: Global, fault: &Fault, files: &Files) -> Result<Vec<u8>
             &[Piece::Bytes(b" want "), Piece::Number(error.modules as u64)],
         ),
         Fault::Cursor(error) => cursor_line(alloc, row, *error),
-        Fault::Moment(_) | Fault::TooManyStates | Fault::Device | Fault::Memory => {
-            line(alloc, row, &[])
-        }
+        Fault::Moment(_)
+        | Fault::TooManyStates
+        | Fault::NoSuchModule
+        | Fault::Device
+        | Fault::Memory => line(alloc, row, &[]),
     }
 }
 

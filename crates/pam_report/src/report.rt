@@ -7,6 +7,7 @@ ghost use Rattle.pam_report.specs.Report.{status_number};
 
 mod access;
 mod decide;
+mod goal_pages;
 mod header;
 mod known_stack;
 mod login;
@@ -118,6 +119,7 @@ fn answer_from<W: Write>(
             kind,
             limit,
             part,
+            filter,
             knowledge,
             ..
         } => {
@@ -125,6 +127,7 @@ fn answer_from<W: Write>(
                 stack: stack_request(service, *kind, knowledge),
                 limit: *limit,
                 part: *part,
+                filter: *filter,
             };
             let moment = given_moment(knowledge.moment);
             answer_paths(alloc, &page, moment, files, inputs, out)

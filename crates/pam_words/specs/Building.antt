@@ -1,12 +1,12 @@
 -- A command that is being built, for private contracts and proofs alone.
-use Rattle.std.specs.Prelude.{◌≡◌, List, [], ◌∷◌, Some, IfOk, Result, false}
+use Rattle.std.specs.Prelude.{◌≡◌, List, [], ◌∷◌, IfOk, Result, false}
 use Rattle.std.specs.declared.alloc.AllocError.{AllocError}
 use Rattle.clap.specs.Words.{App, Rule, Text, app_of, new_app, with_rule, with_subcommand}
 use Rattle.clap.specs.declared.builder.Command.{Command}
 use Rattle.clap.specs.declared.builder.Command.TheViews.{out-Command as fields_of}
-use Rattle.pam_words.specs.Words.{limit_parser, option_rule, repeated_rule, required_option_rule, required_rule}
+use Rattle.pam_words.specs.Words.{number_rule, option_rule, repeated_rule, required_option_rule, required_rule}
 use Rattle.pam_words.specs.declared.words.ArgForm.{ArgForm}
-use Rattle.pam_words.specs.declared.words.ArgForm.TheVariants.{Positional, Repeated, Optional, Required, Limit}
+use Rattle.pam_words.specs.declared.words.ArgForm.TheVariants.{Positional, Repeated, Optional, Required, Number}
 use Rattle.pam_words.specs.declared.words.ArgRow.{ArgRow}
 use Rattle.pam_words.specs.declared.words.CommandRow.{CommandRow}
 
@@ -19,7 +19,7 @@ rule_in_form Positional id = required_rule id
 rule_in_form Repeated id = repeated_rule id
 rule_in_form Optional id = option_rule id
 rule_in_form Required id = required_option_rule id
-rule_in_form Limit id = record (option_rule id) { parser = Some limit_parser }
+rule_in_form Number id = number_rule id
 
 abbrev pub rule_of_row : ArgRow → Rule
 rule_of_row row = rule_in_form row.form row.id.now

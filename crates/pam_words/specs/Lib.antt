@@ -1,4 +1,5 @@
 pub mod Building
+pub mod Decisions
 pub mod Request
 pub mod Wanted
 pub mod Words

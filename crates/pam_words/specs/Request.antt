@@ -1,17 +1,19 @@
 -- The command line: the request that the values found by `clap` spell.
-use Rattle.std.specs.Prelude.{Bool, ◌&&◌, ◌||◌, false, not, ℕ, ℤ, pos, nat_le, nat_lt, List, [], ◌∷◌, codes, length, position}
+use Rattle.std.specs.Prelude.{Bool, ◌&&◌, ◌||◌, false, not, ℕ, ℤ, pos, nat_le, nat_lt, List, [], codes, length}
 use Rattle.std.specs.Prelude.{Option, Some, None, is_some, option_map, unwrap_or, Result, Ok, Err, if◌then◌else◌}
 use Rattle.std.specs.Char.{is_ascii_digit}
 use Rattle.std.specs.List.{list_all}
 use Rattle.std.specs.Option.{option_and_then}
 use Rattle.std.specs.Str.{bytes_eq}
 use Rattle.std.specs.Str.Parse.{digits_value, without_leading_plus}
-use Rattle.pam_codes.specs.Code.{code_names, same_name}
 use Rattle.pam_conf.specs.Rule.{kind_named}
 use Rattle.pam_conf.specs.declared.Kind.{Kind}
 use Rattle.clap.specs.ValueTests.{accepts}
 use Rattle.clap.specs.Words.{Row, Text, all_of, first_of}
-use Rattle.pam_words.specs.Words.{limit_parser}
+use Rattle.pam_words.specs.Decisions.{codes_named, decisions_of}
+use Rattle.pam_words.specs.Words.{number_parser}
+use Rattle.pam_words.specs.declared.wanted.PathFilter.{PathFilter}
+use Rattle.pam_words.specs.declared.wanted.PathFilter.TheVariants.{All, Decides, Asks}
 
 pub data SourceText : Type 0 where
   dir : Text → SourceText
@@ -57,6 +59,7 @@ pub record PathsTask : Type 0 where
   pub kind : Kind
   pub limit : ℕ
   pub part : PartText
+  pub filter : PathFilter
   pub knowledge : KnowledgeText
 
 pub record OutcomesTask : Type 0 where
@@ -76,7 +79,7 @@ pub record RequestText : Type 0 where
   pub service : Text
   pub task : TaskText
 
--- U2 to U6, and U8
+-- U2 to U6, U8 and U11
 pub data Refusal : Type 0 where
   source : Refusal
   kind_name : Refusal
@@ -84,6 +87,7 @@ pub data Refusal : Type 0 where
   login : Refusal
   moment : Refusal
   both_ends : Refusal
+  both_filters : Refusal
 
 -- ---- values
 
@@ -111,19 +115,6 @@ source_of rows = one_source (first_of (codes "dir") rows) (first_of (codes "conf
 
 abbrev pub kind_of_rows : List Row → Option Kind
 kind_of_rows rows = kind_named (text_of (codes "kind") rows)
-
-unfoldable pub code_named : Text → Option ℕ
-code_named name = position (λ n. same_name n name) code_names
-
-abbrev pub both : Option ℕ → Option (List ℕ) → Option (List ℕ)
-both (Some code) (Some rest) = Some (code ∷ rest)
-both (Some code) None = None
-both None rest = None
-
--- the codes with these names, in order. Each must be the name of one
-abbrev pub codes_named : List Text → Option (List ℕ)
-codes_named [] = Some []
-codes_named (name ∷ names) = both (code_named name) (codes_named names)
 
 abbrev pub codes_of_rows : List Row → Option (List ℕ)
 codes_of_rows rows = codes_named (texts_of (codes "code") rows)
@@ -160,13 +151,24 @@ login_of rows = record {
 abbrev pub default_limit : ℕ
 default_limit = 1000
 
--- the number of a text that `clap` accepts as a limit
-abbrev pub limit_in : Text → Option ℕ
-limit_in text = if accepts false limit_parser text then Some (digits_value 10 (without_leading_plus text)) else None
+-- the number of a text that `clap` accepts as one
+abbrev pub number_in : Text → Option ℕ
+number_in text = if accepts false number_parser text then Some (digits_value 10 (without_leading_plus text)) else None
 
 -- the limit. `clap` finds no text for `--limit` but one that it accepts
 abbrev pub limit_of : List Row → ℕ
-limit_of rows = unwrap_or (option_and_then limit_in (first_of (codes "limit") rows)) default_limit
+limit_of rows = unwrap_or (option_and_then number_in (first_of (codes "limit") rows)) default_limit
+
+-- the module that paths are to ask
+abbrev pub asks_of : List Row → Option ℕ
+asks_of rows = option_and_then number_in (first_of (codes "asks") rows)
+
+-- at most one of `--decision` and `--asks`
+abbrev pub one_filter : Option (List ℕ) → Option ℕ → Option PathFilter
+one_filter None None = Some All
+one_filter (Some decisions) None = Some (Decides decisions)
+one_filter None (Some module_number) = Some (Asks module_number)
+one_filter (Some decisions) (Some module_number) = None
 
 -- at most one of `--after` and `--before`
 abbrev pub one_part : Option Text → Option Text → Option PartText
@@ -239,9 +241,18 @@ knowledge_of rows =
 abbrev pub paths_task : List Row → Result TaskText Refusal
 paths_task rows =
     stack_of rows >>= λ stack.
+    or_refuse (decisions_of rows) code_name (λ decisions.
     knowledge_of rows >>= λ knowledge.
     or_refuse (part_of rows) both_ends (λ part.
-    Ok (paths (record { source = stack.0; kind = stack.1; limit = limit_of rows; part = part; knowledge = knowledge })))
+    or_refuse (one_filter decisions (asks_of rows)) both_filters (λ filter.
+    Ok (paths (record {
+      source = stack.0;
+      kind = stack.1;
+      limit = limit_of rows;
+      part = part;
+      filter = filter;
+      knowledge = knowledge;
+    })))))
 
 -- `outcomes SERVICE KIND`
 abbrev pub outcomes_task : List Row → Result TaskText Refusal

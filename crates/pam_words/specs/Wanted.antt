@@ -62,11 +62,12 @@ task_view (Time table login moment) = spec.time (record {
   login = login_view login;
   moment = moment_view moment;
 })
-task_view (Paths source kind limit part knowledge) = spec.paths (record {
+task_view (Paths source kind limit part filter knowledge) = spec.paths (record {
   source = source_view source;
   kind = kind;
   limit = limit;
   part = part_view part;
+  filter = filter;
   knowledge = knowledge_view knowledge;
 })
 task_view (Outcomes source kind knowledge) = spec.outcomes (record {
@@ -89,6 +90,7 @@ Gives view value (Err usage.CodeName) = value ≡ Err spec.code_name
 Gives view value (Err usage.Login) = value ≡ Err spec.login
 Gives view value (Err usage.Moment) = value ≡ Err spec.moment
 Gives view value (Err usage.BothEnds) = value ≡ Err spec.both_ends
+Gives view value (Err usage.BothFilters) = value ≡ Err spec.both_filters
 Gives view value (Err usage.Memory) = ⊤
 Gives view value (Err (usage.Help error)) = ⊥
 Gives view value (Err (usage.Words error)) = ⊥

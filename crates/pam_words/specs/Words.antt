@@ -21,19 +21,19 @@ required_option_rule id = record (option_rule id) { required = true }
 abbrev pub repeated_rule : Text → Rule
 repeated_rule id = record (new_rule id) { value_names = 1; action = Some Append }
 
--- the range of `--limit`
-abbrev pub least_limit : ℕ
-least_limit = 1
+-- the range of `--limit` and `--asks`
+abbrev pub least_number : ℕ
+least_number = 1
 
-abbrev pub most_limit : ℕ
-most_limit = 1000000
+abbrev pub most_number : ℕ
+most_number = 1000000
 
-abbrev pub limit_parser : ValueParser
-limit_parser = Unsigned least_limit most_limit
+abbrev pub number_parser : ValueParser
+number_parser = Unsigned least_number most_number
 
--- `--limit N`
-abbrev pub limit_rule : Rule
-limit_rule = record (option_rule (codes "limit")) { parser = Some limit_parser }
+-- `--ID N`
+abbrev pub number_rule : Text → Rule
+number_rule id = record (option_rule id) { parser = Some number_parser }
 
 -- with `--ID VALUE` for each of these
 abbrev pub with_options : App → List Text → App
@@ -58,7 +58,11 @@ decide_app = with_rule (stack_app (codes "decide")) (repeated_rule (codes "code"
 
 -- the options that choose a page of a listing
 abbrev pub with_page : App → App
-with_page app = with_options (with_rule app limit_rule) (codes "after" ∷ codes "before" ∷ [])
+with_page app = with_options (with_rule app (number_rule (codes "limit"))) (codes "after" ∷ codes "before" ∷ [])
+
+-- the options that choose paths of a listing
+abbrev pub with_filter : App → App
+with_filter app = with_rule (with_rule app (option_rule (codes "decision"))) (number_rule (codes "asks"))
 
 -- the options of a login: the user, the remote host and the terminal
 abbrev pub with_login : App → App
@@ -76,7 +80,7 @@ with_knowledge app = with_moment (with_tables (with_login app))
 
 -- `paths SERVICE KIND`
 unfoldable pub paths_app : App
-paths_app = with_knowledge (with_page (stack_app (codes "paths")))
+paths_app = with_knowledge (with_filter (with_page (stack_app (codes "paths"))))
 
 -- `outcomes SERVICE KIND`
 unfoldable pub outcomes_app : App

@@ -2,10 +2,12 @@
 //! Wrong words are refused with a `Usage`.
 #![tactic(auto)]
 
-mod limit;
+mod number;
 mod reading;
 mod wanted;
 mod words;
 
 pub use reading::request;
-pub use wanted::{ConfSource, KnowledgeSource, Login, Moment, PagePart, Request, Task, Usage};
+pub use wanted::{
+    ConfSource, KnowledgeSource, Login, Moment, PagePart, PathFilter, Request, Task, Usage,
+};

@@ -6,12 +6,14 @@ ghost use Rattle.std.specs.List.{list_all};
 ghost use Rattle.std.specs.Option.{option_copied};
 ghost use Rattle.clap.specs.Words.{found_of, rows_of, first_of, all_of, takes, fault_of, subcommand_of};
 ghost use Rattle.pam_words.specs.Request.{access_task, decide_task, request_of, show_task, stack_of, task_of, time_task};
-ghost use Rattle.pam_words.specs.Request.{code_named as code_of_name, codes_named as codes_of_names, codes_of_rows};
+ghost use Rattle.pam_words.specs.Decisions.{code_named as code_of_name, codes_named as codes_of_names};
+ghost use Rattle.pam_words.specs.Request.{codes_of_rows};
 ghost use Rattle.pam_words.specs.Request.{instant_of, kind_of_rows, login_of, moment_of, seconds_of, source_of, text_of, texts_of};
 ghost use Rattle.pam_words.specs.Wanted.{Answers, Gives, GivesTask, IsRead, IsRefusal, IsRefusalOf, Reads, RefusesBy};
 ghost use Rattle.pam_words.specs.Wanted.{login_view, moment_view, source_view};
 ghost use Rattle.pam_words.specs.Words.{pamcheck_app};
 
+mod decisions;
 mod knowledge;
 mod paths;
 
@@ -64,7 +66,7 @@ fn kind(matches: &ArgMatches<'_>) -> Option<Kind>
     Kind::from_name(text(matches, "kind").as_bytes())
 }
 
-#[tactic(auto, unfolding(crate::specs::Request::code_named))]
+#[tactic(auto, unfolding(crate::specs::Decisions::code_named))]
 fn code_named(name: &str) -> Option<Code>
     ensures { result ≡ code_of_name name.now }
 {

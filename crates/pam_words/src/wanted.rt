@@ -1,6 +1,6 @@
 //! The types of requests and refusals.
 
-use pam_codes::Code;
+use pam_codes::{Code, CodeSet};
 use pam_conf::Kind;
 use pam_text::Texts;
 use thiserror::Error;
@@ -40,6 +40,17 @@ pub enum PagePart<'a> {
     After(&'a str),
     /// The paths before this cursor, in descending order.
     Before(&'a str),
+}
+
+/// The paths that are listed.
+#[derive(Clone, Copy)]
+pub enum PathFilter {
+    /// All paths.
+    All,
+    /// Those that end in one of these decisions.
+    Decides(CodeSet),
+    /// Those that ask the module with this number, from 1.
+    Asks(u32),
 }
 
 /// What says which codes modules may return: a returns file, and the tables in which they look up a login at a moment.
@@ -86,6 +97,7 @@ pub enum Task<'a> {
         kind: Kind,
         limit: u32,
         part: PagePart<'a>,
+        filter: PathFilter,
         knowledge: KnowledgeSource<'a>,
     },
     /// Counts the paths through the stack by their decisions.
@@ -121,7 +133,7 @@ pub enum Usage {
     /// U3: KIND is not the name of a kind.
     #[error("unknown kind")]
     KindName,
-    /// U4: a CODE is not the name of a code.
+    /// U4: a CODE, also one of `--decision`, is not the name of a code.
     #[error("unknown code")]
     CodeName,
     /// U5: an access or time table is given without a user.
@@ -134,6 +146,9 @@ pub enum Usage {
     /// U8: both `--after` and `--before` are given.
     #[error("more than one of --after and --before")]
     BothEnds,
+    /// U11: both `--decision` and `--asks` are given.
+    #[error("more than one of --decision and --asks")]
+    BothFilters,
     /// U7: an allocation failed.
     #[error("out of memory")]
     Memory,

@@ -6,7 +6,7 @@ ghost use Rattle.clap.specs.declared.builder.Command.TheViews.{out-Command as fi
 ghost use Rattle.pam_words.specs.Building.{IsBuilt, app_of_row, rule_of_row, with_args as with_rules, with_commands as with_apps};
 ghost use Rattle.pam_words.specs.Words.{bare_app, pamcheck_app};
 
-use crate::limit::limit_parser;
+use crate::number::number_parser;
 use clap::{Arg, ArgAction, Command};
 use std::alloc::{AllocError, Global};
 
@@ -21,8 +21,8 @@ enum ArgForm {
     Optional,
     /// A required option `--ID NAME`.
     Required,
-    /// An option `--ID NAME` for a limit.
-    Limit,
+    /// An option `--ID NAME` for a number.
+    Number,
 }
 
 /// An argument of a command.
@@ -71,7 +71,7 @@ const CODES: ArgRow = ArgRow {
 };
 
 const LIMIT: ArgRow = ArgRow {
-    form: ArgForm::Limit,
+    form: ArgForm::Number,
     id: "limit",
     name: "N",
     help: "The most paths to list, 1 to 1000000; 1000 if left out",
@@ -89,6 +89,20 @@ const BEFORE: ArgRow = ArgRow {
     id: "before",
     name: "CURSOR",
     help: "Lists the paths before this cursor, the last first",
+};
+
+const DECISION: ArgRow = ArgRow {
+    form: ArgForm::Optional,
+    id: "decision",
+    name: "CODES",
+    help: "Lists the paths that end in one of these codes",
+};
+
+const ASKS: ArgRow = ArgRow {
+    form: ArgForm::Number,
+    id: "asks",
+    name: "N",
+    help: "Lists the paths that ask module N",
 };
 
 const USER: ArgRow = ArgRow {
@@ -212,8 +226,8 @@ static COMMANDS: [CommandRow; 6] = [
         name: "paths",
         about: "Lists the paths through a stack",
         args: &[
-            SERVICE, KIND, DIR, CONF, LIMIT, AFTER, BEFORE, USER, RHOST, TTY, ACCESS, TIME, GROUP,
-            RETURNS, AT, AT_UNIX, ZONE,
+            SERVICE, KIND, DIR, CONF, LIMIT, AFTER, BEFORE, DECISION, ASKS, USER, RHOST, TTY,
+            ACCESS, TIME, GROUP, RETURNS, AT, AT_UNIX, ZONE,
         ],
     },
     CommandRow {
@@ -254,7 +268,7 @@ fn arg<'a>(alloc: Global, row: &ArgRow) -> Arg<'a>
         ArgForm::Repeated => arg.action(ArgAction::Append),
         ArgForm::Optional => arg.long(row.id),
         ArgForm::Required => arg.long(row.id).required(true),
-        ArgForm::Limit => arg.long(row.id).value_parser(limit_parser()),
+        ArgForm::Number => arg.long(row.id).value_parser(number_parser()),
     }
 }
 

@@ -6,10 +6,10 @@ use pam_released::{Finding, findings};
 use pam_text::Source;
 use std::alloc::Global;
 
-/// How many letters `\L` stands for.
+/// How many letters `\L` is.
 const LETTERS: usize = 1000;
 
-/// Appends what `\` and this letter stand for.
+/// Appends the bytes of `\` and this letter.
 fn push_escape(bytes: &mut Vec<u8>, letter: u8) -> Result<(), Error> {
     match letter {
         b'n' => bytes.push(b'\n')?,
@@ -26,7 +26,7 @@ fn push_escape(bytes: &mut Vec<u8>, letter: u8) -> Result<(), Error> {
     Ok(())
 }
 
-/// The bytes that a text with escapes stands for.
+/// The bytes of a text with escapes.
 fn bytes_of(alloc: Global, text: &[u8]) -> Result<Vec<u8>, Error> {
     let mut bytes = Vec::new(alloc);
     let mut is_escaped = false;
@@ -43,7 +43,7 @@ fn bytes_of(alloc: Global, text: &[u8]) -> Result<Vec<u8>, Error> {
     Ok(bytes)
 }
 
-/// The bytes that the words and the blanks between them stand for.
+/// The bytes of words with escapes and of the blanks between them.
 fn bytes_of_words(alloc: Global, words: &[&str]) -> Result<Vec<u8>, Error> {
     let mut text = Vec::new(alloc);
     for word in words {
@@ -76,7 +76,7 @@ fn print_all(rt: &HostRuntime, form: Form, bytes: &[u8]) -> Result<(), Error> {
     Ok(())
 }
 
-/// Prints the findings of the file whose bytes the words stand for.
+/// Prints the findings of the file that the words spell.
 pub(crate) fn print_findings(rt: &HostRuntime, form: &str, words: &[&str]) -> Result<(), Error> {
     let bytes = bytes_of_words(rt.alloc(), words)?;
     print_all(rt, form_named(form), &bytes)

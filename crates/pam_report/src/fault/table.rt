@@ -42,6 +42,7 @@ pub(super) fn usage_row(usage: &Usage) -> Row
         Usage::Moment => Row::of("U6 Moment", BAD_REQUEST),
         Usage::Memory => Row::of("U7 Memory", NO_MEMORY),
         Usage::BothEnds => Row::of("U8 BothEnds", BAD_REQUEST),
+        Usage::BothFilters => Row::of("U11 BothFilters", BAD_REQUEST),
     }
 }
 
@@ -87,13 +88,21 @@ pub(super) fn memory_row() -> Row
     Row::of("E17 Memory", NO_MEMORY)
 }
 
-/// The row of codes that are not as many as the modules.
+/// The row of a run that can be in too many states.
 pub(super) fn graph_row() -> Row
     ensures { row_view result ≡ spec.graph_row }
 {
     Row::of("E19 TooManyStates", BAD_CONFIGURATION)
 }
 
+/// The row of a module to ask that the stack does not have.
+pub(super) fn module_row() -> Row
+    ensures { row_view result ≡ spec.module_row }
+{
+    Row::of("U9 NoSuchModule", BAD_REQUEST)
+}
+
+/// The row of codes that are not as many as the modules.
 pub(super) fn count_row() -> Row
     ensures { row_view result ≡ spec.count_row }
 {

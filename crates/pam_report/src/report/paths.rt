@@ -14,14 +14,15 @@ ghost use Rattle.pam_paths.specs.Listing.{Allowance, IsListingAfter, IsListingBe
 ghost use Rattle.pam_paths.specs.Paths.{path_through};
 ghost use Rattle.pam_report.specs.Answer.{stack_at};
 ghost use Rattle.pam_report.specs.Header.{header_text};
-ghost use Rattle.pam_report.specs.Leaves.{LeavesSome};
+ghost use Rattle.pam_report.specs.Leaves.{Leaves, LeavesSome};
 ghost use Rattle.pam_report.specs.Memory.{WantsOnly, WantsWork, of_paths, paths_tables};
-ghost use Rattle.pam_report.specs.PageView.{AnswersPart, page_view, page_with};
-ghost use Rattle.pam_report.specs.Paths.{IsPage, IsPageOf, IsPart, side_of};
+ghost use Rattle.pam_report.specs.PageView.{AnswersFilter, AnswersPart, page_view, page_with};
+ghost use Rattle.pam_report.specs.Paths.{IsPage, IsPageOf, paged, side_of};
 ghost use Rattle.pam_words.specs.declared.wanted.PagePart.{PagePart};
 ghost use Rattle.pam_words.specs.declared.wanted.PagePart.TheVariants.{After, Before, Whole};
 
 use super::Status;
+use super::goal_pages::{answer_asking, answer_goal};
 use super::header::put_header;
 use super::known_stack::{KnownStack, StackRequest, known_stack};
 use crate::fault::Fault;
@@ -30,10 +31,11 @@ use jiff::civil::DateTime;
 use pam_codes::{Device, Out};
 use pam_conf::Files;
 use pam_dispatch::Program;
+use pam_graph::Goal;
 use pam_page::{LineTexts, Listing, put_page};
 use pam_paths::{Cursor, Explorer, Known};
 use pam_times::MomentError;
-use pam_words::PagePart;
+use pam_words::{PagePart, PathFilter};
 use std::alloc::Global;
 use std::io::Write;
 
@@ -42,6 +44,7 @@ pub(super) struct PageRequest<'a> {
     pub stack: StackRequest<'a>,
     pub limit: u32,
     pub part: PagePart<'a>,
+    pub filter: PathFilter,
 }
 
 /// Writes the lines of a page, and flushes.
@@ -75,22 +78,21 @@ fn write_page<W: Write>(
 
 /// A page that is requested, and what its paths are explored by.
 #[derive(Clone, Copy)]
-struct Paging<'a> {
-    alloc: Global,
-    request: &'a PageRequest<'a>,
-    program: &'a Program,
-    known: &'a Known,
+pub(super) struct Paging<'a> {
+    pub alloc: Global,
+    pub request: &'a PageRequest<'a>,
+    pub program: &'a Program,
+    pub known: &'a Known,
 }
 
 /// Answers with a page of a listing.
-fn answer_listing<W: Write>(
+pub(super) fn answer_listing<W: Write>(
     paging: &Paging<'_>,
     listing: &mut Listing<'_, Known>,
     out: &mut Out<W>,
 ) -> Result<Status, Fault>
-    ensures answer { (items : Items) (allows : Allowance) (part : PagePart) → modules_of paging.now.program.now ≡ module_count items
-        → side listing.old ≡ side_of part → IsPart allows items part (Ok (coming listing.old))
-        → LeavesSome W.contents out.old out.new result (IsPageOf (page_with paging.now.request.now part) items allows) }
+    ensures answer { (items : Items) (part : PagePart) → modules_of paging.now.program.now ≡ module_count items → side listing.old ≡ side_of part
+        → Leaves W.contents out.old out.new result (paged (page_with paging.now.request.now part) (module_count items) (Ok (coming listing.old))) }
     ensures wants { WantsWork result }
 {
     let texts = match LineTexts::new(paging.alloc) {
@@ -172,6 +174,18 @@ fn answer_part<W: Write>(paging: &Paging<'_>, out: &mut Out<W>) -> Result<Status
     }
 }
 
+/// Answers with a page of the paths that the filter lets through.
+fn answer_filtered<W: Write>(paging: &Paging<'_>, out: &mut Out<W>) -> Result<Status, Fault>
+    ensures answer { AnswersFilter W.contents out.old out.new result paging.now }
+    ensures wants { WantsWork result }
+{
+    match paging.request.filter {
+        PathFilter::All => answer_part(paging, out),
+        PathFilter::Decides(decisions) => answer_goal(paging, Goal::Decides(decisions), out),
+        PathFilter::Asks(number) => answer_asking(paging, number, out),
+    }
+}
+
 /// Answers `paths` for a known stack.
 fn answer_known<W: Write>(
     alloc: Global,
@@ -193,7 +207,7 @@ fn answer_known<W: Write>(
         program: &program,
         known: &found.known,
     };
-    answer_part(&paging, out)
+    answer_filtered(&paging, out)
 }
 
 pub(super) fn answer_paths<W: Write>(

@@ -1,15 +1,18 @@
 //! Reads a `paths` request from its words.
 
 ghost use Rattle.std.specs.Prelude.{◌≡◌, option_map};
+ghost use Rattle.std.specs.Option.{option_and_then};
 ghost use Rattle.clap.specs.Words.{found_of, rows_of};
-ghost use Rattle.pam_words.specs.Request.{limit_of, part_of, paths_task};
+ghost use Rattle.pam_words.specs.Request.{asks_of, limit_of, one_filter, part_of, paths_task};
 ghost use Rattle.pam_words.specs.Wanted.{GivesTask, part_view};
 
-use crate::limit::{DEFAULT_LIMIT, limit_in};
+use crate::number::{DEFAULT_LIMIT, number_in};
+use crate::reading::decisions::decisions;
 use crate::reading::knowledge::knowledge;
 use crate::reading::{stack, value};
-use crate::wanted::{PagePart, Task, Usage};
+use crate::wanted::{PagePart, PathFilter, Task, Usage};
 use clap::ArgMatches;
+use pam_codes::CodeSet;
 
 fn limit(matches: &ArgMatches<'_>) -> u32
     ensures { result ≡ limit_of (rows_of (found_of matches.now)) }
@@ -17,7 +20,7 @@ fn limit(matches: &ArgMatches<'_>) -> u32
     let Some(number) = value(matches, "limit") else {
         return DEFAULT_LIMIT;
     };
-    limit_in(number).unwrap_or(DEFAULT_LIMIT)
+    number_in(number).unwrap_or(DEFAULT_LIMIT)
 }
 
 /// Returns the part of the listing, or `None` if both `--after` and `--before` are given.
@@ -32,19 +35,47 @@ fn part<'a>(matches: &ArgMatches<'a>) -> Option<PagePart<'a>>
     }
 }
 
+fn asks(matches: &ArgMatches<'_>) -> Option<u32>
+    ensures { result ≡ asks_of (rows_of (found_of matches.now)) }
+{
+    match value(matches, "asks") {
+        Some(number) => number_in(number),
+        None => None,
+    }
+}
+
+/// Returns the filter, or `None` if both decisions and a module are given.
+fn filter(decisions: Option<CodeSet>, asks: Option<u32>) -> Option<PathFilter>
+    ensures { result ≡ one_filter decisions asks }
+{
+    match (decisions, asks) {
+        (None, None) => Some(PathFilter::All),
+        (Some(decisions), None) => Some(PathFilter::Decides(decisions)),
+        (None, Some(module_number)) => Some(PathFilter::Asks(module_number)),
+        (Some(_), Some(_)) => None,
+    }
+}
+
 pub(crate) fn paths<'a>(matches: &ArgMatches<'a>) -> Result<Task<'a>, Usage>
     ensures { GivesTask (paths_task (rows_of (found_of matches.now))) result }
 {
     let (source, kind) = stack(matches)?;
+    let Some(decisions) = decisions(matches) else {
+        return Err(Usage::CodeName);
+    };
     let knowledge = knowledge(matches)?;
     let Some(part) = part(matches) else {
         return Err(Usage::BothEnds);
+    };
+    let Some(filter) = filter(decisions, asks(matches)) else {
+        return Err(Usage::BothFilters);
     };
     Ok(Task::Paths {
         source,
         kind,
         limit: limit(matches),
         part,
+        filter,
         knowledge,
     })
 }

@@ -63,6 +63,19 @@ end 1 paths
     status: 0,
 };
 
+static OUTCOMES: Command = Command {
+    words: &["pamcheck", "outcomes", "login", "auth", "--dir", "d"],
+    login: b"auth [success=ok default=5] a.so\nauth [default=ignore] b.so\n",
+    access: None,
+    time: None,
+    text: b"login auth 2 modules
+success 1 ways, first 0.0: a.so success, b.so any
+perm_denied 1 ways, first 1: a.so but:success
+total 2 ways
+",
+    status: 0,
+};
+
 static ACCESS: Command = Command {
     words: &[
         "pamcheck", "access", "login", "--access", "t", "--user", "bob",
@@ -93,6 +106,10 @@ static TIME: Command = Command {
     status: 1,
 };
 
+fn commands() -> [&'static Command; 6] {
+    [&SHOW, &DECIDE, &PATHS, &OUTCOMES, &ACCESS, &TIME]
+}
+
 fn inputs(alloc: Global, command: &Command) -> Result<Inputs, Fail> {
     if let Some(table) = command.access {
         let table = table.to_vec(alloc)?;
@@ -107,16 +124,16 @@ fn inputs(alloc: Global, command: &Command) -> Result<Inputs, Fail> {
     }
     let mut files = Files::new(alloc, Form::Dir);
     put(alloc, &mut files, b"login", command.login)?;
-    if !command.words.contains(&"paths") {
-        return Ok(Inputs::Stack(files));
+    match command.words.get(1) {
+        Some(&"paths") | Some(&"outcomes") => Ok(Inputs::Paths {
+            files,
+            groups: None,
+            access: None,
+            time: None,
+            returns: None,
+        }),
+        _ => Ok(Inputs::Stack(files)),
     }
-    Ok(Inputs::Paths {
-        files,
-        groups: None,
-        access: None,
-        time: None,
-        returns: None,
-    })
 }
 
 fn asked(alloc: Global, words: &'static [&'static str]) -> Result<Request<'static>, Fail> {
@@ -221,7 +238,7 @@ fn ends_at_each_call(rt: &impl Abort, alloc: Global, command: &Command) -> Resul
 
 #[test]
 fn each_answer_is_flushed_once_at_its_end(rt: HostRuntime) -> Result<(), Fail> {
-    for command in [&SHOW, &DECIDE, &PATHS, &ACCESS, &TIME] {
+    for command in commands() {
         flushes_once(&rt, rt.alloc(), command)?;
     }
     same(&rt, "the status", &fault_status(&Fault::Device), &5);
@@ -230,7 +247,7 @@ fn each_answer_is_flushed_once_at_its_end(rt: HostRuntime) -> Result<(), Fail> {
 
 #[test]
 fn each_answer_halts_where_a_write_fails(rt: HostRuntime) -> Result<(), Fail> {
-    for command in [&SHOW, &DECIDE, &PATHS, &ACCESS, &TIME] {
+    for command in commands() {
         halts_at_each_byte(&rt, rt.alloc(), command)?;
     }
     Ok(())
@@ -238,7 +255,7 @@ fn each_answer_halts_where_a_write_fails(rt: HostRuntime) -> Result<(), Fail> {
 
 #[test]
 fn each_answer_ends_at_the_call_that_fails(rt: HostRuntime) -> Result<(), Fail> {
-    for command in [&SHOW, &DECIDE, &PATHS, &ACCESS, &TIME] {
+    for command in commands() {
         ends_at_each_call(&rt, rt.alloc(), command)?;
     }
     Ok(())

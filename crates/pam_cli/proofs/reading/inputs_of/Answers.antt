@@ -6,14 +6,15 @@ use Rattle.pam_report.specs.declared.inputs.Inputs.{Inputs}
 use Rattle.pam_words.specs.declared.wanted.ConfSource.{ConfSource}
 use Rattle.pam_words.specs.declared.wanted.KnowledgeSource.{KnowledgeSource}
 use Rattle.pam_words.specs.declared.wanted.PagePart.{PagePart}
+use Rattle.pam_words.specs.declared.wanted.PathFilter.{PathFilter}
 use Rattle.pam_words.specs.declared.wanted.Task.TheVariants.{Outcomes, Paths}
 use Rattle.pam_cli.proofs.reading.inputs_of.Goals as goal
 
 module _ (source : ConfSource) (kind : Kind) (knowledge : KnowledgeSource) where
-  paths-read : (limit : ℕ) (part : PagePart) (r : Result Inputs InputError) → IsKnowledgeReading source knowledge r
-      → IsReading (Paths source kind limit part knowledge) r
-  paths-read limit part (Ok given) h = h
-  paths-read limit part (Err error) h = h
+  paths-read : (limit : ℕ) (part : PagePart) (filter : PathFilter) (r : Result Inputs InputError) → IsKnowledgeReading source knowledge r
+      → IsReading (Paths source kind limit part filter knowledge) r
+  paths-read limit part filter (Ok given) h = h
+  paths-read limit part filter (Err error) h = h
 
   outcomes-read : (r : Result Inputs InputError) → IsKnowledgeReading source knowledge r → IsReading (Outcomes source kind knowledge) r
   outcomes-read (Ok given) h = h
@@ -27,7 +28,7 @@ pub returns-in-Paths : goal.returns-in-Paths
 returns-in-Paths g c =
     let paths = c.in-Paths in
     subst (λ t. IsReading t c.knowledge_inputs.result) (sym paths.is)
-    (paths-read paths.source paths.kind paths.knowledge paths.limit paths.part c.knowledge_inputs.result c.knowledge_inputs.ensures)
+    (paths-read paths.source paths.kind paths.knowledge paths.limit paths.part paths.filter c.knowledge_inputs.result c.knowledge_inputs.ensures)
 
 pub returns-in-Outcomes : goal.returns-in-Outcomes
 returns-in-Outcomes g c =

@@ -12,7 +12,7 @@ use Rattle.pam_graph.specs.Order.{AreAbove, IsNode, LeastRise, numbers_of}
 use Rattle.pam_graph.specs.Walks.{walks_by, walks_of}
 use Rattle.pam_graph.proofs.Growing.{AreAbove-push, LeastRise-more, LeastRise-push, above-extended}
 use Rattle.pam_graph.proofs.Growing.{added-above, added-built, added-extended, added-walks, built-found}
-use Rattle.pam_graph.proofs.Growing.{built-length, extended-trans, found-above, left-at, left-fewer, listing-end, number-is, walks-all, walks-choice}
+use Rattle.pam_graph.proofs.Growing.{built-length, extended-trans, found-above, left-at, left-fewer, listing-end, node-for, walks-all, walks-choice}
 use Rattle.pam_graph.proofs.Reaching.{added-apart, added-keys, added-reason, added-rests, before-later, before-trans, get-at, key-apart, reached-on}
 use Rattle.pam_paths.specs.Forks.{paths_from}
 use Rattle.pam_paths.proofs.FrameLists.{AsksRise-lower, rise_after}
@@ -123,7 +123,7 @@ returns-clause-built g t c =
     let allows = g.K.Knowledge.allows c.args.knowledge.now in
     let program = c.args.program.now in
     let nodes = c.loop-choice.draft.nodes.items in
-    let node : Node = record { module_number = c.in-Some.module_number; edges = c.loop-choice.edges } in
+    let node : Node = record { module_number = c.in-Some.module_number; state = c.state-state.result; edges = c.loop-choice.edges } in
     let i = c.loop-choice.invariant in
     let none = c.in_default-choice.ensures.none allows c.at-fork.ensures.fork in
     let asked = sym (c.in-Some.ensures program c.requires.place) in
@@ -135,7 +135,9 @@ returns-clause-built g t c =
       rise = LeastRise-more 0 c.loop-choice.bound 31 c.loop-choice.edges.items i.rise i.bound;
     } in
     added-built allows program nodes c.add.new.draft.nodes.items c.loop-choice.draft.places c.add.new.draft.places node (rest_of program c.args.place.now)
-    c.add.result i.built valid (number-is c.in-Some.module_number (rest_of program c.args.place.now) asked)
+    c.add.result i.built valid
+    (node-for (modules_of program) c.in-Some.module_number (rest_of program c.args.place.now) node asked c.requires.rise refl
+    (c.state-state.ensures program c.requires.place))
     (walks-all allows program c.at-fork.result c.loop-choice.bound node nodes _ none i.walks) c.add.ensures.node
     (added-rests program c.loop-choice.draft.places c.add.new.draft.places (key_of c.args.place.now) (rest_of program c.args.place.now) c.add.result
     (c.in_default-find.ensures.rest program) c.add.ensures.place)
@@ -148,7 +150,7 @@ returns-clause-extended g t c =
 pub returns-clause-above : goal.returns-clause-above
 returns-clause-above g t c low rise =
     let program = c.args.program.now in
-    let node : Node = record { module_number = c.in-Some.module_number; edges = c.loop-choice.edges } in
+    let node : Node = record { module_number = c.in-Some.module_number; state = c.state-state.result; edges = c.loop-choice.edges } in
     let asked = sym (c.in-Some.ensures program c.requires.place) in
     let k = rise_after low (modules_of program) c.in-Some.module_number 0 _ rise asked in
     added-above c.loop-choice.draft.nodes.items c.add.new.draft.nodes.items node low c.add.result k.0 c.add.ensures.node c.add.ensures.target
@@ -158,7 +160,7 @@ returns-clause-walks g t c =
     let allows = g.K.Knowledge.allows c.args.knowledge.now in
     let program = c.args.program.now in
     let nodes = c.loop-choice.draft.nodes.items in
-    let node : Node = record { module_number = c.in-Some.module_number; edges = c.loop-choice.edges } in
+    let node : Node = record { module_number = c.in-Some.module_number; state = c.state-state.result; edges = c.loop-choice.edges } in
     let i = c.loop-choice.invariant in
     let none = c.in_default-choice.ensures.none allows c.at-fork.ensures.fork in
     added-walks allows program nodes c.add.new.draft.nodes.items node (rest_of program c.args.place.now) c.add.result

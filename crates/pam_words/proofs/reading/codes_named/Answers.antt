@@ -1,7 +1,7 @@
 use Rattle.std.proofs.Common.{◌≡◌, ℕ, ◌+◌, ◌<◌, List, [], ◌∷◌, ◌++◌, Option, Some, None, add-one, append_assoc, drop, drop-cons, get_or, length, map}
 use Rattle.std.proofs.Common.{option_map, sym, ◌∙◌}
 use Rattle.clap.specs.Words.{Text}
-use Rattle.pam_words.specs.Request.{both, code_named, codes_named}
+use Rattle.pam_words.specs.Decisions.{both, code_named, codes_named}
 use Rattle.pam_words.proofs.reading.codes_named.Goals as goal
 
 -- the codes with one more, before the same rest

@@ -1,6 +1,6 @@
 -- the codes so far, then those of the remaining names
 use Rattle.std.proofs.Common.{◌≡◌, map, drop, ◌++◌, option_map}
-use Rattle.pam_words.specs.Request.{codes_named}
+use Rattle.pam_words.specs.Decisions.{codes_named}
 use Rattle.pam_words.proofs.reading.codes_named.Given as goal
 
 abbrev pub invariant-loop-name : goal.invariant-loop-name

@@ -22,14 +22,14 @@ service_of s = option_map (λ b. b.now) s
 pub follow-returns-in_default-clause-walked : goal.follow-returns-in_default-clause-walked
 follow-returns-in_default-clause-walked t c =
     lemmas.no_service c.args.self.now.files.now c.args.self.now.kind (service_of c.args.self.now.service) c.args.progress.now.modules
-    c.args.progress.now.follows c.args.at.file c.args.at.line _ c.args.trail.now (position_of c.args.target.now c.args.self.now.files.now.entries) c.fault.result
-    (sym c.in_default.ensures) c.fault.ensures
+    c.args.progress.now.follows c.args.at.file c.args.at.line _ c.args.trail.now (position_of c.args.target.now c.args.self.now.files.now.entries)
+    c.fault.result (sym c.in_default.ensures) c.fault.ensures
 
 pub follow-returns-then-contains-clause-walked : goal.follow-returns-then-contains-clause-walked
 follow-returns-then-contains-clause-walked t c =
     lemmas.open_already c.args.self.now.files.now c.args.self.now.kind (service_of c.args.self.now.service) c.args.progress.now.modules
-    c.args.progress.now.follows c.args.at.file c.args.at.line _ c.args.trail.now (position_of c.args.target.now c.args.self.now.files.now.entries) c.in-Some.position
-    c.fault-then-contains.result (sym c.in-Some.ensures) (sym c.contains.ensures ∙ c.if-contains.true) c.fault-then-contains.ensures
+    c.args.progress.now.follows c.args.at.file c.args.at.line _ c.args.trail.now (position_of c.args.target.now c.args.self.now.files.now.entries)
+    c.in-Some.position c.fault-then-contains.result (sym c.in-Some.ensures) (sym c.contains.ensures ∙ c.if-contains.true) c.fault-then-contains.ensures
 
 pub follow-returns-then-room-eq0-clause-walked : goal.follow-returns-then-room-eq0-clause-walked
 follow-returns-then-room-eq0-clause-walked t c =
@@ -41,8 +41,8 @@ follow-returns-then-room-eq0-clause-walked t c =
 pub follow-returns-then-progress-eq-MAX_FOLLOWS-clause-walked : goal.follow-returns-then-progress-eq-MAX_FOLLOWS-clause-walked
 follow-returns-then-progress-eq-MAX_FOLLOWS-clause-walked t c =
     lemmas.too_many_followed c.args.self.now.files.now c.args.self.now.kind (service_of c.args.self.now.service) c.args.progress.now.modules
-    c.args.progress.now.follows c.args.at.file c.args.at.line c.args.trail.now (position_of c.args.target.now c.args.self.now.files.now.entries) c.in-Some.position
-    c.fault-then-progress-eq-MAX_FOLLOWS.result (sym c.in-Some.ensures) (sym c.contains.ensures ∙ c.if-contains.false)
+    c.args.progress.now.follows c.args.at.file c.args.at.line c.args.trail.now (position_of c.args.target.now c.args.self.now.files.now.entries)
+    c.in-Some.position c.fault-then-progress-eq-MAX_FOLLOWS.result (sym c.in-Some.ensures) (sym c.contains.ensures ∙ c.if-contains.false)
     (λ e. c.if-room-eq0.false (c.room.ensures ∙ e)) c.if-progress-eq-MAX_FOLLOWS.true c.fault-then-progress-eq-MAX_FOLLOWS.ensures
 
 pub follow-walk_file-requires : goal.follow-walk_file-requires
@@ -56,17 +56,18 @@ pub follow-returns-in_err-walk_file-clause-walked : goal.follow-returns-in_err-w
 follow-returns-in_err-walk_file-clause-walked t c =
     let p = err_from_is_err_and c.from_residual.result c.from_residual.ensures.1 in
     rw (p.1, p.2) (lemmas.follow-refused c.args.self.now.files.now c.args.self.now.kind (service_of c.args.self.now.service) c.args.progress.now.modules
-    c.args.progress.now.follows c.args.at.file c.args.at.line c.args.trail.now c.with-longer.result (position_of c.args.target.now c.args.self.now.files.now.entries)
-    c.in-Some.position c.in_err-walk_file.field-0.0 (sym c.in-Some.ensures) (sym c.contains.ensures ∙ c.if-contains.false)
+    c.args.progress.now.follows c.args.at.file c.args.at.line c.args.trail.now c.with-longer.result
+    (position_of c.args.target.now c.args.self.now.files.now.entries) c.in-Some.position c.in_err-walk_file.field-0.0
+    (sym c.in-Some.ensures) (sym c.contains.ensures ∙ c.if-contains.false)
     (λ e. c.if-room-eq0.false (c.room.ensures ∙ e)) c.if-progress-eq-MAX_FOLLOWS.false c.with-longer.ensures c.in_err-walk_file.ensures.walked)
 
 pub follow-returns-clause-walked : goal.follow-returns-clause-walked
 follow-returns-clause-walked t c =
     lemmas.follow-done c.args.self.now.files.now c.args.self.now.kind (service_of c.args.self.now.service) c.args.progress.now.modules
-    c.args.progress.now.follows c.walk_file.new.progress.modules c.walk_file.new.progress.follows c.args.at.file c.args.at.line (items_of c.args.items.now.items)
-    (items_of c.walk_file.new.items.items) c.args.trail.now c.with-longer.result (position_of c.args.target.now c.args.self.now.files.now.entries)
-    c.in-Some.position (sym c.in-Some.ensures) (sym c.contains.ensures ∙ c.if-contains.false) (λ e. c.if-room-eq0.false (c.room.ensures ∙ e))
-    c.if-progress-eq-MAX_FOLLOWS.false c.with-longer.ensures c.in_ok-walk_file.ensures.walked
+    c.args.progress.now.follows c.walk_file.new.progress.modules c.walk_file.new.progress.follows c.args.at.file c.args.at.line
+    (items_of c.args.items.now.items) (items_of c.walk_file.new.items.items) c.args.trail.now c.with-longer.result
+    (position_of c.args.target.now c.args.self.now.files.now.entries) c.in-Some.position (sym c.in-Some.ensures) (sym c.contains.ensures ∙ c.if-contains.false)
+    (λ e. c.if-room-eq0.false (c.room.ensures ∙ e)) c.if-progress-eq-MAX_FOLLOWS.false c.with-longer.ensures c.in_ok-walk_file.ensures.walked
 
 -- A FILE
 

@@ -3,11 +3,12 @@ use Rattle.std.proofs.lemmas.List.{length-map}
 use Rattle.pam_conf.specs.declared.stack.TheConstants.{MAX_MODULES}
 use Rattle.pam_graph.specs.declared.frames.Frame.{Frame}
 use Rattle.pam_graph.specs.Frames.{ahead, coming, step_in}
-use Rattle.pam_graph.proofs.Following.{frames-most, shared_steps, walk-told}
+use Rattle.pam_graph.proofs.Following.{frames-most, walk-told}
 use Rattle.pam_graph.proofs.frames.Search.follow.Goals as goal
 use Rattle.pam_graph.proofs.frames.Search.follow.Goals.{After-as_slice}
 use Rattle.pam_paths.specs.Paths.{PathValue}
 use Rattle.pam_paths.specs.Steps.{step_seen}
+use Rattle.pam_paths.proofs.Fronts.{shared_steps}
 
 pub returns-in_default-clause-stays : goal.returns-in_default-clause-stays
 unfolding coming ahead
@@ -28,7 +29,7 @@ same c =
     omega (arith, c.shared_count-shared.ensures.within, length-map c.steps.result.now step_seen, ap length c.steps.ensures) in
     let within : c.shared_count-shared.result ≤ length c.go_on.new.frames.items - 1 =
     omega (arith, c.shared_count-shared.ensures.unchanged, c.len.ensures.value) in
-    shared_steps c.args.path.now.steps c.args.frames.now.items c.go_on.new.frames.items c.descend-decision.new.frames.items c.shared_count-shared.result
+    shared_steps step_in c.args.path.now.steps c.args.frames.now.items c.go_on.new.frames.items c.descend-decision.new.frames.items c.shared_count-shared.result
     c.requires.steps c.in-Some.ensures.earlier c.descend-decision.ensures.earlier few within
     ∙ ap (λ (x : List Frame). take c.shared_count-shared.result (map step_in x)) (sym c.as_slice.ensures.value)
 

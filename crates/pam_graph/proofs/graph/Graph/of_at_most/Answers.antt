@@ -2,6 +2,7 @@ use Rattle.std.proofs.Common.{◌∙◌, [], ap, arith, subst, sym}
 use Rattle.pam_dispatch.specs.Flat.{modules_of, runs_of}
 use Rattle.pam_graph.specs.Reached.{AreAllowed, AreReachedKeys, after_answers}
 use Rattle.pam_graph.proofs.Growing.{built-empty}
+use Rattle.pam_graph.proofs.Placing.{built-at}
 use Rattle.pam_paths.specs.Computed.{listing}
 use Rattle.pam_paths.specs.Listing.{IsListing}
 use Rattle.pam_paths.specs.Paths.{path_of}
@@ -22,6 +23,18 @@ returns-clause-listing g c =
     subst (IsListing allows n (path_of (runs_of program)))
     (sym (c.in_ok-start.ensures.walks ∙ ap (listing allows) c.first-first.ensures.whole))
     (listing-is allows n (runs_of program) c.first-first.ensures.rise some.0 some.1)
+
+pub returns-clause-nodes : goal.returns-clause-nodes
+returns-clause-nodes g c =
+    let allows = g.K.Knowledge.allows c.args.knowledge.now in
+    let program = c.args.program.now in
+    let some = some_assignment allows (modules_of program)
+    (λ m first last. g.met.K.Knowledge.lawful c.args.knowledge.now m first (omega (arith, last, c.first-first.ensures.few))) in (
+      c.target_of.new.draft.places,
+      c.len-count.ensures.different,
+      built-at allows program some.0 some.1 c.target_of.new.draft.nodes.items c.target_of.new.draft.places c.in_ok-start.ensures.built
+          c.in_ok-start.ensures.keys,
+    )
 
 pub returns-clause-stack : goal.returns-clause-stack
 returns-clause-stack g c items is = listing-tree _ _ _ items is _ (returns-clause-listing g c)

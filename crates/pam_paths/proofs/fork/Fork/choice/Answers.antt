@@ -1,10 +1,9 @@
-use Rattle.std.proofs.Common.{◌≡◌, ◌<◌, ◌≤◌, ◌+◌, ◌++◌, ◌∙◌, ℕ, ap, arith, map, subst, sym}
-use Rattle.pam_codes.specs.Set.{is_in}
+use Rattle.std.proofs.Common.{◌≡◌, ◌+◌, ◌++◌, ◌∙◌, ℕ, ap, arith, map, subst, sym}
 use Rattle.pam_dispatch.specs.Flat.{modules_of, rest_of}
 use Rattle.pam_dispatch.specs.Runs.{AsksRise, next_ask}
 use Rattle.pam_paths.specs.declared.direction.Direction.TheVariants.{Forward}
 use Rattle.pam_paths.specs.Classes.{least}
-use Rattle.pam_paths.specs.Computed.{after_step, is_offered, listing}
+use Rattle.pam_paths.specs.Computed.{after_step, listing}
 use Rattle.pam_paths.specs.Frames.{ahead_of}
 use Rattle.pam_paths.proofs.Branches.{branch-ahead, nothing-ahead, offered_is}
 use Rattle.pam_paths.proofs.Choices.{allowed-answer, chosen-least}

@@ -31,7 +31,7 @@ same g c =
     let told : c.len.result ≡ length steps = c.len.ensures.value in
     let few : c.shared_count-shared.result ≤ length (map step_seen steps) =
     omega (arith, c.shared_count-shared.ensures.within, told, length-map steps step_seen) in
-    shared_steps _ c.args.self.now.frames.items c.go_on.new.self.frames.items c.as_slice.result.now c.shared_count-shared.result first
+    shared_steps step_in _ c.args.self.now.frames.items c.go_on.new.self.frames.items c.as_slice.result.now c.shared_count-shared.result first
     c.in-Some.ensures.earlier (ap (take _) c.as_slice.ensures.value ∙ c.descend-rest.ensures.earlier) few (within g c)
 
 pub retell-requires-clause-same : goal.retell-requires-clause-same

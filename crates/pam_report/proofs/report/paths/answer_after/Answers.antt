@@ -4,6 +4,9 @@ use Rattle.pam_paths.specs.Known.{may_answer}
 use Rattle.pam_paths.specs.Listing.{IsListingAfter}
 use Rattle.pam_paths.specs.Paths.{path_through}
 use Rattle.pam_words.specs.declared.wanted.PagePart.TheVariants.{After}
+use Rattle.pam_report.specs.PageView.{page_with}
+use Rattle.pam_report.specs.Paths.{IsListedPage, paged}
+use Rattle.pam_report.proofs.Answering.{leaves-as}
 use Rattle.pam_report.proofs.PageParts.{cursor-refused, cursor-taken, part-same, text-refused}
 use Rattle.pam_report.proofs.report.paths.answer_after.Goals as goal
 
@@ -19,7 +22,11 @@ returns-in-Ok-after-clause-answer g c items allows runs counted agree =
     let same = c.in-Ok.ensures.ok ∙ c.as_bytes.ensures.value in
     let taken = cursor-taken items c.args.text.now c.in-Ok.cursor _ counted c.in-Ok.ensures.cursor same (λ n. IsListingAfter known n (path_through items))
     c.in-Ok-after.explorer.coming (explored.tree items runs) (explored.stack items runs) in
-    c.answer_listing.ensures.answer items allows (After c.args.text) counted refl (part-same known allows items agree (After c.args.text) (Ok _) taken)
+    let request = c.args.paging.now.request.now in
+    let part = After c.args.text in
+    let coming = c.in-Ok-after.explorer.coming in
+    leaves-as g.W.Write.contents _ _ (IsListedPage (page_with request part) items allows) (paged (page_with request part) (module_count items) (Ok coming))
+    (Ok coming, part-same known allows items agree part (Ok coming) taken, refl) _ (c.answer_listing.ensures.answer items part counted refl)
 
 pub returns-in-Err-after-clause-answer : goal.returns-in-Err-after-clause-answer
 returns-in-Err-after-clause-answer g c items allows runs counted agree =

@@ -1,0 +1,324 @@
+//! The edges and ends of a drawing.
+
+ghost use Rattle.std.specs.Prelude.{◌≡◌, ◌<◌};
+ghost use Rattle.std.specs.List.{flat_map, list_any};
+ghost use Rattle.pam_codes.specs.Code.{all_codes};
+ghost use Rattle.pam_codes.specs.Out.{Writes};
+ghost use Rattle.pam_codes.specs.declared.code.TheConstants.{CODES};
+ghost use Rattle.pam_drawing.specs.Drawing.{class_between, class_text, dot_edge, dot_failure, drawn_nodes, edge_text, end_if_drawn};
+ghost use Rattle.pam_drawing.specs.Drawing.{end_text, ends_closing, ends_opening, ends_text, failure_text, is_drawn_end, is_end, leads_to, line_closing};
+ghost use Rattle.pam_drawing.specs.Drawing.{mermaid_edge, mermaid_failure, node_edges, start_opening, start_text, success_text, target_text};
+
+use crate::format::Format;
+use crate::node::{name_of, put_node_id};
+use pam_codes::{CODES, Code, CodeSet, Device, Out, Piece};
+use pam_graph::{Edge, Graph, Node, Target};
+use std::io::Write;
+
+fn is_end(code: Code, target: Target) -> bool
+    ensures { result ≡ is_end code target }
+{
+    match target {
+        Target::At(_) => false,
+        Target::End(decision) => decision == code,
+    }
+}
+
+fn leads_to(code: Code, node: &Node) -> bool
+    ensures { result ≡ leads_to code node.now }
+{
+    node.edges.iter().any(|edge| is_end(code, edge.target))
+}
+
+fn is_drawn_end(graph: &Graph, code: Code) -> bool
+    ensures { result ≡ is_drawn_end graph.now code }
+{
+    let is_start = is_end(code, graph.start());
+    let is_led_to = some_leads_to(code, graph.nodes());
+    is_start || is_led_to
+}
+
+fn some_leads_to(code: Code, nodes: &[Node]) -> bool
+    ensures { result ≡ list_any (leads_to code) nodes.now }
+{
+    nodes.iter().any(|node| leads_to(code, node))
+}
+
+fn put_success_text<W: Write>(format: Format, out: &mut Out<W>) -> Result<(), Device>
+    ensures { Writes W.contents out.old out.new result (success_text format) }
+{
+    match format {
+        Format::Dot => out.put(
+            b"  d0 [label=\"success\", shape=ellipse, peripheries=2, group=\"positive success\"];\n",
+        ),
+        Format::Mermaid => out.put(b"  d0([\"success\"]):::success\n"),
+    }
+}
+
+#[tactic(auto, unfolding(crate::specs::Drawing::dot_failure))]
+fn put_dot_failure<W: Write>(code: Code, out: &mut Out<W>) -> Result<(), Device>
+    ensures { Writes W.contents out.old out.new result (dot_failure code) }
+{
+    let name = name_of(code);
+    out.put_line(&[
+        Piece::Bytes(b"  d"),
+        Piece::Number(u64::from(code.number())),
+        Piece::Bytes(b" [label=\""),
+        Piece::Bytes(name),
+        Piece::Bytes(b"\", shape=octagon, group=\"negative "),
+        Piece::Bytes(name),
+        Piece::Bytes(b"\"];\n"),
+    ])
+}
+
+#[tactic(auto, unfolding(crate::specs::Drawing::mermaid_failure))]
+fn put_mermaid_failure<W: Write>(code: Code, out: &mut Out<W>) -> Result<(), Device>
+    ensures { Writes W.contents out.old out.new result (mermaid_failure code) }
+{
+    out.put_line(&[
+        Piece::Bytes(b"  d"),
+        Piece::Number(u64::from(code.number())),
+        Piece::Bytes(b"{{\""),
+        Piece::Bytes(name_of(code)),
+        Piece::Bytes(b"\"}}\n"),
+    ])
+}
+
+/// Writes a decision other than success.
+fn put_failure<W: Write>(format: Format, code: Code, out: &mut Out<W>) -> Result<(), Device>
+    ensures { Writes W.contents out.old out.new result (failure_text format code) }
+{
+    match format {
+        Format::Dot => put_dot_failure(code, out),
+        Format::Mermaid => put_mermaid_failure(code, out),
+    }
+}
+
+/// Writes an end.
+#[tactic(auto, unfolding(crate::specs::Drawing::end_text))]
+fn put_end<W: Write>(format: Format, code: Code, out: &mut Out<W>) -> Result<(), Device>
+    ensures { Writes W.contents out.old out.new result (end_text format code) }
+{
+    if code == Code::SUCCESS {
+        return put_success_text(format, out);
+    }
+    put_failure(format, code, out)
+}
+
+/// Returns the code of this number.
+fn code_numbered(number: usize) -> Code
+    requires { number < CODES }
+    ensures { result ≡ number }
+{
+    Code::new(number as u8).unwrap()
+}
+
+#[tactic(auto, unfolding(crate::specs::Drawing::end_if_drawn))]
+fn put_end_if_drawn<W: Write>(
+    format: Format,
+    graph: &Graph,
+    code: Code,
+    out: &mut Out<W>,
+) -> Result<(), Device>
+    ensures { Writes W.contents out.old out.new result (end_if_drawn format graph.now code) }
+{
+    if is_drawn_end(graph, code) {
+        return put_end(format, code, out);
+    }
+    Ok(())
+}
+
+fn put_each_end<W: Write>(format: Format, graph: &Graph, out: &mut Out<W>) -> Result<(), Device>
+    ensures { Writes W.contents out.old out.new result (flat_map (end_if_drawn format graph.now) all_codes) }
+{
+    for number in 0..CODES {
+        put_end_if_drawn(format, graph, code_numbered(number), out)?;
+    }
+    Ok(())
+}
+
+fn put_ends_opening<W: Write>(format: Format, out: &mut Out<W>) -> Result<(), Device>
+    ensures { Writes W.contents out.old out.new result (ends_opening format) }
+{
+    match format {
+        Format::Dot => out.put(b"  { rank=sink\n"),
+        Format::Mermaid => out.put(b""),
+    }
+}
+
+fn put_ends_closing<W: Write>(format: Format, out: &mut Out<W>) -> Result<(), Device>
+    ensures { Writes W.contents out.old out.new result (ends_closing format) }
+{
+    match format {
+        Format::Dot => out.put(b"  }\n"),
+        Format::Mermaid => out.put(b""),
+    }
+}
+
+/// Writes the ends to which runs come.
+#[tactic(auto, unfolding(crate::specs::Drawing::ends_text))]
+pub(crate) fn put_ends<W: Write>(
+    format: Format,
+    graph: &Graph,
+    out: &mut Out<W>,
+) -> Result<(), Device>
+    ensures { Writes W.contents out.old out.new result (ends_text format graph.now) }
+{
+    put_ends_opening(format, out)?;
+    put_each_end(format, graph, out)?;
+    put_ends_closing(format, out)
+}
+
+fn put_target<W: Write>(target: Target, out: &mut Out<W>) -> Result<(), Device>
+    ensures { Writes W.contents out.old out.new result (target_text target) }
+{
+    match target {
+        Target::At(index) => out.put_line(&[Piece::Bytes(b"n"), Piece::Number(index as u64)]),
+        Target::End(decision) => {
+            out.put_line(&[
+                Piece::Bytes(b"d"),
+                Piece::Number(u64::from(decision.number())),
+            ])
+        }
+    }
+}
+
+fn put_start_opening<W: Write>(format: Format, out: &mut Out<W>) -> Result<(), Device>
+    ensures { Writes W.contents out.old out.new result (start_opening format) }
+{
+    match format {
+        Format::Dot => out.put(b"  start -> "),
+        Format::Mermaid => out.put(b"  start --> "),
+    }
+}
+
+fn put_line_closing<W: Write>(format: Format, out: &mut Out<W>) -> Result<(), Device>
+    ensures { Writes W.contents out.old out.new result (line_closing format) }
+{
+    match format {
+        Format::Dot => out.put(b";\n"),
+        Format::Mermaid => out.put(b"\n"),
+    }
+}
+
+/// Writes where a run begins.
+#[tactic(auto, unfolding(crate::specs::Drawing::start_text))]
+pub(crate) fn put_start<W: Write>(
+    format: Format,
+    start: Target,
+    out: &mut Out<W>,
+) -> Result<(), Device>
+    ensures { Writes W.contents out.old out.new result (start_text format start) }
+{
+    put_start_opening(format, out)?;
+    put_target(start, out)?;
+    put_line_closing(format, out)
+}
+
+#[tactic(auto, unfolding(crate::specs::Drawing::class_between))]
+fn put_class_between<W: Write>(
+    before: &[u8],
+    class: CodeSet,
+    after: &[u8],
+    out: &mut Out<W>,
+) -> Result<(), Device>
+    ensures { Writes W.contents out.old out.new result (class_between before.now class after.now) }
+{
+    out.put(before)?;
+    class.write_text(out)?;
+    out.put(after)
+}
+
+/// Writes a class between two texts; nothing for every answer.
+#[tactic(auto, unfolding(crate::specs::Drawing::class_text))]
+fn put_class<W: Write>(
+    before: &[u8],
+    class: CodeSet,
+    after: &[u8],
+    out: &mut Out<W>,
+) -> Result<(), Device>
+    ensures { Writes W.contents out.old out.new result (class_text before.now class after.now) }
+{
+    if class.len() == CODES {
+        return Ok(());
+    }
+    put_class_between(before, class, after, out)
+}
+
+#[tactic(auto, unfolding(crate::specs::Drawing::dot_edge))]
+fn put_dot_edge<W: Write>(index: usize, edge: &Edge, out: &mut Out<W>) -> Result<(), Device>
+    ensures { Writes W.contents out.old out.new result (dot_edge index edge.now) }
+{
+    put_node_id(index, out)?;
+    out.put(b" -> ")?;
+    put_target(edge.target, out)?;
+    put_class(b" [label=\"", edge.class, b"\"]", out)?;
+    out.put(b";\n")
+}
+
+#[tactic(auto, unfolding(crate::specs::Drawing::mermaid_edge))]
+fn put_mermaid_edge<W: Write>(index: usize, edge: &Edge, out: &mut Out<W>) -> Result<(), Device>
+    ensures { Writes W.contents out.old out.new result (mermaid_edge index edge.now) }
+{
+    put_node_id(index, out)?;
+    out.put(b" -->")?;
+    put_class(b"|\"", edge.class, b"\"|", out)?;
+    out.put(b" ")?;
+    put_target(edge.target, out)?;
+    out.put(b"\n")
+}
+
+/// Writes an edge of the node with this index.
+fn put_edge<W: Write>(
+    format: Format,
+    index: usize,
+    edge: &Edge,
+    out: &mut Out<W>,
+) -> Result<(), Device>
+    ensures { Writes W.contents out.old out.new result (edge_text format index edge.now) }
+{
+    match format {
+        Format::Dot => put_dot_edge(index, edge, out),
+        Format::Mermaid => put_mermaid_edge(index, edge, out),
+    }
+}
+
+fn put_edges<W: Write>(
+    format: Format,
+    index: usize,
+    edges: &[Edge],
+    out: &mut Out<W>,
+) -> Result<(), Device>
+    ensures { Writes W.contents out.old out.new result (flat_map (edge_text format index) edges.now) }
+{
+    for edge in edges {
+        put_edge(format, index, edge, out)?;
+    }
+    Ok(())
+}
+
+/// Writes the edges of a node.
+fn put_node_edges<W: Write>(
+    format: Format,
+    index: usize,
+    node: &Node,
+    out: &mut Out<W>,
+) -> Result<(), Device>
+    ensures { Writes W.contents out.old out.new result (node_edges format (index, node.now)) }
+{
+    put_edges(format, index, &node.edges, out)
+}
+
+/// Writes the edges of all nodes.
+pub(crate) fn put_all_edges<W: Write>(
+    format: Format,
+    nodes: &[Node],
+    out: &mut Out<W>,
+) -> Result<(), Device>
+    ensures { Writes W.contents out.old out.new result (flat_map (node_edges format) (drawn_nodes nodes.now)) }
+{
+    for (index, node) in nodes.iter().enumerate() {
+        put_node_edges(format, index, node, out)?;
+    }
+    Ok(())
+}

@@ -1,0 +1,10 @@
+//! Drawings of the graph of a stack's runs, for Graphviz and for Mermaid.
+#![tactic(auto)]
+
+mod drawing;
+mod edge;
+mod format;
+mod label;
+mod node;
+
+pub use drawing::{write_dot, write_mermaid};
