@@ -63,8 +63,6 @@ ASKED = [
     (["time", "login", *TIME_TABLE, "--user", "alice", "--tty", "tty1"], TABLES),
     (["time", "login", "--time", "time", "--user", "alice", "--at-unix", "1715400000",
       "--zone", "CET-1CEST,M3.5.0,M10.5.0/3"], TABLES),
-    ([*PATHS, "--decision", "success", "--before", "12.0"], PAGES),
-    ([*ACCOUNT, "--asks", "1", *ACCESS_TABLE, *RETURNS_FILE], TABLE_PAGES),
     (["outcomes", "login", "auth", "--dir", "stack"], PAGES),
     (["outcomes", "login", "account", "--dir", "stack", *ACCESS_TABLE, *TIME_TABLE, *RETURNS_FILE], TABLE_PAGES),
     (["show", "login"], WORDS),
