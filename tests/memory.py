@@ -59,6 +59,8 @@ ASKED = [
     ([*ACCOUNT, *ACCESS_TABLE], TABLE_PAGES),
     ([*ACCOUNT, "--user", "alice", *TIME_TABLE], TABLE_PAGES),
     ([*ACCOUNT, *ACCESS_TABLE, *TIME_TABLE, *RETURNS_FILE], TABLE_PAGES),
+    ([*PATHS, "--decision", "success", "--before", "12.0"], PAGES),
+    ([*ACCOUNT, "--asks", "1", *ACCESS_TABLE, *RETURNS_FILE], TABLE_PAGES),
     (["access", "login", *ACCESS_TABLE, "--rhost", "10.1.2.3", "nodefgroup"], TABLES),
     (["time", "login", *TIME_TABLE, "--user", "alice", "--tty", "tty1"], TABLES),
     (["time", "login", "--time", "time", "--user", "alice", "--at-unix", "1715400000",

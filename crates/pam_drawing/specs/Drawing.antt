@@ -65,7 +65,7 @@ unfoldable pub node_label : Format → Items → Node → List ℕ
 node_label format items node =
     decimal node.module_number ++ codes " " ++ label format (name_at items node.module_number) ++ row_end format ++ state_text node.state
 
--- what stands before the label of a node, and what after it: the shape tells the impressions apart
+-- the text before the label of a node, and the text after it. Each impression has a shape of its own
 abbrev pub node_opening : Format → Impression → List ℕ
 node_opening Dot impression = codes " [label=\""
 node_opening Mermaid Undef = codes "[\""

@@ -19,7 +19,9 @@ fn put_first_lines<W: Write>(format: Format, out: &mut Out<W>) -> Result<(), Dev
 {
     match format {
         Format::Dot => out.put(
-            b"digraph pamcheck {\n  graph [rankdir=LR, newrank=true, ranksep=0.6, nodesep=0.25, fontname=\"sans-serif\", labelloc=t, label=\"",
+            b"digraph pamcheck {\n\
+            \x20 graph [rankdir=LR, newrank=true, ranksep=0.6, nodesep=0.25, \
+            fontname=\"sans-serif\", labelloc=t, label=\"",
         ),
         Format::Mermaid => out.put(b"---\ntitle: \""),
     }
@@ -30,10 +32,21 @@ fn put_next_lines<W: Write>(format: Format, out: &mut Out<W>) -> Result<(), Devi
 {
     match format {
         Format::Dot => out.put(
-            b"\"];\n  node [fontname=\"sans-serif\", fontsize=11, height=0.2, margin=\"0.08,0.04\"];\n  edge [fontname=\"sans-serif\", fontsize=10, arrowsize=0.6];\n  start [shape=point];\n  c0 [shape=point, style=invis];\n",
+            b"\"];\n\
+            \x20 node [fontname=\"sans-serif\", fontsize=11, height=0.2, margin=\"0.08,0.04\"];\n\
+            \x20 edge [fontname=\"sans-serif\", fontsize=10, arrowsize=0.6];\n\
+            \x20 start [shape=point];\n\
+            \x20 c0 [shape=point, style=invis];\n",
         ),
         Format::Mermaid => out.put(
-            b"\"\n---\nflowchart LR\n  classDef undef stroke-dasharray:4 3\n  classDef positive stroke-width:1px\n  classDef negative stroke-width:3px\n  classDef success stroke-width:4px\n  start(( ))\n",
+            b"\"\n\
+            ---\n\
+            flowchart LR\n\
+            \x20 classDef undef stroke-dasharray:4 3\n\
+            \x20 classDef positive stroke-width:1px\n\
+            \x20 classDef negative stroke-width:3px\n\
+            \x20 classDef success stroke-width:4px\n\
+            \x20 start(( ))\n",
         ),
     }
 }

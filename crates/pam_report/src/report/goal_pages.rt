@@ -128,6 +128,8 @@ fn answer_before<W: Write>(
 }
 
 /// Answers with a page of the walks that meet a goal, of the part that is requested.
+// Apart, and never inlined: else the graph is made in a frame that also has room for the listings, of 27 kB each.
+#[inline(never)]
 fn answer_walks<W: Write>(
     paging: &Paging<'_>,
     graph: &Graph,
