@@ -254,7 +254,8 @@ module _ (allows : Allowance) (program : List FlatItem) where
 
   -- what is added to a graph keeps it built
   pub added-built : (old new : List Node) (places after : List PlaceKey) (node : Node) (r : Runs) (result : Result Target GraphError) →
-      IsBuilt allows program old places → IsNode (numbers_of old) node → IsNodeFor (modules_of program) r node → walks_at (walks_of old) node ≡ listing allows r →
+      IsBuilt allows program old places → IsNode (numbers_of old) node → IsNodeFor (modules_of program) r node →
+      walks_at (walks_of old) node ≡ listing allows r →
       OnOk result (new ≡ old ++ node ∷ []) → OnOk result (map (rest_at program) after ≡ map (rest_at program) places ++ r ∷ []) →
       OnOk result (IsBuilt allows program new after)
   added-built old new places after node r (Ok target) built valid here same is at = built-push old new places after node r built is at valid here same

@@ -94,7 +94,8 @@ wants-read kind given moment items (Err fault) h =
 
 -- ---- what is written
 
-module _ {W : Type 0} (contents : W → Option (List ℕ)) (old new : Out W) (IsAnswerOf : Items → Allowance → Answer → Type 0) (told : Result KnownItems Fault) where
+module _ {W : Type 0} (contents : W → Option (List ℕ)) (old new : Out W) (IsAnswerOf : Items → Allowance → Answer → Type 0)
+    (told : Result KnownItems Fault) where
   from-err : (fault : Fault) → told ≡ Err fault → IsAnswerFrom IsAnswerOf told (Err fault)
   from-err fault h = subst (λ (t : Result KnownItems Fault). IsAnswerFrom IsAnswerOf t (Err fault)) (sym h) refl
 

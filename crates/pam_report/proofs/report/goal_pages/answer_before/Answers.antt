@@ -18,4 +18,5 @@ returns-in-Ok-clause-answer g c items allows runs counted agree listing =
 
 pub returns-in-Err-clause-answer : goal.returns-in-Err-clause-answer
 returns-in-Err-clause-answer g c items allows runs counted agree listing =
-    walks-refused c.args.paging.now c.args.graph.now c.args.goal (Before c.args.text) g.W.Write.contents _ _ items allows runs counted agree c.in-Err.fault c.in-Err.ensures.walks refl
+    walks-refused c.args.paging.now c.args.graph.now c.args.goal (Before c.args.text) g.W.Write.contents _ _ items allows runs counted agree
+    c.in-Err.fault c.in-Err.ensures.walks refl
