@@ -1,5 +1,6 @@
 pub mod CountLemmas
 pub mod DepthLemmas
+pub mod FileFaults
 pub mod FileLemmas
 pub mod LineSteps
 pub mod ResolutionLemmas

@@ -1,12 +1,15 @@
 -- Laws of the definitions, in the words of pam.conf(5).
 use Rattle.std.specs.Prelude.{◌≡◌, ◌↔◌, ◌-◌, ◌==◌, ◌≤◌, ℕ, nat_lt, false, List, [], ◌∷◌, length, if◌then◌else◌, Option, Some, None, Ok, Err}
 use Rattle.std.specs.List.{list_any}
+use Rattle.pam_conf.specs.FileRules.{good_rules, own_faults, unless_faulty}
 use Rattle.pam_conf.specs.Files.{Folder}
+use Rattle.pam_conf.specs.Lines.{rules_of}
 use Rattle.pam_conf.specs.Resolution.{items_or_fault, resolved, stack_from}
 use Rattle.pam_conf.specs.Stack.{IsNumbered, Items, depth, module_count}
 use Rattle.pam_conf.specs.Walk.{Deeper, Walk, file_walk, target_walk, walk}
 use Rattle.pam_conf.specs.Words.{IsSplit, words_of}
 use Rattle.pam_conf.specs.declared.error.FaultKind.TheVariants.{TooDeep}
+use Rattle.pam_conf.specs.declared.rule.Form.{Form}
 use Rattle.pam_conf.specs.declared.rule.Kind.{Kind}
 use Rattle.pam_conf.specs.declared.stack.TheConstants.{MAX_MODULES}
 use Rattle.pam_conf.specs.declared.trail.TheConstants.{MAX_OPEN_FILES}
@@ -16,6 +19,12 @@ use Rattle.pam_conf.specs.declared.trail.TheConstants.{MAX_OPEN_FILES}
 -- the words of a line are the one way to write it as blanks and spellings of words; if there is no way it has no words
 abbrev pub WordsAreOneSplit : Type 0
 WordsAreOneSplit = (line : List ℕ) (words : List (List ℕ)) → (words_of line ≡ Some words) ↔ IsSplit line words
+
+-- THE FAULTS OF A FILE
+
+-- a file without a fault of its own has the rules of its lines; the result of any other is its first fault
+abbrev pub FirstFaultOrRules : Type 0
+FirstFaultOrRules = (form : Form) (bytes : List ℕ) → rules_of form bytes ≡ unless_faulty (own_faults form bytes) (good_rules form bytes)
 
 -- THE WALK BY ITS TRAIL ALONE: the room of a walk is `MAX_OPEN_FILES` less the files of its trail
 

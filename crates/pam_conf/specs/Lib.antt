@@ -1,4 +1,6 @@
 pub mod Calls
+pub mod FileRules
+pub mod FilesRead
 pub mod Files
 pub mod FirstWord
 pub mod ItemsOf
