@@ -1,3 +1,4 @@
+pub mod Accounts
 pub mod CountLemmas
 pub mod DepthLemmas
 pub mod FileFaults
@@ -7,8 +8,10 @@ pub mod ResolutionLemmas
 pub mod ResolvedStacks
 pub mod RoomLemmas
 pub mod RuleSteps
+pub mod RuleWalks
 pub mod Splits
 pub mod StackTree
+pub mod SurveyLemmas
 pub mod TableLemmas
 pub mod WalkLemmas
 pub mod WordSteps

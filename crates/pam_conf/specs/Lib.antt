@@ -16,6 +16,8 @@ pub mod Stack
 pub mod StackCode
 pub mod StartOf
 pub mod SubFalls
+pub mod Survey
+pub mod SurveyText
 pub mod Tells
 pub mod Walk
 pub mod Wanted

@@ -107,8 +107,8 @@ fn read_file(alloc: Global, form: Form, bytes: &[u8]) -> Result<FileRules, Alloc
 /// The rules and faults of `Files`. As a value of a contract it is these files.
 #[derive(Drop)]
 pub struct RuleFiles<'a> {
-    files: &'a Files,
-    read: Vec<FileRules>,
+    pub(crate) files: &'a Files,
+    pub(crate) read: Vec<FileRules>,
 }
 
 impl<'a> Model for RuleFiles<'a> {
