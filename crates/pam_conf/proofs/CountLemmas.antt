@@ -6,8 +6,8 @@ use Rattle.std.specs.List.{list_any}
 use Rattle.pam_conf.specs.Files.{Folder, position_of}
 use Rattle.pam_conf.specs.Rule.{RuleText, RuleBody, Module, Include, Sub}
 use Rattle.pam_conf.specs.Stack.{module_count}
-use Rattle.pam_conf.specs.Walk.{Walk, Event, Met, Followed, Failed, Deeper, walk, refusal, target_walk, include_walk, sub_walk, body_walk, rules_walk}
-use Rattle.pam_conf.specs.Walk.{read_walk, rules_at, counts, fault_at, ◌then◌, nothing}
+use Rattle.pam_conf.specs.Walk.{Reads, Walk, Event, Met, Followed, Failed, Deeper, walk, refusal, target_walk, include_walk, sub_walk, body_walk, rules_walk}
+use Rattle.pam_conf.specs.Walk.{read_walk, counts, fault_at, ◌then◌, nothing}
 use Rattle.pam_conf.specs.declared.conf_error.ConfError.{ConfError}
 use Rattle.pam_conf.specs.declared.error.FaultKind.{FaultKind}
 use Rattle.pam_conf.specs.declared.error.FaultKind.TheVariants.{Cycle, TooDeep, TooManyFollowed, TooManyModules}
@@ -21,13 +21,13 @@ use Rattle.pam_conf.proofs.StackTree.{module_count-joined}
 abbrev met : List Event → ℕ
 met [] = 0
 met (Met file line ∷ events) = met events + 1
-met (Followed file line ∷ events) = met events
+met (Followed file line target ∷ events) = met events
 met (Failed fault ∷ events) = met events
 
 met-append : (xs ys : List Event) → met (xs ++ ys) ≡ met xs + met ys
 met-append [] ys = omega arith
 met-append (Met file line ∷ xs) ys = omega (arith, met-append xs ys)
-met-append (Followed file line ∷ xs) ys = met-append xs ys
+met-append (Followed file line target ∷ xs) ys = met-append xs ys
 met-append (Failed fault ∷ xs) ys = met-append xs ys
 
 -- events without a refusal have few modules
@@ -42,7 +42,7 @@ refusal-few modules follows (Met file line ∷ events) few none =
     (λ room passed.
     let other = eqb-false modules MAX_MODULES room in
     omega (arith, refusal-few (modules + 1) follows events (omega (arith, few, other)) passed)) none
-refusal-few modules follows (Followed file line ∷ events) few none =
+refusal-few modules follows (Followed file line target ∷ events) few none =
     cond_both (eqb follows MAX_FOLLOWS) (Some (fault_at file line TooManyFollowed)) (refusal modules (follows + 1) events)
     (λ (o : Option ConfError). o ≡ None → modules + met events ≤ MAX_MODULES)
     (λ full refused. absurd (cc))
@@ -81,9 +81,9 @@ sub-counted : (file line : ℕ) (found : Result (ℕ × Walk) FaultKind) → IsC
 sub-counted file line (Err kind) h = refl
 sub-counted file line (Ok target) h = omega (arith, h)
 
-module _ (folder : Folder) (kind : Kind) (service : Option (List ℕ)) where
+module _ (folder : Folder) (reads : Reads) (kind : Kind) (service : Option (List ℕ)) where
   body-counted : (d : Deeper) (trail : List ℕ) (file : ℕ) (r : RuleText) (b : RuleBody) → AreCounted d →
-      IsCounted (body_walk folder kind service d trail file r b)
+      IsCounted (body_walk folder reads kind service d trail file r b)
   body-counted d trail file r (Module control path arguments) h = refl
   body-counted d trail file r (Include target) h =
       include-counted file r.line (target_walk d trail (position_of target folder.entries)) (target-counted d trail (position_of target folder.entries) h)
@@ -91,28 +91,28 @@ module _ (folder : Folder) (kind : Kind) (service : Option (List ℕ)) where
       sub-counted file r.line (target_walk d trail (position_of target folder.entries)) (target-counted d trail (position_of target folder.entries) h)
 
   rules-counted : (d : Deeper) (trail : List ℕ) (file : ℕ) (rules : List RuleText) → AreCounted d →
-      IsCounted (rules_walk folder kind service d trail file rules)
+      IsCounted (rules_walk folder reads kind service d trail file rules)
   rules-counted d trail file [] h = refl
   rules-counted d trail file (r ∷ rules) h =
-      elim (counts kind service r) as (λ (t : Bool). IsCounted (cond t (body_walk folder kind service d trail file r r.body) nothing
-      then rules_walk folder kind service d trail file rules)) [
-        | true ↦ then-counted (body_walk folder kind service d trail file r r.body) (rules_walk folder kind service d trail file rules)
+      elim (counts kind service r) as (λ (t : Bool). IsCounted (cond t (body_walk folder reads kind service d trail file r r.body) nothing
+      then rules_walk folder reads kind service d trail file rules)) [
+        | true ↦ then-counted (body_walk folder reads kind service d trail file r r.body) (rules_walk folder reads kind service d trail file rules)
             (body-counted d trail file r r.body h) (rules-counted d trail file rules h)
         | false ↦ rules-counted d trail file rules h
       ]
 
   read-counted : (d : Deeper) (trail : List ℕ) (file : ℕ) (r : Result (List RuleText) RuleFault) → AreCounted d →
-      IsCounted (read_walk folder kind service d trail file r)
+      IsCounted (read_walk folder reads kind service d trail file r)
   read-counted d trail file (Err fault) h = refl
   read-counted d trail file (Ok rules) h = rules-counted d trail file rules h
 
-  walk-counted : (room : ℕ) (trail : List ℕ) (file : ℕ) → IsCounted (walk folder kind service room trail file)
+  walk-counted : (room : ℕ) (trail : List ℕ) (file : ℕ) → IsCounted (walk folder reads kind service room trail file)
   unfolding walk
-  walk-counted zero trail file = read-counted None trail file (rules_at folder file) tt
-  walk-counted (suc room) trail file = read-counted (Some (walk folder kind service room)) trail file (rules_at folder file) (walk-counted room)
+  walk-counted zero trail file = read-counted None trail file (reads file) tt
+  walk-counted (suc room) trail file = read-counted (Some (walk folder reads kind service room)) trail file (reads file) (walk-counted room)
 
   -- a walk that is not refused has few modules
-  pub walk-few : (room : ℕ) (trail : List ℕ) (file : ℕ) → refusal 0 0 (walk folder kind service room trail file).events ≡ None →
-      module_count (walk folder kind service room trail file).items ≤ MAX_MODULES
+  pub walk-few : (room : ℕ) (trail : List ℕ) (file : ℕ) → refusal 0 0 (walk folder reads kind service room trail file).events ≡ None →
+      module_count (walk folder reads kind service room trail file).items ≤ MAX_MODULES
   walk-few room trail file none =
-      omega (arith, walk-counted room trail file, refusal-few 0 0 (walk folder kind service room trail file).events (omega arith) none)
+      omega (arith, walk-counted room trail file, refusal-few 0 0 (walk folder reads kind service room trail file).events (omega arith) none)

@@ -4,7 +4,7 @@ use Rattle.std.specs.List.{list_any}
 use Rattle.pam_conf.specs.Files.{Folder, position_of}
 use Rattle.pam_conf.specs.Rule.{RuleText, RuleBody, Module, Include, Sub}
 use Rattle.pam_conf.specs.Stack.{Items, End, ThenModule, ThenSub, joined, module_count, depth, IsNumberedFrom}
-use Rattle.pam_conf.specs.Walk.{Walk, Deeper, walk, numbered, target_walk, include_walk, sub_walk, body_walk, rules_walk, read_walk, rules_at, counts}
+use Rattle.pam_conf.specs.Walk.{Reads, Walk, Deeper, walk, numbered, target_walk, include_walk, sub_walk, body_walk, rules_walk, read_walk, counts}
 use Rattle.pam_conf.specs.declared.error.FaultKind.{FaultKind}
 use Rattle.pam_conf.specs.declared.error.FaultKind.TheVariants.{Cycle, TooDeep}
 use Rattle.pam_conf.specs.declared.error.RuleFault.{RuleFault}
@@ -62,9 +62,9 @@ unfolding IsFlat
 sub-depth n file line (Err kind) one h = one
 sub-depth n file line (Ok t) one h = omega (arith, h)
 
-module _ (folder : Folder) (kind : Kind) (service : Option (List ℕ)) where
+module _ (folder : Folder) (reads : Reads) (kind : Kind) (service : Option (List ℕ)) where
   body-depth : (n : ℕ) (d : Deeper) (trail : List ℕ) (file : ℕ) (r : RuleText) (b : RuleBody) → IsBelow n d →
-      depth (body_walk folder kind service d trail file r b).items ≤ n
+      depth (body_walk folder reads kind service d trail file r b).items ≤ n
   body-depth n d trail file r (Module control path arguments) h = below-one n d h
   body-depth n d trail file r (Include target) h =
       include-depth n file r.line (target_walk d trail (position_of target folder.entries)) (below-one n d h)
@@ -74,14 +74,14 @@ module _ (folder : Folder) (kind : Kind) (service : Option (List ℕ)) where
       (target-depth n d trail (position_of target folder.entries) h)
 
   rules-depth : (n : ℕ) (d : Deeper) (trail : List ℕ) (file : ℕ) (rules : List RuleText) → IsBelow n d →
-      depth (rules_walk folder kind service d trail file rules).items ≤ n
+      depth (rules_walk folder reads kind service d trail file rules).items ≤ n
   rules-depth n d trail file [] h = below-one n d h
   rules-depth n d trail file (r ∷ rules) h =
-      elim (counts kind service r) as (λ (t : Bool). depth (joined (cond t (body_walk folder kind service d trail file r r.body)
-      (record { events = []; items = End })).items (rules_walk folder kind service d trail file rules).items) ≤ n) [
+      elim (counts kind service r) as (λ (t : Bool). depth (joined (cond t (body_walk folder reads kind service d trail file r r.body)
+      (record { events = []; items = End })).items (rules_walk folder reads kind service d trail file rules).items) ≤ n) [
         | true ↦ omega (
           arith,
-          depth-joined (body_walk folder kind service d trail file r r.body).items (rules_walk folder kind service d trail file rules).items,
+          depth-joined (body_walk folder reads kind service d trail file r r.body).items (rules_walk folder reads kind service d trail file rules).items,
           body-depth n d trail file r r.body h,
           rules-depth n d trail file rules h,
         )
@@ -89,14 +89,14 @@ module _ (folder : Folder) (kind : Kind) (service : Option (List ℕ)) where
       ]
 
   read-depth : (n : ℕ) (d : Deeper) (trail : List ℕ) (file : ℕ) (r : Result (List RuleText) RuleFault) → IsBelow n d →
-      depth (read_walk folder kind service d trail file r).items ≤ n
+      depth (read_walk folder reads kind service d trail file r).items ≤ n
   read-depth n d trail file (Err fault) h = below-one n d h
   read-depth n d trail file (Ok rules) h = rules-depth n d trail file rules h
 
   -- a walk opens at most one list more than the number of files that it may open
-  pub depth-walk : (room : ℕ) (trail : List ℕ) (file : ℕ) → depth (walk folder kind service room trail file).items ≤ room + 1
+  pub depth-walk : (room : ℕ) (trail : List ℕ) (file : ℕ) → depth (walk folder reads kind service room trail file).items ≤ room + 1
   unfolding walk IsBelow
-  depth-walk zero trail file = read-depth 1 None trail file (rules_at folder file) (omega arith)
+  depth-walk zero trail file = read-depth 1 None trail file (reads file) (omega arith)
   depth-walk (suc room) trail file =
-      read-depth (suc room + 1) (Some (walk folder kind service room)) trail file (rules_at folder file)
+      read-depth (suc room + 1) (Some (walk folder reads kind service room)) trail file (reads file)
       (omega arith, λ t f. omega (arith, depth-walk room t f))

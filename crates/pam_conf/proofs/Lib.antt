@@ -1,13 +1,17 @@
+pub mod Accounts
 pub mod CountLemmas
 pub mod DepthLemmas
+pub mod FileFaults
 pub mod FileLemmas
 pub mod LineSteps
 pub mod ResolutionLemmas
 pub mod ResolvedStacks
 pub mod RoomLemmas
 pub mod RuleSteps
+pub mod RuleWalks
 pub mod Splits
 pub mod StackTree
+pub mod SurveyLemmas
 pub mod TableLemmas
 pub mod WalkLemmas
 pub mod WordSteps

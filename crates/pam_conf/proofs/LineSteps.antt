@@ -5,11 +5,13 @@ use Rattle.pam_text.specs.declared.text.Line.{Line}
 use Rattle.std.specs.Prelude.{IfOk, MatchOption, OnOk}
 use Rattle.pam_text.specs.Text.{FileByte, text_of, lines_of, first_line, first_bytes, after_line, text_lines, after_blanks, filled_lines}
 use Rattle.pam_text.proofs.TextLines.{HeadIs, head_is, bytes_of_first, split_first, first_of}
-use Rattle.std.specs.List.{list_all}
+use Rattle.std.specs.List.{cons_option, list_all}
+use Rattle.std.specs.Result.{result_transpose}
 use Rattle.std.proofs.lemmas.Bool.{and_parts}
 use Rattle.pam_codes.specs.Tokens.{is_blank}
 use Rattle.pam_conf.specs.Words.{Between, words_in, words_or_fault, or_open}
 use Rattle.pam_conf.specs.Rule.{RuleText, rule_of, ◌>>=◌}
+use Rattle.pam_conf.specs.FileRules.{LineResult, line_results}
 use Rattle.pam_conf.specs.Lines.{line_rule_of, rule_at, at_line, rules_in, onto_rules}
 use Rattle.pam_conf.specs.Progress.{only}
 use Rattle.pam_conf.specs.Wanted.{wants, only_wanted, with_rule}
@@ -79,41 +81,40 @@ pub some_words : (form : Form) (l : ℕ) (bytes : List ℕ) (words : List (List 
 unfolding line_rule_of
 some_words form l bytes words h = ap (λ r. r >>= rule_of form l) h
 
-onto_none : (r : Result (Option RuleText) RuleFault) → onto_rules r (Ok []) ≡ onto_rules r (onto_rules (Ok None) (Ok []))
-onto_none (Ok None) = refl
-onto_none (Ok (Some x)) = refl
-onto_none (Err f) = refl
+-- the result of a line, if it has one, before those of other lines
+abbrev pub onto : Result (Option RuleText) RuleFault → List LineResult → List LineResult
+onto r results = cons_option (result_transpose r) results
 
 empty_line : (form : Form) → rule_at form [] ≡ Ok None
 unfolding line_rule_of words_in rule_of
 empty_line form = refl
 
--- the rules of a text are those of its first line, and those of the lines after it
-pub rules_step : (form : Form) (ms : List FileByte) → rules_in form (lines_of ms)
-    ≡ onto_rules (rule_at form (first_bytes ms)) (rules_in form (lines_of (after_line ms)))
-unfolding rules_in
+-- what is read of a text is that of its first line, and those of the lines after it
+pub rules_step : (form : Form) (ms : List FileByte) → line_results form (lines_of ms)
+    ≡ onto (rule_at form (first_bytes ms)) (line_results form (lines_of (after_line ms)))
+unfolding line_results
 rules_step form ms =
     let front = rule_at form (first_bytes ms) in
-    ⊎_elim (λ e. ap (rules_in form) e)
-    (λ p. ap (rules_in form) p.0 ∙ onto_none front ∙ ap (λ r. onto_rules front (onto_rules r (Ok []))) (sym (empty_line form))
-    ∙ ap (λ ts. onto_rules front (rules_in form (lines_of ts))) (sym p.1))
+    ⊎_elim (λ e. ap (line_results form) e)
+    (λ p. ap (line_results form) p.0 ∙ ap (λ r. onto front (onto r [])) (sym (empty_line form))
+    ∙ ap (λ ts. onto front (line_results form (lines_of ts))) (sym p.1))
     (split_first ms)
 
--- the rules of numbered lines, or the first fault
-unfoldable rules_of_lines : Form → List (ℕ × List ℕ) → Result (List RuleText) RuleFault
-rules_of_lines form [] = Ok []
-rules_of_lines form (line ∷ lines) = onto_rules (at_line line.0 (line_rule_of form line.0 line.1)) (rules_of_lines form lines)
+-- what is read of numbered lines
+unfoldable results_of_lines : Form → List (ℕ × List ℕ) → List LineResult
+results_of_lines form [] = []
+results_of_lines form (line ∷ lines) = onto (at_line line.0 (line_rule_of form line.0 line.1)) (results_of_lines form lines)
 
 filled_first : (form : Form) (line : ℕ × List ℕ) (lines : List (ℕ × List ℕ)) →
-    onto_rules (at_line line.0 (line_rule_of form line.0 line.1)) (rules_of_lines form (filled_lines lines))
-    ≡ rules_of_lines form (filled_lines (line ∷ lines))
-unfolding rules_of_lines filled_lines
+    onto (at_line line.0 (line_rule_of form line.0 line.1)) (results_of_lines form (filled_lines lines))
+    ≡ results_of_lines form (filled_lines (line ∷ lines))
+unfolding results_of_lines filled_lines
 filled_first form line lines =
     elim (list_all is_blank line.1) as (λ (t : Bool). list_all is_blank line.1 ≡ t →
-    onto_rules (at_line line.0 (line_rule_of form line.0 line.1)) (rules_of_lines form (filled_lines lines))
-    ≡ rules_of_lines form (cond t (filled_lines lines) ((line.0, after_blanks line.1) ∷ filled_lines lines))) [
-      | true ↦ λ e. ap (λ r. onto_rules r (rules_of_lines form (filled_lines lines))) (blank_line form line.0 line.1 e)
-      | false ↦ λ e. ap (λ r. onto_rules (at_line line.0 r) (rules_of_lines form (filled_lines lines))) (sym (rule_after form line.0 line.1))
+    onto (at_line line.0 (line_rule_of form line.0 line.1)) (results_of_lines form (filled_lines lines))
+    ≡ results_of_lines form (cond t (filled_lines lines) ((line.0, after_blanks line.1) ∷ filled_lines lines))) [
+      | true ↦ λ e. ap (λ r. onto r (results_of_lines form (filled_lines lines))) (blank_line form line.0 line.1 e)
+      | false ↦ λ e. ap (λ r. onto (at_line line.0 r) (results_of_lines form (filled_lines lines))) (sym (rule_after form line.0 line.1))
     ] refl
 
 after_shorter : (m : FileByte) (ms : List FileByte) → length (after_line (m ∷ ms)) ≤ length ms
@@ -125,53 +126,88 @@ after_shorter m (k ∷ ms) =
       | false ↦ omega (arith, after_shorter k ms)
     ]
 
--- the rules of a text are those of its filled lines
-filled_up_to : (form : Form) (n : ℕ) (ms : List FileByte) → length ms ≤ n → rules_in form (lines_of ms) ≡ rules_of_lines form (filled_lines (text_lines ms))
-unfolding rules_in rules_of_lines filled_lines text_lines line_rule_of words_in rule_of HeadIs
+-- what is read of a text is that of its filled lines
+filled_up_to : (form : Form) (n : ℕ) (ms : List FileByte) → length ms ≤ n → line_results form (lines_of ms) ≡ results_of_lines form (filled_lines (text_lines ms))
+unfolding line_results results_of_lines filled_lines text_lines line_rule_of words_in rule_of HeadIs
 filled_up_to form n [] h = refl
 filled_up_to form zero (m ∷ ms) h = absurd (omega arith)
 filled_up_to form (suc n) (m ∷ ms) h =
     let rest : List FileByte = after_line (m ∷ ms) in
     let front : rule_at form (first_bytes (m ∷ ms)) ≡ at_line m.0 (line_rule_of form m.0 (first_line (m ∷ ms))) = rule_at_line form m.0 (m ∷ ms) refl in
     rules_step form (m ∷ ms)
-    ∙ ap (λ r. onto_rules r (rules_in form (lines_of rest))) front
-    ∙ ap (onto_rules (at_line m.0 (line_rule_of form m.0 (first_line (m ∷ ms))))) (filled_up_to form n rest (omega (arith, after_shorter m ms)))
+    ∙ ap (λ r. onto r (line_results form (lines_of rest))) front
+    ∙ ap (onto (at_line m.0 (line_rule_of form m.0 (first_line (m ∷ ms))))) (filled_up_to form n rest (omega (arith, after_shorter m ms)))
     ∙ filled_first form (m.0, first_line (m ∷ ms)) (text_lines rest)
-    ∙ ap (λ lines. rules_of_lines form (filled_lines lines)) (sym (first_of m ms))
+    ∙ ap (λ lines. results_of_lines form (filled_lines lines)) (sym (first_of m ms))
 
 same_filled : (form : Form) (ms ts : List FileByte) → filled_lines (text_lines ts) ≡ filled_lines (text_lines ms) →
-    rules_in form (lines_of ms) ≡ rules_in form (lines_of ts)
+    line_results form (lines_of ms) ≡ line_results form (lines_of ts)
 same_filled form ms ts e =
     filled_up_to form (length ms) ms (omega arith)
-    ∙ ap (rules_of_lines form) (sym e)
+    ∙ ap (results_of_lines form) (sym e)
     ∙ sym (filled_up_to form (length ts) ts (omega arith))
 
--- the rules of a text that begins with this line
+-- what is read of a text that begins with this line
 line_first : (form : Form) (l : ℕ) (rest : List ℕ) (ts : List FileByte) (n : ℕ) (bytes : List ℕ) → (n ≡ l) × (bytes ≡ first_line (text_of l rest)) →
     ts ≡ after_line (text_of l rest) →
-    rules_in form (lines_of (text_of l rest)) ≡ onto_rules (at_line n (line_rule_of form n bytes)) (rules_in form (lines_of ts))
+    line_results form (lines_of (text_of l rest)) ≡ onto (at_line n (line_rule_of form n bytes)) (line_results form (lines_of ts))
 line_first form l rest ts n bytes p e =
     rules_step form (text_of l rest)
-    ∙ ap (λ r. onto_rules r (rules_in form (lines_of (after_line (text_of l rest))))) (text_line form l rest n bytes p)
-    ∙ ap (λ (us : List FileByte). onto_rules (at_line n (line_rule_of form n bytes)) (rules_in form (lines_of us))) (sym e)
+    ∙ ap (λ r. onto r (line_results form (lines_of (after_line (text_of l rest))))) (text_line form l rest n bytes p)
+    ∙ ap (λ (us : List FileByte). onto (at_line n (line_rule_of form n bytes)) (line_results form (lines_of us))) (sym e)
 
-no_line : (form : Form) (ms : List FileByte) → ms ≡ [] → rules_in form (lines_of ms) ≡ Ok []
-unfolding rules_in line_rule_of words_in rule_of
-no_line form ms e = ap (λ (ts : List FileByte). rules_in form (lines_of ts)) e
+no_line : (form : Form) (ms : List FileByte) → ms ≡ [] → line_results form (lines_of ms) ≡ []
+unfolding line_results line_rule_of words_in rule_of
+no_line form ms e = ap (λ (ts : List FileByte). line_results form (lines_of ts)) e
 
--- the rules of a text, by the first line that a reader returns after it has passed over blank lines
+-- what is read of a text, by the first line that a reader returns after it has passed over blank lines
 pub filled_result : {E : Type 0} (result : Result (Option Line) E) (old : List FileByte) (l : ℕ) (rest : List ℕ) (new : List FileByte) →
     filled_lines (text_lines (text_of l rest)) ≡ filled_lines (text_lines old) →
     IfOk result (λ o. MatchOption o (text_of l rest ≡ [])
     (λ (line : Line). (line.number ≡ l) × (line.bytes.now ≡ first_line (text_of l rest)))) →
     OnOk result (new ≡ after_line (text_of l rest)) →
-    IfOk result (λ o. MatchOption o ((form : Form) → rules_in form (lines_of old) ≡ Ok [])
-    (λ (line : Line). (form : Form) → rules_in form (lines_of old)
-    ≡ onto_rules (at_line line.number (line_rule_of form line.number line.bytes.now)) (rules_in form (lines_of new))))
+    IfOk result (λ o. MatchOption o ((form : Form) → line_results form (lines_of old) ≡ [])
+    (λ (line : Line). (form : Form) → line_results form (lines_of old)
+    ≡ onto (at_line line.number (line_rule_of form line.number line.bytes.now)) (line_results form (lines_of new))))
 filled_result (Ok None) old l rest new same none after = λ form. same_filled form old (text_of l rest) same ∙ no_line form (text_of l rest) none
 filled_result (Ok (Some line)) old l rest new same first after =
     λ form. same_filled form old (text_of l rest) same ∙ line_first form l rest new line.number line.bytes.now first after
 filled_result (Err error) old l rest new same first after = tt
+
+-- the rules of lines, by what is read of each
+unfoldable pub gathered : List LineResult → Result (List RuleText) RuleFault
+gathered [] = Ok []
+gathered (Ok rule ∷ results) = onto_rules (Ok (Some rule)) (gathered results)
+gathered (Err fault ∷ results) = Err fault
+
+gathered-onto : (r : Result (Option RuleText) RuleFault) (results : List LineResult) → gathered (onto r results) ≡ onto_rules r (gathered results)
+unfolding gathered
+gathered-onto (Err fault) results = refl
+gathered-onto (Ok None) results = refl
+gathered-onto (Ok (Some rule)) results = refl
+
+pub rules_in-gathered : (form : Form) (lines : List (List FileByte)) → rules_in form lines ≡ gathered (line_results form lines)
+unfolding rules_in line_results gathered
+rules_in-gathered form [] = refl
+rules_in-gathered form (line ∷ lines) =
+    ap (onto_rules (rule_at form line)) (rules_in-gathered form lines) ∙ sym (gathered-onto (rule_at form line) (line_results form lines))
+
+-- the rules of a text whose first line is read
+pub rules_first : (form : Form) (old new : List (List FileByte)) (r : Result (Option RuleText) RuleFault) →
+    line_results form old ≡ cons_option (result_transpose r) (line_results form new) → rules_in form old ≡ onto_rules r (rules_in form new)
+rules_first form old new r e =
+    rules_in-gathered form old ∙ ap gathered e ∙ gathered-onto r (line_results form new) ∙ ap (onto_rules r) (sym (rules_in-gathered form new))
+
+pub rules_none : (form : Form) (lines : List (List FileByte)) → line_results form lines ≡ [] → rules_in form lines ≡ Ok []
+unfolding gathered
+rules_none form lines e = rules_in-gathered form lines ∙ ap gathered e
+
+-- a blank line has no result
+pub passed_over : (form : Form) (old new : List (List FileByte)) (n : ℕ) (bytes : List ℕ) →
+    line_results form old ≡ cons_option (result_transpose (at_line n (line_rule_of form n bytes))) (line_results form new) →
+    list_all is_blank bytes ≡ true → line_results form old ≡ line_results form new
+passed_over form old new n bytes e blank =
+    e ∙ ap (λ r. cons_option (result_transpose r) (line_results form new)) (blank_line form n bytes blank)
 
 -- rules that were read before come first
 unfoldable pub with_rules : List RuleText → Result (List RuleText) RuleFault → Result (List RuleText) RuleFault

@@ -1,5 +1,5 @@
 use Rattle.std.proofs.Common.{◌≡◌, ◌<◌, ◌+◌, ◌-◌, ℕ, zero, suc, Bool, true, false, cond, eqb, List, [], ◌∷◌, ◌++◌, map, filter, length, drop, get_or, add-one}
-use Rattle.std.proofs.Common.{Option, Some, None, Result, Ok, Err, IsOkAnd, ap, subst, sym, refl, ◌∙◌, arith, append_assoc, length-append}
+use Rattle.std.proofs.Common.{Option, Some, None, Result, Ok, Err, IfErr, IfOk, IsErrAnd, IsOkAnd, MatchOption, MatchResult, ap, subst, sym, refl, ◌∙◌, arith, append_assoc, length-append}
 use Rattle.std.specs.Option.{option_map_or}
 use Rattle.std.specs.List.{list_any, position_or_len}
 use Rattle.std.specs.Str.{bytes_eq}
@@ -7,22 +7,20 @@ use Rattle.std.proofs.Math.Dec.{ltb}
 use Rattle.std.proofs.Math.Seq.{drop-cons}
 use Rattle.std.proofs.lemmas.Option.{cond_some}
 use Rattle.std.proofs.lemmas.Bool.{and_parts, false≢true, ne_eqb, ltb-true}
-use Rattle.pam_codes.specs.declared.action.Action.{Action}
 use Rattle.pam_conf.specs.Files.{Folder, position_of}
-use Rattle.pam_conf.specs.Progress.{Passes, Refuses, IsRead, of_kind, only, in_file}
+use Rattle.pam_conf.specs.Progress.{Count, Passes, Refuses, IsRead, account, ended_by, of_kind, only, in_file, with_fault, with_follow}
 use Rattle.pam_conf.specs.Tells.{UnlessMemory}
 use Rattle.pam_conf.specs.Kept.{kept_view}
-use Rattle.pam_conf.specs.Rule.{RuleText, Module, Include, Sub}
+use Rattle.pam_conf.specs.Rule.{RuleText}
 use Rattle.pam_conf.specs.Stack.{Items, End, ThenModule, ThenSub, joined, module_count}
-use Rattle.pam_conf.specs.Walk.{Walk, Event, Deeper, walk, deeper, refusal, numbered, nothing, ◌then◌, followed, fault_at, target_walk, include_walk, sub_walk}
-use Rattle.pam_conf.specs.Walk.{rules_walk, rule_walk, read_walk, file_walk, rules_at, counts, carries, is_of_kind}
+use Rattle.pam_conf.specs.Walk.{Walk, Event, Deeper, Reads, walk, deeper, numbered, failed, nothing, ◌then◌, followed, fault_at, target_walk, include_walk}
+use Rattle.pam_conf.specs.Walk.{rules_walk, rule_walk, read_walk, file_walk, counts, carries, is_of_kind}
 use Rattle.pam_conf.specs.declared.conf_error.ConfError.{ConfError}
 use Rattle.pam_conf.specs.declared.error.FaultKind.{FaultKind}
-use Rattle.pam_conf.specs.declared.error.FaultKind.TheVariants.{Memory, Cycle, NoService, TooDeep, TooManyFollowed, TooManyModules}
+use Rattle.pam_conf.specs.declared.error.FaultKind.TheVariants.{Memory, Cycle, NoService, TooDeep, TooManyFollowed}
 use Rattle.pam_conf.specs.declared.error.RuleFault.{RuleFault}
 use Rattle.pam_conf.specs.declared.rule.Kind.{Kind}
 use Rattle.pam_conf.specs.declared.kept.KeptRule.{KeptRule}
-use Rattle.pam_conf.specs.declared.stack.TheConstants.{MAX_MODULES}
 use Rattle.pam_conf.specs.declared.trail.TheConstants.{MAX_OPEN_FILES}
 use Rattle.pam_conf.specs.declared.walk.TheConstants.{MAX_FOLLOWS}
 use Rattle.pam_conf.proofs.StackTree.{joined-End, joined_assoc, module_count-joined}
@@ -50,131 +48,171 @@ numbered-joined n (ThenSub s inner rest) back =
 
 -- ONE WALK FOLLOWED BY ANOTHER
 
-pub passes-nothing : (m f : ℕ) (items : Items) → Passes m f items nothing m f items
-passes-nothing m f items = record {
-  refused = λ rest. refl;
+pub passes-nothing : (on : Bool) (n : Count) (items : Items) → Passes on n items nothing n items
+passes-nothing on n items = record {
+  accounted = λ rest. refl;
   counted = omega arith;
   added = sym (joined-End items);
 }
 
-pub passes-then : (m f m1 f1 m2 f2 : ℕ) (i i1 i2 : Items) (v w : Walk) → Passes m f i v m1 f1 i1 → Passes m1 f1 i1 w m2 f2 i2 → Passes m f i (v then w) m2 f2 i2
-passes-then m f m1 f1 m2 f2 i i1 i2 v w p q =
-    let next : m1 + 1 ≡ m + 1 + module_count v.items = omega (arith, p.counted) in
+pub passes-then : (on : Bool) (n n1 n2 : Count) (i i1 i2 : Items) (v w : Walk) → Passes on n i v n1 i1 → Passes on n1 i1 w n2 i2 →
+    Passes on n i (v then w) n2 i2
+passes-then on n n1 n2 i i1 i2 v w p q =
+    let next : n1.modules + 1 ≡ n.modules + 1 + module_count v.items = omega (arith, p.counted) in
     record {
-      refused = λ rest. ap (refusal m f) (append_assoc v.events w.events rest) ∙ p.refused (w.events ++ rest) ∙ q.refused rest;
+      accounted = λ rest. ap (account on n) (append_assoc v.events w.events rest) ∙ p.accounted (w.events ++ rest) ∙ q.accounted rest;
       counted = omega (arith, p.counted, q.counted, module_count-joined v.items w.items);
       added =
           q.added
-          ∙ ap (λ j. joined j (numbered (m1 + 1) w.items)) p.added
-          ∙ ap (λ n. joined (joined i (numbered (m + 1) v.items)) (numbered n w.items)) next
-          ∙ joined_assoc i (numbered (m + 1) v.items) (numbered (m + 1 + module_count v.items) w.items)
-          ∙ ap (joined i) (sym (numbered-joined (m + 1) v.items w.items));
+          ∙ ap (λ j. joined j (numbered (n1.modules + 1) w.items)) p.added
+          ∙ ap (λ k. joined (joined i (numbered (n.modules + 1) v.items)) (numbered k w.items)) next
+          ∙ joined_assoc i (numbered (n.modules + 1) v.items) (numbered (n.modules + 1 + module_count v.items) w.items)
+          ∙ ap (joined i) (sym (numbered-joined (n.modules + 1) v.items w.items));
     }
 
-pub refuses-first : (m f : ℕ) (v w : Walk) (e : ConfError) → Refuses m f v e → Refuses m f (v then w) e
-refuses-first m f v w e = unless-weaker e e.kind (λ h rest. ap (refusal m f) (append_assoc v.events w.events rest) ∙ h (w.events ++ rest))
+pub refuses-first : (on : Bool) (n n' : Count) (v w : Walk) (e : ConfError) → Refuses on n v n' e → Refuses on n (v then w) n' e
+refuses-first on n n' v w e = unless-weaker e e.kind (λ h rest. ap (account on n) (append_assoc v.events w.events rest) ∙ h (w.events ++ rest))
 
-pub refuses-then : (m f m1 f1 : ℕ) (i i1 : Items) (v w : Walk) (e : ConfError) → Passes m f i v m1 f1 i1 → Refuses m1 f1 w e → Refuses m f (v then w) e
-refuses-then m f m1 f1 i i1 v w e p =
-    unless-weaker e e.kind (λ h rest. ap (refusal m f) (append_assoc v.events w.events rest) ∙ p.refused (w.events ++ rest) ∙ h rest)
+pub refuses-then : (on : Bool) (n n1 n' : Count) (i i1 : Items) (v w : Walk) (e : ConfError) → Passes on n i v n1 i1 → Refuses on n1 w n' e →
+    Refuses on n (v then w) n' e
+refuses-then on n n1 n' i i1 v w e p =
+    unless-weaker e e.kind (λ h rest. ap (account on n) (append_assoc v.events w.events rest) ∙ p.accounted (w.events ++ rest) ∙ h rest)
 
 -- ALONG THE RULES: the walk from the beginning on, and the walk that is left
 
-pub record Leads (m0 f0 : ℕ) (i0 : Items) (w0 : Walk) (m f : ℕ) (i : Items) (w : Walk) : Type 0 where
-  pub passes : (m' f' : ℕ) (i' : Items) → Passes m f i w m' f' i' → Passes m0 f0 i0 w0 m' f' i'
-  pub refuses : (e : ConfError) → Refuses m f w e → Refuses m0 f0 w0 e
+pub record Leads (on : Bool) (n0 : Count) (i0 : Items) (w0 : Walk) (n : Count) (i : Items) (w : Walk) : Type 0 where
+  pub passes : (n' : Count) (i' : Items) → Passes on n i w n' i' → Passes on n0 i0 w0 n' i'
+  pub refuses : (n' : Count) (e : ConfError) → Refuses on n w n' e → Refuses on n0 w0 n' e
 
-pub leads-start : (m f : ℕ) (i : Items) (w v : Walk) → w ≡ v → Leads m f i w m f i v
-leads-start m f i w v same = record {
-  passes = λ m' f' i' p. subst (λ u. Passes m f i u m' f' i') (sym same) p;
-  refuses = λ e r. subst (λ u. Refuses m f u e) (sym same) r;
+pub leads-start : (on : Bool) (n : Count) (i : Items) (w v : Walk) → w ≡ v → Leads on n i w n i v
+leads-start on n i w v same = record {
+  passes = λ n' i' p. subst (λ u. Passes on n i u n' i') (sym same) p;
+  refuses = λ n' e r. subst (λ u. Refuses on n u n' e) (sym same) r;
 }
 
-pub leads-step : (m0 f0 m f m1 f1 : ℕ) (i0 i i1 : Items) (w0 w v rest : Walk) → Leads m0 f0 i0 w0 m f i w → w ≡ v then rest → Passes m f i v m1 f1 i1 →
-    Leads m0 f0 i0 w0 m1 f1 i1 rest
-leads-step m0 f0 m f m1 f1 i0 i i1 w0 w v rest l same p = record {
-  passes = λ m' f' i' q. l.passes m' f' i' (subst (λ u. Passes m f i u m' f' i') (sym same) (passes-then m f m1 f1 m' f' i i1 i' v rest p q));
-  refuses = λ e q. l.refuses e (subst (λ u. Refuses m f u e) (sym same) (refuses-then m f m1 f1 i i1 v rest e p q));
+pub leads-step : (on : Bool) (n0 n n1 : Count) (i0 i i1 : Items) (w0 w v rest : Walk) → Leads on n0 i0 w0 n i w → w ≡ v then rest →
+    Passes on n i v n1 i1 → Leads on n0 i0 w0 n1 i1 rest
+leads-step on n0 n n1 i0 i i1 w0 w v rest l same p = record {
+  passes = λ n' i' q. l.passes n' i' (subst (λ u. Passes on n i u n' i') (sym same) (passes-then on n n1 n' i i1 i' v rest p q));
+  refuses = λ n' e q. l.refuses n' e (subst (λ u. Refuses on n u n' e) (sym same) (refuses-then on n n1 n' i i1 v rest e p q));
 }
 
-pub leads-end : (m0 f0 m f : ℕ) (i0 i : Items) (w0 w : Walk) → Leads m0 f0 i0 w0 m f i w → w ≡ nothing → Passes m0 f0 i0 w0 m f i
-leads-end m0 f0 m f i0 i w0 w l same = l.passes m f i (subst (λ u. Passes m f i u m f i) (sym same) (passes-nothing m f i))
+pub leads-end : (on : Bool) (n0 n : Count) (i0 i : Items) (w0 w : Walk) → Leads on n0 i0 w0 n i w → w ≡ nothing → Passes on n0 i0 w0 n i
+leads-end on n0 n i0 i w0 w l same = l.passes n i (subst (λ u. Passes on n i u n i) (sym same) (passes-nothing on n i))
 
-pub leads-refused : (m0 f0 m f : ℕ) (i0 i : Items) (w0 w v rest : Walk) (e : ConfError) → Leads m0 f0 i0 w0 m f i w → w ≡ v then rest → Refuses m f v e →
-    Refuses m0 f0 w0 e
-leads-refused m0 f0 m f i0 i w0 w v rest e l same r = l.refuses e (subst (λ u. Refuses m f u e) (sym same) (refuses-first m f v rest e r))
+pub leads-refused : (on : Bool) (n0 n n' : Count) (i0 i : Items) (w0 w v rest : Walk) (e : ConfError) → Leads on n0 i0 w0 n i w → w ≡ v then rest →
+    Refuses on n v n' e → Refuses on n0 w0 n' e
+leads-refused on n0 n n' i0 i w0 w v rest e l same r =
+    l.refuses n' e (subst (λ u. Refuses on n u n' e) (sym same) (refuses-first on n n' v rest e r))
 
 -- TARGETS
 
-module _ (folder : Folder) (kind : Kind) (service : Option (List ℕ)) where
-  pub no_service : (m f file line : ℕ) (d : Deeper) (trail : List ℕ) (o : Option ℕ) (e : ConfError) → o ≡ None → e ≡ fault_at file line NoService →
-      Refuses m f (include_walk file line (target_walk d trail o)) e
-  unfolding refusal
-  no_service m f file line d trail o e none is = rw (none, is) (λ rest. refl)
+-- a follow, and the files that are reached then
+abbrev pub reached_by : Count → List ℕ → Count
+reached_by n files = record n { follows = n.follows + 1; reached = files }
 
-  pub open_already : (m f file line : ℕ) (d : Deeper) (trail : List ℕ) (o : Option ℕ) (p : ℕ) (e : ConfError) → o ≡ Some p →
-      list_any (λ q. eqb q p) trail ≡ true → e ≡ fault_at file line Cycle → Refuses m f (include_walk file line (target_walk d trail o)) e
-  unfolding refusal
-  open_already m f file line d trail o p e some there is = rw (some, there, is) (λ rest. refl)
+module _ (folder : Folder) (reads : Reads) (kind : Kind) (service : Option (List ℕ)) where
+  pub no_service : (d : Deeper) (trail : List ℕ) (o : Option ℕ) → o ≡ None → target_walk d trail o ≡ Err NoService
+  no_service d trail o none = rw none refl
 
-  pub too_deep : (m f file line room : ℕ) (trail : List ℕ) (o : Option ℕ) (p : ℕ) (e : ConfError) → o ≡ Some p → list_any (λ q. eqb q p) trail ≡ false →
-      room ≡ 0 → e ≡ fault_at file line TooDeep → Refuses m f (include_walk file line (target_walk (deeper folder kind service room) trail o)) e
-  unfolding refusal
-  too_deep m f file line room trail o p e some absent full is = rw (some, absent, full, is) (λ rest. refl)
+  pub open_already : (d : Deeper) (trail : List ℕ) (o : Option ℕ) (p : ℕ) → o ≡ Some p → list_any (λ q. eqb q p) trail ≡ true →
+      target_walk d trail o ≡ Err Cycle
+  open_already d trail o p some there = rw (some, there) refl
+
+  pub too_deep : (room : ℕ) (trail : List ℕ) (o : Option ℕ) (p : ℕ) → o ≡ Some p → list_any (λ q. eqb q p) trail ≡ false → room ≡ 0 →
+      target_walk (deeper folder reads kind service room) trail o ≡ Err TooDeep
+  too_deep room trail o p some absent full = rw (some, absent, full) refl
 
   pub target-found : (trail : List ℕ) (o : Option ℕ) (p : ℕ) → o ≡ Some p → list_any (λ q. eqb q p) trail ≡ false → (MAX_OPEN_FILES - length trail ≡ 0 → ⊥) →
-      target_walk (deeper folder kind service (MAX_OPEN_FILES - length trail)) trail o
-      ≡ Ok (p, walk folder kind service (MAX_OPEN_FILES - length (trail ++ p ∷ [])) (trail ++ p ∷ []) p)
+      target_walk (deeper folder reads kind service (MAX_OPEN_FILES - length trail)) trail o
+      ≡ Ok (p, walk folder reads kind service (MAX_OPEN_FILES - length (trail ++ p ∷ [])) (trail ++ p ∷ []) p)
   target-found trail o p some absent free =
       let longer : length (trail ++ p ∷ []) ≡ length trail + 1 = length-append trail (p ∷ []) in
       let room : MAX_OPEN_FILES - length trail ≡ suc (MAX_OPEN_FILES - length (trail ++ p ∷ [])) = omega arith in
       rw (some, absent, room) refl
 
-  passes-followed : (m f m' f' file line : ℕ) (i i' : Items) (w : Walk) → (f ≡ MAX_FOLLOWS → ⊥) → Passes m (f + 1) i w m' f' i' →
-      Passes m f i (followed file line w) m' f' i'
-  unfolding refusal
-  passes-followed m f m' f' file line i i' w few p = record {
-    refused = λ rest. rw (ne_eqb f MAX_FOLLOWS few) (p.refused rest);
+  -- a fault that is noted leads on; one that is not ends the walk
+  pub fault-noted : (on : Bool) (n n' : Count) (i : Items) (file line : ℕ) (found : Result (ℕ × Walk) FaultKind) (fault : FaultKind) (e : ConfError) →
+      found ≡ Err fault → e ≡ fault_at file line fault → on ≡ true → n' ≡ with_fault e n →
+      IsErrAnd found (λ fault. Passes on n i (failed (fault_at file line fault)) n' i)
+  unfolding account
+  fault-noted on n n' i file line found fault e is same goes new = rw (is, goes, new, same) record {
+    accounted = λ rest. refl;
+    counted = omega arith;
+    added = sym (joined-End i);
+  }
+
+  pub fault-ends : (on : Bool) (n n' : Count) (file line : ℕ) (found : Result (ℕ × Walk) FaultKind) (fault : FaultKind) (e met : ConfError) →
+      found ≡ Err fault → met ≡ fault_at file line fault →
+      UnlessMemory e e.kind ((on ≡ false) × (e ≡ met) × (n' ≡ n)) →
+      Refuses on n (include_walk file line found) n' e
+  unfolding account
+  fault-ends on n n' file line found fault e met is same =
+      unless-weaker e e.kind (λ h rest. let at : fault_at file line fault ≡ e = sym same ∙ sym h.1 in rw (is, at, h.0, h.2) refl)
+
+  -- what is done about a fault, where notes are the faults so far
+  pub meets : (on : Bool) (n : Count) (i : Items) (file line : ℕ) (found : Result (ℕ × Walk) FaultKind) (fault : FaultKind) (met : ConfError)
+      (result : Result (Option ℕ) ConfError) (notes : List ConfError) → found ≡ Err fault → met ≡ fault_at file line fault →
+      IfOk result (λ o. (o ≡ None) × (on ≡ true) × (notes ≡ n.noted ++ met ∷ [])) →
+      IfErr result (λ e. UnlessMemory e e.kind ((on ≡ false) × (e ≡ met) × (notes ≡ n.noted))) →
+      MatchResult result (λ o. MatchOption o (IsErrAnd found (λ fault. Passes on n i (failed (fault_at file line fault)) (record n { noted = notes }) i))
+      (λ position. IsOkAnd found (λ t. (t.0 ≡ position) × Passes on n i (followed file line t) (record n { noted = notes }) i)))
+      (λ e. Refuses on n (include_walk file line found) (record n { noted = notes }) e)
+  meets on n i file line found fault met (Ok o) notes is same ok err =
+      rw ok.0 (fault-noted on n (record n { noted = notes }) i file line found fault met is same ok.1
+      (ap (λ (noted : List ConfError). record n { noted = noted }) ok.2))
+  meets on n i file line found fault met (Err e) notes is same ok err =
+      fault-ends on n (record n { noted = notes }) file line found fault e met is same
+      (unless-weaker e e.kind (λ h. (h.0, h.1, ap (λ (noted : List ConfError). record n { noted = noted }) h.2)) err)
+
+  passes-followed : (on : Bool) (n n' : Count) (file line target : ℕ) (i i' : Items) (w : Walk) → (n.follows ≡ MAX_FOLLOWS → ⊥) →
+      Passes on (with_follow on target n) i w n' i' → Passes on n i (followed file line (target, w)) n' i'
+  unfolding account
+  passes-followed on n n' file line target i i' w few p = record {
+    accounted = λ rest. rw (ne_eqb n.follows MAX_FOLLOWS few) (p.accounted rest);
     counted = p.counted;
     added = p.added;
   }
 
-  refuses-followed : (m f file line : ℕ) (w : Walk) (e : ConfError) → (f ≡ MAX_FOLLOWS → ⊥) → Refuses m (f + 1) w e → Refuses m f (followed file line w) e
-  unfolding refusal
-  refuses-followed m f file line w e few = unless-weaker e e.kind (λ h rest. rw (ne_eqb f MAX_FOLLOWS few) (h rest))
+  refuses-followed : (on : Bool) (n n' : Count) (file line target : ℕ) (w : Walk) (e : ConfError) → (n.follows ≡ MAX_FOLLOWS → ⊥) →
+      Refuses on (with_follow on target n) w n' e → Refuses on n (followed file line (target, w)) n' e
+  unfolding account
+  refuses-followed on n n' file line target w e few = unless-weaker e e.kind (λ h rest. rw (ne_eqb n.follows MAX_FOLLOWS few) (h rest))
 
-  pub too_many_followed : (m f file line : ℕ) (trail : List ℕ) (o : Option ℕ) (p : ℕ) (e : ConfError) → o ≡ Some p → list_any (λ q. eqb q p) trail ≡ false →
-      (MAX_OPEN_FILES - length trail ≡ 0 → ⊥) → f ≡ MAX_FOLLOWS → e ≡ fault_at file line TooManyFollowed →
-      Refuses m f (include_walk file line (target_walk (deeper folder kind service (MAX_OPEN_FILES - length trail)) trail o)) e
-  unfolding refusal
-  too_many_followed m f file line trail o p e some absent free many is = rw (target-found trail o p some absent free, many, is) (λ rest. refl)
+  pub too_many_followed : (on : Bool) (n : Count) (file line : ℕ) (trail : List ℕ) (o : Option ℕ) (p : ℕ) (e : ConfError) → o ≡ Some p →
+      list_any (λ q. eqb q p) trail ≡ false → (MAX_OPEN_FILES - length trail ≡ 0 → ⊥) → n.follows ≡ MAX_FOLLOWS → e ≡ fault_at file line TooManyFollowed →
+      Refuses on n (include_walk file line (target_walk (deeper folder reads kind service (MAX_OPEN_FILES - length trail)) trail o)) n e
+  unfolding account
+  too_many_followed on n file line trail o p e some absent free many is = rw (target-found trail o p some absent free, many, is) (λ rest. refl)
 
-  pub follow-refused : (m f file line : ℕ) (trail longer : List ℕ) (o : Option ℕ) (p : ℕ) (e : ConfError) → o ≡ Some p → list_any (λ q. eqb q p) trail ≡ false →
-      (MAX_OPEN_FILES - length trail ≡ 0 → ⊥) → (f ≡ MAX_FOLLOWS → ⊥) → longer ≡ trail ++ p ∷ [] →
-      Refuses m (f + 1) (walk folder kind service (MAX_OPEN_FILES - length longer) longer p) e →
-      Refuses m f (include_walk file line (target_walk (deeper folder kind service (MAX_OPEN_FILES - length trail)) trail o)) e
-  follow-refused m f file line trail longer o p e some absent free few more r =
-      rw (target-found trail o p some absent free) (refuses-followed m f file line
-      (walk folder kind service (MAX_OPEN_FILES - length (trail ++ p ∷ [])) (trail ++ p ∷ []) p) e few
-      (subst (λ (l : List ℕ). Refuses m (f + 1) (walk folder kind service (MAX_OPEN_FILES - length l) l p) e) more r))
+  pub follow-refused : (on : Bool) (n n1 n' : Count) (file line : ℕ) (trail longer : List ℕ) (o : Option ℕ) (p : ℕ) (e : ConfError) → o ≡ Some p →
+      list_any (λ q. eqb q p) trail ≡ false → (MAX_OPEN_FILES - length trail ≡ 0 → ⊥) → (n.follows ≡ MAX_FOLLOWS → ⊥) → longer ≡ trail ++ p ∷ [] →
+      n1 ≡ with_follow on p n → Refuses on n1 (walk folder reads kind service (MAX_OPEN_FILES - length longer) longer p) n' e →
+      Refuses on n (include_walk file line (target_walk (deeper folder reads kind service (MAX_OPEN_FILES - length trail)) trail o)) n' e
+  follow-refused on n n1 n' file line trail longer o p e some absent free few more next r =
+      rw (target-found trail o p some absent free) (refuses-followed on n n' file line p
+      (walk folder reads kind service (MAX_OPEN_FILES - length (trail ++ p ∷ [])) (trail ++ p ∷ []) p) e few
+      (subst (λ (l : List ℕ). Refuses on (with_follow on p n) (walk folder reads kind service (MAX_OPEN_FILES - length l) l p) n' e) more
+      (subst (λ (m : Count). Refuses on m (walk folder reads kind service (MAX_OPEN_FILES - length longer) longer p) n' e) next r)))
 
-  pub follow-done : (m f m' f' file line : ℕ) (i i' : Items) (trail longer : List ℕ) (o : Option ℕ) (p : ℕ) → o ≡ Some p →
-      list_any (λ q. eqb q p) trail ≡ false → (MAX_OPEN_FILES - length trail ≡ 0 → ⊥) → (f ≡ MAX_FOLLOWS → ⊥) → longer ≡ trail ++ p ∷ [] →
-      Passes m (f + 1) i (walk folder kind service (MAX_OPEN_FILES - length longer) longer p) m' f' i' →
-      IsOkAnd (target_walk (deeper folder kind service (MAX_OPEN_FILES - length trail)) trail o)
-      (λ t. (t.0 ≡ p) × Passes m f i (followed file line t.1) m' f' i')
-  follow-done m f m' f' file line i i' trail longer o p some absent free few more q =
+  pub follow-done : (on : Bool) (n n1 n' : Count) (file line : ℕ) (i i' : Items) (trail longer : List ℕ) (o : Option ℕ) (p : ℕ) → o ≡ Some p →
+      list_any (λ q. eqb q p) trail ≡ false → (MAX_OPEN_FILES - length trail ≡ 0 → ⊥) → (n.follows ≡ MAX_FOLLOWS → ⊥) → longer ≡ trail ++ p ∷ [] →
+      n1 ≡ with_follow on p n → Passes on n1 i (walk folder reads kind service (MAX_OPEN_FILES - length longer) longer p) n' i' →
+      IsOkAnd (target_walk (deeper folder reads kind service (MAX_OPEN_FILES - length trail)) trail o)
+      (λ t. (t.0 ≡ p) × Passes on n i (followed file line t) n' i')
+  follow-done on n n1 n' file line i i' trail longer o p some absent free few more next q =
       rw (target-found trail o p some absent free) (
         refl,
-        passes-followed m f m' f' file line i i'
-            (walk folder kind service (MAX_OPEN_FILES - length (trail ++ p ∷ [])) (trail ++ p ∷ []) p) few
-            (subst (λ (l : List ℕ). Passes m (f + 1) i (walk folder kind service (MAX_OPEN_FILES - length l) l p) m' f' i') more q),
+        passes-followed on n n' file line p i i'
+            (walk folder reads kind service (MAX_OPEN_FILES - length (trail ++ p ∷ [])) (trail ++ p ∷ []) p) few
+            (subst (λ (l : List ℕ). Passes on (with_follow on p n) i (walk folder reads kind service (MAX_OPEN_FILES - length l) l p) n' i') more
+            (subst (λ (m : Count). Passes on m i (walk folder reads kind service (MAX_OPEN_FILES - length longer) longer p) n' i') next q)),
       )
 
   -- FILES
 
-  pub walk-file : (room : ℕ) (trail : List ℕ) (file : ℕ) → walk folder kind service room trail file
-      ≡ file_walk folder kind service (deeper folder kind service room) trail file
+  pub walk-file : (room : ℕ) (trail : List ℕ) (file : ℕ) → walk folder reads kind service room trail file
+      ≡ file_walk folder reads kind service (deeper folder reads kind service room) trail file
   unfolding walk
   walk-file zero trail file = refl
   walk-file (suc room) trail file = refl
@@ -188,163 +226,91 @@ module _ (folder : Folder) (kind : Kind) (service : Option (List ℕ)) where
     ] refl
 
     rules_walk-only : (d : Deeper) (trail : List ℕ) (file : ℕ) (rules : List RuleText) →
-        rules_walk folder kind service d trail file (filter test rules) ≡ rules_walk folder kind service d trail file rules
+        rules_walk folder reads kind service d trail file (filter test rules) ≡ rules_walk folder reads kind service d trail file rules
     rules_walk-only d trail file [] = refl
     rules_walk-only d trail file (r ∷ rules) =
         elim (test r) as (λ (t : Bool). test r ≡ t →
-        rules_walk folder kind service d trail file (cond t (r ∷ filter test rules) (filter test rules))
-        ≡ rule_walk folder kind service d trail file r then rules_walk folder kind service d trail file rules) [
-          | true ↦ λ e. ap (λ w. rule_walk folder kind service d trail file r then w) (rules_walk-only d trail file rules)
+        rules_walk folder reads kind service d trail file (cond t (r ∷ filter test rules) (filter test rules))
+        ≡ rule_walk folder reads kind service d trail file r then rules_walk folder reads kind service d trail file rules) [
+          | true ↦ λ e. ap (λ w. rule_walk folder reads kind service d trail file r then w) (rules_walk-only d trail file rules)
           | false ↦ λ e. rules_walk-only d trail file rules ∙ sym (rw (uncounted r e) refl)
         ] refl
 
     pub read_walk-only : (d : Deeper) (trail : List ℕ) (file : ℕ) (r : Result (List RuleText) RuleFault) (rules : List RuleText) →
-        in_file file (only test r) ≡ Ok rules → read_walk folder kind service d trail file r ≡ rules_walk folder kind service d trail file rules
-    read_walk-only d trail file (Ok all) rules e = sym (rules_walk-only d trail file all) ∙ ap (rules_walk folder kind service d trail file) (cc)
+        in_file file (only test r) ≡ Ok rules → read_walk folder reads kind service d trail file r ≡ rules_walk folder reads kind service d trail file rules
+    read_walk-only d trail file (Ok all) rules e = sym (rules_walk-only d trail file all) ∙ ap (rules_walk folder reads kind service d trail file) (cc)
     read_walk-only d trail file (Err fault) rules e = absurd (cc)
 
   read_walk-kept : (d : Deeper) (trail : List ℕ) (file : ℕ) (r : Result (List RuleText) RuleFault) (rules : List RuleText) →
-      in_file file (of_kind kind r) ≡ Ok rules → read_walk folder kind service d trail file r ≡ rules_walk folder kind service d trail file rules
+      in_file file (of_kind kind r) ≡ Ok rules → read_walk folder reads kind service d trail file r ≡ rules_walk folder reads kind service d trail file rules
   read_walk-kept d trail file r rules e =
       read_walk-only (is_of_kind kind) (λ x c. (and_parts (is_of_kind kind x) (option_map_or (λ name. carries name x) service true) c).0) d trail file r rules e
 
   -- an open file is walked by the rules of the kind
-  pub walk-kept : (room : ℕ) (trail : List ℕ) (file : ℕ) (rules : List RuleText) → in_file file (of_kind kind (rules_at folder file)) ≡ Ok rules →
-      walk folder kind service room trail file ≡ rules_walk folder kind service (deeper folder kind service room) trail file rules
-  walk-kept room trail file rules e = walk-file room trail file ∙ read_walk-kept (deeper folder kind service room) trail file (rules_at folder file) rules e
+  pub walk-kept : (room : ℕ) (trail : List ℕ) (file : ℕ) (rules : List RuleText) → in_file file (of_kind kind (reads file)) ≡ Ok rules →
+      walk folder reads kind service room trail file ≡ rules_walk folder reads kind service (deeper folder reads kind service room) trail file rules
+  walk-kept room trail file rules e = walk-file room trail file ∙ read_walk-kept (deeper folder reads kind service room) trail file (reads file) rules e
 
   -- a file is walked by rules that were read before, if they have its walk
-  pub walk-read : (trail : List ℕ) (file : ℕ) (rules : List KeptRule) → IsRead folder kind service file (Some rules) →
-      walk folder kind service (MAX_OPEN_FILES - length trail) trail file
-      ≡ rules_walk folder kind service (deeper folder kind service (MAX_OPEN_FILES - length trail)) trail file (map kept_view rules)
+  pub walk-read : (trail : List ℕ) (file : ℕ) (rules : List KeptRule) → IsRead folder reads kind service file (Some rules) →
+      walk folder reads kind service (MAX_OPEN_FILES - length trail) trail file
+      ≡ rules_walk folder reads kind service (deeper folder reads kind service (MAX_OPEN_FILES - length trail)) trail file (map kept_view rules)
   walk-read trail file rules h =
       let room = MAX_OPEN_FILES - length trail in
-      walk-file room trail file ∙ h (deeper folder kind service room) trail
+      walk-file room trail file ∙ h (deeper folder reads kind service room) trail
 
   -- rules, as the code stores them
-  pub file-walked : (m f m' f' : ℕ) (i i' : Items) (trail : List ℕ) (file : ℕ) (rules slice : List KeptRule) →
-      in_file file (of_kind kind (rules_at folder file)) ≡ Ok (map kept_view rules) → slice ≡ rules →
-      Passes m f i (rules_walk folder kind service (deeper folder kind service (MAX_OPEN_FILES - length trail)) trail file (map kept_view slice)) m' f' i' →
-      Passes m f i (walk folder kind service (MAX_OPEN_FILES - length trail) trail file) m' f' i'
-  file-walked m f m' f' i i' trail file rules slice read same p =
+  pub file-walked : (on : Bool) (n n' : Count) (i i' : Items) (trail : List ℕ) (file : ℕ) (rules slice : List KeptRule) →
+      in_file file (of_kind kind (reads file)) ≡ Ok (map kept_view rules) → slice ≡ rules →
+      Passes on n i (rules_walk folder reads kind service (deeper folder reads kind service (MAX_OPEN_FILES - length trail)) trail file (map kept_view slice)) n' i' →
+      Passes on n i (walk folder reads kind service (MAX_OPEN_FILES - length trail) trail file) n' i'
+  file-walked on n n' i i' trail file rules slice read same p =
       rw (walk-kept (MAX_OPEN_FILES - length trail) trail file (map kept_view rules) read)
-      (subst (λ (rs : List KeptRule). Passes m f i (rules_walk folder kind service (deeper folder kind service (MAX_OPEN_FILES - length trail)) trail file
-      (map kept_view rs)) m' f' i') same p)
+      (subst (λ (rs : List KeptRule). Passes on n i (rules_walk folder reads kind service (deeper folder reads kind service (MAX_OPEN_FILES - length trail)) trail file
+      (map kept_view rs)) n' i') same p)
 
-  pub file-rules_refused : (m f : ℕ) (trail : List ℕ) (file : ℕ) (rules slice : List KeptRule) (e : ConfError) →
-      in_file file (of_kind kind (rules_at folder file)) ≡ Ok (map kept_view rules) → slice ≡ rules →
-      Refuses m f (rules_walk folder kind service (deeper folder kind service (MAX_OPEN_FILES - length trail)) trail file (map kept_view slice)) e →
-      Refuses m f (walk folder kind service (MAX_OPEN_FILES - length trail) trail file) e
-  file-rules_refused m f trail file rules slice e read same r =
+  pub file-rules_refused : (on : Bool) (n n' : Count) (trail : List ℕ) (file : ℕ) (rules slice : List KeptRule) (e : ConfError) →
+      in_file file (of_kind kind (reads file)) ≡ Ok (map kept_view rules) → slice ≡ rules →
+      Refuses on n (rules_walk folder reads kind service (deeper folder reads kind service (MAX_OPEN_FILES - length trail)) trail file (map kept_view slice))
+      n' e → Refuses on n (walk folder reads kind service (MAX_OPEN_FILES - length trail) trail file) n' e
+  file-rules_refused on n n' trail file rules slice e read same r =
       rw (walk-kept (MAX_OPEN_FILES - length trail) trail file (map kept_view rules) read)
-      (subst (λ (rs : List KeptRule). Refuses m f (rules_walk folder kind service (deeper folder kind service (MAX_OPEN_FILES - length trail)) trail file
-      (map kept_view rs)) e) same r)
+      (subst (λ (rs : List KeptRule). Refuses on n (rules_walk folder reads kind service (deeper folder reads kind service (MAX_OPEN_FILES - length trail)) trail file
+      (map kept_view rs)) n' e) same r)
 
-  read_refused : (m f : ℕ) (d : Deeper) (trail : List ℕ) (file : ℕ) (r : Result (List RuleText) RuleFault) (e : ConfError) →
-      in_file file (of_kind kind r) ≡ Err e → (rest : List Event) → refusal m f ((read_walk folder kind service d trail file r).events ++ rest) ≡ Some e
-  unfolding refusal
-  read_refused m f d trail file (Ok all) e h rest = absurd (cc)
-  read_refused m f d trail file (Err fault) e h rest = let same : fault_at file fault.line fault.kind ≡ e = cc in ap Some same
+  read_refused : (on : Bool) (n : Count) (d : Deeper) (trail : List ℕ) (file : ℕ) (r : Result (List RuleText) RuleFault) (e : ConfError) →
+      on ≡ false → in_file file (of_kind kind r) ≡ Err e → (rest : List Event) →
+      account on n ((read_walk folder reads kind service d trail file r).events ++ rest) ≡ ended_by n e
+  unfolding account
+  read_refused on n d trail file (Ok all) e ends h rest = absurd (cc)
+  read_refused on n d trail file (Err fault) e ends h rest = let same : fault_at file fault.line fault.kind ≡ e = cc in rw (ends, same) refl
 
-  -- a file with a fault is refused
-  pub file-refused : (m f room : ℕ) (trail : List ℕ) (file : ℕ) (e : ConfError) →
-      UnlessMemory e e.kind (in_file file (of_kind kind (rules_at folder file)) ≡ Err e) → Refuses m f (walk folder kind service room trail file) e
-  file-refused m f room trail file e =
-      unless-weaker e e.kind (λ h rest. ap (λ (w : Walk). refusal m f (w.events ++ rest)) (walk-file room trail file)
-      ∙ read_refused m f (deeper folder kind service room) trail file (rules_at folder file) e h rest)
+  -- a file with a fault is refused, unless the walk goes on
+  pub file-refused : (on : Bool) (n : Count) (room : ℕ) (trail : List ℕ) (file : ℕ) (e : ConfError) → on ≡ false →
+      UnlessMemory e e.kind (in_file file (of_kind kind (reads file)) ≡ Err e) → Refuses on n (walk folder reads kind service room trail file) n e
+  file-refused on n room trail file e ends =
+      unless-weaker e e.kind (λ h rest. ap (λ (w : Walk). account on n (w.events ++ rest)) (walk-file room trail file)
+      ∙ read_refused on n (deeper folder reads kind service room) trail file (reads file) e ends h rest)
+
+  -- a file is walked by the rules that are read of it
+  pub walk-rules : (room : ℕ) (trail : List ℕ) (file : ℕ) (rules : List RuleText) → reads file ≡ Ok rules →
+      rules_walk folder reads kind service (deeper folder reads kind service room) trail file rules ≡ walk folder reads kind service room trail file
+  walk-rules room trail file rules e =
+      sym (walk-file room trail file ∙ ap (read_walk folder reads kind service (deeper folder reads kind service room) trail file) e)
 
 -- the walk of rules, as the code stores them, in an open file
-abbrev pub walk_of : Folder → Kind → Option (List ℕ) → List ℕ → ℕ → List KeptRule → Walk
-walk_of folder kind service trail file rules =
-    rules_walk folder kind service (deeper folder kind service (MAX_OPEN_FILES - length trail)) trail file (map kept_view rules)
-
--- RULES
-
-abbrev pub MayFollow : ℕ → ℕ → ℕ → ℕ → ℕ → ℕ → Items → Items → Result (ℕ × Walk) FaultKind → ℕ → Type 0
-MayFollow m f m' f' file line i i' found position = IsOkAnd found (λ t. (t.0 ≡ position) × Passes m f i (followed file line t.1) m' f' i')
-
-follow-passes : (m f m' f' file line : ℕ) (i i' : Items) (found : Result (ℕ × Walk) FaultKind) (position : ℕ) →
-    MayFollow m f m' f' file line i i' found position → Passes m f i (include_walk file line found) m' f' i'
-follow-passes m f m' f' file line i i' (Err kind) position h = absurd h
-follow-passes m f m' f' file line i i' (Ok t) position h = h.1
-
-sub-passes : (m f m' f' file line : ℕ) (i i' j : Items) (found : Result (ℕ × Walk) FaultKind) (position : ℕ) →
-    MayFollow m f m' f' file line End j found position →
-    i' ≡ joined i (ThenSub record { file = file; line = line; target = position } j End) → Passes m f i (sub_walk file line found) m' f' i'
-sub-passes m f m' f' file line i i' j (Err kind) position h e = absurd h
-sub-passes m f m' f' file line i i' j (Ok t) position h e = record {
-  refused = h.1.refused;
-  counted = omega (arith, h.1.counted);
-  added =
-      e ∙ ap (λ k. joined i (ThenSub record { file = file; line = line; target = position } k End)) h.1.added
-      ∙ ap (λ p. joined i (ThenSub record { file = file; line = line; target = p } (numbered (m + 1) t.1.items) End)) (sym h.0);
-}
-
-sub-refused : (m f file line : ℕ) (found : Result (ℕ × Walk) FaultKind) (e : ConfError) → Refuses m f (include_walk file line found) e →
-    Refuses m f (sub_walk file line found) e
-sub-refused m f file line (Err kind) e h = h
-sub-refused m f file line (Ok t) e h = h
-
-module _ (folder : Folder) (kind : Kind) (service : Option (List ℕ)) (d : Deeper) (trail : List ℕ) (file : ℕ) (r : RuleText) where
-  abbrev rule_walked : Walk
-  rule_walked = rule_walk folder kind service d trail file r
-
-  pub rule-passed : (m f : ℕ) (i : Items) → counts kind service r ≡ false → Passes m f i rule_walked m f i
-  rule-passed m f i h = rw h (passes-nothing m f i)
-
-  module _ (own : counts kind service r ≡ true) where
-    pub rule-full : (m f : ℕ) (control : List Action) (path : List ℕ) (arguments : List (List ℕ)) (e : ConfError) → r.body ≡ Module control path arguments →
-        m ≡ MAX_MODULES → e ≡ fault_at file r.line TooManyModules → Refuses m f rule_walked e
-    unfolding refusal
-    rule-full m f control path arguments e body many is = rw (own, body, many, is) (λ rest. refl)
-
-    pub rule-module : (m f : ℕ) (i i' : Items) (control : List Action) (path : List ℕ) (arguments : List (List ℕ)) → r.body ≡ Module control path arguments →
-        (m ≡ MAX_MODULES → ⊥) →
-        i' ≡ joined i (ThenModule record {
-          number = m + 1;
-          dashed = r.dashed;
-          control = control;
-          path = path;
-          arguments = arguments;
-          file = file;
-          line =
-              r.line;
-        } End) → Passes m f i rule_walked (m + 1) f i'
-    unfolding refusal
-    rule-module m f i i' control path arguments body few e = rw (own, body) record {
-      refused = λ rest. rw (ne_eqb m MAX_MODULES few) refl;
-      counted = omega arith;
-      added = e;
-    }
-
-    pub rule-include : (m f m' f' : ℕ) (i i' : Items) (target : List ℕ) (position : ℕ) → r.body ≡ Include target →
-        MayFollow m f m' f' file r.line i i' (target_walk d trail (position_of target folder.entries)) position → Passes m f i rule_walked m' f' i'
-    rule-include m f m' f' i i' target position body h =
-        rw (own, body) (follow-passes m f m' f' file r.line i i' (target_walk d trail (position_of target folder.entries)) position h)
-
-    pub rule-include_refused : (m f : ℕ) (target : List ℕ) (e : ConfError) → r.body ≡ Include target →
-        Refuses m f (include_walk file r.line (target_walk d trail (position_of target folder.entries))) e → Refuses m f rule_walked e
-    rule-include_refused m f target e body h = rw (own, body) h
-
-    pub rule-sub : (m f m' f' : ℕ) (i i' j0 j : Items) (target : List ℕ) (position : ℕ) → r.body ≡ Sub target → j0 ≡ End →
-        MayFollow m f m' f' file r.line j0 j (target_walk d trail (position_of target folder.entries)) position →
-        i' ≡ joined i (ThenSub record { file = file; line = r.line; target = position } j End) → Passes m f i rule_walked m' f' i'
-    rule-sub m f m' f' i i' j0 j target position body none h e =
-        rw (own, body) (sub-passes m f m' f' file r.line i i' j (target_walk d trail (position_of target folder.entries)) position
-        (subst (λ k. MayFollow m f m' f' file r.line k j (target_walk d trail (position_of target folder.entries)) position) none h) e)
-
-    pub rule-sub_refused : (m f : ℕ) (target : List ℕ) (e : ConfError) → r.body ≡ Sub target →
-        Refuses m f (include_walk file r.line (target_walk d trail (position_of target folder.entries))) e → Refuses m f rule_walked e
-    rule-sub_refused m f target e body h = rw (own, body) (sub-refused m f file r.line (target_walk d trail (position_of target folder.entries)) e h)
+abbrev pub walk_of : Folder → Reads → Kind → Option (List ℕ) → List ℕ → ℕ → List KeptRule → Walk
+walk_of folder reads kind service trail file rules =
+    rules_walk folder reads kind service (deeper folder reads kind service (MAX_OPEN_FILES - length trail)) trail file (map kept_view rules)
 
 -- the rules that are left: the next one, and those after it
-pub walk-more : (folder : Folder) (kind : Kind) (service : Option (List ℕ)) (trail : List ℕ) (file : ℕ) (rules : List KeptRule) (k : ℕ) (r : KeptRule) →
+pub walk-more : (folder : Folder) (reads : Reads) (kind : Kind) (service : Option (List ℕ)) (trail : List ℕ) (file : ℕ) (rules : List KeptRule) (k : ℕ) (r : KeptRule) →
     k < length rules → r ≡ get_or rules k r →
-    walk_of folder kind service trail file (drop k rules) ≡ rule_walk folder kind service (deeper folder kind service (MAX_OPEN_FILES - length trail)) trail
-    file (kept_view r) then walk_of folder kind service trail file (drop (k + 1) rules)
-walk-more folder kind service trail file rules k r within is =
+    walk_of folder reads kind service trail file (drop k rules) ≡ rule_walk folder reads kind service (deeper folder reads kind service (MAX_OPEN_FILES - length trail)) trail
+    file (kept_view r) then walk_of folder reads kind service trail file (drop (k + 1) rules)
+walk-more folder reads kind service trail file rules k r within is =
     let next : drop k rules ≡ r ∷ drop (k + 1) rules = rw add-one (drop-cons rules k r within ∙ ap (λ (x : KeptRule). x ∷ drop (suc k) rules) (sym is)) in
-    ap (walk_of folder kind service trail file) next
+    ap (walk_of folder reads kind service trail file) next
 
 position_found : (n len p : ℕ) → cond (ltb n len) (Some n) None ≡ Some p → p < len
 position_found n len p h = let parts = cond_some (ltb n len) n p h in let q : n < len = ltb-true n len parts.0 in omega (arith, parts.1)

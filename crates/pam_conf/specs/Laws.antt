@@ -1,12 +1,15 @@
 -- Laws of the definitions, in the words of pam.conf(5).
 use Rattle.std.specs.Prelude.{◌≡◌, ◌↔◌, ◌-◌, ◌==◌, ◌≤◌, ℕ, nat_lt, false, List, [], ◌∷◌, length, if◌then◌else◌, Option, Some, None, Ok, Err}
 use Rattle.std.specs.List.{list_any}
+use Rattle.pam_conf.specs.FileRules.{good_rules, own_faults, unless_faulty}
 use Rattle.pam_conf.specs.Files.{Folder}
+use Rattle.pam_conf.specs.Lines.{rules_of}
 use Rattle.pam_conf.specs.Resolution.{items_or_fault, resolved, stack_from}
 use Rattle.pam_conf.specs.Stack.{IsNumbered, Items, depth, module_count}
-use Rattle.pam_conf.specs.Walk.{Deeper, Walk, file_walk, target_walk, walk}
+use Rattle.pam_conf.specs.Walk.{Deeper, Reads, Walk, file_walk, rules_at, target_walk, walk}
 use Rattle.pam_conf.specs.Words.{IsSplit, words_of}
 use Rattle.pam_conf.specs.declared.error.FaultKind.TheVariants.{TooDeep}
+use Rattle.pam_conf.specs.declared.rule.Form.{Form}
 use Rattle.pam_conf.specs.declared.rule.Kind.{Kind}
 use Rattle.pam_conf.specs.declared.stack.TheConstants.{MAX_MODULES}
 use Rattle.pam_conf.specs.declared.trail.TheConstants.{MAX_OPEN_FILES}
@@ -17,31 +20,37 @@ use Rattle.pam_conf.specs.declared.trail.TheConstants.{MAX_OPEN_FILES}
 abbrev pub WordsAreOneSplit : Type 0
 WordsAreOneSplit = (line : List ℕ) (words : List (List ℕ)) → (words_of line ≡ Some words) ↔ IsSplit line words
 
+-- THE FAULTS OF A FILE
+
+-- a file without a fault of its own has the rules of its lines; the result of any other is its first fault
+abbrev pub FirstFaultOrRules : Type 0
+FirstFaultOrRules = (form : Form) (bytes : List ℕ) → rules_of form bytes ≡ unless_faulty (own_faults form bytes) (good_rules form bytes)
+
 -- THE WALK BY ITS TRAIL ALONE: the room of a walk is `MAX_OPEN_FILES` less the files of its trail
 
 -- the walk of the last file of a trail, with the room that the trail leaves
-abbrev pub trail_walk : Folder → Kind → Option (List ℕ) → List ℕ → ℕ → Walk
-trail_walk folder kind service trail file = walk folder kind service (MAX_OPEN_FILES - length trail) trail file
+abbrev pub trail_walk : Folder → Reads → Kind → Option (List ℕ) → List ℕ → ℕ → Walk
+trail_walk folder reads kind service trail file = walk folder reads kind service (MAX_OPEN_FILES - length trail) trail file
 
 -- one more file may be opened as long as fewer than `MAX_OPEN_FILES` are open
-abbrev pub one_more : Folder → Kind → Option (List ℕ) → List ℕ → Deeper
-one_more folder kind service trail = if nat_lt (length trail) MAX_OPEN_FILES then Some (trail_walk folder kind service) else None
+abbrev pub one_more : Folder → Reads → Kind → Option (List ℕ) → List ℕ → Deeper
+one_more folder reads kind service trail = if nat_lt (length trail) MAX_OPEN_FILES then Some (trail_walk folder reads kind service) else None
 
 -- a stack is the walk of its first file, with that file as the whole trail
 abbrev pub StackBeginsATrail : Type 0
 StackBeginsATrail = (folder : Folder) (kind : Kind) (service : Option (List ℕ)) (file : ℕ) →
-    stack_from folder kind record { file = file; service = service } ≡ items_or_fault (trail_walk folder kind service (file ∷ []) file)
+    stack_from folder kind record { file = file; service = service } ≡ items_or_fault (trail_walk folder (rules_at folder) kind service (file ∷ []) file)
 
 -- a file is walked rule by rule, and its targets likewise with the longer trail
 abbrev pub WalkFollowsItsTrail : Type 0
-WalkFollowsItsTrail = (folder : Folder) (kind : Kind) (service : Option (List ℕ)) (trail : List ℕ) (file : ℕ) →
-    trail_walk folder kind service trail file ≡ file_walk folder kind service (one_more folder kind service trail) trail file
+WalkFollowsItsTrail = (folder : Folder) (reads : Reads) (kind : Kind) (service : Option (List ℕ)) (trail : List ℕ) (file : ℕ) →
+    trail_walk folder reads kind service trail file ≡ file_walk folder reads kind service (one_more folder reads kind service trail) trail file
 
 -- a target that exists and is not open is too deep if and only if `MAX_OPEN_FILES` files are open
 abbrev pub DeepWhereAllAreOpen : Type 0
-DeepWhereAllAreOpen = (folder : Folder) (kind : Kind) (service : Option (List ℕ)) (trail : List ℕ) (target : ℕ) →
+DeepWhereAllAreOpen = (folder : Folder) (reads : Reads) (kind : Kind) (service : Option (List ℕ)) (trail : List ℕ) (target : ℕ) →
     list_any (λ p. p == target) trail ≡ false →
-    (target_walk (one_more folder kind service trail) trail (Some target) ≡ Err TooDeep) ↔ (MAX_OPEN_FILES ≤ length trail)
+    (target_walk (one_more folder reads kind service trail) trail (Some target) ≡ Err TooDeep) ↔ (MAX_OPEN_FILES ≤ length trail)
 
 -- THE STACK OF A SERVICE
 

@@ -1,4 +1,6 @@
 pub mod Calls
+pub mod FileRules
+pub mod FilesRead
 pub mod Files
 pub mod FirstWord
 pub mod ItemsOf
@@ -14,6 +16,8 @@ pub mod Stack
 pub mod StackCode
 pub mod StartOf
 pub mod SubFalls
+pub mod Survey
+pub mod SurveyText
 pub mod Tells
 pub mod Walk
 pub mod Wanted

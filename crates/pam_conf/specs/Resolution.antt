@@ -6,7 +6,7 @@ use Rattle.std.specs.Option.{option_map, option_map_or}
 use Rattle.pam_conf.specs.Files.{Folder, position_of}
 use Rattle.pam_conf.specs.Rule.{RuleText}
 use Rattle.pam_conf.specs.Stack.{Items, End}
-use Rattle.pam_conf.specs.Walk.{Walk, walk, refusal, numbered, carries, rules_at}
+use Rattle.pam_conf.specs.Walk.{Reads, Walk, walk, refusal, numbered, carries, rules_at}
 use Rattle.pam_conf.specs.declared.conf_error.ConfError.{ConfError}
 use Rattle.pam_conf.specs.declared.error.FaultKind.TheVariants.{NoService}
 use Rattle.pam_conf.specs.declared.error.RuleFault.{RuleFault}
@@ -30,13 +30,13 @@ start_read file service (Err fault) = carried true file service
 start_read file service (Ok rules) = carried (list_any (carries service) rules) file service
 
 -- the start of a service's rules in configuration of a form
-abbrev pub start_in : Form → Folder → List ℕ → Option StartText
-start_in Dir folder service = option_map (λ file. record { file = file; service = None }) (position_of service folder.entries)
-start_in Single folder service = option_and_then (λ file. start_read file service (rules_at folder file)) (position_of (codes "pam.conf") folder.entries)
+abbrev pub start_in : Form → Folder → Reads → List ℕ → Option StartText
+start_in Dir folder reads service = option_map (λ file. record { file = file; service = None }) (position_of service folder.entries)
+start_in Single folder reads service = option_and_then (λ file. start_read file service (reads file)) (position_of (codes "pam.conf") folder.entries)
 
 -- the start of a service's rules, if it has any
-abbrev pub start_of : Folder → List ℕ → Option StartText
-start_of folder service = start_in folder.form folder service
+abbrev pub start_of : Folder → Reads → List ℕ → Option StartText
+start_of folder reads service = start_in folder.form folder reads service
 
 -- the items of a walk, or why it is refused
 abbrev pub items_or_fault : Walk → Result Items ConfError
@@ -44,7 +44,7 @@ items_or_fault w = option_map_or Err (refusal 0 0 w.events) (Ok (numbered 1 w.it
 
 -- the items of a service; its file is open, so one file fewer may be opened
 unfoldable pub stack_from : Folder → Kind → StartText → Result Items ConfError
-stack_from folder kind start = items_or_fault (walk folder kind start.service (MAX_OPEN_FILES - 1) (start.file ∷ []) start.file)
+stack_from folder kind start = items_or_fault (walk folder (rules_at folder) kind start.service (MAX_OPEN_FILES - 1) (start.file ∷ []) start.file)
 
 -- a service without rules gets the stack of `other`
 abbrev pub without_own : Folder → Kind → Option StartText → Result Items ConfError
@@ -63,4 +63,5 @@ from_starts folder kind (Some own) other = unless_empty folder kind other (stack
 
 -- THE STACK of a service, in lowercase, for a kind; or the first fault
 unfoldable pub resolved : Folder → List ℕ → Kind → Result Items ConfError
-resolved folder service kind = from_starts folder kind (start_of folder (map to_ascii_lowercase service)) (start_of folder (codes "other"))
+resolved folder service kind =
+    from_starts folder kind (start_of folder (rules_at folder) (map to_ascii_lowercase service)) (start_of folder (rules_at folder) (codes "other"))

@@ -21,10 +21,10 @@ use Rattle.pam_conf.specs.declared.walk.TheConstants.{MAX_FOLLOWS}
 abbrev pub fault_at : ℕ → ℕ → FaultKind → ConfError
 fault_at file line kind = record { kind = kind; at = Some file; line = line }
 
--- what a walk meets: a module, an include or substack that is followed, each with its file and line, or a fault
+-- what a walk meets: a module, an include or substack that is followed to its target, each with its file and line, or a fault
 pub data Event : Type 0 where
   Met : (file line : ℕ) → Event
-  Followed : (file line : ℕ) → Event
+  Followed : (file line target : ℕ) → Event
   Failed : ConfError → Event
 
 -- the result of a walk: its events in order, and its items, whose modules are not numbered yet
@@ -74,19 +74,19 @@ target_walk deeper trail (Some target) =
     else option_map_or (λ walk. Ok (target, walk (trail ++ target ∷ []) target)) deeper (Err TooDeep)
 
 -- the event of an include, and then the walk of its target
-abbrev pub followed : ℕ → ℕ → Walk → Walk
-followed file line walk = record { events = Followed file line ∷ walk.events; items = walk.items }
+abbrev pub followed : ℕ → ℕ → ℕ × Walk → Walk
+followed file line target = record { events = Followed file line target.0 ∷ target.1.events; items = target.1.items }
 
 -- an include is replaced by the items of its target
 abbrev pub include_walk : ℕ → ℕ → Result (ℕ × Walk) FaultKind → Walk
 include_walk file line (Err kind) = failed (fault_at file line kind)
-include_walk file line (Ok target) = followed file line target.1
+include_walk file line (Ok target) = followed file line target
 
 -- a substack is one item, even if it is empty
 abbrev pub sub_walk : ℕ → ℕ → Result (ℕ × Walk) FaultKind → Walk
 sub_walk file line (Err kind) = failed (fault_at file line kind)
 sub_walk file line (Ok target) = record {
-  events = Followed file line ∷ target.1.events;
+  events = Followed file line target.0 ∷ target.1.events;
   items = ThenSub record { file = file; line = line; target = target.0 } target.1.items End;
 }
 
@@ -94,8 +94,12 @@ sub_walk file line (Ok target) = record {
 abbrev pub rules_at : Folder → ℕ → Result (List RuleText) RuleFault
 rules_at folder file = rules_of folder.form (unwrap_or (bytes_at file folder.entries) [])
 
+-- what a walk reads of the file at each position
+abbrev pub Reads : Type 0
+Reads = ℕ → Result (List RuleText) RuleFault
+
 -- in a folder, or in pam.conf for a service; `trail`: the files that are open, `file` the last of them
-module _ (folder : Folder) (kind : Kind) (service : Option (List ℕ)) where
+module _ (folder : Folder) (reads : Reads) (kind : Kind) (service : Option (List ℕ)) where
   abbrev pub body_walk : Deeper → List ℕ → ℕ → RuleText → RuleBody → Walk
   body_walk deeper trail file rule (Module control path arguments) = record {
     events = Met file rule.line ∷ [];
@@ -117,7 +121,7 @@ module _ (folder : Folder) (kind : Kind) (service : Option (List ℕ)) where
   read_walk deeper trail file (Ok rules) = rules_walk deeper trail file rules
 
   abbrev pub file_walk : Deeper → List ℕ → ℕ → Walk
-  file_walk deeper trail file = read_walk deeper trail file (rules_at folder file)
+  file_walk deeper trail file = read_walk deeper trail file (reads file)
 
   -- THE WALK of an open file, where `room` more files may be opened
   unfoldable pub walk : ℕ → List ℕ → ℕ → Walk
@@ -134,7 +138,7 @@ unfoldable pub refusal : ℕ → ℕ → List Event → Option ConfError
 refusal modules follows [] = None
 refusal modules follows (Met file line ∷ events) =
     if modules == MAX_MODULES then Some (fault_at file line TooManyModules) else refusal (modules + 1) follows events
-refusal modules follows (Followed file line ∷ events) =
+refusal modules follows (Followed file line target ∷ events) =
     if follows == MAX_FOLLOWS then Some (fault_at file line TooManyFollowed) else refusal modules (follows + 1) events
 refusal modules follows (Failed fault ∷ events) = Some fault
 

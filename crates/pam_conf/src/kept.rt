@@ -1,5 +1,6 @@
 //! Rules as a walk keeps them: small, with the words of a call in one piece, which is cut when the module is met.
 ghost use Rattle.std.specs.Prelude.{◌≡◌, IfOk, map};
+ghost use Rattle.std.specs.Option.{option_map};
 ghost use Rattle.pam_conf.specs.Kept.{kept_body, kept_view};
 ghost use Rattle.pam_conf.specs.Rule.{body_view, rule_view};
 ghost use Rattle.pam_conf.specs.Walk.{carries, is_of_kind};
@@ -46,26 +47,37 @@ pub(crate) fn has_service(rule: &KeptRule, service: &[u8]) -> bool
     }
 }
 
-fn whole_body(alloc: Global, body: KeptBody) -> Result<Body, AllocError>
-    ensures { IfOk result (λ b. body_view b ≡ kept_body body) }
+fn whole_body(alloc: Global, body: &KeptBody) -> Result<Body, AllocError>
+    ensures { IfOk result (λ b. body_view b ≡ kept_body body.now) }
 {
     match body {
         KeptBody::Module(call) => {
             let (control, path, arguments) = call.parts(alloc)?;
             Ok(Body::Module(control, path, arguments))
         }
-        KeptBody::Include(target) => Ok(Body::Include(target)),
-        KeptBody::Sub(target) => Ok(Body::Sub(target)),
+        KeptBody::Include(target) => Ok(Body::Include(target.as_slice().to_vec(alloc)?)),
+        KeptBody::Sub(target) => Ok(Body::Sub(target.as_slice().to_vec(alloc)?)),
     }
 }
 
-fn whole_rule(alloc: Global, rule: KeptRule) -> Result<Rule, AllocError>
-    ensures { IfOk result (λ r. rule_view r ≡ kept_view rule) }
+/// A copy of the service of a rule, if it has one.
+fn service_of(alloc: Global, rule: &KeptRule) -> Result<Option<Vec<u8>>, AllocError>
+    ensures { IfOk result (λ service. option_map (λ s. s.items) service ≡ (kept_view rule.now).service) }
 {
-    let body = whole_body(alloc, rule.body)?;
+    match &rule.service {
+        Some(service) => Ok(Some(service.as_slice().to_vec(alloc)?)),
+        None => Ok(None),
+    }
+}
+
+fn whole_rule(alloc: Global, rule: &KeptRule) -> Result<Rule, AllocError>
+    ensures { IfOk result (λ r. rule_view r ≡ kept_view rule.now) }
+{
+    let body = whole_body(alloc, &rule.body)?;
+    let service = service_of(alloc, rule)?;
     Ok(Rule {
         line: rule.line,
-        service: rule.service,
+        service,
         kind: rule.kind,
         dashed: rule.dashed,
         body,
@@ -73,8 +85,8 @@ fn whole_rule(alloc: Global, rule: KeptRule) -> Result<Rule, AllocError>
 }
 
 /// The rules with their words cut.
-pub(crate) fn whole_rules(alloc: Global, kept: Vec<KeptRule>) -> Result<Vec<Rule>, AllocError>
-    ensures { IfOk result (λ rules. map rule_view rules.items ≡ map kept_view kept.items) }
+pub(crate) fn whole_rules(alloc: Global, kept: &[KeptRule]) -> Result<Vec<Rule>, AllocError>
+    ensures { IfOk result (λ rules. map rule_view rules.items ≡ map kept_view kept.now) }
 {
     let mut rules = Vec::with_capacity(alloc, kept.len())?;
     for rule in kept {

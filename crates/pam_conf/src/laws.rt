@@ -1,10 +1,15 @@
 //! Laws of the definitions that the contracts cite: each is the contract of an empty function.
 
-ghost use Rattle.pam_conf.specs.Laws.{DeepWhereAllAreOpen, ResolvedIsStack, StackBeginsATrail, WalkFollowsItsTrail, WordsAreOneSplit};
+ghost use Rattle.pam_conf.specs.Laws.{DeepWhereAllAreOpen, FirstFaultOrRules, ResolvedIsStack, StackBeginsATrail, WalkFollowsItsTrail, WordsAreOneSplit};
 
 /// A line has words if and only if it can be written as blanks and spellings of words, and then in only one way.
 pub fn words_are_one_split()
     ensures { WordsAreOneSplit }
+{}
+
+/// A file without a fault of its own has the rules of its lines. The result of any other is the first of its faults.
+pub fn first_fault_or_rules()
+    ensures { FirstFaultOrRules }
 {}
 
 /// A walk may open `MAX_OPEN_FILES` files less those of its trail. So the trail alone determines the walk, and a target

@@ -1,14 +1,16 @@
 //! The rules of the lines of a file: pam.conf(5).
 ghost use Rattle.std.specs.Prelude.{◌≡◌, ◌<◌, ◌∷◌, ◌++◌, [], IfOk, IfSome, MatchOption, Ok, OnOk, filter, length, map};
-ghost use Rattle.std.specs.List.{list_all};
+ghost use Rattle.std.specs.List.{cons_option, list_all};
 ghost use Rattle.std.specs.Option.{option_map};
+ghost use Rattle.std.specs.Result.{result_transpose};
 ghost use Rattle.pam_codes.specs.Tokens.{is_blank};
 ghost use Rattle.pam_text.specs.Left.{text_left};
 ghost use Rattle.pam_text.specs.Text.{text_of, lines_of};
 ghost use Rattle.pam_text.specs.Gives.{Gives};
 ghost use Rattle.pam_conf.specs.Tells.{FaultTells, KindTells};
+ghost use Rattle.pam_conf.specs.FileRules.{line_results};
 ghost use Rattle.pam_conf.specs.Kept.{kept_view};
-ghost use Rattle.pam_conf.specs.Lines.{at_line, fault_of_source, line_rule_of, onto_rules, rules_in, rules_of};
+ghost use Rattle.pam_conf.specs.Lines.{at_line, fault_of_source, line_rule_of, rules_in, rules_of};
 ghost use Rattle.pam_conf.specs.Lines.{fault_at as fault_at_line};
 ghost use Rattle.pam_conf.specs.Rule.{rule_view};
 ghost use Rattle.pam_conf.specs.Wanted.{with_rule, only_wanted, wants};
@@ -28,7 +30,7 @@ pub fn rules(alloc: Global, bytes: &[u8], form: Form) -> Result<Vec<Rule>, RuleF
     ensures { Gives FaultTells (λ rules. map rule_view rules.items) result (rules_of form bytes.now) }
 {
     let kept = wanted_rules(alloc, bytes, form, Wanted::All)?;
-    Ok(whole_rules(alloc, kept)?)
+    Ok(whole_rules(alloc, kept.as_slice())?)
 }
 
 /// Like `rules`, but returns only the wanted ones, as a walk keeps them. A fault in another rule is still an error.
@@ -48,7 +50,7 @@ pub(crate) fn wanted_rules(
 }
 
 /// The fault of a file as a whole.
-fn source_fault(fault: SourceFault) -> RuleFault
+pub(crate) fn source_fault(fault: SourceFault) -> RuleFault
     ensures { result ≡ fault_of_source fault }
 {
     match fault {
@@ -85,13 +87,14 @@ fn text_rules(
 }
 
 /// Skips blank lines, which have no rule, and returns the next line.
-fn next_filled_line<'b, 'a: 'b>(
+pub(crate) fn next_filled_line<'b, 'a: 'b>(
     text: &mut Text<'a>,
     joined: &'b mut Vec<u8>,
 ) -> Result<Option<Line<'b>>, AllocError>
-    ensures rules { IfOk result (λ l. MatchOption l ((form : Form) → rules_in form (lines_of (text_left text.old)) ≡ Ok [])
-        (λ line. (form : Form) → rules_in form (lines_of (text_left text.old))
-        ≡ onto_rules (at_line line.number (line_rule_of form line.number line.bytes.now)) (rules_in form (lines_of (text_left text.new))))) }
+    ensures rules { IfOk result (λ l. MatchOption l ((form : Form) → line_results form (lines_of (text_left text.old)) ≡ [])
+        (λ line. (form : Form) → line_results form (lines_of (text_left text.old))
+        ≡ cons_option (result_transpose (at_line line.number (line_rule_of form line.number line.bytes.now)))
+        (line_results form (lines_of (text_left text.new))))) }
     ensures shorter { IfOk result (λ l. IfSome l (λ _. length text.new.rest.now < length text.old.rest.now)) }
 {
     text.skip_blanks();
@@ -113,7 +116,7 @@ fn keep(
     rules.push(rule)
 }
 
-fn is_blank_line(bytes: &[u8]) -> bool
+pub(crate) fn is_blank_line(bytes: &[u8]) -> bool
     ensures { result ≡ list_all is_blank bytes.now }
 {
     bytes.iter().all(|byte| is_blank_byte(*byte))
@@ -156,7 +159,11 @@ fn read_rule(
 }
 
 /// The rule of a line, if it has one.
-fn numbered_rule(alloc: Global, form: Form, line: Line<'_>) -> Result<Option<KeptRule>, RuleFault>
+pub(crate) fn numbered_rule(
+    alloc: Global,
+    form: Form,
+    line: Line<'_>,
+) -> Result<Option<KeptRule>, RuleFault>
     ensures { Gives FaultTells (option_map kept_view) result
         (at_line line.entry.number (line_rule_of form line.entry.number line.entry.bytes.now)) }
 {

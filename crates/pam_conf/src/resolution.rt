@@ -9,37 +9,38 @@ ghost use Rattle.pam_conf.specs.Kept.{kept_view};
 ghost use Rattle.pam_conf.specs.Tells.{ErrorTells};
 ghost use Rattle.pam_text.specs.Gives.{Gives};
 ghost use Rattle.pam_conf.specs.StartOf.{IsReadStart, start_text};
-ghost use Rattle.pam_conf.specs.Walk.{carries};
+ghost use Rattle.pam_conf.specs.Walk.{carries, rules_at};
 ghost use Rattle.pam_conf.specs.declared.rule.Form.TheVariants.{Dir, Single};
 
 use crate::conf_error::ConfError;
 use crate::error::FaultKind;
 use crate::files::Files;
 use crate::kept::{KeptRule, has_service};
+use crate::progress::Progress;
 use crate::rule::{Form, Kind, lower};
 use crate::stack::Stack;
 use crate::trail::Trail;
-use crate::walk::{Progress, Walker, file_rules};
+use crate::walk::{Walker, file_rules};
 use crate::wanted::Wanted;
 use std::alloc::{AllocError, Global};
 
 /// The name of the file of `Form::Single`.
-const ONE_FILE: &[u8] = b"pam.conf";
+pub(crate) const ONE_FILE: &[u8] = b"pam.conf";
 
 /// The service whose rules apply to services without their own.
-const OTHER: &[u8] = b"other";
+pub(crate) const OTHER: &[u8] = b"other";
 
 /// The start of a service's rules: a file, and in pam.conf the service that they name.
 #[derive(Drop)]
-struct Start<'a> {
-    file: usize,
-    service: Option<&'a [u8]>,
+pub(crate) struct Start<'a> {
+    pub file: usize,
+    pub service: Option<&'a [u8]>,
     /// The rules of pam.conf that have been read, including the service's.
     read: Option<&'a [KeptRule]>,
 }
 
 /// The error if neither the service nor `other` has rules.
-fn no_service() -> ConfError
+pub(crate) fn no_service() -> ConfError
     ensures { result ≡ record { kind = FaultKind.NoService; at = None; line = 0 } }
 {
     ConfError {
@@ -50,7 +51,7 @@ fn no_service() -> ConfError
 }
 
 /// Copies `text` in lowercase.
-fn lower_case(alloc: Global, text: &[u8]) -> Result<Vec<u8>, AllocError>
+pub(crate) fn lower_case(alloc: Global, text: &[u8]) -> Result<Vec<u8>, AllocError>
     ensures { IfOk result (λ lowered. lowered.items ≡ map to_ascii_lowercase text.now) }
 {
     let mut lowered = text.to_vec(alloc)?;
@@ -59,8 +60,8 @@ fn lower_case(alloc: Global, text: &[u8]) -> Result<Vec<u8>, AllocError>
 }
 
 /// The start of `service` in a folder: its file, if there is one.
-fn folder_start(files: &Files, service: &[u8]) -> Option<Start<'static>>
-    ensures start { option_map start_text result ≡ start_in Dir files.now service.now }
+pub(crate) fn folder_start(files: &Files, service: &[u8]) -> Option<Start<'static>>
+    ensures start { option_map start_text result ≡ start_in Dir files.now (rules_at files.now) service.now }
     ensures within { IfSome result (λ s. s.file < length files.now.entries) }
     ensures read { IfSome result (λ s. s.read ≡ None) }
 {
@@ -73,7 +74,11 @@ fn folder_start(files: &Files, service: &[u8]) -> Option<Start<'static>>
 }
 
 /// The start of `service` in pam.conf, if a rule names it.
-fn carried_start<'a>(rules: &'a [KeptRule], file: usize, service: &'a [u8]) -> Option<Start<'a>>
+pub(crate) fn carried_start<'a>(
+    rules: &'a [KeptRule],
+    file: usize,
+    service: &'a [u8],
+) -> Option<Start<'a>>
     ensures start { option_map start_text result ≡ carried (list_any (carries service.now) (map kept_view rules.now)) file service.now }
     ensures read { IfSome result (λ s. (s.file ≡ file) × (s.read ≡ Some rules.entry) × (s.service ≡ Some service.entry)) }
 {
@@ -90,12 +95,12 @@ fn carried_start<'a>(rules: &'a [KeptRule], file: usize, service: &'a [u8]) -> O
 }
 
 /// The stack of the walk from `start`.
-fn stack_at(
+fn stack_at<'a>(
     alloc: Global,
-    files: &Files,
+    files: &'a Files,
     kind: Kind,
     progress: &mut Progress,
-    start: Start,
+    start: Start<'a>,
 ) -> Result<Stack, ConfError>
     requires table { IsTable files.now kind progress.old.table.items }
     requires within { start.file < length files.now.entries }
@@ -108,6 +113,7 @@ fn stack_at(
     let walker = Walker {
         alloc,
         files,
+        read: None,
         kind,
         service: start.service,
     };
@@ -156,7 +162,7 @@ fn folder_stack(
     service: &[u8],
     kind: Kind,
 ) -> Result<Stack, ConfError>
-    ensures { Gives ErrorTells (λ s. s) result (from_starts files.now kind (start_in Dir files.now service.now) (start_in Dir files.now (codes "other"))) }
+    ensures { Gives ErrorTells (λ s. s) result (from_starts files.now kind (start_in Dir files.now (rules_at files.now) service.now) (start_in Dir files.now (rules_at files.now) (codes "other"))) }
 {
     let mut progress = Progress::new(alloc, files, kind)?;
     let own = folder_start(files, service);
@@ -171,8 +177,8 @@ fn one_file_stack(
     service: &[u8],
     kind: Kind,
 ) -> Result<Stack, ConfError>
-    ensures { Gives ErrorTells (λ s. s) result (from_starts files.now kind (start_in Single files.now service.now)
-        (start_in Single files.now (codes "other"))) }
+    ensures { Gives ErrorTells (λ s. s) result (from_starts files.now kind (start_in Single files.now (rules_at files.now) service.now)
+        (start_in Single files.now (rules_at files.now) (codes "other"))) }
 {
     let Some(file) = files.find(ONE_FILE) else {
         return Err(no_service());

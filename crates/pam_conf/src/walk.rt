@@ -1,14 +1,17 @@
 //! The walk over a service's file and the files that its rules include.
-ghost use Rattle.std.specs.Prelude.{◌≡◌, ◌<◌, ◌≤◌, ◌+◌, ◌-◌, IsOkAnd, MatchResult, IfOk, OnOk, length, map};
+ghost use Rattle.std.specs.Prelude.{◌≡◌, ◌<◌, ◌-◌, ◌==◌, ◌∷◌, ◌++◌, [], Err, None, Some, false, if◌then◌else◌, is_some, length, map, true};
+ghost use Rattle.std.specs.Prelude.{IfErr, IfOk, IsErrAnd, IsOkAnd, MatchOption, MatchResult, OnOk};
+ghost use Rattle.std.specs.List.{list_any};
 ghost use Rattle.std.specs.Option.{option_map};
 ghost use Rattle.pam_conf.specs.Files.{position_of};
 ghost use Rattle.pam_conf.specs.ItemsOf.{items_of, module_text};
-ghost use Rattle.pam_conf.specs.Progress.{IsRead, IsTable, Passes, Refuses, Walks, in_file, of_kind};
+ghost use Rattle.pam_conf.specs.Progress.{HasRules, IsRead, IsTable, Passes, Refuses, Walks, count_of, in_file, of_kind, reads_by};
 ghost use Rattle.pam_conf.specs.Calls.{arguments_in, control_in, path_in};
 ghost use Rattle.pam_conf.specs.Kept.{call_words, kept_view};
 ghost use Rattle.pam_conf.specs.Tells.{ErrorTells, UnlessMemory};
 ghost use Rattle.pam_text.specs.Gives.{Gives};
-ghost use Rattle.pam_conf.specs.Walk.{counts, deeper, fault_at, followed, include_walk, rule_walk, rules_at, rules_walk, target_walk, walk};
+ghost use Rattle.pam_conf.specs.Survey.{with_file};
+ghost use Rattle.pam_conf.specs.Walk.{counts, deeper, failed, fault_at, followed, include_walk, rule_walk, rules_at, rules_walk, target_walk, walk};
 ghost use Rattle.pam_conf.specs.Wanted.{only_wanted};
 ghost use Rattle.pam_conf.specs.declared.stack.TheConstants.{MAX_MODULES};
 ghost use Rattle.pam_conf.specs.declared.trail.TheConstants.{MAX_OPEN_FILES};
@@ -20,42 +23,16 @@ use crate::error::{FaultKind, RuleFault};
 use crate::files::Files;
 use crate::kept::{KeptBody, KeptRule, has_service, is_of};
 use crate::lines::wanted_rules;
+use crate::progress::{Progress, reach};
 use crate::rule::Kind;
+use crate::rule_files::FileRules;
 use crate::stack::{Item, MAX_MODULES, Module, Sub};
 use crate::trail::Trail;
 use crate::wanted::Wanted;
-use std::alloc::{AllocError, Global};
+use std::alloc::{AllocError, AllocFailed, Global};
 
 /// The maximum number of includes and substacks that a walk follows; one more is `TooManyFollowed`.
 pub const MAX_FOLLOWS: usize = 256;
-
-/// The counts of a walk so far, and the rules that it has read.
-#[derive(Drop)]
-pub(crate) struct Progress {
-    /// The rules of the kind of each file that was read and is not open, by position in `Files`.
-    pub table: Vec<Option<Vec<KeptRule>>>,
-    pub modules: usize,
-    pub follows: usize,
-    ghost few_modules: { modules ≤ MAX_MODULES },
-    ghost few_follows: { follows ≤ MAX_FOLLOWS },
-}
-
-impl Progress {
-    /// The progress at the start of a walk over `files`.
-    pub(crate) fn new(alloc: Global, files: &Files, kind: Kind) -> Result<Progress, AllocError>
-        ensures { IfOk result (λ p. IsTable files.now kind p.table.items) }
-    {
-        let mut table = Vec::with_capacity(alloc, files.len())?;
-        for _ in 0..files.len() {
-            table.push(None)?;
-        }
-        Ok(Progress {
-            table,
-            modules: 0,
-            follows: 0,
-        })
-    }
-}
 
 /// Where a rule is.
 #[derive(Clone, Copy, Debug)]
@@ -140,6 +117,9 @@ fn module_of(
 pub(crate) struct Walker<'a> {
     pub alloc: Global,
     pub files: &'a Files,
+    /// What was read of each file before; the walk then goes on after faults. `None` if it reads a file when it reaches it,
+    /// and ends at the first fault.
+    pub read: Option<&'a [FileRules]>,
     pub kind: Kind,
     pub service: Option<&'a [u8]>,
 }
@@ -174,21 +154,62 @@ impl Walker<'_> {
         file_rules(self.alloc, self.files, file, Wanted::OfKind(self.kind))
     }
 
+    /// Notes a fault, if the walk goes on after faults; else the fault is the error.
+    fn meet(&self, noted: &mut Vec<ConfError>, fault: ConfError) -> Result<Option<usize>, ConfError>
+        requires { fault.kind ≡ FaultKind.Memory → ⊥ }
+        ensures noted { IfOk result (λ o. (o ≡ None) × (is_some self.now.read ≡ true) × (noted.new.items ≡ noted.old.items ++ fault ∷ [])) }
+        ensures ended { IfErr result (λ e. UnlessMemory e e.kind ((is_some self.now.read ≡ false) × (e ≡ fault) × (noted.new.items ≡ noted.old.items))) }
+    {
+        if self.read.is_none() {
+            return Err(fault);
+        }
+        noted.push(fault)?;
+        Ok(None)
+    }
+
     /// Walks `file`, the last of `trail`, and appends its items to `items`.
     #[cycle(walk)]
-    fn walk_file(
+    pub(crate) fn walk_file(
         &self,
         progress: &mut Progress,
         trail: &Trail,
         file: usize,
         items: &mut Vec<Item>,
     ) -> Result<(), ConfError>
-        requires table { IsTable self.now.files.now self.now.kind progress.old.table.items }
+        requires table { HasRules self.now.files.now self.now.kind self.now.read progress.old.table.items }
         requires within { file < length self.now.files.now.entries }
-        ensures table { OnOk result (IsTable self.now.files.now self.now.kind progress.new.table.items) }
-        ensures walked { Walks progress.old.modules progress.old.follows (items_of items.old.items)
-            (walk self.now.files.now self.now.kind (option_map (λ s. s.now) self.now.service) (MAX_OPEN_FILES - length trail.now) trail.now file)
-            progress.new.modules progress.new.follows (items_of items.new.items) result }
+        ensures table { OnOk result (HasRules self.now.files.now self.now.kind self.now.read progress.new.table.items) }
+        ensures walked { Walks (is_some self.now.read) (count_of progress.old) (items_of items.old.items)
+            (walk self.now.files.now (reads_by self.now.files.now self.now.read) self.now.kind (option_map (λ s. s.now) self.now.service) (MAX_OPEN_FILES - length trail.now) trail.now file)
+            (count_of progress.new) (items_of items.new.items) result }
+    {
+        match self.read {
+            None => self.walk_unread(progress, trail, file, items),
+            Some(read) => {
+                let Some(found) = read.get(file) else {
+                    unreachable!()
+                };
+                self.walk_rules(progress, trail, file, found.rules.as_slice(), items)
+            }
+        }
+    }
+
+    /// Walks `file`, whose rules are in the table or are still to be read.
+    #[cycle(walk)]
+    fn walk_unread(
+        &self,
+        progress: &mut Progress,
+        trail: &Trail,
+        file: usize,
+        items: &mut Vec<Item>,
+    ) -> Result<(), ConfError>
+        requires unread { self.now.read ≡ None }
+        requires table { HasRules self.now.files.now self.now.kind self.now.read progress.old.table.items }
+        requires within { file < length self.now.files.now.entries }
+        ensures table { OnOk result (HasRules self.now.files.now self.now.kind self.now.read progress.new.table.items) }
+        ensures walked { Walks (is_some self.now.read) (count_of progress.old) (items_of items.old.items)
+            (walk self.now.files.now (reads_by self.now.files.now self.now.read) self.now.kind (option_map (λ s. s.now) self.now.service) (MAX_OPEN_FILES - length trail.now) trail.now file)
+            (count_of progress.new) (items_of items.new.items) result }
     {
         let rules = self.take_rules(&mut progress.table, file)?;
         self.walk_rules(progress, trail, file, rules.as_slice(), items)?;
@@ -205,13 +226,13 @@ impl Walker<'_> {
         read: Option<&[KeptRule]>,
         items: &mut Vec<Item>,
     ) -> Result<(), ConfError>
-        requires table { IsTable self.now.files.now self.now.kind progress.old.table.items }
+        requires table { HasRules self.now.files.now self.now.kind self.now.read progress.old.table.items }
         requires within { file < length self.now.files.now.entries }
-        requires read { IsRead self.now.files.now self.now.kind (option_map (λ s. s.now) self.now.service) file (option_map (λ r. r.now) read) }
-        ensures table { OnOk result (IsTable self.now.files.now self.now.kind progress.new.table.items) }
-        ensures walked { Walks progress.old.modules progress.old.follows (items_of items.old.items)
-            (walk self.now.files.now self.now.kind (option_map (λ s. s.now) self.now.service) (MAX_OPEN_FILES - length trail.now) trail.now file)
-            progress.new.modules progress.new.follows (items_of items.new.items) result }
+        requires read { IsRead self.now.files.now (reads_by self.now.files.now self.now.read) self.now.kind (option_map (λ s. s.now) self.now.service) file (option_map (λ r. r.now) read) }
+        ensures table { OnOk result (HasRules self.now.files.now self.now.kind self.now.read progress.new.table.items) }
+        ensures walked { Walks (is_some self.now.read) (count_of progress.old) (items_of items.old.items)
+            (walk self.now.files.now (reads_by self.now.files.now self.now.read) self.now.kind (option_map (λ s. s.now) self.now.service) (MAX_OPEN_FILES - length trail.now) trail.now file)
+            (count_of progress.new) (items_of items.new.items) result }
     {
         match read {
             None => self.walk_file(progress, trail, file, items),
@@ -229,12 +250,13 @@ impl Walker<'_> {
         rules: &[KeptRule],
         items: &mut Vec<Item>,
     ) -> Result<(), ConfError>
-        requires table { IsTable self.now.files.now self.now.kind progress.old.table.items }
-        ensures table { OnOk result (IsTable self.now.files.now self.now.kind progress.new.table.items) }
-        ensures walked { let service = option_map (λ s. s.now) self.now.service in
-            Walks progress.old.modules progress.old.follows (items_of items.old.items) (rules_walk self.now.files.now self.now.kind service
-            (deeper self.now.files.now self.now.kind service (MAX_OPEN_FILES - length trail.now)) trail.now file (map kept_view rules.now))
-            progress.new.modules progress.new.follows (items_of items.new.items) result }
+        requires table { HasRules self.now.files.now self.now.kind self.now.read progress.old.table.items }
+        ensures table { OnOk result (HasRules self.now.files.now self.now.kind self.now.read progress.new.table.items) }
+        ensures walked { Walks (is_some self.now.read) (count_of progress.old) (items_of items.old.items)
+            (rules_walk self.now.files.now (reads_by self.now.files.now self.now.read) self.now.kind (option_map (λ s. s.now) self.now.service)
+            (deeper self.now.files.now (reads_by self.now.files.now self.now.read) self.now.kind (option_map (λ s. s.now) self.now.service)
+            (MAX_OPEN_FILES - length trail.now)) trail.now file (map kept_view rules.now))
+            (count_of progress.new) (items_of items.new.items) result }
     {
         for rule in rules {
             self.walk_rule(progress, trail, file, rule, items)?;
@@ -252,12 +274,13 @@ impl Walker<'_> {
         rule: &KeptRule,
         items: &mut Vec<Item>,
     ) -> Result<(), ConfError>
-        requires table { IsTable self.now.files.now self.now.kind progress.old.table.items }
-        ensures table { OnOk result (IsTable self.now.files.now self.now.kind progress.new.table.items) }
-        ensures walked { let service = option_map (λ s. s.now) self.now.service in
-            Walks progress.old.modules progress.old.follows (items_of items.old.items) (rule_walk self.now.files.now self.now.kind service
-            (deeper self.now.files.now self.now.kind service (MAX_OPEN_FILES - length trail.now)) trail.now file (kept_view rule.now))
-            progress.new.modules progress.new.follows (items_of items.new.items) result }
+        requires table { HasRules self.now.files.now self.now.kind self.now.read progress.old.table.items }
+        ensures table { OnOk result (HasRules self.now.files.now self.now.kind self.now.read progress.new.table.items) }
+        ensures walked { Walks (is_some self.now.read) (count_of progress.old) (items_of items.old.items)
+            (rule_walk self.now.files.now (reads_by self.now.files.now self.now.read) self.now.kind (option_map (λ s. s.now) self.now.service)
+            (deeper self.now.files.now (reads_by self.now.files.now self.now.read) self.now.kind (option_map (λ s. s.now) self.now.service)
+            (MAX_OPEN_FILES - length trail.now)) trail.now file (kept_view rule.now))
+            (count_of progress.new) (items_of items.new.items) result }
     {
         if !self.counts(rule) {
             return Ok(());
@@ -283,7 +306,10 @@ impl Walker<'_> {
             }
             KeptBody::Sub(target) => {
                 let mut inner = Vec::new(self.alloc);
-                let target = self.follow(progress, trail, at, target.as_slice(), &mut inner)?;
+                let found = self.follow(progress, trail, at, target.as_slice(), &mut inner)?;
+                let Some(target) = found else {
+                    return Ok(());
+                };
                 let sub = Sub {
                     file,
                     line: at.line,
@@ -296,7 +322,37 @@ impl Walker<'_> {
         }
     }
 
-    /// Follows the target of the rule at `at`, and returns the target's position.
+    /// The position of the target of a rule, if it can be followed.
+    fn find(&self, trail: &Trail, target: &[u8]) -> Result<usize, FaultKind>
+        ensures found { IfOk result (λ p. (position_of target.now self.now.files.now.entries ≡ Some p) × (list_any (λ q. q == p) trail.now ≡ false)
+            × (MAX_OPEN_FILES - length trail.now ≡ 0 → ⊥)) }
+        ensures fault { IfErr result (λ fault. target_walk (deeper self.now.files.now (reads_by self.now.files.now self.now.read) self.now.kind
+            (option_map (λ s. s.now) self.now.service) (MAX_OPEN_FILES - length trail.now)) trail.now (position_of target.now self.now.files.now.entries) ≡ Err fault) }
+        ensures own { IfErr result (λ fault. fault ≡ FaultKind.Memory → ⊥) }
+    {
+        let Some(position) = self.files.find(target) else {
+            return Err(FaultKind::NoService);
+        };
+        if trail.contains(position) {
+            return Err(FaultKind::Cycle);
+        }
+        if trail.room() == 0 {
+            return Err(FaultKind::TooDeep);
+        }
+        Ok(position)
+    }
+
+    /// Notes that `file` is reached, if the walk goes on after faults.
+    fn reach(&self, reached: &mut Vec<usize>, file: usize) -> Result<(), AllocFailed<usize>>
+        ensures { OnOk result (reached.new.items ≡ if is_some self.now.read then with_file reached.old.items file else reached.old.items) }
+    {
+        if self.read.is_none() {
+            return Ok(());
+        }
+        reach(reached, file)
+    }
+
+    /// Follows the target of the rule at `at`, and returns the target's position; `None` if a fault was noted in its place.
     #[cycle(walk)]
     fn follow(
         &self,
@@ -305,32 +361,32 @@ impl Walker<'_> {
         at: Location,
         target: &[u8],
         items: &mut Vec<Item>,
-    ) -> Result<usize, ConfError>
-        requires table { IsTable self.now.files.now self.now.kind progress.old.table.items }
-        ensures table { OnOk result (IsTable self.now.files.now self.now.kind progress.new.table.items) }
-        ensures walked { let found = target_walk (deeper self.now.files.now self.now.kind (option_map (λ s. s.now) self.now.service)
+    ) -> Result<Option<usize>, ConfError>
+        requires table { HasRules self.now.files.now self.now.kind self.now.read progress.old.table.items }
+        ensures table { OnOk result (HasRules self.now.files.now self.now.kind self.now.read progress.new.table.items) }
+        ensures walked { let found = target_walk (deeper self.now.files.now (reads_by self.now.files.now self.now.read) self.now.kind (option_map (λ s. s.now) self.now.service)
             (MAX_OPEN_FILES - length trail.now)) trail.now (position_of target.now self.now.files.now.entries) in
             MatchResult result
-            (λ position. IsOkAnd found (λ t. (t.0 ≡ position)
-            × Passes progress.old.modules progress.old.follows (items_of items.old.items)
-            (followed at.file at.line t.1) progress.new.modules progress.new.follows (items_of items.new.items)))
-            (λ e. Refuses progress.old.modules progress.old.follows (include_walk at.file at.line found) e) }
+            (λ o. MatchOption o
+            (IsErrAnd found (λ fault. Passes (is_some self.now.read) (count_of progress.old) (items_of items.old.items)
+            (failed (fault_at at.file at.line fault)) (count_of progress.new) (items_of items.new.items)))
+            (λ position. IsOkAnd found (λ t. (t.0 ≡ position) × Passes (is_some self.now.read) (count_of progress.old) (items_of items.old.items)
+            (followed at.file at.line t) (count_of progress.new) (items_of items.new.items))))
+            (λ e. Refuses (is_some self.now.read) (count_of progress.old) (include_walk at.file at.line found) (count_of progress.new) e) }
     {
-        let Some(position) = self.files.find(target) else {
-            return Err(fault(at.file, at.line, FaultKind::NoService));
+        let position = match self.find(trail, target) {
+            Ok(position) => position,
+            Err(kind) => {
+                return self.meet(&mut progress.noted, fault(at.file, at.line, kind));
+            }
         };
-        if trail.contains(position) {
-            return Err(fault(at.file, at.line, FaultKind::Cycle));
-        }
-        if trail.room() == 0 {
-            return Err(fault(at.file, at.line, FaultKind::TooDeep));
-        }
         if progress.follows == MAX_FOLLOWS {
             return Err(fault(at.file, at.line, FaultKind::TooManyFollowed));
         }
         progress.follows += 1;
+        self.reach(&mut progress.reached, position)?;
         let longer = trail.with(position);
         self.walk_file(progress, &longer, position, items)?;
-        Ok(position)
+        Ok(Some(position))
     }
 }

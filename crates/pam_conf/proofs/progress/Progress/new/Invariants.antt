@@ -1,6 +1,6 @@
 use Rattle.std.proofs.Common.{◌≡◌, length}
 use Rattle.pam_conf.proofs.TableLemmas.{IsUnread}
-use Rattle.pam_conf.proofs.walk.Progress.new.Given as goal
+use Rattle.pam_conf.proofs.progress.Progress.new.Given as goal
 
 abbrev pub invariant-loop : goal.invariant-loop
 invariant-loop l = record {
