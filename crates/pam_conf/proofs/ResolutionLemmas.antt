@@ -156,7 +156,7 @@ any-here service rules k r within is h = any-more service rules k r within is �
 
 -- PAM.CONF
 
-faulty : (folder : Folder) (kind : Kind) (service : List ℕ) (other : Option StartText) (file : ℕ) (e : ConfError) (r : Result (List RuleText) RuleFault) →
+pub faulty : (folder : Folder) (kind : Kind) (service : List ℕ) (other : Option StartText) (file : ℕ) (e : ConfError) (r : Result (List RuleText) RuleFault) →
     in_file file r ≡ Err e →
     stack_from folder kind record { file = file; service = Some service } ≡ Err e → from_starts folder kind (start_read file service r) other ≡ Err e
 faulty folder kind service other file e (Ok rules) h s = absurd (cc)
