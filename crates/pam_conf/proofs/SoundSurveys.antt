@@ -1,5 +1,6 @@
 -- A service has a stack if and only if its survey is sound.
-use Rattle.std.proofs.Common.{◌≡◌, ◌+◌, ◌-◌, ◌↔◌, ◌||◌, ℕ, Bool, true, false, cond, eqb, fold, List, [], ◌∷◌, ◌++◌, All, codes, map, option_and_then, Option, Some, None}
+use Rattle.std.proofs.Common.{◌≡◌, ◌+◌, ◌-◌, ◌||◌, ℕ, Bool, true, false, cond, eqb, fold, List, [], ◌∷◌, ◌++◌, codes, map, option_and_then}
+use Rattle.std.proofs.Common.{Option, Some, None}
 use Rattle.std.proofs.Common.{Result, Ok, Err, ap, refl, sym, subst, ◌∙◌}
 use Rattle.std.specs.Char.{to_ascii_lowercase}
 use Rattle.std.specs.List.{AllByRecursion as Each, list_any}
@@ -7,7 +8,7 @@ use Rattle.std.specs.Option.{option_map_or}
 use Rattle.std.proofs.lemmas.Bool.{eqb-true, false≢true}
 use Rattle.std.proofs.lemmas.List.Elements.{All-from_recursion, recursion_from_All}
 use Rattle.pam_conf.specs.Files.{Folder, position_of}
-use Rattle.pam_conf.specs.Laws.{IsSound, StackIsSoundSurvey}
+use Rattle.pam_conf.specs.Laws.{StackIsSoundSurvey}
 use Rattle.pam_conf.specs.Progress.{in_file}
 use Rattle.pam_conf.specs.Resolution.{StartText, carried, from_starts, resolved, stack_from, start_in, start_of, start_read, unless_empty}
 use Rattle.pam_conf.specs.Rule.{RuleText}
@@ -156,7 +157,8 @@ module _ (folder : Folder) (kind : Kind) (items : Items) where
   Gives s = (s.items ≡ Some items) × IsClean folder s
 
   unless-clean : (own : StartText) (other : Option StartText) (r : Result Items ConfError) → stack_from folder kind own ≡ r →
-      unless_empty folder kind other r ≡ Ok items → Gives (survey_unless_empty folder kind other (survey_from folder kind own) (survey_from folder kind own).items)
+      unless_empty folder kind other r ≡ Ok items → Gives (survey_unless_empty folder kind other (survey_from folder kind own)
+      (survey_from folder kind own).items)
   unless-clean own None (Err e) is h = absurd (cc)
   unless-clean own (Some o) (Err e) is h = absurd (cc)
   unless-clean own None (Ok all) is h = stack-clean folder kind own items (is ∙ h)
@@ -200,7 +202,8 @@ module _ (folder : Folder) (kind : Kind) (items : Items) where
       ap (unless_empty folder kind (Some o)) (clean-stack folder kind own End is (faults.0, files.0))
       ∙ clean-stack folder kind o items h.0 (faults.1, files.1)
   clean-unless own (Some o) (Some (ThenModule m rest)) is h =
-      ap (unless_empty folder kind (Some o)) (clean-stack folder kind own (ThenModule m rest) is h.1) ∙ ap Ok (same_some (ThenModule m rest) items (sym is ∙ h.0))
+      ap (unless_empty folder kind (Some o)) (clean-stack folder kind own (ThenModule m rest) is h.1) ∙ ap Ok (same_some (ThenModule m rest) items
+      (sym is ∙ h.0))
   clean-unless own (Some o) (Some (ThenSub t inner rest)) is h =
       ap (unless_empty folder kind (Some o)) (clean-stack folder kind own (ThenSub t inner rest) is h.1)
       ∙ ap Ok (same_some (ThenSub t inner rest) items (sym is ∙ h.0))
@@ -229,7 +232,8 @@ module _ (folder : Folder) (kind : Kind) where
         | Some file ↦ λ g. ap (start_read file service) (sound-reads folder file g)
       ] h
 
-  read-sound_for : (file : ℕ) (r : Result (List RuleText) RuleFault) → rules_at folder file ≡ r → (service : List ℕ) (other : Option StartText) (items : Items) →
+  read-sound_for : (file : ℕ) (r : Result (List RuleText) RuleFault) → rules_at folder file ≡ r → (service : List ℕ) (other : Option StartText)
+      (items : Items) →
       from_starts folder kind (start_read file service r) other ≡ Ok items → Sound folder file
   read-sound_for file (Err fault) is service other items h =
       let read : in_file file (rules_at folder file) ≡ Err (fault_at file fault.line fault.kind) = ap (in_file file) is in
@@ -271,7 +275,8 @@ module _ (folder : Folder) (kind : Kind) where
   survey-sound Dir service second items h = tt
   survey-sound Single service second items h =
       elim (position_of (codes "pam.conf") folder.entries) as (λ (o : Option ℕ). Gives folder kind items (survey_starts folder kind
-      (option_and_then (λ f. start_read f service (good_at folder f)) o) (option_and_then (λ f. start_read f second (good_at folder f)) o)) → PamConf Single o) [
+      (option_and_then (λ f. start_read f service (good_at folder f)) o) (option_and_then (λ f. start_read f second (good_at folder f)) o)) →
+      PamConf Single o) [
         | None ↦ λ g. tt
         | Some file ↦ λ g. carried-sound file _ _ service second items g
       ] h
