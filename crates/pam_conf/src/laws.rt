@@ -1,6 +1,7 @@
 //! Laws of the definitions that the contracts cite: each is the contract of an empty function.
 
-ghost use Rattle.pam_conf.specs.Laws.{DeepWhereAllAreOpen, FirstFaultOrRules, ResolvedIsStack, StackBeginsATrail, StackIsSoundSurvey, WalkFollowsItsTrail, WordsAreOneSplit};
+ghost use Rattle.pam_conf.specs.Laws.{DeepWhereAllAreOpen, FirstFaultOrRules, ResolvedIsStack, StackBeginsATrail};
+ghost use Rattle.pam_conf.specs.Laws.{StackIsSoundSurvey, WalkFollowsItsTrail, WordsAreOneSplit};
 
 /// A line has words if and only if it can be written as blanks and spellings of words, and then in only one way.
 pub fn words_are_one_split()
