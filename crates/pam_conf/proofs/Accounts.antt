@@ -1,5 +1,6 @@
 -- What the events of a walk come to.
-use Rattle.std.proofs.Common.{◌≡◌, ◌+◌, ℕ, Bool, true, false, cond, eqb, fold, List, [], ◌∷◌, ◌++◌, Option, Some, None, append-nil, append_assoc, ap, refl, ◌∙◌, sym}
+use Rattle.std.proofs.Common.{◌≡◌, ◌+◌, ℕ, Bool, true, false, cond, eqb, fold, List, [], ◌∷◌, ◌++◌, Option, Some, None, append-nil, append_assoc, ap}
+use Rattle.std.proofs.Common.{refl, ◌∙◌, sym}
 use Rattle.std.proofs.lemmas.Bool.{false≢true}
 use Rattle.pam_conf.specs.Progress.{Account, Count, account, ended_by, with_fault, with_follow, with_module}
 use Rattle.pam_conf.specs.Stack.{Items}
@@ -24,7 +25,8 @@ account-refusal n (Met file line ∷ events) =
     ≡ outcome n.noted n.reached (cond t (Some (fault_at file line TooManyModules)) (refusal (with_module n).modules n.follows events)))
     [ true ↦ refl | false ↦ account-refusal (with_module n) events ]
 account-refusal n (Followed file line target ∷ events) =
-    elim (eqb n.follows MAX_FOLLOWS) as (λ (t : Bool). cond t (ended_by n (fault_at file line TooManyFollowed)) (account false (with_follow false target n) events)
+    elim (eqb n.follows MAX_FOLLOWS) as (λ (t : Bool). cond t (ended_by n (fault_at file line TooManyFollowed)) (account false
+    (with_follow false target n) events)
     ≡ outcome n.noted n.reached (cond t (Some (fault_at file line TooManyFollowed)) (refusal n.modules (with_follow false target n).follows events)))
     [ true ↦ refl | false ↦ account-refusal (with_follow false target n) events ]
 account-refusal n (Failed fault ∷ events) = refl
@@ -71,7 +73,8 @@ account-told n (Met file line ∷ events) =
       ended = cond t true (is_over (n.modules + 1) n.follows events);
     }) [ true ↦ refl | false ↦ account-told (with_module n) events ]
 account-told n (Followed file line target ∷ events) =
-    elim (eqb n.follows MAX_FOLLOWS) as (λ (t : Bool). cond t (ended_by n (fault_at file line TooManyFollowed)) (account true (with_follow true target n) events) ≡ record {
+    elim (eqb n.follows MAX_FOLLOWS) as (λ (t : Bool). cond t (ended_by n (fault_at file line TooManyFollowed)) (account true
+    (with_follow true target n) events) ≡ record {
       faults = n.noted ++ cond t (fault_at file line TooManyFollowed ∷ []) (told n.modules (n.follows + 1) events);
       reached = fold with_file n.reached (cond t [] (target ∷ targets n.modules (n.follows + 1) events));
       ended = cond t true (is_over n.modules (n.follows + 1) events);

@@ -1,5 +1,6 @@
 -- The rules of a file, or its first fault, by what is read of each line.
-use Rattle.std.proofs.Common.{◌≡◌, ◌<◌, ◌+◌, ℕ, add-one, get_or, take, List, [], ◌∷◌, ◌++◌, map, Option, Some, None, OnOk, Result, Ok, Err, Bor, length, slice_get, ap, append-nil, refl, ◌∙◌, sym}
+use Rattle.std.proofs.Common.{◌≡◌, ◌<◌, ◌+◌, ℕ, add-one, get_or, take, List, [], ◌∷◌, ◌++◌, map, Option, Some, None, OnOk, Result, Ok, Err, Bor}
+use Rattle.std.proofs.Common.{length, slice_get, ap, append-nil, refl, ◌∙◌, sym}
 use Rattle.std.proofs.lemmas.Option.{slice_get-get_or, slice_get-map, slice_get_past, slice_get_read}
 use Rattle.std.proofs.Math.Seq.{take-suc}
 use Rattle.std.proofs.lemmas.List.{map-append}
@@ -11,7 +12,8 @@ use Rattle.std.specs.declared.alloc.AllocError.{AllocError}
 use Rattle.pam_text.specs.Source.{source_fault}
 use Rattle.pam_text.specs.Text.{text_of, lines_of}
 use Rattle.pam_text.specs.declared.source.SourceFault.{SourceFault}
-use Rattle.pam_conf.specs.FileRules.{LineResult, faults_among, file_results, file_text, files_read, good_rules, line_results, own_faults, rules_among, unless_faulty}
+use Rattle.pam_conf.specs.FileRules.{LineResult, faults_among, file_results, file_text, files_read, good_rules, line_results, own_faults, rules_among}
+use Rattle.pam_conf.specs.FileRules.{unless_faulty}
 use Rattle.pam_conf.specs.Files.{Folder, Named, bytes_at}
 use Rattle.pam_conf.specs.FilesRead.{file_view}
 use Rattle.pam_conf.specs.Kept.{kept_view}
@@ -78,11 +80,13 @@ lent : (files : List FileRules) (position : ℕ) (found : Option (Bor FileRules)
 lent files position None h = sym (slice_get_past files position h.3)
 lent files position (Some file) h = sym (slice_get_read files (length files) position file.now refl h.3.0 h.1)
 
-faults_of : (form : Form) (o : Option Named) → option_map (λ t. t.faults) (option_map (file_text form) o) ≡ option_map (own_faults form) (option_map (λ f. f.1) o)
+faults_of : (form : Form) (o : Option Named) → option_map (λ t. t.faults) (option_map (file_text form) o) ≡ option_map (own_faults form) (option_map
+    (λ f. f.1) o)
 faults_of form None = refl
 faults_of form (Some f) = refl
 
-rules_of_text : (form : Form) (o : Option Named) → option_map (λ t. t.rules) (option_map (file_text form) o) ≡ option_map (good_rules form) (option_map (λ f. f.1) o)
+rules_of_text : (form : Form) (o : Option Named) → option_map (λ t. t.rules) (option_map (file_text form) o) ≡ option_map (good_rules form)
+    (option_map (λ f. f.1) o)
 rules_of_text form None = refl
 rules_of_text form (Some f) = refl
 
@@ -95,7 +99,8 @@ module _ (folder seen : Folder) (files slice : List FileRules) (position : ℕ) 
       ∙ read_at folder files position read
       ∙ ap (λ (f : Folder). option_map (file_text f.form) (slice_get f.entries position)) is
 
-  pub faults_lent : (faults : List RuleFault) → faults ≡ file.now.faults.items → Some faults ≡ option_map (own_faults seen.form) (bytes_at position seen.entries)
+  pub faults_lent : (faults : List RuleFault) → faults ≡ file.now.faults.items → Some faults ≡ option_map (own_faults seen.form)
+      (bytes_at position seen.entries)
   faults_lent faults e = ap Some e ∙ ap (option_map (λ t. t.faults)) file_lent ∙ faults_of seen.form (slice_get seen.entries position)
 
   pub rules_lent : (rules : List RuleText) → rules ≡ map kept_view file.now.rules.items →

@@ -9,6 +9,8 @@ pub mod ResolvedStacks
 pub mod RoomLemmas
 pub mod RuleSteps
 pub mod RuleWalks
+pub mod SameWalks
+pub mod SoundSurveys
 pub mod Splits
 pub mod StackTree
 pub mod SurveyLemmas

@@ -127,7 +127,8 @@ after_shorter m (k ∷ ms) =
     ]
 
 -- what is read of a text is that of its filled lines
-filled_up_to : (form : Form) (n : ℕ) (ms : List FileByte) → length ms ≤ n → line_results form (lines_of ms) ≡ results_of_lines form (filled_lines (text_lines ms))
+filled_up_to : (form : Form) (n : ℕ) (ms : List FileByte) → length ms ≤ n → line_results form (lines_of ms) ≡ results_of_lines form (filled_lines
+    (text_lines ms))
 unfolding line_results results_of_lines filled_lines text_lines line_rule_of words_in rule_of HeadIs
 filled_up_to form n [] h = refl
 filled_up_to form zero (m ∷ ms) h = absurd (omega arith)

@@ -1,4 +1,5 @@
-use Rattle.std.proofs.Common.{◌≡◌, ◌≤◌, ◌<◌, ◌+◌, ◌-◌, ℕ, suc, Bool, true, false, cond, List, [], ◌∷◌, ◌++◌, map, length, Option, Some, None, Result, Ok, Err, ap}
+use Rattle.std.proofs.Common.{◌≡◌, ◌≤◌, ◌<◌, ◌+◌, ◌-◌, ℕ, suc, Bool, true, false, cond, List, [], ◌∷◌, ◌++◌, map, length, Option, Some, None, Result}
+use Rattle.std.proofs.Common.{Ok, Err, ap}
 use Rattle.std.proofs.Common.{subst, sym}
 use Rattle.std.proofs.Common.{refl, ◌∙◌, arith, append-nil, Bor, IfSome, filter, eqb, codes, option_and_then, drop, get_or, add-one, ◌||◌}
 use Rattle.std.proofs.Math.Seq.{drop-cons}
@@ -121,7 +122,8 @@ keeps-own folder kind own first other xs items is stack same some =
 
 -- a fault of the file of the rules
 read_fault : (folder : Folder) (reads : Reads) (kind : Kind) (service : Option (List ℕ)) (file : ℕ) (r : Result (List RuleText) RuleFault) (e : ConfError) →
-    in_file file r ≡ Err e → (refusal 0 0 (read_walk folder reads kind service (deeper folder reads kind service (MAX_OPEN_FILES - 1)) (file ∷ []) file r).events) ≡ Some e
+    in_file file r ≡ Err e → (refusal 0 0 (read_walk folder reads kind service (deeper folder reads kind service (MAX_OPEN_FILES - 1))
+    (file ∷ []) file r).events) ≡ Some e
 unfolding refusal
 read_fault folder reads kind service file (Ok rules) e h = absurd (cc)
 read_fault folder reads kind service file (Err fault) e h = let same : fault_at file fault.line fault.kind ≡ e = cc in ap Some same
@@ -156,7 +158,7 @@ any-here service rules k r within is h = any-more service rules k r within is �
 
 -- PAM.CONF
 
-faulty : (folder : Folder) (kind : Kind) (service : List ℕ) (other : Option StartText) (file : ℕ) (e : ConfError) (r : Result (List RuleText) RuleFault) →
+pub faulty : (folder : Folder) (kind : Kind) (service : List ℕ) (other : Option StartText) (file : ℕ) (e : ConfError) (r : Result (List RuleText) RuleFault) →
     in_file file r ≡ Err e →
     stack_from folder kind record { file = file; service = Some service } ≡ Err e → from_starts folder kind (start_read file service r) other ≡ Err e
 faulty folder kind service other file e (Ok rules) h s = absurd (cc)
@@ -204,7 +206,8 @@ module _ (service : List ℕ) (test : RuleText → Bool) (all : (r : RuleText) �
 
   -- the start of a service's rules in pam.conf
   pub one-file_start : (folder : Folder) (file : ℕ) (rules : List RuleText) → position_of (codes "pam.conf") folder.entries ≡ Some file →
-      in_file file (only test (rules_at folder file)) ≡ Ok rules → start_in Single folder (rules_at folder) service ≡ carried (list_any (carries service) rules) file service
+      in_file file (only test (rules_at folder file)) ≡ Ok rules → start_in Single folder (rules_at folder) service ≡ carried (list_any
+      (carries service) rules) file service
   one-file_start folder file rules at read =
       ap (λ (o : Option ℕ). option_and_then (λ f. start_read f service (rules_at folder f)) o) at
       ∙ start-only file (rules_at folder file) rules read
@@ -261,6 +264,7 @@ pub same-starts : (folder : Folder) (kind : Kind) (own own' other other' : Optio
 same-starts folder kind own own' other other' e f = rw (e, f) refl
 
 pub resolved-in : (folder : Folder) (kind : Kind) (form : Form) (service lowered : List ℕ) → folder.form ≡ form → lowered ≡ map to_ascii_lowercase service →
-    from_starts folder kind (start_in form folder (rules_at folder) lowered) (start_in form folder (rules_at folder) (codes "other")) ≡ resolved folder service kind
+    from_starts folder kind (start_in form folder (rules_at folder) lowered) (start_in form folder (rules_at folder) (codes "other"))
+    ≡ resolved folder service kind
 unfolding resolved
 resolved-in folder kind form service lowered is low = rw (low, ← is) refl

@@ -55,4 +55,5 @@ module _ (folder : Folder) (kind : Kind) where
 pub resolved_stack : ResolvedIsStack
 unfolding resolved
 resolved_stack folder service kind items is =
-    subst IsStackIfAny is (starts-stack folder kind (start_of folder (rules_at folder) (map to_ascii_lowercase service)) (start_of folder (rules_at folder) (codes "other")))
+    subst IsStackIfAny is (starts-stack folder kind (start_of folder (rules_at folder) (map to_ascii_lowercase service)) (start_of folder
+    (rules_at folder) (codes "other")))

@@ -6,7 +6,8 @@ use Rattle.std.proofs.lemmas.Bool.{ltb-true, ltb-false}
 use Rattle.pam_conf.specs.Files.{Folder, position_of}
 use Rattle.pam_conf.specs.Laws.{trail_walk, one_more}
 use Rattle.pam_conf.specs.Rule.{RuleText, RuleBody, Module, Include, Sub}
-use Rattle.pam_conf.specs.Walk.{Reads, Walk, Deeper, walk, deeper, nothing, ◌then◌, target_walk, include_walk, sub_walk, body_walk, rule_walk, rules_walk, read_walk}
+use Rattle.pam_conf.specs.Walk.{Reads, Walk, Deeper, walk, deeper, nothing, ◌then◌, target_walk, include_walk, sub_walk, body_walk, rule_walk}
+use Rattle.pam_conf.specs.Walk.{rules_walk, read_walk}
 use Rattle.pam_conf.specs.Walk.{file_walk, counts}
 use Rattle.pam_conf.specs.declared.error.FaultKind.{FaultKind}
 use Rattle.pam_conf.specs.declared.error.FaultKind.TheVariants.{Cycle, TooDeep}

@@ -1,5 +1,6 @@
 -- The walk of one rule.
-use Rattle.std.proofs.Common.{◌≡◌, ◌+◌, ℕ, Bool, true, false, List, Option, Some, None, Result, Ok, Err, IsErrAnd, IsOkAnd, MatchOption, ap, subst, sym, refl, ◌∙◌, arith}
+use Rattle.std.proofs.Common.{◌≡◌, ◌+◌, ℕ, Bool, true, false, List, Option, Some, None, Result, Ok, Err, IsErrAnd, IsOkAnd, MatchOption, ap, subst}
+use Rattle.std.proofs.Common.{sym, refl, ◌∙◌, arith}
 use Rattle.std.proofs.lemmas.Bool.{ne_eqb}
 use Rattle.pam_codes.specs.declared.action.Action.{Action}
 use Rattle.pam_conf.specs.Files.{Folder, position_of}

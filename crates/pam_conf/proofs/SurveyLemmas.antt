@@ -1,5 +1,6 @@
 -- The survey of a service, as the code makes it.
-use Rattle.std.proofs.Common.{◌≡◌, ◌-◌, ℕ, List, [], ◌∷◌, ◌++◌, length, eqb, true, codes, option_and_then, Option, Some, None, Result, Ok, Err, IfOk, OnOk, IsFalse, ap, refl, sym, subst, ◌∙◌}
+use Rattle.std.proofs.Common.{◌≡◌, ◌-◌, ℕ, List, [], ◌∷◌, ◌++◌, length, eqb, true, codes, option_and_then, Option, Some, None, Result, Ok, Err, IfOk}
+use Rattle.std.proofs.Common.{OnOk, IsFalse, ap, refl, sym, subst, ◌∙◌}
 use Rattle.std.specs.List.{list_any}
 use Rattle.std.specs.declared.alloc.AllocError.{AllocError}
 use Rattle.pam_conf.specs.Files.{Folder, position_of}

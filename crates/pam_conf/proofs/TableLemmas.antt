@@ -1,4 +1,5 @@
-use Rattle.std.proofs.Common.{◌≤◌, Some, Ok, Err, Bor, arith, ◌≡◌, ◌<◌, ℕ, zero, suc, Bool, true, false, cond, List, [], ◌∷◌, ◌++◌, map, filter, length, get_or, set, Option, None, Vec, ap}
+use Rattle.std.proofs.Common.{◌≤◌, Some, Ok, Err, Bor, arith, ◌≡◌, ◌<◌, ℕ, zero, suc, Bool, true, false, cond, List, [], ◌∷◌, ◌++◌, map, filter}
+use Rattle.std.proofs.Common.{length, get_or, set, Option, None, Vec, ap}
 use Rattle.std.proofs.Common.{subst, sym, refl, ◌∙◌, get_or-set_same, get_or-set_other, ⊎_elim}
 use Rattle.std.specs.Global.{Global}
 use Rattle.std.proofs.lemmas.Bool.{cases_eq}

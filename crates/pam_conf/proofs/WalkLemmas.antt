@@ -1,5 +1,6 @@
 use Rattle.std.proofs.Common.{◌≡◌, ◌<◌, ◌+◌, ◌-◌, ℕ, zero, suc, Bool, true, false, cond, eqb, List, [], ◌∷◌, ◌++◌, map, filter, length, drop, get_or, add-one}
-use Rattle.std.proofs.Common.{Option, Some, None, Result, Ok, Err, IfErr, IfOk, IsErrAnd, IsOkAnd, MatchOption, MatchResult, ap, subst, sym, refl, ◌∙◌, arith, append_assoc, length-append}
+use Rattle.std.proofs.Common.{Option, Some, None, Result, Ok, Err, IfErr, IfOk, IsErrAnd, IsOkAnd, MatchOption, MatchResult, ap, subst, sym, refl}
+use Rattle.std.proofs.Common.{◌∙◌, arith, append_assoc, length-append}
 use Rattle.std.specs.Option.{option_map_or}
 use Rattle.std.specs.List.{list_any, position_or_len}
 use Rattle.std.specs.Str.{bytes_eq}
@@ -262,11 +263,13 @@ module _ (folder : Folder) (reads : Reads) (kind : Kind) (service : Option (List
   -- rules, as the code stores them
   pub file-walked : (on : Bool) (n n' : Count) (i i' : Items) (trail : List ℕ) (file : ℕ) (rules slice : List KeptRule) →
       in_file file (of_kind kind (reads file)) ≡ Ok (map kept_view rules) → slice ≡ rules →
-      Passes on n i (rules_walk folder reads kind service (deeper folder reads kind service (MAX_OPEN_FILES - length trail)) trail file (map kept_view slice)) n' i' →
+      Passes on n i (rules_walk folder reads kind service (deeper folder reads kind service (MAX_OPEN_FILES - length trail)) trail file
+      (map kept_view slice)) n' i' →
       Passes on n i (walk folder reads kind service (MAX_OPEN_FILES - length trail) trail file) n' i'
   file-walked on n n' i i' trail file rules slice read same p =
       rw (walk-kept (MAX_OPEN_FILES - length trail) trail file (map kept_view rules) read)
-      (subst (λ (rs : List KeptRule). Passes on n i (rules_walk folder reads kind service (deeper folder reads kind service (MAX_OPEN_FILES - length trail)) trail file
+      (subst (λ (rs : List KeptRule). Passes on n i (rules_walk folder reads kind service (deeper folder reads kind service
+      (MAX_OPEN_FILES - length trail)) trail file
       (map kept_view rs)) n' i') same p)
 
   pub file-rules_refused : (on : Bool) (n n' : Count) (trail : List ℕ) (file : ℕ) (rules slice : List KeptRule) (e : ConfError) →
@@ -275,7 +278,8 @@ module _ (folder : Folder) (reads : Reads) (kind : Kind) (service : Option (List
       n' e → Refuses on n (walk folder reads kind service (MAX_OPEN_FILES - length trail) trail file) n' e
   file-rules_refused on n n' trail file rules slice e read same r =
       rw (walk-kept (MAX_OPEN_FILES - length trail) trail file (map kept_view rules) read)
-      (subst (λ (rs : List KeptRule). Refuses on n (rules_walk folder reads kind service (deeper folder reads kind service (MAX_OPEN_FILES - length trail)) trail file
+      (subst (λ (rs : List KeptRule). Refuses on n (rules_walk folder reads kind service (deeper folder reads kind service
+      (MAX_OPEN_FILES - length trail)) trail file
       (map kept_view rs)) n' e) same r)
 
   read_refused : (on : Bool) (n : Count) (d : Deeper) (trail : List ℕ) (file : ℕ) (r : Result (List RuleText) RuleFault) (e : ConfError) →
@@ -304,9 +308,11 @@ walk_of folder reads kind service trail file rules =
     rules_walk folder reads kind service (deeper folder reads kind service (MAX_OPEN_FILES - length trail)) trail file (map kept_view rules)
 
 -- the rules that are left: the next one, and those after it
-pub walk-more : (folder : Folder) (reads : Reads) (kind : Kind) (service : Option (List ℕ)) (trail : List ℕ) (file : ℕ) (rules : List KeptRule) (k : ℕ) (r : KeptRule) →
+pub walk-more : (folder : Folder) (reads : Reads) (kind : Kind) (service : Option (List ℕ)) (trail : List ℕ) (file : ℕ) (rules : List KeptRule)
+    (k : ℕ) (r : KeptRule) →
     k < length rules → r ≡ get_or rules k r →
-    walk_of folder reads kind service trail file (drop k rules) ≡ rule_walk folder reads kind service (deeper folder reads kind service (MAX_OPEN_FILES - length trail)) trail
+    walk_of folder reads kind service trail file (drop k rules) ≡ rule_walk folder reads kind service (deeper folder reads kind service
+    (MAX_OPEN_FILES - length trail)) trail
     file (kept_view r) then walk_of folder reads kind service trail file (drop (k + 1) rules)
 walk-more folder reads kind service trail file rules k r within is =
     let next : drop k rules ≡ r ∷ drop (k + 1) rules = rw add-one (drop-cons rules k r within ∙ ap (λ (x : KeptRule). x ∷ drop (suc k) rules) (sym is)) in

@@ -1,11 +1,12 @@
 -- Laws of the definitions, in the words of pam.conf(5).
-use Rattle.std.specs.Prelude.{◌≡◌, ◌↔◌, ◌-◌, ◌==◌, ◌≤◌, ℕ, nat_lt, false, List, [], ◌∷◌, length, if◌then◌else◌, Option, Some, None, Ok, Err}
+use Rattle.std.specs.Prelude.{All, ◌≡◌, ◌↔◌, ◌-◌, ◌==◌, ◌≤◌, ℕ, nat_lt, false, List, [], ◌∷◌, length, if◌then◌else◌, Option, Some, None, Ok, Err}
 use Rattle.std.specs.List.{list_any}
 use Rattle.pam_conf.specs.FileRules.{good_rules, own_faults, unless_faulty}
 use Rattle.pam_conf.specs.Files.{Folder}
 use Rattle.pam_conf.specs.Lines.{rules_of}
 use Rattle.pam_conf.specs.Resolution.{items_or_fault, resolved, stack_from}
 use Rattle.pam_conf.specs.Stack.{IsNumbered, Items, depth, module_count}
+use Rattle.pam_conf.specs.Survey.{SurveyText, faults_at, surveyed}
 use Rattle.pam_conf.specs.Walk.{Deeper, Reads, Walk, file_walk, rules_at, target_walk, walk}
 use Rattle.pam_conf.specs.Words.{IsSplit, words_of}
 use Rattle.pam_conf.specs.declared.error.FaultKind.TheVariants.{TooDeep}
@@ -62,3 +63,14 @@ IsStack items = IsNumbered items × (module_count items ≤ MAX_MODULES) × (dep
 -- the items of a service are such a stack
 abbrev pub ResolvedIsStack : Type 0
 ResolvedIsStack = (folder : Folder) (service : List ℕ) (kind : Kind) (items : Items) → resolved folder service kind ≡ Ok items → IsStack items
+
+-- THE STACK AND THE SURVEY OF A SERVICE
+
+-- a survey without a fault, of the walk and of each file that it reached
+abbrev pub IsSound : Folder → SurveyText → Type 0
+IsSound folder survey = (survey.faults ≡ []) × All (λ file. faults_at folder file ≡ []) survey.reached
+
+-- a service has a stack if and only if its survey has no fault, and then it is the survey's
+abbrev pub StackIsSoundSurvey : Type 0
+StackIsSoundSurvey = (folder : Folder) (service : List ℕ) (kind : Kind) (items : Items) →
+    (resolved folder service kind ≡ Ok items) ↔ (((surveyed folder service kind).items ≡ Some items) × IsSound folder (surveyed folder service kind))

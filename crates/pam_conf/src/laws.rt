@@ -1,6 +1,7 @@
 //! Laws of the definitions that the contracts cite: each is the contract of an empty function.
 
-ghost use Rattle.pam_conf.specs.Laws.{DeepWhereAllAreOpen, FirstFaultOrRules, ResolvedIsStack, StackBeginsATrail, WalkFollowsItsTrail, WordsAreOneSplit};
+ghost use Rattle.pam_conf.specs.Laws.{DeepWhereAllAreOpen, FirstFaultOrRules, ResolvedIsStack, StackBeginsATrail};
+ghost use Rattle.pam_conf.specs.Laws.{StackIsSoundSurvey, WalkFollowsItsTrail, WordsAreOneSplit};
 
 /// A line has words if and only if it can be written as blanks and spellings of words, and then in only one way.
 pub fn words_are_one_split()
@@ -24,4 +25,10 @@ pub fn room_and_trail()
 /// `MAX_OPEN_FILES` of its lists are open at once.
 pub fn resolved_stack()
     ensures { ResolvedIsStack }
+{}
+
+/// A service has a stack if and only if its survey has no fault, neither of the walk nor of a file that the walk reached. It is
+/// then the survey's stack.
+pub fn stack_is_sound_survey()
+    ensures { StackIsSoundSurvey }
 {}

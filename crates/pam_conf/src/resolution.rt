@@ -162,7 +162,8 @@ fn folder_stack(
     service: &[u8],
     kind: Kind,
 ) -> Result<Stack, ConfError>
-    ensures { Gives ErrorTells (λ s. s) result (from_starts files.now kind (start_in Dir files.now (rules_at files.now) service.now) (start_in Dir files.now (rules_at files.now) (codes "other"))) }
+    ensures { Gives ErrorTells (λ s. s) result (from_starts files.now kind (start_in Dir files.now (rules_at files.now) service.now)
+        (start_in Dir files.now (rules_at files.now) (codes "other"))) }
 {
     let mut progress = Progress::new(alloc, files, kind)?;
     let own = folder_start(files, service);

@@ -180,7 +180,8 @@ impl Walker<'_> {
         requires within { file < length self.now.files.now.entries }
         ensures table { OnOk result (HasRules self.now.files.now self.now.kind self.now.read progress.new.table.items) }
         ensures walked { Walks (is_some self.now.read) (count_of progress.old) (items_of items.old.items)
-            (walk self.now.files.now (reads_by self.now.files.now self.now.read) self.now.kind (option_map (λ s. s.now) self.now.service) (MAX_OPEN_FILES - length trail.now) trail.now file)
+            (walk self.now.files.now (reads_by self.now.files.now self.now.read) self.now.kind (option_map (λ s. s.now) self.now.service)
+            (MAX_OPEN_FILES - length trail.now) trail.now file)
             (count_of progress.new) (items_of items.new.items) result }
     {
         match self.read {
@@ -208,7 +209,8 @@ impl Walker<'_> {
         requires within { file < length self.now.files.now.entries }
         ensures table { OnOk result (HasRules self.now.files.now self.now.kind self.now.read progress.new.table.items) }
         ensures walked { Walks (is_some self.now.read) (count_of progress.old) (items_of items.old.items)
-            (walk self.now.files.now (reads_by self.now.files.now self.now.read) self.now.kind (option_map (λ s. s.now) self.now.service) (MAX_OPEN_FILES - length trail.now) trail.now file)
+            (walk self.now.files.now (reads_by self.now.files.now self.now.read) self.now.kind (option_map (λ s. s.now) self.now.service)
+            (MAX_OPEN_FILES - length trail.now) trail.now file)
             (count_of progress.new) (items_of items.new.items) result }
     {
         let rules = self.take_rules(&mut progress.table, file)?;
@@ -228,10 +230,12 @@ impl Walker<'_> {
     ) -> Result<(), ConfError>
         requires table { HasRules self.now.files.now self.now.kind self.now.read progress.old.table.items }
         requires within { file < length self.now.files.now.entries }
-        requires read { IsRead self.now.files.now (reads_by self.now.files.now self.now.read) self.now.kind (option_map (λ s. s.now) self.now.service) file (option_map (λ r. r.now) read) }
+        requires read { IsRead self.now.files.now (reads_by self.now.files.now self.now.read) self.now.kind
+            (option_map (λ s. s.now) self.now.service) file (option_map (λ r. r.now) read) }
         ensures table { OnOk result (HasRules self.now.files.now self.now.kind self.now.read progress.new.table.items) }
         ensures walked { Walks (is_some self.now.read) (count_of progress.old) (items_of items.old.items)
-            (walk self.now.files.now (reads_by self.now.files.now self.now.read) self.now.kind (option_map (λ s. s.now) self.now.service) (MAX_OPEN_FILES - length trail.now) trail.now file)
+            (walk self.now.files.now (reads_by self.now.files.now self.now.read) self.now.kind (option_map (λ s. s.now) self.now.service)
+            (MAX_OPEN_FILES - length trail.now) trail.now file)
             (count_of progress.new) (items_of items.new.items) result }
     {
         match read {
@@ -327,7 +331,8 @@ impl Walker<'_> {
         ensures found { IfOk result (λ p. (position_of target.now self.now.files.now.entries ≡ Some p) × (list_any (λ q. q == p) trail.now ≡ false)
             × (MAX_OPEN_FILES - length trail.now ≡ 0 → ⊥)) }
         ensures fault { IfErr result (λ fault. target_walk (deeper self.now.files.now (reads_by self.now.files.now self.now.read) self.now.kind
-            (option_map (λ s. s.now) self.now.service) (MAX_OPEN_FILES - length trail.now)) trail.now (position_of target.now self.now.files.now.entries) ≡ Err fault) }
+            (option_map (λ s. s.now) self.now.service) (MAX_OPEN_FILES - length trail.now)) trail.now
+            (position_of target.now self.now.files.now.entries) ≡ Err fault) }
         ensures own { IfErr result (λ fault. fault ≡ FaultKind.Memory → ⊥) }
     {
         let Some(position) = self.files.find(target) else {
@@ -364,7 +369,8 @@ impl Walker<'_> {
     ) -> Result<Option<usize>, ConfError>
         requires table { HasRules self.now.files.now self.now.kind self.now.read progress.old.table.items }
         ensures table { OnOk result (HasRules self.now.files.now self.now.kind self.now.read progress.new.table.items) }
-        ensures walked { let found = target_walk (deeper self.now.files.now (reads_by self.now.files.now self.now.read) self.now.kind (option_map (λ s. s.now) self.now.service)
+        ensures walked { let found = target_walk (deeper self.now.files.now (reads_by self.now.files.now self.now.read) self.now.kind
+            (option_map (λ s. s.now) self.now.service)
             (MAX_OPEN_FILES - length trail.now)) trail.now (position_of target.now self.now.files.now.entries) in
             MatchResult result
             (λ o. MatchOption o

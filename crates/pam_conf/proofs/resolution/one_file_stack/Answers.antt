@@ -13,7 +13,8 @@ use Rattle.pam_conf.proofs.resolution.one_file_stack.Goals as goal
 pub returns-in_err-rules : goal.returns-in_err-rules
 returns-in_err-rules c =
     let p = err_from_is_err_and c.from_residual.result c.from_residual.ensures.1 in
-    rw (p.1, p.2) (lemmas.one-file_fault c.args.files.now c.args.kind c.args.service.now (start_in Single c.args.files.now (rules_at c.args.files.now) (codes "other")) c.in-Some.file
+    rw (p.1, p.2) (lemmas.one-file_fault c.args.files.now c.args.kind c.args.service.now (start_in Single c.args.files.now (rules_at c.args.files.now)
+    (codes "other")) c.in-Some.file
     c.in_err-rules.field-0.0 (sym c.in-Some.ensures) _ c.in_err-rules.ensures)
 
 pub stack_of_starts-requires-clause-own_read : goal.stack_of_starts-requires-clause-own_read

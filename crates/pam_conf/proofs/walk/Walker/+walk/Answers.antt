@@ -24,7 +24,8 @@ service_of s = option_map (λ b. b.now) s
 pub follow-returns-in-Err-clause-walked : goal.follow-returns-in-Err-clause-walked
 follow-returns-in-Err-clause-walked t c =
     lemmas.meets c.args.self.now.files.now (reads_by c.args.self.now.files.now c.args.self.now.read) c.args.self.now.kind
-    (service_of c.args.self.now.service) (is_some c.args.self.now.read) (count_of c.args.progress.now) (items_of c.args.items.now.items) c.args.at.file c.args.at.line
+    (service_of c.args.self.now.service) (is_some c.args.self.now.read) (count_of c.args.progress.now)
+    (items_of c.args.items.now.items) c.args.at.file c.args.at.line
     _ c.in-Err.kind c.fault.result c.meet.result c.meet.new.noted.items
     c.in-Err.ensures.fault c.fault.ensures c.meet.ensures.noted c.meet.ensures.ended
 
@@ -93,8 +94,10 @@ walk_unread-returns-in_err-walk_rules-clause-walked t c =
     let p = err_from_is_err_and c.from_residual-in_err-walk_rules.result c.from_residual-in_err-walk_rules.ensures.1 in
     rw (p.1, p.2) (lemmas.file-rules_refused c.args.self.now.files.now (reads_by c.args.self.now.files.now c.args.self.now.read) c.args.self.now.kind
     (service_of c.args.self.now.service) (is_some c.args.self.now.read)
-    (count_of c.args.progress.now) (count_of c.walk_rules.new.progress) c.args.trail.now c.args.file c.in_ok-rules.rules.items c.as_slice.result.now c.in_err-walk_rules.field-0.0
-    (unread-rules _ _ c.args.self.now.kind c.args.file _ c.requires.unread c.in_ok-rules.ensures.rules) c.as_slice.ensures.value c.in_err-walk_rules.ensures.walked)
+    (count_of c.args.progress.now) (count_of c.walk_rules.new.progress) c.args.trail.now c.args.file c.in_ok-rules.rules.items c.as_slice.result.now
+    c.in_err-walk_rules.field-0.0
+    (unread-rules _ _ c.args.self.now.kind c.args.file _ c.requires.unread c.in_ok-rules.ensures.rules) c.as_slice.ensures.value
+    c.in_err-walk_rules.ensures.walked)
 
 pub walk_unread-returns-clause-table : goal.walk_unread-returns-clause-table
 walk_unread-returns-clause-table t c =
@@ -110,7 +113,8 @@ walk_unread-returns-clause-walked t c =
     (service_of c.args.self.now.service) (is_some c.args.self.now.read)
     (count_of c.args.progress.now) (count_of c.walk_rules.new.progress) (items_of c.args.items.now.items)
     (items_of c.walk_rules.new.items.items) c.args.trail.now c.args.file c.in_ok-rules.rules.items c.as_slice.result.now
-    (unread-rules _ _ c.args.self.now.kind c.args.file _ c.requires.unread c.in_ok-rules.ensures.rules) c.as_slice.ensures.value c.in_ok-walk_rules.ensures.walked
+    (unread-rules _ _ c.args.self.now.kind c.args.file _ c.requires.unread c.in_ok-rules.ensures.rules) c.as_slice.ensures.value
+    c.in_ok-walk_rules.ensures.walked
 
 -- A RULE
 
@@ -125,7 +129,8 @@ pub walk_rule-returns-then-progress-eq-MAX_MODULES-clause-walked : goal.walk_rul
 walk_rule-returns-then-progress-eq-MAX_MODULES-clause-walked t c =
     rules.rule-full c.args.self.now.files.now (reads_by c.args.self.now.files.now c.args.self.now.read) c.args.self.now.kind
     (service_of c.args.self.now.service) _ c.args.trail.now c.args.file
-    (kept_view c.args.rule.now) (sym c.counts.ensures ∙ c.if-not-counts.false) (is_some c.args.self.now.read) (count_of c.args.progress.now) _ _ _ c.fault.result
+    (kept_view c.args.rule.now) (sym c.counts.ensures ∙ c.if-not-counts.false) (is_some c.args.self.now.read)
+    (count_of c.args.progress.now) _ _ _ c.fault.result
     (ap kept_body c.in-Module.is) c.if-progress-eq-MAX_MODULES.true c.fault.ensures
 
 pub walk_rule-follow-requires : goal.walk_rule-follow-requires
@@ -137,7 +142,8 @@ walk_rule-returns-in_err-follow-in-Include-clause-walked t c =
     rw (p.1, p.2) (rules.rule-include_refused c.args.self.now.files.now (reads_by c.args.self.now.files.now c.args.self.now.read) c.args.self.now.kind
     (service_of c.args.self.now.service) _ c.args.trail.now
     c.args.file (kept_view c.args.rule.now) (sym c.counts.ensures ∙ c.if-not-counts.false) (is_some c.args.self.now.read) (count_of c.args.progress.now)
-    (count_of c.follow.new.progress) c.as_slice.result.now c.in_err-follow-in-Include.field-0.0 (ap kept_body c.in-Include.is ∙ ap Include (sym c.as_slice.ensures.value))
+    (count_of c.follow.new.progress) c.as_slice.result.now c.in_err-follow-in-Include.field-0.0 (ap kept_body c.in-Include.is ∙ ap Include
+    (sym c.as_slice.ensures.value))
     c.in_err-follow-in-Include.ensures.walked)
 
 pub walk_rule-follow-requires-in-Sub : goal.walk_rule-follow-requires-in-Sub
@@ -149,7 +155,8 @@ walk_rule-returns-in_err-found-in-Sub-clause-walked t c =
     rw (p.1, p.2) (rules.rule-sub_refused c.args.self.now.files.now (reads_by c.args.self.now.files.now c.args.self.now.read) c.args.self.now.kind
     (service_of c.args.self.now.service) _ c.args.trail.now c.args.file
     (kept_view c.args.rule.now) (sym c.counts.ensures ∙ c.if-not-counts.false) (is_some c.args.self.now.read) (count_of c.args.progress.now)
-    (count_of c.follow-in-Sub.new.progress) c.as_slice-in-Sub.result.now c.in_err-found-in-Sub.field-0.0 (ap kept_body c.in-Sub.is ∙ ap Sub (sym c.as_slice-in-Sub.ensures.value))
+    (count_of c.follow-in-Sub.new.progress) c.as_slice-in-Sub.result.now c.in_err-found-in-Sub.field-0.0 (ap kept_body c.in-Sub.is ∙ ap Sub
+    (sym c.as_slice-in-Sub.ensures.value))
     c.in_err-found-in-Sub.ensures.walked)
 
 pub walk_rule-returns-in_ok-push-in-Module-clause-walked : goal.walk_rule-returns-in_ok-push-in-Module-clause-walked
@@ -164,7 +171,8 @@ walk_rule-returns-in_ok-push-in-Module-clause-walked t c =
 
 pub walk_rule-returns-in_default-clause-walked : goal.walk_rule-returns-in_default-clause-walked
 walk_rule-returns-in_default-clause-walked t c =
-    rules.rule-sub_fails c.args.self.now.files.now (reads_by c.args.self.now.files.now c.args.self.now.read) c.args.self.now.kind (service_of c.args.self.now.service) _ c.args.trail.now c.args.file
+    rules.rule-sub_fails c.args.self.now.files.now (reads_by c.args.self.now.files.now c.args.self.now.read) c.args.self.now.kind
+    (service_of c.args.self.now.service) _ c.args.trail.now c.args.file
     (kept_view c.args.rule.now) (sym c.counts.ensures ∙ c.if-not-counts.false) (is_some c.args.self.now.read) (count_of c.args.progress.now)
     (count_of c.follow-in-Sub.new.progress) c.as_slice-in-Sub.result.now (items_of c.args.items.now.items) (items_of c.args.items.now.items)
     (items_of c.new-inner.result.items) (items_of c.follow-in-Sub.new.items.items)
@@ -173,7 +181,8 @@ walk_rule-returns-in_default-clause-walked t c =
 
 pub walk_rule-returns-in_ok-push-in-Sub-clause-walked : goal.walk_rule-returns-in_ok-push-in-Sub-clause-walked
 walk_rule-returns-in_ok-push-in-Sub-clause-walked t c =
-    rules.rule-sub c.args.self.now.files.now (reads_by c.args.self.now.files.now c.args.self.now.read) c.args.self.now.kind (service_of c.args.self.now.service) _ c.args.trail.now c.args.file
+    rules.rule-sub c.args.self.now.files.now (reads_by c.args.self.now.files.now c.args.self.now.read) c.args.self.now.kind
+    (service_of c.args.self.now.service) _ c.args.trail.now c.args.file
     (kept_view c.args.rule.now) (sym c.counts.ensures ∙ c.if-not-counts.false) (is_some c.args.self.now.read) (count_of c.args.progress.now)
     (count_of c.follow-in-Sub.new.progress) c.as_slice-in-Sub.result.now (items_of c.args.items.now.items) (items_of c.push-in-Sub.new.self.items)
     (items_of c.new-inner.result.items) (items_of c.follow-in-Sub.new.items.items) c.in-Some.target
@@ -195,17 +204,20 @@ walk_rules-walk_rule-requires t c = (omega arith, c.loop-rule.invariant.table)
 pub walk_rules-returns-in_err-walk_rule-clause-walked : goal.walk_rules-returns-in_err-walk_rule-clause-walked
 walk_rules-returns-in_err-walk_rule-clause-walked t c =
     let p = err_from_is_err_and c.from_residual.result c.from_residual.ensures.1 in
-    rw (p.1, p.2) (lemmas.leads-refused (is_some c.args.self.now.read) (count_of c.args.progress.now) (count_of c.loop-rule.progress) (count_of c.walk_rule.new.progress)
+    rw (p.1, p.2) (lemmas.leads-refused (is_some c.args.self.now.read) (count_of c.args.progress.now) (count_of c.loop-rule.progress)
+    (count_of c.walk_rule.new.progress)
     (items_of c.args.items.now.items) (items_of c.loop-rule.items.items)
     (lemmas.walk_of c.args.self.now.files.now (reads_by c.args.self.now.files.now c.args.self.now.read) c.args.self.now.kind
     (service_of c.args.self.now.service) c.args.trail.now c.args.file c.args.rules.now)
     (lemmas.walk_of c.args.self.now.files.now (reads_by c.args.self.now.files.now c.args.self.now.read) c.args.self.now.kind
     (service_of c.args.self.now.service) c.args.trail.now c.args.file
-    (drop c.loop-rule.rule-index c.args.rules.now)) (rule_walk c.args.self.now.files.now (reads_by c.args.self.now.files.now c.args.self.now.read) c.args.self.now.kind
+    (drop c.loop-rule.rule-index c.args.rules.now)) (rule_walk c.args.self.now.files.now
+    (reads_by c.args.self.now.files.now c.args.self.now.read) c.args.self.now.kind
     (service_of c.args.self.now.service)
     (deeper c.args.self.now.files.now (reads_by c.args.self.now.files.now c.args.self.now.read) c.args.self.now.kind
     (service_of c.args.self.now.service) (MAX_OPEN_FILES - length c.args.trail.now)) c.args.trail.now
-    c.args.file (kept_view c.rule-item.result)) (lemmas.walk_of c.args.self.now.files.now (reads_by c.args.self.now.files.now c.args.self.now.read) c.args.self.now.kind
+    c.args.file (kept_view c.rule-item.result)) (lemmas.walk_of c.args.self.now.files.now
+    (reads_by c.args.self.now.files.now c.args.self.now.read) c.args.self.now.kind
     (service_of c.args.self.now.service)
     c.args.trail.now c.args.file (drop (c.loop-rule.rule-index + 1) c.args.rules.now)) c.in_err-walk_rule.field-0.0 c.loop-rule.invariant.leads
     (lemmas.walk-more c.args.self.now.files.now (reads_by c.args.self.now.files.now c.args.self.now.read) c.args.self.now.kind
