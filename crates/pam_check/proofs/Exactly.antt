@@ -1,6 +1,5 @@
 -- Lists of numbers that rise strictly.
-use Rattle.std.proofs.Common.{◌≡◌, ℕ, ◌+◌, ◌<◌, ◌≤◌, Bool, true, false, filter, List, [], ◌∷◌, ◌++◌, refl, sym, ◌∙◌, ap, subst, inl, inr, arith, suc, zero}
-use Rattle.std.proofs.Common.{cond}
+use Rattle.std.proofs.Common.{◌≡◌, ℕ, ◌+◌, ◌<◌, ◌≤◌, Bool, filter, List, [], ◌∷◌, ◌++◌, refl, sym, ◌∙◌, ap, subst, inl, inr, arith, suc, zero}
 use Rattle.std.proofs.lemmas.Bool.{cond_both}
 use Rattle.std.specs.List.{range_with_len}
 use Rattle.pam_conf.specs.Stack.{Items, End, ThenModule, ThenSub, IsNumberedFrom, ModuleText, module_count}
@@ -8,7 +7,7 @@ use Rattle.pam_conf.proofs.StackTree.{numbered-module_parts, numbered-sub_parts}
 use Rattle.pam_dispatch.specs.Tree.{count}
 use Rattle.pam_paths.specs.Classes.{Member}
 use Rattle.pam_check.specs.Asked.{RiseAbove}
-use Rattle.pam_check.specs.Laws.{ExactNumbersAreOne}
+use Rattle.pam_check.specs.Laws.{RisingListsAreOne}
 use Rattle.pam_check.specs.PastEnd.{numbers_where}
 use Rattle.pam_check.proofs.Placed.{placed-range, where-passing}
 
@@ -88,8 +87,5 @@ same-members low high (x ∷ xs) (y ∷ ys) rx ry to back =
     others x y z xs ys rx e i (inl f) = let one = above-all x z xs rx i in absurd (omega (arith, one, e, f))
     others x y z xs ys rx e i (inr j) = j
 
-pub exact_numbers : ExactNumbersAreOne
-exact_numbers Holds one other a b =
-    same-members 0 0 one other a.rising b.rising
-    (λ x i. (b.members x).1 ((a.members x).0 i))
-    (λ x i. (a.members x).1 ((b.members x).0 i))
+pub rising_lists : RisingListsAreOne
+rising_lists one other a b same = same-members 0 0 one other a b (λ x i. (same x).0 i) (λ x i. (same x).1 i)

@@ -1,5 +1,5 @@
 -- What the definitions imply.
-use Rattle.std.proofs.Common.{◌≡◌, ◌⊎◌, ℕ, Bool, true, false, None, Option, Some, not, refl, sym, ◌∙◌, ap, subst, inl, inr}
+use Rattle.std.proofs.Common.{◌≡◌, ◌⊎◌, Bool, true, false, None, Some, not, refl, sym, ◌∙◌, ap, subst, inl, inr}
 use Rattle.std.proofs.lemmas.Bool.{false≢true}
 use Rattle.std.specs.List.{list_any}
 use Rattle.pam_conf.specs.Stack.{Items, module_count}
@@ -13,7 +13,7 @@ use Rattle.pam_paths.specs.Paths.{PathValue, Precedes, key}
 use Rattle.pam_paths.proofs.Listings.{Precedes-irreflexive, Precedes-trans, listing-is, some_assignment}
 use Rattle.pam_paths.proofs.Trees.{listing-tree}
 use Rattle.pam_check.specs.Laws.{FirstWayInIsOne, JumpingIsAsked, MoreAllowedLetsIn, SomebodyOrNobody, SoundStack}
-use Rattle.pam_check.specs.Soundness.{IsFirstWayIn, LetsIn, LetsNobodyIn, SaysNobody, SaysWayIn}
+use Rattle.pam_check.specs.Soundness.{IsFirstWayIn, LetsIn, LetsNobodyIn, SaysNobody}
 use Rattle.pam_check.proofs.WaysIn.{path-decides, says-nobody, success_goal}
 
 pub more_allowed : MoreAllowedLetsIn

@@ -7,6 +7,7 @@ pub mod Passing
 pub mod Placed
 pub mod Reaching
 pub mod Reasons
+pub mod Unmarked
 pub mod Walked
 pub mod Walking
 pub mod WaysIn

@@ -1,5 +1,5 @@
 -- Marks of the modules that the nodes of a graph ask.
-use Rattle.std.proofs.Common.{◌≡◌, ℕ, ◌<◌, Bool, true, false, List, sym, ◌∙◌, subst}
+use Rattle.std.proofs.Common.{◌≡◌, ℕ, Bool, true, false, List, sym, ◌∙◌, subst}
 use Rattle.std.proofs.lemmas.Bool.{false≢true}
 use Rattle.pam_conf.specs.Stack.{Items, module_count}
 use Rattle.pam_dispatch.specs.declared.flat_item.FlatItem.{FlatItem}

@@ -1,5 +1,5 @@
 -- The modules that are never asked, and those that jump past the end of their lists.
-use Rattle.std.proofs.Common.{◌≡◌, ℕ, ◌+◌, ◌<◌, ◌≤◌, Bool, true, false, not, ◌&&◌, filter, List, refl, sym, ◌∙◌, ap, subst, arith}
+use Rattle.std.proofs.Common.{◌≡◌, ℕ, ◌+◌, ◌<◌, Bool, true, false, not, ◌&&◌, filter, List, refl, sym, ◌∙◌, ap, subst, arith}
 use Rattle.std.proofs.lemmas.Bool.{and_from, and_parts, false≢true}
 use Rattle.std.specs.List.{range_with_len}
 use Rattle.pam_codes.specs.Code.{all_codes}
@@ -7,7 +7,6 @@ use Rattle.pam_codes.specs.declared.action.Action.{Action}
 use Rattle.pam_codes.specs.Set.{codes_where, is_in}
 use Rattle.pam_codes.specs.SetBits.{is_in-codes_where}
 use Rattle.pam_conf.specs.Stack.{Items, IsNumbered, IsNumberedFrom, ModuleText, module_count}
-use Rattle.pam_dispatch.specs.Runs.{Ask}
 use Rattle.pam_dispatch.specs.State.{action_of, start_state}
 use Rattle.pam_paths.specs.Classes.{Member}
 use Rattle.pam_paths.specs.Listing.{Allowance, IsLawful}
@@ -16,7 +15,7 @@ use Rattle.pam_check.specs.Asked.{AreExactly, Asks, IsNeverAsked, JumpsPastEnd, 
 use Rattle.pam_check.specs.Marks.{AreMarks, SaysAsked, mark_of}
 use Rattle.pam_check.specs.PastEnd.{can_pass, numbers_where, passes}
 use Rattle.pam_check.proofs.Exactly.{range-rises, where-rises}
-use Rattle.pam_check.proofs.Placed.{Passing, PlacedAsk, asked-placed, passing-where, placed-one, placed-range, where-passing}
+use Rattle.pam_check.proofs.Placed.{Passing, asked-placed, passing-where, placed-one, placed-range, where-passing}
 
 not-true : (t : Bool) → not t ≡ true → t ≡ false
 not-true true h = absurd (false≢true h)

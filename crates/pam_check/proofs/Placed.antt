@@ -1,8 +1,7 @@
 -- The modules of a stack, each with the number of items after it in its list.
-use Rattle.std.proofs.Common.{◌≡◌, ℕ, ◌+◌, ◌-◌, ◌<◌, ◌≤◌, Bool, true, false, List, [], ◌∷◌, ◌++◌, refl, sym, ◌∙◌, ap, subst, inl, inr, arith, suc, zero}
+use Rattle.std.proofs.Common.{◌≡◌, ℕ, ◌+◌, ◌-◌, ◌<◌, ◌≤◌, Bool, true, List, [], ◌∷◌, refl, sym, ◌∙◌, ap, subst, inl, inr, arith, suc, zero}
 use Rattle.std.proofs.Common.{cond}
 use Rattle.std.proofs.lemmas.Bool.{cond_both, cond-true}
-use Rattle.pam_codes.specs.declared.action.Action.{Action}
 use Rattle.pam_conf.specs.Stack.{Items, End, ThenModule, ThenSub, IsNumberedFrom, ModuleText, module_count}
 use Rattle.pam_conf.proofs.StackTree.{numbered-module_parts, numbered-sub_parts}
 use Rattle.pam_dispatch.specs.declared.state.State.{State}

@@ -1,16 +1,15 @@
 -- From the places of a graph's nodes to answers that lead there.
-use Rattle.std.proofs.Common.{◌≡◌, ℕ, ◌<◌, ◌≤◌, Bool, true, false, List, [], ◌∷◌, Some, refl, sym, ◌∙◌, ap, subst, inl, inr, arith}
+use Rattle.std.proofs.Common.{◌≡◌, ℕ, ◌<◌, true, List, [], ◌∷◌, Some, refl, sym, ◌∙◌, ap, subst, inl, inr, arith}
 use Rattle.std.proofs.lemmas.Bool.{cases_eq, eqb-true, false≢true, or_cases}
 use Rattle.std.specs.Prelude.{◌==◌}
-use Rattle.pam_conf.specs.Stack.{Items, module_count}
+use Rattle.pam_conf.specs.Stack.{Items}
 use Rattle.pam_dispatch.specs.declared.flat_item.FlatItem.{FlatItem}
 use Rattle.pam_dispatch.specs.declared.key.PlaceKey.{PlaceKey}
 use Rattle.pam_dispatch.specs.declared.place.Place.{Place}
 use Rattle.pam_dispatch.specs.Flat.{IsPlaceOf, modules_of, rest_of, runs_of}
 use Rattle.pam_dispatch.specs.Keys.{first_states, key_of, rest_at}
-use Rattle.pam_dispatch.specs.Runs.{Ask, Assignment, AsksRise, Runs, after_answer, asked_by, asked_module, asks, ends, outcome_of}
-use Rattle.pam_dispatch.specs.State.{start_state}
-use Rattle.pam_dispatch.specs.Tree.{asked, runs_of_stack}
+use Rattle.pam_dispatch.specs.Runs.{Ask, Assignment, AsksRise, Runs, asked_by, asked_module, asks, ends, outcome_of}
+use Rattle.pam_dispatch.specs.Tree.{asked}
 use Rattle.pam_dispatch.proofs.OpenRuns.{asked_by-runs_of_stack}
 use Rattle.pam_dispatch.proofs.Places.{place_module}
 use Rattle.pam_graph.specs.declared.node.Node.{Node}
@@ -20,8 +19,7 @@ use Rattle.pam_paths.specs.Classes.{Member}
 use Rattle.pam_paths.specs.Listing.{Allowance, IsAllowed}
 use Rattle.pam_paths.specs.Paths.{PathValue}
 use Rattle.pam_paths.proofs.Listings.{with_answer, with_answer-at, with_answer-other}
-use Rattle.pam_check.specs.Asked.{Asks}
-use Rattle.pam_check.specs.Marks.{AsksWith, IsProgramOf, asks_number, has_number}
+use Rattle.pam_check.specs.Marks.{AsksWith, IsProgramOf, has_number}
 
 -- an allowed answer in place of another
 changed-allowed : (allows : Allowance) (n m code : ℕ) (answers : Assignment) → IsAllowed allows n answers → code < 31 → allows m code ≡ true →

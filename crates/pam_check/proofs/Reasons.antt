@@ -1,5 +1,5 @@
 -- Why nothing is said of a stack.
-use Rattle.std.proofs.Common.{◌≡◌, List, inl, inr, subst}
+use Rattle.std.proofs.Common.{◌≡◌, List, inl, inr}
 use Rattle.pam_conf.specs.Stack.{Items}
 use Rattle.pam_dispatch.specs.declared.flat_item.FlatItem.{FlatItem}
 use Rattle.pam_dispatch.specs.Flat.{runs_of}

@@ -1,5 +1,5 @@
 -- The modules of a list of items that pass a test, one item after another.
-use Rattle.std.proofs.Common.{◌≡◌, ℕ, ◌+◌, ◌<◌, ◌≤◌, ◌||◌, Bool, true, false, List, [], ◌∷◌, ◌++◌, suc, refl, sym, ◌∙◌, ap, arith, cond, drop, length}
+use Rattle.std.proofs.Common.{◌≡◌, ℕ, ◌+◌, ◌<◌, ◌≤◌, Bool, List, [], ◌∷◌, ◌++◌, suc, refl, sym, ◌∙◌, ap, arith, cond, drop, length}
 use Rattle.std.proofs.Common.{append_assoc, append-nil, drop_of_length-le, get_or, length-drop}
 use Rattle.pam_conf.specs.declared.stack.Module.{Module}
 use Rattle.pam_conf.specs.declared.stack.Item.{Item}
@@ -8,8 +8,13 @@ use Rattle.pam_conf.specs.Stack.{Items, ModuleText, SubList}
 use Rattle.pam_conf.specs.ItemsOf.{items_of, module_text}
 use Rattle.pam_conf.proofs.StackTree.{items_of-drop_module, items_of-drop_sub}
 use Rattle.pam_dispatch.specs.Tree.{count}
-use Rattle.pam_dispatch.proofs.FlatLists.{count-items_of}
 use Rattle.pam_check.specs.PastEnd.{numbers_where}
+
+count-items_of : (items : List Item) → count (items_of items) ≡ length items
+unfolding count
+count-items_of [] = refl
+count-items_of (ModuleItem m ∷ items) = ap suc (count-items_of items)
+count-items_of (SubItem s ∷ items) = ap suc (count-items_of items)
 
 module _ (test : ModuleText → ℕ → Bool) where
   abbrev numbers_at : ModuleText → ℕ → List ℕ

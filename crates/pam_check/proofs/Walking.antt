@@ -1,10 +1,9 @@
 -- The steps of the walks of a graph ask the modules of its nodes.
-use Rattle.std.proofs.Common.{◌≡◌, ℕ, true, List, [], ◌∷◌, ◌++◌, refl, sym, ◌∙◌, ap, map, subst, inl, inr, slice_index_or, suc, zero}
+use Rattle.std.proofs.Common.{◌≡◌, ℕ, true, List, [], ◌∷◌, ◌++◌, refl, sym, ap, subst, inl, inr, slice_index_or, suc, zero}
 use Rattle.std.proofs.lemmas.Bool.{eq-eqb, or_left, or_right}
 use Rattle.std.specs.List.{flat_map}
 use Rattle.std.specs.Prelude.{◌==◌}
 use Rattle.pam_conf.specs.Stack.{Items, module_count}
-use Rattle.pam_dispatch.specs.Runs.{Ask}
 use Rattle.pam_dispatch.specs.State.{start_state}
 use Rattle.pam_dispatch.specs.Tree.{asked}
 use Rattle.pam_graph.specs.declared.node.Edge.{Edge}
@@ -48,9 +47,9 @@ module _ (Holds : ℕ → Type 0) where
   unfolding Member
   to-so known (At index) h = index-so known index h
   to-so known (End decision) h = λ walk member step among. elim member [
-        | inl e ↦ let none : Member step [] = subst (λ (p : PathValue). Member step p.steps) e among in absurd none
-        | inr i ↦ absurd i
-      ]
+    | inl e ↦ let none : Member step [] = subst (λ (p : PathValue). Member step p.steps) e among in absurd none
+    | inr i ↦ absurd i
+  ]
 
   by-so : (known : List (List PathValue)) (number : ℕ) (edge : Edge) → Holds number → All-so known → Ask-so (walks_by known number edge)
   unfolding Member
@@ -66,7 +65,7 @@ module _ (Holds : ℕ → Type 0) where
   edges-so : (known : List (List PathValue)) (number : ℕ) (edges : List Edge) → Holds number → All-so known →
       Ask-so (flat_map (walks_by known number) edges)
   edges-so known number [] here h = none-so
-  edges-so known number (edge ∷ edges) here h walk member step among =
+  edges-so known number (edge ∷ edges) here h = λ walk member step among.
       elim (Member-cases walk (walks_by known number edge) (flat_map (walks_by known number) edges) member) [
         | inl i ↦ by-so known number edge here h walk i step among
         | inr i ↦ edges-so known number edges here h walk i step among

@@ -14,9 +14,9 @@ use Rattle.pam_graph.specs.declared.goal.Goal.TheVariants.{Decides}
 use Rattle.pam_graph.specs.Goals.{meeting, meets}
 use Rattle.pam_paths.specs.Classes.{Member}
 use Rattle.pam_paths.specs.Listing.{Allowance, IsAllowed, IsListing}
-use Rattle.pam_paths.specs.Paths.{IsRising, PathValue, Precedes, PrecedesAll, key, path_through}
+use Rattle.pam_paths.specs.Paths.{IsRising, PathValue, Precedes, key, path_through}
 use Rattle.pam_paths.proofs.Listings.{PrecedesAll-at}
-use Rattle.pam_check.specs.Soundness.{IsFirstWayIn, LetsIn, LetsNobodyIn, SaysNobody, SaysWayIn}
+use Rattle.pam_check.specs.Soundness.{LetsIn, SaysNobody, SaysWayIn}
 
 -- ELEMENTS THAT PASS A TEST
 
@@ -49,9 +49,9 @@ found-later : (test : PathValue → Bool) (path : PathValue) (paths : List PathV
     Finds test paths found → Finds test (path ∷ paths) found
 unfolding Member
 found-later test path paths None fails h = λ q m t. elim m [
-      | inl e ↦ absurd (false≢true (sym fails ∙ sym (ap test e) ∙ t))
-      | inr i ↦ h q i t
-    ]
+  | inl e ↦ absurd (false≢true (sym fails ∙ sym (ap test e) ∙ t))
+  | inr i ↦ h q i t
+]
 found-later test path paths (Some p) fails h = record {
   member = inr h.member;
   passes = h.passes;

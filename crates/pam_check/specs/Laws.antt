@@ -1,12 +1,13 @@
 -- What the definitions imply.
-use Rattle.std.specs.Prelude.{◌≡◌, ◌⊎◌, ℕ, ◌<◌, ◌≤◌, true, false, List, Option, None}
+use Rattle.std.specs.Prelude.{◌≡◌, ◌⊎◌, ◌↔◌, ℕ, ◌≤◌, Bool, true, false, List, Option, None}
 use Rattle.pam_conf.specs.Stack.{Items, IsNumbered, module_count}
 use Rattle.pam_dispatch.specs.Runs.{Assignment}
 use Rattle.pam_dispatch.specs.State.{success}
 use Rattle.pam_dispatch.specs.Tree.{decided}
+use Rattle.pam_paths.specs.Classes.{Member}
 use Rattle.pam_paths.specs.Listing.{Allowance, IsAllowed, IsLawful}
 use Rattle.pam_paths.specs.Paths.{PathValue}
-use Rattle.pam_check.specs.Asked.{AreExactly, IsNeverAsked, JumpsPastEnd}
+use Rattle.pam_check.specs.Asked.{IsNeverAsked, JumpsPastEnd, RiseAbove}
 use Rattle.pam_check.specs.Soundness.{IsFirstWayIn, LetsIn, LetsNobodyIn, SaysNobody, SaysWayIn}
 
 -- one knowledge allows only what the other allows
@@ -35,10 +36,10 @@ SoundStack =
     SaysNobody free items nobody → SaysWayIn failing items way → nobody ≡ false → way ≡ None →
     LetsIn free items × ((answers : Assignment) → IsAllowed failing (module_count items) answers → decided items answers ≡ success → ⊥)
 
--- numbers of which exactly something holds are one list
-abbrev pub ExactNumbersAreOne : Type 0
-ExactNumbersAreOne =
-    (Holds : ℕ → Type 0) (one other : List ℕ) → AreExactly Holds one → AreExactly Holds other → one ≡ other
+-- lists that rise strictly and have the same members are equal: so there is one list of exactly the numbers of which something holds
+abbrev pub RisingListsAreOne : Type 0
+RisingListsAreOne =
+    (one other : List ℕ) → RiseAbove 0 one → RiseAbove 0 other → ((number : ℕ) → Member number one ↔ Member number other) → one ≡ other
 
 -- a module that jumps past the end of its list is one that is asked
 abbrev pub JumpingIsAsked : Type 0

@@ -1,5 +1,5 @@
 -- What a stack does to everybody, whatever its modules answer: pam.conf(5), DESCRIPTION.
-use Rattle.std.specs.Prelude.{◌≡◌, ◌⊎◌, ℕ, ◌≤◌, true, false, Bool, MatchOption, Option}
+use Rattle.std.specs.Prelude.{◌≡◌, ◌⊎◌, true, false, Bool, List, MatchOption, Option}
 use Rattle.pam_conf.specs.Stack.{Items, module_count}
 use Rattle.pam_dispatch.specs.declared.flat_item.FlatItem.{FlatItem}
 use Rattle.pam_dispatch.specs.Flat.{runs_of}

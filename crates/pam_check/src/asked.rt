@@ -64,11 +64,7 @@ fn marks_of(nodes: &[Node]) -> Marks
 
 impl Reached {
     /// What the runs that a knowledge allows come to.
-    pub(crate) fn of(
-        alloc: Global,
-        program: &Program,
-        known: &Known,
-    ) -> Result<Reached, GraphError>
+    pub(crate) fn of(alloc: Global, program: &Program, known: &Known) -> Result<Reached, GraphError>
         ensures nobody { (items : Items) → IsProgramOf program.now items → IfOk result (λ r. SaysNobody (may_answer known.now) items r.lets_nobody_in) }
         ensures asked { (items : Items) → IsProgramOf program.now items → IfOk result (λ r. AreMarks (may_answer known.now) items r.asked) }
         ensures reason { IfErr result (IsReason MAX_NODES (may_answer known.now) program.now) }

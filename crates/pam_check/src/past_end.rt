@@ -21,12 +21,8 @@ fn is_past_end(items_after: usize, action: Action) -> bool
 {
     match action {
         Action::Jump(items) => items_after < items as usize,
-        Action::Ignore
-        | Action::Ok
-        | Action::Done
-        | Action::Bad
-        | Action::Die
-        | Action::Reset => false,
+        Action::Ignore | Action::Ok | Action::Done | Action::Bad | Action::Die | Action::Reset =>
+            false,
     }
 }
 
@@ -49,7 +45,11 @@ fn passes(known: &Known, asked: &Marks, candidate: &Module, items_after: usize) 
     ensures { result ≡ passes (may_answer known.now) asked.now (module_text candidate.now) items_after }
 {
     is_marked(asked, candidate.number)
-        && can_pass(&candidate.control, known.allowed(candidate.number), items_after)
+        && can_pass(
+            &candidate.control,
+            known.allowed(candidate.number),
+            items_after,
+        )
 }
 
 /// Appends the number of `candidate` if it passes.

@@ -44,13 +44,13 @@ fn stack_of(alloc: Global, words: &[&str]) -> Result<Stack, Error> {
 /// The codes that a module may answer, where its checks `fail` if it has some; the empty set if it may answer every code.
 fn codes_of(path: &[u8], fail: bool) -> CodeSet {
     let mut codes = CodeSet::empty();
-    if path == b"pam_permit.so" {
+    if path == b"pam_permit.so".as_slice() {
         codes.insert(Code::SUCCESS);
     }
-    if path == b"pam_deny.so" {
+    if path == b"pam_deny.so".as_slice() {
         codes.insert(Code::from_name(b"auth_err").unwrap_or(Code::IGNORE));
     }
-    if path == b"pam_unix.so" && fail {
+    if path == b"pam_unix.so".as_slice() && fail {
         codes.insert(Code::SUCCESS);
         codes.insert(Code::NEW_AUTHTOK_REQD);
         codes.insert(Code::IGNORE);

@@ -1,5 +1,5 @@
 use Rattle.std.proofs.Common.{◌≡◌, ◌+◌, ◌-◌, length, ap, ◌∙◌, sym, arith}
-use Rattle.pam_conf.specs.Stack.{Items, SubList}
+use Rattle.pam_conf.specs.Stack.{SubList}
 use Rattle.pam_conf.specs.ItemsOf.{items_of}
 use Rattle.pam_paths.specs.Known.{may_answer}
 use Rattle.pam_check.specs.PastEnd.{passes}

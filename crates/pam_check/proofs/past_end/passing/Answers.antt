@@ -1,4 +1,5 @@
 use Rattle.std.proofs.Common.{◌∙◌, ◌++◌, List, ℕ, ap}
+use Rattle.pam_conf.specs.ItemsOf.{items_of}
 use Rattle.pam_conf.specs.Stack.{Items}
 use Rattle.pam_paths.specs.Known.{may_answer}
 use Rattle.pam_check.specs.PastEnd.{numbers_where, passes}
