@@ -1,5 +1,6 @@
 -- Whether one of some codes jumps past the end of a list, code by code.
-use Rattle.std.proofs.Common.{◌≡◌, ℕ, ◌+◌, ◌<◌, ◌||◌, ◌&&◌, Bool, true, false, List, None, Some, cond, refl, sym, ◌∙◌, ap, inl, inr, arith, slice_get, suc, zero}
+use Rattle.std.proofs.Common.{◌≡◌, ℕ, ◌+◌, ◌<◌, ◌||◌, ◌&&◌, Bool, true, false, List, None, Some, cond, slice_get, suc, zero}
+use Rattle.std.proofs.Common.{refl, sym, ◌∙◌, ap, inl, inr, arith}
 use Rattle.std.proofs.lemmas.Bool.{and_from, cases_eq, cases_lt, cond-false, cond-true, le-ltb, lt-ltb}
 use Rattle.std.proofs.lemmas.Option.{get_or_from_slice_get}
 use Rattle.std.specs.List.{list_any, range_with_len}
@@ -9,9 +10,10 @@ use Rattle.pam_codes.specs.declared.action.Action.{Action}
 use Rattle.pam_codes.specs.declared.action.Action.TheVariants.{Ignore}
 use Rattle.pam_codes.specs.Set.{is_in}
 use Rattle.pam_dispatch.specs.State.{action_of}
-use Rattle.pam_paths.proofs.Alike.{Member-codes, list_any_from}
+use Rattle.pam_paths.proofs.Alike.{Member-codes}
 use Rattle.pam_check.specs.Asked.{is_past_end}
 use Rattle.pam_check.specs.PastEnd.{can_pass}
+use Rattle.pam_check.proofs.WaysIn.{passing-any}
 
 abbrev pub passes-at : List Action → List ℕ → ℕ → ℕ → Bool
 passes-at control codes after code = is_in code codes && is_past_end after (action_of control code)
@@ -49,7 +51,7 @@ module _ (control : List Action) (codes : List ℕ) (after : ℕ) where
       is_past_end after action ≡ true → true ≡ can_pass control codes after
   unfolding all_codes
   passes-one code action small among acts past =
-      sym (list_any_from (passes-at control codes after) (range_with_len 0 31) code (Member-codes 0 31 code (omega arith) (omega (arith, small)))
+      sym (passing-any (passes-at control codes after) (range_with_len 0 31) code (Member-codes 0 31 code (omega arith) (omega (arith, small)))
       (and_from (is_in code codes) (is_past_end after (action_of control code)) among
       (ap (is_past_end after) (get_or_from_slice_get control code action Ignore acts) ∙ past)))
 

@@ -10,12 +10,13 @@ use Rattle.pam_conf.specs.Stack.{Items, IsNumbered, IsNumberedFrom, ModuleText, 
 use Rattle.pam_dispatch.specs.State.{action_of, start_state}
 use Rattle.pam_paths.specs.Classes.{Member}
 use Rattle.pam_paths.specs.Listing.{Allowance, IsLawful}
-use Rattle.pam_paths.proofs.Alike.{Member-codes, Member-codes_back, Member-filter, Member-filter_back, list_any_back, list_any_from}
+use Rattle.pam_paths.proofs.Alike.{Member-codes, Member-codes_back, Member-filter, Member-filter_back}
 use Rattle.pam_check.specs.Asked.{AreExactly, Asks, IsNeverAsked, JumpsPastEnd, is_past_end}
 use Rattle.pam_check.specs.Marks.{AreMarks, SaysAsked, mark_of}
 use Rattle.pam_check.specs.PastEnd.{can_pass, numbers_where, passes}
 use Rattle.pam_check.proofs.Exactly.{range-rises, where-rises}
 use Rattle.pam_check.proofs.Placed.{Passing, asked-placed, passing-where, placed-one, placed-range, where-passing}
+use Rattle.pam_check.proofs.WaysIn.{passing-any, some-passing}
 
 not-true : (t : Bool) → not t ≡ true → t ≡ false
 not-true true h = absurd (false≢true h)
@@ -82,7 +83,7 @@ module _ (allows : Allowance) (items : Items) (marks : List Bool) (are : AreMark
   unfolding all_codes
   jumping m after t =
       let both = and_parts (mark_of marks m.number) (can_pass m.control (codes_where (allows m.number)) after) t in
-      let some = list_any_back (passes_by m after) (range_with_len 0 31) both.1 in
+      let some = some-passing (passes_by m after) (range_with_len 0 31) both.1 in
       let small : some.0 < 31 = omega (arith, (Member-codes_back 0 31 some.0 some.1).1) in
       let parts = and_parts (is_in some.0 (codes_where (allows m.number))) (is_past_end after (action_of m.control some.0)) some.2 in
       record {
@@ -98,7 +99,7 @@ module _ (allows : Allowance) (items : Items) (marks : List Bool) (are : AreMark
   unfolding all_codes
   passing-from m after code marked small may past =
       and_from (mark_of marks m.number) (can_pass m.control (codes_where (allows m.number)) after) marked
-      (list_any_from (passes_by m after) (range_with_len 0 31) code (Member-codes 0 31 code (omega arith) (omega (arith, small)))
+      (passing-any (passes_by m after) (range_with_len 0 31) code (Member-codes 0 31 code (omega arith) (omega (arith, small)))
       (and_from (is_in code (codes_where (allows m.number))) (is_past_end after (action_of m.control code))
       (is_in-codes_where (allows m.number) code small ∙ may) past))
 

@@ -111,7 +111,8 @@ module _ (allows : Allowance) (items : Items) (paths : List PathValue) (is : IsL
   -- whether some path decides success
   pub says-nobody : (is_met : Bool) → is_met ≡ list_any (meets success_goal) paths → SaysNobody allows items (not is_met)
   says-nobody true e = let found = some-passing (meets success_goal) paths (sym e) in lets-in found.0 found.1 found.2
-  says-nobody false e = λ x. false≢true (e ∙ passing-any (meets success_goal) paths (path_through items x.answers) (listed x.answers x.allowed) (wanted x.answers x.decides))
+  says-nobody false e =
+      λ x. false≢true (e ∙ passing-any (meets success_goal) paths (path_through items x.answers) (listed x.answers x.allowed) (wanted x.answers x.decides))
 
   finds-way : (found : Option PathValue) → Finds (meets success_goal) paths found → SaysWayIn allows items found
   finds-way None h = λ x. h (path_through items x.answers) (listed x.answers x.allowed) (wanted x.answers x.decides)

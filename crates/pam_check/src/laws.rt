@@ -2,8 +2,9 @@
 
 ghost use Rattle.pam_check.specs.Laws.{FirstWayInIsOne, JumpingIsAsked, MoreAllowedLetsIn, RisingListsAreOne, SomebodyOrNobody, SoundStack};
 
-/// A stack lets somebody in or nobody. Whoever is let in by fewer answers is let in by more, and there is at most one first way
-/// in. A stack that lets somebody in, and nobody whose checks all fail, is what `lets_nobody_in` and `lets_anybody_in` say.
+/// A stack lets somebody in or nobody. A stack that lets anybody in does not let nobody in, and there is at most one first way
+/// in. Where `lets_nobody_in` is false and `lets_anybody_in` is `None`, some answers let somebody in, and none let in anybody
+/// whose checks all fail.
 pub fn ways_in()
     ensures either { SomebodyOrNobody }
     ensures more { MoreAllowedLetsIn }
@@ -11,7 +12,8 @@ pub fn ways_in()
     ensures sound { SoundStack }
 {}
 
-/// There is one list of the numbers of which something holds. A module that is never asked jumps nowhere.
+/// There is one rising list of exactly the numbers of which something holds. A module that is never asked does not jump past
+/// the end of its list.
 pub fn modules()
     ensures rising { RisingListsAreOne }
     ensures jumping { JumpingIsAsked }

@@ -1,7 +1,6 @@
 //! What a stack does to everybody.
 
-ghost use Rattle.std.specs.Prelude.{◌≡◌, IfErr, IfOk};
-ghost use Rattle.pam_graph.specs.declared.error.GraphError.TheVariants.{Memory};
+ghost use Rattle.std.specs.Prelude.{IfErr, IfOk};
 ghost use Rattle.pam_paths.specs.Known.{may_answer};
 ghost use Rattle.pam_check.specs.Asked.{AreExactly, IsNeverAsked, JumpsPastEnd};
 ghost use Rattle.pam_check.specs.Marks.{AreMarks};
@@ -29,6 +28,30 @@ pub struct Soundness {
     pub jumps_past_end: Vec<usize>,
 }
 
+/// What the graphs of a stack's runs tell of it.
+#[derive(Drop)]
+struct Told {
+    reached: Reached,
+    lets_anybody_in: Option<Path>,
+}
+
+impl Told {
+    fn of(alloc: Global, stack: &Stack, free: &Known, failing: &Known) -> Result<Told, GraphError>
+        ensures nobody { IfOk result (λ t. SaysNobody (may_answer free.now) stack.now t.reached.lets_nobody_in) }
+        ensures anybody { IfOk result (λ t. SaysWayIn (may_answer failing.now) stack.now t.lets_anybody_in) }
+        ensures asked { IfOk result (λ t. AreMarks (may_answer free.now) stack.now t.reached.asked) }
+        ensures reason { IfErr result (IsReasonFor (may_answer free.now) (may_answer failing.now) stack.now) }
+    {
+        let program = Program::of(alloc, stack)?;
+        let reached = Reached::of(alloc, &program, free)?;
+        let lets_anybody_in = first_way_in(alloc, &program, failing)?;
+        Ok(Told {
+            reached,
+            lets_anybody_in,
+        })
+    }
+}
+
 impl Soundness {
     /// What a stack does to everybody whose modules answer what `free` allows, and to everybody whose checks fail, where they
     /// answer what `failing` allows. Returns `TooManyNodes` if its runs come to more places than `pam_graph::MAX_NODES`, and
@@ -45,32 +68,12 @@ impl Soundness {
         ensures jumps { IfOk result (λ s. AreExactly (JumpsPastEnd (may_answer free.now) stack.now) s.jumps_past_end.items) }
         ensures reason { IfErr result (IsReasonFor (may_answer free.now) (may_answer failing.now) stack.now) }
     {
-        let program = Program::of(alloc, stack)?;
-        let reached = Reached::of(alloc, &program, free)?;
-        let lets_anybody_in = first_way_in(alloc, &program, failing)?;
-        Soundness::with(alloc, stack, free, &reached, lets_anybody_in)
-    }
-
-    /// The same, once it is known what the runs come to.
-    fn with(
-        alloc: Global,
-        stack: &Stack,
-        free: &Known,
-        reached: &Reached,
-        lets_anybody_in: Option<Path>,
-    ) -> Result<Soundness, GraphError>
-        requires { AreMarks (may_answer free.now) stack.now reached.now.asked }
-        ensures nobody { IfOk result (λ s. s.lets_nobody_in ≡ reached.now.lets_nobody_in) }
-        ensures anybody { IfOk result (λ s. s.lets_anybody_in ≡ lets_anybody_in) }
-        ensures never_asked { IfOk result (λ s. AreExactly (IsNeverAsked (may_answer free.now) stack.now) s.never_asked.items) }
-        ensures jumps { IfOk result (λ s. AreExactly (JumpsPastEnd (may_answer free.now) stack.now) s.jumps_past_end.items) }
-        ensures reason { IfErr result (λ e. e ≡ Memory) }
-    {
-        let never_asked = unmarked(alloc, &reached.asked, stack.modules())?;
-        let jumps_past_end = passing(alloc, stack, free, &reached.asked)?;
+        let told = Told::of(alloc, stack, free, failing)?;
+        let never_asked = unmarked(alloc, &told.reached.asked, stack.modules())?;
+        let jumps_past_end = passing(alloc, stack, free, &told.reached.asked)?;
         Ok(Soundness {
-            lets_nobody_in: reached.lets_nobody_in,
-            lets_anybody_in,
+            lets_nobody_in: told.reached.lets_nobody_in,
+            lets_anybody_in: told.lets_anybody_in,
             never_asked,
             jumps_past_end,
         })

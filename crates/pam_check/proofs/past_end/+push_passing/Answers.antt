@@ -33,5 +33,6 @@ loop-item-preserved t c =
 
 pub returns-clause-numbers : goal.returns-clause-numbers
 returns-clause-numbers t c =
-    sym (where-end (passes (may_answer c.args.known.now) c.args.asked.now) c.loop-item.item-index c.args.items.now c.loop-item.numbers.items c.loop-item-test.false)
+    let test = passes (may_answer c.args.known.now) c.args.asked.now in
+    sym (where-end test c.loop-item.item-index c.args.items.now c.loop-item.numbers.items c.loop-item-test.false)
     ∙ c.loop-item.invariant.0

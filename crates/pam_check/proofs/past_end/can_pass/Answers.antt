@@ -1,6 +1,7 @@
 use Rattle.std.proofs.Common.{◌≡◌, ◌∙◌, ℕ, arith, false, subst, sym}
 use Rattle.pam_check.proofs.CanPass.{new-code, new-none, none-more, not-among, not-past, passes-at, passes-none, passes-one}
-use Rattle.pam_check.proofs.past_end.can_pass.Goals.{in-Some+else-contains, else-contains-via-then-contains+else-is_past_end, else-contains-via-else-contains, in_default}
+use Rattle.pam_check.proofs.past_end.can_pass.Goals.{in-Some+else-contains, in_default}
+use Rattle.pam_check.proofs.past_end.can_pass.Goals.{else-contains-via-then-contains+else-is_past_end, else-contains-via-else-contains}
 use Rattle.pam_check.proofs.past_end.can_pass.Goals as goal
 
 pub returns-then-is_past_end : goal.returns-then-is_past_end

@@ -1,18 +1,14 @@
-use Rattle.std.proofs.lemmas.Result.{err_from_is_err_and}
-use Rattle.pam_paths.specs.Known.{may_answer}
-use Rattle.pam_check.proofs.Reasons.{failing-reason, free-reason}
+use Rattle.std.proofs.Common.{◌∙◌, ap, filter, not, ℕ}
+use Rattle.std.specs.List.{range_with_len}
+use Rattle.pam_paths.specs.Known.{may_answer, some_code}
+use Rattle.pam_check.specs.Marks.{mark_of}
+use Rattle.pam_check.proofs.Passing.{exactly-never}
 use Rattle.pam_check.proofs.soundness.Soundness.of.Goals as goal
 
-pub returns-in_err-reached-clause-reason : goal.returns-in_err-reached-clause-reason
-returns-in_err-reached-clause-reason c =
-    let p = err_from_is_err_and c.from_residual-in_err-reached.result c.from_residual-in_err-reached.ensures.1 in
-    rw (p.1, p.2)
-    (free-reason (may_answer c.args.free.now) (may_answer c.args.failing.now) c.in_ok-program.program c.args.stack.now c.in_ok-program.ensures.runs
-    c.in_err-reached.field-0.0 c.in_err-reached.ensures.reason)
-
-pub returns-in_err-lets_anybody_in-clause-reason : goal.returns-in_err-lets_anybody_in-clause-reason
-returns-in_err-lets_anybody_in-clause-reason c =
-    let p = err_from_is_err_and c.from_residual-in_err-lets_anybody_in.result c.from_residual-in_err-lets_anybody_in.ensures.1 in
-    rw (p.1, p.2)
-    (failing-reason (may_answer c.args.free.now) (may_answer c.args.failing.now) c.in_ok-program.program c.args.stack.now c.in_ok-program.ensures.runs
-    c.in_err-lets_anybody_in.field-0.0 c.in_err-lets_anybody_in.ensures.reason)
+pub returns-clause-never_asked : goal.returns-clause-never_asked
+returns-clause-never_asked c =
+    let marks = c.in_ok-told.told.reached.asked in
+    exactly-never (may_answer c.args.free.now) c.args.stack.now marks c.in_ok-told.ensures.asked (λ m first last. some_code c.args.free.now m)
+    c.in_ok-never_asked.never_asked.items
+    (c.in_ok-never_asked.ensures.numbers
+    ∙ ap (λ (n : ℕ). filter (λ number. not (mark_of marks number)) (range_with_len 1 n)) c.modules.ensures.count)
