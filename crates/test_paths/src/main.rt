@@ -1,5 +1,5 @@
-//! Tests of the paths of stacks, and of findings, through the public calls of the libraries. Each line of standard input is a
-//! test:
+//! Tests of the paths of stacks, of findings and of what stacks do to everybody, through the public calls of the libraries. Each
+//! line of standard input is a test:
 //!
 //! - `list SERVICE FIRST LAST [NUMBER=NAME,...]...`: how many paths there are, and the lines from FIRST to LAST.
 //! - `first SERVICE COUNT`: the lines of the first COUNT paths.
@@ -9,6 +9,7 @@
 //! - `assign SERVICE`: whether each assignment of three codes agrees with exactly one path, which has its decision.
 //! - `findings folder TEXT` or `findings pam.conf TEXT`: where released Linux-PAM reads this file otherwise. In TEXT `\n`, `\r`,
 //!   `\t` and `\s` are a line feed, a carriage return, a tab and a space, `\L` is a thousand letters, and `\\` a backslash.
+//! - `sound TEXT` or `sound TEXT | INNER`: what this stack does to everybody, where INNER is the file `inner`.
 #![tactic(auto)]
 
 mod assignments;
@@ -17,6 +18,7 @@ mod graphs;
 mod lines;
 mod pages;
 mod released;
+mod sound;
 mod stacks;
 mod walks;
 mod ways;
@@ -90,6 +92,7 @@ fn test(rt: &HostRuntime, words: &[&str]) -> Result<(), Error> {
         "walks" if words.len() == 3 => walks::walks(rt, words[1], words[2]),
         "assign" => assignments::assign(rt, words[1]),
         "findings" => released::print_findings(rt, words[1], &words[2..]),
+        "sound" => sound::print_soundness(rt, &words[1..]),
         _ => {
             println!(rt; "no such test")?;
             Ok(())

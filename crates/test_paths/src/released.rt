@@ -44,7 +44,7 @@ fn bytes_of(alloc: Global, text: &[u8]) -> Result<Vec<u8>, Error> {
 }
 
 /// The bytes of words with escapes and of the blanks between them.
-fn bytes_of_words(alloc: Global, words: &[&str]) -> Result<Vec<u8>, Error> {
+pub(crate) fn bytes_of_words(alloc: Global, words: &[&str]) -> Result<Vec<u8>, Error> {
     let mut text = Vec::new(alloc);
     for word in words {
         if !text.is_empty() {

@@ -1,0 +1,13 @@
+pub mod CanPass
+pub mod Exactly
+pub mod Implied
+pub mod MarkLists
+pub mod Marking
+pub mod Passing
+pub mod Placed
+pub mod Reaching
+pub mod Reasons
+pub mod Unmarked
+pub mod Walked
+pub mod Walking
+pub mod WaysIn

@@ -1,0 +1,5 @@
+pub mod Asked
+pub mod Laws
+pub mod Marks
+pub mod PastEnd
+pub mod Soundness
