@@ -1,0 +1,10 @@
+pub mod Codes
+pub mod Error
+pub mod Facts
+pub mod Kinds
+pub mod Lines
+pub mod Reading
+pub mod Rows
+pub mod Table
+pub mod Views
+pub mod Words
