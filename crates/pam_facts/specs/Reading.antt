@@ -31,9 +31,13 @@ abbrev pub row_if_any : Result (Option Row) FactsFault → Option Row
 row_if_any (Ok row) = row
 row_if_any (Err fault) = None
 
+-- the rows of lines, of which none has a fault where this is said of the program's table
+abbrev pub rows_in : List (List ℕ) → List Row
+rows_in lines = filter_map (λ line. row_if_any (row_of line)) lines
+
 -- the rows of the program's own table
 unfoldable pub table_rows : List Row
-table_rows = filter_map (λ line. row_if_any (row_of line)) table
+table_rows = rows_in table
 
 -- rows, and then those of a file
 abbrev pub after_rows : List Row → Result (List Row) FactsError → Result (List Row) FactsError
@@ -43,3 +47,9 @@ after_rows first (Err e) = Err e
 -- THE ROWS that are known: those of the program's table, and then those of a facts file
 unfoldable pub known_rows : List ℕ → Result (List Row) FactsError
 known_rows bytes = after_rows table_rows (rows_of bytes)
+
+-- for private contracts and proofs alone: rows, and that of one more line
+abbrev pub with_row : List Row → Result (Option Row) FactsFault → Result (List Row) FactsFault
+with_row rows (Ok None) = Ok rows
+with_row rows (Ok (Some row)) = Ok (rows ++ row ∷ [])
+with_row rows (Err fault) = Err fault

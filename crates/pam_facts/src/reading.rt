@@ -1,10 +1,10 @@
 //! The rows of a facts file.
 
-ghost use Rattle.std.specs.Prelude.{◌≡◌, ◌++◌, MatchResult, Ok, Err, OnErr, map, not};
+ghost use Rattle.std.specs.Prelude.{◌≡◌, ◌∷◌, ◌++◌, [], IfErr, MatchResult, Ok, Err, OnErr, OnOk, map, not};
 ghost use Rattle.std.specs.Option.{option_map};
 ghost use Rattle.pam_facts.specs.Codes.{codes_said};
-ghost use Rattle.pam_facts.specs.Error.{Gives};
-ghost use Rattle.pam_facts.specs.Reading.{after_rows, rows_of};
+ghost use Rattle.pam_facts.specs.Error.{Gives, GivesPart, no_memory};
+ghost use Rattle.pam_facts.specs.Reading.{after_rows, rows_in, rows_of, with_row};
 ghost use Rattle.pam_facts.specs.Rows.{is_name, row_of};
 ghost use Rattle.pam_facts.specs.Views.{row_view};
 ghost use Rattle.pam_facts.specs.Words.{words_of};
@@ -17,6 +17,7 @@ use crate::row::{CodesByKind, Fact};
 use crate::words::{Words, first_word};
 use pam_codes::Code;
 use pam_text::Source;
+use std::alloc::AllocError;
 
 /// What is known of a module, where its rule has some arguments.
 #[derive(Clone, Copy)]
@@ -88,17 +89,45 @@ pub(crate) fn read_row(line: &[u8]) -> Result<Option<Row<'_>>, FactsFault>
     }))
 }
 
-/// Adds the rows of a facts file, or returns its first fault.
-pub(crate) fn read_rows<'a>(bytes: &'a [u8], mut rows: Vec<Row<'a>>) -> Result<Vec<Row<'a>>, FactsError>
-    ensures { Gives (λ read. map row_view read.items) result (after_rows (map row_view rows.entry.items) (rows_of bytes.now)) }
+/// Adds the row of a line, if it has one. Where it fails, the rows stay as they are.
+pub(crate) fn add_line<'a>(line: &'a [u8], rows: &mut Vec<Row<'a>>) -> Result<(), FactsFault>
+    ensures added { GivesPart (λ _. map row_view rows.new.items) result (with_row (map row_view rows.old.items) (row_of line.now)) }
+    ensures stays { OnErr result (rows.new.items ≡ rows.old.items) }
 {
-    let source = Source::of(bytes)?;
-    for (number, line) in Lines::of(source) {
-        match read_row(line) {
-            Ok(Some(row)) => rows.push(row)?,
-            Ok(None) => {}
-            Err(fault) => return Err(FactsError::at(fault, number)),
-        }
+    match read_row(line) {
+        Ok(Some(row)) => match rows.push(row) {
+            Ok(()) => Ok(()),
+            Err(_) => Err(FactsFault::Memory),
+        },
+        Ok(None) => Ok(()),
+        Err(fault) => Err(fault),
     }
-    Ok(rows)
+}
+
+/// Like `add_line`, with references.
+pub(crate) fn add_line_2<'a>(line: &'a [u8], rows: &mut Vec<Row<'a>>) -> Result<(), FactsFault>
+    ensures stays { OnErr result (rows.new.items ≡ rows.old.items) }
+{
+    let row = read_row(line)?;
+    match &row {
+        Some(row) => match rows.extend_from_slice(&[*row]) {
+            Ok(()) => Ok(()),
+            Err(_) => Err(FactsFault::Memory),
+        },
+        None => Ok(()),
+    }
+}
+
+/// Like `add_line`, with fields.
+pub(crate) fn add_line_3<'a>(line: &'a [u8], rows: &mut Vec<Row<'a>>) -> Result<(), FactsFault>
+    ensures stays { OnErr result (rows.new.items ≡ rows.old.items) }
+{
+    match read_row(line) {
+        Ok(Some(row)) => match rows.push(Row { name: row.name, arguments: row.arguments, fact: row.fact }) {
+            Ok(()) => Ok(()),
+            Err(_) => Err(FactsFault::Memory),
+        },
+        Ok(None) => Ok(()),
+        Err(fault) => Err(fault),
+    }
 }
