@@ -1,5 +1,7 @@
+pub mod AddSteps
 pub mod CodeSteps
 pub mod Cutting
+pub mod FactSteps
 pub mod HeadSteps
 pub mod KindSteps
 pub mod LineSteps

@@ -39,15 +39,11 @@ impl FactsError {
             _ => FactsError { fault, line },
         }
     }
-}
 
-impl From<SourceFault> for FactsError {
-    ghost use Rattle.std.specs.Prelude.{◌≡◌};
-    ghost use Rattle.pam_facts.specs.Error.{source_error};
-
-    ghost from_gives = { λ fault error. error ≡ source_error fault };
-
-    fn from(fault: SourceFault) -> FactsError {
+    /// The fault of the bytes as a whole.
+    pub(crate) fn of_source(fault: SourceFault) -> FactsError
+        ensures { result ≡ source_error fault }
+    {
         match fault {
             SourceFault::TooLong => FactsError::at(FactsFault::TooLong, 0),
             SourceFault::NulByte(line) => FactsError::at(FactsFault::NulByte, line),

@@ -4,7 +4,7 @@ ghost use Rattle.std.specs.Prelude.{◌≡◌, ◌∷◌, ◌++◌, [], IfErr, M
 ghost use Rattle.std.specs.Option.{option_map};
 ghost use Rattle.pam_facts.specs.Codes.{codes_said};
 ghost use Rattle.pam_facts.specs.Error.{Gives, GivesPart, no_memory};
-ghost use Rattle.pam_facts.specs.Reading.{after_rows, rows_in, rows_of, with_row};
+ghost use Rattle.pam_facts.specs.Reading.{after_rows, rows_in, rows_of, table_rows, unless_memory, with_row};
 ghost use Rattle.pam_facts.specs.Rows.{is_name, row_of};
 ghost use Rattle.pam_facts.specs.Views.{row_view};
 ghost use Rattle.pam_facts.specs.Words.{words_of};
@@ -14,10 +14,10 @@ use crate::head::{Arguments, read_head};
 use crate::kinds::Kinds;
 use crate::lines::Lines;
 use crate::row::{CodesByKind, Fact};
+use crate::table::table;
 use crate::words::{Words, first_word};
 use pam_codes::Code;
 use pam_text::Source;
-use std::alloc::AllocError;
 
 /// What is known of a module, where its rule has some arguments.
 #[derive(Clone, Copy)]
@@ -104,30 +104,50 @@ pub(crate) fn add_line<'a>(line: &'a [u8], rows: &mut Vec<Row<'a>>) -> Result<()
     }
 }
 
-/// Like `add_line`, with references.
-pub(crate) fn add_line_2<'a>(line: &'a [u8], rows: &mut Vec<Row<'a>>) -> Result<(), FactsFault>
-    ensures stays { OnErr result (rows.new.items ≡ rows.old.items) }
+/// Adds the rows of a facts file, or returns its first fault.
+pub(crate) fn add_file<'a>(bytes: &'a [u8], rows: &mut Vec<Row<'a>>) -> Result<(), FactsError>
+    ensures { Gives (λ _. map row_view rows.new.items) result (after_rows (map row_view rows.old.items) (rows_of bytes.now)) }
 {
-    let row = read_row(line)?;
-    match &row {
-        Some(row) => match rows.extend_from_slice(&[*row]) {
-            Ok(()) => Ok(()),
-            Err(_) => Err(FactsFault::Memory),
-        },
-        None => Ok(()),
+    let source = match Source::of(bytes) {
+        Ok(source) => source,
+        Err(fault) => return Err(FactsError::of_source(fault)),
+    };
+    for (number, line) in Lines::of(source) {
+        if let Err(fault) = add_line(line, rows) {
+            return Err(FactsError::at(fault, number));
+        }
+    }
+    Ok(())
+}
+
+/// The error of a line of the program's table, where only an allocation can fail.
+fn table_error(fault: FactsFault) -> Result<(), FactsError>
+    ensures { result ≡ unless_memory fault }
+{
+    match fault {
+        FactsFault::Memory => Err(FactsError::at(fault, 0)),
+        FactsFault::BadFact | FactsFault::NulByte | FactsFault::TooLong => Ok(()),
     }
 }
 
-/// Like `add_line`, with fields.
-pub(crate) fn add_line_3<'a>(line: &'a [u8], rows: &mut Vec<Row<'a>>) -> Result<(), FactsFault>
-    ensures stays { OnErr result (rows.new.items ≡ rows.old.items) }
+/// Adds the row of a line of the program's table, which has no fault.
+fn add_table_line<'a>(line: &'a [u8], rows: &mut Vec<Row<'a>>) -> Result<(), FactsError>
+    ensures memory { IfErr result (λ e. e ≡ no_memory) }
+    ensures row { OnOk result (map row_view rows.new.items ≡ map row_view rows.old.items ++ rows_in (line.now ∷ [])) }
 {
-    match read_row(line) {
-        Ok(Some(row)) => match rows.push(Row { name: row.name, arguments: row.arguments, fact: row.fact }) {
-            Ok(()) => Ok(()),
-            Err(_) => Err(FactsFault::Memory),
-        },
-        Ok(None) => Ok(()),
-        Err(fault) => Err(fault),
+    match add_line(line, rows) {
+        Ok(()) => Ok(()),
+        Err(fault) => table_error(fault),
     }
+}
+
+/// Adds the rows of the program's table.
+pub(crate) fn add_table(rows: &mut Vec<Row<'_>>) -> Result<(), FactsError>
+    ensures memory { IfErr result (λ e. e ≡ no_memory) }
+    ensures rows { OnOk result (map row_view rows.new.items ≡ map row_view rows.old.items ++ table_rows) }
+{
+    for line in table() {
+        add_table_line(line, rows)?;
+    }
+    Ok(())
 }
