@@ -1,4 +1,5 @@
 pub mod AddSteps
+pub mod AnswerSteps
 pub mod CodeSteps
 pub mod Cutting
 pub mod FactSteps

@@ -1,7 +1,9 @@
 //! The codes that the modules of a stack can answer, as far as they are known from facts.
 
 ghost use Rattle.std.specs.Prelude.{◌≡◌, ◌≢◌, ◌∷◌, ◌≤◌, ◌<◌, ℕ, []};
+ghost use Rattle.std.specs.List.{list_any};
 ghost use Rattle.std.specs.Option.{option_map};
+ghost use Rattle.std.specs.Str.{bytes_eq};
 ghost use Rattle.pam_codes.specs.Set.{codes_where};
 ghost use Rattle.pam_conf.specs.ItemsOf.{module_text};
 ghost use Rattle.pam_conf.specs.Stack.{module_count};
@@ -44,7 +46,6 @@ fn failure() -> CodeSet
     }
 }
 
-#[tactic(auto, unfolding(pam_codes::specs::Code::all_codes))]
 fn successes() -> CodeSet
     ensures { result ≡ successes }
 {
@@ -53,7 +54,6 @@ fn successes() -> CodeSet
     codes
 }
 
-#[tactic(auto, unfolding(pam_codes::specs::Code::all_codes))]
 fn successes_and_ignore() -> CodeSet
     ensures { result ≡ 0 ∷ 12 ∷ 25 ∷ [] }
 {
@@ -75,14 +75,22 @@ fn left_out(checks: Checks, class: Class) -> CodeSet
 }
 
 /// The answers of a module that is there.
+#[tactic(auto, unfolding(crate::specs::Answers::answers_of))]
 fn answers_of(checks: Checks, kind: Kind, fact: Fact) -> CodeSet
     ensures { result ≡ answers_of checks kind fact }
 {
-    let codes = fact.codes_in(kind).without(left_out(checks, fact.class));
+    let left_out = left_out(checks, fact.class);
+    let codes = fact.codes_in(kind).without(left_out);
     if codes.is_empty() {
         return failure();
     }
     codes
+}
+
+fn has_path(paths: &Texts, path: &[u8]) -> bool
+    ensures { result ≡ list_any (λ known. bytes_eq known path.now) paths.now }
+{
+    paths.iter().any(|known| known == path)
 }
 
 /// Whether a module is there, as far as it is known which are.
@@ -90,7 +98,7 @@ fn is_there(there: Option<&Texts>, path: &[u8]) -> bool
     ensures { result ≡ is_there (option_map (λ t. t.now) there.entry) path.now }
 {
     match there {
-        Some(paths) => paths.iter().any(|known| known == path),
+        Some(paths) => has_path(paths, path),
         None => true,
     }
 }
@@ -105,6 +113,7 @@ struct Question<'x, 'f> {
 }
 
 impl Question<'_, '_> {
+    #[tactic(auto, unfolding(crate::specs::Answers::module_answers))]
     fn module_answers(&self, module: &Module) -> CodeSet
         ensures { result ≡ module_answers self.now.checks self.now.kind self.now.facts.now (option_map (λ t. t.now) self.now.there) (module_text «module».now) }
     {
