@@ -5,6 +5,7 @@ pub mod Cutting
 pub mod FactSteps
 pub mod HeadSteps
 pub mod KindSteps
+pub mod LawSteps
 pub mod LineSteps
 pub mod RowSteps
 pub mod WordSteps

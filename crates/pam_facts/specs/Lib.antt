@@ -4,6 +4,7 @@ pub mod Error
 pub mod Facts
 pub mod Fitting
 pub mod Kinds
+pub mod Laws
 pub mod Lines
 pub mod Paths
 pub mod Reading

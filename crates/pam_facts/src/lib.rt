@@ -7,6 +7,7 @@ mod error;
 mod facts;
 mod head;
 mod kinds;
+pub mod laws;
 mod lines;
 mod paths;
 mod reading;

@@ -3,7 +3,7 @@
 ghost use Rattle.std.specs.Prelude.{◌≡◌, ◌≢◌, ◌==◌, ◌||◌, ◌↔◌, ◌∷◌, [], IsTrue, not, if◌then◌else◌};
 ghost use Rattle.pam_codes.specs.Set.{codes_where, is_in};
 ghost use Rattle.pam_conf.specs.declared.rule.Kind.{Kind as KindText};
-ghost use Rattle.pam_facts.specs.Facts.{codes_in, codes_of, unknown};
+ghost use Rattle.pam_facts.specs.Facts.{codes_in, codes_of, has_function, is_unknown_alone, unknown};
 
 use crate::kinds::Kinds;
 use pam_codes::{Code, CodeSet};
@@ -89,6 +89,16 @@ pub struct Fact {
     pub codes: CodesByKind,
 }
 
+/// Whether a set has `module_unknown` and no other code.
+fn is_unknown_alone(codes: CodeSet) -> bool
+    ensures { result ≡ is_unknown_alone codes }
+{
+    match codes.least() {
+        Some(code) => codes.len() == 1 && code.number() == 28,
+        None => false,
+    }
+}
+
 impl Fact {
     /// The fact of a module of which nothing is known: it checks, and can answer any code.
     pub fn unknown() -> Fact
@@ -112,5 +122,12 @@ impl Fact {
         } else {
             codes
         }
+    }
+
+    /// Whether the module has a function in a kind. One that has none answers `module_unknown` and nothing else.
+    pub fn has_function(self, kind: Kind) -> bool
+        ensures { result ≡ has_function kind self }
+    {
+        !is_unknown_alone(self.codes_in(kind))
     }
 }
