@@ -1,6 +1,7 @@
 -- The arguments of a row, and the last row that fits.
 use Rattle.std.proofs.Common.{◌≡◌, ◌∙◌, ◌&&◌, ◌++◌, ℕ, Bool, true, false, List, [], ◌∷◌, Option, Some, None, if◌then◌else◌, length, refl, ap}
-use Rattle.std.proofs.Common.{Bor, ◌==◌, slice_get}
+use Rattle.std.proofs.Common.{Bor, ◌==◌, arith, slice_get}
+use Rattle.std.proofs.lemmas.Bool.{ne_eqb}
 use Rattle.std.specs.List.{list_all}
 use Rattle.pam_facts.specs.Facts.{is_unknown_alone}
 use Rattle.pam_facts.specs.Fitting.{last_fact}
@@ -28,7 +29,7 @@ last_row fits fact (first ∷ rows) row = last_row fits (if fits first then firs
 pub one_code_alone : (codes : List ℕ) (code : ℕ) → Some code ≡ slice_get codes 0 → (length codes == 1 && code == 28) ≡ is_unknown_alone codes
 one_code_alone [] code h = absurd (cc)
 one_code_alone (c ∷ []) code h = let same : code ≡ c = cc in ap (λ (n : ℕ). n == 28) same
-one_code_alone (c ∷ d ∷ codes) code h = refl
+one_code_alone (c ∷ d ∷ codes) code h = ap (λ (t : Bool). t && code == 28) (ne_eqb (length (c ∷ d ∷ codes)) 1 (omega arith))
 
 pub no_code_alone : (codes : List ℕ) → None ≡ slice_get codes 0 → false ≡ is_unknown_alone codes
 no_code_alone [] h = refl

@@ -19,3 +19,4 @@ pub use error::{FactsError, FactsFault};
 pub use facts::Facts;
 pub use paths::module_name;
 pub use row::{Class, CodesByKind, Fact};
+pub use table::write_facts;

@@ -4,7 +4,7 @@ ghost use Rattle.std.specs.Prelude.{◌≡◌, map};
 ghost use Rattle.pam_facts.specs.Table.{table, table_text};
 ghost use Rattle.pam_text.specs.Out.{Writes};
 
-use pam_text::{Device, Out};
+use pam_text::{Device, Out, Piece};
 use std::io::Write;
 
 /// The rows, in the order of names; `docs/FACTS.md` has the sources.
@@ -130,4 +130,14 @@ pub(crate) fn table() -> &'static [&'static [u8]]
     ensures { map (λ row. row.now) result.now ≡ table }
 {
     &TABLE
+}
+
+/// Writes the table as a facts file, a row a line.
+pub fn write_facts<W: Write>(out: &mut Out<W>) -> Result<(), Device>
+    ensures { Writes W.contents out.old out.new result table_text }
+{
+    for row in table() {
+        out.put_line(&[Piece::Bytes(row), Piece::Bytes(b"\n")])?;
+    }
+    Ok(())
 }
