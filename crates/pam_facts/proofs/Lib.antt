@@ -8,4 +8,5 @@ pub mod KindSteps
 pub mod LawSteps
 pub mod LineSteps
 pub mod RowSteps
+pub mod TableSteps
 pub mod WordSteps

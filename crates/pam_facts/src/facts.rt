@@ -53,7 +53,9 @@ fn argument_fits(wanted: &[u8], argument: &[u8]) -> bool
 fn has_argument(wanted: &[u8], arguments: &Texts) -> bool
     ensures { result ≡ list_any (argument_fits wanted.now) arguments.now }
 {
-    arguments.iter().any(|argument| argument_fits(wanted, argument))
+    arguments
+        .iter()
+        .any(|argument| argument_fits(wanted, argument))
 }
 
 /// Whether the arguments have the one that is wanted, if one is.

@@ -46,13 +46,27 @@ fn head_after<'a>(first: &'a [u8], text: &'a [u8]) -> Option<Head<'a>>
 {
     let (second, text) = first_word(text)?;
     if let Some(class) = class_named(second) {
-        let arguments = Arguments { first: Some(first), second: None };
-        return Some(Head { arguments, class, rest: text });
+        let arguments = Arguments {
+            first: Some(first),
+            second: None,
+        };
+        return Some(Head {
+            arguments,
+            class,
+            rest: text,
+        });
     }
     let (word, rest) = first_word(text)?;
     let class = class_named(word)?;
-    let arguments = Arguments { first: Some(first), second: Some(second) };
-    Some(Head { arguments, class, rest })
+    let arguments = Arguments {
+        first: Some(first),
+        second: Some(second),
+    };
+    Some(Head {
+        arguments,
+        class,
+        rest,
+    })
 }
 
 /// The head of a row, from the word after its name.
@@ -62,8 +76,15 @@ pub(crate) fn read_head(text: &[u8]) -> Option<Head<'_>>
     let (first, text) = first_word(text)?;
     match class_named(first) {
         Some(class) => {
-            let arguments = Arguments { first: None, second: None };
-            Some(Head { arguments, class, rest: text })
+            let arguments = Arguments {
+                first: None,
+                second: None,
+            };
+            Some(Head {
+                arguments,
+                class,
+                rest: text,
+            })
         }
         None => head_after(first, text),
     }

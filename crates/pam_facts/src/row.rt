@@ -58,10 +58,10 @@ impl CodesByKind {
     /// Adds a code in each of these kinds.
     pub(crate) fn insert(&mut self, kinds: Kinds, code: Code)
         ensures { self.new ≡ record {
-            auth = if kinds.auth then codes_where (λ c. c == code || is_in c self.old.auth) else self.old.auth;
-            account = if kinds.account then codes_where (λ c. c == code || is_in c self.old.account) else self.old.account;
-            password = if kinds.password then codes_where (λ c. c == code || is_in c self.old.password) else self.old.password;
-            session = if kinds.session then codes_where (λ c. c == code || is_in c self.old.session) else self.old.session;
+          auth = if kinds.auth then codes_where (λ c. c == code || is_in c self.old.auth) else self.old.auth;
+          account = if kinds.account then codes_where (λ c. c == code || is_in c self.old.account) else self.old.account;
+          password = if kinds.password then codes_where (λ c. c == code || is_in c self.old.password) else self.old.password;
+          session = if kinds.session then codes_where (λ c. c == code || is_in c self.old.session) else self.old.session;
         } }
     {
         self.auth = with_code(self.auth, kinds.auth, code);
