@@ -3,7 +3,7 @@
 use anyhow::Error;
 use pam_codes::Out;
 use pam_conf::Kind;
-use pam_facts::{Class, Fact, Facts};
+use pam_facts::{Class, Fact, Facts, write_facts};
 use pam_text::Texts;
 use std::alloc::Global;
 
@@ -47,5 +47,15 @@ pub(crate) fn print_fact(
     };
     let codes = String::from_utf8(codes_text(rt.alloc(), fact, kind)?)?;
     println!(rt; "{} {codes}", class_name(fact.class))?;
+    Ok(())
+}
+
+/// Prints how many rows the table has, if a facts file with these rows has no fault.
+pub(crate) fn read_back(rt: &HostRuntime) -> Result<(), Error> {
+    let mut text = Vec::new(rt.alloc());
+    write_facts(&mut Out::new(&mut text))?;
+    Facts::read(rt.alloc(), &text)?;
+    let rows = text.iter().filter(|b| **b == b'\n').count();
+    println!(rt; "{rows} rows")?;
     Ok(())
 }

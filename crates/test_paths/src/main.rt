@@ -9,6 +9,7 @@
 //! - `assign SERVICE`: whether each assignment of three codes agrees with exactly one path, which has its decision.
 //! - `findings folder TEXT` or `findings pam.conf TEXT`: where released Linux-PAM reads this file otherwise. In TEXT `\n`, `\r`,
 //!   `\t` and `\s` are a line feed, a carriage return, a tab and a space, `\L` is a thousand letters, and `\\` a backslash.
+//! - `table rows`: the number of rows of the table of facts, if each of them is read back.
 //! - `fact KIND PATH [ARGUMENT]...`: the class of the module at this path, and the codes that it can answer.
 #![tactic(auto)]
 
@@ -92,6 +93,7 @@ fn test(rt: &HostRuntime, words: &[&str]) -> Result<(), Error> {
         "walks" if words.len() == 3 => walks::walks(rt, words[1], words[2]),
         "assign" => assignments::assign(rt, words[1]),
         "fact" if words.len() >= 3 => facts::print_fact(rt, words[1], words[2], &words[3..]),
+        "table" => facts::read_back(rt),
         "findings" => released::print_findings(rt, words[1], &words[2..]),
         _ => {
             println!(rt; "no such test")?;
