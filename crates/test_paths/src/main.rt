@@ -10,10 +10,13 @@
 //! - `findings folder TEXT` or `findings pam.conf TEXT`: where released Linux-PAM reads this file otherwise. In TEXT `\n`, `\r`,
 //!   `\t` and `\s` are a line feed, a carriage return, a tab and a space, `\L` is a thousand letters, and `\\` a backslash.
 //! - `sound TEXT` or `sound TEXT | INNER`: what this stack does to everybody, where INNER is the file `inner`.
+//! - `table rows`: the number of rows of the table of facts, if each of them is read back.
+//! - `fact KIND PATH [ARGUMENT]...`: the class of the module at this path, and the codes that it can answer.
 #![tactic(auto)]
 
 mod assignments;
 mod cursors;
+mod facts;
 mod graphs;
 mod lines;
 mod pages;
@@ -91,6 +94,8 @@ fn test(rt: &HostRuntime, words: &[&str]) -> Result<(), Error> {
         "graph" => graphs::graph(rt, words[1]),
         "walks" if words.len() == 3 => walks::walks(rt, words[1], words[2]),
         "assign" => assignments::assign(rt, words[1]),
+        "fact" if words.len() >= 3 => facts::print_fact(rt, words[1], words[2], &words[3..]),
+        "table" => facts::read_back(rt),
         "findings" => released::print_findings(rt, words[1], &words[2..]),
         "sound" => sound::print_soundness(rt, &words[1..]),
         _ => {

@@ -1,0 +1,36 @@
+-- The arguments of a row, and the last row that fits.
+use Rattle.std.proofs.Common.{◌≡◌, ◌∙◌, ◌&&◌, ◌++◌, ℕ, Bool, true, false, List, [], ◌∷◌, Option, Some, None, if◌then◌else◌, length, refl, ap}
+use Rattle.std.proofs.Common.{Bor, ◌==◌, arith, slice_get}
+use Rattle.std.proofs.lemmas.Bool.{ne_eqb}
+use Rattle.std.specs.List.{list_all}
+use Rattle.pam_facts.specs.Facts.{is_unknown_alone}
+use Rattle.pam_facts.specs.Fitting.{last_fact}
+use Rattle.pam_facts.specs.Rows.{Row}
+use Rattle.pam_facts.specs.Views.{texts_of}
+use Rattle.pam_facts.specs.declared.row.Fact.{Fact}
+
+and_assoc : (a b c : Bool) → ((a && b) && c) ≡ (a && (b && c))
+and_assoc true b c = refl
+and_assoc false b c = refl
+
+-- all of the two arguments pass
+pub both_pass : (test : List ℕ → Bool) (first second : Option (Bor (List ℕ))) →
+    (list_all test (texts_of first) && list_all test (texts_of second)) ≡ list_all test (texts_of first ++ texts_of second)
+both_pass test None second = refl
+both_pass test (Some text) second = and_assoc (test text.now) true (list_all test (texts_of second))
+
+-- the last row decides if it fits, and else changes nothing
+pub last_row : (fits : Row → Bool) (fact : Fact) (rows : List Row) (row : Row) →
+    last_fact fits fact (rows ++ row ∷ []) ≡ (if fits row then row.fact else last_fact fits fact rows)
+last_row fits fact [] row = refl
+last_row fits fact (first ∷ rows) row = last_row fits (if fits first then first.fact else fact) rows row
+
+-- a set that has module_unknown alone, by its least code and its length
+pub one_code_alone : (codes : List ℕ) (code : ℕ) → Some code ≡ slice_get codes 0 → (length codes == 1 && code == 28) ≡ is_unknown_alone codes
+one_code_alone [] code h = absurd (cc)
+one_code_alone (c ∷ []) code h = let same : code ≡ c = cc in ap (λ (n : ℕ). n == 28) same
+one_code_alone (c ∷ d ∷ codes) code h = ap (λ (t : Bool). t && code == 28) (ne_eqb (length (c ∷ d ∷ codes)) 1 (omega arith))
+
+pub no_code_alone : (codes : List ℕ) → None ≡ slice_get codes 0 → false ≡ is_unknown_alone codes
+no_code_alone [] h = refl
+no_code_alone (c ∷ codes) h = absurd (cc)

@@ -1,0 +1,19 @@
+-- The first of the lines that are left.
+use Rattle.std.proofs.Common.{◌≡◌, ◌+◌, ℕ, Bool, true, false, List, [], ◌∷◌, Some, None, refl, ap}
+use Rattle.pam_text.specs.Cut.{cut_at, is_among}
+use Rattle.pam_facts.specs.Lines.{lines_from, lines_left, numbered, without_return}
+use Rattle.pam_facts.proofs.Cutting.{split_found, split_none}
+
+pub first_line : (done : Bool) (n : ℕ) (text a r line : List ℕ) → done ≡ false → Some (a, r) ≡ cut_at (is_among (10 ∷ [])) text → line ≡ without_return a →
+    lines_left done n text ≡ (n, line) ∷ lines_left done (n + 1) r
+unfolding lines_left lines_from
+first_line done n text a r line d e l = rw (d, l) (ap (numbered n) (split_found (is_among (10 ∷ [])) text a r e))
+
+pub last_line : (done : Bool) (n : ℕ) (text line : List ℕ) → done ≡ false → None ≡ cut_at (is_among (10 ∷ [])) text → line ≡ without_return text →
+    lines_left done n text ≡ (n, line) ∷ []
+unfolding lines_left lines_from
+last_line done n text line d e l = rw (d, l) (ap (numbered n) (split_none (is_among (10 ∷ [])) text e))
+
+pub no_line : (done : Bool) (n : ℕ) (text : List ℕ) → done ≡ true → lines_left done n text ≡ []
+unfolding lines_left
+no_line done n text d = rw d refl

@@ -1,0 +1,14 @@
+pub mod Answers
+pub mod Codes
+pub mod Error
+pub mod Facts
+pub mod Fitting
+pub mod Kinds
+pub mod Laws
+pub mod Lines
+pub mod Paths
+pub mod Reading
+pub mod Rows
+pub mod Table
+pub mod Views
+pub mod Words

@@ -1,0 +1,117 @@
+//! What is known of modules.
+
+ghost use Rattle.std.specs.Prelude.{◌≡◌, map};
+ghost use Rattle.std.specs.List.{list_all, list_any};
+ghost use Rattle.pam_facts.specs.Error.{Gives};
+ghost use Rattle.pam_facts.specs.Fitting.{argument_fits, fact_of, fits, last_fact};
+ghost use Rattle.pam_facts.specs.Facts.{unknown};
+ghost use Rattle.pam_facts.specs.Reading.{known_rows};
+ghost use Rattle.pam_facts.specs.Views.{row_view, texts_of};
+
+use crate::error::FactsError;
+use crate::paths::module_name;
+use crate::reading::{Row, add_file, add_table};
+use crate::row::Fact;
+use pam_text::Texts;
+use std::alloc::Global;
+use std::marker::Model;
+
+/// What is known of modules: the program's table, and then the rows of a facts file.
+///
+/// A line of a facts file is `NAME [ARGUMENT [ARGUMENT]] CLASS [KIND,... CODE ...]...`, separated by spaces and tabs. NAME is
+/// that of a module, without folder and `.so`. CLASS is `checks`, `ignores`, `passes` or `fails`. The row fits the rules of
+/// this module that have each ARGUMENT; one that ends in `=` stands for each argument that begins with it. The codes are all
+/// that the module can answer in these kinds; where no codes are given, it can answer any. Of the rows that fit a rule the
+/// last counts, and it counts alone. Lines that begin with `#` and blank lines are skipped. The case of kinds and codes is
+/// ignored.
+#[derive(Drop)]
+pub struct Facts<'a> {
+    rows: Vec<Row<'a>>,
+}
+
+impl<'a> Model for Facts<'a> {
+    ghost use Rattle.std.specs.Prelude.{List, map};
+    ghost use Rattle.pam_facts.specs.Rows.{Row as RowText};
+    ghost use Rattle.pam_facts.specs.Views.{row_view};
+
+    ghost Value = { List RowText };
+
+    ghost view = { λ f. map row_view f.rows.items };
+}
+
+/// Whether an argument of a rule is the one that a row wants.
+fn argument_fits(wanted: &[u8], argument: &[u8]) -> bool
+    ensures { result ≡ argument_fits wanted.now argument.now }
+{
+    if wanted.ends_with(b"=") {
+        argument.starts_with(wanted)
+    } else {
+        argument == wanted
+    }
+}
+
+fn has_argument(wanted: &[u8], arguments: &Texts) -> bool
+    ensures { result ≡ list_any (argument_fits wanted.now) arguments.now }
+{
+    arguments
+        .iter()
+        .any(|argument| argument_fits(wanted, argument))
+}
+
+/// Whether the arguments have the one that is wanted, if one is.
+fn has_wanted(wanted: Option<&[u8]>, arguments: &Texts) -> bool
+    ensures { result ≡ list_all (λ w. list_any (argument_fits w) arguments.now) (texts_of wanted.entry) }
+{
+    match wanted {
+        Some(wanted) => has_argument(wanted, arguments),
+        None => true,
+    }
+}
+
+/// Whether a row fits a module of this name with these arguments.
+fn fits(name: &[u8], arguments: &Texts, row: &Row<'_>) -> bool
+    ensures { result ≡ fits name.now arguments.now (row_view row.now) }
+{
+    row.name == name
+        && has_wanted(row.arguments.first, arguments)
+        && has_wanted(row.arguments.second, arguments)
+}
+
+/// The fact of the last row that fits.
+fn last_fact(name: &[u8], arguments: &Texts, rows: &[Row<'_>]) -> Fact
+    ensures { result ≡ last_fact (fits name.now arguments.now) unknown (map row_view rows.now) }
+{
+    let mut fact = Fact::unknown();
+    for row in rows {
+        if fits(name, arguments, row) {
+            fact = row.fact;
+        }
+    }
+    fact
+}
+
+impl<'a> Facts<'a> {
+    /// Reads a facts file after the program's table, or returns the file's first fault. An empty file adds nothing.
+    ///
+    /// `TooLong` (line 0) comes first, then `NulByte`, then the lines from the top. A failed allocation is `Memory`, with line
+    /// 0.
+    #[tactic(auto, unfolding(crate::specs::Reading::known_rows))]
+    pub fn read(alloc: Global, file: &'a [u8]) -> Result<Facts<'a>, FactsError>
+        ensures { Gives (λ facts. facts) result (known_rows file.now) }
+    {
+        let mut rows = Vec::new(alloc);
+        add_table(&mut rows)?;
+        add_file(file, &mut rows)?;
+        Ok(Facts { rows })
+    }
+
+    /// What is known of the module at a path, for the arguments of its rule.
+    pub fn of(&self, path: &[u8], arguments: &Texts) -> Fact
+        ensures { result ≡ fact_of self.now path.now arguments.now }
+    {
+        match module_name(path) {
+            Some(name) => last_fact(name, arguments, &self.rows),
+            None => Fact::unknown(),
+        }
+    }
+}

@@ -1,0 +1,89 @@
+//! A word that names kinds, as `auth,account`.
+
+ghost use Rattle.std.specs.Prelude.{◌≡◌};
+ghost use Rattle.std.specs.Option.{option_map};
+ghost use Rattle.std.specs.Iterator.{YieldsFirstRef, item_count};
+ghost use Rattle.pam_facts.specs.Kinds.{kinds_named, names_in, names_left, no_kinds, with_kind};
+
+use pam_conf::Kind;
+use pam_text::cut;
+
+/// The texts between commas, of which there is at least one.
+#[derive(Drop)]
+struct Names<'a> {
+    rest: Option<&'a [u8]>,
+}
+
+impl<'a> Names<'a> {
+    fn of(word: &'a [u8]) -> Self
+        ensures { names_left (option_map (λ t. t.now) result.rest) ≡ names_in word.now }
+    {
+        Names { rest: Some(word) }
+    }
+}
+
+impl<'a> Iterator for Names<'a> {
+    type Item = &'a [u8];
+
+    ghost next_gives = { YieldsFirstRef (λ s. names_left (option_map (λ t. t.now) s.rest)) };
+
+    ghost remaining = { item_count (λ s. names_left (option_map (λ t. t.now) s.rest)) };
+
+    fn next(&mut self) -> Option<&'a [u8]> {
+        let text = self.rest?;
+        match cut(text, b',') {
+            Some((name, rest)) => {
+                self.rest = Some(rest);
+                Some(name)
+            }
+            None => {
+                self.rest = None;
+                Some(text)
+            }
+        }
+    }
+}
+
+/// Some of the four kinds.
+#[derive(Clone, Copy)]
+pub(crate) struct Kinds {
+    pub(crate) auth: bool,
+    pub(crate) account: bool,
+    pub(crate) password: bool,
+    pub(crate) session: bool,
+}
+
+impl Kinds {
+    fn none() -> Kinds
+        ensures { result ≡ no_kinds }
+    {
+        Kinds {
+            auth: false,
+            account: false,
+            password: false,
+            session: false,
+        }
+    }
+
+    fn insert(&mut self, kind: Kind)
+        ensures { self.new ≡ with_kind kind self.old }
+    {
+        match kind {
+            Kind::Auth => self.auth = true,
+            Kind::Account => self.account = true,
+            Kind::Password => self.password = true,
+            Kind::Session => self.session = true,
+        }
+    }
+
+    /// The kinds that a word names, if each of its names is that of a kind.
+    pub(crate) fn named(word: &[u8]) -> Option<Kinds>
+        ensures { result ≡ kinds_named word.now }
+    {
+        let mut kinds = Kinds::none();
+        for name in Names::of(word) {
+            kinds.insert(Kind::from_name(name)?);
+        }
+        Some(kinds)
+    }
+}

@@ -1,0 +1,19 @@
+//! Laws of the definitions: each is the contract of an empty function.
+
+ghost use Rattle.pam_facts.specs.Laws.{CheckingModulesFail, FunctionlessIsUnknown, LastRowCounts, MissingIsUnknown};
+
+/// A row that fits counts if no later one does, whatever the rows before it say; a row that does not fit changes nothing.
+pub fn last_row_counts()
+    ensures { LastRowCounts }
+{}
+
+/// Where checks fail, no module that checks who logs in answers `success` or `new_authtok_reqd`, and `ignore` only if it may.
+pub fn checks_fail()
+    ensures { CheckingModulesFail }
+{}
+
+/// A module that is not there, or has no function in the kind, answers `module_unknown` alone.
+pub fn no_function()
+    ensures missing { MissingIsUnknown }
+    ensures functionless { FunctionlessIsUnknown }
+{}

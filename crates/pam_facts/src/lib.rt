@@ -1,0 +1,22 @@
+//! What is known of modules: which of them check who logs in, in which kinds a module has a function, and which codes it can
+//! answer. A table of the program has the facts of 84 modules, and a facts file adds to it.
+#![tactic(auto)]
+
+mod answers;
+mod error;
+mod facts;
+mod head;
+mod kinds;
+pub mod laws;
+mod lines;
+mod paths;
+mod reading;
+mod row;
+mod table;
+mod words;
+
+pub use error::{FactsError, FactsFault};
+pub use facts::Facts;
+pub use paths::module_name;
+pub use row::{Class, CodesByKind, Fact};
+pub use table::write_facts;

@@ -1,0 +1,153 @@
+//! The rows of a facts file.
+
+ghost use Rattle.std.specs.Prelude.{◌≡◌, ◌∷◌, ◌++◌, [], IfErr, MatchResult, Ok, Err, OnErr, OnOk, map, not};
+ghost use Rattle.std.specs.Option.{option_map};
+ghost use Rattle.pam_facts.specs.Codes.{codes_said};
+ghost use Rattle.pam_facts.specs.Error.{Gives, GivesPart, no_memory};
+ghost use Rattle.pam_facts.specs.Reading.{after_rows, rows_in, rows_of, table_rows, unless_memory, with_row};
+ghost use Rattle.pam_facts.specs.Rows.{is_name, row_of};
+ghost use Rattle.pam_facts.specs.Views.{row_view};
+ghost use Rattle.pam_facts.specs.Words.{words_of};
+
+use crate::error::{FactsError, FactsFault};
+use crate::head::{Arguments, read_head};
+use crate::kinds::Kinds;
+use crate::lines::Lines;
+use crate::row::{CodesByKind, Fact};
+use crate::table::table;
+use crate::words::{Words, first_word};
+use pam_codes::Code;
+use pam_text::Source;
+
+/// What is known of a module, where its rule has some arguments.
+#[derive(Clone, Copy)]
+pub(crate) struct Row<'a> {
+    pub(crate) name: &'a [u8],
+    pub(crate) arguments: Arguments<'a>,
+    pub(crate) fact: Fact,
+}
+
+/// The codes that the words of a row say, from its class on.
+fn read_codes(text: &[u8]) -> Option<CodesByKind>
+    ensures { result ≡ codes_said (words_of text.now) }
+{
+    let mut codes = CodesByKind::any();
+    let mut kinds = None;
+    let mut needs_code = false;
+    for word in Words::of(text) {
+        if let Some(named) = Kinds::named(word) {
+            if needs_code {
+                return None;
+            }
+            kinds = Some(named);
+            needs_code = true;
+        } else {
+            codes.insert(kinds?, Code::from_name(word)?);
+            needs_code = false;
+        }
+    }
+    if needs_code {
+        return None;
+    }
+    Some(codes)
+}
+
+/// Whether a word is the name of a module, without folder and `.so`.
+fn is_name(word: &[u8]) -> bool
+    ensures { result ≡ is_name word.now }
+{
+    !word.contains(&b'/') && !word.ends_with(b".so")
+}
+
+/// Reads a line. Returns `Ok(None)` for a comment or a blank line.
+pub(crate) fn read_row(line: &[u8]) -> Result<Option<Row<'_>>, FactsFault>
+    ensures { MatchResult result (λ row. row_of line.now ≡ Ok (option_map row_view row)) (λ fault. row_of line.now ≡ Err fault) }
+{
+    if line.starts_with(b"#") {
+        return Ok(None);
+    }
+    let Some((name, text)) = first_word(line) else {
+        return Ok(None);
+    };
+    if !is_name(name) {
+        return Err(FactsFault::BadFact);
+    }
+    let Some(head) = read_head(text) else {
+        return Err(FactsFault::BadFact);
+    };
+    let Some(codes) = read_codes(head.rest) else {
+        return Err(FactsFault::BadFact);
+    };
+    let fact = Fact {
+        class: head.class,
+        codes,
+    };
+    Ok(Some(Row {
+        name,
+        arguments: head.arguments,
+        fact,
+    }))
+}
+
+/// Adds the row of a line, if it has one. Where it fails, the rows stay as they are.
+pub(crate) fn add_line<'a>(line: &'a [u8], rows: &mut Vec<Row<'a>>) -> Result<(), FactsFault>
+    ensures added { GivesPart (λ _. map row_view rows.new.items) result (with_row (map row_view rows.old.items) (row_of line.now)) }
+    ensures stays { OnErr result (rows.new.items ≡ rows.old.items) }
+{
+    match read_row(line) {
+        Ok(Some(row)) => match rows.push(row) {
+            Ok(()) => Ok(()),
+            Err(_) => Err(FactsFault::Memory),
+        },
+        Ok(None) => Ok(()),
+        Err(fault) => Err(fault),
+    }
+}
+
+/// Adds the rows of a facts file, or returns its first fault.
+pub(crate) fn add_file<'a>(bytes: &'a [u8], rows: &mut Vec<Row<'a>>) -> Result<(), FactsError>
+    ensures { Gives (λ _. map row_view rows.new.items) result (after_rows (map row_view rows.old.items) (rows_of bytes.now)) }
+{
+    let source = match Source::of(bytes) {
+        Ok(source) => source,
+        Err(fault) => return Err(FactsError::of_source(fault)),
+    };
+    for (number, line) in Lines::of(source) {
+        if let Err(fault) = add_line(line, rows) {
+            return Err(FactsError::at(fault, number));
+        }
+    }
+    Ok(())
+}
+
+/// The error of a line of the program's table, where only an allocation can fail.
+fn table_error(fault: FactsFault) -> Result<(), FactsError>
+    ensures { result ≡ unless_memory fault }
+{
+    match fault {
+        FactsFault::Memory => Err(FactsError::at(fault, 0)),
+        FactsFault::BadFact | FactsFault::NulByte | FactsFault::TooLong => Ok(()),
+    }
+}
+
+/// Adds the row of a line of the program's table, which has no fault.
+fn add_table_line<'a>(line: &'a [u8], rows: &mut Vec<Row<'a>>) -> Result<(), FactsError>
+    ensures memory { IfErr result (λ e. e ≡ no_memory) }
+    ensures row { OnOk result (map row_view rows.new.items ≡ map row_view rows.old.items ++ rows_in (line.now ∷ [])) }
+{
+    match add_line(line, rows) {
+        Ok(()) => Ok(()),
+        Err(fault) => table_error(fault),
+    }
+}
+
+/// Adds the rows of the program's table.
+pub(crate) fn add_table(rows: &mut Vec<Row<'_>>) -> Result<(), FactsError>
+    ensures memory { IfErr result (λ e. e ≡ no_memory) }
+    ensures rows { OnOk result (map row_view rows.new.items ≡ map row_view rows.old.items ++ table_rows) }
+{
+    for line in table() {
+        add_table_line(line, rows)?;
+    }
+    Ok(())
+}
