@@ -13,7 +13,6 @@ use Rattle.pam_report.specs.declared.fault.Fault.{Fault}
 use Rattle.pam_report.specs.declared.fault.Fault.TheVariants as faults
 use Rattle.pam_report.specs.declared.inputs.Inputs.{Inputs}
 use Rattle.pam_report.specs.declared.inputs.Inputs.TheVariants as inputs
-use Rattle.pam_report.specs.declared.report.Status.{Status}
 
 -- what is read or made, and may want memory
 pub record Wants : Type 0 where
@@ -75,7 +74,7 @@ IsWanting wants (faults.Time e) = e.fault ≡ times.Memory → wants.time ≡ tr
 IsWanting wants _ = ⊤
 
 -- the same, for a result
-abbrev pub WantsOnly : Wants → Result Status Fault → Type 0
+abbrev pub WantsOnly : {A : Type 0} → Wants → Result A Fault → Type 0
 WantsOnly wants result = IfErr result (IsWanting wants)
 
 -- for private contracts and proofs alone: if it is a failed allocation, it is of what is made

@@ -7,7 +7,8 @@ use crate::tests::halting::{End, FULL, FailingOnce, Halting, INTERRUPTED, NOTHIN
 use crate::tests::same::same;
 use pam_codes::Out;
 use pam_conf::{Files, Form};
-use pam_report::{Fault, Inputs, answer, fault_status};
+use pam_print::answer;
+use pam_report::{Fault, Inputs, fault_status};
 use pam_words::{Request, request};
 use std::alloc::Global;
 use std::io::Write;
@@ -15,8 +16,8 @@ use std::process::Abort;
 use std::test::Fail;
 
 /// A command, its inputs, and what it prints.
-struct Command {
-    words: &'static [&'static str],
+pub(crate) struct Command {
+    pub words: &'static [&'static str],
     login: &'static [u8],
     access: Option<&'static [u8]>,
     time: Option<&'static [u8]>,
@@ -36,7 +37,7 @@ static SHOW: Command = Command {
     status: 0,
 };
 
-static DECIDE: Command = Command {
+pub(crate) static DECIDE: Command = Command {
     words: &[
         "pamcheck", "decide", "login", "auth", "success", "auth_err", "--dir", "d",
     ],
@@ -51,7 +52,7 @@ decision success
     status: 0,
 };
 
-static PATHS: Command = Command {
+pub(crate) static PATHS: Command = Command {
     words: &["pamcheck", "paths", "login", "auth", "--dir", "d"],
     login: b"auth [default=5] a.so\n",
     access: None,
@@ -110,7 +111,7 @@ fn commands() -> [&'static Command; 6] {
     [&SHOW, &DECIDE, &PATHS, &OUTCOMES, &ACCESS, &TIME]
 }
 
-fn inputs(alloc: Global, command: &Command) -> Result<Inputs, Fail> {
+pub(crate) fn inputs(alloc: Global, command: &Command) -> Result<Inputs, Fail> {
     if let Some(table) = command.access {
         let table = table.to_vec(alloc)?;
         return Ok(Inputs::Access {
@@ -136,7 +137,10 @@ fn inputs(alloc: Global, command: &Command) -> Result<Inputs, Fail> {
     }
 }
 
-fn asked(alloc: Global, words: &'static [&'static str]) -> Result<Request<'static>, Fail> {
+pub(crate) fn asked(
+    alloc: Global,
+    words: &'static [&'static str],
+) -> Result<Request<'static>, Fail> {
     match request(alloc, words) {
         Ok(request) => Ok(request),
         Err(_) => Err(Fail::from("the words were refused")),

@@ -1,0 +1,13 @@
+//! The text of answers: each reply of `pam_report` is written as text, and nowhere else.
+#![tactic(auto)]
+
+mod decide;
+mod header;
+mod outcomes;
+mod paths;
+mod printing;
+mod show;
+mod tables;
+mod word;
+
+pub use printing::{answer, print};
