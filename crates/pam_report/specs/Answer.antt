@@ -27,8 +27,9 @@ use Rattle.pam_times.specs.declared.times.TimeAnswer.{TimeAnswer}
 use Rattle.pam_times.specs.declared.times.TimeAnswer.TheVariants as times
 use Rattle.pam_words.specs.declared.wanted.Login.{Login}
 use Rattle.pam_words.specs.declared.wanted.Task.{Task}
-use Rattle.pam_words.specs.declared.wanted.Task.TheVariants.{Show, Decide, Access, Time, Paths, Outcomes}
+use Rattle.pam_words.specs.declared.wanted.Task.TheVariants.{Show, Decide, Access, Time, Paths, Outcomes, Graph}
 use Rattle.pam_report.specs.Decide.{decide_text}
+use Rattle.pam_report.specs.Graph.{IsDrawing}
 use Rattle.pam_report.specs.Inputs.{access_given, files_given, group_file, groups_in, no_files, time_given}
 use Rattle.pam_report.specs.KnownStack.{KnownItems, known_stack}
 use Rattle.pam_report.specs.Leaves.{IsTableFault, IsTimeFault, Leaves, LeavesSome}
@@ -138,6 +139,9 @@ AnswersFrom contents old new result service (Paths source kind limit part filter
 AnswersFrom contents old new result service (Outcomes source kind knowledge) files inputs =
     (at : Option (Result DateTime MomentError)) × IsGivenMoment knowledge.moment at
     × LeavesSome contents old new result (IsOutcomes service kind (stack_at service kind knowledge.login inputs at files))
+AnswersFrom contents old new result service (Graph source kind format knowledge) files inputs =
+    (at : Option (Result DateTime MomentError)) × IsGivenMoment knowledge.moment at
+    × LeavesSome contents old new result (IsDrawing format service kind (stack_at service kind knowledge.login inputs at files))
 
 -- THE ANSWER to a task for a service, from these inputs, and what the call writes
 abbrev pub Answers : {W : Type 0} → (W → Option (List ℕ)) → Out W → Out W → Result Status Fault → List ℕ → Task → Inputs → Type 0

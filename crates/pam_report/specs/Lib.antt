@@ -3,6 +3,8 @@ pub mod Decide
 pub mod Fault
 pub mod FaultTable
 pub mod FaultViews
+pub mod Graph
+pub mod GraphViews
 pub mod Header
 pub mod Inputs
 pub mod Known

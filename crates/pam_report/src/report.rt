@@ -8,6 +8,7 @@ ghost use Rattle.pam_report.specs.Report.{status_number};
 mod access;
 mod decide;
 mod goal_pages;
+mod graph;
 mod header;
 mod known_stack;
 mod login;
@@ -22,6 +23,7 @@ use crate::fault::Fault;
 use crate::inputs::Inputs;
 use access::answer_access;
 use decide::answer_decide;
+use graph::{DrawingRequest, answer_graph};
 use known_stack::StackRequest;
 use outcomes::answer_outcomes;
 use pam_codes::Out;
@@ -140,6 +142,19 @@ fn answer_from<W: Write>(
             let stack = stack_request(service, *kind, knowledge);
             let moment = given_moment(knowledge.moment);
             answer_outcomes(alloc, &stack, moment, files, inputs, out)
+        }
+        Task::Graph {
+            kind,
+            format,
+            knowledge,
+            ..
+        } => {
+            let drawing = DrawingRequest {
+                stack: stack_request(service, *kind, knowledge),
+                format: *format,
+            };
+            let moment = given_moment(knowledge.moment);
+            answer_graph(alloc, &drawing, moment, files, inputs, out)
         }
     }
 }
