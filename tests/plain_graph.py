@@ -66,7 +66,7 @@ def plain(text):
 
 
 def dot_label(text):
-    return re.sub(rb'["\\]', lambda found: b"\\" + found[0], plain(text))
+    return re.sub(rb'["\\]', lambda found: b"\\" + found[0], plain(text).replace(b"&", b"&amp;"))
 
 
 def mermaid_label(text):
