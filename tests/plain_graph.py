@@ -83,43 +83,42 @@ def class_text(codes):
 
 
 def dot(graph, title, names):
-    """The drawing in DOT, of modules with these names."""
-    text = DOT_TOP % dot_label(title)
+    """The lines of the drawing in DOT, of modules with these names."""
+    yield DOT_TOP % dot_label(title)
     for number in range(len(names)):
-        text += b"  c%d [shape=point, style=invis];\n  c%d -> c%d [style=invis];\n" % (number + 1, number, number + 1)
+        yield b"  c%d [shape=point, style=invis];\n  c%d -> c%d [style=invis];\n" % (number + 1, number, number + 1)
     for index, (number, state, _) in enumerate(graph.nodes):
         told = b"%s %s" % state
-        text += b'  n%d [label="%d %s\\n%s", shape=box, style=%s, group="%s"];\n' % (
+        yield b'  n%d [label="%d %s\\n%s", shape=box, style=%s, group="%s"];\n' % (
             index, number, dot_label(names[number - 1]), told, SHAPES[state.impression], told)
-        text += b"  { rank=same c%d n%d }\n" % (number, index)
-    text += b"  { rank=sink\n"
+        yield b"  { rank=same c%d n%d }\n" % (number, index)
+    yield b"  { rank=sink\n"
     for code in graph.ends():
         shape = b'ellipse, peripheries=2, group="positive ' if code == b"success" else b'octagon, group="negative '
-        text += b'  d%d [label="%s", shape=%s%s"];\n' % (stacks.CODES.index(code), code, shape, code)
-    text += b"  }\n  start -> %s;\n" % graph.start
+        yield b'  d%d [label="%s", shape=%s%s"];\n' % (stacks.CODES.index(code), code, shape, code)
+    yield b"  }\n  start -> %s;\n" % graph.start
     for index, (_, _, edges) in enumerate(graph.nodes):
         for codes, target in edges:
             told = class_text(codes)
-            text += b"  n%d -> %s%s;\n" % (index, target, b' [label="%s"]' % told if told else b"")
-    return text + b"}\n"
+            yield b"  n%d -> %s%s;\n" % (index, target, b' [label="%s"]' % told if told else b"")
+    yield b"}\n"
 
 
 def mermaid(graph, title, names):
-    """The drawing for Mermaid, of modules with these names."""
-    text = MERMAID_TOP % mermaid_label(title)
+    """The lines of the drawing for Mermaid, of modules with these names."""
+    yield MERMAID_TOP % mermaid_label(title)
     for index, (number, state, _) in enumerate(graph.nodes):
         first, last = CORNERS[state.impression]
-        text += b'  n%d%s"%d %s<br/>%s %s"%s:::%s\n' % (
+        yield b'  n%d%s"%d %s<br/>%s %s"%s:::%s\n' % (
             index, first, number, mermaid_label(names[number - 1]), *state, last, state.impression)
     for code in graph.ends():
-        text += b'  d0(["success"]):::success\n' if code == b"success" else b'  d%d{{"%s"}}\n' % (
+        yield b'  d0(["success"]):::success\n' if code == b"success" else b'  d%d{{"%s"}}\n' % (
             stacks.CODES.index(code), code)
-    text += b"  start --> %s\n" % graph.start
+    yield b"  start --> %s\n" % graph.start
     for index, (_, _, edges) in enumerate(graph.nodes):
         for codes, target in edges:
             told = class_text(codes)
-            text += b"  n%d -->%s %s\n" % (index, b'|"%s"|' % told if told else b"", target)
-    return text
+            yield b"  n%d -->%s %s\n" % (index, b'|"%s"|' % told if told else b"", target)
 
 
 FORMATS = {b"dot": dot, b"mermaid": mermaid}
@@ -128,4 +127,4 @@ FORMATS = {b"dot": dot, b"mermaid": mermaid}
 def drawing(language, service, kind, items, modules, allowed):
     """The text of `graph`."""
     names = [module.path.rpartition(b"/")[2] for module in modules]
-    return FORMATS[language](Graph(items, allowed), b"%s %s" % (service, kind), names)
+    return b"".join(FORMATS[language](Graph(items, allowed), b"%s %s" % (service, kind), names))

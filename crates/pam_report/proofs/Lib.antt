@@ -1,5 +1,6 @@
 pub mod Answering
 pub mod Civil
+pub mod Drawings
 pub mod FlatTexts
 pub mod GoalPages
 pub mod ItemTexts

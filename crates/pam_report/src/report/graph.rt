@@ -3,7 +3,6 @@
 ghost use Rattle.std.specs.Prelude.{◌≡◌, IfOk, is_some};
 ghost use Rattle.pam_codes.specs.Out.{Writes, WritesAndFlushes};
 ghost use Rattle.pam_drawing.specs.Drawing.{drawing};
-ghost use Rattle.pam_graph.specs.Walks.{GraphValue};
 ghost use Rattle.pam_known.specs.Knowledge.{Agree};
 ghost use Rattle.pam_conf.specs.Stack.{module_count};
 ghost use Rattle.pam_paths.specs.Known.{may_answer};
@@ -53,7 +52,7 @@ fn title_of(alloc: Global, service: &str, kind: Kind) -> Result<Vec<u8>, AllocEr
 /// Returns the graph of the runs of a stack, if its modules return the codes that are known. Returns `TooManyStates` if it
 /// would have too many nodes.
 fn graph_of(alloc: Global, stack: &Stack, known: &Known) -> Result<Graph, Fault>
-    ensures { (allows : Allowance) → Agree (module_count stack.now) (may_answer known.now) allows → FindsGraph stack.now allows result }
+    ensures { FindsGraph (may_answer known.now) stack.now result }
 {
     let program = match Program::of(alloc, stack) {
         Ok(program) => program,
