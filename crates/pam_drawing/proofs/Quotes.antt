@@ -4,6 +4,7 @@ use Rattle.std.proofs.Common.{arith, codes, cond, decimal, eqb, nat_le, option_m
 use Rattle.std.proofs.lemmas.Bool.{eqb-true, false≢true}
 use Rattle.std.proofs.lemmas.Fmt.{digits_decimal}
 use Rattle.std.proofs.lemmas.List.{append-nil}
+use Rattle.std.proofs.lemmas.List.Elements.{All-cons, All-head, All-nil, All-tail}
 use Rattle.std.proofs.lemmas.List.Folds.{list_all-append}
 use Rattle.std.proofs.lemmas.Str.Parse.{IsNumeralModel, numerals_by_value}
 use Rattle.std.specs.Char.{is_ascii_digit}
@@ -88,11 +89,15 @@ mermaid-one c low =
           ∙ ap (λ t. t && true) (digits-are (decimal c) (digits_decimal own c (omega arith)))
     ] refl
 
+abbrev byte : ℕ → Type 0
+byte c = c < 256
+
 mermaid-many : (cs : List ℕ) → All (λ c. c < 256) cs → list_all is_of_label (flat_map (quoted Mermaid) cs) ≡ true
 mermaid-many [] low = refl
 mermaid-many (c ∷ cs) low =
     list_all-append is_of_label (quoted Mermaid c) (flat_map (quoted Mermaid) cs)
-    ∙ ap (λ t. t && list_all is_of_label (flat_map (quoted Mermaid) cs)) (mermaid-one c low.0) ∙ mermaid-many cs low.1
+    ∙ ap (λ t. t && list_all is_of_label (flat_map (quoted Mermaid) cs)) (mermaid-one c (All-head byte c cs low))
+    ∙ mermaid-many cs (All-tail byte c cs low)
 
 hex-below : (n : ℕ) → n < 16 → hex_digit n < 256
 hex-below n h = grind arith
@@ -102,11 +107,15 @@ unfolding ascii_byte
 ascii-below b h =
     elim (eqb b 92) as (λ (t : Bool). All (λ c. c < 256)
     (cond t (92 ∷ 92 ∷ []) (cond (nat_le 32 b && nat_le b 126) (b ∷ []) (92 ∷ 120 ∷ hex_digit (b / 16) ∷ hex_digit (b % 16) ∷ [])))) [
-      | true ↦ (omega arith, omega arith, tt)
+      | true ↦ All-cons byte 92 (92 ∷ []) (omega arith) (All-cons byte 92 [] (omega arith) (All-nil byte))
       | false ↦ elim (nat_le 32 b && nat_le b 126) as (λ (t : Bool). All (λ c. c < 256)
           (cond t (b ∷ []) (92 ∷ 120 ∷ hex_digit (b / 16) ∷ hex_digit (b % 16) ∷ []))) [
-            | true ↦ (h, tt)
-            | false ↦ (omega arith, omega arith, hex-below (b / 16) (omega arith), hex-below (b % 16) (omega arith), tt)
+            | true ↦ All-cons byte b [] h (All-nil byte)
+            | false ↦
+                let last = All-cons byte (hex_digit (b % 16)) [] (hex-below (b % 16) (omega arith)) (All-nil byte) in
+                let digits = All-cons byte (hex_digit (b / 16)) (hex_digit (b % 16) ∷ []) (hex-below (b / 16) (omega arith)) last in
+                let marked = All-cons byte 120 (hex_digit (b / 16) ∷ hex_digit (b % 16) ∷ []) (omega arith) digits in
+                All-cons byte 92 (120 ∷ hex_digit (b / 16) ∷ hex_digit (b % 16) ∷ []) (omega arith) marked
           ]
     ]
 
@@ -114,4 +123,5 @@ pub mermaid-plain : MermaidLabelsArePlain
 mermaid-plain [] low = refl
 mermaid-plain (b ∷ bs) low =
     list_all-append is_of_label (quoted_byte Mermaid b) (label Mermaid bs)
-    ∙ ap (λ t. t && list_all is_of_label (label Mermaid bs)) (mermaid-many (ascii_byte b) (ascii-below b low.0)) ∙ mermaid-plain bs low.1
+    ∙ ap (λ t. t && list_all is_of_label (label Mermaid bs)) (mermaid-many (ascii_byte b) (ascii-below b (All-head byte b bs low)))
+    ∙ mermaid-plain bs (All-tail byte b bs low)
