@@ -1,7 +1,6 @@
 -- The drawing of a graph that is found.
 use Rattle.std.proofs.Common.{◌≡◌, List, Ok, ap, ℕ}
 use Rattle.pam_conf.specs.Stack.{Items, module_count}
-use Rattle.pam_drawing.specs.Drawing.{drawing}
 use Rattle.pam_graph.specs.Walks.{GraphValue}
 use Rattle.pam_known.proofs.Listings.{same_listing}
 use Rattle.pam_known.specs.Knowledge.{Agree}
@@ -9,7 +8,7 @@ use Rattle.pam_paths.specs.Known.{may_answer}
 use Rattle.pam_paths.specs.Listing.{Allowance}
 use Rattle.pam_paths.specs.Paths.{path_through}
 use Rattle.pam_paths.specs.declared.knowledge.Known.{Known}
-use Rattle.pam_report.specs.Graph.{IsGraphOf, language}
+use Rattle.pam_report.specs.Graph.{IsGraphOf, drawing_in}
 use Rattle.pam_report.specs.GraphViews.{FindsGraph}
 use Rattle.pam_words.specs.declared.wanted.GraphFormat.{GraphFormat}
 
@@ -22,5 +21,5 @@ graph-is items known allows graph agree found = record {
 }
 
 pub drawing-is : (format : GraphFormat) (items : Items) (graph : GraphValue) {one other : List ℕ} → one ≡ other
-    → drawing (language format) one items graph ≡ drawing (language format) other items graph
-drawing-is format items graph e = ap (λ (title : List ℕ). drawing (language format) title items graph) e
+    → drawing_in format one items graph ≡ drawing_in format other items graph
+drawing-is format items graph e = ap (λ (title : List ℕ). drawing_in format title items graph) e

@@ -6,9 +6,7 @@ use Rattle.pam_conf.specs.declared.rule.Kind.{Kind}
 use Rattle.pam_dispatch.specs.Flat.{runs_of}
 use Rattle.pam_dispatch.specs.Tree.{runs_of_stack}
 use Rattle.pam_dispatch.specs.declared.flat_item.FlatItem.{FlatItem}
-use Rattle.pam_drawing.specs.Drawing.{drawing}
-use Rattle.pam_drawing.specs.declared.format.Format.{Format}
-use Rattle.pam_drawing.specs.declared.format.Format.TheVariants as drawn
+use Rattle.pam_drawing.specs.Languages.{dot_drawing, mermaid_drawing}
 use Rattle.pam_graph.specs.Places.{AreNodesOf}
 use Rattle.pam_graph.specs.Walks.{GraphValue, walks}
 use Rattle.pam_known.specs.Knowledge.{Agree}
@@ -38,9 +36,10 @@ pub record IsGraphOf (items : Items) (allows : Allowance) (graph : GraphValue) :
 
 -- ---- text
 
-abbrev pub language : GraphFormat → Format
-language Dot = drawn.Dot
-language Mermaid = drawn.Mermaid
+-- the drawing of a graph of a stack in a language, with a title
+abbrev pub drawing_in : GraphFormat → List ℕ → Items → GraphValue → List ℕ
+drawing_in Dot title items graph = dot_drawing title items graph
+drawing_in Mermaid title items graph = mermaid_drawing title items graph
 
 -- `SERVICE KIND`, with the service in lowercase
 unfoldable pub title_of : List ℕ → Kind → List ℕ
@@ -51,7 +50,7 @@ abbrev pub IsDrawingOf : GraphFormat → List ℕ → Kind → Items → Allowan
 IsDrawingOf format service kind items allows answer =
     (IsTooLarge items allows × (answer ≡ Err faults.TooManyStates))
     ⊎ ((graph : GraphValue) × IsGraphOf items allows graph
-    × (answer ≡ Ok (record { text = drawing (language format) (title_of service kind) items graph; status = Success })))
+    × (answer ≡ Ok (record { text = drawing_in format (title_of service kind) items graph; status = Success })))
 
 -- THE ANSWER to `graph`: of the known stack, the drawing, or the first fault
 abbrev pub IsDrawing : GraphFormat → List ℕ → Kind → Result KnownItems Fault → Answer → Type 0

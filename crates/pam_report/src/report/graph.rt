@@ -2,13 +2,12 @@
 
 ghost use Rattle.std.specs.Prelude.{◌≡◌, IfOk, is_some};
 ghost use Rattle.pam_codes.specs.Out.{Writes, WritesAndFlushes};
-ghost use Rattle.pam_drawing.specs.Drawing.{drawing};
 ghost use Rattle.pam_known.specs.Knowledge.{Agree};
 ghost use Rattle.pam_conf.specs.Stack.{module_count};
 ghost use Rattle.pam_paths.specs.Known.{may_answer};
 ghost use Rattle.pam_paths.specs.Listing.{Allowance};
 ghost use Rattle.pam_report.specs.Answer.{stack_at};
-ghost use Rattle.pam_report.specs.Graph.{IsDrawing, IsDrawingOf, language, title_of};
+ghost use Rattle.pam_report.specs.Graph.{IsDrawing, IsDrawingOf, drawing_in, title_of};
 ghost use Rattle.pam_report.specs.GraphViews.{FindsGraph};
 ghost use Rattle.pam_report.specs.Leaves.{LeavesSome};
 ghost use Rattle.pam_report.specs.Memory.{WantsOnly, WantsWork, of_paths, paths_tables};
@@ -73,7 +72,7 @@ fn put_graph<W: Write>(
     title: &[u8],
     out: &mut Out<W>,
 ) -> Result<(), Device>
-    ensures { Writes W.contents out.old out.new result (drawing (language format) title.now stack.now graph.now) }
+    ensures { Writes W.contents out.old out.new result (drawing_in format title.now stack.now graph.now) }
 {
     match format {
         GraphFormat::Dot => write_dot(graph, stack, title, out),
@@ -88,7 +87,7 @@ fn write_graph<W: Write>(
     title: &[u8],
     out: &mut Out<W>,
 ) -> Result<(), Device>
-    ensures { WritesAndFlushes W.contents out.old out.new result (drawing (language format) title.now stack.now graph.now) }
+    ensures { WritesAndFlushes W.contents out.old out.new result (drawing_in format title.now stack.now graph.now) }
 {
     put_graph(format, graph, stack, title, out)?;
     out.finish()
