@@ -9,7 +9,7 @@ use Rattle.pam_conf.specs.declared.rule.Kind.{Kind}
 use Rattle.pam_report.specs.Answer.{AnswersBy, shown, with_stack}
 use Rattle.pam_report.specs.Finds.{Finds, Refuses}
 use Rattle.pam_report.specs.Memory.{IsWanting, Wants, wants as wants_of}
-use Rattle.pam_report.specs.Reply.{Answer, Reply, is_page, status_of}
+use Rattle.pam_report.specs.Reply.{Answer, Reply, status_of, wants_memory}
 use Rattle.pam_report.specs.ReplyViews.{reply_view}
 use Rattle.pam_report.specs.declared.fault.Fault.{Fault}
 use Rattle.pam_report.specs.declared.fault.Fault.TheVariants as faults
@@ -17,7 +17,7 @@ use Rattle.pam_report.specs.declared.inputs.Inputs.{Inputs}
 use Rattle.pam_report.specs.declared.report.Status.{Status}
 use Rattle.pam_report.specs.declared.report.replies.Reply as declared
 use Rattle.pam_words.specs.declared.wanted.Task.{Task}
-use Rattle.pam_words.specs.declared.wanted.Task.TheVariants.{Show, Decide, Access, Time, Paths, Outcomes}
+use Rattle.pam_words.specs.declared.wanted.Task.TheVariants.{Show, Decide, Access, Time, Paths, Outcomes, Graph}
 use Rattle.pam_print.specs.Leaves.{LeavesFault, LeavesSome, Prints}
 use Rattle.pam_print.specs.Text.{IsText}
 
@@ -30,6 +30,7 @@ answers-by One Other go service (Access table groups login arguments) files inpu
 answers-by One Other go service (Time table login moment) files inputs h = (h.0, h.1, go _ h.2)
 answers-by One Other go service (Paths source kind limit part filter knowledge) files inputs h = (h.0, h.1, go _ h.2)
 answers-by One Other go service (Outcomes source kind knowledge) files inputs h = (h.0, h.1, go _ h.2)
+answers-by One Other go service (Graph source kind format knowledge) files inputs h = (h.0, h.1, go _ h.2)
 
 module _ {W : Type 0} (contents : W → Option (List ℕ)) (old new : Out W) where
   -- the text of a reply is written, and what is told of it is this
@@ -78,9 +79,9 @@ module _ {W : Type 0} (contents : W → Option (List ℕ)) (old new : Out W) whe
   unprinted (faults.Table e) reply h IsAnswer is = absurd h
   unprinted (faults.Time e) reply h IsAnswer is = absurd h
 
-  -- if it is for want of memory, it is a page
+  -- if it is for want of memory, it is a page or a drawing
   pub unprinted-wants : (wants : Wants) (fault : Fault) (reply : Reply) → Prints contents old new (Err fault) reply
-      → (is_page reply ≡ true → wants.work ≡ true) → IsWanting wants fault
+      → (wants_memory reply ≡ true → wants.work ≡ true) → IsWanting wants fault
   unprinted-wants wants faults.Device reply h works = tt
   unprinted-wants wants faults.Memory reply h works = works h.1
   unprinted-wants wants (faults.Cursor e) reply h works = tt
@@ -95,7 +96,7 @@ module _ {W : Type 0} (contents : W → Option (List ℕ)) (old new : Out W) whe
 -- ---- pages
 
 abbrev page_in : Answer → Bool
-page_in (Ok reply) = is_page reply
+page_in (Ok reply) = wants_memory reply
 page_in (Err fault) = false
 
 no_page : (service : List ℕ) (kind : Kind) (files : Folder) (given : Result Items ConfError) → page_in (with_stack given (shown service kind files)) ≡ false
@@ -105,12 +106,13 @@ no_page service kind files (Ok items) = refl
 not_both : true ≡ false → ⊥
 not_both both = cc
 
--- a page is the reply of a task that may want memory for what is made
+-- a page or a drawing is the reply of a task that may want memory for what is made
 pub page-wants : (service : List ℕ) (task : Task) (files : Folder) (inputs : Inputs) (reply : declared.Reply)
-    → AnswersBy (Finds (Ok reply)) service task files inputs → is_page (reply_view reply) ≡ true → (wants_of task inputs).work ≡ true
+    → AnswersBy (Finds (Ok reply)) service task files inputs → wants_memory (reply_view reply) ≡ true → (wants_of task inputs).work ≡ true
 page-wants service (Show source kind) files inputs reply h page = absurd (not_both (sym page ∙ ap page_in (sym h) ∙ no_page service kind files _))
 page-wants service (Decide source kind answered) files inputs reply h page = refl
 page-wants service (Access table groups login arguments) files inputs reply h page = refl
 page-wants service (Time table login moment) files inputs reply h page = refl
 page-wants service (Paths source kind limit part filter knowledge) files inputs reply h page = refl
 page-wants service (Outcomes source kind knowledge) files inputs reply h page = refl
+page-wants service (Graph source kind format knowledge) files inputs reply h page = refl

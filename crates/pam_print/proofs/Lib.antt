@@ -1,3 +1,4 @@
+pub mod Drawings
 pub mod FlatTexts
 pub mod ItemTexts
 pub mod Leaving

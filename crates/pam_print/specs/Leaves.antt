@@ -2,7 +2,7 @@
 use Rattle.std.specs.Prelude.{◌≡◌, ℕ, List, Option, Result, Ok, Err, true}
 use Rattle.pam_codes.specs.Out.{Out, TookFlushed, TookFront}
 use Rattle.pam_report.specs.Finds.{Refuses}
-use Rattle.pam_report.specs.Reply.{Answer, Reply, is_page, status_of}
+use Rattle.pam_report.specs.Reply.{Answer, Reply, status_of, wants_memory}
 use Rattle.pam_report.specs.declared.fault.Fault.{Fault}
 use Rattle.pam_report.specs.declared.fault.Fault.TheVariants as faults
 use Rattle.pam_report.specs.declared.report.Status.{Status}
@@ -10,11 +10,11 @@ use Rattle.pam_print.specs.Text.{IsText}
 
 module _ {W : Type 0} (contents : W → Option (List ℕ)) (old new : Out W) where
   -- the text of a reply is written in full and then flushed once, or written up to some byte and not flushed if the writer
-  -- failed. Nothing is written if the cursor of a page is refused, or an allocation for a page failed
+  -- failed. Nothing is written if the cursor of a page is refused, or an allocation for a page or a drawing failed
   abbrev pub Prints : Result (Unit {0}) Fault → Reply → Type 0
   Prints (Ok _) reply = (text : List ℕ) × IsText reply (Ok text) × TookFlushed contents old new text
   Prints (Err faults.Device) reply = (text : List ℕ) × IsText reply (Ok text) × TookFront contents old new text
-  Prints (Err faults.Memory) reply = (new ≡ old) × (is_page reply ≡ true)
+  Prints (Err faults.Memory) reply = (new ≡ old) × (wants_memory reply ≡ true)
   Prints (Err (faults.Cursor e)) reply = (new ≡ old) × IsText reply (Err e)
   Prints (Err fault) reply = ⊥
 

@@ -1,5 +1,6 @@
 pub mod Answer
 pub mod Decide
+pub mod Drawing
 pub mod Header
 pub mod Leaves
 pub mod Outcomes

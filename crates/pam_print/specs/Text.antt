@@ -1,8 +1,9 @@
 -- The text of a reply.
 use Rattle.std.specs.Prelude.{◌≡◌, ℕ, List, Result, Ok}
 use Rattle.pam_paths.specs.declared.cursor.CursorError.{CursorError}
-use Rattle.pam_report.specs.Reply.{Reply, Stack, Run, Access, Time, Outcomes, Page}
+use Rattle.pam_report.specs.Reply.{Reply, Stack, Run, Access, Time, Outcomes, Drawing, Page}
 use Rattle.pam_print.specs.Decide.{run_text}
+use Rattle.pam_print.specs.Drawing.{drawing_text}
 use Rattle.pam_print.specs.Outcomes.{outcomes_text}
 use Rattle.pam_print.specs.Page.{IsPageText}
 use Rattle.pam_print.specs.Show.{stack_text}
@@ -15,4 +16,5 @@ IsText (Run run) text = text ≡ Ok (run_text run)
 IsText (Access found) text = text ≡ Ok (access_text found)
 IsText (Time found) text = text ≡ Ok (time_text found)
 IsText (Outcomes outcomes) text = text ≡ Ok (outcomes_text outcomes)
+IsText (Drawing drawing) text = text ≡ Ok (drawing_text drawing)
 IsText (Page page) text = IsPageText page text

@@ -9,7 +9,7 @@ use pam_codes::{Device, Out, Piece};
 use pam_conf::Kind;
 use std::io::Write;
 
-fn kind_name(kind: Kind) -> &'static str
+pub(crate) fn kind_name(kind: Kind) -> &'static str
     ensures { result.now ≡ kind_name kind }
 {
     match kind {

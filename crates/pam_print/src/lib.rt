@@ -2,6 +2,7 @@
 #![tactic(auto)]
 
 mod decide;
+mod drawing;
 mod header;
 mod outcomes;
 mod paths;

@@ -1,4 +1,5 @@
 pub mod Civil
+pub mod Drawings
 pub mod GoalPages
 pub mod KnownStacks
 pub mod OutcomeLists

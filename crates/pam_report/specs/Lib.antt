@@ -4,6 +4,8 @@ pub mod Fault
 pub mod FaultTable
 pub mod FaultViews
 pub mod Finds
+pub mod Graph
+pub mod GraphViews
 pub mod Inputs
 pub mod Known
 pub mod KnownStack

@@ -7,7 +7,7 @@ use Rattle.pam_tables.specs.declared.error.Table.TheVariants.{Access as AccessTa
 use Rattle.pam_tables.specs.declared.error.TableFault.TheVariants as reasons
 use Rattle.pam_times.specs.declared.error.TimeFault.TheVariants as times
 use Rattle.pam_words.specs.declared.wanted.Task.{Task}
-use Rattle.pam_words.specs.declared.wanted.Task.TheVariants.{Show, Decide, Access, Time, Paths, Outcomes}
+use Rattle.pam_words.specs.declared.wanted.Task.TheVariants.{Show, Decide, Access, Time, Paths, Outcomes, Graph}
 use Rattle.pam_report.specs.Inputs.{group_file}
 use Rattle.pam_report.specs.declared.fault.Fault.{Fault}
 use Rattle.pam_report.specs.declared.fault.Fault.TheVariants as faults
@@ -59,6 +59,7 @@ wants (Access table groups login arguments) inputs = of_tables true (is_some (gr
 wants (Time table login moment) inputs = of_tables false false true
 wants (Paths source kind limit part filter knowledge) inputs = of_paths (paths_tables (is_some knowledge.moment) inputs)
 wants (Outcomes source kind knowledge) inputs = of_paths (paths_tables (is_some knowledge.moment) inputs)
+wants (Graph source kind format knowledge) inputs = of_paths (paths_tables (is_some knowledge.moment) inputs)
 
 abbrev pub wants_table : Wants → Table → Bool
 wants_table wants AccessTable = wants.access

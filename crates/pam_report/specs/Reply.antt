@@ -12,6 +12,7 @@ use Rattle.pam_tables.specs.declared.access.AccessAnswer.{AccessAnswer}
 use Rattle.pam_tables.specs.declared.access.AccessAnswer.TheVariants as access
 use Rattle.pam_times.specs.declared.times.TimeAnswer.{TimeAnswer}
 use Rattle.pam_times.specs.declared.times.TimeAnswer.TheVariants as times
+use Rattle.pam_words.specs.declared.wanted.GraphFormat.{GraphFormat}
 use Rattle.pam_words.specs.declared.wanted.PagePart.{PagePart}
 use Rattle.pam_report.specs.Decide.{AskedModule}
 use Rattle.pam_report.specs.declared.fault.Fault.{Fault}
@@ -47,6 +48,14 @@ pub record OutcomesValue : Type 0 where
   pub found : List Outcome
   pub total : Option ℕ
 
+-- the graph of the runs of a stack, and the language in which it is to be drawn
+pub record DrawingValue : Type 0 where
+  pub service : List ℕ
+  pub kind : Kind
+  pub items : Items
+  pub format : GraphFormat
+  pub graph : GraphValue
+
 -- a page of the paths through a stack that meet a goal, if its modules return codes that are allowed. It is listed from the
 -- program of the stack, or from the graph of its runs
 pub record PageValue : Type 0 where
@@ -66,6 +75,7 @@ pub data Reply : Type 0 where
   Access : AccessAnswer → Reply
   Time : TimeAnswer → Reply
   Outcomes : OutcomesValue → Reply
+  Drawing : DrawingValue → Reply
   Page : PageValue → Reply
 
 -- a reply, or the first fault
@@ -91,10 +101,11 @@ status_of (Access found) = access_status found
 status_of (Time found) = time_status found
 status_of _ = Success
 
--- a reply is a page, which is listed only when it is printed
-abbrev pub is_page : Reply → Bool
-is_page (Page page) = true
-is_page _ = false
+-- memory is wanted to print a reply: for the lines of a page, and for the title of a drawing
+abbrev pub wants_memory : Reply → Bool
+wants_memory (Page page) = true
+wants_memory (Drawing drawing) = true
+wants_memory _ = false
 
 abbrev pub status_number : Status → ℕ
 status_number Success = 0

@@ -4,6 +4,7 @@ use Rattle.pam_report.specs.Decide.{AskedModule}
 use Rattle.pam_report.specs.Inputs.{no_files}
 use Rattle.pam_report.specs.PageView.{page_value}
 use Rattle.pam_report.specs.Reply as spec
+use Rattle.pam_report.specs.declared.report.graph.GraphReply.{GraphReply}
 use Rattle.pam_report.specs.declared.report.outcomes.Outcome.{Outcome}
 use Rattle.pam_report.specs.declared.report.outcomes.OutcomesReply.{OutcomesReply}
 use Rattle.pam_report.specs.declared.report.replies.Reply.{Reply}
@@ -44,6 +45,9 @@ outcomes_view o = record {
   total = o.outcomes.total;
 }
 
+abbrev pub drawing_view : GraphReply → spec.DrawingValue
+drawing_view d = record { service = d.service.now; kind = d.kind; items = d.stack; format = d.format; graph = d.graph }
+
 -- THE VALUE of a reply
 abbrev pub reply_view : Reply → spec.Reply
 reply_view (replies.Stack stack) = spec.Stack (stack_view stack)
@@ -51,4 +55,5 @@ reply_view (replies.Run run) = spec.Run (run_view run)
 reply_view (replies.Access found) = spec.Access found
 reply_view (replies.Time found) = spec.Time found
 reply_view (replies.Outcomes outcomes) = spec.Outcomes (outcomes_view outcomes)
+reply_view (replies.Graph drawing) = spec.Drawing (drawing_view drawing)
 reply_view (replies.Paths page) = spec.Page (page_value page)

@@ -10,6 +10,7 @@ ghost use Rattle.pam_report.specs.Reply.{status_number};
 mod access;
 mod decide;
 mod goal_pages;
+mod graph;
 mod known_stack;
 mod login;
 mod outcomes;
@@ -24,6 +25,8 @@ use crate::inputs::Inputs;
 use access::answer_access;
 pub use decide::RunReply;
 use decide::decided;
+pub use graph::GraphReply;
+use graph::{DrawingRequest, answer_graph};
 use known_stack::StackRequest;
 use outcomes::answer_outcomes;
 pub use outcomes::{Outcome, Outcomes, OutcomesReply};
@@ -141,6 +144,19 @@ fn reply_from<'a>(
             let stack = stack_request(service, *kind, knowledge);
             let moment = given_moment(knowledge.moment);
             answer_outcomes(alloc, &stack, moment, files, inputs)
+        }
+        Task::Graph {
+            kind,
+            format,
+            knowledge,
+            ..
+        } => {
+            let drawing = DrawingRequest {
+                stack: stack_request(service, *kind, knowledge),
+                format: *format,
+            };
+            let moment = given_moment(knowledge.moment);
+            answer_graph(alloc, &drawing, moment, files, inputs)
         }
     }
 }

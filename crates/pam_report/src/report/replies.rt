@@ -6,6 +6,7 @@ ghost use Rattle.pam_report.specs.ReplyViews.{reply_view};
 
 use super::Status;
 use super::decide::RunReply;
+use super::graph::GraphReply;
 use super::outcomes::OutcomesReply;
 use super::paths::PathsPage;
 use super::show::StackReply;
@@ -28,6 +29,8 @@ pub enum Reply<'a> {
     Paths(PathsPage<'a>),
     /// Of `outcomes`.
     Outcomes(OutcomesReply<'a>),
+    /// Of `graph`.
+    Graph(GraphReply<'a>),
 }
 
 impl Reply<'_> {
@@ -39,7 +42,8 @@ impl Reply<'_> {
             Reply::Run(run) => status_of_decision(run.trace.decision),
             Reply::Access(answer) => status_of_access(*answer),
             Reply::Time(answer) => status_of_time(*answer),
-            Reply::Stack(_) | Reply::Paths(_) | Reply::Outcomes(_) => Status::Success,
+            Reply::Stack(_) | Reply::Paths(_) | Reply::Outcomes(_) | Reply::Graph(_) =>
+                Status::Success,
         }
     }
 }

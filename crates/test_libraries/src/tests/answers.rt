@@ -77,6 +77,32 @@ total 2 ways
     status: 0,
 };
 
+static GRAPH: Command = Command {
+    words: &[
+        "pamcheck", "graph", "login", "auth", "--dir", "d", "--format", "mermaid",
+    ],
+    login: b"auth [success=ok default=5] a.so\n",
+    access: None,
+    time: None,
+    text: b"---
+title: \"login auth\"
+---
+flowchart LR
+  classDef undef stroke-dasharray:4 3
+  classDef positive stroke-width:1px
+  classDef negative stroke-width:3px
+  classDef success stroke-width:4px
+  start(( ))
+  n0[\"1 a.so<br/>undef perm_denied\"]:::undef
+  d0([\"success\"]):::success
+  d6{{\"perm_denied\"}}
+  start --> n0
+  n0 -->|\"success\"| d0
+  n0 -->|\"but:success\"| d6
+",
+    status: 0,
+};
+
 static ACCESS: Command = Command {
     words: &[
         "pamcheck", "access", "login", "--access", "t", "--user", "bob",
@@ -107,8 +133,8 @@ static TIME: Command = Command {
     status: 1,
 };
 
-fn commands() -> [&'static Command; 6] {
-    [&SHOW, &DECIDE, &PATHS, &OUTCOMES, &ACCESS, &TIME]
+fn commands() -> [&'static Command; 7] {
+    [&SHOW, &DECIDE, &PATHS, &OUTCOMES, &GRAPH, &ACCESS, &TIME]
 }
 
 pub(crate) fn inputs(alloc: Global, command: &Command) -> Result<Inputs, Fail> {
@@ -126,7 +152,7 @@ pub(crate) fn inputs(alloc: Global, command: &Command) -> Result<Inputs, Fail> {
     let mut files = Files::new(alloc, Form::Dir);
     put(alloc, &mut files, b"login", command.login)?;
     match command.words.get(1) {
-        Some(&"paths") | Some(&"outcomes") => Ok(Inputs::Paths {
+        Some(&"paths") | Some(&"outcomes") | Some(&"graph") => Ok(Inputs::Paths {
             files,
             groups: None,
             access: None,
