@@ -24,7 +24,8 @@ TE11 = b"pamcheck: TE11 Memory\n"
 # The line of another fault has no memory: its status alone is left.
 UNSAID = "unsaid"
 # The answer is whole. The standard library's `collect` moves a list that it has made into memory that just fits it, and
-# keeps the list where it is if that is refused. There are two: the words, and the service in lower case.
+# keeps the list where it is if that is refused. There are two: the words, and the service in lower case; `graph` makes the
+# second one twice.
 KEPT = "kept"
 
 # The words are gathered, and their list fitted; standard output gets its buffer; `clap` reads the words.
@@ -37,6 +38,9 @@ TABLES = LOGINS + [TE11]
 # The flat program, and the texts of a page or a graph and what is counted over it; a cursor takes no memory.
 PAGES = LOGINS + [E17]
 TABLE_PAGES = TABLES + [E17]
+# The title of a drawing, which has the service in lower case once more.
+DRAWINGS = PAGES + [KEPT, E17]
+TABLE_DRAWINGS = TABLE_PAGES + [KEPT, E17]
 
 TREE = {"d": FOLDER, "stack": {"login": STACK}, "pam.conf": b"login auth required a.so x\n" * 40, "access": ACCESS,
         "group": GROUP, "time": TIME, "returns": RETURNS,
@@ -67,9 +71,13 @@ ASKED = [
       "--zone", "CET-1CEST,M3.5.0,M10.5.0/3"], TABLES),
     (["outcomes", "login", "auth", "--dir", "stack"], PAGES),
     (["outcomes", "login", "account", "--dir", "stack", *ACCESS_TABLE, *TIME_TABLE, *RETURNS_FILE], TABLE_PAGES),
+    (["graph", "login", "auth", "--dir", "stack"], DRAWINGS),
+    (["graph", "login", "account", "--dir", "stack", "--format", "mermaid", *ACCESS_TABLE, *TIME_TABLE, *RETURNS_FILE],
+     TABLE_DRAWINGS),
     (["show", "login"], WORDS),
     (["show", "login", "atuh", "--dir", "d"], [*WORDS, UNSAID]),
     (["time", "login", "--time", "time", "--user", "alice"], [*WORDS, UNSAID]),
+    (["graph", "login", "auth", "--dir", "d", "--format", "gif"], [*WORDS, UNSAID]),
     (["show", "login", "auth", "--dir", "gone"], [*STACKS, UNSAID]),
     (["show", "ftp", "auth", "--conf", "pam.conf"], [*STACKS, UNSAID]),
     (["time", "login", "--time", "time", "--user", "alice", "--at", "2024-05-06"], [*STACKS, UNSAID]),

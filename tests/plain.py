@@ -7,6 +7,7 @@ words that it does not take is its own, so standard error is `None` then. Help i
 import re
 from itertools import islice
 
+import plain_graph
 import plain_outcomes
 import plain_stacks as stacks
 import plain_tables as tables
@@ -19,12 +20,13 @@ OPTIONS = {
     b"decide": b"--dir --conf",
     b"paths": b"--dir --conf --limit --after --before --decision --asks" + KNOWING,
     b"outcomes": b"--dir --conf" + KNOWING,
+    b"graph": b"--dir --conf --format" + KNOWING,
     b"access": b"--access --user --group --rhost --tty",
     b"time": b"--time --user --tty --at --at-unix --zone",
 }
 REQUIRED = {b"access": [b"--access", b"--user"], b"time": [b"--time", b"--user"]}
-MOST_ARGUMENTS = {b"show": 2, b"paths": 2, b"outcomes": 2, b"time": 1}
-LEAST_ARGUMENTS = {b"show": 2, b"decide": 2, b"paths": 2, b"outcomes": 2, b"access": 1, b"time": 1}
+MOST_ARGUMENTS = {b"show": 2, b"paths": 2, b"outcomes": 2, b"graph": 2, b"time": 1}
+LEAST_ARGUMENTS = {b"show": 2, b"decide": 2, b"paths": 2, b"outcomes": 2, b"graph": 2, b"access": 1, b"time": 1}
 MOST_COUNTED = 2 ** 128
 
 
@@ -106,7 +108,7 @@ class Request:
                 raise Fault("U1") from None
         self.command, self.arguments, self.options = parsed(words)
         self.service = self.arguments[0].lower()
-        if self.command in (b"show", b"decide", b"paths", b"outcomes"):
+        if self.command in (b"show", b"decide", b"paths", b"outcomes", b"graph"):
             if (b"--dir" in self.options) == (b"--conf" in self.options):
                 raise Fault("U2")
             self.kind = self.arguments[1].lower()
@@ -116,8 +118,11 @@ class Request:
             self.codes = [code.lower() for code in self.arguments[2:]]
             if not set(self.codes) <= set(stacks.CODES):
                 raise Fault("U4")
+        self.format = self.options.get(b"--format", b"dot")
+        if self.format not in plain_graph.FORMATS:
+            raise Fault("U12")
         self.decisions = decisions_of(self.options[b"--decision"]) if b"--decision" in self.options else set()
-        if self.command in (b"paths", b"outcomes", b"time"):
+        if self.command in (b"paths", b"outcomes", b"graph", b"time"):
             self.judge_login_and_moment()
 
     def judge_login_and_moment(self):
@@ -155,6 +160,8 @@ class Request:
         if self.command == b"decide":
             text, status = self.decide(items, modules)
             return header + text, status
+        if self.command == b"graph":
+            return plain_graph.drawing(self.format, self.service, self.kind, items, modules, self.known(modules)), 0
         if self.command == b"outcomes":
             return header + self.outcomes(items, modules), 0
         return header + self.page(items, modules), 0

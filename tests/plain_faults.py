@@ -50,6 +50,7 @@ NAMES = dict(line.split() for line in """
     U8 BothEnds
     U9 NoSuchModule
     U11 BothFilters
+    U12 FormatName
     V1 Read
     V2 Write
 """.strip().splitlines())

@@ -20,7 +20,8 @@ LONG = ["paths", "login", "auth", "--dir", "d", "--limit", "5000"]
 ACCESS = ["access", "login", "--access", "access", "--group", "group", "--user", "alice"]
 TIME = ["time", "login", "--time", "time", "--user", "alice", "--at", "2024-05-06T10:00"]
 OUTCOMES = ["outcomes", "login", "auth", "--dir", "d"]
-ANSWERED = [SHOW, ["decide", "login", "auth", *["success"] * 12, "--dir", "d"], LONG, OUTCOMES, ACCESS, TIME]
+GRAPH = ["graph", "login", "auth", "--dir", "d"]
+ANSWERED = [SHOW, ["decide", "login", "auth", *["success"] * 12, "--dir", "d"], LONG, OUTCOMES, GRAPH, ACCESS, TIME]
 REFUSED = [["show", "ftp", "auth", "--dir", "d"], ["show", "login", "auth"], ["show", "login"], [*LONG, "--after", "x"],
            ["show", "login", "auth", "--dir", "gone"]]
 V2 = b"pamcheck: V2 Write\n"
@@ -244,12 +245,13 @@ def sources(program):
         check_like(program, ["show", "login", "auth", "--conf", name], endless)
         for option in ("--access", "--group", "--time", "--returns"):
             check_like(program, [*base, option, name], endless)
-            check_like(program, ["outcomes", *known, option, name], endless)
+            for command in ("outcomes", "graph"):
+                check_like(program, [command, *known, option, name], endless)
         check_like(program, ["access", "login", "--user", "a", "--access", name], endless)
         check_like(program, ["access", "login", "--user", "a", "--access", "access", "--group", name], endless)
         check_like(program, ["time", "login", "--user", "a", "--time", name, "--at", "2024-05-06T10:00"], endless)
         check_like(program, [*base, "--returns", "gone", "--time", "gone2", "--access", name, "--group", "d"], endless)
-        runs += 13
+        runs += 17
     os.remove("ring")
     os.remove("link")
     os.rmdir("empty")

@@ -52,7 +52,8 @@ a.so success auth_err
 pam_unix.so  new_authtok_reqd\tsuccess
 pam_time.so abort
 """
-EXCHANGED = [[command, "login", "account", "--dir", "d", "--user", "alice"] for command in ("paths", "outcomes")]
+EXCHANGED = [[command, "login", "account", "--dir", "d", "--user", "alice"]
+             for command in ("paths", "outcomes", "graph")]
 STACK = b"""auth required a.so
 auth [success=1 default=ignore] b.so
 auth sufficient pam_unix.so
@@ -66,6 +67,9 @@ SHOW = ["show", "login", "auth"]
 DECIDE = ["decide", "login", "auth", "success", "auth_err", "success", "new_authtok_reqd", "ignore"]
 PATHS = ["paths", "login", "auth", "--limit", "6"]
 OUTCOMES = ["outcomes", "login", "auth"]
+GRAPH = ["graph", "login", "auth"]
+MERMAID = [*GRAPH, "--format", "mermaid"]
+FORMATS = [b"dot", b"mermaid"]
 # Words of `paths`, and too few words for what they begin with, and too many.
 OTHER_WORDS = [["--limit", "3"], ["--after", "0"], ["--before", "0"], ["more"], ["--access", "access"], ["--returns"],
                ["--time", "time", "--user", "alice"], ["--zone", "UTC0"], ["--at-unix", "x"], ["--conf", "pam.conf"]]
@@ -103,14 +107,16 @@ def of_file(data, name, tree, asked, at_once=1):
 
 def configurations():
     """A folder, of which one file at a time is changed, and `pam.conf`."""
-    asked = [[*words, "--dir", "d"] for words in (SHOW, DECIDE, SHOW, OUTCOMES, PATHS, ["show", "login", "account"])]
+    asked = [[*words, "--dir", "d"] for words in (
+        SHOW, DECIDE, GRAPH, OUTCOMES, PATHS, ["show", "login", "account"], SHOW, MERMAID)]
     for name, data in FOLDER.items():
         for change in changed(data):
             words = asked[len(change) % len(asked)]
             asked = asked[1:] + asked[:1]
             yield words, {"d": {**FOLDER, name: change}}
     yield from of_file(CONF, "pam.conf", {}, [[*words, "--conf", "pam.conf"] for words in (
-        SHOW, [*DECIDE[:3], "success", "auth_err", "success"], PATHS, OUTCOMES, ["show", "ftp", "auth"])])
+        SHOW, [*DECIDE[:3], "success", "auth_err", "success"], PATHS, OUTCOMES, GRAPH,
+        ["show", "ftp", "auth"], MERMAID)])
 
 
 def exchanged():
@@ -131,30 +137,37 @@ def both_ways(first, second, asked):
 
 
 def tables():
-    """An access table, a group file, a time table and a returns file, alone and under `paths` and `outcomes`."""
+    """An access table, a group file, a time table and a returns file, alone and under `paths`, `outcomes` and `graph`."""
     tree = {"access": ACCESS, "group": GROUP, "time": TIME, "returns": RETURNS, "d": {"login": STACK}}
     auth = [*PATHS, "--dir", "d", *TABLES]
     account = ["paths", "login", "account", "--limit", "6", "--dir", "d", *TABLES]
     counted = [*OUTCOMES, "--dir", "d", *TABLES]
+    graph = [*GRAPH, "--dir", "d", *TABLES]
     yield from of_file(ACCESS, "access", tree, [*ACCESS_WORDS, account])
     yield from of_file(GROUP, "group", tree, [*ACCESS_WORDS, account])
     yield from of_file(TIME, "time", tree, [*TIME_WORDS, account])
-    yield from of_file(RETURNS, "returns", tree, [auth, account, counted])
+    yield from of_file(RETURNS, "returns", tree, [auth, account, counted, graph])
 
 
 def words():
-    """Cursors, a moment and names in the words."""
-    tree = {"access": ACCESS, "group": GROUP, "time": TIME, "returns": RETURNS, "d": {"login": STACK}}
+    """Cursors, a moment, formats and names in the words."""
+    tree = {"access": ACCESS, "group": GROUP, "time": TIME, "returns": RETURNS, "d": {"login": STACK},
+            "o": {"other": b"auth requisite a.so\n"}}
     for cursor in CURSORS:
         for change in changed(cursor):
             for side in ("--after", "--before"):
                 yield [*PATHS, "--dir", "d", "--returns", "returns", side, change], tree
     for change in changed(MOMENT):
         yield ["time", "login", "--time", "time", "--user", "alice", "--at", change], tree
+    for name in FORMATS:
+        for change in changed(name):
+            yield [*GRAPH, "--dir", "d", *TABLES, "--format", change], tree
     for more in OTHER_WORDS:
+        yield [*GRAPH, "--dir", "d", *more], tree
         yield [*OUTCOMES, "--dir", "d", *more], tree
     for template in (["show", "{}", "auth", "--dir", "d"], ["show", "login", "{}", "--dir", "d"],
                      ["outcomes", "login", "{}", "--dir", "d"],
+                     ["graph", "{}", "auth", "--dir", "o"], ["graph", "{}", "auth", "--dir", "o", "--format", "mermaid"],
                      ["decide", "login", "account", "success", "{}", "--dir", "d"],
                      ["access", "login", "{}", "--access", "access", "--user", "bob"],
                      ["access", "login", "--access", "access", "--user", "bob", "--rhost", "{}"],

@@ -19,7 +19,7 @@ use Rattle.pam_words.specs.declared.wanted.Login.{Login}
 use Rattle.pam_words.specs.declared.wanted.Moment.{Moment}
 use Rattle.pam_words.specs.declared.wanted.PagePart.{PagePart}
 use Rattle.pam_words.specs.declared.wanted.Task.{Task}
-use Rattle.pam_words.specs.declared.wanted.Task.TheVariants.{Show, Decide, Access, Time, Paths, Outcomes}
+use Rattle.pam_words.specs.declared.wanted.Task.TheVariants.{Show, Decide, Access, Time, Paths, Outcomes, Graph}
 
 -- ---- what is read
 
@@ -40,6 +40,7 @@ HasSource (Show source kind) given = HasFiles source given
 HasSource (Decide source kind answered) given = HasFiles source given
 HasSource (Paths source kind limit part filter knowledge) given = HasFiles source given
 HasSource (Outcomes source kind knowledge) given = HasFiles source given
+HasSource (Graph source kind format knowledge) given = HasFiles source given
 HasSource task given = ⊤
 
 -- THE INPUTS of a task: those of exactly the files that it names
@@ -71,6 +72,7 @@ IsOfTask (Access table groups login arguments) name = IsNamed (option_copied gro
 IsOfTask (Time table login moment) name = name ≡ table.now
 IsOfTask (Paths source kind limit part filter knowledge) name = IsOfKnowledge source knowledge name
 IsOfTask (Outcomes source kind knowledge) name = IsOfKnowledge source knowledge name
+IsOfTask (Graph source kind format knowledge) name = IsOfKnowledge source knowledge name
 
 -- an allocation failed, or a file with such a name cannot be read
 abbrev pub IsUnread : (List ℕ → Type 0) → InputError → Type 0

@@ -2,9 +2,9 @@
 use Rattle.std.specs.Prelude.{◌≡◌, ◌⊎◌, true, ℕ, List, Option, Result, Ok, Err, MatchOption}
 use Rattle.clap.specs.Words.{fault_of, subcommand_of, takes}
 use Rattle.pam_codes.specs.Out.{Out}
-use Rattle.pam_report.specs.Answer.{Answers}
+use Rattle.pam_print.specs.Answer.{Answers}
 use Rattle.pam_report.specs.Fault.{status_of_fault, status_of_input, status_of_usage}
-use Rattle.pam_report.specs.Report.{status_number}
+use Rattle.pam_report.specs.Reply.{status_number}
 use Rattle.pam_report.specs.declared.fault.Fault.{Fault}
 use Rattle.pam_report.specs.declared.fault.Fault.TheVariants as faults
 use Rattle.pam_report.specs.declared.inputs.InputError.{InputError}

@@ -8,9 +8,10 @@ ghost use Rattle.pam_cli.specs.Run.{EndsAnswered, EndsRefused, EndsRequest, Runs
 use crate::reading::inputs_of;
 use pam_codes::Out;
 use pam_conf::{Files as ConfFiles, Form};
+use pam_print::answer;
 use pam_report::{
-    Fault, InputError, Inputs, answer, fault_status, fault_text, input_status, input_text,
-    usage_status, usage_text,
+    Fault, InputError, Inputs, fault_status, fault_text, input_status, input_text, usage_status,
+    usage_text,
 };
 use pam_words::{Request, Usage, request};
 use std::alloc::{AllocError, Global};

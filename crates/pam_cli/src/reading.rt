@@ -290,5 +290,10 @@ pub(crate) fn inputs_of<R: std::rt::Files + AllocGlobal + Clone + Drop>(
             knowledge,
             ..
         } => knowledge_inputs(rt, alloc, *source, knowledge),
+        Task::Graph {
+            source,
+            knowledge,
+            ..
+        } => knowledge_inputs(rt, alloc, *source, knowledge),
     }
 }

@@ -3,6 +3,7 @@ use Rattle.std.specs.Prelude.{ℕ, ◌+◌, ◌==◌, Bool, false, ◌||◌, if�
 use Rattle.std.specs.List.{concat, enumerate_from, flat_map, list_any, range_with_len}
 use Rattle.std.specs.Option.{option_map_or}
 use Rattle.pam_codes.specs.Code.{all_codes}
+use Rattle.pam_codes.specs.Set.{codes_where, is_in}
 use Rattle.pam_codes.specs.SetText.{name_of, set_text}
 use Rattle.pam_codes.specs.declared.code.TheConstants.{CODES}
 use Rattle.pam_conf.specs.Stack.{Items, module_at, module_count}
@@ -39,6 +40,9 @@ leads_to code node = list_any (λ (edge : Edge). is_end code edge.target) node.e
 
 abbrev pub is_drawn_end : GraphValue → ℕ → Bool
 is_drawn_end graph code = is_end code graph.start || list_any (leads_to code) graph.nodes
+
+abbrev pub drawn_ends : GraphValue → List ℕ
+drawn_ends graph = codes_where (is_drawn_end graph)
 
 -- ---- its text
 
@@ -137,8 +141,8 @@ failure_text Mermaid code = mermaid_failure code
 unfoldable pub end_text : Format → ℕ → List ℕ
 end_text format code = if code == success then success_text format else failure_text format code
 
-unfoldable pub end_if_drawn : Format → GraphValue → ℕ → List ℕ
-end_if_drawn format graph code = if is_drawn_end graph code then end_text format code else []
+unfoldable pub end_if_drawn : Format → List ℕ → ℕ → List ℕ
+end_if_drawn format drawn code = if is_in code drawn then end_text format code else []
 
 abbrev pub ends_opening : Format → List ℕ
 ends_opening Dot = codes "  { rank=sink\n"
@@ -149,7 +153,7 @@ ends_closing Dot = codes "  }\n"
 ends_closing Mermaid = []
 
 unfoldable pub ends_text : Format → GraphValue → List ℕ
-ends_text format graph = ends_opening format ++ flat_map (end_if_drawn format graph) all_codes ++ ends_closing format
+ends_text format graph = ends_opening format ++ flat_map (end_if_drawn format (drawn_ends graph)) all_codes ++ ends_closing format
 
 -- `nINDEX` or `dCODE`
 abbrev pub target_text : Target → List ℕ

@@ -20,9 +20,13 @@ ascii_byte b =
 abbrev pub is_plain : ℕ → Bool
 is_plain c = is_ascii_alphanumeric c || list_any (λ x. x == c) (codes " _-+=,.:")
 
+-- an ampersand by its name, since Graphviz reads names of characters in a label
+abbrev pub named : ℕ → List ℕ
+named c = if c == 38 then codes "&amp;" else c ∷ []
+
 -- a character in quotes: Graphviz wants a backslash before a quote and a backslash, Mermaid a number for each that is not plain
 unfoldable pub quoted : Format → ℕ → List ℕ
-quoted Dot c = if c == 92 || c == 34 then 92 ∷ c ∷ [] else c ∷ []
+quoted Dot c = if c == 92 || c == 34 then 92 ∷ c ∷ [] else named c
 quoted Mermaid c = if is_plain c then c ∷ [] else codes "#" ++ decimal c ++ codes ";"
 
 abbrev pub quoted_byte : Format → ℕ → List ℕ

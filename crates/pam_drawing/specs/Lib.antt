@@ -1,2 +1,4 @@
 pub mod Drawing
 pub mod Labels
+pub mod Languages
+pub mod Laws

@@ -1,12 +1,13 @@
 //! The edges and ends of a drawing.
 
-ghost use Rattle.std.specs.Prelude.{◌≡◌, ◌<◌};
+ghost use Rattle.std.specs.Prelude.{◌≡◌, ◌<◌, ◌==◌};
 ghost use Rattle.std.specs.List.{flat_map, list_any};
 ghost use Rattle.pam_codes.specs.Code.{all_codes};
 ghost use Rattle.pam_codes.specs.Out.{Writes};
+ghost use Rattle.pam_codes.specs.Set.{codes_where};
 ghost use Rattle.pam_codes.specs.declared.code.TheConstants.{CODES};
-ghost use Rattle.pam_drawing.specs.Drawing.{class_between, class_text, dot_edge, dot_failure, drawn_nodes, edge_text, end_if_drawn};
-ghost use Rattle.pam_drawing.specs.Drawing.{end_text, ends_closing, ends_opening, ends_text, failure_text, is_drawn_end, is_end, leads_to, line_closing};
+ghost use Rattle.pam_drawing.specs.Drawing.{class_between, class_text, dot_edge, dot_failure, drawn_ends, drawn_nodes, edge_text, end_if_drawn};
+ghost use Rattle.pam_drawing.specs.Drawing.{end_text, ends_closing, ends_opening, ends_text, failure_text, is_end, leads_to, line_closing};
 ghost use Rattle.pam_drawing.specs.Drawing.{mermaid_edge, mermaid_failure, node_edges, start_opening, start_text, success_text, target_text};
 
 use crate::format::Format;
@@ -15,33 +16,57 @@ use pam_codes::{CODES, Code, CodeSet, Device, Out, Piece};
 use pam_graph::{Edge, Graph, Node, Target};
 use std::io::Write;
 
-fn is_end(code: Code, target: Target) -> bool
-    ensures { result ≡ is_end code target }
+/// Returns the end that a target is; none for a node.
+fn end_of(target: Target) -> CodeSet
+    ensures { result ≡ codes_where (λ code. is_end code target) }
 {
     match target {
-        Target::At(_) => false,
-        Target::End(decision) => decision == code,
+        Target::At(_) => CodeSet::empty(),
+        Target::End(decision) => end_at(decision),
     }
 }
 
-fn leads_to(code: Code, node: &Node) -> bool
-    ensures { result ≡ leads_to code node.now }
+fn end_at(decision: Code) -> CodeSet
+    ensures { result ≡ codes_where (λ code. decision == code) }
 {
-    node.edges.iter().any(|edge| is_end(code, edge.target))
+    let mut end = CodeSet::empty();
+    end.insert(decision);
+    end
 }
 
-fn is_drawn_end(graph: &Graph, code: Code) -> bool
-    ensures { result ≡ is_drawn_end graph.now code }
+/// Returns the ends to which edges lead.
+fn ends_of_edges(edges: &[Edge]) -> CodeSet
+    ensures { result ≡ codes_where (λ code. list_any (λ (edge : Edge). is_end code edge.target) edges.now) }
 {
-    let is_start = is_end(code, graph.start());
-    let is_led_to = some_leads_to(code, graph.nodes());
-    is_start || is_led_to
+    let mut ends = CodeSet::empty();
+    for edge in edges {
+        ends = ends.union(end_of(edge.target));
+    }
+    ends
 }
 
-fn some_leads_to(code: Code, nodes: &[Node]) -> bool
-    ensures { result ≡ list_any (leads_to code) nodes.now }
+fn ends_of_node(node: &Node) -> CodeSet
+    ensures { result ≡ codes_where (λ code. leads_to code node.now) }
 {
-    nodes.iter().any(|node| leads_to(code, node))
+    ends_of_edges(&node.edges)
+}
+
+/// Returns the ends to which the edges of nodes lead.
+fn ends_of_nodes(nodes: &[Node]) -> CodeSet
+    ensures { result ≡ codes_where (λ code. list_any (leads_to code) nodes.now) }
+{
+    let mut ends = CodeSet::empty();
+    for node in nodes {
+        ends = ends.union(ends_of_node(node));
+    }
+    ends
+}
+
+/// Returns the ends to which runs come.
+fn drawn_ends(graph: &Graph) -> CodeSet
+    ensures { result ≡ drawn_ends graph.now }
+{
+    end_of(graph.start()).union(ends_of_nodes(graph.nodes()))
 }
 
 fn put_success_text<W: Write>(format: Format, out: &mut Out<W>) -> Result<(), Device>
@@ -116,23 +141,23 @@ fn code_numbered(number: usize) -> Code
 #[tactic(auto, unfolding(crate::specs::Drawing::end_if_drawn))]
 fn put_end_if_drawn<W: Write>(
     format: Format,
-    graph: &Graph,
+    drawn: CodeSet,
     code: Code,
     out: &mut Out<W>,
 ) -> Result<(), Device>
-    ensures { Writes W.contents out.old out.new result (end_if_drawn format graph.now code) }
+    ensures { Writes W.contents out.old out.new result (end_if_drawn format drawn code) }
 {
-    if is_drawn_end(graph, code) {
+    if drawn.contains(code) {
         return put_end(format, code, out);
     }
     Ok(())
 }
 
-fn put_each_end<W: Write>(format: Format, graph: &Graph, out: &mut Out<W>) -> Result<(), Device>
-    ensures { Writes W.contents out.old out.new result (flat_map (end_if_drawn format graph.now) all_codes) }
+fn put_each_end<W: Write>(format: Format, drawn: CodeSet, out: &mut Out<W>) -> Result<(), Device>
+    ensures { Writes W.contents out.old out.new result (flat_map (end_if_drawn format drawn) all_codes) }
 {
     for number in 0..CODES {
-        put_end_if_drawn(format, graph, code_numbered(number), out)?;
+        put_end_if_drawn(format, drawn, code_numbered(number), out)?;
     }
     Ok(())
 }
@@ -165,7 +190,7 @@ pub(crate) fn put_ends<W: Write>(
     ensures { Writes W.contents out.old out.new result (ends_text format graph.now) }
 {
     put_ends_opening(format, out)?;
-    put_each_end(format, graph, out)?;
+    put_each_end(format, drawn_ends(graph), out)?;
     put_ends_closing(format, out)
 }
 

@@ -42,6 +42,7 @@ fn put_quoted<W: Write>(format: Format, character: u8, out: &mut Out<W>) -> Resu
                 Piece::Bytes(b";"),
             ])
         }
+        Format::Dot if character == b'&' => out.put(b"&amp;"),
         Format::Dot | Format::Mermaid => out.put(&[character]),
     }
 }

@@ -5,6 +5,7 @@ mod drawing;
 mod edge;
 mod format;
 mod label;
+pub mod laws;
 mod node;
 
 pub use drawing::{write_dot, write_mermaid};

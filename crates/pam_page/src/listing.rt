@@ -22,7 +22,7 @@ pub enum Listing<'a, K: Knowledge> {
 impl<K: Knowledge> Listing<'_, K> {
     /// Follows the next path. Returns the number of its first steps that it shares with the path followed before; `None`
     /// if no path is left.
-    pub(crate) fn follow(&mut self) -> Option<usize>
+    pub fn follow(&mut self) -> Option<usize>
         ensures path { MatchOption result (coming self.old ≡ []) (λ _. coming self.old ≡ followed self.new ∷ coming self.new) }
         ensures shared { IfSome result (λ shared. take shared (followed self.new).steps ≡ take shared (followed self.old).steps) }
         ensures left { coming self.new ≡ drop 1 (coming self.old) }
@@ -40,7 +40,7 @@ impl<K: Knowledge> Listing<'_, K> {
     }
 
     /// The path followed last.
-    pub(crate) fn path(&self) -> &Path
+    pub fn path(&self) -> &Path
         ensures { result.now ≡ followed self.now }
     {
         match self {
@@ -52,7 +52,7 @@ impl<K: Knowledge> Listing<'_, K> {
     }
 
     /// Returns `after` or `before`: the option that, with the last cursor of a page, lists the next one.
-    pub(crate) fn side(&self) -> &'static [u8]
+    pub fn side(&self) -> &'static [u8]
         ensures { result.now ≡ side self.now }
     {
         match self {

@@ -1,8 +1,7 @@
--- What is written about a known stack, from the contract of the call that finds it.
+-- What is answered about a known stack, from the contract of the call that finds it.
 use Rattle.std.proofs.Common.{◌≡◌, ◌∙◌, ℕ, List, None, Option, Result, Ok, Err, ap, refl, subst, sym}
 use Rattle.std.specs.Prelude.{IfErr, is_some}
 use Rattle.jiff.specs.Types.{DateTime}
-use Rattle.pam_codes.specs.Out.{Out}
 use Rattle.pam_conf.specs.Stack.{Items, module_count}
 use Rattle.pam_conf.specs.declared.conf_error.ConfError.{ConfError}
 use Rattle.pam_conf.specs.declared.error.FaultKind.{FaultKind}
@@ -28,14 +27,14 @@ use Rattle.pam_report.proofs.Wanting.{wanted-given}
 use Rattle.pam_report.specs.Inputs.{tables_given}
 use Rattle.pam_report.specs.Known.{AreCodesOf, FindsKnown, IsErrOf, IsFaultOf, IsFaultOfRead, with_time}
 use Rattle.pam_report.specs.KnownStack.{IsAnswerFrom, KnownItems, known_items}
-use Rattle.pam_report.specs.Leaves.{IsConfFault, IsTableFault, IsTimeFault, LeavesFault, LeavesSome}
+use Rattle.pam_report.specs.Finds.{Finds, IsConfFault, IsTableFault, IsTimeFault, Refuses}
 use Rattle.pam_report.specs.Memory.{IsWanting, of_paths, paths_tables}
-use Rattle.pam_report.specs.Report.{Answer}
+use Rattle.pam_report.specs.Reply.{Answer}
 use Rattle.pam_report.specs.declared.fault.Fault.{Fault}
 use Rattle.pam_report.specs.declared.fault.Fault.TheVariants as faults
 use Rattle.pam_report.specs.declared.inputs.Inputs.{Inputs}
 use Rattle.pam_report.specs.declared.inputs.Inputs.TheVariants as inputs
-use Rattle.pam_report.specs.declared.report.Status.{Status}
+use Rattle.pam_report.specs.declared.report.replies.Reply.{Reply}
 
 -- ---- what the tables tell
 
@@ -92,10 +91,9 @@ wants-read kind given moment items (Ok found) h = tt
 wants-read kind given moment items (Err fault) h =
     subst (λ (f : Fault). IsWanting (of_paths (paths_tables (is_some moment) given)) f) (sym h.1) (wanted-given kind given moment items h.0 h.2)
 
--- ---- what is written
+-- ---- what is answered
 
-module _ {W : Type 0} (contents : W → Option (List ℕ)) (old new : Out W) (IsAnswerOf : Items → Allowance → Answer → Type 0)
-    (told : Result KnownItems Fault) where
+module _ (IsAnswerOf : Items → Allowance → Answer → Type 0) (told : Result KnownItems Fault) where
   from-err : (fault : Fault) → told ≡ Err fault → IsAnswerFrom IsAnswerOf told (Err fault)
   from-err fault h = subst (λ (t : Result KnownItems Fault). IsAnswerFrom IsAnswerOf t (Err fault)) (sym h) refl
 
@@ -111,23 +109,22 @@ module _ {W : Type 0} (contents : W → Option (List ℕ)) (old new : Out W) (Is
   from-time e times.Memory h = h
   from-time e _ h = from-err (faults.Time e) h
 
-  -- nothing, if there is no known stack
-  pub fault-leaves : (fault : Fault) → IsFaultOf told fault → new ≡ old → LeavesFault contents old new (IsAnswerFrom IsAnswerOf told) fault
-  fault-leaves faults.Device h same = absurd h
-  fault-leaves faults.Memory h same = same
-  fault-leaves (faults.Conf e) h same = (same, from-conf e e.kind h)
-  fault-leaves (faults.Count e) h same = (same, from-err (faults.Count e) h)
-  fault-leaves faults.TooManyStates h same = (same, from-err faults.TooManyStates h)
-  fault-leaves faults.NoSuchModule h same = (same, from-err faults.NoSuchModule h)
-  fault-leaves (faults.Moment e) h same = (same, from-err (faults.Moment e) h)
-  fault-leaves (faults.Cursor e) h same = (same, from-err (faults.Cursor e) h)
-  fault-leaves (faults.Table e) h same = (same, from-table e e.fault h)
-  fault-leaves (faults.Time e) h same = (same, from-time e e.fault h)
+  -- the fault, if there is no known stack
+  pub fault-found : (fault : Fault) → IsFaultOf told fault → Refuses (IsAnswerFrom IsAnswerOf told) fault
+  fault-found faults.Device h = absurd h
+  fault-found faults.Memory h = tt
+  fault-found (faults.Conf e) h = from-conf e e.kind h
+  fault-found (faults.Count e) h = from-err (faults.Count e) h
+  fault-found faults.TooManyStates h = from-err faults.TooManyStates h
+  fault-found faults.NoSuchModule h = from-err faults.NoSuchModule h
+  fault-found (faults.Moment e) h = from-err (faults.Moment e) h
+  fault-found (faults.Cursor e) h = absurd h
+  fault-found (faults.Table e) h = from-table e e.fault h
+  fault-found (faults.Time e) h = from-time e e.fault h
 
   -- the answer about it, if there is one
-  pub answer-leaves : (result : Result Status Fault) (items : Items) (found : Known) → AreCodesOf items found told
-      → ((allows : Allowance) → Agree (module_count items) (may_answer found) allows → LeavesSome contents old new result (IsAnswerOf items allows))
-      → LeavesSome contents old new result (IsAnswerFrom IsAnswerOf told)
-  answer-leaves result items found h answer =
-      subst (λ (t : Result KnownItems Fault). LeavesSome contents old new result (IsAnswerFrom IsAnswerOf t)) (sym h.told_is)
-      (answer (allows_codes h.codes) h.agree)
+  pub answer-found : (result : Result Reply Fault) (items : Items) (found : Known) → AreCodesOf items found told
+      → ((allows : Allowance) → Agree (module_count items) (may_answer found) allows → Finds result (IsAnswerOf items allows))
+      → Finds result (IsAnswerFrom IsAnswerOf told)
+  answer-found result items found h answer =
+      subst (λ (t : Result KnownItems Fault). Finds result (IsAnswerFrom IsAnswerOf t)) (sym h.told_is) (answer (allows_codes h.codes) h.agree)

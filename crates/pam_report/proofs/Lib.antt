@@ -1,12 +1,8 @@
-pub mod Answering
 pub mod Civil
-pub mod FlatTexts
+pub mod Drawings
 pub mod GoalPages
-pub mod ItemTexts
 pub mod KnownStacks
-pub mod OutcomeTexts
+pub mod OutcomeLists
 pub mod PageParts
-pub mod PageTexts
-pub mod ShowTexts
 pub mod TraceSteps
 pub mod Wanting

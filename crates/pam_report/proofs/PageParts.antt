@@ -1,35 +1,18 @@
 -- The part of a listing that a page is taken from, and the answer, from the contract of the explorer.
-use Rattle.std.proofs.Common.{◌≡◌, ◌≢◌, ℕ, List, Result, Ok, Err, refl, sym, subst, ◌∙◌}
+use Rattle.std.proofs.Common.{◌≡◌, ◌≢◌, ℕ, List, Option, Result, Ok, Err, refl, sym, subst, ◌∙◌}
 use Rattle.pam_conf.specs.Stack.{Items, module_count}
-use Rattle.pam_known.specs.Knowledge.{Agree}
-use Rattle.pam_known.proofs.Listings.{same_listing, same_listing_after, same_listing_before}
 use Rattle.pam_paths.specs.Cursor.{IsAccepted, IsRefusal}
 use Rattle.pam_paths.specs.CursorText.{IsCursor, cursor_text}
-use Rattle.pam_paths.specs.Listing.{Allowance}
+use Rattle.pam_page.specs.declared.listing.Listing.{Listing}
+use Rattle.pam_paths.specs.Known.{may_answer}
 use Rattle.pam_paths.specs.Paths.{PathValue, path_through}
 use Rattle.pam_paths.specs.declared.cursor.CursorError.{CursorError}
 use Rattle.pam_paths.specs.declared.cursor.CursorError.TheVariants.{Syntax, NotLeast, TooShort, TooLong}
-use Rattle.pam_words.specs.declared.wanted.PagePart.{PagePart}
-use Rattle.pam_words.specs.declared.wanted.PagePart.TheVariants.{Whole, After, Before}
-use Rattle.pam_report.specs.Paths.{IsPart, IsTaken}
-
--- a part under one knowledge is that under another that allows the same codes
-module _ (one other : Allowance) (items : Items) (agree : Agree (module_count items) one other) where
-  taken-same : (IsRest IsOther : List ℕ → List PathValue → Type 0) → ((key : List ℕ) (paths : List PathValue) → IsRest key paths → IsOther key paths) →
-      (text : List ℕ) (given : Result (List PathValue) CursorError) → IsTaken IsRest items text given → IsTaken IsOther items text given
-  taken-same IsRest IsOther same text (Ok paths) h = (h.0, h.1, h.2, h.3, same h.0 paths h.4)
-  taken-same IsRest IsOther same text (Err Syntax) h = h
-  taken-same IsRest IsOther same text (Err (NotLeast place)) h = h
-  taken-same IsRest IsOther same text (Err TooShort) h = h
-  taken-same IsRest IsOther same text (Err TooLong) h = h
-
-  pub part-same : (part : PagePart) (given : Result (List PathValue) CursorError) → IsPart one items part given → IsPart other items part given
-  part-same Whole (Ok paths) h = same_listing (module_count items) one other (path_through items) paths agree h
-  part-same Whole (Err e) h = h
-  part-same (After text) given h =
-      taken-same _ _ (λ key paths. same_listing_after (module_count items) one other (path_through items) key paths agree) text.now given h
-  part-same (Before text) given h =
-      taken-same _ _ (λ key paths. same_listing_before (module_count items) one other (path_through items) key paths agree) text.now given h
+use Rattle.pam_report.specs.PageView.{FindsListing, FindsPage, goal_of, graph_of, page_value}
+use Rattle.pam_report.specs.Paths.{IsTaken}
+use Rattle.pam_report.specs.declared.fault.Fault.{Fault}
+use Rattle.pam_report.specs.declared.report.goal_pages.GoalGraph.{GoalGraph}
+use Rattle.pam_report.specs.declared.report.paths.PathsPage.{PathsPage}
 
 -- a text that is no cursor, as a part
 pub text-refused : (IsRest : List ℕ → List PathValue → Type 0) (items : Items) (read text : List ℕ) (e : CursorError) → read ≡ text
@@ -60,3 +43,10 @@ module _ (items : Items) (text cursor : List ℕ) (n : ℕ) (counted : n ≡ mod
     subst (λ (k : ℕ). IsAccepted k (path_through items) cursor) counted accepted,
     subst (λ (k : ℕ). IsRest k cursor paths) counted rest,
   )
+
+-- what is listed of a page is what is listed of its walks
+pub page-listed : {K : Type 0} (page : PathsPage) (result : Result (Listing K) Fault) (given : Option GoalGraph) → page.walks ≡ given
+    → FindsListing page.program (may_answer page.found.known) (graph_of given) (goal_of given) page.part result → FindsPage (page_value page) result
+page-listed page result given same h =
+    subst (λ (walks : Option GoalGraph). FindsListing page.program (may_answer page.found.known) (graph_of walks) (goal_of walks) page.part result)
+    (sym same) h

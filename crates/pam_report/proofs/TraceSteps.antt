@@ -1,6 +1,6 @@
 -- The trace of a run, module by module, and the answer that it is a part of.
 use Rattle.std.proofs.Common.{◌≡◌, ℕ, ◌-◌, ◌<◌, ◌≤◌, ◌==◌, List, [], ◌∷◌, ◌++◌, Some, None, Ok, length, map, get_or}
-use Rattle.std.proofs.Common.{arith, sym, ◌∙◌, ap, subst, append_assoc, append-nil}
+use Rattle.std.proofs.Common.{arith, refl, sym, ◌∙◌, ap, subst, append_assoc, append-nil}
 use Rattle.std.proofs.lemmas.Bool.{cond-true, eq-eqb}
 use Rattle.std.proofs.lemmas.List.{get_or_default, map-append}
 use Rattle.pam_codes.specs.declared.action.Action.{Action}
@@ -18,11 +18,9 @@ use Rattle.pam_dispatch.specs.Tree.{asked, decided, runs_of_stack}
 use Rattle.pam_dispatch.proofs.Asking.{AsksRise-step, asked_by-end, asked_by-step}
 use Rattle.pam_dispatch.proofs.Numbering.{AsksRise-lower}
 use Rattle.pam_dispatch.proofs.OpenRuns.{asked_by-runs_of_stack, decision_of-runs_of_stack}
-use Rattle.pam_report.specs.Answer.{decided_by, status_of_decision}
-use Rattle.pam_report.specs.Decide.{AskedModule, asked_module, asked_modules, decide_text, decision_text, path_at, trace_text}
-use Rattle.pam_report.specs.Header.{header_text}
-use Rattle.pam_report.specs.Report.{Report}
-use Rattle.pam_report.specs.declared.report.Status.{Status}
+use Rattle.pam_report.specs.Answer.{decided_by, run_of}
+use Rattle.pam_report.specs.Decide.{AskedModule, asked_module, asked_modules, path_at}
+use Rattle.pam_report.specs.Reply.{Run, RunValue}
 
 abbrev pub module_of : ℕ → List ℕ → ℕ → Action → State → AskedModule
 module_of number path code action state = record { number = number; path = path; code = code; action = action; state = state }
@@ -103,44 +101,32 @@ module _ (program : List FlatItem) (place : Place) (number : ℕ)
   pub answer_read : (codes : List ℕ) (code : ℕ) → length codes ≡ modules_of program → code ≡ get_or codes (number - 1) code → answers_of codes number ≡ code
   answer_read codes code each read = get_or_default codes (number - 1) 0 code (omega (arith, range.0, range.1, each)) ∙ sym read
 
--- the text of an answer, from its parts
-decide_text-is : (service : List ℕ) (kind : Kind) (items : Items) (answered : List ℕ) (runs : Runs) (modules decision : ℕ) (trace : List AskedModule) →
-    modules ≡ module_count items → runs ≡ runs_of_stack items → trace ≡ asked_modules items (answers_of answered) (asked_by runs (answers_of answered)) →
-    decision ≡ decided items (answers_of answered) →
-    header_text service kind modules ++ trace_text trace ++ decision_text decision ≡ decide_text service kind items answered
-unfolding decide_text
-decide_text-is service kind items answered runs modules decision trace m r t d =
-    let answers = answers_of answered in
-    let asks = ap (λ (x : Runs). asked_by x answers) r ∙ asked_by-runs_of_stack items answers in
-    let all = t ∙ ap (λ (x : List Ask). asked_modules items answers x) asks in
-    ap (λ (n : ℕ). header_text service kind n ++ trace_text trace ++ decision_text decision) m
-    ∙ ap (λ (x : List AskedModule). header_text service kind (module_count items) ++ trace_text x ++ decision_text decision) all
-    ∙ ap (λ (n : ℕ). header_text service kind (module_count items)
-    ++ trace_text (asked_modules items answers (asked items start_state start_state answers)) ++ decision_text n) d
-
 -- the decision of a run is that of the stack
 decision-is : (items : Items) (answers : Assignment) (runs : Runs) (decision : ℕ) → runs ≡ runs_of_stack items →
     decision ≡ decision_of (final_state runs answers) → decision ≡ decided items answers
 decision-is items answers runs decision r d = d ∙ ap (λ (x : Runs). decision_of (final_state x answers)) r ∙ decision_of-runs_of_stack items answers
 
--- if there is a code for each module, the answer is that text
+-- if there is a code for each module, the answer is that run
 decided_by-is : (service : List ℕ) (kind : Kind) (items : Items) (answered : List ℕ) → length answered ≡ module_count items →
-    decided_by service kind answered items
-    ≡ Ok (record { text = decide_text service kind items answered; status = status_of_decision (decided items (answers_of answered)) })
+    decided_by service kind answered items ≡ Ok (Run (run_of service kind answered items))
 decided_by-is service kind items answered e = cond-true (length answered == module_count items) _ _ (eq-eqb _ _ e)
 
-abbrev report : List ℕ → Status → Report
-report text status = record { text = text; status = status }
+abbrev run_value : List ℕ → Kind → ℕ → List AskedModule → ℕ → RunValue
+run_value service kind modules trace decision = record { service = service; kind = kind; modules = modules; asked = trace; decision = decision }
 
--- what is written is the answer
+run-is : (service : List ℕ) (kind : Kind) {modules count : ℕ} {trace other : List AskedModule} {decision code : ℕ} → modules ≡ count → trace ≡ other
+    → decision ≡ code → run_value service kind modules trace decision ≡ run_value service kind count other code
+run-is service kind m t d = rw (m, t, d) refl
+
+-- the run that is found is the answer
 pub answer-is : (service : List ℕ) (kind : Kind) (items : Items) (answered : List ℕ) (runs : Runs) (modules decision : ℕ) (trace : List AskedModule)
-    (status : Status) → length answered ≡ modules → modules ≡ module_count items → runs ≡ runs_of_stack items →
+    → length answered ≡ modules → modules ≡ module_count items → runs ≡ runs_of_stack items →
     trace ≡ asked_modules items (answers_of answered) (asked_by runs (answers_of answered)) →
-    decision ≡ decision_of (final_state runs (answers_of answered)) → status ≡ status_of_decision decision →
-    decided_by service kind answered items
-    ≡ Ok (record { text = header_text service kind modules ++ trace_text trace ++ decision_text decision; status = status })
-answer-is service kind items answered runs modules decision trace status each m r t d s =
-    let decides = decision-is items (answers_of answered) runs decision r d in
-    decided_by-is service kind items answered (each ∙ m)
-    ∙ ap (λ (x : Status). Ok (report (decide_text service kind items answered) x)) (sym (ap status_of_decision decides) ∙ sym s)
-    ∙ ap (λ (x : List ℕ). Ok (report x status)) (sym (decide_text-is service kind items answered runs modules decision trace m r t decides))
+    decision ≡ decision_of (final_state runs (answers_of answered)) →
+    decided_by service kind answered items ≡ Ok (Run (run_value service kind modules trace decision))
+answer-is service kind items answered runs modules decision trace each m r t d =
+    let answers = answers_of answered in
+    let decides = decision-is items answers runs decision r d in
+    let asks = ap (λ (x : Runs). asked_by x answers) r ∙ asked_by-runs_of_stack items answers in
+    let all = t ∙ ap (λ (x : List Ask). asked_modules items answers x) asks in
+    decided_by-is service kind items answered (each ∙ m) ∙ ap (λ (run : RunValue). Ok (Run run)) (sym (run-is service kind m all decides))

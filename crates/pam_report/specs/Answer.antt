@@ -1,7 +1,6 @@
--- The answer to a request: the text and the status that its inputs imply, and what a call writes.
+-- The answer to a request: the reply that its inputs imply, or the first fault.
 use Rattle.std.specs.Prelude.{◌≡◌, ℕ, List, map, Option, Result, Ok, Err, ◌==◌, if◌then◌else◌, length, unwrap_or}
 use Rattle.std.specs.Char.{to_ascii_lowercase}
-use Rattle.pam_codes.specs.Out.{Out}
 use Rattle.pam_conf.specs.Files.{Folder}
 use Rattle.pam_conf.specs.Resolution.{resolved}
 use Rattle.pam_conf.specs.Stack.{Items, module_count}
@@ -9,13 +8,13 @@ use Rattle.pam_conf.specs.declared.conf_error.ConfError.{ConfError}
 use Rattle.pam_conf.specs.declared.rule.Kind.{Kind}
 use Rattle.jiff.specs.Types.{DateTime}
 use Rattle.pam_dispatch.specs.Runs.{answers_of}
-use Rattle.pam_dispatch.specs.Tree.{decided}
+use Rattle.pam_dispatch.specs.State.{start_state}
+use Rattle.pam_dispatch.specs.Tree.{asked, decided}
 use Rattle.pam_tables.specs.Access.{TableText, access_answer, table_of}
 use Rattle.pam_tables.specs.Groups.{Group}
 use Rattle.pam_tables.specs.Login.{LoginText}
 use Rattle.pam_tables.specs.Options.{Options, options_of}
 use Rattle.pam_tables.specs.declared.access.AccessAnswer.{AccessAnswer}
-use Rattle.pam_tables.specs.declared.access.AccessAnswer.TheVariants as access
 use Rattle.pam_tables.specs.declared.error.Table.{Table}
 use Rattle.pam_tables.specs.declared.error.Table.TheVariants as tables
 use Rattle.pam_tables.specs.declared.error.TableFault.{TableFault}
@@ -24,30 +23,24 @@ use Rattle.pam_times.specs.Times.{Rule, answer_of as time_answer_of}
 use Rattle.pam_times.specs.declared.error.TimeError.{TimeError}
 use Rattle.pam_times.specs.declared.moments.MomentError.{MomentError}
 use Rattle.pam_times.specs.declared.times.TimeAnswer.{TimeAnswer}
-use Rattle.pam_times.specs.declared.times.TimeAnswer.TheVariants as times
 use Rattle.pam_words.specs.declared.wanted.Login.{Login}
 use Rattle.pam_words.specs.declared.wanted.Task.{Task}
-use Rattle.pam_words.specs.declared.wanted.Task.TheVariants.{Show, Decide, Access, Time, Paths, Outcomes}
-use Rattle.pam_report.specs.Decide.{decide_text}
+use Rattle.pam_words.specs.declared.wanted.Task.TheVariants.{Show, Decide, Access, Time, Paths, Outcomes, Graph}
+use Rattle.pam_report.specs.Decide.{asked_modules}
+use Rattle.pam_report.specs.Graph.{IsGraphReply}
 use Rattle.pam_report.specs.Inputs.{access_given, files_given, group_file, groups_in, no_files, time_given}
 use Rattle.pam_report.specs.KnownStack.{KnownItems, known_stack}
-use Rattle.pam_report.specs.Leaves.{IsTableFault, IsTimeFault, Leaves, LeavesSome}
+use Rattle.pam_report.specs.Finds.{Finds, IsTableFault, IsTimeFault}
 use Rattle.pam_report.specs.Memory.{WantsOnly, wants}
 use Rattle.pam_report.specs.Moments.{IsGivenMoment, IsMoment}
 use Rattle.pam_report.specs.Outcomes.{IsOutcomes}
 use Rattle.pam_report.specs.Paths.{IsPage}
-use Rattle.pam_report.specs.Report.{Answer, Report}
-use Rattle.pam_report.specs.Show.{show_text}
-use Rattle.pam_report.specs.Tables.{access_text, time_text}
+use Rattle.pam_report.specs.Reply.{Answer, RunValue, Run, Stack}
+use Rattle.pam_report.specs.Reply.{Access as AccessReply, Time as TimeReply}
 use Rattle.pam_report.specs.declared.inputs.Inputs.{Inputs}
 use Rattle.pam_report.specs.declared.fault.Fault.{Fault}
 use Rattle.pam_report.specs.declared.fault.Fault.TheVariants as faults
-use Rattle.pam_report.specs.declared.report.Status.{Status}
-use Rattle.pam_report.specs.declared.report.Status.TheVariants.{Success, Refusal}
-
--- only the code 0 is a success
-abbrev pub status_of_decision : ℕ → Status
-status_of_decision code = if code == 0 then Success else Refusal
+use Rattle.pam_report.specs.declared.report.replies.Reply.{Reply}
 
 -- an answer from a stack, or the stack's fault
 abbrev pub with_stack : Result Items ConfError → (Items → Answer) → Answer
@@ -55,30 +48,32 @@ with_stack (Err e) next = Err (faults.Conf e)
 with_stack (Ok items) next = next items
 
 abbrev pub shown : List ℕ → Kind → Folder → Items → Answer
-shown service kind files items = Ok (record { text = show_text service kind files items; status = Success })
+shown service kind files items = Ok (Stack (record { service = service; kind = kind; files = files; items = items }))
+
+-- the run of a stack whose modules return these codes
+abbrev pub run_of : List ℕ → Kind → List ℕ → Items → RunValue
+run_of service kind answered items = record {
+  service = service;
+  kind = kind;
+  modules = module_count items;
+  asked = asked_modules items (answers_of answered) (asked items start_state start_state (answers_of answered));
+  decision = decided items (answers_of answered);
+}
 
 -- a code is given for each module, also for those never asked
 abbrev pub decided_by : List ℕ → Kind → List ℕ → Items → Answer
 decided_by service kind answered items =
-    if length answered == module_count items
-    then Ok (record { text = decide_text service kind items answered; status = status_of_decision (decided items (answers_of answered)) })
+    if length answered == module_count items then Ok (Run (run_of service kind answered items))
     else Err (faults.Count (record { modules = module_count items }))
 
 -- ---- access tables
-
-abbrev pub access_status : AccessAnswer → Status
-access_status (access.Granted line) = Success
-access_status (access.Denied line) = Refusal
-
-abbrev pub access_report : AccessAnswer → Report
-access_report found = record { text = access_text found; status = access_status found }
 
 abbrev pub table_fault : Table → TableFault × ℕ → Fault
 table_fault table e = faults.Table (record { table = table; fault = e.0; line = e.1 })
 
 abbrev pub with_table : LoginText → List Group → Result TableText (TableFault × ℕ) → Answer
 with_table login groups (Err e) = Err (table_fault tables.Access e)
-with_table login groups (Ok table) = Ok (access_report (access_answer table login groups))
+with_table login groups (Ok table) = Ok (AccessReply (access_answer table login groups))
 
 -- a fault of the group file comes before those of the table
 abbrev pub with_groups : LoginText → Options → List ℕ → Result (List Group) (TableFault × ℕ) → Answer
@@ -90,16 +85,9 @@ looked_up login arguments inputs = with_groups login (options_of arguments) (acc
 
 -- ---- time tables
 
-abbrev pub time_status : TimeAnswer → Status
-time_status times.Granted = Success
-time_status (times.Denied line) = Refusal
-
-abbrev pub time_report : TimeAnswer → Report
-time_report found = record { text = time_text found; status = time_status found }
-
 abbrev pub with_rules : LoginText → DateTime → Result (List Rule) TimeError → Answer
 with_rules login moment (Err e) = Err (faults.Time e)
-with_rules login moment (Ok rules) = Ok (time_report (time_answer_of rules login moment))
+with_rules login moment (Ok rules) = Ok (TimeReply (time_answer_of rules login moment))
 
 -- a fault of the moment comes before those of the table
 abbrev pub timed : LoginText → List ℕ → Result DateTime MomentError → Answer
@@ -120,29 +108,33 @@ login_at service login = login_in (map to_ascii_lowercase service) login
 abbrev pub stack_at : List ℕ → Kind → Login → Inputs → Option (Result DateTime MomentError) → Folder → Result KnownItems Fault
 stack_at service kind login inputs moment files = known_stack kind (login_at service login) inputs moment (resolved files service kind)
 
--- the answer to a task for a service, from these files and the tables of these inputs, and what the call writes
-abbrev pub AnswersFrom : {W : Type 0} → (W → Option (List ℕ)) → Out W → Out W → Result Status Fault → List ℕ → Task → Folder → Inputs → Type 0
-AnswersFrom contents old new result service (Show source kind) files inputs =
-    Leaves contents old new result (with_stack (resolved files service kind) (shown service kind files))
-AnswersFrom contents old new result service (Decide source kind answered) files inputs =
-    Leaves contents old new result (with_stack (resolved files service kind) (decided_by service kind answered.items))
-AnswersFrom contents old new result service (Access table groups login arguments) files inputs =
-    Leaves contents old new result (looked_up (login_at service login) arguments inputs)
-AnswersFrom contents old new result service (Time table login moment) files inputs =
-    (at : Result DateTime MomentError) × IsMoment moment at
-    × Leaves contents old new result (timed (login_at service login) (time_given inputs) at)
-AnswersFrom contents old new result service (Paths source kind limit part filter knowledge) files inputs =
-    (at : Option (Result DateTime MomentError)) × IsGivenMoment knowledge.moment at
-    × LeavesSome contents old new result
-    (IsPage (record { service = service; kind = kind; limit = limit; part = part; filter = filter }) (stack_at service kind knowledge.login inputs at files))
-AnswersFrom contents old new result service (Outcomes source kind knowledge) files inputs =
-    (at : Option (Result DateTime MomentError)) × IsGivenMoment knowledge.moment at
-    × LeavesSome contents old new result (IsOutcomes service kind (stack_at service kind knowledge.login inputs at files))
+-- what a call gives that answers a task for a service, from these files and the tables of these inputs, if this is what it
+-- gives for an answer that satisfies a relation
+module _ (Gives : (Answer → Type 0) → Type 0) where
+  abbrev pub AnswersBy : List ℕ → Task → Folder → Inputs → Type 0
+  AnswersBy service (Show source kind) files inputs = Gives (λ answer. with_stack (resolved files service kind) (shown service kind files) ≡ answer)
+  AnswersBy service (Decide source kind answered) files inputs =
+      Gives (λ answer. with_stack (resolved files service kind) (decided_by service kind answered.items) ≡ answer)
+  AnswersBy service (Access table groups login arguments) files inputs =
+      Gives (λ answer. looked_up (login_at service login) arguments inputs ≡ answer)
+  AnswersBy service (Time table login moment) files inputs =
+      (at : Result DateTime MomentError) × IsMoment moment at
+      × Gives (λ answer. timed (login_at service login) (time_given inputs) at ≡ answer)
+  AnswersBy service (Paths source kind limit part filter knowledge) files inputs =
+      (at : Option (Result DateTime MomentError)) × IsGivenMoment knowledge.moment at
+      × Gives
+      (IsPage (record { service = service; kind = kind; limit = limit; part = part; filter = filter }) (stack_at service kind knowledge.login inputs at files))
+  AnswersBy service (Outcomes source kind knowledge) files inputs =
+      (at : Option (Result DateTime MomentError)) × IsGivenMoment knowledge.moment at
+      × Gives (IsOutcomes service kind (stack_at service kind knowledge.login inputs at files))
+  AnswersBy service (Graph source kind format knowledge) files inputs =
+      (at : Option (Result DateTime MomentError)) × IsGivenMoment knowledge.moment at
+      × Gives (IsGraphReply format service kind (stack_at service kind knowledge.login inputs at files))
 
--- THE ANSWER to a task for a service, from these inputs, and what the call writes
-abbrev pub Answers : {W : Type 0} → (W → Option (List ℕ)) → Out W → Out W → Result Status Fault → List ℕ → Task → Inputs → Type 0
-Answers contents old new result service task inputs =
-    AnswersFrom contents old new result service task (unwrap_or (files_given inputs) no_files) inputs
+-- THE REPLY to a task for a service, from these inputs
+abbrev pub Replies : Result Reply Fault → List ℕ → Task → Inputs → Type 0
+Replies result service task inputs =
+    AnswersBy (Finds result) service task (unwrap_or (files_given inputs) no_files) inputs
     × WantsOnly (wants task inputs) result
 
 -- for private contracts and proofs alone: what is looked up is the answer, or its fault, unless an allocation failed
@@ -153,10 +145,10 @@ FindsFault _ answer = ⊥
 
 -- for private contracts and proofs alone: an access table is looked up
 abbrev pub FindsAccess : Result AccessAnswer Fault → Answer → Type 0
-FindsAccess (Ok found) answer = answer ≡ Ok (access_report found)
+FindsAccess (Ok found) answer = answer ≡ Ok (AccessReply found)
 FindsAccess (Err fault) answer = FindsFault fault answer
 
 -- for private contracts and proofs alone: a time table is looked up
 abbrev pub FindsTime : Result TimeAnswer Fault → Answer → Type 0
-FindsTime (Ok found) answer = answer ≡ Ok (time_report found)
+FindsTime (Ok found) answer = answer ≡ Ok (TimeReply found)
 FindsTime (Err fault) answer = FindsFault fault answer

@@ -10,7 +10,7 @@ use Rattle.pam_tables.specs.Groups.{Group, groups_of}
 use Rattle.pam_tables.specs.declared.error.TableFault.{TableFault}
 use Rattle.pam_words.specs.declared.wanted.Task.{Task}
 use Rattle.pam_words.specs.declared.wanted.KnowledgeSource.{KnowledgeSource}
-use Rattle.pam_words.specs.declared.wanted.Task.TheVariants.{Show, Decide, Access, Time, Paths, Outcomes}
+use Rattle.pam_words.specs.declared.wanted.Task.TheVariants.{Show, Decide, Access, Time, Paths, Outcomes, Graph}
 use Rattle.pam_report.specs.declared.inputs.Inputs.{Inputs}
 use Rattle.pam_report.specs.declared.inputs.Inputs.TheVariants as inputs
 
@@ -63,6 +63,7 @@ fits_task (Access name groups_named login arguments) (inputs.Access table groups
 fits_task (Time name login moment) (inputs.Time table) = true
 fits_task (Paths source kind limit part filter knowledge) inputs = fits_knowledge knowledge inputs
 fits_task (Outcomes source kind knowledge) inputs = fits_knowledge knowledge inputs
+fits_task (Graph source kind format knowledge) inputs = fits_knowledge knowledge inputs
 fits_task _ _ = false
 
 -- ---- the tables that tell the codes of modules
@@ -76,7 +77,7 @@ timed None moment = None
 abbrev pub no_tables : TablesText
 no_tables = record { groups = None; access = None; time = None; returns = None }
 
--- the tables of `paths` and `outcomes`
+-- the tables of the commands about paths
 abbrev pub tables_given : Inputs → Option DateTime → TablesText
 tables_given (inputs.Paths files groups access time returns) moment = record {
   groups = option_map (λ b. b.items) groups;

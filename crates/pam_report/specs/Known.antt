@@ -9,8 +9,8 @@ use Rattle.pam_paths.specs.Known.{may_answer}
 use Rattle.pam_paths.specs.declared.knowledge.Known.{Known}
 use Rattle.pam_report.specs.Fault.{known_fault}
 use Rattle.pam_report.specs.KnownStack.{KnownItems}
-use Rattle.pam_report.specs.Leaves.{IsConfFault, IsTableFault, IsTimeFault}
-use Rattle.pam_report.specs.Report.{Answer}
+use Rattle.pam_report.specs.Finds.{IsConfFault, IsTableFault, IsTimeFault}
+use Rattle.pam_report.specs.Reply.{Answer}
 use Rattle.pam_report.specs.declared.fault.Fault.{Fault}
 use Rattle.pam_report.specs.declared.fault.Fault.TheVariants as faults
 use Rattle.pam_report.specs.declared.report.known_stack.KnownStack.{KnownStack}
@@ -24,6 +24,7 @@ IsErrOf told (Err fault) = told ≡ Err fault
 abbrev pub IsFaultOf : {A : Type 0} → Result A Fault → Fault → Type 0
 IsFaultOf told faults.Memory = ⊤
 IsFaultOf told faults.Device = ⊥
+IsFaultOf told (faults.Cursor e) = ⊥
 IsFaultOf told (faults.Conf e) = IsConfFault (IsErrOf told) e e.kind
 IsFaultOf told (faults.Table e) = IsTableFault (IsErrOf told) e e.fault
 IsFaultOf told (faults.Time e) = IsTimeFault (IsErrOf told) e e.fault

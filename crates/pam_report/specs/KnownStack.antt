@@ -11,7 +11,7 @@ use Rattle.pam_tables.specs.Login.{LoginText}
 use Rattle.pam_times.specs.declared.moments.MomentError.{MomentError}
 use Rattle.pam_report.specs.Fault.{known_fault}
 use Rattle.pam_report.specs.Inputs.{tables_given}
-use Rattle.pam_report.specs.Report.{Answer}
+use Rattle.pam_report.specs.Reply.{Answer}
 use Rattle.pam_report.specs.declared.fault.Fault.{Fault}
 use Rattle.pam_report.specs.declared.fault.Fault.TheVariants as faults
 use Rattle.pam_report.specs.declared.inputs.Inputs.{Inputs}

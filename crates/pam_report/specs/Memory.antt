@@ -7,13 +7,12 @@ use Rattle.pam_tables.specs.declared.error.Table.TheVariants.{Access as AccessTa
 use Rattle.pam_tables.specs.declared.error.TableFault.TheVariants as reasons
 use Rattle.pam_times.specs.declared.error.TimeFault.TheVariants as times
 use Rattle.pam_words.specs.declared.wanted.Task.{Task}
-use Rattle.pam_words.specs.declared.wanted.Task.TheVariants.{Show, Decide, Access, Time, Paths, Outcomes}
+use Rattle.pam_words.specs.declared.wanted.Task.TheVariants.{Show, Decide, Access, Time, Paths, Outcomes, Graph}
 use Rattle.pam_report.specs.Inputs.{group_file}
 use Rattle.pam_report.specs.declared.fault.Fault.{Fault}
 use Rattle.pam_report.specs.declared.fault.Fault.TheVariants as faults
 use Rattle.pam_report.specs.declared.inputs.Inputs.{Inputs}
 use Rattle.pam_report.specs.declared.inputs.Inputs.TheVariants as inputs
-use Rattle.pam_report.specs.declared.report.Status.{Status}
 
 -- what is read or made, and may want memory
 pub record Wants : Type 0 where
@@ -60,6 +59,7 @@ wants (Access table groups login arguments) inputs = of_tables true (is_some (gr
 wants (Time table login moment) inputs = of_tables false false true
 wants (Paths source kind limit part filter knowledge) inputs = of_paths (paths_tables (is_some knowledge.moment) inputs)
 wants (Outcomes source kind knowledge) inputs = of_paths (paths_tables (is_some knowledge.moment) inputs)
+wants (Graph source kind format knowledge) inputs = of_paths (paths_tables (is_some knowledge.moment) inputs)
 
 abbrev pub wants_table : Wants → Table → Bool
 wants_table wants AccessTable = wants.access
@@ -75,7 +75,7 @@ IsWanting wants (faults.Time e) = e.fault ≡ times.Memory → wants.time ≡ tr
 IsWanting wants _ = ⊤
 
 -- the same, for a result
-abbrev pub WantsOnly : Wants → Result Status Fault → Type 0
+abbrev pub WantsOnly : {A : Type 0} → Wants → Result A Fault → Type 0
 WantsOnly wants result = IfErr result (IsWanting wants)
 
 -- for private contracts and proofs alone: if it is a failed allocation, it is of what is made

@@ -12,11 +12,8 @@ use Rattle.pam_paths.specs.Paths.{PathValue, path_through}
 use Rattle.pam_report.specs.declared.fault.Fault.{Fault}
 use Rattle.pam_report.specs.declared.fault.Fault.TheVariants as faults
 use Rattle.pam_report.specs.Outcomes as spec
-use Rattle.pam_report.specs.declared.report.outcomes.Outcome.{Outcome}
+use Rattle.pam_report.specs.ReplyViews.{outcome_view}
 use Rattle.pam_report.specs.declared.report.outcomes.Outcomes.{Outcomes}
-
-abbrev pub outcome_view : Outcome → spec.Outcome
-outcome_view o = record { decision = o.decision; count = o.count; first = o.first }
 
 -- the value of an option, or none
 abbrev pub as_list : {A B : Type 0} → (A → B) → Option A → List B

@@ -1,11 +1,14 @@
 -- The answer to `paths`: a page of the paths through a stack (pam.conf(5), DESCRIPTION), given what modules may return.
-use Rattle.std.specs.Prelude.{◌≡◌, ◌≢◌, ◌⊎◌, ℕ, max, nat_lt, Bool, true, false, List, ◌++◌, codes, Result, Ok, Err}
+use Rattle.std.specs.Prelude.{◌≡◌, ◌≢◌, ◌⊎◌, ⊤, ℕ, nat_lt, Bool, true, false, List, codes, Option, Some, None, Result, Ok, Err}
 use Rattle.pam_conf.specs.Stack.{Items, module_count}
 use Rattle.pam_conf.specs.declared.rule.Kind.{Kind}
-use Rattle.pam_graph.specs.Goals.{meeting}
+use Rattle.pam_dispatch.specs.Flat.{modules_of, runs_of}
+use Rattle.pam_dispatch.specs.Tree.{runs_of_stack}
+use Rattle.pam_dispatch.specs.declared.flat_item.FlatItem.{FlatItem}
+use Rattle.pam_graph.specs.Walks.{GraphValue, walks}
 use Rattle.pam_graph.specs.declared.goal.Goal.{Goal}
 use Rattle.pam_graph.specs.declared.goal.Goal.TheVariants as goals
-use Rattle.pam_page.specs.Page.{first_page, page_text}
+use Rattle.pam_known.specs.Knowledge.{Agree}
 use Rattle.pam_paths.specs.Cursor.{IsAccepted, IsRefusal}
 use Rattle.pam_paths.specs.CursorText.{IsCursor, cursor_text}
 use Rattle.pam_paths.specs.Listing.{Allowance, IsListing, IsListingAfter, IsListingBefore}
@@ -16,13 +19,11 @@ use Rattle.pam_words.specs.declared.wanted.PagePart.{PagePart}
 use Rattle.pam_words.specs.declared.wanted.PagePart.TheVariants.{Whole, After, Before}
 use Rattle.pam_words.specs.declared.wanted.PathFilter.{PathFilter}
 use Rattle.pam_words.specs.declared.wanted.PathFilter.TheVariants.{All, Decides, Asks}
-use Rattle.pam_report.specs.Header.{header_text}
 use Rattle.pam_report.specs.KnownStack.{IsAnswerFrom, KnownItems}
-use Rattle.pam_report.specs.Report.{Answer}
+use Rattle.pam_report.specs.Reply.{Answer, Page, PageValue}
 use Rattle.pam_report.specs.TooLarge.{IsTooLarge}
 use Rattle.pam_report.specs.declared.fault.Fault.{Fault}
 use Rattle.pam_report.specs.declared.fault.Fault.TheVariants as faults
-use Rattle.pam_report.specs.declared.report.Status.TheVariants.{Success}
 
 -- the paths after or before the cursor of a text, or the reason why it is the cursor of no path
 abbrev pub IsTaken : (List ℕ → List PathValue → Type 0) → Items → List ℕ → Result (List PathValue) CursorError → Type 0
@@ -53,30 +54,43 @@ pub record PageRequest : Type 0 where
   pub part : PagePart
   pub filter : PathFilter
 
--- the page with its header, or the reason why its cursor is refused. It has room for at least one path
-abbrev pub paged : PageRequest → ℕ → Result (List PathValue) CursorError → Answer
-paged request modules (Err e) = Err (faults.Cursor e)
-paged request modules (Ok paths) = Ok (record {
-  text = header_text request.service request.kind modules ++ page_text (side_of request.part) (first_page (max request.limit 1) paths);
-  status = Success;
-})
+-- the page of the paths that meet a goal
+abbrev pub page_of : PageRequest → Items → List FlatItem → Allowance → Option GraphValue → Goal → PageValue
+page_of request items program allows graph goal = record {
+  service = request.service;
+  kind = request.kind;
+  items = items;
+  program = program;
+  allows = allows;
+  graph = graph;
+  goal = goal;
+  limit = request.limit;
+  part = request.part;
+}
 
--- the answer, if these codes are allowed: a fault of the cursor comes last
-abbrev pub IsListedPage : PageRequest → Items → Allowance → Answer → Type 0
-IsListedPage request items allows answer =
-    (given : Result (List PathValue) CursorError) × IsPart allows items request.part given × (answer ≡ paged request (module_count items) given)
+-- a program is that of a stack
+abbrev pub IsProgramOf : List FlatItem → Items → Type 0
+IsProgramOf program items = (runs_of program ≡ runs_of_stack items) × (modules_of program ≡ module_count items)
 
--- those of a part that meet a goal
-abbrev pub met_of : Goal → Result (List PathValue) CursorError → Result (List PathValue) CursorError
-met_of goal (Err e) = Err e
-met_of goal (Ok paths) = Ok (meeting goal paths)
+-- the walks of a graph, if there is one, are the paths of a stack that has this program
+abbrev pub AreWalks : Option GraphValue → Allowance → List FlatItem → Items → Type 0
+AreWalks None allows program items = ⊤
+AreWalks (Some graph) allows program items = IsListing allows (modules_of program) (path_through items) (walks graph)
+
+-- a page is listed from the program of its stack, or from a graph whose walks are the paths
+abbrev pub IsOfStack : PageValue → Type 0
+IsOfStack page = IsProgramOf page.program page.items × AreWalks page.graph page.allows page.program page.items
+
+-- the answer, if these codes are allowed: a fault of the cursor comes last, when the page is listed
+abbrev pub IsListedPage : Goal → PageRequest → Items → Allowance → Answer → Type 0
+IsListedPage goal request items allows answer =
+    (program : List FlatItem) × (same : Allowance) × (graph : Option GraphValue) × Agree (module_count items) same allows
+    × IsOfStack (page_of request items program same graph goal) × (answer ≡ Ok (Page (page_of request items program same graph goal)))
 
 -- the answer with the paths that meet a goal: or the run comes to too many places
 abbrev pub IsMeetingPage : Goal → PageRequest → Items → Allowance → Answer → Type 0
 IsMeetingPage goal request items allows answer =
-    (IsTooLarge items allows × (answer ≡ Err faults.TooManyStates))
-    ⊎ ((given : Result (List PathValue) CursorError) × IsPart allows items request.part given
-    × (answer ≡ paged request (module_count items) (met_of goal given)))
+    (IsTooLarge items allows × (answer ≡ Err faults.TooManyStates)) ⊎ IsListedPage goal request items allows answer
 
 -- the answer with the paths that ask a module, which is past the last of the stack or not
 abbrev pub IsAskingPage : Bool → ℕ → PageRequest → Items → Allowance → Answer → Type 0
@@ -85,7 +99,7 @@ IsAskingPage false number request items allows answer = IsMeetingPage (goals.Ask
 
 -- the answer with a filter
 abbrev pub IsFilteredPage : PathFilter → PageRequest → Items → Allowance → Answer → Type 0
-IsFilteredPage All request items allows answer = IsListedPage request items allows answer
+IsFilteredPage All request items allows answer = IsListedPage goals.Any request items allows answer
 IsFilteredPage (Decides decisions) request items allows answer = IsMeetingPage (goals.Decides decisions) request items allows answer
 IsFilteredPage (Asks number) request items allows answer = IsAskingPage (nat_lt (module_count items) number) number request items allows answer
 

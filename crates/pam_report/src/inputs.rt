@@ -54,7 +54,7 @@ pub enum Inputs {
     Time {
         table: Vec<u8>,
     },
-    /// For `paths` and `outcomes`.
+    /// For `paths`, `outcomes` and `graph`.
     Paths {
         files: Files,
         groups: Option<Vec<u8>>,
@@ -81,6 +81,7 @@ impl Inputs {
             (Inputs::Time { .. }, Task::Time { .. }) => true,
             (inputs, Task::Paths { knowledge, .. }) => inputs.fits_knowledge(knowledge),
             (inputs, Task::Outcomes { knowledge, .. }) => inputs.fits_knowledge(knowledge),
+            (inputs, Task::Graph { knowledge, .. }) => inputs.fits_knowledge(knowledge),
             _ => false,
         }
     }
@@ -172,7 +173,7 @@ fn timed(bytes: &Option<Vec<u8>>, moment: Option<DateTime>) -> Option<TimedTable
     }
 }
 
-/// Returns the time table of `paths` and `outcomes` with a moment, if both are given.
+/// Returns the time table of the commands about paths with a moment, if both are given.
 pub(crate) fn timed_given(inputs: &Inputs, moment: Option<DateTime>) -> Option<TimedTable<'_>>
     ensures { option_map timed_view result ≡ (tables_in inputs.now moment).time }
 {
@@ -194,7 +195,7 @@ fn copied<'a>(time: &Option<TimedTable<'a>>) -> Option<TimedTable<'a>>
     }
 }
 
-/// Returns the tables of `paths` and `outcomes`, with this time table, from which the codes of modules are known.
+/// Returns the tables of the commands about paths, with this time table, from which the codes of modules are known.
 pub(crate) fn tables_with<'a>(inputs: &'a Inputs, time: &Option<TimedTable<'a>>) -> Tables<'a>
     ensures { tables_view result ≡ with_time (tables_in inputs.now None) (option_map timed_view time.now) }
 {

@@ -1,5 +1,5 @@
-//! The commands of `pamcheck`: from a request and its inputs to the printed answer and the exit status.
-//! A request that has no answer gets the line and the exit status of its first fault.
+//! The commands of `pamcheck`: from a request and its inputs to the reply, which is a value, and the exit status.
+//! A request that has no reply gets the line and the exit status of its first fault.
 #![tactic(auto)]
 
 mod fault;
@@ -10,4 +10,7 @@ pub use fault::{
     Fault, fault_status, fault_text, input_status, input_text, usage_status, usage_text,
 };
 pub use inputs::{InputError, Inputs};
-pub use report::{Status, answer};
+pub use report::{
+    AskedModule, GraphReply, Outcome, Outcomes, OutcomesReply, PathsPage, Reply, RunReply,
+    StackReply, Status, Trace, path_at, reply_to,
+};

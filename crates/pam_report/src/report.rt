@@ -1,37 +1,45 @@
-//! Answers. Each is computed first, which finds all faults, and then written, which allocates nothing.
+//! Replies to requests: each is computed, and nothing is written.
 
-ghost use Rattle.std.specs.Prelude.{◌≡◌, ◌≤◌};
-ghost use Rattle.pam_report.specs.Answer.{Answers, AnswersFrom};
+ghost use Rattle.std.specs.Prelude.{◌≡◌, ◌≤◌, unwrap_or};
+ghost use Rattle.pam_report.specs.Answer.{AnswersBy, Replies};
+ghost use Rattle.pam_report.specs.Finds.{Finds};
+ghost use Rattle.pam_report.specs.Inputs.{files_given, no_files};
 ghost use Rattle.pam_report.specs.Memory.{WantsOnly, wants};
-ghost use Rattle.pam_report.specs.Report.{status_number};
+ghost use Rattle.pam_report.specs.Reply.{status_number};
 
 mod access;
 mod decide;
 mod goal_pages;
-mod header;
+mod graph;
 mod known_stack;
 mod login;
 mod outcomes;
 mod paths;
+mod replies;
 mod show;
 mod time;
 mod trace;
-mod word;
 
 use crate::fault::Fault;
 use crate::inputs::Inputs;
 use access::answer_access;
-use decide::answer_decide;
+pub use decide::RunReply;
+use decide::decided;
+pub use graph::GraphReply;
+use graph::{DrawingRequest, answer_graph};
 use known_stack::StackRequest;
 use outcomes::answer_outcomes;
-use pam_codes::Out;
+pub use outcomes::{Outcome, Outcomes, OutcomesReply};
 use pam_conf::{Files, Form, Kind};
 use pam_words::{KnowledgeSource, Request, Task};
+pub use paths::PathsPage;
 use paths::{PageRequest, answer_paths};
-use show::answer_show;
+pub use replies::Reply;
+pub use show::StackReply;
+use show::shown;
 use std::alloc::Global;
-use std::io::Write;
 use time::{answer_time, given_moment, moment_of};
+pub use trace::{AskedModule, Trace, path_at};
 
 /// The outcome of an answer.
 #[derive(Clone, Copy, Debug, PartialEq, Eq)]
@@ -55,21 +63,19 @@ impl Status {
     }
 }
 
-/// Answers a request: writes the text and flushes once, at its end.
+/// Returns the reply to a request, or its first fault. A fault of the cursor of `paths` comes later: see `PathsPage::listing`.
 ///
-/// All faults but a failed write are found before the first byte is written. Inputs of another command have no files and
-/// no tables that this one uses; see `Inputs::fits`.
-pub fn answer<W: Write>(
+/// Inputs of another command have no files and no tables that this one uses; see `Inputs::fits`.
+pub fn reply_to<'a>(
     alloc: Global,
-    request: &Request<'_>,
-    inputs: &Inputs,
-    out: &mut Out<W>,
-) -> Result<Status, Fault>
-    ensures { Answers W.contents out.old out.new result request.now.service.now request.now.task inputs.now }
+    request: &Request<'a>,
+    inputs: &'a Inputs,
+) -> Result<Reply<'a>, Fault>
+    ensures { Replies result request.now.service.now request.now.task inputs.now }
 {
     match inputs.files() {
-        Some(files) => answer_from(alloc, request, files, inputs, out),
-        None => answer_from(alloc, request, &Files::new(alloc, Form::Dir), inputs, out),
+        Some(files) => reply_from(alloc, request, files, inputs),
+        None => reply_from(alloc, request, &Files::new(alloc, Form::Dir), inputs),
     }
 }
 
@@ -89,31 +95,29 @@ fn stack_request<'a>(
     }
 }
 
-/// Answers a request from these files and the tables of `inputs`.
-fn answer_from<W: Write>(
+/// Returns the reply to a request from these files, which are those of `inputs` or none, and the tables of `inputs`.
+fn reply_from<'a>(
     alloc: Global,
-    request: &Request<'_>,
+    request: &Request<'a>,
     files: &Files,
-    inputs: &Inputs,
-    out: &mut Out<W>,
-) -> Result<Status, Fault>
-    ensures answer { AnswersFrom W.contents out.old out.new result request.now.service.now request.now.task files.now inputs.now }
+    inputs: &'a Inputs,
+) -> Result<Reply<'a>, Fault>
+    requires { unwrap_or (files_given inputs.now) no_files ≡ files.now }
+    ensures answer { AnswersBy (Finds result) request.now.service.now request.now.task files.now inputs.now }
     ensures wants { WantsOnly (wants request.now.task inputs.now) result }
 {
     let service = request.service;
     match &request.task {
-        Task::Show { kind, .. } => answer_show(alloc, service, *kind, files, out),
-        Task::Decide { kind, codes, .. } => {
-            answer_decide(alloc, service, *kind, codes, files, out)
-        }
+        Task::Show { kind, .. } => shown(alloc, service, *kind, files, inputs.files()),
+        Task::Decide { kind, codes, .. } => decided(alloc, service, *kind, codes, files),
         Task::Access {
             login,
             arguments,
             ..
-        } => { answer_access(alloc, service, *login, arguments, inputs, out) }
+        } => answer_access(alloc, service, *login, arguments, inputs),
         Task::Time { login, moment, .. } => {
             let moment = moment_of(*moment);
-            answer_time(alloc, service, *login, moment, inputs, out)
+            answer_time(alloc, service, *login, moment, inputs)
         }
         Task::Paths {
             kind,
@@ -130,7 +134,7 @@ fn answer_from<W: Write>(
                 filter: *filter,
             };
             let moment = given_moment(knowledge.moment);
-            answer_paths(alloc, &page, moment, files, inputs, out)
+            answer_paths(alloc, &page, moment, files, inputs)
         }
         Task::Outcomes {
             kind,
@@ -139,7 +143,20 @@ fn answer_from<W: Write>(
         } => {
             let stack = stack_request(service, *kind, knowledge);
             let moment = given_moment(knowledge.moment);
-            answer_outcomes(alloc, &stack, moment, files, inputs, out)
+            answer_outcomes(alloc, &stack, moment, files, inputs)
+        }
+        Task::Graph {
+            kind,
+            format,
+            knowledge,
+            ..
+        } => {
+            let drawing = DrawingRequest {
+                stack: stack_request(service, *kind, knowledge),
+                format: *format,
+            };
+            let moment = given_moment(knowledge.moment);
+            answer_graph(alloc, &drawing, moment, files, inputs)
         }
     }
 }

@@ -12,6 +12,8 @@ use Rattle.clap.specs.ValueTests.{accepts}
 use Rattle.clap.specs.Words.{Row, Text, all_of, first_of}
 use Rattle.pam_words.specs.Decisions.{codes_named, decisions_of}
 use Rattle.pam_words.specs.Words.{number_parser}
+use Rattle.pam_words.specs.declared.wanted.GraphFormat.{GraphFormat}
+use Rattle.pam_words.specs.declared.wanted.GraphFormat.TheVariants.{Dot, Mermaid}
 use Rattle.pam_words.specs.declared.wanted.PathFilter.{PathFilter}
 use Rattle.pam_words.specs.declared.wanted.PathFilter.TheVariants.{All, Decides, Asks}
 
@@ -67,6 +69,12 @@ pub record OutcomesTask : Type 0 where
   pub kind : Kind
   pub knowledge : KnowledgeText
 
+pub record GraphTask : Type 0 where
+  pub source : SourceText
+  pub kind : Kind
+  pub format : GraphFormat
+  pub knowledge : KnowledgeText
+
 pub data TaskText : Type 0 where
   show : SourceText → Kind → TaskText
   decide : SourceText → Kind → List ℕ → TaskText
@@ -74,16 +82,18 @@ pub data TaskText : Type 0 where
   time : TimeTask → TaskText
   paths : PathsTask → TaskText
   outcomes : OutcomesTask → TaskText
+  graph : GraphTask → TaskText
 
 pub record RequestText : Type 0 where
   pub service : Text
   pub task : TaskText
 
--- U2 to U6, U8 and U11
+-- U2 to U6, U8, U11 and U12
 pub data Refusal : Type 0 where
   source : Refusal
   kind_name : Refusal
   code_name : Refusal
+  format_name : Refusal
   login : Refusal
   moment : Refusal
   both_ends : Refusal
@@ -180,6 +190,20 @@ one_part (Some cursor) (Some other) = None
 abbrev pub part_of : List Row → Option PartText
 part_of rows = one_part (first_of (codes "after") rows) (first_of (codes "before") rows)
 
+abbrev pub format_named : Text → Option GraphFormat
+format_named name =
+    if bytes_eq name (codes "dot") then Some Dot
+    else if bytes_eq name (codes "mermaid") then Some Mermaid
+    else None
+
+abbrev pub format_or_default : Option Text → Option GraphFormat
+format_or_default None = Some Dot
+format_or_default (Some name) = format_named name
+
+-- the format of a drawing, which is DOT unless `--format` names another one
+abbrev pub format_of : List Row → Option GraphFormat
+format_of rows = format_or_default (first_of (codes "format") rows)
+
 -- an access or time table is given, and no user
 abbrev pub lacks_user : List Row → Bool
 lacks_user rows = (has (codes "access") rows || has (codes "time") rows) && not (has (codes "user") rows)
@@ -261,6 +285,14 @@ outcomes_task rows =
     knowledge_of rows >>= λ knowledge.
     Ok (outcomes (record { source = stack.0; kind = stack.1; knowledge = knowledge }))
 
+-- `graph SERVICE KIND`
+abbrev pub graph_task : List Row → Result TaskText Refusal
+graph_task rows =
+    stack_of rows >>= λ stack.
+    or_refuse (format_of rows) format_name (λ format.
+    knowledge_of rows >>= λ knowledge.
+    Ok (graph (record { source = stack.0; kind = stack.1; format = format; knowledge = knowledge })))
+
 -- `access SERVICE [ARGUMENT]...`
 abbrev pub access_task : List Row → Result TaskText Refusal
 access_task rows = Ok (access (record {
@@ -286,6 +318,7 @@ task_of command rows =
     else if bytes_eq command (codes "decide") then decide_task rows
     else if bytes_eq command (codes "paths") then paths_task rows
     else if bytes_eq command (codes "outcomes") then outcomes_task rows
+    else if bytes_eq command (codes "graph") then graph_task rows
     else if bytes_eq command (codes "access") then access_task rows
     else time_task rows
 

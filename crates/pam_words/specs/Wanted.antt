@@ -15,7 +15,7 @@ use Rattle.pam_words.specs.declared.wanted.Moment.TheVariants.{Civil, Instant}
 use Rattle.pam_words.specs.declared.wanted.PagePart.{PagePart}
 use Rattle.pam_words.specs.declared.wanted.PagePart.TheVariants.{Whole, After, Before}
 use Rattle.pam_words.specs.declared.wanted.Task.{Task}
-use Rattle.pam_words.specs.declared.wanted.Task.TheVariants.{Show, Decide, Access, Time, Paths, Outcomes}
+use Rattle.pam_words.specs.declared.wanted.Task.TheVariants.{Show, Decide, Access, Time, Paths, Outcomes, Graph}
 use Rattle.pam_words.specs.declared.wanted.Request.{Request}
 use Rattle.pam_words.specs.declared.wanted.Usage.{Usage}
 use Rattle.pam_words.specs.declared.wanted.Usage.TheVariants as usage
@@ -75,6 +75,12 @@ task_view (Outcomes source kind knowledge) = spec.outcomes (record {
   kind = kind;
   knowledge = knowledge_view knowledge;
 })
+task_view (Graph source kind format knowledge) = spec.graph (record {
+  source = source_view source;
+  kind = kind;
+  format = format;
+  knowledge = knowledge_view knowledge;
+})
 
 abbrev pub request_view : Request → RequestText
 request_view request = record { service = request.service.now; task = task_view request.task }
@@ -87,6 +93,7 @@ Gives view value (Ok x) = value ≡ Ok (view x)
 Gives view value (Err usage.Source) = value ≡ Err spec.source
 Gives view value (Err usage.KindName) = value ≡ Err spec.kind_name
 Gives view value (Err usage.CodeName) = value ≡ Err spec.code_name
+Gives view value (Err usage.FormatName) = value ≡ Err spec.format_name
 Gives view value (Err usage.Login) = value ≡ Err spec.login
 Gives view value (Err usage.Moment) = value ≡ Err spec.moment
 Gives view value (Err usage.BothEnds) = value ≡ Err spec.both_ends

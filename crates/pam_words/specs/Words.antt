@@ -86,6 +86,10 @@ paths_app = with_knowledge (with_filter (with_page (stack_app (codes "paths"))))
 unfoldable pub outcomes_app : App
 outcomes_app = with_knowledge (stack_app (codes "outcomes"))
 
+-- `graph SERVICE KIND`
+unfoldable pub graph_app : App
+graph_app = with_knowledge (with_options (stack_app (codes "graph")) (codes "format" ∷ []))
+
 -- `NAME SERVICE`, with the table given by `--NAME`, a user and a terminal
 abbrev pub login_app : Text → App
 login_app name =
@@ -109,8 +113,8 @@ bare_app = let app = new_app (codes "pamcheck") in record app { top = record app
 -- the commands that read a stack
 abbrev pub with_stacks : App → App
 with_stacks app =
-    with_subcommand (with_subcommand (with_subcommand (with_subcommand app
-    show_app.top) decide_app.top) paths_app.top) outcomes_app.top
+    with_subcommand (with_subcommand (with_subcommand (with_subcommand (with_subcommand app
+    show_app.top) decide_app.top) paths_app.top) outcomes_app.top) graph_app.top
 
 unfoldable pub pamcheck_app : App
 pamcheck_app =

@@ -14,6 +14,7 @@ ghost use Rattle.pam_words.specs.Wanted.{login_view, moment_view, source_view};
 ghost use Rattle.pam_words.specs.Words.{pamcheck_app};
 
 mod decisions;
+mod graph;
 mod knowledge;
 mod paths;
 
@@ -246,6 +247,8 @@ fn task<'a>(alloc: Global, command: &str, matches: &ArgMatches<'a>) -> Result<Ta
         paths::paths(matches)
     } else if command == "outcomes" {
         knowledge::outcomes(matches)
+    } else if command == "graph" {
+        graph::graph(matches)
     } else if command == "access" {
         access(alloc, matches)
     } else {

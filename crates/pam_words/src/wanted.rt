@@ -53,6 +53,15 @@ pub enum PathFilter {
     Asks(u32),
 }
 
+/// The language of a drawing.
+#[derive(Clone, Copy)]
+pub enum GraphFormat {
+    /// DOT, of Graphviz.
+    Dot,
+    /// A flowchart of Mermaid.
+    Mermaid,
+}
+
 /// What says which codes modules may return: a returns file, and the tables in which they look up a login at a moment.
 #[derive(Clone, Copy)]
 pub struct KnowledgeSource<'a> {
@@ -106,6 +115,13 @@ pub enum Task<'a> {
         kind: Kind,
         knowledge: KnowledgeSource<'a>,
     },
+    /// Draws the graph of the stack's runs.
+    Graph {
+        source: ConfSource<'a>,
+        kind: Kind,
+        format: GraphFormat,
+        knowledge: KnowledgeSource<'a>,
+    },
 }
 
 /// A command with its service. The service is as given, not lowercased.
@@ -136,11 +152,14 @@ pub enum Usage {
     /// U4: a CODE, also one of `--decision`, is not the name of a code.
     #[error("unknown code")]
     CodeName,
+    /// U12: the value of `--format` is not the name of a format.
+    #[error("unknown format")]
+    FormatName,
     /// U5: an access or time table is given without a user.
     #[error("a table without a user")]
     Login,
     /// U6: not exactly one form of the moment is given, `--zone` is given without `--at-unix`, or the seconds are not
-    /// 1 to 12 digits. `paths` and `outcomes` need a moment only for a time table.
+    /// 1 to 12 digits. `paths`, `outcomes` and `graph` need a moment only for a time table.
     #[error("not exactly one moment")]
     Moment,
     /// U8: both `--after` and `--before` are given.

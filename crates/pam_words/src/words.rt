@@ -105,6 +105,13 @@ const ASKS: ArgRow = ArgRow {
     help: "Lists the paths that ask module N",
 };
 
+const FORMAT: ArgRow = ArgRow {
+    form: ArgForm::Optional,
+    id: "format",
+    name: "FORMAT",
+    help: "dot (for Graphviz) or mermaid; dot if left out",
+};
+
 const USER: ArgRow = ArgRow {
     form: ArgForm::Optional,
     id: "user",
@@ -211,7 +218,7 @@ struct CommandRow {
     args: &'static [ArgRow],
 }
 
-static COMMANDS: [CommandRow; 6] = [
+static COMMANDS: [CommandRow; 7] = [
     CommandRow {
         name: "show",
         about: "Shows the modules of a stack",
@@ -236,6 +243,14 @@ static COMMANDS: [CommandRow; 6] = [
         args: &[
             SERVICE, KIND, DIR, CONF, USER, RHOST, TTY, ACCESS, TIME, GROUP, RETURNS, AT, AT_UNIX,
             ZONE,
+        ],
+    },
+    CommandRow {
+        name: "graph",
+        about: "Draws the graph of a stack",
+        args: &[
+            SERVICE, KIND, DIR, CONF, FORMAT, USER, RHOST, TTY, ACCESS, TIME, GROUP, RETURNS, AT,
+            AT_UNIX, ZONE,
         ],
     },
     CommandRow {

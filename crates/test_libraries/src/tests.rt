@@ -5,6 +5,7 @@ mod controls;
 mod faults;
 mod files;
 mod halting;
+mod json;
 mod known;
 mod returns;
 mod rules;

@@ -43,6 +43,7 @@ pub(super) fn usage_row(usage: &Usage) -> Row
         Usage::Memory => Row::of("U7 Memory", NO_MEMORY),
         Usage::BothEnds => Row::of("U8 BothEnds", BAD_REQUEST),
         Usage::BothFilters => Row::of("U11 BothFilters", BAD_REQUEST),
+        Usage::FormatName => Row::of("U12 FormatName", BAD_REQUEST),
     }
 }
 

@@ -1,64 +1,25 @@
 //! The `access` command: the line of an access table that decides.
 
 ghost use Rattle.std.specs.Prelude.{◌≡◌, Bool, IfErr, is_some, true, false, option_map};
-ghost use Rattle.pam_codes.specs.Out.{Writes, WritesAndFlushes};
 ghost use Rattle.pam_tables.specs.Access.{table_of};
 ghost use Rattle.pam_tables.specs.Error.{Gives};
 ghost use Rattle.pam_tables.specs.Login.{login_view};
 ghost use Rattle.pam_tables.specs.Options.{options_of};
-ghost use Rattle.pam_report.specs.Answer.{FindsAccess, access_status, login_at, looked_up, with_table};
-ghost use Rattle.pam_report.specs.Leaves.{Leaves};
+ghost use Rattle.pam_report.specs.Answer.{FindsAccess, login_at, looked_up, with_table};
+ghost use Rattle.pam_report.specs.Finds.{Finds};
 ghost use Rattle.pam_report.specs.Inputs.{group_file, groups_in};
 ghost use Rattle.pam_report.specs.Memory.{IsWanting, WantsOnly, of_tables};
-ghost use Rattle.pam_report.specs.Tables.{access_text, denied_text};
 
-use super::Status;
 use super::login::{login_to, lowered};
+use super::replies::Reply;
 use crate::fault::Fault;
 use crate::inputs::Inputs;
-use pam_codes::{Device, Out, Piece};
 use pam_tables::{
     AccessAnswer, AccessOptions, AccessTable, Groups, Login as TableLogin, Table, TableError,
 };
 use pam_text::Texts;
 use pam_words::Login;
 use std::alloc::Global;
-use std::io::Write;
-
-/// Writes `denied line N`.
-pub(super) fn put_denied<W: Write>(line: u32, out: &mut Out<W>) -> Result<(), Device>
-    ensures { Writes W.contents out.old out.new result (denied_text line) }
-{
-    out.put_line(&[
-        Piece::Bytes(b"denied line "),
-        Piece::Number(u64::from(line)),
-        Piece::Bytes(b"\n"),
-    ])
-}
-
-#[tactic(auto, unfolding(crate::specs::Tables::access_text))]
-fn put_answer<W: Write>(answer: AccessAnswer, out: &mut Out<W>) -> Result<(), Device>
-    ensures { Writes W.contents out.old out.new result (access_text answer) }
-{
-    match answer {
-        AccessAnswer::Granted(None) => out.put(b"granted no line\n"),
-        AccessAnswer::Granted(Some(line)) => out.put_line(&[
-            Piece::Bytes(b"granted line "),
-            Piece::Number(u64::from(line)),
-            Piece::Bytes(b"\n"),
-        ]),
-        AccessAnswer::Denied(line) => put_denied(line, out),
-    }
-}
-
-fn status_of(answer: AccessAnswer) -> Status
-    ensures { result ≡ access_status answer }
-{
-    match answer {
-        AccessAnswer::Granted(_) => Status::Success,
-        AccessAnswer::Denied(_) => Status::Refusal,
-    }
-}
 
 /// Reads the groups, if a file is given.
 fn groups(alloc: Global, bytes: Option<&[u8]>) -> Result<Groups<'_>, TableError>
@@ -104,46 +65,34 @@ fn look_up(
     }
 }
 
-fn write_answer<W: Write>(answer: AccessAnswer, out: &mut Out<W>) -> Result<(), Device>
-    ensures { WritesAndFlushes W.contents out.old out.new result (access_text answer) }
-{
-    put_answer(answer, out)?;
-    out.finish()
-}
-
-fn answer_login<W: Write>(
+fn answer_login(
     alloc: Global,
     login: &TableLogin<'_>,
     arguments: &Texts,
     inputs: &Inputs,
-    out: &mut Out<W>,
-) -> Result<Status, Fault>
-    ensures answer { Leaves W.contents out.old out.new result (looked_up (login_view login.now) arguments.now inputs.now) }
+) -> Result<Reply<'static>, Fault>
+    ensures answer { Finds result (λ answer. looked_up (login_view login.now) arguments.now inputs.now ≡ answer) }
     ensures wants { WantsOnly (of_tables true (is_some (group_file inputs.now)) false) result }
 {
-    let answer = match look_up(alloc, login, arguments, inputs) {
-        Ok(answer) => answer,
-        Err(fault) => return Err(fault),
-    };
-    match write_answer(answer, out) {
-        Ok(()) => Ok(status_of(answer)),
-        Err(Device) => Err(Fault::Device),
+    match look_up(alloc, login, arguments, inputs) {
+        Ok(answer) => Ok(Reply::Access(answer)),
+        Err(fault) => Err(fault),
     }
 }
 
-pub(super) fn answer_access<W: Write>(
+/// Looks up the login of a request in the access table.
+pub(super) fn answer_access(
     alloc: Global,
     service: &str,
     login: Login<'_>,
     arguments: &Texts,
     inputs: &Inputs,
-    out: &mut Out<W>,
-) -> Result<Status, Fault>
-    ensures answer { Leaves W.contents out.old out.new result (looked_up (login_at service.now login.entry) arguments.now inputs.now) }
+) -> Result<Reply<'static>, Fault>
+    ensures answer { Finds result (λ answer. looked_up (login_at service.now login.entry) arguments.now inputs.now ≡ answer) }
     ensures wants { WantsOnly (of_tables true (is_some (group_file inputs.now)) false) result }
 {
     match lowered(alloc, service) {
-        Ok(service) => answer_login(alloc, &login_to(&service, login), arguments, inputs, out),
+        Ok(service) => answer_login(alloc, &login_to(&service, login), arguments, inputs),
         Err(_) => Err(Fault::Memory),
     }
 }

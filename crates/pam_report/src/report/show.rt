@@ -1,192 +1,46 @@
-//! The `show` command: the stack, rule by rule.
+//! The `show` command: the stack of a service.
 
-ghost use Rattle.std.specs.Prelude.{◌≡◌, ◌≤◌, ◌+◌, ◌++◌, codes, false};
-ghost use Rattle.pam_codes.specs.Out.{Writes, WritesAndFlushes};
-ghost use Rattle.pam_conf.specs.ItemsOf.{items_of, module_text};
+ghost use Rattle.std.specs.Prelude.{◌≡◌, false, option_map, unwrap_or};
 ghost use Rattle.pam_conf.specs.Resolution.{resolved};
-ghost use Rattle.pam_conf.specs.Stack.{depth};
 ghost use Rattle.pam_report.specs.Answer.{shown, with_stack};
-ghost use Rattle.pam_report.specs.Leaves.{Leaves};
+ghost use Rattle.pam_report.specs.Finds.{Finds};
+ghost use Rattle.pam_report.specs.Inputs.{no_files};
 ghost use Rattle.pam_report.specs.Memory.{WantsOnly, of_stack};
-ghost use Rattle.pam_report.specs.Header.{name_at};
-ghost use Rattle.pam_report.specs.Show.{dash_text, indent, items_text, module_front, module_line, place_text, show_text, sub_line, words_text};
-ghost use Rattle.pam_report.specs.WordText.{word_text};
 
-use super::Status;
-use super::header::put_header;
-use super::word::put_word;
+use super::replies::Reply;
 use crate::fault::Fault;
-use pam_codes::{Device, Out, Piece};
-use pam_conf::{Files, Item, Kind, Module, Stack, Sub, resolve};
-use pam_text::Texts;
+use pam_conf::{Files, Kind, Stack, resolve};
 use std::alloc::Global;
-use std::io::Write;
 
-/// Returns the name of the file at a position.
-#[tactic(auto, unfolding(crate::specs::Header::name_at))]
-fn name_at(files: &Files, position: usize) -> &[u8]
-    ensures { result.now ≡ name_at files.now position }
-{
-    match files.name(position) {
-        Some(name) => name,
-        None => b"",
-    }
+/// The stack of a service.
+#[derive(Drop)]
+pub struct StackReply<'a> {
+    pub service: &'a str,
+    pub kind: Kind,
+    /// The files in which its rules stand, if there are any.
+    pub files: Option<&'a Files>,
+    pub stack: Stack,
 }
 
-/// Writes two spaces per level.
-fn put_indent<W: Write>(level: usize, out: &mut Out<W>) -> Result<(), Device>
-    ensures { Writes W.contents out.old out.new result (indent level) }
-{
-    for _ in 0..level {
-        out.put(b"  ")?;
-    }
-    Ok(())
-}
-
-/// Writes `FILE:LINE`.
-#[tactic(auto, unfolding(crate::specs::Show::place_text))]
-fn put_place<W: Write>(
-    files: &Files,
-    file: usize,
-    line: usize,
-    out: &mut Out<W>,
-) -> Result<(), Device>
-    ensures { Writes W.contents out.old out.new result (place_text files.now file line) }
-{
-    out.put_line(&[
-        Piece::Bytes(name_at(files, file)),
-        Piece::Bytes(b":"),
-        Piece::Number(line as u64),
-    ])
-}
-
-/// Writes a word, with a space before it.
-fn put_one_word<W: Write>(word: &[u8], out: &mut Out<W>) -> Result<(), Device>
-    ensures { Writes W.contents out.old out.new result (codes " " ++ word_text word.now) }
-{
-    out.put(b" ")?;
-    put_word(word, out)
-}
-
-/// Writes words, with a space before each.
-fn put_words<W: Write>(words: &Texts, out: &mut Out<W>) -> Result<(), Device>
-    ensures { Writes W.contents out.old out.new result (words_text words.now) }
-{
-    for word in words.iter() {
-        put_one_word(word, out)?;
-    }
-    Ok(())
-}
-
-/// Writes the start of a module's line, up to its control.
-#[tactic(auto, unfolding(crate::specs::Show::module_front))]
-fn put_front<W: Write>(
-    files: &Files,
-    level: usize,
-    module: &Module,
-    out: &mut Out<W>,
-) -> Result<(), Device>
-    ensures { Writes W.contents out.old out.new result (module_front files.now level (module_text «module».now)) }
-{
-    put_indent(level, out)?;
-    out.put_line(&[Piece::Number(module.number as u64), Piece::Bytes(b" ")])?;
-    put_place(files, module.file, module.line, out)?;
-    put_dash(module.dashed, out)
-}
-
-fn put_dash<W: Write>(dashed: bool, out: &mut Out<W>) -> Result<(), Device>
-    ensures { Writes W.contents out.old out.new result (dash_text dashed) }
-{
-    if dashed {
-        return out.put(b" - ");
-    }
-    out.put(b" ")
-}
-
-/// Writes the line of a module.
-#[tactic(auto, unfolding(crate::specs::Show::module_line))]
-fn put_module<W: Write>(
-    files: &Files,
-    level: usize,
-    module: &Module,
-    out: &mut Out<W>,
-) -> Result<(), Device>
-    ensures { Writes W.contents out.old out.new result (module_line files.now level (module_text «module».now)) }
-{
-    put_front(files, level, module, out)?;
-    module.control.write_text(out)?;
-    put_one_word(&module.path, out)?;
-    put_words(&module.arguments, out)?;
-    out.put(b"\n")
-}
-
-/// Writes the line of a substack.
-#[tactic(auto, unfolding(crate::specs::Show::sub_line))]
-fn put_sub<W: Write>(files: &Files, level: usize, sub: &Sub, out: &mut Out<W>) -> Result<(), Device>
-    ensures { Writes W.contents out.old out.new result (sub_line files.now level sub.now.text) }
-{
-    put_indent(level, out)?;
-    out.put(b"sub ")?;
-    put_place(files, sub.file, sub.line, out)?;
-    out.put_line(&[
-        Piece::Bytes(b" "),
-        Piece::Bytes(name_at(files, sub.target)),
-        Piece::Bytes(b"\n"),
-    ])
-}
-
-/// Writes the items of a list at a level. Those of a substack are one level deeper.
-fn put_items<W: Write>(
-    files: &Files,
-    level: usize,
-    items: &[Item],
-    out: &mut Out<W>,
-) -> Result<(), Device>
-    requires shallow { level + depth (items_of items.now) ≤ 16 }
-    ensures { Writes W.contents out.old out.new result (items_text files.now level (items_of items.now)) }
-{
-    for item in items {
-        match item {
-            Item::Module(module) => put_module(files, level, module, out)?,
-            Item::Sub(sub) => {
-                put_sub(files, level, sub, out)?;
-                put_items(files, level + 1, &sub.items, out)?;
-            }
-        }
-    }
-    Ok(())
-}
-
-fn write_stack<W: Write>(
-    service: &str,
-    kind: Kind,
-    files: &Files,
-    stack: &Stack,
-    out: &mut Out<W>,
-) -> Result<(), Device>
-    ensures { WritesAndFlushes W.contents out.old out.new result (show_text service.now kind files.now stack.now) }
-{
-    put_header(service, kind, stack.modules(), out)?;
-    put_items(files, 0, stack.items(), out)?;
-    out.finish()
-}
-
-pub(super) fn answer_show<W: Write>(
+/// Returns the stack of a service, which is resolved in `files`. These are the ones that are `kept`, or none.
+pub(super) fn shown<'a>(
     alloc: Global,
-    service: &str,
+    service: &'a str,
     kind: Kind,
     files: &Files,
-    out: &mut Out<W>,
-) -> Result<Status, Fault>
-    ensures answer { Leaves W.contents out.old out.new result (with_stack (resolved files.now service.now kind) (shown service.now kind files.now)) }
+    kept: Option<&'a Files>,
+) -> Result<Reply<'a>, Fault>
+    requires { unwrap_or (option_map (λ f. f.now) kept) no_files ≡ files.now }
+    ensures answer { Finds result (λ answer. with_stack (resolved files.now service.now kind) (shown service.now kind files.now) ≡ answer) }
     ensures wants { WantsOnly (of_stack false) result }
 {
-    let stack = match resolve(alloc, files, service.as_bytes(), kind) {
-        Ok(stack) => stack,
-        Err(error) => return Err(Fault::Conf(error)),
-    };
-    match write_stack(service, kind, files, &stack, out) {
-        Ok(()) => Ok(Status::Success),
-        Err(Device) => Err(Fault::Device),
+    match resolve(alloc, files, service.as_bytes(), kind) {
+        Ok(stack) => Ok(Reply::Stack(StackReply {
+            service,
+            kind,
+            files: kept,
+            stack,
+        })),
+        Err(error) => Err(Fault::Conf(error)),
     }
 }

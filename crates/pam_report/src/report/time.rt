@@ -2,46 +2,22 @@
 
 ghost use Rattle.std.specs.Prelude.{◌≡◌, IfErr, Ok, Result, is_some, true, false};
 ghost use Rattle.jiff.specs.Types.{DateTime as CivilTime};
-ghost use Rattle.pam_codes.specs.Out.{Writes, WritesAndFlushes};
 ghost use Rattle.pam_times.specs.Login.{login_view};
-ghost use Rattle.pam_report.specs.Answer.{FindsTime, login_at, time_status, timed, with_rules};
-ghost use Rattle.pam_report.specs.Leaves.{Leaves};
+ghost use Rattle.pam_report.specs.Answer.{FindsTime, login_at, timed, with_rules};
+ghost use Rattle.pam_report.specs.Finds.{Finds};
 ghost use Rattle.pam_report.specs.Memory.{IsWanting, WantsOnly, of_tables};
 ghost use Rattle.pam_report.specs.Moments.{IsGivenMoment, IsMoment};
 ghost use Rattle.pam_report.specs.Inputs.{time_given};
-ghost use Rattle.pam_report.specs.Tables.{time_text};
 ghost use Rattle.pam_times.specs.Reading.{rules_of};
 
-use super::Status;
-use super::access::put_denied;
 use super::login::{login_to, lowered};
+use super::replies::Reply;
 use crate::fault::Fault;
 use crate::inputs::Inputs;
 use jiff::civil::DateTime;
-use pam_codes::{Device, Out};
 use pam_times::{Login, MomentError, TimeAnswer, TimeTable, civil, moment};
 use pam_words::Moment;
 use std::alloc::Global;
-use std::io::Write;
-
-#[tactic(auto, unfolding(crate::specs::Tables::time_text))]
-fn put_answer<W: Write>(answer: TimeAnswer, out: &mut Out<W>) -> Result<(), Device>
-    ensures { Writes W.contents out.old out.new result (time_text answer) }
-{
-    match answer {
-        TimeAnswer::Granted => out.put(b"granted\n"),
-        TimeAnswer::Denied(line) => put_denied(line, out),
-    }
-}
-
-fn status_of(answer: TimeAnswer) -> Status
-    ensures { result ≡ time_status answer }
-{
-    match answer {
-        TimeAnswer::Granted => Status::Success,
-        TimeAnswer::Denied(_) => Status::Refusal,
-    }
-}
 
 /// Returns the civil time of a moment.
 pub(super) fn moment_of(wanted: Moment<'_>) -> Result<DateTime, MomentError>
@@ -80,42 +56,30 @@ fn look_up(
     }
 }
 
-fn write_answer<W: Write>(answer: TimeAnswer, out: &mut Out<W>) -> Result<(), Device>
-    ensures { WritesAndFlushes W.contents out.old out.new result (time_text answer) }
-{
-    put_answer(answer, out)?;
-    out.finish()
-}
-
-fn answer_login<W: Write>(
+fn answer_login(
     alloc: Global,
     login: &Login<'_>,
     moment: &DateTime,
     bytes: &[u8],
-    out: &mut Out<W>,
-) -> Result<Status, Fault>
-    ensures answer { Leaves W.contents out.old out.new result (with_rules (login_view login.now) moment.now (rules_of bytes.now)) }
+) -> Result<Reply<'static>, Fault>
+    ensures answer { Finds result (λ answer. with_rules (login_view login.now) moment.now (rules_of bytes.now) ≡ answer) }
     ensures wants { WantsOnly (of_tables false false true) result }
 {
-    let answer = match look_up(alloc, login, moment, bytes) {
-        Ok(answer) => answer,
-        Err(fault) => return Err(fault),
-    };
-    match write_answer(answer, out) {
-        Ok(()) => Ok(status_of(answer)),
-        Err(Device) => Err(Fault::Device),
+    match look_up(alloc, login, moment, bytes) {
+        Ok(answer) => Ok(Reply::Time(answer)),
+        Err(fault) => Err(fault),
     }
 }
 
-pub(super) fn answer_time<W: Write>(
+/// Looks up the login of a request at a moment in the time table.
+pub(super) fn answer_time(
     alloc: Global,
     service: &str,
     login: pam_words::Login<'_>,
     moment: Result<DateTime, MomentError>,
     inputs: &Inputs,
-    out: &mut Out<W>,
-) -> Result<Status, Fault>
-    ensures answer { Leaves W.contents out.old out.new result (timed (login_at service.now login.entry) (time_given inputs.now) moment) }
+) -> Result<Reply<'static>, Fault>
+    ensures answer { Finds result (λ answer. timed (login_at service.now login.entry) (time_given inputs.now) moment ≡ answer) }
     ensures wants { WantsOnly (of_tables false false true) result }
 {
     let moment = match moment {
@@ -128,7 +92,6 @@ pub(super) fn answer_time<W: Write>(
             &login_to(&service, login),
             &moment,
             inputs.time_table(),
-            out,
         ),
         Err(_) => Err(Fault::Memory),
     }

@@ -10,7 +10,7 @@ use std::alloc::{AllocError, Global};
 
 /// A module that is asked, and what its answer makes of the run.
 #[derive(Drop)]
-pub(super) struct AskedModule {
+pub struct AskedModule {
     pub number: usize,
     pub path: Vec<u8>,
     pub code: Code,
@@ -21,14 +21,14 @@ pub(super) struct AskedModule {
 
 /// A run of a stack under given codes.
 #[derive(Drop)]
-pub(super) struct Trace {
+pub struct Trace {
     pub asked: Vec<AskedModule>,
     pub decision: Decision,
 }
 
 /// Returns the path of a module, by number.
 #[tactic(auto, unfolding(crate::specs::Decide::path_at))]
-pub(super) fn path_at(stack: &Stack, number: usize) -> &[u8]
+pub fn path_at(stack: &Stack, number: usize) -> &[u8]
     ensures { result.now ≡ path_in_items number stack.now }
 {
     match stack.module(number) {
@@ -43,7 +43,7 @@ impl Trace {
     ghost use Rattle.pam_dispatch.specs.Flat.{modules_of, runs_of};
     ghost use Rattle.pam_dispatch.specs.Runs.{answers_of, asked_by, final_state};
     ghost use Rattle.pam_report.specs.Decide.{asked_modules};
-    ghost use Rattle.pam_report.specs.TraceViews.{asked_view};
+    ghost use Rattle.pam_report.specs.ReplyViews.{asked_view};
 
     /// Runs a stack. There is a code for each of its modules.
     pub(super) fn of(

@@ -7,7 +7,8 @@ use crate::tests::halting::{End, FULL, FailingOnce, Halting, INTERRUPTED, NOTHIN
 use crate::tests::same::same;
 use pam_codes::Out;
 use pam_conf::{Files, Form};
-use pam_report::{Fault, Inputs, answer, fault_status};
+use pam_print::answer;
+use pam_report::{Fault, Inputs, fault_status};
 use pam_words::{Request, request};
 use std::alloc::Global;
 use std::io::Write;
@@ -15,8 +16,8 @@ use std::process::Abort;
 use std::test::Fail;
 
 /// A command, its inputs, and what it prints.
-struct Command {
-    words: &'static [&'static str],
+pub(crate) struct Command {
+    pub words: &'static [&'static str],
     login: &'static [u8],
     access: Option<&'static [u8]>,
     time: Option<&'static [u8]>,
@@ -36,7 +37,7 @@ static SHOW: Command = Command {
     status: 0,
 };
 
-static DECIDE: Command = Command {
+pub(crate) static DECIDE: Command = Command {
     words: &[
         "pamcheck", "decide", "login", "auth", "success", "auth_err", "--dir", "d",
     ],
@@ -51,7 +52,7 @@ decision success
     status: 0,
 };
 
-static PATHS: Command = Command {
+pub(crate) static PATHS: Command = Command {
     words: &["pamcheck", "paths", "login", "auth", "--dir", "d"],
     login: b"auth [default=5] a.so\n",
     access: None,
@@ -72,6 +73,32 @@ static OUTCOMES: Command = Command {
 success 1 ways, first 0.0: a.so success, b.so any
 perm_denied 1 ways, first 1: a.so but:success
 total 2 ways
+",
+    status: 0,
+};
+
+static GRAPH: Command = Command {
+    words: &[
+        "pamcheck", "graph", "login", "auth", "--dir", "d", "--format", "mermaid",
+    ],
+    login: b"auth [success=ok default=5] a.so\n",
+    access: None,
+    time: None,
+    text: b"---
+title: \"login auth\"
+---
+flowchart LR
+  classDef undef stroke-dasharray:4 3
+  classDef positive stroke-width:1px
+  classDef negative stroke-width:3px
+  classDef success stroke-width:4px
+  start(( ))
+  n0[\"1 a.so<br/>undef perm_denied\"]:::undef
+  d0([\"success\"]):::success
+  d6{{\"perm_denied\"}}
+  start --> n0
+  n0 -->|\"success\"| d0
+  n0 -->|\"but:success\"| d6
 ",
     status: 0,
 };
@@ -106,11 +133,11 @@ static TIME: Command = Command {
     status: 1,
 };
 
-fn commands() -> [&'static Command; 6] {
-    [&SHOW, &DECIDE, &PATHS, &OUTCOMES, &ACCESS, &TIME]
+fn commands() -> [&'static Command; 7] {
+    [&SHOW, &DECIDE, &PATHS, &OUTCOMES, &GRAPH, &ACCESS, &TIME]
 }
 
-fn inputs(alloc: Global, command: &Command) -> Result<Inputs, Fail> {
+pub(crate) fn inputs(alloc: Global, command: &Command) -> Result<Inputs, Fail> {
     if let Some(table) = command.access {
         let table = table.to_vec(alloc)?;
         return Ok(Inputs::Access {
@@ -125,7 +152,7 @@ fn inputs(alloc: Global, command: &Command) -> Result<Inputs, Fail> {
     let mut files = Files::new(alloc, Form::Dir);
     put(alloc, &mut files, b"login", command.login)?;
     match command.words.get(1) {
-        Some(&"paths") | Some(&"outcomes") => Ok(Inputs::Paths {
+        Some(&"paths") | Some(&"outcomes") | Some(&"graph") => Ok(Inputs::Paths {
             files,
             groups: None,
             access: None,
@@ -136,7 +163,10 @@ fn inputs(alloc: Global, command: &Command) -> Result<Inputs, Fail> {
     }
 }
 
-fn asked(alloc: Global, words: &'static [&'static str]) -> Result<Request<'static>, Fail> {
+pub(crate) fn asked(
+    alloc: Global,
+    words: &'static [&'static str],
+) -> Result<Request<'static>, Fail> {
     match request(alloc, words) {
         Ok(request) => Ok(request),
         Err(_) => Err(Fail::from("the words were refused")),

@@ -10,7 +10,7 @@ use Rattle.pam_drawing.proofs.edge.put_each_end.Goals as goal
 pub returns-in_err-put_end_if_drawn : goal.returns-in_err-put_end_if_drawn
 unfolding all_codes
 returns-in_err-put_end_if_drawn g c =
-    let text = end_if_drawn c.args.format c.args.graph.now in
+    let text = end_if_drawn c.args.format c.args.drawn in
     let number = c.loop-number.number in
     let first : 0 + number ≡ number = omega arith in
     err-front _ c.from_residual.ensures.0
@@ -20,7 +20,7 @@ returns-in_err-put_end_if_drawn g c =
 
 pub loop-number-preserved : goal.loop-number-preserved
 loop-number-preserved g c =
-    let text = end_if_drawn c.args.format c.args.graph.now in
+    let text = end_if_drawn c.args.format c.args.drawn in
     let number = c.loop-number.number in
     let first : 0 + number ≡ number = omega arith in
     all-is (all-then c.loop-number.invariant c.in_ok-put_end_if_drawn.ensures)
@@ -29,4 +29,4 @@ loop-number-preserved g c =
 pub returns : goal.returns
 unfolding all_codes
 returns g c =
-    all-is c.loop-number.invariant (range-all (end_if_drawn c.args.format c.args.graph.now) 0 CODES c.loop-number.number c.loop-number-test.false)
+    all-is c.loop-number.invariant (range-all (end_if_drawn c.args.format c.args.drawn) 0 CODES c.loop-number.number c.loop-number-test.false)

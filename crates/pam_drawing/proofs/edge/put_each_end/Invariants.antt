@@ -7,4 +7,4 @@ use Rattle.pam_drawing.specs.Drawing.{end_if_drawn}
 use Rattle.pam_drawing.proofs.edge.put_each_end.Given as goal
 
 abbrev pub invariant-loop-number : goal.invariant-loop-number
-invariant-loop-number g l = TookAll g.W.Write.contents l.initial.out l.out (flat_map (end_if_drawn l.format l.graph) (take l.number (range_with_len 0 CODES)))
+invariant-loop-number g l = TookAll g.W.Write.contents l.initial.out l.out (flat_map (end_if_drawn l.format l.drawn) (take l.number (range_with_len 0 CODES)))

@@ -1,7 +1,7 @@
 use Rattle.std.proofs.Common.{◌≡◌, ◌∙◌, arith}
 use Rattle.pam_codes.specs.declared.code.TheConstants.{CODES}
 use Rattle.pam_graph.specs.Walks.{walks}
-use Rattle.pam_report.proofs.OutcomeTexts.{outcomes-all, outcomes-more, total-is}
+use Rattle.pam_report.proofs.OutcomeLists.{outcomes-all, outcomes-more, total-is}
 use Rattle.pam_report.specs.Outcomes.{outcome_among}
 use Rattle.pam_report.proofs.report.outcomes.outcomes_of.Goals as goal
 

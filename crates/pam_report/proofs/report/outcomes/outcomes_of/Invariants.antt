@@ -2,7 +2,7 @@
 use Rattle.std.proofs.Common.{◌≡◌, map}
 use Rattle.std.specs.List.{flat_map, range_with_len}
 use Rattle.pam_graph.specs.Walks.{walks}
-use Rattle.pam_report.specs.OutcomeViews.{outcome_view}
+use Rattle.pam_report.specs.ReplyViews.{outcome_view}
 use Rattle.pam_report.specs.Outcomes.{outcome_among}
 use Rattle.pam_report.proofs.report.outcomes.outcomes_of.Given as goal
 

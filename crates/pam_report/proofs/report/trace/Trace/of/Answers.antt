@@ -11,7 +11,7 @@ use Rattle.pam_dispatch.specs.Runs.{answers_of, next_ask}
 use Rattle.pam_dispatch.specs.State.{action_of}
 use Rattle.pam_dispatch.proofs.Asking.{asked_by-follows, final_state-end, final_state-follows, number-next_ask, outcome_in-next_ask}
 use Rattle.pam_report.proofs.TraceSteps.{answer_read, asked-ends, asked-goes_on, asked-is, from_one, rises_on, to_last}
-use Rattle.pam_report.specs.TraceViews.{asked_view}
+use Rattle.pam_report.specs.ReplyViews.{asked_view}
 use Rattle.pam_report.proofs.report.trace.Trace.of.Goals as goal
 
 pub overflow_sub-code : goal.overflow_sub-code

@@ -4,7 +4,7 @@ use Rattle.std.proofs.Common.{◌≡◌, ◌++◌, length, map}
 use Rattle.pam_dispatch.specs.Flat.{IsPlaceOf, modules_of, rest_of, runs_of}
 use Rattle.pam_dispatch.specs.Runs.{AsksRise, answers_of, asked_by, final_state}
 use Rattle.pam_report.specs.Decide.{asked_modules}
-use Rattle.pam_report.specs.TraceViews.{asked_view}
+use Rattle.pam_report.specs.ReplyViews.{asked_view}
 use Rattle.pam_report.proofs.report.trace.Trace.of.Given as goal
 
 abbrev pub invariant-loop-number : goal.invariant-loop-number

@@ -1,0 +1,118 @@
+-- What a call leaves that finds a reply and prints it.
+use Rattle.std.proofs.Common.{◌≡◌, ◌∙◌, ℕ, Bool, true, false, List, Option, Result, Ok, Err, ap, refl, subst, sym}
+use Rattle.std.specs.Prelude.{MatchResult}
+use Rattle.pam_codes.specs.Out.{Device, Out, WritesAndFlushes}
+use Rattle.pam_conf.specs.Files.{Folder}
+use Rattle.pam_conf.specs.Stack.{Items}
+use Rattle.pam_conf.specs.declared.conf_error.ConfError.{ConfError}
+use Rattle.pam_conf.specs.declared.rule.Kind.{Kind}
+use Rattle.pam_report.specs.Answer.{AnswersBy, shown, with_stack}
+use Rattle.pam_report.specs.Finds.{Finds, Refuses}
+use Rattle.pam_report.specs.Memory.{IsWanting, Wants, wants as wants_of}
+use Rattle.pam_report.specs.Reply.{Answer, Reply, status_of, wants_memory}
+use Rattle.pam_report.specs.ReplyViews.{reply_view}
+use Rattle.pam_report.specs.declared.fault.Fault.{Fault}
+use Rattle.pam_report.specs.declared.fault.Fault.TheVariants as faults
+use Rattle.pam_report.specs.declared.inputs.Inputs.{Inputs}
+use Rattle.pam_report.specs.declared.report.Status.{Status}
+use Rattle.pam_report.specs.declared.report.replies.Reply as declared
+use Rattle.pam_words.specs.declared.wanted.Task.{Task}
+use Rattle.pam_words.specs.declared.wanted.Task.TheVariants.{Show, Decide, Access, Time, Paths, Outcomes, Graph}
+use Rattle.pam_print.specs.Leaves.{LeavesFault, LeavesSome, Prints}
+use Rattle.pam_print.specs.Text.{IsText}
+
+-- what a call gives that answers a task, if another gives as much for each relation
+pub answers-by : (One Other : (Answer → Type 0) → Type 0) → ((IsAnswer : Answer → Type 0) → One IsAnswer → Other IsAnswer)
+    → (service : List ℕ) (task : Task) (files : Folder) (inputs : Inputs) → AnswersBy One service task files inputs → AnswersBy Other service task files inputs
+answers-by One Other go service (Show source kind) files inputs h = go _ h
+answers-by One Other go service (Decide source kind answered) files inputs h = go _ h
+answers-by One Other go service (Access table groups login arguments) files inputs h = go _ h
+answers-by One Other go service (Time table login moment) files inputs h = (h.0, h.1, go _ h.2)
+answers-by One Other go service (Paths source kind limit part filter knowledge) files inputs h = (h.0, h.1, go _ h.2)
+answers-by One Other go service (Outcomes source kind knowledge) files inputs h = (h.0, h.1, go _ h.2)
+answers-by One Other go service (Graph source kind format knowledge) files inputs h = (h.0, h.1, go _ h.2)
+
+module _ {W : Type 0} (contents : W → Option (List ℕ)) (old new : Out W) where
+  -- the text of a reply is written, and what is told of it is this
+  pub text-printed : (reply : Reply) (text : List ℕ) (written : Result (Unit {0}) Device) (result : Result (Unit {0}) Fault) → IsText reply (Ok text)
+      → MatchResult written (λ none. result ≡ Ok none) (λ _. result ≡ Err faults.Device) → WritesAndFlushes contents old new written text
+      → Prints contents old new result reply
+  text-printed reply text (Ok none) result is told h =
+      subst (λ (r : Result (Unit {0}) Fault). Prints contents old new r reply) (sym told) (text, is, h)
+  text-printed reply text (Err e) result is told h =
+      subst (λ (r : Result (Unit {0}) Fault). Prints contents old new r reply) (sym told) (text, is, h)
+
+  -- it is this reply that is printed
+  pub reply-is : (result : Result (Unit {0}) Fault) (one other : declared.Reply) → other ≡ one → Prints contents old new result (reply_view one)
+      → Prints contents old new result (reply_view other)
+  reply-is result one other same h = subst (λ (reply : declared.Reply). Prints contents old new result (reply_view reply)) (sym same) h
+
+  -- a fault is found, and nothing is written
+  pub refused : (fault : Fault) (IsAnswer : Answer → Type 0) → new ≡ old → Refuses IsAnswer fault → LeavesFault contents old new IsAnswer fault
+  refused faults.Device IsAnswer same h = absurd h
+  refused faults.Memory IsAnswer same h = same
+  refused (faults.Cursor e) IsAnswer same h = absurd h
+  refused (faults.Conf e) IsAnswer same h = (same, h)
+  refused (faults.Count e) IsAnswer same h = (same, h)
+  refused faults.TooManyStates IsAnswer same h = (same, h)
+  refused faults.NoSuchModule IsAnswer same h = (same, h)
+  refused (faults.Moment e) IsAnswer same h = (same, h)
+  refused (faults.Table e) IsAnswer same h = (same, h)
+  refused (faults.Time e) IsAnswer same h = (same, h)
+
+  -- a reply is printed
+  pub printed : (reply : Reply) (status : Status) (none : Unit {0}) → Prints contents old new (Ok none) reply → status ≡ status_of reply
+      → (IsAnswer : Answer → Type 0) → IsAnswer (Ok reply) → LeavesSome contents old new (Ok status) IsAnswer
+  printed reply status none h same IsAnswer is = (reply, h.0, is, h.1, same, h.2)
+
+  -- a reply is not printed, or not whole
+  pub unprinted : (fault : Fault) (reply : Reply) → Prints contents old new (Err fault) reply
+      → (IsAnswer : Answer → Type 0) → IsAnswer (Ok reply) → LeavesFault contents old new IsAnswer fault
+  unprinted faults.Device reply h IsAnswer is = (reply, h.0, is, h.1, h.2)
+  unprinted faults.Memory reply h IsAnswer is = h.0
+  unprinted (faults.Cursor e) reply h IsAnswer is = (h.0, (reply, is, h.1))
+  unprinted (faults.Conf e) reply h IsAnswer is = absurd h
+  unprinted (faults.Count e) reply h IsAnswer is = absurd h
+  unprinted faults.TooManyStates reply h IsAnswer is = absurd h
+  unprinted faults.NoSuchModule reply h IsAnswer is = absurd h
+  unprinted (faults.Moment e) reply h IsAnswer is = absurd h
+  unprinted (faults.Table e) reply h IsAnswer is = absurd h
+  unprinted (faults.Time e) reply h IsAnswer is = absurd h
+
+  -- if it is for want of memory, it is a page or a drawing
+  pub unprinted-wants : (wants : Wants) (fault : Fault) (reply : Reply) → Prints contents old new (Err fault) reply
+      → (wants_memory reply ≡ true → wants.work ≡ true) → IsWanting wants fault
+  unprinted-wants wants faults.Device reply h works = tt
+  unprinted-wants wants faults.Memory reply h works = works h.1
+  unprinted-wants wants (faults.Cursor e) reply h works = tt
+  unprinted-wants wants (faults.Conf e) reply h works = absurd h
+  unprinted-wants wants (faults.Count e) reply h works = absurd h
+  unprinted-wants wants faults.TooManyStates reply h works = absurd h
+  unprinted-wants wants faults.NoSuchModule reply h works = absurd h
+  unprinted-wants wants (faults.Moment e) reply h works = absurd h
+  unprinted-wants wants (faults.Table e) reply h works = absurd h
+  unprinted-wants wants (faults.Time e) reply h works = absurd h
+
+-- ---- pages
+
+abbrev page_in : Answer → Bool
+page_in (Ok reply) = wants_memory reply
+page_in (Err fault) = false
+
+no_page : (service : List ℕ) (kind : Kind) (files : Folder) (given : Result Items ConfError) → page_in (with_stack given (shown service kind files)) ≡ false
+no_page service kind files (Err e) = refl
+no_page service kind files (Ok items) = refl
+
+not_both : true ≡ false → ⊥
+not_both both = cc
+
+-- a page or a drawing is the reply of a task that may want memory for what is made
+pub page-wants : (service : List ℕ) (task : Task) (files : Folder) (inputs : Inputs) (reply : declared.Reply)
+    → AnswersBy (Finds (Ok reply)) service task files inputs → wants_memory (reply_view reply) ≡ true → (wants_of task inputs).work ≡ true
+page-wants service (Show source kind) files inputs reply h page = absurd (not_both (sym page ∙ ap page_in (sym h) ∙ no_page service kind files _))
+page-wants service (Decide source kind answered) files inputs reply h page = refl
+page-wants service (Access table groups login arguments) files inputs reply h page = refl
+page-wants service (Time table login moment) files inputs reply h page = refl
+page-wants service (Paths source kind limit part filter knowledge) files inputs reply h page = refl
+page-wants service (Outcomes source kind knowledge) files inputs reply h page = refl
+page-wants service (Graph source kind format knowledge) files inputs reply h page = refl

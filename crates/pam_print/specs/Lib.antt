@@ -1,0 +1,11 @@
+pub mod Answer
+pub mod Decide
+pub mod Drawing
+pub mod Header
+pub mod Leaves
+pub mod Outcomes
+pub mod Page
+pub mod Show
+pub mod Tables
+pub mod Text
+pub mod WordText

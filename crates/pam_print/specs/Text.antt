@@ -1,0 +1,20 @@
+-- The text of a reply.
+use Rattle.std.specs.Prelude.{◌≡◌, ℕ, List, Result, Ok}
+use Rattle.pam_paths.specs.declared.cursor.CursorError.{CursorError}
+use Rattle.pam_report.specs.Reply.{Reply, Stack, Run, Access, Time, Outcomes, Drawing, Page}
+use Rattle.pam_print.specs.Decide.{run_text}
+use Rattle.pam_print.specs.Drawing.{drawing_text}
+use Rattle.pam_print.specs.Outcomes.{outcomes_text}
+use Rattle.pam_print.specs.Page.{IsPageText}
+use Rattle.pam_print.specs.Show.{stack_text}
+use Rattle.pam_print.specs.Tables.{access_text, time_text}
+
+-- THE TEXT of a reply. A page has none if its cursor is refused
+abbrev pub IsText : Reply → Result (List ℕ) CursorError → Type 0
+IsText (Stack stack) text = text ≡ Ok (stack_text stack)
+IsText (Run run) text = text ≡ Ok (run_text run)
+IsText (Access found) text = text ≡ Ok (access_text found)
+IsText (Time found) text = text ≡ Ok (time_text found)
+IsText (Outcomes outcomes) text = text ≡ Ok (outcomes_text outcomes)
+IsText (Drawing drawing) text = text ≡ Ok (drawing_text drawing)
+IsText (Page page) text = IsPageText page text

@@ -1,0 +1,78 @@
+//! The text of `graph`: the drawing of the graph of a stack's runs.
+
+ghost use Rattle.std.specs.Prelude.{◌≡◌, IfOk, map};
+ghost use Rattle.std.specs.Char.{to_ascii_lowercase};
+ghost use Rattle.pam_codes.specs.Out.{Writes, WritesAndFlushes};
+ghost use Rattle.pam_report.specs.Reply.{Drawing};
+ghost use Rattle.pam_report.specs.ReplyViews.{drawing_view};
+ghost use Rattle.pam_print.specs.Drawing.{drawing_in, title_of};
+ghost use Rattle.pam_print.specs.Leaves.{Prints};
+
+use crate::header::kind_name;
+use pam_codes::{Device, Out};
+use pam_conf::Kind;
+use pam_drawing::{write_dot, write_mermaid};
+use pam_report::{Fault, GraphReply};
+use pam_words::GraphFormat;
+use std::alloc::{AllocError, Global};
+use std::io::Write;
+
+/// Returns a text in lowercase.
+fn lowered(alloc: Global, text: &str) -> Result<Vec<u8>, AllocError>
+    ensures { IfOk result (λ v. v.items ≡ map to_ascii_lowercase text.now) }
+{
+    text.as_bytes()
+        .iter()
+        .map(|byte| byte.to_ascii_lowercase())
+        .collect(alloc)
+}
+
+/// Returns `SERVICE KIND`, with the service in lowercase.
+#[tactic(auto, unfolding(crate::specs::Drawing::title_of))]
+fn title_of(alloc: Global, service: &str, kind: Kind) -> Result<Vec<u8>, AllocError>
+    ensures { IfOk result (λ title. title.items ≡ title_of service.now kind) }
+{
+    let mut title = lowered(alloc, service)?;
+    title.extend_from_slice(b" ")?;
+    title.extend_from_slice(kind_name(kind).as_bytes())?;
+    Ok(title)
+}
+
+/// Writes the graph in its language.
+fn put_graph<W: Write>(reply: &GraphReply<'_>, title: &[u8], out: &mut Out<W>) -> Result<(), Device>
+    ensures { Writes W.contents out.old out.new result (drawing_in reply.now.format title.now reply.now.stack reply.now.graph) }
+{
+    match reply.format {
+        GraphFormat::Dot => write_dot(&reply.graph, &reply.stack, title, out),
+        GraphFormat::Mermaid => write_mermaid(&reply.graph, &reply.stack, title, out),
+    }
+}
+
+fn write_graph<W: Write>(
+    reply: &GraphReply<'_>,
+    title: &[u8],
+    out: &mut Out<W>,
+) -> Result<(), Device>
+    ensures { WritesAndFlushes W.contents out.old out.new result (drawing_in reply.now.format title.now reply.now.stack reply.now.graph) }
+{
+    put_graph(reply, title, out)?;
+    out.finish()
+}
+
+/// Writes a drawing. Allocates its title before the first byte.
+pub(crate) fn write_drawing<W: Write>(
+    alloc: Global,
+    reply: &GraphReply<'_>,
+    out: &mut Out<W>,
+) -> Result<(), Fault>
+    ensures { Prints W.contents out.old out.new result (Drawing (drawing_view reply.now)) }
+{
+    let title = match title_of(alloc, reply.service, reply.kind) {
+        Ok(title) => title,
+        Err(_) => return Err(Fault::Memory),
+    };
+    match write_graph(reply, &title, out) {
+        Ok(()) => Ok(()),
+        Err(Device) => Err(Fault::Device),
+    }
+}

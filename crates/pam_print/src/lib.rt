@@ -1,0 +1,14 @@
+//! The text of answers: each reply of `pam_report` is written as text, and nowhere else.
+#![tactic(auto)]
+
+mod decide;
+mod drawing;
+mod header;
+mod outcomes;
+mod paths;
+mod printing;
+mod show;
+mod tables;
+mod word;
+
+pub use printing::{answer, print};

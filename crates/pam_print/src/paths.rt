@@ -1,0 +1,68 @@
+//! The text of `paths`: a page.
+
+ghost use Rattle.std.specs.Prelude.{◌++◌, max};
+ghost use Rattle.pam_codes.specs.Out.{WritesAndFlushes};
+ghost use Rattle.pam_dispatch.specs.Flat.{modules_of};
+ghost use Rattle.pam_page.specs.Coming.{coming, side};
+ghost use Rattle.pam_page.specs.Page.{first_page, page_text as lines_text};
+ghost use Rattle.pam_report.specs.PageView.{page_value};
+ghost use Rattle.pam_report.specs.Reply.{Page};
+ghost use Rattle.pam_print.specs.Header.{header_text};
+ghost use Rattle.pam_print.specs.Leaves.{Prints};
+
+use crate::header::put_header;
+use pam_codes::{Device, Out};
+use pam_page::{LineTexts, Listing, put_page};
+use pam_paths::Known;
+use pam_report::{Fault, PathsPage};
+use std::alloc::Global;
+use std::io::Write;
+
+/// Writes the lines of a page, and flushes.
+fn write_lines<W: Write>(
+    page: &PathsPage<'_>,
+    listing: &mut Listing<'_, Known>,
+    texts: LineTexts,
+    out: &mut Out<W>,
+) -> Result<(), Device>
+    ensures { WritesAndFlushes W.contents out.old out.new result (lines_text (side listing.old) (first_page (max (page_value page.now).limit 1) (coming listing.old))) }
+{
+    put_page(listing, page.limit(), texts, out)?;
+    out.finish()
+}
+
+fn write_listing<W: Write>(
+    page: &PathsPage<'_>,
+    listing: &mut Listing<'_, Known>,
+    texts: LineTexts,
+    out: &mut Out<W>,
+) -> Result<(), Device>
+    ensures { let lines = lines_text (side listing.old) (first_page (max (page_value page.now).limit 1) (coming listing.old)) in
+        let header = header_text (page_value page.now).service (page_value page.now).kind (modules_of (page_value page.now).program) in
+        WritesAndFlushes W.contents out.old out.new result (header ++ lines) }
+{
+    put_header(page.service(), page.kind(), page.modules(), out)?;
+    write_lines(page, listing, texts, out)
+}
+
+/// Writes a page. Finds a cursor that is refused, and allocates, before the first byte.
+pub(crate) fn write_page<W: Write>(
+    alloc: Global,
+    page: &PathsPage<'_>,
+    out: &mut Out<W>,
+) -> Result<(), Fault>
+    ensures { Prints W.contents out.old out.new result (Page (page_value page.now)) }
+{
+    let mut listing = match page.listing(alloc) {
+        Ok(listing) => listing,
+        Err(fault) => return Err(fault),
+    };
+    let texts = match LineTexts::new(alloc) {
+        Ok(texts) => texts,
+        Err(_) => return Err(Fault::Memory),
+    };
+    match write_listing(page, &mut listing, texts, out) {
+        Ok(()) => Ok(()),
+        Err(Device) => Err(Fault::Device),
+    }
+}

@@ -1,0 +1,69 @@
+//! Replies, written as text.
+
+ghost use Rattle.std.specs.Prelude.{◌≡◌, Err, MatchResult, Ok};
+ghost use Rattle.pam_report.specs.ReplyViews.{reply_view};
+ghost use Rattle.pam_report.specs.declared.fault.Fault.TheVariants as faults;
+ghost use Rattle.pam_print.specs.Answer.{Answers};
+ghost use Rattle.pam_print.specs.Leaves.{Prints};
+
+use crate::decide::write_run;
+use crate::drawing::write_drawing;
+use crate::outcomes::write_outcomes;
+use crate::paths::write_page;
+use crate::show::write_stack;
+use crate::tables::{write_access, write_time};
+use pam_codes::{Device, Out};
+use pam_report::{Fault, Inputs, Reply, Status, reply_to};
+use pam_words::Request;
+use std::alloc::Global;
+use std::io::Write;
+
+/// Writes the text of a reply, and flushes once, at its end.
+///
+/// For a page of paths, a cursor that is refused is found before the first byte is written; for a page and a drawing, so is want
+/// of memory. Nothing is allocated after it.
+pub fn print<W: Write>(alloc: Global, reply: &Reply<'_>, out: &mut Out<W>) -> Result<(), Fault>
+    ensures { Prints W.contents out.old out.new result (reply_view reply.now) }
+{
+    match reply {
+        Reply::Stack(stack) => told(write_stack(alloc, stack, out)),
+        Reply::Run(run) => told(write_run(run, out)),
+        Reply::Access(answer) => told(write_access(*answer, out)),
+        Reply::Time(answer) => told(write_time(*answer, out)),
+        Reply::Outcomes(outcomes) => told(write_outcomes(outcomes, out)),
+        Reply::Graph(drawing) => write_drawing(alloc, drawing, out),
+        Reply::Paths(page) => write_page(alloc, page, out),
+    }
+}
+
+/// Returns the fault of a write that failed.
+fn told(written: Result<(), Device>) -> Result<(), Fault>
+    ensures { MatchResult written (λ none. result ≡ Ok none) (λ _. result ≡ Err faults.Device) }
+{
+    match written {
+        Ok(()) => Ok(()),
+        Err(Device) => Err(Fault::Device),
+    }
+}
+
+/// Answers a request: writes the text and flushes once, at its end.
+///
+/// All faults but a failed write are found before the first byte is written. Inputs of another command have no files and
+/// no tables that this one uses; see `Inputs::fits`.
+pub fn answer<W: Write>(
+    alloc: Global,
+    request: &Request<'_>,
+    inputs: &Inputs,
+    out: &mut Out<W>,
+) -> Result<Status, Fault>
+    ensures { Answers W.contents out.old out.new result request.now.service.now request.now.task inputs.now }
+{
+    let reply = match reply_to(alloc, request, inputs) {
+        Ok(reply) => reply,
+        Err(fault) => return Err(fault),
+    };
+    match print(alloc, &reply, out) {
+        Ok(()) => Ok(reply.status()),
+        Err(fault) => Err(fault),
+    }
+}

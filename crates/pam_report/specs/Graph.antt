@@ -1,0 +1,42 @@
+-- The answer to `graph`: the graph of all runs of a stack (pam.conf(5), DESCRIPTION).
+use Rattle.std.specs.Prelude.{◌≡◌, ◌⊎◌, ℕ, List, Result, Ok, Err}
+use Rattle.pam_conf.specs.Stack.{Items, module_count}
+use Rattle.pam_conf.specs.declared.rule.Kind.{Kind}
+use Rattle.pam_dispatch.specs.Flat.{runs_of}
+use Rattle.pam_dispatch.specs.Tree.{runs_of_stack}
+use Rattle.pam_dispatch.specs.declared.flat_item.FlatItem.{FlatItem}
+use Rattle.pam_graph.specs.Places.{AreNodesOf}
+use Rattle.pam_graph.specs.Walks.{GraphValue, walks}
+use Rattle.pam_known.specs.Knowledge.{Agree}
+use Rattle.pam_paths.specs.Listing.{Allowance, IsListing}
+use Rattle.pam_paths.specs.Paths.{path_through}
+use Rattle.pam_words.specs.declared.wanted.GraphFormat.{GraphFormat}
+use Rattle.pam_report.specs.KnownStack.{IsAnswerFrom, KnownItems}
+use Rattle.pam_report.specs.Reply.{Answer, Drawing}
+use Rattle.pam_report.specs.TooLarge.{IsTooLarge}
+use Rattle.pam_report.specs.declared.fault.Fault.{Fault}
+use Rattle.pam_report.specs.declared.fault.Fault.TheVariants as faults
+
+-- the nodes of a graph are at places of their own, to which runs of a stack come if modules return codes that are allowed,
+-- with their modules and states
+abbrev pub AreNodesOfStack : Items → Allowance → GraphValue → Type 0
+AreNodesOfStack items allows graph =
+    (program : List FlatItem) × (other : Allowance) × (runs_of program ≡ runs_of_stack items) × Agree (module_count items) other allows
+    × AreNodesOf other program graph.nodes
+
+-- A GRAPH of the runs of a stack, if modules return codes that are allowed: its walks are the paths, in their order
+pub record IsGraphOf (items : Items) (allows : Allowance) (graph : GraphValue) : Type 0 where
+  pub listing : IsListing allows (module_count items) (path_through items) (walks graph)
+  pub nodes : AreNodesOfStack items allows graph
+
+-- the answer, if these codes are allowed: the graph, and the language in which it is to be drawn; or that the run comes to too
+-- many places
+abbrev pub IsGraphReplyOf : GraphFormat → List ℕ → Kind → Items → Allowance → Answer → Type 0
+IsGraphReplyOf format service kind items allows answer =
+    (IsTooLarge items allows × (answer ≡ Err faults.TooManyStates))
+    ⊎ ((graph : GraphValue) × IsGraphOf items allows graph
+    × (answer ≡ Ok (Drawing record { service = service; kind = kind; items = items; format = format; graph = graph })))
+
+-- THE ANSWER to `graph`: of the known stack, the graph, or the first fault
+abbrev pub IsGraphReply : GraphFormat → List ℕ → Kind → Result KnownItems Fault → Answer → Type 0
+IsGraphReply format service kind = IsAnswerFrom (IsGraphReplyOf format service kind)

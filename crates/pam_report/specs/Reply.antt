@@ -1,0 +1,112 @@
+-- A reply: the value that answers a request.
+use Rattle.std.specs.Prelude.{ℕ, List, Option, Result, Bool, true, false, ◌==◌, if◌then◌else◌}
+use Rattle.pam_conf.specs.Files.{Folder}
+use Rattle.pam_conf.specs.Stack.{Items}
+use Rattle.pam_conf.specs.declared.rule.Kind.{Kind}
+use Rattle.pam_dispatch.specs.declared.flat_item.FlatItem.{FlatItem}
+use Rattle.pam_graph.specs.Walks.{GraphValue}
+use Rattle.pam_graph.specs.declared.goal.Goal.{Goal}
+use Rattle.pam_paths.specs.Listing.{Allowance}
+use Rattle.pam_paths.specs.Paths.{PathValue}
+use Rattle.pam_tables.specs.declared.access.AccessAnswer.{AccessAnswer}
+use Rattle.pam_tables.specs.declared.access.AccessAnswer.TheVariants as access
+use Rattle.pam_times.specs.declared.times.TimeAnswer.{TimeAnswer}
+use Rattle.pam_times.specs.declared.times.TimeAnswer.TheVariants as times
+use Rattle.pam_words.specs.declared.wanted.GraphFormat.{GraphFormat}
+use Rattle.pam_words.specs.declared.wanted.PagePart.{PagePart}
+use Rattle.pam_report.specs.Decide.{AskedModule}
+use Rattle.pam_report.specs.declared.fault.Fault.{Fault}
+use Rattle.pam_report.specs.declared.report.Status.{Status}
+use Rattle.pam_report.specs.declared.report.Status.TheVariants.{Success, Refusal}
+
+-- the stack of a service for a kind
+pub record StackValue : Type 0 where
+  pub service : List ℕ
+  pub kind : Kind
+  pub files : Folder
+  pub items : Items
+
+-- a run of a stack: the number of its modules, those that are asked, and the decision
+pub record RunValue : Type 0 where
+  pub service : List ℕ
+  pub kind : Kind
+  pub modules : ℕ
+  pub asked : List AskedModule
+  pub decision : ℕ
+
+-- a decision, the number of paths that end in it, and the first of these
+pub record Outcome : Type 0 where
+  pub decision : ℕ
+  pub count : Option ℕ
+  pub first : PathValue
+
+-- the outcomes of a stack, and the number of all its paths
+pub record OutcomesValue : Type 0 where
+  pub service : List ℕ
+  pub kind : Kind
+  pub items : Items
+  pub found : List Outcome
+  pub total : Option ℕ
+
+-- the graph of the runs of a stack, and the language in which it is to be drawn
+pub record DrawingValue : Type 0 where
+  pub service : List ℕ
+  pub kind : Kind
+  pub items : Items
+  pub format : GraphFormat
+  pub graph : GraphValue
+
+-- a page of the paths through a stack that meet a goal, if its modules return codes that are allowed. It is listed from the
+-- program of the stack, or from the graph of its runs
+pub record PageValue : Type 0 where
+  pub service : List ℕ
+  pub kind : Kind
+  pub items : Items
+  pub program : List FlatItem
+  pub allows : Allowance
+  pub graph : Option GraphValue
+  pub goal : Goal
+  pub limit : ℕ
+  pub part : PagePart
+
+pub data Reply : Type 0 where
+  Stack : StackValue → Reply
+  Run : RunValue → Reply
+  Access : AccessAnswer → Reply
+  Time : TimeAnswer → Reply
+  Outcomes : OutcomesValue → Reply
+  Drawing : DrawingValue → Reply
+  Page : PageValue → Reply
+
+-- a reply, or the first fault
+abbrev pub Answer : Type 0
+Answer = Result Reply Fault
+
+-- only the code 0 is a success
+abbrev pub status_of_decision : ℕ → Status
+status_of_decision code = if code == 0 then Success else Refusal
+
+abbrev pub access_status : AccessAnswer → Status
+access_status (access.Granted line) = Success
+access_status (access.Denied line) = Refusal
+
+abbrev pub time_status : TimeAnswer → Status
+time_status times.Granted = Success
+time_status (times.Denied line) = Refusal
+
+-- THE STATUS of a reply
+abbrev pub status_of : Reply → Status
+status_of (Run run) = status_of_decision run.decision
+status_of (Access found) = access_status found
+status_of (Time found) = time_status found
+status_of _ = Success
+
+-- memory is wanted to print a reply: for the lines of a page, and for the title of a drawing
+abbrev pub wants_memory : Reply → Bool
+wants_memory (Page page) = true
+wants_memory (Drawing drawing) = true
+wants_memory _ = false
+
+abbrev pub status_number : Status → ℕ
+status_number Success = 0
+status_number Refusal = 1

@@ -1,0 +1,59 @@
+-- The values of replies.
+use Rattle.std.specs.Prelude.{List, map, option_map, unwrap_or}
+use Rattle.pam_report.specs.Decide.{AskedModule}
+use Rattle.pam_report.specs.Inputs.{no_files}
+use Rattle.pam_report.specs.PageView.{page_value}
+use Rattle.pam_report.specs.Reply as spec
+use Rattle.pam_report.specs.declared.report.graph.GraphReply.{GraphReply}
+use Rattle.pam_report.specs.declared.report.outcomes.Outcome.{Outcome}
+use Rattle.pam_report.specs.declared.report.outcomes.OutcomesReply.{OutcomesReply}
+use Rattle.pam_report.specs.declared.report.replies.Reply.{Reply}
+use Rattle.pam_report.specs.declared.report.replies.Reply.TheVariants as replies
+use Rattle.pam_report.specs.declared.report.decide.RunReply.{RunReply}
+use Rattle.pam_report.specs.declared.report.show.StackReply.{StackReply}
+use Rattle.pam_report.specs.declared.report.trace.AskedModule as trace
+
+abbrev pub asked_view : trace.AskedModule → AskedModule
+asked_view m = record { number = m.number; path = m.path.items; code = m.code; action = m.action; state = m.state }
+
+abbrev pub outcome_view : Outcome → spec.Outcome
+outcome_view o = record { decision = o.decision; count = o.count; first = o.first }
+
+abbrev pub stack_view : StackReply → spec.StackValue
+stack_view s = record {
+  service = s.service.now;
+  kind = s.kind;
+  files = unwrap_or (option_map (λ f. f.now) s.files) no_files;
+  items = s.stack;
+}
+
+abbrev pub run_view : RunReply → spec.RunValue
+run_view r = record {
+  service = r.service.now;
+  kind = r.kind;
+  modules = r.modules;
+  asked = map asked_view r.trace.asked.items;
+  decision = r.trace.decision;
+}
+
+abbrev pub outcomes_view : OutcomesReply → spec.OutcomesValue
+outcomes_view o = record {
+  service = o.service.now;
+  kind = o.kind;
+  items = o.stack;
+  found = map outcome_view o.outcomes.found.items;
+  total = o.outcomes.total;
+}
+
+abbrev pub drawing_view : GraphReply → spec.DrawingValue
+drawing_view d = record { service = d.service.now; kind = d.kind; items = d.stack; format = d.format; graph = d.graph }
+
+-- THE VALUE of a reply
+abbrev pub reply_view : Reply → spec.Reply
+reply_view (replies.Stack stack) = spec.Stack (stack_view stack)
+reply_view (replies.Run run) = spec.Run (run_view run)
+reply_view (replies.Access found) = spec.Access found
+reply_view (replies.Time found) = spec.Time found
+reply_view (replies.Outcomes outcomes) = spec.Outcomes (outcomes_view outcomes)
+reply_view (replies.Graph drawing) = spec.Drawing (drawing_view drawing)
+reply_view (replies.Paths page) = spec.Page (page_value page)

@@ -1,0 +1,99 @@
+//! The `graph` command: the graph of all runs of a stack.
+
+ghost use Rattle.std.specs.Prelude.{◌≡◌, is_some};
+ghost use Rattle.pam_conf.specs.Stack.{module_count};
+ghost use Rattle.pam_known.specs.Knowledge.{Agree};
+ghost use Rattle.pam_paths.specs.Known.{may_answer};
+ghost use Rattle.pam_paths.specs.Listing.{Allowance};
+ghost use Rattle.pam_report.specs.Answer.{stack_at};
+ghost use Rattle.pam_report.specs.Finds.{Finds};
+ghost use Rattle.pam_report.specs.Graph.{IsGraphReply, IsGraphReplyOf};
+ghost use Rattle.pam_report.specs.GraphViews.{FindsGraph};
+ghost use Rattle.pam_report.specs.Memory.{WantsOnly, WantsWork, of_paths, paths_tables};
+
+use super::known_stack::{KnownStack, StackRequest, known_stack};
+use super::replies::Reply;
+use crate::fault::Fault;
+use crate::inputs::Inputs;
+use jiff::civil::DateTime;
+use pam_conf::{Files, Kind, Stack};
+use pam_dispatch::Program;
+use pam_graph::{Graph, GraphError};
+use pam_paths::Known;
+use pam_times::MomentError;
+use pam_words::GraphFormat;
+use std::alloc::Global;
+
+/// The graph of all runs of the stack of a service, and the language in which it is to be drawn.
+#[derive(Drop)]
+pub struct GraphReply<'a> {
+    pub service: &'a str,
+    pub kind: Kind,
+    pub stack: Stack,
+    pub format: GraphFormat,
+    pub graph: Graph,
+}
+
+/// A stack that is to be drawn, and in which language.
+#[derive(Clone, Copy)]
+pub(super) struct DrawingRequest<'a> {
+    pub stack: StackRequest<'a>,
+    pub format: GraphFormat,
+}
+
+/// Returns the graph of the runs of a stack, if its modules return the codes that are known. Returns `TooManyStates` if it
+/// would have too many nodes.
+fn graph_of(alloc: Global, stack: &Stack, known: &Known) -> Result<Graph, Fault>
+    ensures { FindsGraph (may_answer known.now) stack.now result }
+{
+    let program = match Program::of(alloc, stack) {
+        Ok(program) => program,
+        Err(_) => return Err(Fault::Memory),
+    };
+    match Graph::of(alloc, &program, known) {
+        Ok(graph) => Ok(graph),
+        Err(GraphError::Memory) => Err(Fault::Memory),
+        Err(GraphError::TooManyNodes) => Err(Fault::TooManyStates),
+    }
+}
+
+/// Returns the reply of `graph` for a known stack.
+fn answer_known<'a>(
+    alloc: Global,
+    request: &DrawingRequest<'a>,
+    found: KnownStack,
+) -> Result<Reply<'a>, Fault>
+    ensures answer { (allows : Allowance) → Agree (module_count found.stack) (may_answer found.known) allows
+        → Finds result (IsGraphReplyOf request.now.format request.now.stack.service.now request.now.stack.kind found.stack allows) }
+    ensures wants { WantsWork result }
+{
+    match graph_of(alloc, &found.stack, &found.known) {
+        Ok(graph) => Ok(Reply::Graph(GraphReply {
+            service: request.stack.service,
+            kind: request.stack.kind,
+            stack: found.stack,
+            format: request.format,
+            graph,
+        })),
+        Err(fault) => Err(fault),
+    }
+}
+
+/// Returns the graph of the stack that is asked for.
+pub(super) fn answer_graph<'a>(
+    alloc: Global,
+    request: &DrawingRequest<'a>,
+    moment: Option<Result<DateTime, MomentError>>,
+    files: &Files,
+    inputs: &Inputs,
+) -> Result<Reply<'a>, Fault>
+    ensures answer { let asked = request.now.stack in
+        let stack = stack_at asked.service.now asked.kind asked.login inputs.now moment files.now in
+        Finds result (IsGraphReply request.now.format asked.service.now asked.kind stack) }
+    ensures wants { WantsOnly (of_paths (paths_tables (is_some moment) inputs.now)) result }
+{
+    match known_stack(alloc, &request.stack, moment, files, inputs) {
+        Ok(found) => answer_known(alloc, request, found),
+        Err(fault) => Err(fault),
+    }
+}

@@ -1,0 +1,77 @@
+//! Replies: the values that answer requests.
+
+ghost use Rattle.std.specs.Prelude.{◌≡◌};
+ghost use Rattle.pam_report.specs.Reply.{access_status, status_of, status_of_decision, time_status};
+ghost use Rattle.pam_report.specs.ReplyViews.{reply_view};
+
+use super::Status;
+use super::decide::RunReply;
+use super::graph::GraphReply;
+use super::outcomes::OutcomesReply;
+use super::paths::PathsPage;
+use super::show::StackReply;
+use pam_dispatch::Decision;
+use pam_tables::AccessAnswer;
+use pam_times::TimeAnswer;
+
+/// The value that answers a request.
+#[derive(Drop)]
+pub enum Reply<'a> {
+    /// Of `show`.
+    Stack(StackReply<'a>),
+    /// Of `decide`.
+    Run(RunReply<'a>),
+    /// Of `access`.
+    Access(AccessAnswer),
+    /// Of `time`.
+    Time(TimeAnswer),
+    /// Of `paths`.
+    Paths(PathsPage<'a>),
+    /// Of `outcomes`.
+    Outcomes(OutcomesReply<'a>),
+    /// Of `graph`.
+    Graph(GraphReply<'a>),
+}
+
+impl Reply<'_> {
+    /// Returns whether this is a success: a decision of `success`, a login that is granted, or any answer of the other commands.
+    pub fn status(&self) -> Status
+        ensures { result ≡ status_of (reply_view self.now) }
+    {
+        match self {
+            Reply::Run(run) => status_of_decision(run.trace.decision),
+            Reply::Access(answer) => status_of_access(*answer),
+            Reply::Time(answer) => status_of_time(*answer),
+            Reply::Stack(_) | Reply::Paths(_) | Reply::Outcomes(_) | Reply::Graph(_) =>
+                Status::Success,
+        }
+    }
+}
+
+fn status_of_decision(decision: Decision) -> Status
+    ensures { result ≡ status_of_decision decision }
+{
+    if decision.code().number() == 0 {
+        Status::Success
+    } else {
+        Status::Refusal
+    }
+}
+
+fn status_of_access(answer: AccessAnswer) -> Status
+    ensures { result ≡ access_status answer }
+{
+    match answer {
+        AccessAnswer::Granted(_) => Status::Success,
+        AccessAnswer::Denied(_) => Status::Refusal,
+    }
+}
+
+fn status_of_time(answer: TimeAnswer) -> Status
+    ensures { result ≡ time_status answer }
+{
+    match answer {
+        TimeAnswer::Granted => Status::Success,
+        TimeAnswer::Denied(_) => Status::Refusal,
+    }
+}

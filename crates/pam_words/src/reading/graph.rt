@@ -1,0 +1,49 @@
+//! Reads a `graph` request from its words.
+
+ghost use Rattle.std.specs.Prelude.{◌≡◌};
+ghost use Rattle.clap.specs.Words.{found_of, rows_of};
+ghost use Rattle.pam_words.specs.Request.{format_named as format_of_name, format_of, graph_task};
+ghost use Rattle.pam_words.specs.Wanted.{GivesTask};
+
+use crate::reading::knowledge::knowledge;
+use crate::reading::{stack, value};
+use crate::wanted::{GraphFormat, Task, Usage};
+use clap::ArgMatches;
+
+fn format_named(name: &str) -> Option<GraphFormat>
+    ensures { result ≡ format_of_name name.now }
+{
+    if name == "dot" {
+        Some(GraphFormat::Dot)
+    } else if name == "mermaid" {
+        Some(GraphFormat::Mermaid)
+    } else {
+        None
+    }
+}
+
+/// Returns the format, or `None` if the name that is given is not that of one.
+fn format(matches: &ArgMatches<'_>) -> Option<GraphFormat>
+    ensures { result ≡ format_of (rows_of (found_of matches.now)) }
+{
+    match value(matches, "format") {
+        Some(name) => format_named(name),
+        None => Some(GraphFormat::Dot),
+    }
+}
+
+pub(crate) fn graph<'a>(matches: &ArgMatches<'a>) -> Result<Task<'a>, Usage>
+    ensures { GivesTask (graph_task (rows_of (found_of matches.now))) result }
+{
+    let (source, kind) = stack(matches)?;
+    let Some(format) = format(matches) else {
+        return Err(Usage::FormatName);
+    };
+    let knowledge = knowledge(matches)?;
+    Ok(Task::Graph {
+        source,
+        kind,
+        format,
+        knowledge,
+    })
+}

@@ -1,0 +1,75 @@
+//! Another renderer of replies: lines of JSON, written from what replies offer to every renderer.
+
+use crate::tests::answers::{Command, DECIDE, PATHS, asked, inputs};
+use crate::tests::halting::{Halting, NOTHING};
+use crate::tests::same::same;
+use pam_codes::{Code, Device, Out, Piece};
+use pam_report::{Fault, PathsPage, Reply, RunReply, reply_to};
+use std::alloc::Global;
+use std::io::Write;
+use std::process::Abort;
+use std::test::Fail;
+
+fn put_member<W: Write>(name: &[u8], code: Code, out: &mut Out<W>) -> Result<(), Device> {
+    out.put_line(&[
+        Piece::Bytes(b"{\""),
+        Piece::Bytes(name),
+        Piece::Bytes(b"\": \""),
+        Piece::Bytes(code.name().as_bytes()),
+        Piece::Bytes(b"\"}\n"),
+    ])
+}
+
+/// Writes the answer of each module that is asked, and the decision.
+fn put_run<W: Write>(run: &RunReply<'_>, out: &mut Out<W>) -> Result<(), Device> {
+    for module in &run.trace.asked {
+        put_member(&module.path, module.code, out)?;
+    }
+    put_member(b"decision", run.trace.decision.code(), out)
+}
+
+/// Writes the decision of each path of a page.
+fn put_page<W: Write>(alloc: Global, page: &PathsPage<'_>, out: &mut Out<W>) -> Result<(), Fault> {
+    let mut listing = match page.listing(alloc) {
+        Ok(listing) => listing,
+        Err(fault) => return Err(fault),
+    };
+    for _ in 0..page.limit() {
+        if listing.follow().is_none() {
+            return Ok(());
+        }
+        if put_member(b"path", listing.path().decision(), out).is_err() {
+            return Err(Fault::Device);
+        }
+    }
+    Ok(())
+}
+
+fn put_reply<W: Write>(alloc: Global, reply: &Reply<'_>, out: &mut Out<W>) -> Result<(), Fault> {
+    match reply {
+        Reply::Run(run) => put_run(run, out).map_err(|_| Fault::Device),
+        Reply::Paths(page) => put_page(alloc, page, out),
+        _ => Ok(()),
+    }
+}
+
+/// Asserts that the reply of a command is written so.
+fn writes(rt: &impl Abort, alloc: Global, command: &Command, text: &[u8]) -> Result<(), Fail> {
+    let request = asked(alloc, command.words)?;
+    let inputs = inputs(alloc, command)?;
+    let mut halting = Halting::new(alloc, usize::MAX, usize::MAX, NOTHING, true);
+    let written = match reply_to(alloc, &request, &inputs) {
+        Ok(reply) => put_reply(alloc, &reply, &mut Out::new(&mut halting)),
+        Err(fault) => Err(fault),
+    };
+    same(rt, "the reply", &written, &Ok(()));
+    same(rt, "the text", &halting.bytes.as_slice(), &text);
+    Ok(())
+}
+
+#[test]
+fn replies_as_json(rt: HostRuntime) -> Result<(), Fail> {
+    let run = b"{\"a.so\": \"success\"}\n{\"b.so\": \"auth_err\"}\n{\"decision\": \"success\"}\n";
+    writes(&rt, rt.alloc(), &DECIDE, run)?;
+    writes(&rt, rt.alloc(), &PATHS, b"{\"path\": \"perm_denied\"}\n")
+}
