@@ -1,5 +1,5 @@
 -- A service has a stack if and only if its survey is sound.
-use Rattle.std.proofs.Common.{◌≡◌, ◌+◌, ◌-◌, ◌||◌, ℕ, Bool, true, false, cond, eqb, fold, List, [], ◌∷◌, ◌++◌, codes, map, option_and_then}
+use Rattle.std.proofs.Common.{IsSome, ◌≡◌, ◌+◌, ◌-◌, ◌||◌, ℕ, Bool, true, false, cond, eqb, fold, List, [], ◌∷◌, ◌++◌, codes, map, option_and_then}
 use Rattle.std.proofs.Common.{Option, Some, None}
 use Rattle.std.proofs.Common.{Result, Ok, Err, ap, refl, sym, subst, ◌∙◌}
 use Rattle.std.specs.Char.{to_ascii_lowercase}
@@ -8,7 +8,7 @@ use Rattle.std.specs.Option.{option_map_or}
 use Rattle.std.proofs.lemmas.Bool.{eqb-true, false≢true}
 use Rattle.std.proofs.lemmas.List.Elements.{All-from_recursion, recursion_from_All}
 use Rattle.pam_conf.specs.Files.{Folder, position_of}
-use Rattle.pam_conf.specs.Laws.{StackIsSoundSurvey}
+use Rattle.pam_conf.specs.Laws.{FaultlessHasStack, StackIsSoundSurvey}
 use Rattle.pam_conf.specs.Progress.{in_file}
 use Rattle.pam_conf.specs.Resolution.{StartText, carried, from_starts, resolved, stack_from, start_in, start_of, start_read, unless_empty}
 use Rattle.pam_conf.specs.Rule.{RuleText}
@@ -305,3 +305,30 @@ stack_is_sound folder service kind items =
           ∙ ap (from_starts folder kind (start_of folder (good_at folder) name)) (start-same folder kind folder.form second sound)
           ∙ clean-starts folder kind items (start_of folder (good_at folder) name) (start_of folder (good_at folder) second) given,
     )
+
+module _ (folder : Folder) (kind : Kind) where
+  from-has : (start : StartText) → (survey_from folder kind start).faults ≡ [] → IsSome (survey_from folder kind start).items
+  unfolding survey_from
+  from-has start h =
+      let events = (walk folder (good_at folder) kind start.service (MAX_OPEN_FILES - 1) (start.file ∷ []) start.file).events in
+      rw (none-fine 0 0 events (told-none 0 0 events h)).2 refl
+
+  unless-has : (own : StartText) (other : Option StartText) (i : Option Items) → (survey_from folder kind own).items ≡ i →
+      (survey_unless_empty folder kind other (survey_from folder kind own) i).faults ≡ [] →
+      IsSome (survey_unless_empty folder kind other (survey_from folder kind own) i).items
+  unless-has own None i is h = from-has own h
+  unless-has own (Some o) None is h = from-has own h
+  unless-has own (Some o) (Some End) is h =
+      from-has o (no_faults folder kind End (survey_from folder kind own).faults (survey_from folder kind o).faults h).1
+  unless-has own (Some o) (Some (ThenModule m rest)) is h = from-has own h
+  unless-has own (Some o) (Some (ThenSub t inner rest)) is h = from-has own h
+
+  starts-has : (own other : Option StartText) → (survey_starts folder kind own other).faults ≡ [] → IsSome (survey_starts folder kind own other).items
+  starts-has None None h = absurd (cc)
+  starts-has None (Some o) h = from-has o h
+  starts-has (Some own) other h = unless-has own other (survey_from folder kind own).items refl h
+
+pub faultless : FaultlessHasStack
+unfolding surveyed
+faultless folder service kind h =
+    starts-has folder kind (start_of folder (good_at folder) (map to_ascii_lowercase service)) (start_of folder (good_at folder) (codes "other")) h

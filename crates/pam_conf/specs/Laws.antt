@@ -1,5 +1,5 @@
 -- Laws of the definitions, in the words of pam.conf(5).
-use Rattle.std.specs.Prelude.{All, ◌≡◌, ◌↔◌, ◌-◌, ◌==◌, ◌≤◌, ℕ, nat_lt, false, List, [], ◌∷◌, length, if◌then◌else◌, Option, Some, None, Ok, Err}
+use Rattle.std.specs.Prelude.{All, IsSome, ◌≡◌, ◌↔◌, ◌-◌, ◌==◌, ◌≤◌, ℕ, nat_lt, false, List, [], ◌∷◌, length, if◌then◌else◌, Option, Some, None, Ok, Err}
 use Rattle.std.specs.List.{list_any}
 use Rattle.pam_conf.specs.FileRules.{good_rules, own_faults, unless_faulty}
 use Rattle.pam_conf.specs.Files.{Folder}
@@ -74,3 +74,8 @@ IsSound folder survey = (survey.faults ≡ []) × All (λ file. faults_at folder
 abbrev pub StackIsSoundSurvey : Type 0
 StackIsSoundSurvey = (folder : Folder) (service : List ℕ) (kind : Kind) (items : Items) →
     (resolved folder service kind ≡ Ok items) ↔ (((surveyed folder service kind).items ≡ Some items) × IsSound folder (surveyed folder service kind))
+
+-- a survey without a fault of the walk has a stack
+abbrev pub FaultlessHasStack : Type 0
+FaultlessHasStack = (folder : Folder) (service : List ℕ) (kind : Kind) → (surveyed folder service kind).faults ≡ [] →
+    IsSome (surveyed folder service kind).items

@@ -1,6 +1,6 @@
 //! Laws of the definitions that the contracts cite: each is the contract of an empty function.
 
-ghost use Rattle.pam_conf.specs.Laws.{DeepWhereAllAreOpen, FirstFaultOrRules, ResolvedIsStack, StackBeginsATrail};
+ghost use Rattle.pam_conf.specs.Laws.{DeepWhereAllAreOpen, FaultlessHasStack, FirstFaultOrRules, ResolvedIsStack, StackBeginsATrail};
 ghost use Rattle.pam_conf.specs.Laws.{StackIsSoundSurvey, WalkFollowsItsTrail, WordsAreOneSplit};
 
 /// A line has words if and only if it can be written as blanks and spellings of words, and then in only one way.
@@ -28,7 +28,8 @@ pub fn resolved_stack()
 {}
 
 /// A service has a stack if and only if its survey has no fault, neither of the walk nor of a file that the walk reached. It is
-/// then the survey's stack.
+/// then the survey's stack. A survey without a fault of the walk has one.
 pub fn stack_is_sound_survey()
-    ensures { StackIsSoundSurvey }
+    ensures sound { StackIsSoundSurvey }
+    ensures stack { FaultlessHasStack }
 {}

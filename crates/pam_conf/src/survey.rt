@@ -26,7 +26,8 @@ pub struct Survey {
     /// The stack, as far as the rules without a fault give it: a target with a fault adds nothing. `None` if a limit ends the
     /// walk, or if neither the service nor `other` has rules.
     pub stack: Option<Stack>,
-    /// The faults of the walk in order. The first module or follow past its limit is the last of them: the walk ends there.
+    /// The faults of the walk in order; those of a file that is reached twice are told twice. The first module or follow past its
+    /// limit is the last of them: the walk ends there.
     pub faults: Vec<ConfError>,
     /// The positions of the files that the walk reached, in the order in which it came to them, each once.
     pub reached: Vec<usize>,
