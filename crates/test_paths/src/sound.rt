@@ -1,6 +1,8 @@
 //! What stacks do to everybody. In them `pam_unix.so` checks who logs in, `pam_permit.so` succeeds and `pam_deny.so` answers
 //! `auth_err`; any other module may answer every code.
 
+ghost use Rattle.std.specs.Prelude.{◌≤◌, length};
+
 use crate::lines::line_of;
 use crate::released::bytes_of_words;
 use anyhow::Error;
@@ -12,7 +14,9 @@ use pam_paths::Known;
 use std::alloc::Global;
 
 /// The number of words before the first `|`.
-fn words_before_bar(words: &[&str]) -> usize {
+fn words_before_bar(words: &[&str]) -> usize
+    ensures { result ≤ length words.now }
+{
     let mut count: usize = 0;
     for word in words {
         if *word == "|" {
