@@ -29,7 +29,8 @@ pub line_read : (known new : List Row) (n : ℕ) (line : List ℕ) (all lines : 
     with_row known (row_of line) ≡ Ok new → after_rows new (rows_from lines) ≡ after_rows known (rows_from all)
 line_read known new n line all lines e h = go (row_of line) refl h
   where
-    go : (r : Result (Option Row) FactsFault) → row_of line ≡ r → with_row known r ≡ Ok new → after_rows new (rows_from lines) ≡ after_rows known (rows_from all)
+    go : (r : Result (Option Row) FactsFault) → row_of line ≡ r → with_row known r ≡ Ok new →
+        after_rows new (rows_from lines) ≡ after_rows known (rows_from all)
     go (Ok None) is g =
         let same : known ≡ new = cc in
         ap (λ (rows : List Row). after_rows rows (rows_from lines)) (sym same) ∙ line_skipped known n line all lines e is

@@ -1,5 +1,6 @@
 -- The codes that the words of a row say, word by word.
-use Rattle.std.proofs.Common.{◌≡◌, ◌∙◌, ◌||◌, ◌&&◌, ◌==◌, ◌<◌, ℕ, Bool, true, false, not, List, [], ◌∷◌, cond, eqb, Option, Some, None, if◌then◌else◌, is_some, refl, sym, ap, ap₂}
+use Rattle.std.proofs.Common.{◌≡◌, ◌∙◌, ◌||◌, ◌&&◌, ◌==◌, ◌<◌, ℕ, Bool, true, false, not, List}
+use Rattle.std.proofs.Common.{[], ◌∷◌, cond, eqb, Option, Some, None, if◌then◌else◌, is_some, refl, sym, ap, ap₂}
 use Rattle.std.specs.Option.{option_map_or}
 use Rattle.pam_codes.specs.Code.{all_codes}
 use Rattle.pam_codes.specs.Set.{codes_where, is_in, IsCodeSet}

@@ -34,3 +34,18 @@ one_code_alone (c ∷ d ∷ codes) code h = ap (λ (t : Bool). t && code == 28) 
 pub no_code_alone : (codes : List ℕ) → None ≡ slice_get codes 0 → false ≡ is_unknown_alone codes
 no_code_alone [] h = refl
 no_code_alone (c ∷ codes) h = absurd (cc)
+
+-- rows one after the other
+joined : (fits : Row → Bool) (fact : Fact) (rows more : List Row) → last_fact fits fact (rows ++ more) ≡ last_fact fits (last_fact fits fact rows) more
+joined fits fact [] more = refl
+joined fits fact (row ∷ rows) more = joined fits (if fits row then row.fact else fact) rows more
+
+-- after one row that fits, it does not matter what was known before
+again : (fits : Row → Bool) (fact : Fact) (rows : List Row) → last_fact fits (last_fact fits fact rows) rows ≡ last_fact fits fact rows
+again fits fact [] = refl
+again fits fact (row ∷ rows) =
+    elim (fits row) as (λ (t : Bool). last_fact fits (if t then row.fact else last_fact fits (if t then row.fact else fact) rows) rows
+    ≡ last_fact fits (if t then row.fact else fact) rows) [ true ↦ refl | false ↦ again fits fact rows ]
+
+pub twice : (fits : Row → Bool) (fact : Fact) (rows : List Row) → last_fact fits fact (rows ++ rows) ≡ last_fact fits fact rows
+twice fits fact rows = joined fits fact rows rows ∙ again fits fact rows

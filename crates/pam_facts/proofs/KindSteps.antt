@@ -11,7 +11,8 @@ use Rattle.pam_facts.proofs.Cutting.{split_found, split_none}
 
 -- ---- the names
 
-pub name_found : (rest : Option (List ℕ)) (text a r : List ℕ) → rest ≡ Some text → Some (a, r) ≡ cut_at (is_among (44 ∷ [])) text → names_left rest ≡ a ∷ names_in r
+pub name_found : (rest : Option (List ℕ)) (text a r : List ℕ) → rest ≡ Some text → Some (a, r) ≡ cut_at (is_among (44 ∷ [])) text →
+    names_left rest ≡ a ∷ names_in r
 unfolding names_in
 name_found rest text a r is e = rw is (split_found (is_among (44 ∷ [])) text a r e)
 
@@ -66,7 +67,8 @@ one_more kind kinds names others name is named =
     moved_in kind kinds (kinds_of_names others) ∙ ap (λ (k : Option Kind). option_map (both kinds) (and_kind k (kinds_of_names others))) named
     ∙ ap (found_with kinds) (sym is)
 
-pub no_kind : (kinds : Kinds) (names others : List (List ℕ)) (name : List ℕ) → names ≡ name ∷ others → None ≡ kind_named name → None ≡ found_with kinds names
+pub no_kind : (kinds : Kinds) (names others : List (List ℕ)) (name : List ℕ) → names ≡ name ∷ others → None ≡ kind_named name →
+    None ≡ found_with kinds names
 no_kind kinds names others name is named =
     ap (λ (k : Option Kind). option_map (both kinds) (and_kind k (kinds_of_names others))) named ∙ ap (found_with kinds) (sym is)
 

@@ -59,5 +59,6 @@ word_first (b ∷ bs) some h =
       | true ↦ λ e z. absurd (omega arith)
       | false ↦ λ e z.
           let ps = first_split (b ∷ bs) in
-          ap (filter has_bytes) ps.are ∙ rw e (rw one-add (ap (λ (ws : List (List ℕ)). (b ∷ take (prefix_len in_word bs) bs) ∷ ws) (rw e at (rw one-add at ps.words))))
+          ap (filter has_bytes) ps.are
+          ∙ rw e (rw one-add (ap (λ (ws : List (List ℕ)). (b ∷ take (prefix_len in_word bs) bs) ∷ ws) (rw e at (rw one-add at ps.words))))
     ] refl h

@@ -19,6 +19,10 @@ LastRowCounts =
     (fits : Row → Bool) (fact : Fact) (rows : List Row) (row : Row) →
     last_fact fits fact (rows ++ row ∷ []) ≡ (if fits row then row.fact else last_fact fits fact rows)
 
+-- the same rows once more change nothing
+abbrev pub TwiceIsOnce : Type 0
+TwiceIsOnce = (fits : Row → Bool) (fact : Fact) (rows : List Row) → last_fact fits fact (rows ++ rows) ≡ last_fact fits fact rows
+
 -- answers have no success
 pub record HaveNoSuccess (answers : List ℕ) : Type 0 where
   pub success : is_in success answers ≡ false

@@ -4,6 +4,7 @@ ghost use Rattle.std.specs.Prelude.{◌≡◌, ◌≢◌, ◌∷◌, ◌≤◌, 
 ghost use Rattle.std.specs.List.{list_any};
 ghost use Rattle.std.specs.Option.{option_map};
 ghost use Rattle.std.specs.Str.{bytes_eq};
+ghost use Rattle.pam_codes.specs.Code.{ignored, new_authtok_reqd, success};
 ghost use Rattle.pam_codes.specs.Set.{codes_where};
 ghost use Rattle.pam_conf.specs.ItemsOf.{module_text};
 ghost use Rattle.pam_conf.specs.Stack.{module_count};
@@ -13,11 +14,14 @@ ghost use Rattle.pam_facts.specs.Facts.{module_unknown};
 ghost use Rattle.pam_facts.specs.declared.answers.Checks.TheVariants.{Fail, MaySucceed};
 
 use crate::facts::Facts;
-use crate::row::{Class, Fact};
+use crate::row::{Class, Fact, MODULE_UNKNOWN};
 use pam_codes::{Code, CodeSet};
 use pam_conf::{Kind, Module, Stack};
 use pam_paths::Known;
 use pam_text::Texts;
+
+/// The number of the code of a module that fails and has no other code.
+const AUTH_ERR: u8 = 7;
 
 /// Whether modules that check who logs in may succeed.
 #[derive(Clone, Copy)]
@@ -30,7 +34,7 @@ enum Checks {
 fn module_unknown() -> CodeSet
     ensures { result ≡ module_unknown ∷ [] }
 {
-    match Code::new(28) {
+    match Code::new(MODULE_UNKNOWN) {
         Some(code) => CodeSet::single(code),
         None => unreachable!(),
     }
@@ -40,7 +44,7 @@ fn module_unknown() -> CodeSet
 fn failure() -> CodeSet
     ensures { result ≡ auth_err ∷ [] }
 {
-    match Code::new(7) {
+    match Code::new(AUTH_ERR) {
         Some(code) => CodeSet::single(code),
         None => unreachable!(),
     }
@@ -55,7 +59,7 @@ fn successes() -> CodeSet
 }
 
 fn successes_and_ignore() -> CodeSet
-    ensures { result ≡ 0 ∷ 12 ∷ 25 ∷ [] }
+    ensures { result ≡ success ∷ new_authtok_reqd ∷ ignored ∷ [] }
 {
     let mut codes = successes();
     codes.insert(Code::IGNORE);

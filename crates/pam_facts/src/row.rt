@@ -9,6 +9,9 @@ use crate::kinds::Kinds;
 use pam_codes::{Code, CodeSet};
 use pam_conf::Kind;
 
+/// The number of the code that libpam answers for a module that is not there or has no function.
+pub(crate) const MODULE_UNKNOWN: u8 = 28;
+
 /// What the success of a module in `auth` says.
 #[derive(Clone, Copy, Debug, PartialEq, Eq)]
 pub enum Class {
@@ -94,7 +97,7 @@ fn is_unknown_alone(codes: CodeSet) -> bool
     ensures { result ≡ is_unknown_alone codes }
 {
     match codes.least() {
-        Some(code) => codes.len() == 1 && code.number() == 28,
+        Some(code) => codes.len() == 1 && code.number() == MODULE_UNKNOWN,
         None => false,
     }
 }
@@ -110,8 +113,8 @@ impl Fact {
         }
     }
 
-    #[tactic(auto, unfolding(pam_codes::specs::Code::all_codes))]
     /// The codes that the module can answer in a kind. There is at least one.
+    #[tactic(auto, unfolding(pam_codes::specs::Code::all_codes))]
     pub fn codes_in(self, kind: Kind) -> CodeSet
         ensures value { result ≡ codes_in kind self }
         ensures some { result ≢ [] }

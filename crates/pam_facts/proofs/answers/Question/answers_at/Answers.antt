@@ -9,7 +9,8 @@ pub returns-in-Some : goal.returns-in-Some
 unfolding answers_at
 returns-in-Some c =
     let q = c.args.self.now in
-    c.module_answers.ensures ∙ ap (λ (o : Option ModuleText). option_map_or (module_answers q.checks q.kind q.facts.now (option_map (λ t. t.now) q.there)) o all_codes)
+    c.module_answers.ensures
+    ∙ ap (λ (o : Option ModuleText). option_map_or (module_answers q.checks q.kind q.facts.now (option_map (λ t. t.now) q.there)) o all_codes)
     c.in-Some.ensures.module
 
 pub returns-in-None : goal.returns-in-None
