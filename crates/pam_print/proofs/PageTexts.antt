@@ -40,15 +40,15 @@ listed page listing h of_stack =
     (Ok found.0, found.1, ap ok (paged_text-is page of_stack.0.1 found.3 found.2))
 
 -- nothing is written of a page that is not listed
-pub listing-refused : {K W : Type 0} (contents : W → Option (List ℕ)) (old new : Out W) (page : PageValue) (fault : Fault)
-    → FindsPage {K} page (Err fault) → new ≡ old → Prints contents old new (Err fault) (Page page)
-listing-refused contents old new page (faults.Cursor e) h same = (same, λ of_stack. (Err e, h page.items of_stack.0 of_stack.1, refl))
-listing-refused contents old new page faults.Memory h same = (same, refl)
-listing-refused contents old new page faults.Device h same = absurd h
-listing-refused contents old new page faults.TooManyStates h same = absurd h
-listing-refused contents old new page faults.NoSuchModule h same = absurd h
-listing-refused contents old new page (faults.Conf e) h same = absurd h
-listing-refused contents old new page (faults.Count e) h same = absurd h
-listing-refused contents old new page (faults.Moment e) h same = absurd h
-listing-refused contents old new page (faults.Table e) h same = absurd h
-listing-refused contents old new page (faults.Time e) h same = absurd h
+pub listing-refused : (K : Type 0) {W : Type 0} (contents : W → Option (List ℕ)) (old new : Out W) (page : PageValue) (fault : Fault)
+    → FindsPage {K = K} page (Err fault) → new ≡ old → Prints contents old new (Err fault) (Page page)
+listing-refused K contents old new page (faults.Cursor e) h same = (same, λ of_stack. (Err e, h page.items of_stack.0 of_stack.1, refl))
+listing-refused K contents old new page faults.Memory h same = (same, refl)
+listing-refused K contents old new page faults.Device h same = absurd h
+listing-refused K contents old new page faults.TooManyStates h same = absurd h
+listing-refused K contents old new page faults.NoSuchModule h same = absurd h
+listing-refused K contents old new page (faults.Conf e) h same = absurd h
+listing-refused K contents old new page (faults.Count e) h same = absurd h
+listing-refused K contents old new page (faults.Moment e) h same = absurd h
+listing-refused K contents old new page (faults.Table e) h same = absurd h
+listing-refused K contents old new page (faults.Time e) h same = absurd h

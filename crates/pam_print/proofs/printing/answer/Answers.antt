@@ -26,8 +26,8 @@ returns-in-Ok-print g c =
     request.service.now request.task files c.args.inputs.now c.in-Ok.ensures.0 in
     (leaves, tt)
 
-pub returns-in-Err-print : goal.returns-in-Err-print
-returns-in-Err-print g c =
+pub returns : goal.returns
+returns g c =
     let request = c.args.request.now in
     let files = unwrap_or (files_given c.args.inputs.now) no_files in
     let fault = c.in-Err-print.fault in

@@ -12,8 +12,8 @@ returns-in-Stack g c =
 
 pub returns-in-Run : goal.returns-in-Run
 returns-in-Run g c =
-    reply-is g.W.Write.contents _ _ _ (replies.Run c.in-Run.run) _ c.in-Run.is
-    (text-printed g.W.Write.contents _ _ (spec.Run (run_view c.in-Run.run)) _ _ _ refl c.told-in-Run.ensures c.write_run.ensures)
+    reply-is g.W.Write.contents _ _ _ (replies.Run c.in-Run.run') _ c.in-Run.is
+    (text-printed g.W.Write.contents _ _ (spec.Run (run_view c.in-Run.run')) _ _ _ refl c.told-in-Run.ensures c.write_run.ensures)
 
 pub returns-in-Access : goal.returns-in-Access
 returns-in-Access g c =
