@@ -1,4 +1,5 @@
 pub mod Counting
+pub mod Deciding
 pub mod Following
 pub mod FrameLists
 pub mod Growing

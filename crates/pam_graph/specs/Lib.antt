@@ -1,4 +1,5 @@
 pub mod Building
+pub mod Deciding
 pub mod Frames
 pub mod Goals
 pub mod Laws

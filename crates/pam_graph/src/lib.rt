@@ -2,6 +2,7 @@
 #![tactic(auto)]
 
 mod building;
+mod decisions;
 mod direction;
 mod error;
 mod frames;
@@ -13,6 +14,7 @@ mod retrace;
 mod tally;
 mod walks;
 
+pub use decisions::Decisions;
 pub use error::GraphError;
 pub use goal::Goal;
 pub use graph::{Graph, MAX_NODES};
