@@ -1,3 +1,4 @@
+pub mod Accounting
 pub mod Counting
 pub mod Deciding
 pub mod Following

@@ -147,7 +147,7 @@ module _ (nodes : List Node) (order : AreNodes [] nodes) (i : ℕ) (node : Node)
       ap (λ (x : Node). take i nodes ++ x ∷ drop (i + 1) nodes) is
       ∙ ap (λ (x : List Node). take i nodes ++ x) (sym (drop_more nodes i node l)) ∙ take-append-drop i nodes
 
-  valid : IsNode (numbers_of (take i nodes)) node
+  pub valid : IsNode (numbers_of (take i nodes)) node
   valid = subst (λ (x : Node). IsNode (numbers_of (take i nodes)) x) (sym is) (node-at [] nodes i node order l)
 
   -- a node of a graph

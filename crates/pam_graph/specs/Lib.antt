@@ -1,3 +1,4 @@
+pub mod Accounts
 pub mod Building
 pub mod Deciding
 pub mod Frames

@@ -1,11 +1,11 @@
-//! The decisions of the walks of a graph, and the first walk that comes to each.
+//! The decisions of the walks of a graph: how many come to each, and the first.
 
 ghost use Rattle.std.specs.Prelude.{◌≡◌, ◌≢◌, ◌<◌, [], ◌∷◌, IfNone, IfOk, IfSome, List, None, Some, ℕ, length, map, slice_get};
 ghost use Rattle.std.specs.List.{flat_map};
 ghost use Rattle.std.specs.Option.{option_map};
 ghost use Rattle.pam_codes.specs.declared.code.TheConstants.{CODES};
 ghost use Rattle.pam_graph.specs.Deciding.{decided_of, first_deciding, leads_to, with_edges, with_target};
-ghost use Rattle.pam_graph.specs.Goals.{decided, meeting};
+ghost use Rattle.pam_graph.specs.Goals.{decided, fit, meeting};
 ghost use Rattle.pam_graph.specs.Order.{AreAbove, AreNodes, IsAbove, IsStart};
 ghost use Rattle.pam_graph.specs.Walks.{walks, walks_by, walks_of, walks_to};
 ghost use Rattle.pam_graph.specs.Within.{AreWithin, IsWithin};
@@ -16,6 +16,7 @@ ghost use Rattle.pam_paths.specs.Paths.{PathValue};
 use crate::error::GraphError;
 use crate::graph::Graph;
 use crate::node::{Edge, Node, Target};
+use crate::ways::counts_of;
 use pam_codes::{Code, CodeSet};
 use pam_paths::Path;
 use std::alloc::Global;
@@ -27,10 +28,13 @@ pub struct Decisions<'a> {
     graph: &'a Graph,
     /// The codes that the walks from each node on decide.
     known: Vec<CodeSet>,
+    /// The number of the walks that decide each code; `None` is a number that does not fit.
+    counts: Vec<Option<u128>>,
 }
 
 /// Contracts see the walks of the graph.
 impl<'a> Model for Decisions<'a> {
+    ghost use Rattle.pam_graph.specs.Accounts.{AreCounts};
     ghost use Rattle.pam_graph.specs.Deciding.{decided_of};
     ghost use Rattle.pam_graph.specs.Walks.{walks};
     ghost use Rattle.pam_paths.specs.Paths.{PathValue};
@@ -40,7 +44,7 @@ impl<'a> Model for Decisions<'a> {
 
     ghost view = { λ d. walks d.graph.now };
 
-    ghost invariant = { λ d. d.known.items ≡ decided_of d.graph.now.nodes };
+    ghost invariant = { λ d. (d.known.items ≡ decided_of d.graph.now.nodes) × AreCounts d.counts.items (walks d.graph.now) };
 }
 
 /// Adds to `codes` those that the walks from `target` on decide.
@@ -151,7 +155,12 @@ impl Graph {
         ensures { IfOk result (λ decisions. decisions ≡ walks self.now) }
     {
         let known = decided_of(alloc, &self.nodes)?;
-        Ok(Decisions { graph: self, known })
+        let counts = counts_of(alloc, &self.nodes, &self.start)?;
+        Ok(Decisions {
+            graph: self,
+            known,
+            counts,
+        })
     }
 }
 
@@ -173,5 +182,12 @@ impl Decisions<'_> {
             return Some(first_from(self.graph.nodes(), &self.known, code, start));
         }
         None
+    }
+
+    /// The number of the walks that decide `code`; `None` if it is 2^128 or more.
+    pub fn count(&self, code: Code) -> Option<u128>
+        ensures { result ≡ fit (length (meeting (Decides (code ∷ [])) self.now)) }
+    {
+        self.counts[usize::from(code.number())]
     }
 }

@@ -13,6 +13,7 @@ mod node;
 mod retrace;
 mod tally;
 mod walks;
+mod ways;
 
 pub use decisions::Decisions;
 pub use error::GraphError;

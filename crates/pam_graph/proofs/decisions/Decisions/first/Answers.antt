@@ -11,7 +11,7 @@ use Rattle.pam_graph.proofs.decisions.Decisions.first.Goals as goal
 pub leads_to-requires : goal.leads_to-requires
 leads_to-requires c =
     let nodes = c.self.inside.graph.now.nodes in
-    decided-within nodes c.deref.result.now c.start-start.result (c.deref.ensures.value ∙ c.self.invariant)
+    decided-within nodes c.deref.result.now c.start-start.result (c.deref.ensures.value ∙ c.self.invariant.0)
     (start-within nodes 0 c.start-start.result c.start-start.ensures.order)
 
 pub first_from-requires-clause-order : goal.first_from-requires-clause-order
@@ -19,7 +19,7 @@ first_from-requires-clause-order c = subst (AreNodes []) (sym c.nodes.ensures.no
 
 pub first_from-requires-clause-known : goal.first_from-requires-clause-known
 first_from-requires-clause-known c =
-    c.deref-then-leads_to.ensures.value ∙ c.self.invariant ∙ ap decided_of (sym c.nodes.ensures.nodes)
+    c.deref-then-leads_to.ensures.value ∙ c.self.invariant.0 ∙ ap decided_of (sym c.nodes.ensures.nodes)
 
 pub first_from-requires-clause-start : goal.first_from-requires-clause-start
 first_from-requires-clause-start c =
@@ -31,7 +31,7 @@ first_from-requires-clause-leads c =
     let start = c.start-start.result in
     subst (λ (ns : List Node). first_deciding c.args.code (walks_to (walks_of ns) start) ≡ None → ⊥) (sym c.nodes.ensures.nodes)
     (some-first (walks_of nodes) c.args.code start c.leads_to.ensures.code
-    (ap (λ (x : List (List ℕ)). leads_to x c.args.code start) (sym (c.deref.ensures.value ∙ c.self.invariant))
+    (ap (λ (x : List (List ℕ)). leads_to x c.args.code start) (sym (c.deref.ensures.value ∙ c.self.invariant.0))
     ∙ sym c.leads_to.ensures.leads ∙ c.if-leads_to.true))
 
 pub returns-then-leads_to : goal.returns-then-leads_to
@@ -49,7 +49,7 @@ returns c =
     let nodes = c.self.inside.graph.now.nodes in
     let start = c.start-start.result in
     sym (none-first (walks_of nodes) c.args.code start c.leads_to.ensures.code
-    (ap (λ (x : List (List ℕ)). leads_to x c.args.code start) (sym (c.deref.ensures.value ∙ c.self.invariant))
+    (ap (λ (x : List (List ℕ)). leads_to x c.args.code start) (sym (c.deref.ensures.value ∙ c.self.invariant.0))
     ∙ sym c.leads_to.ensures.leads ∙ c.if-leads_to.false))
     ∙ ap (λ (t : Target). first_deciding c.args.code (walks_to (walks_of nodes) t)) c.start-start.ensures.start
     ∙ ap (first_deciding c.args.code) c.self.view_is
