@@ -47,7 +47,7 @@ fit-large : (n : ℕ) → 2 ^ 128 ≤ n → fit n ≡ None
 unfolding fit
 fit-large n h = cond-false (nat_lt n (2 ^ 128)) (Some n) None (le-ltb n (2 ^ 128) h)
 
-plus-fit : (a b : ℕ) → plus (fit a) (fit b) ≡ fit (a + b)
+pub plus-fit : (a b : ℕ) → plus (fit a) (fit b) ≡ fit (a + b)
 plus-fit a b =
     elim (cases_lt a (2 ^ 128)) [
       | inl l ↦ elim (cases_lt b (2 ^ 128)) [

@@ -1,4 +1,6 @@
+pub mod Accounting
 pub mod Counting
+pub mod Deciding
 pub mod Following
 pub mod FrameLists
 pub mod Growing

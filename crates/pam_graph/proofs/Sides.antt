@@ -147,7 +147,7 @@ module _ (nodes : List Node) (order : AreNodes [] nodes) (i : ℕ) (node : Node)
       ap (λ (x : Node). take i nodes ++ x ∷ drop (i + 1) nodes) is
       ∙ ap (λ (x : List Node). take i nodes ++ x) (sym (drop_more nodes i node l)) ∙ take-append-drop i nodes
 
-  valid : IsNode (numbers_of (take i nodes)) node
+  pub valid : IsNode (numbers_of (take i nodes)) node
   valid = subst (λ (x : Node). IsNode (numbers_of (take i nodes)) x) (sym is) (node-at [] nodes i node order l)
 
   -- a node of a graph
@@ -183,7 +183,7 @@ module _ (nodes : List Node) (order : AreNodes [] nodes) (i : ℕ) (node : Node)
       (sym (length-map (take i nodes) number_of ∙ long))
       ∙ get_or-append_seam (numbers_of (take i nodes)) node.module_number (numbers_of (drop (i + 1) nodes)) 0
 
-  walks-node : slice_index_or (walks_of nodes) i [] ≡ walks_at (walks_of nodes) node
+  pub walks-node : slice_index_or (walks_of nodes) i [] ≡ walks_at (walks_of nodes) node
   walks-node =
       let long : length (take i nodes) ≡ i = length-take-le i nodes (omega (arith, l)) in
       ap (λ (x : List Node). slice_index_or (walks_of x) i []) (sym parts)

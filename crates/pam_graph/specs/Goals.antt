@@ -1,7 +1,7 @@
 -- What is wanted of a run, and how many walks have it: pam.conf(5), DESCRIPTION.
-use Rattle.std.specs.Prelude.{ℕ, ◌^◌, ◌==◌, nat_lt, Bool, true, if◌then◌else◌, List, Option, None, Some, filter}
+use Rattle.std.specs.Prelude.{ℕ, ◌^◌, ◌==◌, nat_lt, Bool, true, if◌then◌else◌, List, [], ◌∷◌, Option, None, Some, filter}
 use Rattle.std.specs.List.{list_any}
-use Rattle.pam_codes.specs.Set.{is_in}
+use Rattle.pam_codes.specs.Set.{codes_where, is_in}
 use Rattle.pam_graph.specs.declared.goal.Goal.{Goal}
 use Rattle.pam_graph.specs.declared.goal.Goal.TheVariants.{Any, Decides, Asks}
 use Rattle.pam_paths.specs.Paths.{PathValue, StepValue}
@@ -19,6 +19,14 @@ meets (Asks number) path = list_any (asks_module number) path.steps
 -- THE PATHS THAT MEET A GOAL, in their order
 abbrev pub meeting : Goal → List PathValue → List PathValue
 meeting goal paths = filter (meets goal) paths
+
+-- some path decides a code
+abbrev pub is_decided : List PathValue → ℕ → Bool
+is_decided paths code = list_any (meets (Decides (code ∷ []))) paths
+
+-- THE CODES THAT ARE DECIDED by some path
+unfoldable pub decided : List PathValue → List ℕ
+decided paths = codes_where (is_decided paths)
 
 -- a number, if it is below 2^128
 unfoldable pub fit : ℕ → Option ℕ

@@ -1,4 +1,6 @@
+pub mod Accounts
 pub mod Building
+pub mod Deciding
 pub mod Frames
 pub mod Goals
 pub mod Laws

@@ -2,6 +2,7 @@
 #![tactic(auto)]
 
 mod building;
+mod decisions;
 mod direction;
 mod error;
 mod frames;
@@ -12,7 +13,9 @@ mod node;
 mod retrace;
 mod tally;
 mod walks;
+mod ways;
 
+pub use decisions::Decisions;
 pub use error::GraphError;
 pub use goal::Goal;
 pub use graph::{Graph, MAX_NODES};

@@ -23,7 +23,7 @@ pub(crate) struct Tally {
 }
 
 /// The sum of two numbers, if both are known and it fits.
-fn plus(one: Option<u128>, other: Option<u128>) -> Option<u128>
+pub(crate) fn plus(one: Option<u128>, other: Option<u128>) -> Option<u128>
     ensures { result ≡ plus one other }
 {
     match one {
