@@ -19,10 +19,10 @@ use super::replies::Reply;
 use crate::fault::Fault;
 use crate::inputs::Inputs;
 use jiff::civil::DateTime;
-use pam_codes::{CODES, Code, CodeSet};
+use pam_codes::{CODES, Code};
 use pam_conf::{Files, Kind, Stack};
 use pam_dispatch::Program;
-use pam_graph::{Goal, Graph, GraphError};
+use pam_graph::{Decisions, Goal, Graph, GraphError};
 use pam_paths::{Known, Path};
 use pam_times::MomentError;
 use std::alloc::Global;
@@ -52,31 +52,29 @@ pub struct OutcomesReply<'a> {
 }
 
 /// Returns the outcome of the walks that end in a decision, if there are any.
-fn outcome_of(alloc: Global, graph: &Graph, decision: Code) -> Result<Option<Outcome>, GraphError>
-    ensures { IfOk result (λ o. as_list outcome_view o ≡ outcome_among (walks graph.now) decision) }
+fn outcome_of(decisions: &Decisions<'_>, decision: Code) -> Option<Outcome>
+    ensures { as_list outcome_view result ≡ outcome_among decisions.now decision }
 {
-    let goal = Goal::Decides(CodeSet::single(decision));
-    let Some(first) = graph.first(alloc, goal)? else {
-        return Ok(None);
+    let Some(first) = decisions.first(decision) else {
+        return None;
     };
-    let count = graph.count(alloc, &goal)?;
-    Ok(Some(Outcome {
+    let count = decisions.count(decision);
+    Some(Outcome {
         decision,
         count,
         first,
-    }))
+    })
 }
 
 /// Adds the outcome of the walks that end in a decision, if there are any.
 fn push_outcome(
-    alloc: Global,
-    graph: &Graph,
+    decisions: &Decisions<'_>,
     decision: Code,
     found: &mut Vec<Outcome>,
 ) -> Result<(), GraphError>
-    ensures { OnOk result (map outcome_view found.new.items ≡ map outcome_view found.old.items ++ outcome_among (walks graph.now) decision) }
+    ensures { OnOk result (map outcome_view found.new.items ≡ map outcome_view found.old.items ++ outcome_among decisions.now decision) }
 {
-    if let Some(outcome) = outcome_of(alloc, graph, decision)? {
+    if let Some(outcome) = outcome_of(decisions, decision) {
         found.push(outcome)?;
     }
     Ok(())
@@ -94,9 +92,10 @@ fn code_numbered(number: usize) -> Code
 fn outcomes_of(alloc: Global, graph: &Graph) -> Result<Outcomes, GraphError>
     ensures { IfOk result (λ o. AreOutcomes o (walks graph.now)) }
 {
+    let decisions = graph.decisions(alloc)?;
     let mut found = Vec::new(alloc);
     for number in 0..CODES {
-        push_outcome(alloc, graph, code_numbered(number), &mut found)?;
+        push_outcome(&decisions, code_numbered(number), &mut found)?;
     }
     let total = graph.count(alloc, &Goal::Any)?;
     Ok(Outcomes { found, total })

@@ -1,13 +1,17 @@
-use Rattle.std.proofs.Common.{◌≡◌, ◌∙◌, arith}
+use Rattle.std.proofs.Common.{◌≡◌, ◌++◌, ◌∙◌, List, ap, arith, map}
 use Rattle.pam_codes.specs.declared.code.TheConstants.{CODES}
 use Rattle.pam_graph.specs.Walks.{walks}
 use Rattle.pam_report.proofs.OutcomeLists.{outcomes-all, outcomes-more, total-is}
+use Rattle.pam_paths.specs.Paths.{PathValue}
 use Rattle.pam_report.specs.Outcomes.{outcome_among}
+use Rattle.pam_report.specs.ReplyViews.{outcome_view}
 use Rattle.pam_report.proofs.report.outcomes.outcomes_of.Goals as goal
 
 pub loop-number-preserved : goal.loop-number-preserved
 loop-number-preserved c =
-    outcomes-more (outcome_among (walks c.args.graph.now)) c.loop-number.number _ _ _ c.loop-number.invariant c.code_numbered.ensures c.in_ok-push_outcome.ensures
+    outcomes-more (outcome_among (walks c.args.graph.now)) c.loop-number.number _ _ _ c.loop-number.invariant c.code_numbered.ensures
+    (c.in_ok-push_outcome.ensures
+    ∙ ap (λ (ws : List PathValue). map outcome_view c.loop-number.found.items ++ outcome_among ws c.code_numbered.result) c.in_ok-decisions.ensures)
 
 pub returns : goal.returns
 returns c =
