@@ -1,5 +1,6 @@
 -- How a label is read: character by character.
-use Rattle.std.proofs.Common.{◌≡◌, ◌∙◌, ℕ, ◌+◌, ◌<◌, ◌/◌, ◌%◌, ◌==◌, ◌||◌, ◌&&◌, Bool, true, false, List, [], ◌∷◌, ◌++◌, Option, None, Some, All, ap, append_assoc}
+use Rattle.std.proofs.Common.{◌≡◌, ◌∙◌, ℕ, ◌+◌, ◌<◌, ◌/◌, ◌%◌, ◌==◌, ◌||◌, ◌&&◌, Bool, true, false, List, [], ◌∷◌, ◌++◌}
+use Rattle.std.proofs.Common.{Option, None, Some, All, ap, append_assoc}
 use Rattle.std.proofs.Common.{arith, codes, cond, decimal, eqb, nat_le, option_map, refl, rules, sym}
 use Rattle.std.proofs.lemmas.Bool.{eqb-true, false≢true}
 use Rattle.std.proofs.lemmas.Fmt.{digits_decimal}
@@ -24,7 +25,8 @@ with_front-more : (a b : List ℕ) (read : Option (List ℕ × List ℕ)) → wi
 with_front-more a b None = refl
 with_front-more a b (Some p) = ap (λ (l : List ℕ). Some (l, p.1)) (sym (append_assoc a b p.0))
 
-ampersand : (read : Option (List ℕ × List ℕ)) → with_front (38 ∷ []) (with_front (97 ∷ []) (with_front (109 ∷ []) (with_front (112 ∷ []) (with_front (59 ∷ []) read))))
+ampersand : (read : Option (List ℕ × List ℕ)) →
+    with_front (38 ∷ []) (with_front (97 ∷ []) (with_front (109 ∷ []) (with_front (112 ∷ []) (with_front (59 ∷ []) read))))
     ≡ with_front (codes "&amp;") read
 ampersand None = refl
 ampersand (Some p) = refl

@@ -75,7 +75,8 @@ no_kind kinds names others name is named =
 both_none : (kinds : Kinds) → both kinds no_kinds ≡ kinds
 both_none kinds =
     ap (λ (b : Bool). record (both kinds no_kinds) { auth = b }) (or_false kinds.auth)
-    ∙ ap (λ (b : Bool). record { auth = kinds.auth; account = b; password = kinds.password || false; session = kinds.session || false }) (or_false kinds.account)
+    ∙ ap (λ (b : Bool). record { auth = kinds.auth; account = b; password = kinds.password || false; session = kinds.session || false })
+    (or_false kinds.account)
     ∙ ap (λ (b : Bool). record { auth = kinds.auth; account = kinds.account; password = b; session = kinds.session || false }) (or_false kinds.password)
     ∙ ap (λ (b : Bool). record { auth = kinds.auth; account = kinds.account; password = kinds.password; session = b }) (or_false kinds.session)
 

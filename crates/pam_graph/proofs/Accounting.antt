@@ -2,7 +2,8 @@
 use Rattle.std.proofs.Common.{◌≡◌, ℕ, ◌+◌, ◌*◌, ◌<◌, Bool, true, false, ◌||◌, List, [], ◌∷◌, ◌++◌, Option, None, Some, map, cond, refl, sym, ◌∙◌}
 use Rattle.std.proofs.Common.{ap, arith, drop, length, slice_index_or, take, zero, suc}
 use Rattle.std.proofs.lemmas.Bool.{eqb-false, eqb-true}
-use Rattle.std.proofs.lemmas.List.{get_or-replicate, get_or-set_other, get_or-set_same, length-append, length-map, length-take-le, map-append, map-set, take_more}
+use Rattle.std.proofs.lemmas.List.{get_or-replicate, get_or-set_other, get_or-set_same, length-append, length-map, length-take-le}
+use Rattle.std.proofs.lemmas.List.{map-append, map-set, take_more}
 use Rattle.std.proofs.lemmas.List as lists
 use Rattle.std.proofs.lemmas.List.Elements.{filter-append}
 use Rattle.std.proofs.Math.ListN.{get_or-map, replicate, set}
@@ -45,7 +46,8 @@ deciders-none code = refl
 deciders-end : (code decision : ℕ) (t : Bool) → (code == decision) ≡ t → deciders code (ended decision ∷ []) ≡ cond t 1 0
 unfolding deciders
 deciders-end code decision t h =
-    ap (λ (x : Bool). length (cond (x || false) (ended decision ∷ []) [])) h ∙ (elim t as (λ (x : Bool). length (cond (x || false) (ended decision ∷ []) []) ≡ cond x 1 0) [
+    ap (λ (x : Bool). length (cond (x || false) (ended decision ∷ []) [])) h
+    ∙ (elim t as (λ (x : Bool). length (cond (x || false) (ended decision ∷ []) []) ≡ cond x 1 0) [
       | true ↦ refl
       | false ↦ refl
     ])
@@ -91,7 +93,8 @@ dot-zeros : (count : ℕ) (others : List ℕ) → dot (replicate count 0) others
 unfolding dot
 dot-zeros zero others = refl
 dot-zeros (suc count) [] = refl
-dot-zeros (suc count) (k ∷ others) = ap (λ (z : ℕ). z + dot (replicate count 0) others) (zero-mul k) ∙ zero-first (dot (replicate count 0) others) ∙ dot-zeros count others
+dot-zeros (suc count) (k ∷ others) =
+    ap (λ (z : ℕ). z + dot (replicate count 0) others) (zero-mul k) ∙ zero-first (dot (replicate count 0) others) ∙ dot-zeros count others
 
 -- A NUMBER IS ADDED IN A TABLE
 
@@ -141,7 +144,8 @@ module _ (all : List PathValue) (known : List (List PathValue)) (ends ways : Lis
         }
 
     -- to an end
-    pub come-end : (decision : ℕ) → decision < length ends → Accounts all known ends ways (λ code. n * deciders code (walks_to known (End decision)) + left code) →
+    pub come-end : (decision : ℕ) → decision < length ends →
+        Accounts all known ends ways (λ code. n * deciders code (walks_to known (End decision)) + left code) →
         Accounts all known (set ends decision (plus (slice_index_or ends decision d) number)) ways left
     come-end decision l a =
         let inside : decision < length a.at_ends = omega (arith, l, ap (λ (x : List (Option ℕ)). length x) a.ends_are, length-map a.at_ends fit) in

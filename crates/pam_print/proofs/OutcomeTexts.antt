@@ -1,5 +1,5 @@
 -- The lines of `outcomes`.
-use Rattle.std.proofs.Common.{◌≡◌, ℕ, List, [], ◌∷◌, ◌++◌, Option, codes, map, refl}
+use Rattle.std.proofs.Common.{◌≡◌, ℕ, List, ◌∷◌, ◌++◌, Option, codes, map, refl}
 use Rattle.std.specs.List.{flat_map}
 use Rattle.pam_codes.specs.SetText.{set_text}
 use Rattle.pam_conf.specs.Stack.{Items, module_count}
@@ -27,12 +27,14 @@ pub named_steps-is : (items : Items) (all : List PathStep) (first : PathStep) (o
 unfolding named_steps
 named_steps-is items all first others e = rw e refl
 
-pub outcome_line-is : (items : Items) (o : Outcome) (name k : List ℕ) (steps : List StepValue) → name ≡ code_name o.decision → k ≡ key o.first → steps ≡ o.first.steps
+pub outcome_line-is : (items : Items) (o : Outcome) (name k : List ℕ) (steps : List StepValue)
+    → name ≡ code_name o.decision → k ≡ key o.first → steps ≡ o.first.steps
     → name ++ codes " " ++ count_text o.count ++ codes " ways, first " ++ cursor_text k ++ named_steps items steps ++ codes "\n" ≡ outcome_line items o
 unfolding outcome_line
 outcome_line-is items o name k steps e f g = rw (e, f, g) refl
 
-pub lines-are : (service : List ℕ) (kind : Kind) (items : Items) (total : Option ℕ) {modules : ℕ} {one other : List declared.Outcome} → modules ≡ module_count items
+pub lines-are : (service : List ℕ) (kind : Kind) (items : Items) (total : Option ℕ) {modules : ℕ} {one other : List declared.Outcome}
+    → modules ≡ module_count items
     → one ≡ other
     → header_text service kind modules ++ flat_map (outcome_line items) (map outcome_view one) ++ total_line total
     ≡ header_text service kind (module_count items) ++ flat_map (outcome_line items) (map outcome_view other) ++ total_line total

@@ -1,5 +1,5 @@
 -- The text of a page, from its header, its side and its paths.
-use Rattle.std.proofs.Common.{◌≡◌, ℕ, List, ◌++◌, Ok, Err, Option, Result, ap, max, refl}
+use Rattle.std.proofs.Common.{◌≡◌, ℕ, List, ◌++◌, Ok, Err, Option, ap, max, refl}
 use Rattle.pam_codes.specs.Out.{Out}
 use Rattle.pam_conf.specs.Stack.{module_count}
 use Rattle.pam_conf.specs.declared.rule.Kind.{Kind}
@@ -8,7 +8,6 @@ use Rattle.pam_page.specs.Coming.{coming, side}
 use Rattle.pam_page.specs.Page.{first_page, page_text as lines_text}
 use Rattle.pam_page.specs.declared.listing.Listing.{Listing}
 use Rattle.pam_paths.specs.Paths.{PathValue}
-use Rattle.pam_paths.specs.declared.cursor.CursorError.{CursorError}
 use Rattle.pam_report.specs.PageView.{FindsPage}
 use Rattle.pam_report.specs.Paths.{side_of}
 use Rattle.pam_report.specs.Reply.{Page, PageValue}

@@ -25,7 +25,8 @@ fn write_lines<W: Write>(
     texts: LineTexts,
     out: &mut Out<W>,
 ) -> Result<(), Device>
-    ensures { WritesAndFlushes W.contents out.old out.new result (lines_text (side listing.old) (first_page (max (page_value page.now).limit 1) (coming listing.old))) }
+    ensures { let lines = lines_text (side listing.old) (first_page (max (page_value page.now).limit 1) (coming listing.old)) in
+        WritesAndFlushes W.contents out.old out.new result lines }
 {
     put_page(listing, page.limit(), texts, out)?;
     out.finish()

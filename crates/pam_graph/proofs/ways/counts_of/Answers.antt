@@ -59,7 +59,9 @@ loop-number-preserved c =
       accounts = subst (λ (n : ℕ). Accounts all (walks_of (take n nodes)) c.go_on_by.new.ends.items c.go_on_by.new.ways.items (λ code. 0))
           (sym c.go_on_by.ensures.long)
           (c.go_on_by.ensures.accounts all known left.0 node.module_number left.1
-          (subst (λ (es : List Edge). Accounts all known c.loop-number.ends.items new (λ code. left.0 * deciders code (flat_map (walks_by known node.module_number) es)))
+          (subst
+          (λ (es : List Edge). Accounts all known c.loop-number.ends.items new
+          (λ code. left.0 * deciders code (flat_map (walks_by known node.module_number) es)))
           (sym c.deref.ensures.value) left.2));
     }
 

@@ -56,5 +56,6 @@ returns-clause-accounts c all known n m is a =
     (λ code. n * deciders code (flat_map (walks_by known m) (drop c.loop-edge.edge-index c.args.edges.now)))
     (λ code. 0)
     (λ code. none-left known m n code
-    ∙ ap (λ (es : List Edge). n * deciders code (flat_map (walks_by known m) es)) (sym (drop_all c.loop-edge.edge-index c.args.edges.now c.loop-edge-test.false)))
+    ∙ ap (λ (es : List Edge). n * deciders code (flat_map (walks_by known m) es))
+    (sym (drop_all c.loop-edge.edge-index c.args.edges.now c.loop-edge-test.false)))
     (c.loop-edge.invariant.accounts all known n m is a)

@@ -1,4 +1,4 @@
-use Rattle.std.proofs.Common.{◌∙◌, ap, sym}
+use Rattle.std.proofs.Common.{sym}
 use Rattle.pam_codes.proofs.Writing.{all-is, all-then, err-flushes, flushes-last, front-is, front-longer, front-then}
 use Rattle.pam_report.specs.ReplyViews.{stack_view}
 use Rattle.pam_print.proofs.ShowTexts.{header-is, items-are}
