@@ -1,11 +1,11 @@
 //! The text of `paths`: a page.
 
-ghost use Rattle.std.specs.Prelude.{◌++◌, max};
+ghost use Rattle.std.specs.Prelude.{◌++◌, Ok, max};
 ghost use Rattle.pam_codes.specs.Out.{WritesAndFlushes};
 ghost use Rattle.pam_dispatch.specs.Flat.{modules_of};
 ghost use Rattle.pam_page.specs.Coming.{coming, side};
 ghost use Rattle.pam_page.specs.Page.{first_page, page_text as lines_text};
-ghost use Rattle.pam_report.specs.PageView.{page_value};
+ghost use Rattle.pam_report.specs.PageView.{FindsPage, page_value};
 ghost use Rattle.pam_report.specs.Reply.{Page};
 ghost use Rattle.pam_print.specs.Header.{header_text};
 ghost use Rattle.pam_print.specs.Leaves.{Prints};
@@ -46,7 +46,29 @@ fn write_listing<W: Write>(
     write_lines(page, listing, texts, out)
 }
 
-/// Writes a page. Finds a cursor that is refused, and allocates, before the first byte.
+/// Writes a page of a listing. Allocates before the first byte.
+#[inline(never)]
+fn write_listed<W: Write>(
+    alloc: Global,
+    page: &PathsPage<'_>,
+    listing: &mut Listing<'_, Known>,
+    out: &mut Out<W>,
+) -> Result<(), Fault>
+    requires { FindsPage (page_value page.now) (Ok listing.old) }
+    ensures { Prints W.contents out.old out.new result (Page (page_value page.now)) }
+{
+    let texts = match LineTexts::new(alloc) {
+        Ok(texts) => texts,
+        Err(_) => return Err(Fault::Memory),
+    };
+    match write_listing(page, listing, texts, out) {
+        Ok(()) => Ok(()),
+        Err(Device) => Err(Fault::Device),
+    }
+}
+
+/// Writes a page. Finds a cursor that is refused before the first byte.
+// A listing has 27 kB. So it stays where `listing` puts it, and what comes next borrows it.
 pub(crate) fn write_page<W: Write>(
     alloc: Global,
     page: &PathsPage<'_>,
@@ -54,16 +76,8 @@ pub(crate) fn write_page<W: Write>(
 ) -> Result<(), Fault>
     ensures { Prints W.contents out.old out.new result (Page (page_value page.now)) }
 {
-    let mut listing = match page.listing(alloc) {
-        Ok(listing) => listing,
-        Err(fault) => return Err(fault),
-    };
-    let texts = match LineTexts::new(alloc) {
-        Ok(texts) => texts,
-        Err(_) => return Err(Fault::Memory),
-    };
-    match write_listing(page, &mut listing, texts, out) {
-        Ok(()) => Ok(()),
-        Err(Device) => Err(Fault::Device),
+    match page.listing(alloc) {
+        Ok(mut listing) => write_listed(alloc, page, &mut listing, out),
+        Err(fault) => Err(fault),
     }
 }
