@@ -68,7 +68,9 @@ fn write_listed<W: Write>(
 }
 
 /// Writes a page. Finds a cursor that is refused before the first byte.
-// A listing has 27 kB. So it stays where `listing` puts it, and what comes next borrows it.
+// A listing has 27 kB. So this is never inlined, else each command has room for it; it stays where `listing` puts it, and what
+// comes next borrows it.
+#[inline(never)]
 pub(crate) fn write_page<W: Write>(
     alloc: Global,
     page: &PathsPage<'_>,
