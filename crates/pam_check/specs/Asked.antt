@@ -23,7 +23,7 @@ pub record IsNeverAsked (allows : Allowance) (items : Items) (number : ℕ) : Ty
   pub last : number ≤ module_count items
   pub never : Asks allows items number → ⊥
 
--- an action jumps past the end of its list, in which so many items are after the module
+-- an action jumps past the end of its list, which has this number of items after the module
 abbrev pub is_past_end : ℕ → Action → Bool
 is_past_end after (Jump items) = nat_lt after items
 is_past_end after Ignore = false

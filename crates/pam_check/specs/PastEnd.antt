@@ -25,7 +25,7 @@ numbers_where test End = []
 numbers_where test (ThenModule m rest) = (if test m (count rest) then m.number ∷ [] else []) ++ numbers_where test rest
 numbers_where test (ThenSub sub inner rest) = numbers_where test inner ++ numbers_where test rest
 
--- a module is in a list or its substacks, with so many items after it in its own list
+-- a module is in a list or its substacks, and this number of items comes after it in its own list
 unfoldable pub IsPlaced : ModuleText → ℕ → Items → Type 0
 IsPlaced m after End = ⊥
 IsPlaced m after (ThenModule other rest) = ((m ≡ other) × (after ≡ count rest)) ⊎ IsPlaced m after rest

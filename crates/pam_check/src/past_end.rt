@@ -15,7 +15,7 @@ use pam_graph::GraphError;
 use pam_paths::{Knowledge, Known};
 use std::alloc::Global;
 
-/// Whether `action` jumps past the end of its list, in which so many items are after the module.
+/// Whether `action` jumps past the end of its list, which has `items_after` items after the module.
 fn is_past_end(items_after: usize, action: Action) -> bool
     ensures { result ≡ is_past_end items_after action }
 {

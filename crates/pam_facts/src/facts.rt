@@ -20,7 +20,7 @@ use std::marker::Model;
 ///
 /// A line of a facts file is `NAME [ARGUMENT [ARGUMENT]] CLASS [KIND,... CODE ...]...`, separated by spaces and tabs. NAME is
 /// that of a module, without folder and `.so`. CLASS is `checks`, `ignores`, `passes` or `fails`. The row fits the rules of
-/// this module that have each ARGUMENT; one that ends in `=` stands for each argument that begins with it. The codes are all
+/// this module that have each ARGUMENT; one that ends in `=` matches each argument that begins with it. The codes are all
 /// that the module can answer in these kinds; where no codes are given, it can answer any. Of the rows that fit a rule the
 /// last counts, and it counts alone. Lines that begin with `#` and blank lines are skipped. The case of kinds and codes is
 /// ignored.
