@@ -11,6 +11,6 @@ pub use fault::{
 };
 pub use inputs::{InputError, Inputs};
 pub use report::{
-    AskedModule, GraphReply, Outcome, Outcomes, OutcomesReply, PathsPage, Reply, RunReply,
-    StackReply, Status, Trace, path_at, reply_to,
+    AskedModule, GraphReply, Outcome, Outcomes, OutcomesReply, PageRenderer, PathsPage, Reply,
+    RunReply, StackReply, Status, Trace, path_at, reply_to,
 };

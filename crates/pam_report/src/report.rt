@@ -15,6 +15,7 @@ mod known_stack;
 mod login;
 mod outcomes;
 mod paths;
+mod renderer;
 mod replies;
 mod show;
 mod time;
@@ -34,6 +35,7 @@ use pam_conf::{Files, Form, Kind};
 use pam_words::{KnowledgeSource, Request, Task};
 pub use paths::PathsPage;
 use paths::{PageRequest, answer_paths};
+pub use renderer::PageRenderer;
 pub use replies::Reply;
 pub use show::StackReply;
 use show::shown;
@@ -63,7 +65,7 @@ impl Status {
     }
 }
 
-/// Returns the reply to a request, or its first fault. A fault of the cursor of `paths` comes later: see `PathsPage::listing`.
+/// Returns the reply to a request, or its first fault. A fault of the cursor of `paths` comes later: see `PathsPage::render`.
 ///
 /// Inputs of another command have no files and no tables that this one uses; see `Inputs::fits`.
 pub fn reply_to<'a>(
