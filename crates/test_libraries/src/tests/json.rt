@@ -31,6 +31,7 @@ fn put_run<W: Write>(run: &RunReply<'_>, out: &mut Out<W>) -> Result<(), Device>
 }
 
 /// Renders the decision of each path of a page, at most `limit`.
+#[derive(Clone, Copy)]
 struct Decisions {
     limit: u32,
 }
