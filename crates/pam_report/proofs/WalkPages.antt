@@ -1,5 +1,5 @@
 -- The walks of a part that meet a goal, as the listing of the part.
-use Rattle.std.proofs.Common.{◌≡◌, ◌∙◌, ℕ, List, codes, Option, Some, Result, Ok, Err, ap, refl, subst, sym}
+use Rattle.std.proofs.Common.{◌≡◌, ◌∙◌, ℕ, List, codes, Some, Result, Ok, Err, ap, refl, subst, sym}
 use Rattle.pam_conf.specs.Stack.{Items}
 use Rattle.pam_dispatch.specs.Flat.{modules_of}
 use Rattle.pam_graph.specs.Goals.{meeting}

@@ -95,7 +95,8 @@ ListsPaths paths to (Err fault) = ⊥
 abbrev pub IsSide : (List ℕ → List PathValue → Type 0) → Allowance → Items → PagePart → List ℕ → Type 0
 IsSide IsRest allows items part cursor = (given : List PathValue) × IsRest cursor given × paths.IsPart allows items part (Ok given)
 
--- for private contracts and proofs alone: the cursor of a part is refused, or its fault is no fault of a cursor
+-- for private contracts and proofs alone: a fault is the reason why the cursor of a part is refused
 abbrev pub IsRefused : Paging → PagePart → Fault → Type 0
-IsRefused paging part (faults.Cursor e) = (items : Items) → paths.IsProgramOf paging.program.now items → paths.IsPart (may_answer paging.known.now) items part (Err e)
+IsRefused paging part (faults.Cursor e) =
+    (items : Items) → paths.IsProgramOf paging.program.now items → paths.IsPart (may_answer paging.known.now) items part (Err e)
 IsRefused paging part fault = ⊥

@@ -24,7 +24,7 @@ use crate::fault::Fault;
 use pam_dispatch::Program;
 use pam_graph::{Goal, Graph, GraphError};
 use pam_page::Listing;
-use pam_paths::{Cursor, Explorer, Known};
+use pam_paths::{Cursor, Explorer};
 use pam_words::PagePart;
 use std::alloc::Global;
 
