@@ -51,7 +51,7 @@ def flat(tree):
     files = {}
     for name, data in tree.items():
         if isinstance(data, dict):
-            files.update({name + "/" + entry: bytes_ for entry, bytes_ in data.items()})
+            files.update({name + "/" + entry: bytes_ for entry, bytes_ in flat(data).items()})
         else:
             files[name] = data
     return files

@@ -1,0 +1,17 @@
+pub mod Checking
+pub mod FileProblems
+pub mod FolderProblems
+pub mod Host
+pub mod Levels
+pub mod Looked
+pub mod Meeting
+pub mod Met
+pub mod OfFolder
+pub mod Own
+pub mod Problems
+pub mod Report
+pub mod Services
+pub mod SoFar
+pub mod StackProblems
+pub mod Table
+pub mod Verdicts
