@@ -127,6 +127,30 @@ def included_files(count):
     return make
 
 
+HOST_COMMON = {
+    "common-auth": b"auth [success=2 default=ignore] pam_unix.so nullok\nauth [success=1 default=ignore] pam_sss.so use_first_pass\n"
+                   b"auth requisite pam_deny.so\nauth required pam_permit.so\nauth optional pam_cap.so\n",
+    "common-account": b"account [success=1 new_authtok_reqd=done default=ignore] pam_unix.so\naccount requisite pam_deny.so\n"
+                      b"account required pam_permit.so\n",
+    "common-session": b"session [default=1] pam_permit.so\nsession requisite pam_deny.so\nsession required pam_permit.so\n"
+                      b"session required pam_unix.so\nsession optional pam_systemd.so\n",
+    "common-password": b"password [success=1 default=ignore] pam_unix.so obscure\npassword requisite pam_deny.so\n"
+                       b"password required pam_permit.so\n",
+    "other": b"@include common-auth\n@include common-account\n@include common-password\n@include common-session\n",
+}
+SERVICE = (b"auth requisite pam_nologin.so\n@include common-auth\naccount required pam_access.so\n@include common-account\n"
+           b"@include common-session\n@include common-password\n")
+
+
+def host(count):
+    """A number of services, each of which includes the same four files."""
+    def make(folder):
+        pam_d(**HOST_COMMON)(folder)
+        for n in range(count - len(HOST_COMMON)):
+            put(folder, "d/service%d" % n, SERVICE)
+    return make
+
+
 READERS = ["paths", "login", "account", "--dir", "d", "--access", "access", "--user", "alice", "--limit", "1"]
 
 CASES = [
@@ -154,6 +178,8 @@ CASES = [
                                                         "--rhost", "10.1.2.3"], access_tables, SIZES, 2),
     ("a time table of 1 MiB", ["time", "login", "--time", "time", "--user", "alice", "--tty", "tty1", "--at", "2024-05-06T10:00"],
      time_tables, SIZES, 1),
+    ("check of a host of 40 files", ["check", "--dir", "d"], host, (10, 20, 40), 0),
+    ("check of a host of 10,000 files", ["check", "--dir", "d"], host, (2500, 5000, 10000), 0),
 ]
 
 

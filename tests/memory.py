@@ -42,6 +42,11 @@ TABLE_PAGES = TABLES + [E17]
 DRAWINGS = PAGES + [KEPT, E17]
 TABLE_DRAWINGS = TABLE_PAGES + [KEPT, E17]
 
+# The facts and the findings; then the lists of the paths and of the services, which ask for room again where it is refused once.
+CHECKS = STACKS + [KEPT] * 2
+# With more than four paths, their list grows.
+LONG_CHECKS = STACKS + [KEPT] * 3
+
 TREE = {"d": FOLDER, "stack": {"login": STACK}, "pam.conf": b"login auth required a.so x\n" * 40, "access": ACCESS,
         "group": GROUP, "time": TIME, "returns": RETURNS,
         "big": {"login": STACK + b"session required [success=ok default=bad] a.so [d e]\n" * 2000}}
@@ -74,6 +79,9 @@ ASKED = [
     (["graph", "login", "auth", "--dir", "stack"], DRAWINGS),
     (["graph", "login", "account", "--dir", "stack", "--format", "mermaid", *ACCESS_TABLE, *TIME_TABLE, *RETURNS_FILE],
      TABLE_DRAWINGS),
+    (["check", "--dir", "d"], LONG_CHECKS),
+    (["check", "LOGIN", "--dir", "d", "--vendor-dir", "stack"], LONG_CHECKS),
+    (["check", "--conf", "pam.conf", "--fail-on", "note"], CHECKS),
     (["show", "login"], WORDS),
     (["show", "login", "atuh", "--dir", "d"], [*WORDS, UNSAID]),
     (["time", "login", "--time", "time", "--user", "alice"], [*WORDS, UNSAID]),

@@ -8,6 +8,7 @@ import re
 from itertools import islice
 
 import plain_graph
+import plain_host
 import plain_outcomes
 import plain_stacks as stacks
 import plain_tables as tables
@@ -15,18 +16,20 @@ import plain_zones as zones
 from plain_faults import Fault
 
 KNOWING = b" --access --time --group --returns --user --rhost --tty --at --at-unix --zone"
+SOURCES = b"--dir --vendor-dir --conf --root"
 OPTIONS = {
-    b"show": b"--dir --conf",
-    b"decide": b"--dir --conf",
-    b"paths": b"--dir --conf --limit --after --before --decision --asks" + KNOWING,
-    b"outcomes": b"--dir --conf" + KNOWING,
-    b"graph": b"--dir --conf --format" + KNOWING,
+    b"check": SOURCES + b" --fail-on",
+    b"show": SOURCES,
+    b"decide": SOURCES,
+    b"paths": SOURCES + b" --limit --after --before --decision --asks" + KNOWING,
+    b"outcomes": SOURCES + KNOWING,
+    b"graph": SOURCES + b" --format" + KNOWING,
     b"access": b"--access --user --group --rhost --tty",
     b"time": b"--time --user --tty --at --at-unix --zone",
 }
 REQUIRED = {b"access": [b"--access", b"--user"], b"time": [b"--time", b"--user"]}
 MOST_ARGUMENTS = {b"show": 2, b"paths": 2, b"outcomes": 2, b"graph": 2, b"time": 1}
-LEAST_ARGUMENTS = {b"show": 2, b"decide": 2, b"paths": 2, b"outcomes": 2, b"graph": 2, b"access": 1, b"time": 1}
+LEAST_ARGUMENTS = {b"check": 0, b"show": 2, b"decide": 2, b"paths": 2, b"outcomes": 2, b"graph": 2, b"access": 1, b"time": 1}
 MOST_COUNTED = 2 ** 128
 
 
@@ -107,10 +110,13 @@ class Request:
             except UnicodeDecodeError:
                 raise Fault("U1") from None
         self.command, self.arguments, self.options = parsed(words)
+        self.judge_source()
+        if self.options.get(b"--fail-on", b"warning") not in plain_host.LEVELS:
+            raise Fault("U13")
+        if self.command == b"check":
+            return
         self.service = self.arguments[0].lower()
         if self.command in (b"show", b"decide", b"paths", b"outcomes", b"graph"):
-            if (b"--dir" in self.options) == (b"--conf" in self.options):
-                raise Fault("U2")
             self.kind = self.arguments[1].lower()
             if self.kind not in stacks.KINDS:
                 raise Fault("U3")
@@ -124,6 +130,16 @@ class Request:
         self.decisions = decisions_of(self.options[b"--decision"]) if b"--decision" in self.options else set()
         if self.command in (b"paths", b"outcomes", b"graph", b"time"):
             self.judge_login_and_moment()
+
+    def judge_source(self):
+        """Refuses more than one source, or none where there is no other."""
+        if self.command in (b"access", b"time"):
+            return
+        given = [name for name in (b"--dir", b"--conf", b"--root") if name in self.options]
+        if self.command == b"check" and not given and b"--vendor-dir" not in self.options:
+            self.options[b"--root"] = b"/"
+        elif len(given) != 1 or b"--vendor-dir" in self.options and given != [b"--dir"]:
+            raise Fault("U2")
 
     def judge_login_and_moment(self):
         given = self.options
@@ -153,6 +169,9 @@ class Request:
             moment = self.moment()
             granted, line = tables.TimeTable(self.tables[b"--time"]).decide(self.login(), moment)
             return (b"granted\n", 0) if granted else (b"denied line %d\n" % line, 1)
+        if self.command == b"check":
+            host = plain_host.Host(files.form, files.files, self.arguments)
+            return plain_host.text(host, self.paths_of_files, self.options.get(b"--fail-on", b"warning"))
         items, modules = stacks.resolve(files, self.service, self.kind)
         header = b"%s %s %d modules\n" % (self.service, self.kind, len(modules))
         if self.command == b"show":
@@ -167,16 +186,42 @@ class Request:
         return header + self.page(items, modules), 0
 
     def read_source(self, tree):
-        """The files of the source, where the command has one."""
+        """The files of the source, where the command has one, and the paths under which they are read."""
+        self.paths_of_files = {}
         if b"--dir" in self.options:
-            name = self.options[b"--dir"]
-            folder = tree.get(name.decode())
+            folders = [self.options[name] for name in (b"--dir", b"--vendor-dir") if name in self.options]
+            return self.read_folders(tree, folders)
+        if b"--conf" in self.options:
+            self.paths_of_files = {None: self.options[b"--conf"], b"pam.conf": self.options[b"--conf"]}
+            return stacks.Files(stacks.SINGLE, {b"pam.conf": read(tree, self.options[b"--conf"])})
+        if b"--root" in self.options:
+            return self.read_root(tree, self.options[b"--root"])
+        return None
+
+    def read_folders(self, tree, folders):
+        """The files of a folder by name, and those of a second one whose names the first has not."""
+        files = {}
+        for name in folders:
+            folder = found(tree, name)
             if not isinstance(folder, dict):
                 raise Fault("V1", name)
-            return stacks.Files(stacks.DIR, {name.encode(): data for name, data in folder.items()})
-        if b"--conf" in self.options:
-            return stacks.Files(stacks.SINGLE, {b"pam.conf": read(tree, self.options[b"--conf"])})
-        return None
+            for file, data in sorted(folder.items(), key=lambda item: item[0].encode()):
+                if isinstance(data, bytes) and file.encode() not in files:
+                    files[file.encode()] = data
+                    self.paths_of_files[file.encode()] = joined(name, file.encode())
+        self.paths_of_files[None] = folders[0]
+        return stacks.Files(stacks.DIR, files)
+
+    def read_root(self, tree, root):
+        """The files of a system."""
+        if not isinstance(found(tree, root), dict):
+            raise Fault("V1", root)
+        folder, vendor, conf = (joined(root, name) for name in (b"etc/pam.d", b"usr/lib/pam.d", b"etc/pam.conf"))
+        if isinstance(found(tree, folder), dict):
+            return self.read_folders(tree, [folder] + [vendor] * isinstance(found(tree, vendor), dict))
+        self.paths_of_files = {None: conf, b"pam.conf": conf}
+        data = found(tree, conf)
+        return stacks.Files(stacks.SINGLE, {b"pam.conf": data} if isinstance(data, bytes) else {})
 
     def login(self):
         """The login that the words tell."""
@@ -320,9 +365,23 @@ def parsed(words):
     return command, arguments, options
 
 
+def joined(folder, name):
+    """The path of a name in a folder."""
+    return folder + name if folder.endswith(b"/") else folder + b"/" + name
+
+
+def found(tree, path):
+    """The bytes or the folder at a path, or `None`; a file of the system has its whole path as its name."""
+    if path.decode() in tree:
+        return tree[path.decode()]
+    for name in path.decode().split("/"):
+        tree = tree.get(name) if isinstance(tree, dict) else None
+    return tree
+
+
 def read(tree, name):
     """The bytes of a file that the words name."""
-    data = tree.get(name.decode())
+    data = found(tree, name)
     if not isinstance(data, bytes):
         raise Fault("V1", name)
     return data

@@ -51,6 +51,7 @@ NAMES = dict(line.split() for line in """
     U9 NoSuchModule
     U11 BothFilters
     U12 FormatName
+    U13 LevelName
     V1 Read
     V2 Write
 """.strip().splitlines())

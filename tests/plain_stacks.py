@@ -172,7 +172,7 @@ class Files:
         """The rules of a service, or `None` where it has no file."""
         if self.form == DIR:
             return rules_of(service, self.files[service], DIR) if service in self.files else None
-        rules = [rule for rule in rules_of(b"pam.conf", self.files[b"pam.conf"], SINGLE) if rule.service == service]
+        rules = [rule for rule in rules_of(b"pam.conf", self.files.get(b"pam.conf", b""), SINGLE) if rule.service == service]
         return rules or None
 
     def place(self, service, line):

@@ -7,6 +7,7 @@ A library that is loaded before that of C takes the place of its allocator. It n
 import os
 import shutil
 import subprocess
+from itertools import groupby
 
 import plain
 from memory import ASKED, TREE, UNSAID, answer_of
@@ -73,16 +74,17 @@ def due_in_turn(phases, whole, later):
 
 def judge(words, due, found, later):
     """Each answer must be that of the phase of the one before it, or of the next phase; none is left out."""
+    phases = [answer for answer, _ in groupby(due)]
     place = 0
     for number, got in enumerate(found, 1):
-        if agrees(due[place], got):
+        if agrees(phases[place], got):
             continue
         place += 1
-        if place == len(due) or number == 1 or not agrees(due[place], got):
+        if place == len(phases) or number == 1 or not agrees(phases[place], got):
             raise Difference("allocation %d refused%s\n%s" % (number, ", and the later ones" * later,
-                                                             difference(words, TREE, due[min(place, len(due) - 1)], got)))
+                                                             difference(words, TREE, phases[min(place, len(phases) - 1)], got)))
     whole = due[-1]
-    if place < len(due) - 1 or sum(agrees(whole, got) for got in found) != sum(answer == whole for answer in due):
+    if place < len(phases) - 1 or sum(agrees(whole, got) for got in found) != sum(answer == whole for answer in due):
         raise Difference("not one whole answer for each list that is kept\n%s" % difference(words, TREE, whole, found[-1]))
 
 

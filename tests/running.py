@@ -51,10 +51,19 @@ def flat(tree):
     files = {}
     for name, data in tree.items():
         if isinstance(data, dict):
-            files.update({name + "/" + entry: bytes_ for entry, bytes_ in data.items()})
+            files.update({name + "/" + entry: bytes_ for entry, bytes_ in flat(data).items()})
         else:
             files[name] = data
     return files
+
+
+def folders(tree):
+    """The folders of a tree by their paths, each before those in it."""
+    paths = []
+    for name, data in tree.items():
+        if isinstance(data, dict):
+            paths += [name, *(name + "/" + entry for entry in folders(data))]
+    return paths
 
 
 def write(name, data):
@@ -86,20 +95,26 @@ class Program:
     def __init__(self, path):
         self.path = path
         self.files = {}
+        self.folders = []
         self.out = Stream()
         self.err = Stream()
         ctypes.CDLL(None).prctl(PR_SET_CHILD_SUBREAPER, 1)
 
     def hold(self, tree):
-        """Leaves the files of this tree in the folder, and no others of an earlier tree."""
-        wanted = flat(tree)
+        """Leaves the files and folders of this tree in the folder, and no others of an earlier tree."""
+        wanted, kept = flat(tree), folders(tree)
         for name in self.files.keys() - wanted.keys():
             os.remove(name)
+        for name in reversed(self.folders):
+            if name not in kept and not os.listdir(name):
+                os.rmdir(name)
+        for name in kept:
+            os.makedirs(name, exist_ok=True)
         for name, data in wanted.items():
             if self.files.get(name) != data:
                 os.makedirs(os.path.dirname(name) or ".", exist_ok=True)
                 write(name, data)
-        self.files = wanted
+        self.files, self.folders = wanted, kept
 
     def run(self, words, stdout=None, stderr=None):
         """The answer to these words; its streams go to descriptors that are given, or are taken up."""

@@ -1,41 +1,35 @@
 -- What is read for a task: the inputs that fit it, or the input that cannot be read.
-use Rattle.std.specs.Prelude.{◌≡◌, ◌⊎◌, ⊤, true, ℕ, List, [], ◌∷◌, codes, string_bytes, Option, Some, Result, Ok, Err, is_some}
+use Rattle.std.specs.Prelude.{◌≡◌, ◌⊎◌, ⊤, true, ℕ, List, Option, Some, Result, Ok, Err, is_some}
 use Rattle.std.specs.Borrow.{Bor}
 use Rattle.std.specs.Bool.{beq}
 use Rattle.std.specs.Option.{option_copied}
 use Rattle.clap.specs.Words.{Text}
-use Rattle.pam_conf.specs.Files.{Folder}
-use Rattle.pam_conf.specs.declared.rule.Form.TheVariants as forms
 use Rattle.pam_conf.specs.declared.rule.Kind.{Kind}
 use Rattle.pam_report.specs.Inputs.{fits_knowledge, fits_task}
 use Rattle.pam_report.specs.declared.inputs.InputError.{InputError}
-use Rattle.pam_report.specs.declared.inputs.InputError.TheVariants.{Read, Memory}
 use Rattle.pam_report.specs.declared.inputs.Inputs.{Inputs}
 use Rattle.pam_report.specs.declared.inputs.Inputs.TheVariants as inputs
 use Rattle.pam_words.specs.declared.wanted.ConfSource.{ConfSource}
-use Rattle.pam_words.specs.declared.wanted.ConfSource.TheVariants.{Dir, Conf}
 use Rattle.pam_words.specs.declared.wanted.KnowledgeSource.{KnowledgeSource}
+use Rattle.pam_words.specs.declared.wanted.LevelName.{LevelName}
 use Rattle.pam_words.specs.declared.wanted.Login.{Login}
 use Rattle.pam_words.specs.declared.wanted.Moment.{Moment}
 use Rattle.pam_words.specs.declared.wanted.PagePart.{PagePart}
 use Rattle.pam_words.specs.declared.wanted.Task.{Task}
-use Rattle.pam_words.specs.declared.wanted.Task.TheVariants.{Show, Decide, Access, Time, Paths, Outcomes, Graph}
+use Rattle.pam_words.specs.declared.wanted.Task.TheVariants.{Check, Show, Decide, Access, Time, Paths, Outcomes, Graph}
+use Rattle.pam_cli.specs.Sources.{IsFrom, IsInSource, IsRead, IsUnread}
 
 -- ---- what is read
 
--- a folder's files, or one file in place of `pam.conf`
-abbrev pub IsFrom : ConfSource → Folder → Type 0
-IsFrom (Dir folder) files = files.form ≡ forms.Dir
-IsFrom (Conf name) files =
-    (bytes : List ℕ) × (files ≡ record { form = forms.Single; entries = (codes "pam.conf", bytes) ∷ [] })
-
--- a configuration is in the form of its source
+-- a configuration is read from its source, for `check` with its paths
 abbrev pub HasFiles : ConfSource → Inputs → Type 0
+HasFiles source (inputs.Host files paths) = IsRead source files paths
 HasFiles source (inputs.Stack files) = IsFrom source files
 HasFiles source (inputs.Paths files groups access time returns) = IsFrom source files
 HasFiles source given = ⊤
 
 abbrev pub HasSource : Task → Inputs → Type 0
+HasSource (Check source services fail_on) given = HasFiles source given
 HasSource (Show source kind) given = HasFiles source given
 HasSource (Decide source kind answered) given = HasFiles source given
 HasSource (Paths source kind limit part filter knowledge) given = HasFiles source given
@@ -49,11 +43,6 @@ AreInputs task given = (fits_task task given ≡ true) × HasSource task given
 
 -- ---- what cannot be read
 
--- the one file; or the folder or one of its entries, which may have any name
-abbrev pub IsInSource : ConfSource → List ℕ → Type 0
-IsInSource (Dir folder) name = ⊤
-IsInSource (Conf file) name = name ≡ file.now
-
 -- the file that is named, if there is one
 abbrev pub IsNamed : Option (List ℕ) → List ℕ → Type 0
 IsNamed named name = named ≡ Some name
@@ -66,6 +55,7 @@ IsOfKnowledge source named name =
 
 -- a name of the task's source or of a file that it names
 abbrev pub IsOfTask : Task → List ℕ → Type 0
+IsOfTask (Check source services fail_on) name = IsInSource source name
 IsOfTask (Show source kind) name = IsInSource source name
 IsOfTask (Decide source kind answered) name = IsInSource source name
 IsOfTask (Access table groups login arguments) name = IsNamed (option_copied groups) name ⊎ (name ≡ table.now)
@@ -73,11 +63,6 @@ IsOfTask (Time table login moment) name = name ≡ table.now
 IsOfTask (Paths source kind limit part filter knowledge) name = IsOfKnowledge source knowledge name
 IsOfTask (Outcomes source kind knowledge) name = IsOfKnowledge source knowledge name
 IsOfTask (Graph source kind format knowledge) name = IsOfKnowledge source knowledge name
-
--- an allocation failed, or a file with such a name cannot be read
-abbrev pub IsUnread : (List ℕ → Type 0) → InputError → Type 0
-IsUnread IsName Memory = ⊤
-IsUnread IsName (Read name) = IsName (string_bytes name)
 
 -- THE INPUTS of a task, or why there are none
 abbrev pub IsReading : Task → Result Inputs InputError → Type 0
@@ -89,6 +74,10 @@ IsReading task (Err error) = IsUnread (IsOfTask task) error
 -- a file is given if and only if one is named
 abbrev pub IsGiven : {A B : Type 0} → Option A → Option B → Type 0
 IsGiven given named = beq (is_some given) (is_some named) ≡ true
+
+-- what is read for each `check` of this source
+abbrev pub IsCheckReading : ConfSource → Result Inputs InputError → Type 0
+IsCheckReading source result = (services : List Text) (fail_on : LevelName) → IsReading (Check source services fail_on) result
 
 -- what is read for each `access` of these files
 abbrev pub IsAccessReading : Bor Text → Option (Bor Text) → Result Inputs InputError → Type 0

@@ -55,6 +55,13 @@ module_answers checks kind rows there m =
 unfoldable pub answers_at : Checks → Kind → List Row → Option (List (List ℕ)) → Items → ℕ → List ℕ
 answers_at checks kind rows there items number = option_map_or (module_answers checks kind rows there) (module_at number items) all_codes
 
+-- the same where modules that check who logs in may succeed, and where each of them fails
+abbrev pub free_answers : Kind → List Row → Option (List (List ℕ)) → Items → ℕ → List ℕ
+free_answers = answers_at MaySucceed
+
+abbrev pub failing_answers : Kind → List Row → Option (List (List ℕ)) → Items → ℕ → List ℕ
+failing_answers = answers_at Fail
+
 -- a knowledge allows each of the modules 1 to n exactly these codes
 abbrev pub Allows : ℕ → Known → (ℕ → List ℕ) → Type 0
 Allows n known codes = (number code : ℕ) → 1 ≤ number → number ≤ n → code < 31 → may_answer known number code ≡ is_in code (codes number)

@@ -17,7 +17,7 @@ use Rattle.pam_report.specs.declared.inputs.Inputs.{Inputs}
 use Rattle.pam_report.specs.declared.report.Status.{Status}
 use Rattle.pam_report.specs.declared.report.replies.Reply as declared
 use Rattle.pam_words.specs.declared.wanted.Task.{Task}
-use Rattle.pam_words.specs.declared.wanted.Task.TheVariants.{Show, Decide, Access, Time, Paths, Outcomes, Graph}
+use Rattle.pam_words.specs.declared.wanted.Task.TheVariants.{Show, Decide, Access, Time, Paths, Outcomes, Graph, Check}
 use Rattle.pam_print.specs.Leaves.{LeavesFault, LeavesSome, Prints}
 use Rattle.pam_print.specs.Text.{IsText}
 
@@ -31,6 +31,7 @@ answers-by One Other go service (Time table login moment) files inputs h = (h.0,
 answers-by One Other go service (Paths source kind limit part filter knowledge) files inputs h = (h.0, h.1, go _ h.2)
 answers-by One Other go service (Outcomes source kind knowledge) files inputs h = (h.0, h.1, go _ h.2)
 answers-by One Other go service (Graph source kind format knowledge) files inputs h = (h.0, h.1, go _ h.2)
+answers-by One Other go service (Check source services fail_on) files inputs h = go _ h
 
 module _ {W : Type 0} (contents : W → Option (List ℕ)) (old new : Out W) where
   -- the text of a reply is written, and what is told of it is this
@@ -79,7 +80,7 @@ module _ {W : Type 0} (contents : W → Option (List ℕ)) (old new : Out W) whe
   unprinted (faults.Table e) reply h IsAnswer is = absurd h
   unprinted (faults.Time e) reply h IsAnswer is = absurd h
 
-  -- if it is for want of memory, it is a page or a drawing
+  -- if it is for want of memory, it is a page, a drawing or a check
   pub unprinted-wants : (wants : Wants) (fault : Fault) (reply : Reply) → Prints contents old new (Err fault) reply
       → (wants_memory reply ≡ true → wants.work ≡ true) → IsWanting wants fault
   unprinted-wants wants faults.Device reply h works = tt
@@ -106,7 +107,7 @@ no_page service kind files (Ok items) = refl
 not_both : true ≡ false → ⊥
 not_both both = cc
 
--- a page or a drawing is the reply of a task that may want memory for what is made
+-- a page, a drawing or a check is the reply of a task that may want memory for what is made
 pub page-wants : (service : List ℕ) (task : Task) (files : Folder) (inputs : Inputs) (reply : declared.Reply)
     → AnswersBy (Finds (Ok reply)) service task files inputs → wants_memory (reply_view reply) ≡ true → (wants_of task inputs).work ≡ true
 page-wants service (Show source kind) files inputs reply h page = absurd (not_both (sym page ∙ ap page_in (sym h) ∙ no_page service kind files _))
@@ -116,3 +117,4 @@ page-wants service (Time table login moment) files inputs reply h page = refl
 page-wants service (Paths source kind limit part filter knowledge) files inputs reply h page = refl
 page-wants service (Outcomes source kind knowledge) files inputs reply h page = refl
 page-wants service (Graph source kind format knowledge) files inputs reply h page = refl
+page-wants service (Check source services fail_on) files inputs reply h page = refl

@@ -1,3 +1,6 @@
+pub mod CheckFindings
+pub mod CheckMet
+pub mod CheckTexts
 pub mod Drawings
 pub mod FlatTexts
 pub mod ItemTexts

@@ -1,5 +1,5 @@
 -- The text of a page, from its header, its side and its paths.
-use Rattle.std.proofs.Common.{◌≡◌, ℕ, List, ◌++◌, Ok, Err, Option, ap, max, refl}
+use Rattle.std.proofs.Common.{◌≡◌, ℕ, List, ◌++◌, Result, Ok, Err, Option, ap, max, refl, subst, sym}
 use Rattle.pam_codes.specs.Out.{Out}
 use Rattle.pam_conf.specs.Stack.{module_count}
 use Rattle.pam_conf.specs.declared.rule.Kind.{Kind}
@@ -8,7 +8,7 @@ use Rattle.pam_page.specs.Coming.{coming, side}
 use Rattle.pam_page.specs.Page.{first_page, page_text as lines_text}
 use Rattle.pam_page.specs.declared.listing.Listing.{Listing}
 use Rattle.pam_paths.specs.Paths.{PathValue}
-use Rattle.pam_report.specs.PageView.{FindsPage}
+use Rattle.pam_report.specs.PageView.{FindsPage, RendersFound}
 use Rattle.pam_report.specs.Paths.{side_of}
 use Rattle.pam_report.specs.Reply.{Page, PageValue}
 use Rattle.pam_report.specs.declared.fault.Fault.{Fault}
@@ -51,3 +51,13 @@ listing-refused K contents old new page (faults.Count e) h same = absurd h
 listing-refused K contents old new page (faults.Moment e) h same = absurd h
 listing-refused K contents old new page (faults.Table e) h same = absurd h
 listing-refused K contents old new page (faults.Time e) h same = absurd h
+
+-- what is written of a page, from what is written of its listing
+pub printed-by : (K : Type 0) {W : Type 0} (contents : W → Option (List ℕ)) (old new : Out W) (page : PageValue) (result : Result (Unit {0}) Fault)
+    (found : Result (Listing K) Fault) → FindsPage page found
+    → RendersFound (λ (listing : Listing K) old new result. FindsPage page (Ok listing) → Prints contents old new result (Page page)) old new result found
+    → Prints contents old new result (Page page)
+printed-by K contents old new page result (Ok listing) h rendered = rendered h
+printed-by K contents old new page result (Err fault) h rendered =
+    subst (λ (r : Result (Unit {0}) Fault). Prints contents old new r (Page page)) (sym rendered.1)
+    (listing-refused K contents old new page fault h rendered.0)

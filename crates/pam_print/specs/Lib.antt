@@ -1,10 +1,13 @@
 pub mod Answer
+pub mod Check
+pub mod CheckNames
 pub mod Decide
 pub mod Drawing
 pub mod Header
 pub mod Leaves
 pub mod Outcomes
 pub mod Page
+pub mod Sentences
 pub mod Show
 pub mod Tables
 pub mod Text

@@ -1,7 +1,8 @@
 -- The text of a reply.
 use Rattle.std.specs.Prelude.{◌≡◌, ℕ, List, Result, Ok}
 use Rattle.pam_paths.specs.declared.cursor.CursorError.{CursorError}
-use Rattle.pam_report.specs.Reply.{Reply, Stack, Run, Access, Time, Outcomes, Drawing, Page}
+use Rattle.pam_report.specs.Reply.{Reply, Stack, Run, Access, Time, Outcomes, Drawing, Page, Check}
+use Rattle.pam_print.specs.Check.{check_text}
 use Rattle.pam_print.specs.Decide.{run_text}
 use Rattle.pam_print.specs.Drawing.{drawing_text}
 use Rattle.pam_print.specs.Outcomes.{outcomes_text}
@@ -18,3 +19,4 @@ IsText (Time found) text = text ≡ Ok (time_text found)
 IsText (Outcomes outcomes) text = text ≡ Ok (outcomes_text outcomes)
 IsText (Drawing drawing) text = text ≡ Ok (drawing_text drawing)
 IsText (Page page) text = IsPageText page text
+IsText (Check found) text = text ≡ Ok (check_text found)

@@ -1,6 +1,7 @@
 //! The text of answers: each reply of `pam_report` is written as text, and nowhere else.
 #![tactic(auto)]
 
+mod check;
 mod decide;
 mod drawing;
 mod header;

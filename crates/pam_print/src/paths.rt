@@ -14,7 +14,7 @@ use crate::header::put_header;
 use pam_codes::{Device, Out};
 use pam_page::{LineTexts, Listing, put_page};
 use pam_paths::Known;
-use pam_report::{Fault, PathsPage};
+use pam_report::{Fault, PageRenderer, PathsPage};
 use std::alloc::Global;
 use std::io::Write;
 
@@ -54,8 +54,7 @@ fn write_listed<W: Write>(
     listing: &mut Listing<'_, Known>,
     out: &mut Out<W>,
 ) -> Result<(), Fault>
-    requires { FindsPage (page_value page.now) (Ok listing.old) }
-    ensures { Prints W.contents out.old out.new result (Page (page_value page.now)) }
+    ensures { FindsPage (page_value page.now) (Ok listing.old) → Prints W.contents out.old out.new result (Page (page_value page.now)) }
 {
     let texts = match LineTexts::new(alloc) {
         Ok(texts) => texts,
@@ -67,9 +66,24 @@ fn write_listed<W: Write>(
     }
 }
 
+/// Renders a page as text.
+#[derive(Clone, Copy)]
+struct PageText<'p> {
+    alloc: Global,
+    page: &'p PathsPage<'p>,
+}
+
+impl<W: Write> PageRenderer<Out<W>> for PageText<'_> {
+    ghost renders = { λ text listing old new result. FindsPage (page_value text.page.now) (Ok listing)
+        → Prints W.contents old new result (Page (page_value text.page.now)) };
+
+    fn render(&self, listing: &mut Listing<'_, Known>, out: &mut Out<W>) -> Result<(), Fault> {
+        write_listed(self.alloc, self.page, listing, out)
+    }
+}
+
 /// Writes a page. Finds a cursor that is refused before the first byte.
-// A listing has 27 kB. So this is never inlined, else each command has room for it; it stays where `listing` puts it, and what
-// comes next borrows it.
+// Never inlined, else each command has room for what it has.
 #[inline(never)]
 pub(crate) fn write_page<W: Write>(
     alloc: Global,
@@ -78,8 +92,5 @@ pub(crate) fn write_page<W: Write>(
 ) -> Result<(), Fault>
     ensures { Prints W.contents out.old out.new result (Page (page_value page.now)) }
 {
-    match page.listing(alloc) {
-        Ok(mut listing) => write_listed(alloc, page, &mut listing, out),
-        Err(fault) => Err(fault),
-    }
+    page.render(alloc, &PageText { alloc, page }, out)
 }

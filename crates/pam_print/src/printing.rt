@@ -6,6 +6,7 @@ ghost use Rattle.pam_report.specs.declared.fault.Fault.TheVariants as faults;
 ghost use Rattle.pam_print.specs.Answer.{Answers};
 ghost use Rattle.pam_print.specs.Leaves.{Prints};
 
+use crate::check::write_check;
 use crate::decide::write_run;
 use crate::drawing::write_drawing;
 use crate::outcomes::write_outcomes;
@@ -20,8 +21,8 @@ use std::io::Write;
 
 /// Writes the text of a reply, and flushes once, at its end.
 ///
-/// For a page of paths, a cursor that is refused is found before the first byte is written; for a page and a drawing, so is want
-/// of memory. Nothing is allocated after it.
+/// For a page of paths, a cursor that is refused is found before the first byte is written; for a page, a drawing and a check, so
+/// is want of memory. Nothing is allocated after it.
 pub fn print<W: Write>(alloc: Global, reply: &Reply<'_>, out: &mut Out<W>) -> Result<(), Fault>
     ensures { Prints W.contents out.old out.new result (reply_view reply.now) }
 {
@@ -31,6 +32,7 @@ pub fn print<W: Write>(alloc: Global, reply: &Reply<'_>, out: &mut Out<W>) -> Re
         Reply::Access(answer) => told(write_access(*answer, out)),
         Reply::Time(answer) => told(write_time(*answer, out)),
         Reply::Outcomes(outcomes) => told(write_outcomes(outcomes, out)),
+        Reply::Check(check) => write_check(alloc, check, out),
         Reply::Graph(drawing) => write_drawing(alloc, drawing, out),
         Reply::Paths(page) => write_page(alloc, page, out),
     }

@@ -5,4 +5,5 @@ pub mod KnownStacks
 pub mod OutcomeLists
 pub mod PageParts
 pub mod TraceSteps
+pub mod WalkPages
 pub mod Wanting

@@ -25,10 +25,11 @@ use Rattle.pam_times.specs.declared.moments.MomentError.{MomentError}
 use Rattle.pam_times.specs.declared.times.TimeAnswer.{TimeAnswer}
 use Rattle.pam_words.specs.declared.wanted.Login.{Login}
 use Rattle.pam_words.specs.declared.wanted.Task.{Task}
-use Rattle.pam_words.specs.declared.wanted.Task.TheVariants.{Show, Decide, Access, Time, Paths, Outcomes, Graph}
+use Rattle.pam_words.specs.declared.wanted.Task.TheVariants.{Show, Decide, Access, Time, Paths, Outcomes, Graph, Check}
+use Rattle.pam_report.specs.Check.{IsCheck}
 use Rattle.pam_report.specs.Decide.{asked_modules}
 use Rattle.pam_report.specs.Graph.{IsGraphReply}
-use Rattle.pam_report.specs.Inputs.{access_given, files_given, group_file, groups_in, no_files, time_given}
+use Rattle.pam_report.specs.Inputs.{access_given, files_given, group_file, groups_in, no_files, paths_given, time_given}
 use Rattle.pam_report.specs.KnownStack.{KnownItems, known_stack}
 use Rattle.pam_report.specs.Finds.{Finds, IsTableFault, IsTimeFault}
 use Rattle.pam_report.specs.Memory.{WantsOnly, wants}
@@ -127,6 +128,7 @@ module _ (Gives : (Answer → Type 0) → Type 0) where
   AnswersBy service (Outcomes source kind knowledge) files inputs =
       (at : Option (Result DateTime MomentError)) × IsGivenMoment knowledge.moment at
       × Gives (IsOutcomes service kind (stack_at service kind knowledge.login inputs at files))
+  AnswersBy service (Check source services fail_on) files inputs = Gives (IsCheck services fail_on files (paths_given inputs))
   AnswersBy service (Graph source kind format knowledge) files inputs =
       (at : Option (Result DateTime MomentError)) × IsGivenMoment knowledge.moment at
       × Gives (IsGraphReply format service kind (stack_at service kind knowledge.login inputs at files))

@@ -42,6 +42,7 @@ usage_row usage.Memory = row (codes "U7 Memory") 6
 usage_row usage.BothEnds = row (codes "U8 BothEnds") 2
 usage_row usage.BothFilters = row (codes "U11 BothFilters") 2
 usage_row usage.FormatName = row (codes "U12 FormatName") 2
+usage_row usage.LevelName = row (codes "U13 LevelName") 2
 
 -- ---- the configuration
 

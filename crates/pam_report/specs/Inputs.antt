@@ -1,5 +1,5 @@
 -- The tables that a request is answered from: access.conf(5), group(5), time.conf(5).
-use Rattle.std.specs.Prelude.{ℕ, List, [], Option, Some, None, Result, Ok, Vec, Bool, true, false, is_some, option_map, ◌&&◌}
+use Rattle.std.specs.Prelude.{ℕ, suc, ◌==◌, List, [], length, Option, Some, None, Result, Ok, Vec, Bool, true, false, is_some, option_map, ◌&&◌}
 use Rattle.std.specs.Bool.{beq}
 use Rattle.std.specs.Global.{Global}
 use Rattle.jiff.specs.Types.{DateTime}
@@ -10,16 +10,22 @@ use Rattle.pam_tables.specs.Groups.{Group, groups_of}
 use Rattle.pam_tables.specs.declared.error.TableFault.{TableFault}
 use Rattle.pam_words.specs.declared.wanted.Task.{Task}
 use Rattle.pam_words.specs.declared.wanted.KnowledgeSource.{KnowledgeSource}
-use Rattle.pam_words.specs.declared.wanted.Task.TheVariants.{Show, Decide, Access, Time, Paths, Outcomes, Graph}
+use Rattle.pam_words.specs.declared.wanted.Task.TheVariants.{Check, Show, Decide, Access, Time, Paths, Outcomes, Graph}
 use Rattle.pam_report.specs.declared.inputs.Inputs.{Inputs}
 use Rattle.pam_report.specs.declared.inputs.Inputs.TheVariants as inputs
 
 -- the configuration, unless these are the inputs of `access` or `time`
 abbrev pub files_given : Inputs → Option Folder
+files_given (inputs.Host files paths) = Some files
 files_given (inputs.Stack files) = Some files
 files_given (inputs.Paths files groups access time returns) = Some files
 files_given (inputs.Access table groups) = None
 files_given (inputs.Time table) = None
+
+-- the paths of a configuration and of its files, as far as they are known
+abbrev pub paths_given : Inputs → List (List ℕ)
+paths_given (inputs.Host files paths) = paths
+paths_given _ = []
 
 -- no files
 abbrev pub no_files : Folder
@@ -55,8 +61,13 @@ fits_knowledge named (inputs.Paths files groups access time returns) =
     && beq (is_some returns) (is_some named.returns)))
 fits_knowledge named _ = false
 
+-- a path for the whole configuration, and one for each file
+abbrev pub has_paths : Folder → List (List ℕ) → Bool
+has_paths files paths = length paths == suc (length files.entries)
+
 -- the contents of exactly the files that a task names are given
 abbrev pub fits_task : Task → Inputs → Bool
+fits_task (Check source services fail_on) (inputs.Host files paths) = has_paths files paths
 fits_task (Show source kind) (inputs.Stack files) = true
 fits_task (Decide source kind answered) (inputs.Stack files) = true
 fits_task (Access name groups_named login arguments) (inputs.Access table groups) = beq (is_some groups) (is_some groups_named)

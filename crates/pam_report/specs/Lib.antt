@@ -1,4 +1,5 @@
 pub mod Answer
+pub mod Check
 pub mod Decide
 pub mod Fault
 pub mod FaultTable

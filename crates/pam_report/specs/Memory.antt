@@ -7,7 +7,7 @@ use Rattle.pam_tables.specs.declared.error.Table.TheVariants.{Access as AccessTa
 use Rattle.pam_tables.specs.declared.error.TableFault.TheVariants as reasons
 use Rattle.pam_times.specs.declared.error.TimeFault.TheVariants as times
 use Rattle.pam_words.specs.declared.wanted.Task.{Task}
-use Rattle.pam_words.specs.declared.wanted.Task.TheVariants.{Show, Decide, Access, Time, Paths, Outcomes, Graph}
+use Rattle.pam_words.specs.declared.wanted.Task.TheVariants.{Check, Show, Decide, Access, Time, Paths, Outcomes, Graph}
 use Rattle.pam_report.specs.Inputs.{group_file}
 use Rattle.pam_report.specs.declared.fault.Fault.{Fault}
 use Rattle.pam_report.specs.declared.fault.Fault.TheVariants as faults
@@ -53,6 +53,7 @@ of_paths given = record {
 
 -- THE WANTS of a task with these inputs
 abbrev pub wants : Task → Inputs → Wants
+wants (Check source services fail_on) inputs = of_stack true
 wants (Show source kind) inputs = of_stack false
 wants (Decide source kind answered) inputs = of_stack true
 wants (Access table groups login arguments) inputs = of_tables true (is_some (group_file inputs)) false

@@ -1,10 +1,19 @@
 -- A reply: the value that answers a request.
+use Rattle.std.specs.BTreeMap.{BTreeMap}
+use Rattle.std.specs.List.{list_any}
 use Rattle.std.specs.Prelude.{ℕ, List, Option, Result, Bool, true, false, ◌==◌, if◌then◌else◌}
 use Rattle.pam_conf.specs.Files.{Folder}
 use Rattle.pam_conf.specs.Stack.{Items}
+use Rattle.pam_conf.specs.declared.rule.Form.{Form}
 use Rattle.pam_conf.specs.declared.rule.Kind.{Kind}
 use Rattle.pam_dispatch.specs.declared.flat_item.FlatItem.{FlatItem}
 use Rattle.pam_graph.specs.Walks.{GraphValue}
+use Rattle.pam_host.specs.Levels.{level_of}
+use Rattle.pam_host.specs.declared.level.Level.{Level}
+use Rattle.pam_host.specs.declared.level.Level.TheVariants as levels
+use Rattle.pam_host.specs.declared.problem.Place.{Place}
+use Rattle.pam_host.specs.declared.report.Finding.{Finding}
+use Rattle.pam_host.specs.declared.way_in.WayIn.{WayIn}
 use Rattle.pam_graph.specs.declared.goal.Goal.{Goal}
 use Rattle.pam_paths.specs.Listing.{Allowance}
 use Rattle.pam_paths.specs.Paths.{PathValue}
@@ -13,6 +22,8 @@ use Rattle.pam_tables.specs.declared.access.AccessAnswer.TheVariants as access
 use Rattle.pam_times.specs.declared.times.TimeAnswer.{TimeAnswer}
 use Rattle.pam_times.specs.declared.times.TimeAnswer.TheVariants as times
 use Rattle.pam_words.specs.declared.wanted.GraphFormat.{GraphFormat}
+use Rattle.pam_words.specs.declared.wanted.LevelName.{LevelName}
+use Rattle.pam_words.specs.declared.wanted.LevelName.TheVariants as names
 use Rattle.pam_words.specs.declared.wanted.PagePart.{PagePart}
 use Rattle.pam_report.specs.Decide.{AskedModule}
 use Rattle.pam_report.specs.declared.fault.Fault.{Fault}
@@ -69,6 +80,16 @@ pub record PageValue : Type 0 where
   pub limit : ℕ
   pub part : PagePart
 
+-- the findings of a host: the path of its configuration and of each file, the services that were checked, the first way in of
+-- each, and the least level that makes the status a refusal
+pub record CheckValue : Type 0 where
+  pub form : Form
+  pub paths : List (List ℕ)
+  pub services : List (List ℕ)
+  pub found : BTreeMap Place Finding
+  pub ways_in : List (Option WayIn)
+  pub fail_on : LevelName
+
 pub data Reply : Type 0 where
   Stack : StackValue → Reply
   Run : RunValue → Reply
@@ -77,6 +98,7 @@ pub data Reply : Type 0 where
   Outcomes : OutcomesValue → Reply
   Drawing : DrawingValue → Reply
   Page : PageValue → Reply
+  Check : CheckValue → Reply
 
 -- a reply, or the first fault
 abbrev pub Answer : Type 0
@@ -94,17 +116,30 @@ abbrev pub time_status : TimeAnswer → Status
 time_status times.Granted = Success
 time_status (times.Denied line) = Refusal
 
+-- a finding of this level counts
+abbrev pub counts : LevelName → Level → Bool
+counts names.Note level = true
+counts names.Warning levels.Note = false
+counts names.Warning level = true
+counts names.Error levels.Error = true
+counts names.Error level = false
+
+abbrev pub check_status : CheckValue → Status
+check_status value = if list_any (λ entry. counts value.fail_on (level_of entry.1.problem)) value.found.entries then Refusal else Success
+
 -- THE STATUS of a reply
 abbrev pub status_of : Reply → Status
 status_of (Run run) = status_of_decision run.decision
 status_of (Access found) = access_status found
 status_of (Time found) = time_status found
+status_of (Check found) = check_status found
 status_of _ = Success
 
--- memory is wanted to print a reply: for the lines of a page, and for the title of a drawing
+-- memory is wanted to print a reply: for the lines of a page, for the title of a drawing, and for the names of a check
 abbrev pub wants_memory : Reply → Bool
 wants_memory (Page page) = true
 wants_memory (Drawing drawing) = true
+wants_memory (Check found) = true
 wants_memory _ = false
 
 abbrev pub status_number : Status → ℕ

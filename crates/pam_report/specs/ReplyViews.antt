@@ -1,9 +1,11 @@
 -- The values of replies.
-use Rattle.std.specs.Prelude.{List, map, option_map, unwrap_or}
+use Rattle.std.specs.Option.{option_map_or}
+use Rattle.std.specs.Prelude.{List, [], map, option_map, unwrap_or}
 use Rattle.pam_report.specs.Decide.{AskedModule}
 use Rattle.pam_report.specs.Inputs.{no_files}
 use Rattle.pam_report.specs.PageView.{page_value}
 use Rattle.pam_report.specs.Reply as spec
+use Rattle.pam_report.specs.declared.report.check.CheckReply.{CheckReply}
 use Rattle.pam_report.specs.declared.report.graph.GraphReply.{GraphReply}
 use Rattle.pam_report.specs.declared.report.outcomes.Outcome.{Outcome}
 use Rattle.pam_report.specs.declared.report.outcomes.OutcomesReply.{OutcomesReply}
@@ -48,6 +50,16 @@ outcomes_view o = record {
 abbrev pub drawing_view : GraphReply → spec.DrawingValue
 drawing_view d = record { service = d.service.now; kind = d.kind; items = d.stack; format = d.format; graph = d.graph }
 
+abbrev pub check_view : CheckReply → spec.CheckValue
+check_view c = record {
+  form = c.form;
+  paths = option_map_or (λ paths. paths.now) c.paths [];
+  services = c.report.services;
+  found = c.report.found;
+  ways_in = c.report.ways_in.items;
+  fail_on = c.fail_on;
+}
+
 -- THE VALUE of a reply
 abbrev pub reply_view : Reply → spec.Reply
 reply_view (replies.Stack stack) = spec.Stack (stack_view stack)
@@ -56,4 +68,5 @@ reply_view (replies.Access found) = spec.Access found
 reply_view (replies.Time found) = spec.Time found
 reply_view (replies.Outcomes outcomes) = spec.Outcomes (outcomes_view outcomes)
 reply_view (replies.Graph drawing) = spec.Drawing (drawing_view drawing)
+reply_view (replies.Check check) = spec.Check (check_view check)
 reply_view (replies.Paths page) = spec.Page (page_value page)

@@ -4,6 +4,7 @@ ghost use Rattle.std.specs.Prelude.{◌≡◌, ◌++◌, ◌≤◌, IfOk, OnOk, 
 ghost use Rattle.pam_codes.specs.Line.{line_text, piece_text};
 ghost use Rattle.pam_report.specs.Fault as spec;
 ghost use Rattle.pam_report.specs.Fault.{IsNumbered};
+ghost use Rattle.pam_report.specs.FaultTable.{conf_row as conf_fault_row};
 ghost use Rattle.pam_report.specs.FaultViews.{row_view};
 
 mod row;
@@ -211,6 +212,13 @@ pub fn fault_text(alloc: Global, fault: &Fault, files: &Files) -> Result<Vec<u8>
         | Fault::Device
         | Fault::Memory => line(alloc, row, &[]),
     }
+}
+
+/// Returns the number and the name of a fault of the configuration, as `E15 NoService`.
+pub fn conf_name(kind: FaultKind) -> &'static str
+    ensures { result.now ≡ (conf_fault_row kind).name }
+{
+    conf_row(kind).name
 }
 
 /// Returns the exit status of a fault.

@@ -1,13 +1,14 @@
 //! The contents of the files that a request names.
 
 ghost use Rattle.std.specs.Prelude.{◌≡◌, None, option_map};
-ghost use Rattle.pam_report.specs.Inputs.{tables_given as tables_in, timed as timed_text};
+ghost use Rattle.pam_report.specs.Inputs.{has_paths as has_paths_in, tables_given as tables_in, timed as timed_text};
 ghost use Rattle.pam_report.specs.Known.{with_time};
 ghost use Rattle.pam_known.specs.Tables.{tables_view, timed_view};
 
 use jiff::civil::DateTime;
 use pam_conf::Files;
 use pam_known::{Tables, TimedTable};
+use pam_text::Texts;
 use pam_words::{KnowledgeSource, Request, Task};
 use std::alloc::{AllocError, AllocFailed};
 use thiserror::Error;
@@ -45,6 +46,12 @@ impl<T: Drop> From<AllocFailed<T>> for InputError {
 /// The contents of the files that a request names. A group file, or a table of `paths`, that is not named is `None`.
 #[derive(Drop)]
 pub enum Inputs {
+    /// For `check`. The first path is that of the whole configuration, and each other one that under which a file was
+    /// read, in the order of the files.
+    Host {
+        files: Files,
+        paths: Texts,
+    },
     /// For `show` and `decide`.
     Stack(Files),
     Access {
@@ -65,14 +72,16 @@ pub enum Inputs {
 }
 
 impl Inputs {
-    ghost use Rattle.std.specs.Prelude.{◌≡◌, option_map};
-    ghost use Rattle.pam_report.specs.Inputs.{access_given, files_given, fits_knowledge, fits_task, group_file, time_given};
+    ghost use Rattle.std.specs.Prelude.{◌≡◌, [], option_map};
+    ghost use Rattle.std.specs.Option.{option_map_or};
+    ghost use Rattle.pam_report.specs.Inputs.{access_given, files_given, fits_knowledge, fits_task, group_file, paths_given, time_given};
 
-    /// Whether these are the contents of exactly the files that the request names.
+    /// Whether these are the contents of exactly the files that the request names, each with its path for `check`.
     pub fn fits(&self, request: &Request<'_>) -> bool
         ensures { result ≡ fits_task request.now.task self.now }
     {
         match (self, &request.task) {
+            (Inputs::Host { files, paths }, Task::Check { .. }) => has_paths(files, paths),
             (Inputs::Stack(_), Task::Show { .. }) => true,
             (Inputs::Stack(_), Task::Decide { .. }) => true,
             (Inputs::Access { groups, .. }, Task::Access { groups: named, .. }) => {
@@ -112,10 +121,21 @@ impl Inputs {
         ensures { option_map (λ f. f.now) result ≡ files_given self.now }
     {
         match self {
+            Inputs::Host { files, .. } => Some(files),
             Inputs::Stack(files) => Some(files),
             Inputs::Paths { files, .. } => Some(files),
             Inputs::Access { .. } => None,
             Inputs::Time { .. } => None,
+        }
+    }
+
+    /// Returns the paths of a configuration and of its files, for `check`.
+    pub(crate) fn paths(&self) -> Option<&Texts>
+        ensures { option_map_or (λ paths. paths.now) result [] ≡ paths_given self.now }
+    {
+        match self {
+            Inputs::Host { paths, .. } => Some(paths),
+            _ => None,
         }
     }
 
@@ -148,6 +168,13 @@ impl Inputs {
             _ => b"",
         }
     }
+}
+
+/// Whether there is a path for the whole configuration and for each file.
+fn has_paths(files: &Files, paths: &Texts) -> bool
+    ensures { result ≡ has_paths_in files.now paths.now }
+{
+    paths.len() > files.len() && paths.len() - files.len() == 1
 }
 
 fn slice_given(bytes: &Option<Vec<u8>>) -> Option<&[u8]>

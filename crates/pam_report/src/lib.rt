@@ -7,10 +7,10 @@ mod inputs;
 mod report;
 
 pub use fault::{
-    Fault, fault_status, fault_text, input_status, input_text, usage_status, usage_text,
+    Fault, conf_name, fault_status, fault_text, input_status, input_text, usage_status, usage_text,
 };
 pub use inputs::{InputError, Inputs};
 pub use report::{
-    AskedModule, GraphReply, Outcome, Outcomes, OutcomesReply, PathsPage, Reply, RunReply,
-    StackReply, Status, Trace, path_at, reply_to,
+    AskedModule, CheckReply, GraphReply, Outcome, Outcomes, OutcomesReply, PageRenderer, PathsPage,
+    Reply, RunReply, StackReply, Status, Trace, path_at, reply_to,
 };

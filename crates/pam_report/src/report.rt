@@ -8,6 +8,7 @@ ghost use Rattle.pam_report.specs.Memory.{WantsOnly, wants};
 ghost use Rattle.pam_report.specs.Reply.{status_number};
 
 mod access;
+mod check;
 mod decide;
 mod goal_pages;
 mod graph;
@@ -15,6 +16,7 @@ mod known_stack;
 mod login;
 mod outcomes;
 mod paths;
+mod renderer;
 mod replies;
 mod show;
 mod time;
@@ -23,6 +25,8 @@ mod trace;
 use crate::fault::Fault;
 use crate::inputs::Inputs;
 use access::answer_access;
+pub use check::CheckReply;
+use check::checked;
 pub use decide::RunReply;
 use decide::decided;
 pub use graph::GraphReply;
@@ -34,6 +38,7 @@ use pam_conf::{Files, Form, Kind};
 use pam_words::{KnowledgeSource, Request, Task};
 pub use paths::PathsPage;
 use paths::{PageRequest, answer_paths};
+pub use renderer::PageRenderer;
 pub use replies::Reply;
 pub use show::StackReply;
 use show::shown;
@@ -63,7 +68,7 @@ impl Status {
     }
 }
 
-/// Returns the reply to a request, or its first fault. A fault of the cursor of `paths` comes later: see `PathsPage::listing`.
+/// Returns the reply to a request, or its first fault. A fault of the cursor of `paths` comes later: see `PathsPage::render`.
 ///
 /// Inputs of another command have no files and no tables that this one uses; see `Inputs::fits`.
 pub fn reply_to<'a>(
@@ -108,6 +113,11 @@ fn reply_from<'a>(
 {
     let service = request.service;
     match &request.task {
+        Task::Check {
+            services,
+            fail_on,
+            ..
+        } => checked(alloc, services, *fail_on, files, inputs),
         Task::Show { kind, .. } => shown(alloc, service, *kind, files, inputs.files()),
         Task::Decide { kind, codes, .. } => decided(alloc, service, *kind, codes, files),
         Task::Access {

@@ -14,12 +14,16 @@ use Rattle.pam_words.specs.Decisions.{codes_named, decisions_of}
 use Rattle.pam_words.specs.Words.{number_parser}
 use Rattle.pam_words.specs.declared.wanted.GraphFormat.{GraphFormat}
 use Rattle.pam_words.specs.declared.wanted.GraphFormat.TheVariants.{Dot, Mermaid}
+use Rattle.pam_words.specs.declared.wanted.LevelName.{LevelName}
+use Rattle.pam_words.specs.declared.wanted.LevelName.TheVariants.{Error, Warning, Note}
 use Rattle.pam_words.specs.declared.wanted.PathFilter.{PathFilter}
 use Rattle.pam_words.specs.declared.wanted.PathFilter.TheVariants.{All, Decides, Asks}
 
 pub data SourceText : Type 0 where
   dir : Text → SourceText
+  over : Text → Text → SourceText
   conf : Text → SourceText
+  root : Text → SourceText
 
 pub data MomentText : Type 0 where
   civil : Text → MomentText
@@ -75,7 +79,14 @@ pub record GraphTask : Type 0 where
   pub format : GraphFormat
   pub knowledge : KnowledgeText
 
+-- the services are all if none is named
+pub record CheckTask : Type 0 where
+  pub source : SourceText
+  pub services : List Text
+  pub fail_on : LevelName
+
 pub data TaskText : Type 0 where
+  check : CheckTask → TaskText
   show : SourceText → Kind → TaskText
   decide : SourceText → Kind → List ℕ → TaskText
   access : AccessTask → TaskText
@@ -88,12 +99,13 @@ pub record RequestText : Type 0 where
   pub service : Text
   pub task : TaskText
 
--- U2 to U6, U8, U11 and U12
+-- U2 to U6, U8, U11 to U13
 pub data Refusal : Type 0 where
   source : Refusal
   kind_name : Refusal
   code_name : Refusal
   format_name : Refusal
+  level_name : Refusal
   login : Refusal
   moment : Refusal
   both_ends : Refusal
@@ -113,15 +125,26 @@ texts_of id rows = unwrap_or (all_of id rows) []
 abbrev pub has : Text → List Row → Bool
 has id rows = is_some (first_of id rows)
 
--- the source: `--dir` or `--conf`, exactly one
-abbrev pub one_source : Option Text → Option Text → Option SourceText
-one_source (Some name) None = Some (dir name)
-one_source None (Some name) = Some (conf name)
-one_source (Some name) (Some other) = None
-one_source None None = None
+-- the source: `--dir`, `--conf` or `--root`, exactly one, and `--vendor-dir` with `--dir` alone. The columns are the values of
+-- `--dir`, `--vendor-dir`, `--conf` and `--root`
+abbrev pub one_source : Option Text → Option Text → Option Text → Option Text → Option SourceText
+one_source (Some folder) None None None = Some (dir folder)
+one_source (Some folder) (Some vendor) None None = Some (over folder vendor)
+one_source None None (Some file) None = Some (conf file)
+one_source None None None (Some folder) = Some (root folder)
+one_source _ _ _ _ = None
 
 abbrev pub source_of : List Row → Option SourceText
-source_of rows = one_source (first_of (codes "dir") rows) (first_of (codes "conf") rows)
+source_of rows =
+    one_source (first_of (codes "dir") rows) (first_of (codes "vendor-dir") rows) (first_of (codes "conf") rows) (first_of (codes "root") rows)
+
+-- an option of a source is given
+abbrev pub names_source : List Row → Bool
+names_source rows = has (codes "dir") rows || has (codes "vendor-dir") rows || has (codes "conf") rows || has (codes "root") rows
+
+-- the source of `check`, which is the running system if no option names one
+abbrev pub source_or_root : List Row → Option SourceText
+source_or_root rows = if names_source rows then source_of rows else Some (root (codes "/"))
 
 abbrev pub kind_of_rows : List Row → Option Kind
 kind_of_rows rows = kind_named (text_of (codes "kind") rows)
@@ -204,6 +227,21 @@ format_or_default (Some name) = format_named name
 abbrev pub format_of : List Row → Option GraphFormat
 format_of rows = format_or_default (first_of (codes "format") rows)
 
+abbrev pub level_named : Text → Option LevelName
+level_named name =
+    if bytes_eq name (codes "error") then Some Error
+    else if bytes_eq name (codes "warning") then Some Warning
+    else if bytes_eq name (codes "note") then Some Note
+    else None
+
+abbrev pub level_or_default : Option Text → Option LevelName
+level_or_default None = Some Warning
+level_or_default (Some name) = level_named name
+
+-- the least level that fails, which is a warning unless `--fail-on` names another one
+abbrev pub level_of : List Row → Option LevelName
+level_of rows = level_or_default (first_of (codes "fail-on") rows)
+
 -- an access or time table is given, and no user
 abbrev pub lacks_user : List Row → Bool
 lacks_user rows = (has (codes "access") rows || has (codes "time") rows) && not (has (codes "user") rows)
@@ -230,6 +268,13 @@ stack_of rows =
     or_refuse (source_of rows) source (λ from.
     or_refuse (kind_of_rows rows) kind_name (λ kind.
     Ok (from, kind)))
+
+-- `check [SERVICE]...`
+abbrev pub check_task : List Row → Result TaskText Refusal
+check_task rows =
+    or_refuse (source_or_root rows) source (λ from.
+    or_refuse (level_of rows) level_name (λ level.
+    Ok (check (record { source = from; services = texts_of (codes "name") rows; fail_on = level }))))
 
 -- `show SERVICE KIND`
 abbrev pub show_task : List Row → Result TaskText Refusal
@@ -314,7 +359,8 @@ time_task rows =
 
 abbrev pub task_of : Text → List Row → Result TaskText Refusal
 task_of command rows =
-    if bytes_eq command (codes "show") then show_task rows
+    if bytes_eq command (codes "check") then check_task rows
+    else if bytes_eq command (codes "show") then show_task rows
     else if bytes_eq command (codes "decide") then decide_task rows
     else if bytes_eq command (codes "paths") then paths_task rows
     else if bytes_eq command (codes "outcomes") then outcomes_task rows
@@ -322,7 +368,7 @@ task_of command rows =
     else if bytes_eq command (codes "access") then access_task rows
     else time_task rows
 
--- THE REQUEST of a command, or its first refusal
+-- THE REQUEST of a command, or its first refusal. `check` has no SERVICE of that name, so its service is empty
 abbrev pub request_of : Text → List Row → Result RequestText Refusal
 request_of command rows =
     task_of command rows >>= λ task. Ok (record { service = text_of (codes "service") rows; task = task })

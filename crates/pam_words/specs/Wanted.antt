@@ -7,7 +7,7 @@ use Rattle.clap.specs.declared.error.ErrorKind.TheVariants.{DisplayHelp, OutOfMe
 use Rattle.pam_words.specs.Request.{KnowledgeText, LoginText, MomentText, PartText, Refusal, RequestText, SourceText, TaskText}
 use Rattle.pam_words.specs.Request as spec
 use Rattle.pam_words.specs.declared.wanted.ConfSource.{ConfSource}
-use Rattle.pam_words.specs.declared.wanted.ConfSource.TheVariants.{Dir, Conf}
+use Rattle.pam_words.specs.declared.wanted.ConfSource.TheVariants.{Dir, Over, Conf, Root}
 use Rattle.pam_words.specs.declared.wanted.KnowledgeSource.{KnowledgeSource}
 use Rattle.pam_words.specs.declared.wanted.Login.{Login}
 use Rattle.pam_words.specs.declared.wanted.Moment.{Moment}
@@ -15,7 +15,7 @@ use Rattle.pam_words.specs.declared.wanted.Moment.TheVariants.{Civil, Instant}
 use Rattle.pam_words.specs.declared.wanted.PagePart.{PagePart}
 use Rattle.pam_words.specs.declared.wanted.PagePart.TheVariants.{Whole, After, Before}
 use Rattle.pam_words.specs.declared.wanted.Task.{Task}
-use Rattle.pam_words.specs.declared.wanted.Task.TheVariants.{Show, Decide, Access, Time, Paths, Outcomes, Graph}
+use Rattle.pam_words.specs.declared.wanted.Task.TheVariants.{Check, Show, Decide, Access, Time, Paths, Outcomes, Graph}
 use Rattle.pam_words.specs.declared.wanted.Request.{Request}
 use Rattle.pam_words.specs.declared.wanted.Usage.{Usage}
 use Rattle.pam_words.specs.declared.wanted.Usage.TheVariants as usage
@@ -23,8 +23,10 @@ use Rattle.pam_words.specs.declared.wanted.Usage.TheVariants as usage
 -- ---- a request as its texts
 
 abbrev pub source_view : ConfSource → SourceText
-source_view (Dir name) = spec.dir name.now
+source_view (Dir folder) = spec.dir folder.now
+source_view (Over folder vendor) = spec.over folder.now vendor.now
 source_view (Conf name) = spec.conf name.now
+source_view (Root folder) = spec.root folder.now
 
 abbrev pub moment_view : Moment → MomentText
 moment_view (Civil text) = spec.civil text.now
@@ -49,6 +51,11 @@ knowledge_view k = record {
 }
 
 abbrev pub task_view : Task → TaskText
+task_view (Check source services fail_on) = spec.check (record {
+  source = source_view source;
+  services = services;
+  fail_on = fail_on;
+})
 task_view (Show source kind) = spec.show (source_view source) kind
 task_view (Decide source kind codes) = spec.decide (source_view source) kind codes.items
 task_view (Access table groups login arguments) = spec.access (record {
@@ -94,6 +101,7 @@ Gives view value (Err usage.Source) = value ≡ Err spec.source
 Gives view value (Err usage.KindName) = value ≡ Err spec.kind_name
 Gives view value (Err usage.CodeName) = value ≡ Err spec.code_name
 Gives view value (Err usage.FormatName) = value ≡ Err spec.format_name
+Gives view value (Err usage.LevelName) = value ≡ Err spec.level_name
 Gives view value (Err usage.Login) = value ≡ Err spec.login
 Gives view value (Err usage.Moment) = value ≡ Err spec.moment
 Gives view value (Err usage.BothEnds) = value ≡ Err spec.both_ends

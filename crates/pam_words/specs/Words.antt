@@ -44,9 +44,17 @@ with_options app (id ∷ ids) = with_options (with_rule app (option_rule id)) id
 abbrev pub service_app : Text → App
 service_app name = with_rule (new_app name) (required_rule (codes "service"))
 
--- `NAME SERVICE KIND`, with `--dir` and `--conf`
+-- the options of a source
+abbrev pub with_source : App → App
+with_source app = with_options app (codes "dir" ∷ codes "vendor-dir" ∷ codes "conf" ∷ codes "root" ∷ [])
+
+-- `check [SERVICE]...`
+unfoldable pub check_app : App
+check_app = with_rule (with_options (with_source (new_app (codes "check"))) (codes "fail-on" ∷ [])) (repeated_rule (codes "name"))
+
+-- `NAME SERVICE KIND`, with a source
 abbrev pub stack_app : Text → App
-stack_app name = with_options (with_rule (service_app name) (required_rule (codes "kind"))) (codes "dir" ∷ codes "conf" ∷ [])
+stack_app name = with_source (with_rule (service_app name) (required_rule (codes "kind")))
 
 -- `show SERVICE KIND`
 unfoldable pub show_app : App
@@ -118,5 +126,5 @@ with_stacks app =
 
 unfoldable pub pamcheck_app : App
 pamcheck_app =
-    with_subcommand (with_subcommand (with_stacks bare_app)
+    with_subcommand (with_subcommand (with_stacks (with_subcommand bare_app check_app.top))
     access_app.top) time_app.top

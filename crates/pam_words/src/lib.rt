@@ -9,6 +9,6 @@ mod words;
 
 pub use reading::request;
 pub use wanted::{
-    ConfSource, GraphFormat, KnowledgeSource, Login, Moment, PagePart, PathFilter, Request, Task,
-    Usage,
+    ConfSource, GraphFormat, KnowledgeSource, LevelName, Login, Moment, PagePart, PathFilter,
+    Request, Task, Usage,
 };

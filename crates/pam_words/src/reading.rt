@@ -1,6 +1,6 @@
 //! Reads a request from the words of the command line.
 
-ghost use Rattle.std.specs.Prelude.{◌≡◌, true, map, IfOk, MatchOption, option_map, codes};
+ghost use Rattle.std.specs.Prelude.{◌≡◌, true, map, IfOk, MatchOption, option_map};
 ghost use Rattle.std.specs.Char.{is_ascii_digit};
 ghost use Rattle.std.specs.List.{list_all};
 ghost use Rattle.std.specs.Option.{option_copied};
@@ -8,11 +8,12 @@ ghost use Rattle.clap.specs.Words.{found_of, rows_of, first_of, all_of, takes, f
 ghost use Rattle.pam_words.specs.Request.{access_task, decide_task, request_of, show_task, stack_of, task_of, time_task};
 ghost use Rattle.pam_words.specs.Decisions.{code_named as code_of_name, codes_named as codes_of_names};
 ghost use Rattle.pam_words.specs.Request.{codes_of_rows};
-ghost use Rattle.pam_words.specs.Request.{instant_of, kind_of_rows, login_of, moment_of, seconds_of, source_of, text_of, texts_of};
+ghost use Rattle.pam_words.specs.Request.{instant_of, kind_of_rows, login_of, moment_of, seconds_of, source_of, text_of, texts_of as texts_in};
 ghost use Rattle.pam_words.specs.Wanted.{Answers, Gives, GivesTask, IsRead, IsRefusal, IsRefusalOf, Reads, RefusesBy};
 ghost use Rattle.pam_words.specs.Wanted.{login_view, moment_view, source_view};
 ghost use Rattle.pam_words.specs.Words.{pamcheck_app};
 
+mod checks;
 mod decisions;
 mod graph;
 mod knowledge;
@@ -53,11 +54,17 @@ fn values<'m, 'a>(matches: &'m ArgMatches<'a>, id: &str) -> Option<&'m [&'a str]
 fn source<'a>(matches: &ArgMatches<'a>) -> Option<ConfSource<'a>>
     ensures { option_map source_view result ≡ source_of (rows_of (found_of matches.now)) }
 {
-    match (value(matches, "dir"), value(matches, "conf")) {
-        (Some(dir), None) => Some(ConfSource::Dir(dir)),
-        (None, Some(conf)) => Some(ConfSource::Conf(conf)),
-        (Some(_), Some(_)) => None,
-        (None, None) => None,
+    match (
+        value(matches, "dir"),
+        value(matches, "vendor-dir"),
+        value(matches, "conf"),
+        value(matches, "root"),
+    ) {
+        (Some(folder), None, None, None) => Some(ConfSource::Dir(folder)),
+        (Some(folder), Some(vendor), None, None) => Some(ConfSource::Over { folder, vendor }),
+        (None, None, Some(file), None) => Some(ConfSource::Conf(file)),
+        (None, None, None, Some(folder)) => Some(ConfSource::Root(folder)),
+        _ => None,
     }
 }
 
@@ -162,10 +169,11 @@ fn copies(alloc: Global, texts: &[&str]) -> Result<Texts, AllocError>
     Ok(copies)
 }
 
-fn arguments(alloc: Global, matches: &ArgMatches<'_>) -> Result<Texts, AllocError>
-    ensures { IfOk result (λ texts. texts ≡ texts_of (codes "argument") (rows_of (found_of matches.now))) }
+/// Copies all values of an id, in order.
+fn texts(alloc: Global, matches: &ArgMatches<'_>, id: &str) -> Result<Texts, AllocError>
+    ensures { IfOk result (λ texts. texts ≡ texts_in id.now (rows_of (found_of matches.now))) }
 {
-    match values(matches, "argument") {
+    match values(matches, id) {
         Some(texts) => copies(alloc, texts),
         None => Ok(Texts::new(alloc)),
     }
@@ -209,7 +217,7 @@ fn decide<'a>(alloc: Global, matches: &ArgMatches<'a>) -> Result<Task<'a>, Usage
 fn access<'a>(alloc: Global, matches: &ArgMatches<'a>) -> Result<Task<'a>, Usage>
     ensures { GivesTask (access_task (rows_of (found_of matches.now))) result }
 {
-    match arguments(alloc, matches) {
+    match texts(alloc, matches, "argument") {
         Ok(arguments) => Ok(Task::Access {
             table: text(matches, "access"),
             groups: value(matches, "group"),
@@ -239,7 +247,9 @@ fn time<'a>(matches: &ArgMatches<'a>) -> Result<Task<'a>, Usage>
 fn task<'a>(alloc: Global, command: &str, matches: &ArgMatches<'a>) -> Result<Task<'a>, Usage>
     ensures { GivesTask (task_of command.now (rows_of (found_of matches.now))) result }
 {
-    if command == "show" {
+    if command == "check" {
+        checks::check(alloc, matches)
+    } else if command == "show" {
         show(matches)
     } else if command == "decide" {
         decide(alloc, matches)

@@ -10,8 +10,20 @@ use thiserror::Error;
 pub enum ConfSource<'a> {
     /// A folder with a file for each service, as `/etc/pam.d`.
     Dir(&'a str),
+    /// Such a folder, and one for the services that it lacks, as `/etc/pam.d` and `/usr/lib/pam.d`.
+    Over { folder: &'a str, vendor: &'a str },
     /// One file for all services, as `/etc/pam.conf`.
     Conf(&'a str),
+    /// The system whose root is this folder.
+    Root(&'a str),
+}
+
+/// The least level of a finding that makes `check` fail.
+#[derive(Clone, Copy)]
+pub enum LevelName {
+    Error,
+    Warning,
+    Note,
 }
 
 /// The moment of a login.
@@ -73,9 +85,15 @@ pub struct KnowledgeSource<'a> {
     pub moment: Option<Moment<'a>>,
 }
 
-/// A command for a service.
+/// A command for a service, or for all services.
 #[derive(Drop)]
 pub enum Task<'a> {
+    /// Looks for faults, and for stacks that let nobody or anybody in, in these services, or in all if none is named.
+    Check {
+        source: ConfSource<'a>,
+        services: Texts,
+        fail_on: LevelName,
+    },
     /// Lists the stack.
     Show {
         source: ConfSource<'a>,
@@ -124,7 +142,7 @@ pub enum Task<'a> {
     },
 }
 
-/// A command with its service. The service is as given, not lowercased.
+/// A command with its service. The service is as given, not lowercased, and empty for `check`, which names its own.
 #[derive(Drop)]
 pub struct Request<'a> {
     pub service: &'a str,
@@ -143,8 +161,8 @@ pub enum Usage {
     /// U1 too: a word is not UTF-8. `request` never returns it; its caller does, while collecting the words.
     #[error("a word is not UTF-8")]
     NotUtf8,
-    /// U2: not exactly one source is given.
-    #[error("not exactly one of --dir and --conf")]
+    /// U2: not exactly one source is given, or `--vendor-dir` without `--dir`. `check` needs none.
+    #[error("not exactly one of --dir, --conf and --root, or --vendor-dir without --dir")]
     Source,
     /// U3: KIND is not the name of a kind.
     #[error("unknown kind")]
@@ -155,6 +173,9 @@ pub enum Usage {
     /// U12: the value of `--format` is not the name of a format.
     #[error("unknown format")]
     FormatName,
+    /// U13: the value of `--fail-on` is not the name of a level.
+    #[error("unknown level")]
+    LevelName,
     /// U5: an access or time table is given without a user.
     #[error("a table without a user")]
     Login,

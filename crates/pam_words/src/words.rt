@@ -56,11 +56,39 @@ const DIR: ArgRow = ArgRow {
     help: "The folder with a file for each service",
 };
 
+const VENDOR_DIR: ArgRow = ArgRow {
+    form: ArgForm::Optional,
+    id: "vendor-dir",
+    name: "DIR",
+    help: "The folder for services that --dir lacks",
+};
+
 const CONF: ArgRow = ArgRow {
     form: ArgForm::Optional,
     id: "conf",
     name: "FILE",
     help: "The file for all services",
+};
+
+const ROOT: ArgRow = ArgRow {
+    form: ArgForm::Optional,
+    id: "root",
+    name: "DIR",
+    help: "The root folder of a system",
+};
+
+const FAIL_ON: ArgRow = ArgRow {
+    form: ArgForm::Optional,
+    id: "fail-on",
+    name: "LEVEL",
+    help: "error, warning or note: the least level that fails; warning if left out",
+};
+
+const SERVICES: ArgRow = ArgRow {
+    form: ArgForm::Repeated,
+    id: "name",
+    name: "SERVICE",
+    help: "The services to check; all if left out",
 };
 
 const CODES: ArgRow = ArgRow {
@@ -218,39 +246,44 @@ struct CommandRow {
     args: &'static [ArgRow],
 }
 
-static COMMANDS: [CommandRow; 7] = [
+static COMMANDS: [CommandRow; 8] = [
+    CommandRow {
+        name: "check",
+        about: "Checks all services for faults, and for stacks that let nobody or anybody in",
+        args: &[DIR, VENDOR_DIR, CONF, ROOT, FAIL_ON, SERVICES],
+    },
     CommandRow {
         name: "show",
         about: "Shows the modules of a stack",
-        args: &[SERVICE, KIND, DIR, CONF],
+        args: &[SERVICE, KIND, DIR, VENDOR_DIR, CONF, ROOT],
     },
     CommandRow {
         name: "decide",
         about: "Runs a stack with given return codes",
-        args: &[SERVICE, KIND, DIR, CONF, CODES],
+        args: &[SERVICE, KIND, DIR, VENDOR_DIR, CONF, ROOT, CODES],
     },
     CommandRow {
         name: "paths",
         about: "Lists the paths through a stack",
         args: &[
-            SERVICE, KIND, DIR, CONF, LIMIT, AFTER, BEFORE, DECISION, ASKS, USER, RHOST, TTY,
-            ACCESS, TIME, GROUP, RETURNS, AT, AT_UNIX, ZONE,
+            SERVICE, KIND, DIR, VENDOR_DIR, CONF, ROOT, LIMIT, AFTER, BEFORE, DECISION, ASKS, USER,
+            RHOST, TTY, ACCESS, TIME, GROUP, RETURNS, AT, AT_UNIX, ZONE,
         ],
     },
     CommandRow {
         name: "outcomes",
         about: "Counts the paths through a stack by their decisions",
         args: &[
-            SERVICE, KIND, DIR, CONF, USER, RHOST, TTY, ACCESS, TIME, GROUP, RETURNS, AT, AT_UNIX,
-            ZONE,
+            SERVICE, KIND, DIR, VENDOR_DIR, CONF, ROOT, USER, RHOST, TTY, ACCESS, TIME, GROUP,
+            RETURNS, AT, AT_UNIX, ZONE,
         ],
     },
     CommandRow {
         name: "graph",
         about: "Draws the graph of a stack",
         args: &[
-            SERVICE, KIND, DIR, CONF, FORMAT, USER, RHOST, TTY, ACCESS, TIME, GROUP, RETURNS, AT,
-            AT_UNIX, ZONE,
+            SERVICE, KIND, DIR, VENDOR_DIR, CONF, ROOT, FORMAT, USER, RHOST, TTY, ACCESS, TIME,
+            GROUP, RETURNS, AT, AT_UNIX, ZONE,
         ],
     },
     CommandRow {

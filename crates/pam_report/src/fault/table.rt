@@ -44,6 +44,7 @@ pub(super) fn usage_row(usage: &Usage) -> Row
         Usage::BothEnds => Row::of("U8 BothEnds", BAD_REQUEST),
         Usage::BothFilters => Row::of("U11 BothFilters", BAD_REQUEST),
         Usage::FormatName => Row::of("U12 FormatName", BAD_REQUEST),
+        Usage::LevelName => Row::of("U13 LevelName", BAD_REQUEST),
     }
 }
 

@@ -1,24 +1,30 @@
 //! Pages of the paths that meet a goal: the walks of the graph of the runs that do.
 
-ghost use Rattle.std.specs.Prelude.{nat_lt};
-ghost use Rattle.pam_conf.specs.Stack.{module_count};
+ghost use Rattle.std.specs.Prelude.{IfErr, IfOk, codes, nat_lt};
+ghost use Rattle.pam_conf.specs.Stack.{Items, module_count};
+ghost use Rattle.pam_dispatch.specs.Flat.{modules_of};
+ghost use Rattle.pam_graph.specs.Goals.{meeting};
+ghost use Rattle.pam_graph.specs.Walks.{walks as walks_of};
 ghost use Rattle.pam_known.specs.Knowledge.{Agree};
 ghost use Rattle.pam_paths.specs.Known.{may_answer};
-ghost use Rattle.pam_paths.specs.Listing.{Allowance};
+ghost use Rattle.pam_paths.specs.Listing.{Allowance, IsListingAfter, IsListingBefore};
+ghost use Rattle.pam_paths.specs.Pages.{after, before};
+ghost use Rattle.pam_paths.specs.Paths.{path_through};
 ghost use Rattle.pam_report.specs.Finds.{Finds};
 ghost use Rattle.pam_report.specs.Memory.{WantsWork};
-ghost use Rattle.pam_report.specs.PageView.{ListsWalks, page_view};
+ghost use Rattle.pam_report.specs.PageView.{IsRefused, IsSide, ListsPaths, ListsWalks, Renders, page_view};
 ghost use Rattle.pam_report.specs.Paths.{IsAskingPage, IsMeetingPage, IsProgramOf};
 ghost use Rattle.pam_words.specs.declared.wanted.PagePart.TheVariants.{After, Before, Whole};
 
 use super::known_stack::KnownStack;
 use super::paths::{PageRequest, Paging, page_by};
+use super::renderer::PageRenderer;
 use super::replies::Reply;
 use crate::fault::Fault;
 use pam_dispatch::Program;
 use pam_graph::{Goal, Graph, GraphError};
 use pam_page::Listing;
-use pam_paths::{Cursor, Explorer, Known};
+use pam_paths::{Cursor, Explorer};
 use pam_words::PagePart;
 use std::alloc::Global;
 
@@ -29,84 +35,118 @@ pub(super) struct GoalGraph {
     pub graph: Graph,
 }
 
-/// Lists the walks that meet a goal.
+/// Returns the cursor of a text, if it is that of a path of the stack.
+// Never inlined, as the next one: the explorer, which only judges the cursor, is gone before walks are made.
 #[inline(never)]
-fn walks_from_start<'a>(
-    paging: &Paging<'_>,
-    graph: &'a Graph,
-    goal: Goal,
-) -> Result<Listing<'a, Known>, Fault>
-    ensures walks { ListsWalks paging.now graph.now goal Whole result }
-    ensures wants { WantsWork result }
-{
-    match graph.walks(paging.alloc, goal) {
-        Ok(walks) => Ok(Listing::WalksForward(walks)),
-        Err(_) => Err(Fault::Memory),
-    }
-}
-
-/// Lists the walks after a cursor that meet a goal.
-#[inline(never)]
-fn walks_after<'a>(
-    paging: &Paging<'_>,
-    graph: &'a Graph,
-    goal: Goal,
-    text: &str,
-) -> Result<Listing<'a, Known>, Fault>
-    ensures walks { ListsWalks paging.now graph.now goal (After text.entry) result }
-    ensures wants { WantsWork result }
+fn cursor_after(paging: &Paging<'_>, text: &str) -> Result<Cursor, Fault>
+    ensures ok { IfOk result (λ cursor. (items : Items) → IsProgramOf paging.now.program.now items
+        → let allows = may_answer paging.now.known.now in
+        IsSide (IsListingAfter allows (modules_of paging.now.program.now) (path_through items)) allows items (After text.entry) cursor) }
+    ensures err { IfErr result (λ fault. IsRefused paging.now (After text.entry) fault) }
 {
     let cursor = match Cursor::read(text.as_bytes()) {
         Ok(cursor) => cursor,
         Err(error) => return Err(Fault::Cursor(error)),
     };
     match Explorer::after(paging.program, paging.known, &cursor) {
-        Ok(_explorer) => match graph.walks_after(paging.alloc, goal, &cursor) {
-            Ok(walks) => Ok(Listing::WalksForward(walks)),
-            Err(_) => Err(Fault::Memory),
-        },
+        Ok(_) => Ok(cursor),
         Err(error) => Err(Fault::Cursor(error)),
     }
 }
 
-/// Lists the walks before a cursor that meet a goal, the last one first.
+/// The same, of the paths before it.
 #[inline(never)]
-fn walks_before<'a>(
-    paging: &Paging<'_>,
-    graph: &'a Graph,
-    goal: Goal,
-    text: &str,
-) -> Result<Listing<'a, Known>, Fault>
-    ensures walks { ListsWalks paging.now graph.now goal (Before text.entry) result }
-    ensures wants { WantsWork result }
+fn cursor_before(paging: &Paging<'_>, text: &str) -> Result<Cursor, Fault>
+    ensures ok { IfOk result (λ cursor. (items : Items) → IsProgramOf paging.now.program.now items
+        → let allows = may_answer paging.now.known.now in
+        IsSide (IsListingBefore allows (modules_of paging.now.program.now) (path_through items)) allows items (Before text.entry) cursor) }
+    ensures err { IfErr result (λ fault. IsRefused paging.now (Before text.entry) fault) }
 {
     let cursor = match Cursor::read(text.as_bytes()) {
         Ok(cursor) => cursor,
         Err(error) => return Err(Fault::Cursor(error)),
     };
     match Explorer::before(paging.program, paging.known, &cursor) {
-        Ok(_before) => match graph.walks_before(paging.alloc, goal, &cursor) {
-            Ok(walks) => Ok(Listing::WalksBackward(walks)),
-            Err(_) => Err(Fault::Memory),
-        },
+        Ok(_) => Ok(cursor),
         Err(error) => Err(Fault::Cursor(error)),
     }
 }
 
-/// Lists the walks of a part that meet a goal.
-pub(super) fn walks_listing<'a>(
-    paging: &Paging<'_>,
-    graph: &'a Graph,
-    goal: Goal,
-    part: PagePart<'_>,
-) -> Result<Listing<'a, Known>, Fault>
-    ensures walks { ListsWalks paging.now graph.now goal part.entry result }
-    ensures wants { WantsWork result }
+/// Renders the walks that meet a goal.
+#[inline(never)]
+fn render_all_walks<T, R: PageRenderer<T>>(
+    alloc: Global,
+    walks: &GoalGraph,
+    renderer: &R,
+    target: &mut T,
+) -> Result<(), Fault>
+    ensures { Renders (R.renders renderer.now) target.old target.new result
+        (ListsPaths (meeting walks.now.goal (walks_of walks.now.graph)) (codes "after")) }
 {
+    match walks.graph.walks(alloc, walks.goal) {
+        Ok(walks) => renderer.render(&mut Listing::WalksForward(walks), target),
+        Err(_) => Err(Fault::Memory),
+    }
+}
+
+/// Renders the walks after a cursor that meet a goal.
+#[inline(never)]
+fn render_walks_after<T, R: PageRenderer<T>>(
+    alloc: Global,
+    walks: &GoalGraph,
+    cursor: &Cursor,
+    renderer: &R,
+    target: &mut T,
+) -> Result<(), Fault>
+    ensures { Renders (R.renders renderer.now) target.old target.new result
+        (ListsPaths (meeting walks.now.goal (after cursor.now (walks_of walks.now.graph))) (codes "after")) }
+{
+    match walks.graph.walks_after(alloc, walks.goal, cursor) {
+        Ok(walks) => renderer.render(&mut Listing::WalksForward(walks), target),
+        Err(_) => Err(Fault::Memory),
+    }
+}
+
+/// Renders the walks before a cursor that meet a goal, the last one first.
+#[inline(never)]
+fn render_walks_before<T, R: PageRenderer<T>>(
+    alloc: Global,
+    walks: &GoalGraph,
+    cursor: &Cursor,
+    renderer: &R,
+    target: &mut T,
+) -> Result<(), Fault>
+    ensures { Renders (R.renders renderer.now) target.old target.new result
+        (ListsPaths (meeting walks.now.goal (before cursor.now (walks_of walks.now.graph))) (codes "before")) }
+{
+    match walks.graph.walks_before(alloc, walks.goal, cursor) {
+        Ok(walks) => renderer.render(&mut Listing::WalksBackward(walks), target),
+        Err(_) => Err(Fault::Memory),
+    }
+}
+
+/// Renders the walks of a part that meet a goal.
+pub(super) fn render_walks<T, R: PageRenderer<T>>(
+    paging: &Paging<'_>,
+    walks: &GoalGraph,
+    part: PagePart<'_>,
+    renderer: &R,
+    target: &mut T,
+) -> Result<(), Fault>
+    ensures { Renders (R.renders renderer.now) target.old target.new result
+        (ListsWalks paging.now walks.now.graph walks.now.goal part.entry) }
+{
+    let alloc = paging.alloc;
     match part {
-        PagePart::Whole => walks_from_start(paging, graph, goal),
-        PagePart::After(text) => walks_after(paging, graph, goal, text),
-        PagePart::Before(text) => walks_before(paging, graph, goal, text),
+        PagePart::Whole => render_all_walks(alloc, walks, renderer, target),
+        PagePart::After(text) => match cursor_after(paging, text) {
+            Ok(cursor) => render_walks_after(alloc, walks, &cursor, renderer, target),
+            Err(fault) => Err(fault),
+        },
+        PagePart::Before(text) => match cursor_before(paging, text) {
+            Ok(cursor) => render_walks_before(alloc, walks, &cursor, renderer, target),
+            Err(fault) => Err(fault),
+        },
     }
 }
 

@@ -1,6 +1,6 @@
 //! The `paths` command: a page of the paths through a stack.
 
-ghost use Rattle.std.specs.Prelude.{◌≡◌, ◌≤◌, Ok, is_some, max};
+ghost use Rattle.std.specs.Prelude.{◌≡◌, ◌≤◌, is_some, max};
 ghost use Rattle.jiff.specs.Types.{DateTime as CivilTime};
 ghost use Rattle.pam_conf.specs.Stack.{module_count};
 ghost use Rattle.pam_dispatch.specs.Flat.{modules_of};
@@ -10,14 +10,15 @@ ghost use Rattle.pam_paths.specs.Listing.{Allowance};
 ghost use Rattle.pam_report.specs.Answer.{stack_at};
 ghost use Rattle.pam_report.specs.Finds.{Finds};
 ghost use Rattle.pam_report.specs.Memory.{WantsOnly, WantsWork, of_paths, paths_tables};
-ghost use Rattle.pam_report.specs.PageView.{FindsPage, ListsPart, goal_of, graph_of, page_value, page_view};
+ghost use Rattle.pam_report.specs.PageView.{FindsPage, ListsPart, Renders, goal_of, graph_of, page_value, page_view};
 ghost use Rattle.pam_report.specs.Paths.{IsPage, IsPageOf, IsProgramOf, page_of};
 ghost use Rattle.pam_report.specs.Reply.{Page};
 ghost use Rattle.pam_report.specs.ReplyViews.{reply_view};
 ghost use Rattle.pam_words.specs.declared.wanted.PagePart.TheVariants.{After, Before, Whole};
 
-use super::goal_pages::{GoalGraph, answer_asking, answer_goal, walks_listing};
+use super::goal_pages::{GoalGraph, answer_asking, answer_goal, render_walks};
 use super::known_stack::{KnownStack, StackRequest, known_stack};
+use super::renderer::PageRenderer;
 use super::replies::Reply;
 use crate::fault::Fault;
 use crate::inputs::Inputs;
@@ -47,7 +48,7 @@ pub(super) struct Paging<'a> {
     pub known: &'a Known,
 }
 
-/// A page of the paths through a stack, which `listing` lists.
+/// A page of the paths through a stack, which `render` opens.
 #[derive(Drop)]
 pub struct PathsPage<'a> {
     service: &'a str,
@@ -88,11 +89,17 @@ impl<'a> PathsPage<'a> {
         self.limit.max(1)
     }
 
-    /// Returns the paths from which the page is taken: the first of these, up to the limit. Returns `Cursor` for a cursor that is
-    /// that of no path of the stack.
-    pub fn listing(&self, alloc: Global) -> Result<Listing<'_, Known>, Fault>
-        ensures listing { FindsPage (page_value self.now) result }
-        ensures wants { WantsWork result }
+    /// Opens the listing from which the page is taken, the first of its paths up to the limit, and lets the renderer write it.
+    /// Returns `Cursor` for a cursor that is that of no path of the stack, and `Memory` if an allocation of the listing fails; then
+    /// nothing is written.
+    // The listing, of 27 kB, stays in the frame in which it is opened: to return it takes room for it in each caller too.
+    pub fn render<T, R: PageRenderer<T>>(
+        &self,
+        alloc: Global,
+        renderer: &R,
+        target: &mut T,
+    ) -> Result<(), Fault>
+        ensures { Renders (R.renders renderer.now) target.old target.new result (FindsPage (page_value self.now)) }
     {
         let paging = Paging {
             alloc,
@@ -100,62 +107,79 @@ impl<'a> PathsPage<'a> {
             known: &self.found.known,
         };
         match &self.walks {
-            None => part_listing(&paging, self.part),
-            Some(walks) => walks_listing(&paging, &walks.graph, walks.goal, self.part),
+            None => render_part(&paging, self.part, renderer, target),
+            Some(walks) => render_walks(&paging, walks, self.part, renderer, target),
         }
     }
 }
 
-/// Lists all paths.
-// Never inlined, as the next two: else the stack has room for the listings of all three, of 27 kB each.
+/// Renders all paths.
+// Never inlined, as the next two: else the stack has room for the explorers of all three.
 #[inline(never)]
-fn listing_from_start<'a>(paging: &Paging<'a>) -> Listing<'a, Known>
-    ensures { ListsPart paging.now Whole (Ok result) }
+fn render_all<T, R: PageRenderer<T>>(
+    paging: &Paging<'_>,
+    renderer: &R,
+    target: &mut T,
+) -> Result<(), Fault>
+    ensures { Renders (R.renders renderer.now) target.old target.new result (ListsPart paging.now Whole) }
 {
-    Listing::Forward(Explorer::start(paging.program, paging.known))
+    let explorer = Explorer::start(paging.program, paging.known);
+    renderer.render(&mut Listing::Forward(explorer), target)
 }
 
-/// Lists the paths after a cursor.
+/// Renders the paths after a cursor.
 #[inline(never)]
-fn listing_after<'a>(paging: &Paging<'a>, text: &str) -> Result<Listing<'a, Known>, Fault>
-    ensures listing { ListsPart paging.now (After text.entry) result }
-    ensures wants { WantsWork result }
+fn render_after<T, R: PageRenderer<T>>(
+    paging: &Paging<'_>,
+    text: &str,
+    renderer: &R,
+    target: &mut T,
+) -> Result<(), Fault>
+    ensures { Renders (R.renders renderer.now) target.old target.new result (ListsPart paging.now (After text.entry)) }
 {
     let cursor = match Cursor::read(text.as_bytes()) {
         Ok(cursor) => cursor,
         Err(error) => return Err(Fault::Cursor(error)),
     };
     match Explorer::after(paging.program, paging.known, &cursor) {
-        Ok(explorer) => Ok(Listing::Forward(explorer)),
+        Ok(explorer) => renderer.render(&mut Listing::Forward(explorer), target),
         Err(error) => Err(Fault::Cursor(error)),
     }
 }
 
-/// Lists the paths before a cursor, the last one first.
+/// Renders the paths before a cursor, the last one first.
 #[inline(never)]
-fn listing_before<'a>(paging: &Paging<'a>, text: &str) -> Result<Listing<'a, Known>, Fault>
-    ensures listing { ListsPart paging.now (Before text.entry) result }
-    ensures wants { WantsWork result }
+fn render_before<T, R: PageRenderer<T>>(
+    paging: &Paging<'_>,
+    text: &str,
+    renderer: &R,
+    target: &mut T,
+) -> Result<(), Fault>
+    ensures { Renders (R.renders renderer.now) target.old target.new result (ListsPart paging.now (Before text.entry)) }
 {
     let cursor = match Cursor::read(text.as_bytes()) {
         Ok(cursor) => cursor,
         Err(error) => return Err(Fault::Cursor(error)),
     };
     match Explorer::before(paging.program, paging.known, &cursor) {
-        Ok(before) => Ok(Listing::Backward(before)),
+        Ok(before) => renderer.render(&mut Listing::Backward(before), target),
         Err(error) => Err(Fault::Cursor(error)),
     }
 }
 
-/// Lists the paths of a part.
-fn part_listing<'a>(paging: &Paging<'a>, part: PagePart<'_>) -> Result<Listing<'a, Known>, Fault>
-    ensures listing { ListsPart paging.now part.entry result }
-    ensures wants { WantsWork result }
+/// Renders the paths of a part.
+fn render_part<T, R: PageRenderer<T>>(
+    paging: &Paging<'_>,
+    part: PagePart<'_>,
+    renderer: &R,
+    target: &mut T,
+) -> Result<(), Fault>
+    ensures { Renders (R.renders renderer.now) target.old target.new result (ListsPart paging.now part.entry) }
 {
     match part {
-        PagePart::Whole => Ok(listing_from_start(paging)),
-        PagePart::After(text) => listing_after(paging, text),
-        PagePart::Before(text) => listing_before(paging, text),
+        PagePart::Whole => render_all(paging, renderer, target),
+        PagePart::After(text) => render_after(paging, text, renderer, target),
+        PagePart::Before(text) => render_before(paging, text, renderer, target),
     }
 }
 

@@ -5,6 +5,7 @@ ghost use Rattle.pam_report.specs.Reply.{access_status, status_of, status_of_dec
 ghost use Rattle.pam_report.specs.ReplyViews.{reply_view};
 
 use super::Status;
+use super::check::CheckReply;
 use super::decide::RunReply;
 use super::graph::GraphReply;
 use super::outcomes::OutcomesReply;
@@ -31,6 +32,8 @@ pub enum Reply<'a> {
     Outcomes(OutcomesReply<'a>),
     /// Of `graph`.
     Graph(GraphReply<'a>),
+    /// Of `check`.
+    Check(CheckReply<'a>),
 }
 
 impl Reply<'_> {
@@ -42,6 +45,7 @@ impl Reply<'_> {
             Reply::Run(run) => status_of_decision(run.trace.decision),
             Reply::Access(answer) => status_of_access(*answer),
             Reply::Time(answer) => status_of_time(*answer),
+            Reply::Check(check) => check.status(),
             Reply::Stack(_) | Reply::Paths(_) | Reply::Outcomes(_) | Reply::Graph(_) =>
                 Status::Success,
         }

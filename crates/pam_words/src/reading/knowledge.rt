@@ -10,7 +10,7 @@ use crate::reading::{login, moment, stack, value};
 use crate::wanted::{KnowledgeSource, Moment, Task, Usage};
 use clap::ArgMatches;
 
-fn has(matches: &ArgMatches<'_>, id: &str) -> bool
+pub(crate) fn has(matches: &ArgMatches<'_>, id: &str) -> bool
     ensures { result ≡ has_value id.now (rows_of (found_of matches.now)) }
 {
     value(matches, id).is_some()

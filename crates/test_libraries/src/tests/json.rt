@@ -4,7 +4,9 @@ use crate::tests::answers::{Command, DECIDE, PATHS, asked, inputs};
 use crate::tests::halting::{Halting, NOTHING};
 use crate::tests::same::same;
 use pam_codes::{Code, Device, Out, Piece};
-use pam_report::{Fault, PathsPage, Reply, RunReply, reply_to};
+use pam_page::Listing;
+use pam_paths::Known;
+use pam_report::{Fault, PageRenderer, PathsPage, Reply, RunReply, reply_to};
 use std::alloc::Global;
 use std::io::Write;
 use std::process::Abort;
@@ -28,21 +30,32 @@ fn put_run<W: Write>(run: &RunReply<'_>, out: &mut Out<W>) -> Result<(), Device>
     put_member(b"decision", run.trace.decision.code(), out)
 }
 
+/// Renders the decision of each path of a page, at most `limit`.
+#[derive(Clone, Copy)]
+struct Decisions {
+    limit: u32,
+}
+
+impl<W: Write> PageRenderer<Out<W>> for Decisions {
+    ghost renders = { λ decisions listing old new result. Unit {0} };
+
+    fn render(&self, listing: &mut Listing<'_, Known>, out: &mut Out<W>) -> Result<(), Fault> {
+        for _ in 0..self.limit {
+            if listing.follow().is_none() {
+                return Ok(());
+            }
+            if put_member(b"path", listing.path().decision(), out).is_err() {
+                return Err(Fault::Device);
+            }
+        }
+        Ok(())
+    }
+}
+
 /// Writes the decision of each path of a page.
 fn put_page<W: Write>(alloc: Global, page: &PathsPage<'_>, out: &mut Out<W>) -> Result<(), Fault> {
-    let mut listing = match page.listing(alloc) {
-        Ok(listing) => listing,
-        Err(fault) => return Err(fault),
-    };
-    for _ in 0..page.limit() {
-        if listing.follow().is_none() {
-            return Ok(());
-        }
-        if put_member(b"path", listing.path().decision(), out).is_err() {
-            return Err(Fault::Device);
-        }
-    }
-    Ok(())
+    let limit = page.limit();
+    page.render(alloc, &Decisions { limit }, out)
 }
 
 fn put_reply<W: Write>(alloc: Global, reply: &Reply<'_>, out: &mut Out<W>) -> Result<(), Fault> {

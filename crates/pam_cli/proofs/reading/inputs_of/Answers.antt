@@ -26,6 +26,9 @@ module _ (source : ConfSource) (kind : Kind) (knowledge : KnowledgeSource) where
   graph-read format (Ok given) h = h
   graph-read format (Err error) h = h
 
+pub returns-in-Check : goal.returns-in-Check
+returns-in-Check g c = subst (λ t. IsReading t c.check_inputs.result) (sym c.in-Check.is) (c.check_inputs.ensures c.in-Check.services c.in-Check.fail_on)
+
 pub returns-in-Access : goal.returns-in-Access
 returns-in-Access g c =
     subst (λ t. IsReading t c.access_inputs.result) (sym c.in-Access.is) (c.access_inputs.ensures c.in-Access.login c.in-Access.arguments)

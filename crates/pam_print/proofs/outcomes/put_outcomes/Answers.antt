@@ -15,5 +15,6 @@ returns-in_err-put_outcome g c =
     let text = ap (λ (o : Outcome). line (outcome_view o)) c.outcome-item.is in
     err-front _ c.from_residual.ensures.0
     (front-is
-    (front-longer (flat_map line (map outcome_view (drop (index + 1) outcomes))) (front-then c.loop-outcome.invariant (front-is c.in_err-put_outcome.ensures text)))
+    (front-longer (flat_map line (map outcome_view (drop (index + 1) outcomes)))
+    (front-then c.loop-outcome.invariant (front-is c.in_err-put_outcome.ensures text)))
     (flat_map-viewed_at line outcome_view outcomes index _ c.loop-outcome-test.true))

@@ -35,3 +35,6 @@ returns-in-Paths g c = reply-is g.W.Write.contents _ _ _ (replies.Paths c.in-Pat
 
 pub returns-in-Graph : goal.returns-in-Graph
 returns-in-Graph g c = reply-is g.W.Write.contents _ _ _ (replies.Graph c.in-Graph.drawing) _ c.in-Graph.is c.write_drawing.ensures
+
+pub returns-in-Check : goal.returns-in-Check
+returns-in-Check g c = reply-is g.W.Write.contents _ _ _ (replies.Check c.in-Check.check) _ c.in-Check.is c.write_check.ensures

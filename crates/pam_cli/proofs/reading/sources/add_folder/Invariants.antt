@@ -1,0 +1,6 @@
+-- some files of the folder are added so far
+use Rattle.pam_cli.specs.Sources.{AddsFiles}
+use Rattle.pam_cli.proofs.reading.sources.add_folder.Given as goal
+
+abbrev pub invariant-loop-name : goal.invariant-loop-name
+invariant-loop-name g l = AddsFiles l.fn.folder l.initial.found l.found

@@ -1,0 +1,150 @@
+//! Reads files and folders.
+
+ghost use Rattle.std.specs.Prelude.{◌≡◌, IfErr};
+ghost use Rattle.pam_cli.specs.Sources.{IsUnread};
+
+use pam_report::InputError;
+use std::alloc::{AllocError, Global};
+use std::fs::{Metadata, OpenFile};
+use std::io::{ErrorKind, Read};
+use std::path::Path;
+use std::{fs, io};
+
+/// The most bytes read from a file: one more than a table or configuration file may have, so that a longer file is
+/// noticed.
+const MOST: u64 = 1_048_577;
+
+/// Converts a failed read of this name, which may be a failed allocation too.
+pub(super) fn unread(alloc: Global, name: &str, error: &io::Error) -> InputError
+    ensures { IsUnread (λ n. n ≡ name.now) result }
+{
+    if error.kind() == ErrorKind::OutOfMemory {
+        return InputError::Memory;
+    }
+    match String::from_str(alloc, name) {
+        Ok(name) => InputError::Read(name),
+        Err(_) => InputError::Memory,
+    }
+}
+
+/// Reads an open file, of which the system says that it has `len` bytes. That may be wrong: a device has none, and a
+/// file can grow.
+fn bytes_of<F: Read + Drop>(alloc: Global, file: F, len: u64) -> io::Result<Vec<u8>> {
+    // Room for one byte more, so that the end is found without growing.
+    let mut bytes = Vec::with_capacity(alloc, len.min(MOST) as usize + 1)?;
+    file.take(MOST).read_to_end(&mut bytes)?;
+    Ok(bytes)
+}
+
+/// Reads the file of this name, whatever its type is.
+fn bytes_at<R: std::rt::Files>(rt: &R, alloc: Global, name: &str) -> io::Result<Vec<u8>> {
+    let file = fs::open(rt, Path::new(name))?;
+    let len = file.metadata()?.len();
+    bytes_of(alloc, file, len)
+}
+
+/// Reads a file that the request names.
+pub(super) fn named_file<R: std::rt::Files>(
+    rt: &R,
+    alloc: Global,
+    name: &str,
+) -> Result<Vec<u8>, InputError>
+    ensures { IfErr result (IsUnread (λ n. n ≡ name.now)) }
+{
+    match bytes_at(rt, alloc, name) {
+        Ok(bytes) => Ok(bytes),
+        Err(error) => Err(unread(alloc, name, &error)),
+    }
+}
+
+fn is_link<R: std::rt::Files>(rt: &R, path: Path<'_>) -> bool {
+    match fs::symlink_metadata(rt, path) {
+        Ok(metadata) => metadata.is_symlink(),
+        Err(_) => false,
+    }
+}
+
+/// Whether this error, met at a path, says that it is a link that leads nowhere, or that nothing is there. A link whose
+/// target may not be looked at leads somewhere.
+fn leads_nowhere<R: std::rt::Files>(rt: &R, path: Path<'_>, error: &io::Error) -> bool {
+    match error.kind() {
+        ErrorKind::NotFound => true,
+        ErrorKind::FilesystemLoop | ErrorKind::NotADirectory | ErrorKind::InvalidFilename => {
+            is_link(rt, path)
+        }
+        _ => false,
+    }
+}
+
+/// Returns what the system says of a path after links are followed. Returns `None` if it leads nowhere.
+fn metadata_at<R: std::rt::Files>(rt: &R, path: Path<'_>) -> io::Result<Option<Metadata>> {
+    match fs::metadata(rt, path) {
+        Ok(metadata) => Ok(Some(metadata)),
+        Err(error) => {
+            if leads_nowhere(rt, path, &error) {
+                Ok(None)
+            } else {
+                Err(error)
+            }
+        }
+    }
+}
+
+/// Whether something is at this path after links are followed.
+pub(super) fn is_there<R: std::rt::Files>(rt: &R, path: Path<'_>) -> io::Result<bool> {
+    Ok(metadata_at(rt, path)?.is_some())
+}
+
+/// Whether a folder is at this path after links are followed.
+pub(super) fn is_folder<R: std::rt::Files>(rt: &R, path: Path<'_>) -> io::Result<bool> {
+    match metadata_at(rt, path)? {
+        Some(metadata) => Ok(metadata.is_dir()),
+        None => Ok(false),
+    }
+}
+
+/// Whether a regular file is at this path after links are followed.
+fn is_regular<R: std::rt::Files>(rt: &R, path: Path<'_>) -> io::Result<bool> {
+    match metadata_at(rt, path)? {
+        Some(metadata) => Ok(metadata.is_file()),
+        None => Ok(false),
+    }
+}
+
+fn push_name(alloc: Global, names: &mut Vec<String>, name: &str) -> Result<(), AllocError> {
+    let name = String::from_str(alloc, name)?;
+    names.push(name)?;
+    Ok(())
+}
+
+/// Returns the names of the entries of a folder, in ascending byte order.
+pub(super) fn entry_names<R: std::rt::Files + AllocGlobal + Clone + Drop>(
+    rt: &R,
+    alloc: Global,
+    folder: &str,
+) -> io::Result<Vec<String>> {
+    let mut names = Vec::new(alloc);
+    for entry in fs::read_dir(rt, folder)? {
+        push_name(alloc, &mut names, entry?.file_name())?;
+    }
+    names.sort()?;
+    Ok(names)
+}
+
+/// Reads what is at this path, if it is a regular file.
+pub(super) fn regular_bytes<R: std::rt::Files>(
+    rt: &R,
+    alloc: Global,
+    path: Path<'_>,
+) -> io::Result<Option<Vec<u8>>> {
+    if !is_regular(rt, path)? {
+        return Ok(None);
+    }
+    let file = fs::open(rt, path)?;
+    // What is open may be another file than the one that was looked at.
+    let metadata = file.metadata()?;
+    if !metadata.is_file() {
+        return Ok(None);
+    }
+    Ok(Some(bytes_of(alloc, file, metadata.len())?))
+}

@@ -1,0 +1,240 @@
+//! Reads the files of a source, each with its path.
+
+ghost use Rattle.std.specs.Prelude.{◌≡◌, false, IfErr, IfOk, IsOkUnless, MatchResult, OnOk, string_bytes};
+ghost use Rattle.pam_cli.specs.Sources.{AddsFile, AddsFiles, HasNames, IsInSource, IsOfFolder, IsOneFile, IsOver, IsRead, IsRootFile, IsStart, IsUnread};
+ghost use Rattle.pam_cli.specs.Sources.{is_given};
+
+use crate::reading::files::{entry_names, is_folder, is_there, named_file, regular_bytes, unread};
+use indexmap::IndexSet;
+use pam_conf::{Files, Form};
+use pam_report::InputError;
+use pam_text::Texts;
+use pam_words::ConfSource;
+use std::alloc::{AllocError, Global};
+use std::io::ErrorKind;
+use std::path::Path;
+use std::{fs, io};
+
+/// The files of a source, and the paths under which they were read: that of the whole configuration, and then that of
+/// each file.
+#[derive(Drop)]
+pub(super) struct SourceFiles {
+    pub(super) files: Files,
+    pub(super) paths: Texts,
+    /// The names of the files.
+    names: IndexSet<Vec<u8>>,
+}
+
+impl SourceFiles {
+    /// Returns no files, and the path of the whole configuration.
+    fn new(alloc: Global, form: Form, path: &str) -> Result<SourceFiles, AllocError>
+        ensures { IfOk result (IsStart form path.now) }
+    {
+        let mut paths = Texts::new(alloc);
+        paths.push(path.as_bytes())?;
+        Ok(SourceFiles {
+            files: Files::new(alloc, form),
+            paths,
+            names: IndexSet::new(alloc),
+        })
+    }
+
+    /// Adds a file of a new name.
+    fn put(
+        &mut self,
+        alloc: Global,
+        name: Vec<u8>,
+        path: &str,
+        bytes: Vec<u8>,
+    ) -> Result<(), InputError>
+        requires names { HasNames self.old }
+        requires new { is_given name.items self.old.files.entries ≡ false }
+        ensures ok { OnOk result (AddsFile name.items bytes.items path.now self.old self.new) }
+        ensures error { IsOkUnless result InputError.Memory }
+    {
+        self.paths.push(path.as_bytes())?;
+        self.names.insert(Vec::from_slice(alloc, &name)?)?;
+        Ok(self.files.put(name, bytes)?)
+    }
+}
+
+/// Reads an entry of a folder, and adds it if it is a regular file and no file of its name is there.
+fn put_entry<R: std::rt::Files>(
+    rt: &R,
+    alloc: Global,
+    folder: &str,
+    name: String,
+    found: &mut SourceFiles,
+) -> Result<(), InputError>
+    requires { HasNames found.old }
+    ensures ok { OnOk result (AddsFiles folder.now found.old found.new) }
+    ensures error { IfErr result (IsUnread (λ n. n ≡ string_bytes name)) }
+{
+    if found.names.contains(name.as_bytes()) {
+        return Ok(());
+    }
+    let path = Path::new(folder).join(alloc, name.as_str())?;
+    match regular_bytes(rt, alloc, path.as_path()) {
+        Ok(None) => Ok(()),
+        Ok(Some(bytes)) => found.put(alloc, name.into_bytes(), path.as_str(), bytes),
+        Err(error) => Err(unread(alloc, name.as_str(), &error)),
+    }
+}
+
+/// Adds the regular files of a folder, after links are followed, but those of whose names a file is there.
+fn add_folder<R: std::rt::Files + AllocGlobal + Clone + Drop>(
+    rt: &R,
+    alloc: Global,
+    folder: &str,
+    found: &mut SourceFiles,
+) -> Result<(), InputError>
+    requires { HasNames found.old }
+    ensures { OnOk result (AddsFiles folder.now found.old found.new) }
+{
+    let names = match entry_names(rt, alloc, folder) {
+        Ok(names) => names,
+        Err(error) => return Err(unread(alloc, folder, &error)),
+    };
+    for name in names {
+        put_entry(rt, alloc, folder, name, found)?;
+    }
+    Ok(())
+}
+
+fn folder_files<R: std::rt::Files + AllocGlobal + Clone + Drop>(
+    rt: &R,
+    alloc: Global,
+    folder: &str,
+) -> Result<SourceFiles, InputError>
+    ensures names { IfOk result HasNames }
+    ensures files { IfOk result (λ found. IsOfFolder folder.now found.files found.paths) }
+{
+    let mut found = SourceFiles::new(alloc, Form::Dir, folder)?;
+    add_folder(rt, alloc, folder, &mut found)?;
+    Ok(found)
+}
+
+/// Reads the files of a folder, and those of another one whose names the first lacks.
+fn over_files<R: std::rt::Files + AllocGlobal + Clone + Drop>(
+    rt: &R,
+    alloc: Global,
+    folder: &str,
+    vendor: &str,
+) -> Result<SourceFiles, InputError>
+    ensures { IfOk result (λ found. IsOver folder.now vendor.now found.files found.paths) }
+{
+    let mut found = folder_files(rt, alloc, folder)?;
+    add_folder(rt, alloc, vendor, &mut found)?;
+    Ok(found)
+}
+
+/// Reads one file in place of `pam.conf`.
+fn conf_file<R: std::rt::Files>(
+    rt: &R,
+    alloc: Global,
+    name: &str,
+) -> Result<SourceFiles, InputError>
+    ensures { MatchResult result (λ found. IsOneFile name.now found.files found.paths) (IsUnread (λ n. n ≡ name.now)) }
+{
+    let bytes = named_file(rt, alloc, name)?;
+    one_file(alloc, name, bytes)
+}
+
+/// Returns the one file in place of `pam.conf`.
+fn one_file(alloc: Global, path: &str, bytes: Vec<u8>) -> Result<SourceFiles, InputError>
+    ensures ok { IfOk result (λ found. IsOneFile path.now found.files found.paths) }
+    ensures error { IsOkUnless result InputError.Memory }
+{
+    let mut found = SourceFiles::new(alloc, Form::Single, path)?;
+    let name = Vec::from_slice(alloc, b"pam.conf")?;
+    found.put(alloc, name, path, bytes)?;
+    Ok(found)
+}
+
+/// Reads the files of a folder, and those of another one, if it is there, whose names the first lacks.
+fn over_files_if_there<R: std::rt::Files + AllocGlobal + Clone + Drop>(
+    rt: &R,
+    alloc: Global,
+    folder: &str,
+    vendor: &str,
+) -> Result<SourceFiles, InputError>
+    ensures { IfOk result (λ found. IsOver folder.now vendor.now found.files found.paths) }
+{
+    match is_there(rt, Path::new(vendor)) {
+        Ok(true) => over_files(rt, alloc, folder, vendor),
+        Ok(false) => folder_files(rt, alloc, folder),
+        Err(error) => Err(unread(alloc, vendor, &error)),
+    }
+}
+
+/// Reads a regular file. Returns `None` if nothing is there.
+fn bytes_if_there<R: std::rt::Files>(
+    rt: &R,
+    alloc: Global,
+    path: Path<'_>,
+) -> io::Result<Option<Vec<u8>>> {
+    if !is_there(rt, path)? {
+        return Ok(None);
+    }
+    match regular_bytes(rt, alloc, path)? {
+        Some(bytes) => Ok(Some(bytes)),
+        None => Err(io::Error::from(ErrorKind::InvalidInput)),
+    }
+}
+
+/// Reads the one file of a system, if it is there.
+fn root_file<R: std::rt::Files>(
+    rt: &R,
+    alloc: Global,
+    path: &str,
+) -> Result<SourceFiles, InputError>
+    ensures { IfOk result (λ found. IsRootFile path.now found.files found.paths) }
+{
+    match bytes_if_there(rt, alloc, Path::new(path)) {
+        Ok(Some(bytes)) => one_file(alloc, path, bytes),
+        Ok(None) => Ok(SourceFiles::new(alloc, Form::Single, path)?),
+        Err(error) => Err(unread(alloc, path, &error)),
+    }
+}
+
+/// Reads the configuration of the system whose root is this folder.
+fn root_files<R: std::rt::Files + AllocGlobal + Clone + Drop>(
+    rt: &R,
+    alloc: Global,
+    root: &str,
+) -> Result<SourceFiles, InputError>
+    ensures { IfOk result (λ found. IsRead (ConfSource.Root root.entry) found.files found.paths) }
+{
+    if let Err(error) = fs::read_dir(rt, root) {
+        return Err(unread(alloc, root, &error));
+    }
+    let root = Path::new(root);
+    let folder = root.join(alloc, "etc/pam.d")?;
+    match is_folder(rt, folder.as_path()) {
+        Ok(true) => {
+            let vendor = root.join(alloc, "usr/lib/pam.d")?;
+            over_files_if_there(rt, alloc, folder.as_str(), vendor.as_str())
+        }
+        Ok(false) => {
+            let file = root.join(alloc, "etc/pam.conf")?;
+            root_file(rt, alloc, file.as_str())
+        }
+        Err(error) => Err(unread(alloc, folder.as_str(), &error)),
+    }
+}
+
+/// Reads the configuration of a source.
+pub(super) fn source_files<R: std::rt::Files + AllocGlobal + Clone + Drop>(
+    rt: &R,
+    alloc: Global,
+    source: ConfSource<'_>,
+) -> Result<SourceFiles, InputError>
+    ensures { MatchResult result (λ found. IsRead source.entry found.files found.paths) (IsUnread (IsInSource source.entry)) }
+{
+    match source {
+        ConfSource::Dir(folder) => folder_files(rt, alloc, folder),
+        ConfSource::Over { folder, vendor } => over_files(rt, alloc, folder, vendor),
+        ConfSource::Conf(name) => conf_file(rt, alloc, name),
+        ConfSource::Root(root) => root_files(rt, alloc, root),
+    }
+}

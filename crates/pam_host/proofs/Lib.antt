@@ -1,0 +1,14 @@
+pub mod Adding
+pub mod FileNames
+pub mod Foldered
+pub mod Meeting
+pub mod OneService
+pub mod Owned
+pub mod Passes
+pub mod Places
+pub mod Reporting
+pub mod Seen
+pub mod Silence
+pub mod Taking
+pub mod Verdicted
+pub mod WayCodes

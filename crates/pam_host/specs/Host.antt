@@ -1,0 +1,44 @@
+-- A host, and which of its stacks meet a problem: pam.conf(5).
+use Rattle.std.specs.Prelude.{◌≡◌, ◌⊎◌, ℕ, ◌<◌, List, [], Some, length, slice_get, unwrap_or}
+use Rattle.pam_conf.specs.Files.{Folder}
+use Rattle.pam_conf.specs.Survey.{SurveyText, surveyed}
+use Rattle.pam_conf.specs.declared.rule.Kind.{Kind}
+use Rattle.pam_facts.specs.Rows.{Row}
+use Rattle.pam_paths.specs.Classes.{Member}
+use Rattle.pam_host.specs.FileProblems.{FileHas, files_read}
+use Rattle.pam_host.specs.StackProblems.{InStack}
+use Rattle.pam_host.specs.Verdicts.{Verdict}
+use Rattle.pam_host.specs.declared.problem.Spot.{Spot}
+
+-- a host: its configuration, the services that are checked, and what is known of modules
+pub record Host : Type 0 where
+  pub folder : Folder
+  pub services : List (List ℕ)
+  pub facts : List Row
+
+-- the service at a position
+abbrev pub service_at : Host → ℕ → List ℕ
+service_at host service = unwrap_or (slice_get host.services service) []
+
+-- what the files say of a service and a kind
+abbrev pub survey_at : Host → ℕ → Kind → SurveyText
+survey_at host service kind = surveyed host.folder (service_at host service) kind
+
+-- the files that are read for it
+abbrev pub reads_at : Host → ℕ → Kind → List ℕ
+reads_at host service kind = files_read host.folder.form (length host.folder.entries) (survey_at host service kind).reached
+
+-- a problem of a file that is read for a stack
+abbrev pub InFile : Host → Spot → ℕ → Kind → Type 0
+InFile host spot service kind =
+    (file : ℕ) × (spot.file ≡ Some file) × Member file (reads_at host service kind) × FileHas host.folder file spot.line spot.problem
+
+-- the verdict on each service and kind
+abbrev pub Verdicts : Type 0
+Verdicts = ℕ → Kind → Verdict
+
+-- A STACK MEETS A PROBLEM: of a file that is read for it, or of the stack itself
+abbrev pub Meets : Host → Verdicts → Spot → ℕ → Kind → Type 0
+Meets host verdicts spot service kind =
+    (service < length host.services)
+    × (InFile host spot service kind ⊎ InStack host.facts service kind (survey_at host service kind) (verdicts service kind) spot)

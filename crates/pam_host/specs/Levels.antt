@@ -1,0 +1,28 @@
+-- How grave the findings of a host are.
+use Rattle.pam_conf.specs.declared.error.FaultKind.{FaultKind}
+use Rattle.pam_conf.specs.declared.error.FaultKind.TheVariants as faults
+use Rattle.pam_released.specs.declared.difference.Difference.{Difference}
+use Rattle.pam_released.specs.declared.difference.Difference.TheVariants.{DroppedBlank, LongLine}
+use Rattle.pam_host.specs.declared.level.Level.{Level}
+use Rattle.pam_host.specs.declared.level.Level.TheVariants.{Error, Note, Warning}
+use Rattle.pam_host.specs.declared.problem.Problem.{Problem}
+use Rattle.pam_host.specs.declared.problem.Problem.TheVariants as problems
+
+-- Debian's Linux-PAM opens targets in other folders, which pamcheck does not follow
+abbrev pub level_of_fault : FaultKind → Level
+level_of_fault faults.BadTarget = Warning
+level_of_fault fault = Error
+
+-- a long line and a dropped blank change what is read, and not who gets in
+abbrev pub level_of_difference : Difference → Level
+level_of_difference LongLine = Note
+level_of_difference DroppedBlank = Note
+level_of_difference difference = Warning
+
+abbrev pub level_of : Problem → Level
+level_of (problems.Fault fault) = level_of_fault fault
+level_of (problems.Walk fault) = level_of_fault fault
+level_of (problems.Released difference) = level_of_difference difference
+level_of problems.NoOther = Note
+level_of problems.LeftOver = Note
+level_of problem = Warning

@@ -1,0 +1,38 @@
+-- For private contracts and proofs alone: the stacks that meet a problem, one after another.
+use Rattle.std.specs.Prelude.{◌≡◌, ◌⊎◌, ℕ, ◌+◌, ◌==◌, true, false, if◌then◌else◌, Option, Some, None, unwrap_or}
+use Rattle.pam_conf.specs.declared.rule.Kind.{Kind}
+use Rattle.pam_conf.specs.declared.rule.Kind.TheVariants.{Auth, Account, Password, Session}
+use Rattle.pam_host.specs.Met.{AreMet, IsMetByNone}
+use Rattle.pam_host.specs.declared.met.Kinds.{Kinds}
+use Rattle.pam_host.specs.declared.met.Met.{Met}
+
+abbrev pub no_kinds : Kinds
+no_kinds = record { auth = false; account = false; password = false; session = false }
+
+abbrev pub with_kind : Kind → Kinds → Kinds
+with_kind Auth kinds = record kinds { auth = true }
+with_kind Account kinds = record kinds { account = true }
+with_kind Password kinds = record kinds { password = true }
+with_kind Session kinds = record kinds { session = true }
+
+-- those that are known, and the stack of a service that is none of the earlier ones
+abbrev pub also_met : ℕ → Kind → Option Met → Met
+also_met service kind None = record { kinds = with_kind kind no_kinds; first = service; second = None; last = service; services = 1 }
+also_met service kind (Some met) =
+    if met.last == service then record met { kinds = with_kind kind met.kinds }
+    else record {
+      kinds = with_kind kind met.kinds;
+      first = met.first;
+      second = Some (unwrap_or met.second service);
+      last = service;
+      services = met.services + 1;
+    }
+
+-- what is known of the stacks that meet it
+abbrev pub MetSoFar : (ℕ → Kind → Type 0) → Option Met → Type 0
+MetSoFar Meets None = IsMetByNone Meets
+MetSoFar Meets (Some met) = AreMet Meets met
+
+-- a value becomes another one exactly if something holds, and else stays
+abbrev pub Changes : {X : Type 0} → Type 0 → X → Option X → Option X → Type 0
+Changes Holds value old new = (Holds × (new ≡ Some value)) ⊎ ((Holds → ⊥) × (new ≡ old))

@@ -1,0 +1,82 @@
+-- What is wrong with a stack.
+use Rattle.std.specs.Prelude.{◌≡◌, ◌⊎◌, ℕ, true, List, IsSome, MatchOption, slice_get, Option, Some, None}
+use Rattle.pam_conf.specs.Stack.{Items, ModuleText, module_at}
+use Rattle.pam_conf.specs.Survey.{SurveyText}
+use Rattle.pam_conf.specs.declared.conf_error.ConfError.{ConfError}
+use Rattle.pam_conf.specs.declared.rule.Kind.{Kind}
+use Rattle.pam_conf.specs.declared.rule.Kind.TheVariants.{Auth}
+use Rattle.pam_facts.specs.Rows.{Row}
+use Rattle.pam_paths.specs.Classes.{Member}
+use Rattle.pam_paths.specs.Known.{may_answer}
+use Rattle.pam_paths.specs.Paths.{PathValue}
+use Rattle.pam_host.specs.Verdicts.{Judged, Judgement, LetsNobody, Refused, TooLarge, Verdict, answers_on, has_no_function, way_in_of}
+use Rattle.pam_host.specs.declared.problem.Problem.{Problem}
+use Rattle.pam_host.specs.declared.problem.Problem.TheVariants as problems
+use Rattle.pam_host.specs.declared.problem.Spot.{Spot}
+use Rattle.pam_host.specs.declared.way_in.WayIn.{WayIn}
+
+-- FAULTS OF THE WALK
+
+abbrev pub InWalk : List ConfError → Spot → Problem → Type 0
+InWalk faults spot (problems.Walk fault) = Member (record { kind = fault; at = spot.file; line = spot.line }) faults
+InWalk faults spot problem = ⊥
+
+-- MODULES
+
+-- the module with this number has its rule here
+pub record IsAt (items : Items) (number : ℕ) (spot : Spot) (rule : ModuleText) : Type 0 where
+  pub is_there : module_at number items ≡ Some rule
+  pub file : spot.file ≡ Some rule.file
+  pub line : spot.line ≡ rule.line
+
+-- a module has its rule here, and passes a test
+abbrev pub HasModule : Items → Spot → (ℕ → ModuleText → Type 0) → Type 0
+HasModule items spot Passes = (number : ℕ) × (rule : ModuleText) × IsAt items number spot rule × Passes number rule
+
+-- S13: a module has no function in the kind
+abbrev pub LacksFunction : List Row → Kind → Items → Spot → Type 0
+LacksFunction facts kind items spot = HasModule items spot (λ number rule. has_no_function facts kind rule ≡ true)
+
+-- as far as the rules without a fault give a stack
+abbrev pub InItems : List Row → Kind → Option Items → Spot → Problem → Type 0
+InItems facts kind None spot problem = ⊥
+InItems facts kind (Some items) spot problems.NoFunction = LacksFunction facts kind items spot
+InItems facts kind (Some items) spot problem = ⊥
+
+-- S4: a module can jump past the end of its list
+abbrev pub Jumps : Verdict → Spot → Type 0
+Jumps Refused spot = ⊥
+Jumps TooLarge spot = ⊥
+Jumps (Judged j) spot = HasModule j.items spot (λ number rule. Member number j.jumps)
+
+-- BY THE VERDICT on the stack of a service for a kind, where a whole stack is at line 0 of the file of its first rules
+
+abbrev pub IsHome : Option ℕ → Spot → Type 0
+IsHome home spot = (spot.file ≡ home) × (spot.line ≡ 0)
+
+-- S1, S2, S4 and S9
+abbrev pub ByVerdict : ℕ → Kind → Option ℕ → Verdict → Spot → Problem → Type 0
+ByVerdict service kind home verdict spot (problems.LetsNobodyIn of_service of_kind) =
+    (of_service ≡ service) × (of_kind ≡ kind) × IsHome home spot × LetsNobody verdict
+ByVerdict service kind home verdict spot (problems.LetsAnybodyIn of_service) =
+    (of_service ≡ service) × (kind ≡ Auth) × IsHome home spot × IsSome (way_in_of verdict)
+ByVerdict service kind home verdict spot (problems.TooLarge of_service of_kind) =
+    (of_service ≡ service) × (of_kind ≡ kind) × IsHome home spot × (verdict ≡ TooLarge)
+ByVerdict service kind home verdict spot problems.JumpPastEnd = Jumps verdict spot
+ByVerdict service kind home verdict spot problem = ⊥
+
+-- A PROBLEM OF A STACK itself, by the survey of a service and the verdict
+abbrev pub InStack : List Row → ℕ → Kind → SurveyText → Verdict → Spot → Type 0
+InStack facts service kind survey verdict spot =
+    InWalk survey.faults spot spot.problem
+    ⊎ (InItems facts kind survey.items spot spot.problem ⊎ ByVerdict service kind (slice_get survey.reached 0) verdict spot spot.problem)
+
+-- THE FIRST WAY IN, as a stack and answers of its modules
+pub record IsWayIn (j : Judgement) (path : PathValue) (way : WayIn) : Type 0 where
+  pub stack : way.stack ≡ j.items
+  pub answers : way.answers.items ≡ answers_on (may_answer j.failing) path
+
+abbrev pub HasWayIn : Verdict → Option WayIn → Type 0
+HasWayIn Refused way = way ≡ None
+HasWayIn TooLarge way = way ≡ None
+HasWayIn (Judged j) way = MatchOption j.way (way ≡ None) (λ path. MatchOption way ⊥ (IsWayIn j path))

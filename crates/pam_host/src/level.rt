@@ -1,0 +1,53 @@
+//! How grave a finding is.
+
+ghost use Rattle.std.specs.Prelude.{◌≡◌};
+ghost use Rattle.pam_host.specs.Levels.{level_of, level_of_difference, level_of_fault};
+
+use crate::problem::Problem;
+use pam_conf::FaultKind;
+use pam_released::Difference;
+
+/// How grave a finding is, from the least to the most.
+#[derive(Clone, Copy, Debug, PartialEq, Eq)]
+pub enum Level {
+    Note,
+    Warning,
+    Error,
+}
+
+fn level_of_fault(fault: FaultKind) -> Level
+    ensures { result ≡ level_of_fault fault }
+{
+    match fault {
+        FaultKind::BadTarget => Level::Warning,
+        _ => Level::Error,
+    }
+}
+
+fn level_of_difference(difference: Difference) -> Level
+    ensures { result ≡ level_of_difference difference }
+{
+    match difference {
+        Difference::LongLine | Difference::DroppedBlank => Level::Note,
+        _ => Level::Warning,
+    }
+}
+
+impl Problem {
+    /// How grave the problem is.
+    pub fn level(self) -> Level
+        ensures { result ≡ level_of self }
+    {
+        match self {
+            Problem::Fault(fault) | Problem::Walk(fault) => level_of_fault(fault),
+            Problem::Released(difference) => level_of_difference(difference),
+            Problem::NoOther | Problem::LeftOver => Level::Note,
+            Problem::LetsNobodyIn { .. }
+            | Problem::LetsAnybodyIn { .. }
+            | Problem::JumpPastEnd
+            | Problem::UnreachableName
+            | Problem::TooLarge { .. }
+            | Problem::NoFunction => Level::Warning,
+        }
+    }
+}

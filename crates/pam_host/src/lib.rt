@@ -1,0 +1,26 @@
+//! A whole host: every service and kind of a configuration, and what is wrong with it. Each line with a fault is found once,
+//! however many stacks meet it.
+#![tactic(auto)]
+
+mod folder;
+mod judging;
+pub mod laws;
+mod level;
+mod met;
+mod modules;
+mod names;
+mod own;
+mod problem;
+mod readers;
+mod report;
+mod services;
+mod stacks;
+mod table;
+mod walk;
+mod way_in;
+
+pub use level::Level;
+pub use met::{Kinds, Met};
+pub use problem::{Place, Problem, Spot};
+pub use report::{Finding, HostReport};
+pub use way_in::{Answered, WayIn};

@@ -1,0 +1,210 @@
+//! What can be wrong with a host, and where.
+
+ghost use Rattle.std.specs.Prelude.{◌≡◌, ◌≤◌};
+ghost use Rattle.pam_host.specs.Problems.{kind_of, number_of_kind, place_of, rank_of, rank_of_control, rank_of_difference, rank_of_fault, service_of};
+
+use pam_codes::ControlError;
+use pam_conf::{FaultKind, Kind};
+use pam_released::Difference;
+
+/// What is wrong.
+#[derive(Clone, Copy, Debug, PartialEq, Eq)]
+pub enum Problem {
+    /// E1 to E18: a fault of a line of a file, or of the file as a whole.
+    Fault(FaultKind),
+    /// E1 to E18: a fault of the walk from a service over its includes, at the line that is followed.
+    Walk(FaultKind),
+    /// L1 to L9: released Linux-PAM reads the line otherwise.
+    Released(Difference),
+    /// S1: a stack with another module than `pam_deny.so` and `pam_warn.so` never decides success.
+    LetsNobodyIn {
+        /// The position of the service in `HostReport::services`.
+        service: usize,
+        kind: Kind,
+    },
+    /// S2: the `auth` stack of a service decides success although each module that checks who logs in fails.
+    LetsAnybodyIn {
+        /// The position of the service in `HostReport::services`.
+        service: usize,
+    },
+    /// S4: a module jumps past the end of its list.
+    JumpPastEnd,
+    /// S6: a folder has no `other`.
+    NoOther,
+    /// S7: the name of a file has a capital letter, but services are looked up in lowercase.
+    UnreachableName,
+    /// S9: the graph of a stack has more nodes than the limit, so S1 to S4 are not known for it.
+    TooLarge {
+        /// The position of the service in `HostReport::services`.
+        service: usize,
+        kind: Kind,
+    },
+    /// S11: the name of a file is that of a copy which an editor or a package left.
+    LeftOver,
+    /// S13: a module has no function in the kind of its rule.
+    NoFunction,
+}
+
+/// A problem at a line of a file.
+#[derive(Clone, Copy, Debug, PartialEq, Eq)]
+pub struct Spot {
+    /// The position of the file in `Files`; `None` for the configuration as a whole.
+    pub file: Option<usize>,
+    /// From 1; 0 for the file as a whole.
+    pub line: usize,
+    pub problem: Problem,
+}
+
+/// The place of a problem. Places are in the order in which findings are listed.
+#[derive(Clone, Copy, Debug, PartialEq, Eq, PartialOrd, Ord)]
+pub struct Place {
+    /// The position of the file in `Files`; `None` for the configuration as a whole.
+    pub file: Option<usize>,
+    /// From 1; 0 for the file as a whole.
+    pub line: usize,
+    /// Problems of one line are in the order of their ranks: faults of the line, those of walks, differences, and then the others.
+    pub rank: u8,
+    /// The service and the kind of a problem that names them, else 0.
+    pub service: usize,
+    pub kind: u8,
+}
+
+/// The number after `E`, from 4 to 8.
+fn rank_of_control(error: ControlError) -> u8
+    ensures { result ≡ rank_of_control error }
+{
+    match error {
+        ControlError::BadControl => 4,
+        ControlError::BadValue => 5,
+        ControlError::BadAction => 6,
+        ControlError::ZeroJump => 7,
+        ControlError::OpenBracket => 8,
+    }
+}
+
+/// The number after `E`.
+fn rank_of_fault(fault: FaultKind) -> u8
+    ensures value { result ≡ rank_of_fault fault }
+    ensures bound { result ≤ 18 }
+{
+    match fault {
+        FaultKind::NulByte => 1,
+        FaultKind::MissingField => 2,
+        FaultKind::BadKind => 3,
+        FaultKind::Control(error) => rank_of_control(error),
+        FaultKind::MissingTarget => 9,
+        FaultKind::BadTarget => 10,
+        FaultKind::Cycle => 11,
+        FaultKind::TooDeep => 12,
+        FaultKind::TooManyModules => 13,
+        FaultKind::IncludeInSingleFile => 14,
+        FaultKind::NoService => 15,
+        FaultKind::FileTooLong => 16,
+        FaultKind::Memory => 17,
+        FaultKind::TooManyFollowed => 18,
+    }
+}
+
+/// The number after `L`.
+fn rank_of_difference(difference: Difference) -> u8
+    ensures value { result ≡ rank_of_difference difference }
+    ensures bound { result ≤ 9 }
+{
+    match difference {
+        Difference::CarriageReturn => 1,
+        Difference::ContinuedOverBlank => 2,
+        Difference::BackslashBlank => 3,
+        Difference::BackslashComment => 4,
+        Difference::EndsInContinuation => 5,
+        Difference::CapitalInBrackets => 6,
+        Difference::LongLine => 7,
+        Difference::EmptyModuleName => 8,
+        Difference::DroppedBlank => 9,
+    }
+}
+
+fn number_of_kind(kind: Kind) -> u8
+    ensures { result ≡ number_of_kind kind }
+{
+    match kind {
+        Kind::Auth => 0,
+        Kind::Account => 1,
+        Kind::Password => 2,
+        Kind::Session => 3,
+    }
+}
+
+impl Problem {
+    fn rank(self) -> u8
+        ensures { result ≡ rank_of self }
+    {
+        match self {
+            Problem::Fault(fault) => rank_of_fault(fault),
+            Problem::Walk(fault) => 20 + rank_of_fault(fault),
+            Problem::Released(difference) => 40 + rank_of_difference(difference),
+            Problem::LetsNobodyIn { .. } => 51,
+            Problem::LetsAnybodyIn { .. } => 52,
+            Problem::JumpPastEnd => 54,
+            Problem::NoOther => 56,
+            Problem::UnreachableName => 57,
+            Problem::TooLarge { .. } => 59,
+            Problem::LeftOver => 61,
+            Problem::NoFunction => 63,
+        }
+    }
+
+    /// The service of a problem that names one, else 0.
+    fn service(self) -> usize
+        ensures { result ≡ service_of self }
+    {
+        match self {
+            Problem::LetsNobodyIn { service, .. }
+            | Problem::LetsAnybodyIn { service }
+            | Problem::TooLarge { service, .. } => service,
+            Problem::Fault(_)
+            | Problem::Walk(_)
+            | Problem::Released(_)
+            | Problem::JumpPastEnd
+            | Problem::NoOther
+            | Problem::UnreachableName
+            | Problem::LeftOver
+            | Problem::NoFunction => 0,
+        }
+    }
+
+    /// The number of the kind of a problem that names one, else 0.
+    fn kind_number(self) -> u8
+        ensures { result ≡ kind_of self }
+    {
+        match self {
+            Problem::LetsNobodyIn { kind, .. } | Problem::TooLarge { kind, .. } => number_of_kind(
+                kind,
+            ),
+            Problem::Fault(_)
+            | Problem::Walk(_)
+            | Problem::Released(_)
+            | Problem::LetsAnybodyIn { .. }
+            | Problem::JumpPastEnd
+            | Problem::NoOther
+            | Problem::UnreachableName
+            | Problem::LeftOver
+            | Problem::NoFunction => 0,
+        }
+    }
+}
+
+impl Spot {
+    /// The place of the problem.
+    #[tactic(auto, unfolding(crate::specs::Problems::place_of))]
+    pub fn place(self) -> Place
+        ensures { result ≡ place_of self }
+    {
+        Place {
+            file: self.file,
+            line: self.line,
+            rank: self.problem.rank(),
+            service: self.problem.service(),
+            kind: self.problem.kind_number(),
+        }
+    }
+}

@@ -1,0 +1,180 @@
+//! What is found of a stack.
+
+ghost use Rattle.std.specs.Prelude.{◌≡◌, ◌↔◌, IfOk, IsTrue, List, None, [], ℕ, length};
+ghost use Rattle.std.proofs.Common.{replicate};
+ghost use Rattle.pam_conf.specs.Laws.{IsSound};
+ghost use Rattle.pam_conf.specs.Survey.{faults_at, surveyed};
+ghost use Rattle.pam_conf.specs.SurveyText.{survey_text};
+ghost use Rattle.pam_host.specs.declared.problem.Spot.{Spot as SpotText};
+ghost use Rattle.pam_host.specs.Table.{ArePlaced, finding_at};
+ghost use Rattle.pam_host.specs.SoFar.{SoFar, host_with};
+ghost use Rattle.pam_host.specs.Checking.{AddsService, AddsStack};
+ghost use Rattle.pam_host.specs.Looked.{Looks};
+
+use crate::judging::{Stacked, judge};
+use crate::met::Met;
+use crate::modules::push_all_functionless;
+use crate::problem::Spot;
+use crate::readers::note_read;
+use crate::table::{Table, put_stack_at_all};
+use crate::walk::push_walk;
+use crate::way_in::WayIn;
+use pam_conf::laws::stack_is_sound_survey;
+use pam_conf::{Files, Kind, RuleFiles, Survey};
+use pam_facts::Facts;
+use pam_text::Texts;
+use std::alloc::{AllocError, Global};
+use std::collections::BTreeMap;
+
+/// What the services are checked by: the files, what was read of them, and what is known of modules.
+#[derive(Drop)]
+pub(crate) struct Checker<'x, 'f> {
+    pub alloc: Global,
+    pub files: &'x Files,
+    pub rules: &'x RuleFiles<'x>,
+    pub facts: &'x Facts<'f>,
+    ghost same: { rules.now ≡ files.now },
+}
+
+/// What is found so far: the findings, and the stacks that read each file, by its position.
+#[derive(Drop)]
+pub(crate) struct Found {
+    pub table: Table,
+    pub readers: Vec<Option<Met>>,
+}
+
+impl Found {
+    /// Nothing is found, and none of this many files is read.
+    pub(crate) fn nothing(alloc: Global, files: usize) -> Result<Found, AllocError>
+        ensures readers { IfOk result (λ f. f.readers.items ≡ replicate files None) }
+        ensures found { IfOk result (λ f. (spot : SpotText) → finding_at f.table spot ≡ None) }
+        ensures placed { IfOk result (λ f. ArePlaced f.table) }
+    {
+        Ok(Found {
+            table: BTreeMap::new(alloc),
+            readers: vec![in alloc; None; files]?,
+        })
+    }
+}
+
+/// Whether a file has no fault of its own.
+fn is_faultless(rules: &RuleFiles<'_>, file: usize) -> bool
+    ensures { IsTrue result ↔ (faults_at rules.now file ≡ []) }
+{
+    match rules.faults(file) {
+        Some(faults) => faults.is_empty(),
+        None => true,
+    }
+}
+
+/// Whether a survey has no fault, of the walk and of each file that it reached.
+fn is_sound(rules: &RuleFiles<'_>, survey: &Survey) -> bool
+    ensures { IsTrue result ↔ IsSound rules.now (survey_text survey.now) }
+{
+    if !survey.faults.is_empty() {
+        return false;
+    }
+    for file in &survey.reached {
+        if !is_faultless(rules, *file) {
+            return false;
+        }
+    }
+    true
+}
+
+impl Checker<'_, '_> {
+    /// The problems of a stack itself, and the first way in, if it is one of `auth`.
+    fn look(
+        &self,
+        spots: &mut Vec<Spot>,
+        service: usize,
+        kind: Kind,
+        survey: Survey,
+    ) -> Result<Option<WayIn>, AllocError>
+        requires { spots.old.items ≡ [] }
+        ensures { (name : List ℕ) → survey_text survey ≡ surveyed self.now.rules.now name kind →
+            IfOk result (Looks self.now.rules.now self.now.facts.now name service kind (survey_text survey) spots.new.items) }
+    {
+        stack_is_sound_survey();
+        let is_sound = is_sound(self.rules, &survey);
+        push_walk(spots, &survey.faults)?;
+        let at = Stacked {
+            service,
+            kind,
+            home: survey.reached.first().copied(),
+        };
+        let Survey {
+            stack,
+            faults: _,
+            reached: _,
+        } = survey;
+        let stack = match stack {
+            Some(stack) => stack,
+            None => return Ok(None),
+        };
+        push_all_functionless(spots, self.facts, kind, &stack)?;
+        if !is_sound {
+            return Ok(None);
+        }
+        judge(self.alloc, spots, self.facts, at, stack)
+    }
+
+    /// Adds what the stack of a service for a kind meets. Returns the first way in, if it is one of `auth`.
+    fn add_stack(
+        &self,
+        found: &mut Found,
+        service: usize,
+        name: &[u8],
+        kind: Kind,
+    ) -> Result<Option<WayIn>, AllocError>
+        requires { length found.old.readers.items ≡ length self.now.files.now.entries }
+        ensures { IfOk result (AddsStack self.now.files.now self.now.facts.now service name.now kind found.old found.new) }
+    {
+        let survey = self.rules.survey(self.alloc, name, kind)?;
+        note_read(
+            &mut found.readers,
+            self.files.form(),
+            &survey.reached,
+            service,
+            kind,
+        )?;
+        let mut spots = Vec::new(self.alloc);
+        let way = self.look(&mut spots, service, kind, survey)?;
+        put_stack_at_all(&mut found.table, &spots, service, kind)?;
+        Ok(way)
+    }
+
+    /// Adds what the stacks of a service meet. Returns the first way into its stack of `auth`, if there is one.
+    pub(crate) fn add_service(
+        &self,
+        found: &mut Found,
+        service: usize,
+        name: &[u8],
+    ) -> Result<Option<WayIn>, AllocError>
+        requires { length found.old.readers.items ≡ length self.now.files.now.entries }
+        ensures { IfOk result (AddsService self.now.files.now self.now.facts.now service name.now found.old found.new) }
+    {
+        let way = self.add_stack(found, service, name, Kind::Auth)?;
+        let _ = self.add_stack(found, service, name, Kind::Account)?;
+        let _ = self.add_stack(found, service, name, Kind::Password)?;
+        let _ = self.add_stack(found, service, name, Kind::Session)?;
+        Ok(way)
+    }
+
+    /// Adds what the stacks of these services meet. Returns for each service the first way into its stack of `auth`.
+    pub(crate) fn add_all(
+        &self,
+        found: &mut Found,
+        services: &Texts,
+    ) -> Result<Vec<Option<WayIn>>, AllocError>
+        requires { SoFar (host_with self.now.files.now services.now self.now.facts.now) 0 found.old [] }
+        ensures { IfOk result (λ ways. SoFar (host_with self.now.files.now services.now self.now.facts.now) (length services.now) found.new ways.items) }
+    {
+        let mut ways_in = Vec::new(self.alloc);
+        for name in services.iter() {
+            let way = self.add_service(found, ways_in.len(), name)?;
+            ways_in.push(way)?;
+        }
+        Ok(ways_in)
+    }
+}

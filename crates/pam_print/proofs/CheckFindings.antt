@@ -1,0 +1,46 @@
+-- The line of a finding, part by part.
+use Rattle.std.proofs.Common.{◌≡◌, ◌∙◌, ℕ, List, [], ◌∷◌, ◌++◌, append_assoc, append-nil, codes, refl}
+use Rattle.std.specs.Prelude.{decimal}
+use Rattle.std.specs.List.{concat, flat_map}
+use Rattle.pam_conf.specs.Stack.{Items}
+use Rattle.pam_host.specs.Levels.{level_of}
+use Rattle.pam_host.specs.declared.problem.Place.{Place}
+use Rattle.pam_host.specs.declared.report.Finding.{Finding}
+use Rattle.pam_host.specs.declared.way_in.Answered.{Answered}
+use Rattle.pam_known.specs.Answers.{name_of_path}
+use Rattle.pam_report.specs.Decide.{path_at}
+use Rattle.pam_print.specs.Check.{Names, answer_text, answers_text, finding_line, next_answer, place_text, sentence, shown_name}
+use Rattle.pam_print.specs.Header.{code_name}
+use Rattle.pam_print.specs.Sentences as say
+
+-- THE ANSWERS OF A WAY IN
+
+-- an answer, written in one line, a name and another line
+answer_parts : (number name code : List ℕ)
+    → (concat (codes " " ∷ number ∷ codes " " ∷ []) ++ name) ++ concat (codes " " ∷ code ∷ []) ≡ codes " " ++ number ++ codes " " ++ name ++ codes " " ++ code
+answer_parts number name code = simp (append_assoc, append-nil)
+
+pub answer_text-is : (items : Items) (a : Answered) (name code : List ℕ) → name ≡ name_of_path (path_at a.number items) → code ≡ code_name a.code
+    → (concat (codes " " ∷ decimal a.number ∷ codes " " ∷ []) ++ shown_name name) ++ concat (codes " " ∷ code ∷ []) ≡ answer_text items a
+unfolding answer_text
+answer_text-is items a name code e f = answer_parts (decimal a.number) (shown_name name) code ∙ rw (e, f) refl
+
+pub answers_text-is : (items : Items) (all : List Answered) (first : Answered) (others : List Answered) → all ≡ first ∷ others
+    → (codes ":" ++ answer_text items first) ++ flat_map (next_answer items) others ≡ answers_text items all
+unfolding answers_text
+answers_text-is items all first others e = rw e refl
+
+-- THE LINE
+
+-- a line, whose level and name are written together
+line_parts : (place level name said : List ℕ) → ((place ++ concat (level ∷ codes ": " ∷ name ∷ codes ": " ∷ [])) ++ said) ++ codes "\n"
+    ≡ place ++ level ++ codes ": " ++ name ++ codes ": " ++ said ++ codes "\n"
+line_parts place level name said = simp (append_assoc, append-nil)
+
+pub finding_line-is : (names : Names) (place : Place) (finding : Finding) (level name : List ℕ)
+    → level ≡ say.level_name (level_of finding.problem) → name ≡ say.problem_name finding.problem
+    → ((place_text names.paths place ++ concat (level ∷ codes ": " ∷ name ∷ codes ": " ∷ [])) ++ sentence names place.line finding.met finding.problem)
+    ++ codes "\n" ≡ finding_line names (place, finding)
+unfolding finding_line
+finding_line-is names place finding level name e f =
+    line_parts (place_text names.paths place) level name (sentence names place.line finding.met finding.problem) ∙ rw (e, f) refl

@@ -1,0 +1,202 @@
+-- The text of `check`: a line for each finding, and a last line with their numbers.
+use Rattle.std.specs.Prelude.{ℕ, ◌+◌, ◌-◌, ◌*◌, ◌/◌, ◌%◌, ◌==◌, ◌||◌, nat_lt, Bool, true, false, List, [], ◌∷◌, ◌++◌, codes, count_by}
+use Rattle.std.specs.Prelude.{decimal, length, min, if◌then◌else◌, Option, None, Some, slice_get, slice_index_or, unwrap_or}
+use Rattle.std.specs.BTreeMap.{BTreeMap}
+use Rattle.std.specs.List.{flat_map}
+use Rattle.std.specs.Option.{option_map_or}
+use Rattle.pam_conf.specs.Stack.{Items}
+use Rattle.pam_conf.specs.declared.error.FaultKind.{FaultKind}
+use Rattle.pam_conf.specs.declared.error.FaultKind.TheVariants.{NoService}
+use Rattle.pam_conf.specs.declared.rule.Form.{Form}
+use Rattle.pam_conf.specs.declared.rule.Form.TheVariants.{Dir, Single}
+use Rattle.pam_conf.specs.declared.rule.Kind.{Kind}
+use Rattle.pam_conf.specs.declared.rule.Kind.TheVariants.{Auth}
+use Rattle.pam_host.specs.Levels.{level_of}
+use Rattle.pam_host.specs.declared.level.Level.{Level}
+use Rattle.pam_host.specs.declared.level.Level.TheVariants as levels
+use Rattle.pam_host.specs.declared.met.Kinds.{Kinds}
+use Rattle.pam_host.specs.declared.met.Met.{Met}
+use Rattle.pam_host.specs.declared.problem.Place.{Place}
+use Rattle.pam_host.specs.declared.problem.Problem.{Problem}
+use Rattle.pam_host.specs.declared.problem.Problem.TheVariants as problems
+use Rattle.pam_host.specs.declared.report.Finding.{Finding}
+use Rattle.pam_host.specs.declared.way_in.Answered.{Answered}
+use Rattle.pam_host.specs.declared.way_in.WayIn.{WayIn}
+use Rattle.pam_known.specs.Answers.{name_of_path}
+use Rattle.pam_report.specs.Decide.{path_at}
+use Rattle.pam_report.specs.Reply.{CheckValue}
+use Rattle.pam_print.specs.Header.{code_name, kind_name}
+use Rattle.pam_print.specs.Sentences as say
+
+-- NAMES, IN WHICH NO BYTE CAN END OR CHANGE A LINE
+
+-- the two digits of a byte
+abbrev pub hex_digit : ℕ → List ℕ
+hex_digit digit = (if nat_lt digit 10 then 48 + digit else 87 + digit) ∷ []
+
+-- a control byte, and the backslash of one
+abbrev pub is_escaped : ℕ → Bool
+is_escaped byte = nat_lt byte 32 || (byte == 127) || (byte == 92)
+
+-- a byte of a name: `\x0a` for a line feed
+abbrev pub shown_byte : ℕ → List ℕ
+shown_byte byte = if is_escaped byte then codes "\\x" ++ hex_digit (byte / 16) ++ hex_digit (byte % 16) else byte ∷ []
+
+abbrev pub shown_name : List ℕ → List ℕ
+shown_name name = flat_map shown_byte name
+
+-- the names and the ways in that sentences need
+pub record Names : Type 0 where
+  pub form : Form
+  pub paths : List (List ℕ)
+  pub services : List (List ℕ)
+  pub ways_in : List (Option WayIn)
+
+-- THE PLACE OF A FINDING
+
+-- the text at a position, empty if there is none
+abbrev pub text_at : List (List ℕ) → ℕ → List ℕ
+text_at texts position = unwrap_or (slice_get texts position) []
+
+-- the path of a file; that of the configuration as a whole comes first
+abbrev pub path_of : List (List ℕ) → Option ℕ → List ℕ
+path_of paths None = text_at paths 0
+path_of paths (Some file) = text_at paths (file + 1)
+
+-- a file as a whole has no line
+abbrev pub line_text : ℕ → List ℕ
+line_text line = if line == 0 then [] else codes ":" ++ decimal line
+
+-- `PATH:LINE: `
+unfoldable pub place_text : List (List ℕ) → Place → List ℕ
+place_text paths place = shown_name (path_of paths place.file) ++ line_text place.line ++ codes ": "
+
+-- THE STACKS THAT MEET IT
+
+-- kinds, with commas
+abbrev pub after_comma : Bool → List ℕ → List ℕ
+after_comma more name = if more then codes ", " ++ name else name
+
+abbrev pub if_kind : Bool → Bool → List ℕ → List ℕ
+if_kind is_named more name = if is_named then after_comma more name else []
+
+unfoldable pub kinds_text : Kinds → List ℕ
+kinds_text k =
+    if_kind k.auth false (codes "auth") ++ if_kind k.account k.auth (codes "account")
+    ++ if_kind k.password (k.auth || k.account) (codes "password") ++ if_kind k.session (k.auth || k.account || k.password) (codes "session")
+
+-- the second service, and the number of the others
+abbrev pub others_text : List (List ℕ) → ℕ → ℕ → List ℕ
+others_text services second count =
+    if nat_lt 2 count then codes ", " ++ shown_name (text_at services second) ++ codes " and " ++ decimal (count - 2) ++ codes " more"
+    else codes " and " ++ shown_name (text_at services second)
+
+abbrev pub others_if_any : List (List ℕ) → Met → List ℕ
+others_if_any services met = option_map_or (λ second. others_text services second met.services) met.second []
+
+-- ` (KINDS; SERVICES)`
+unfoldable pub met_text : List (List ℕ) → Met → List ℕ
+met_text services met =
+    codes " (" ++ kinds_text met.kinds ++ codes "; " ++ shown_name (text_at services met.first)
+    ++ others_if_any services met ++ codes ")"
+
+abbrev pub met_if_any : List (List ℕ) → Option Met → List ℕ
+met_if_any services met = option_map_or (met_text services) met []
+
+-- THE SENTENCE
+
+-- ` of SERVICE` in pam.conf, whose findings have one place for all services
+abbrev pub of_service : Form → List (List ℕ) → ℕ → List ℕ
+of_service Dir services service = []
+of_service Single services service = codes " of " ++ shown_name (text_at services service)
+
+abbrev pub kind_of_service : Names → Kind → ℕ → List ℕ
+kind_of_service names kind service = kind_name kind ++ of_service names.form names.services service
+
+-- `NUMBER NAME CODE`
+unfoldable pub answer_text : Items → Answered → List ℕ
+answer_text items answer =
+    codes " " ++ decimal answer.number ++ codes " " ++ shown_name (name_of_path (path_at answer.number items)) ++ codes " " ++ code_name answer.code
+
+abbrev pub next_answer : Items → Answered → List ℕ
+next_answer items answer = codes "," ++ answer_text items answer
+
+-- `: NUMBER NAME CODE, NUMBER NAME CODE`
+unfoldable pub answers_text : Items → List Answered → List ℕ
+answers_text items [] = []
+answers_text items (answer ∷ answers) = (codes ":" ++ answer_text items answer) ++ flat_map (next_answer items) answers
+
+abbrev pub way_text : Option WayIn → List ℕ
+way_text way = option_map_or (λ w. answers_text w.stack w.answers.items) way []
+
+-- the first way in of a service
+abbrev pub way_in_at : List (Option WayIn) → ℕ → List ℕ
+way_in_at ways service = way_text (slice_index_or ways service None)
+
+-- a missing file that is named at a line, or a service without rules
+abbrev pub fault_text : ℕ → FaultKind → List ℕ
+fault_text line NoService = if line == 0 then say.no_rules_sentence else say.fault_sentence NoService
+fault_text line fault = say.fault_sentence fault
+
+-- what is wrong, how to mend it, and which stacks meet it
+unfoldable pub sentence : Names → ℕ → Option Met → Problem → List ℕ
+sentence names line met (problems.Fault fault) = fault_text line fault ++ met_if_any names.services met
+sentence names line met (problems.Walk fault) = fault_text line fault ++ met_if_any names.services met
+sentence names line met (problems.Released difference) = say.released_sentence difference ++ met_if_any names.services met
+sentence names line met (problems.LetsNobodyIn service kind) = kind_of_service names kind service ++ say.nobody_sentence
+sentence names line met (problems.LetsAnybodyIn service) =
+    kind_of_service names Auth service ++ say.anybody_sentence ++ way_in_at names.ways_in service
+sentence names line met problems.JumpPastEnd = say.jump_sentence ++ met_if_any names.services met
+sentence names line met problems.NoOther = say.no_other_sentence
+sentence names line met problems.UnreachableName = say.unreachable_sentence
+sentence names line met (problems.TooLarge service kind) = kind_of_service names kind service ++ say.large_sentence
+sentence names line met problems.LeftOver = say.left_over_sentence
+sentence names line met problems.NoFunction = say.no_function_sentence ++ met_if_any names.services met
+
+-- A LINE: `PLACE: LEVEL: NUMBER NAME: SENTENCE`
+unfoldable pub finding_line : Names → Place × Finding → List ℕ
+finding_line names entry =
+    place_text names.paths entry.0 ++ say.level_name (level_of entry.1.problem) ++ codes ": " ++ say.problem_name entry.1.problem ++ codes ": "
+    ++ sentence names entry.0.line entry.1.met entry.1.problem ++ codes "\n"
+
+-- THE LAST LINE
+
+abbrev pub is_level : Level → Level → Bool
+is_level levels.Note levels.Note = true
+is_level levels.Warning levels.Warning = true
+is_level levels.Error levels.Error = true
+is_level level other = false
+
+-- the number of findings of a level
+abbrev pub number_at : Level → List (Place × Finding) → ℕ
+number_at level found = count_by (λ entry. is_level (level_of entry.1.problem) level) found
+
+-- `1 error`, `2 errors`
+abbrev pub counted : ℕ → List ℕ → List ℕ
+counted count name = decimal count ++ codes " " ++ name ++ (if count == 1 then [] else codes "s")
+
+-- `ERRORS, WARNINGS, NOTES`
+abbrev pub levels_text : List (Place × Finding) → List ℕ
+levels_text found =
+    counted (number_at levels.Error found) (codes "error") ++ codes ", " ++ counted (number_at levels.Warning found) (codes "warning") ++ codes ", "
+    ++ counted (number_at levels.Note found) (codes "note")
+
+-- the stacks of services, one for each of the four kinds: as many as a number of 64 bits can say
+abbrev pub stacks_of : ℕ → ℕ
+stacks_of services = min (services * 4) 18446744073709551615
+
+-- `checked SERVICES, STACKS: ERRORS, WARNINGS, NOTES`
+unfoldable pub last_line : ℕ → List (Place × Finding) → List ℕ
+last_line services found =
+    codes "checked " ++ counted services (codes "service") ++ codes ", " ++ counted (stacks_of services) (codes "stack") ++ codes ": "
+    ++ levels_text found ++ codes "\n"
+
+abbrev pub report_text : Names → BTreeMap Place Finding → List ℕ
+report_text names found = flat_map (finding_line names) found.entries ++ last_line (length names.services) found.entries
+
+abbrev pub names_of_value : CheckValue → Names
+names_of_value value = record { form = value.form; paths = value.paths; services = value.services; ways_in = value.ways_in }
+
+-- THE TEXT of `check`
+abbrev pub check_text : CheckValue → List ℕ
+check_text value = report_text (names_of_value value) value.found

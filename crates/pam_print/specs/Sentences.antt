@@ -1,0 +1,87 @@
+-- What `check` says of each problem: its number and name, what is wrong, and how to mend it.
+use Rattle.std.specs.Prelude.{ℕ, List, ◌++◌, codes}
+use Rattle.pam_codes.specs.declared.error.ControlError.{ControlError}
+use Rattle.pam_codes.specs.declared.error.ControlError.TheVariants.{BadControl, BadValue, BadAction, ZeroJump, OpenBracket}
+use Rattle.pam_conf.specs.declared.error.FaultKind.{FaultKind}
+use Rattle.pam_conf.specs.declared.error.FaultKind.TheVariants as faults
+use Rattle.pam_host.specs.declared.level.Level.{Level}
+use Rattle.pam_host.specs.declared.level.Level.TheVariants.{Error, Note, Warning}
+use Rattle.pam_host.specs.declared.problem.Problem.{Problem}
+use Rattle.pam_host.specs.declared.problem.Problem.TheVariants as problems
+use Rattle.pam_released.specs.Meanings.{meaning_of, mending_of, name_of}
+use Rattle.pam_released.specs.declared.difference.Difference.{Difference}
+use Rattle.pam_report.specs.FaultTable.{conf_row}
+
+abbrev pub level_name : Level → List ℕ
+level_name Note = codes "note"
+level_name Warning = codes "warning"
+level_name Error = codes "error"
+
+-- the number and the name
+unfoldable pub problem_name : Problem → List ℕ
+problem_name (problems.Fault fault) = (conf_row fault).name
+problem_name (problems.Walk fault) = (conf_row fault).name
+problem_name (problems.Released difference) = name_of difference
+problem_name (problems.LetsNobodyIn service kind) = codes "S1 LetsNobodyIn"
+problem_name (problems.LetsAnybodyIn service) = codes "S2 LetsAnybodyIn"
+problem_name problems.JumpPastEnd = codes "S4 JumpPastEnd"
+problem_name problems.NoOther = codes "S6 NoOther"
+problem_name problems.UnreachableName = codes "S7 UnreachableName"
+problem_name (problems.TooLarge service kind) = codes "S9 TooLarge"
+problem_name problems.LeftOver = codes "S11 LeftOver"
+problem_name problems.NoFunction = codes "S13 NoFunction"
+
+unfoldable pub control_sentence : ControlError → List ℕ
+control_sentence BadControl =
+    codes "the control is not required, requisite, sufficient, optional, include, substack or pairs CODE=ACTION in one pair of brackets"
+control_sentence BadValue = codes "the word before = is no return code; write one as success, or default"
+control_sentence BadAction = codes "the word after = is no action; write ignore, bad, die, ok, done, reset or a number of at most 9 digits"
+control_sentence ZeroJump = codes "a jump over 0 items; write ignore, or the number of items to jump over"
+control_sentence OpenBracket = codes "a bracket is not closed; write ] after the last word in it"
+
+unfoldable pub fault_sentence : FaultKind → List ℕ
+fault_sentence faults.NulByte = codes "the file has a NUL byte; remove it"
+fault_sentence faults.MissingField = codes "the line ends too early; a rule has a kind, a control and the path of a module"
+fault_sentence faults.BadKind = codes "the kind is not auth, account, password or session"
+fault_sentence (faults.Control error) = control_sentence error
+fault_sentence faults.MissingTarget = codes "no file is named; write its name after include, substack or @include"
+fault_sentence faults.BadTarget = codes "the file that is named is not in this folder, so it is not read here; write a name without folder"
+fault_sentence faults.Cycle = codes "the file is being read already, so it would be read without end; remove this line, or the one that leads back"
+fault_sentence faults.TooDeep = codes "more than 16 files would be open at once; include fewer files in one another"
+fault_sentence faults.TooManyModules = codes "the stack has more than 256 modules; remove some"
+fault_sentence faults.IncludeInSingleFile = codes "pam.conf cannot include files; write the rules here, or use a folder"
+fault_sentence faults.NoService = codes "there is no file of this name; mend the name, or make the file"
+fault_sentence faults.FileTooLong = codes "the file is longer than 1,048,576 bytes; shorten it"
+fault_sentence faults.Memory = codes "an allocation failed"
+fault_sentence faults.TooManyFollowed = codes "more than 256 includes and substacks are followed; include fewer files"
+
+-- for a fault at no line: neither the service nor `other` has rules
+abbrev pub no_rules_sentence : List ℕ
+no_rules_sentence = codes "neither the service nor other has rules, so every login is refused; make one of the files"
+
+abbrev pub released_sentence : Difference → List ℕ
+released_sentence difference = meaning_of difference ++ codes "; " ++ mending_of difference
+
+abbrev pub nobody_sentence : List ℕ
+nobody_sentence = codes " never succeeds, whatever its modules answer; look for a jump over too many items, or a module that always fails"
+
+abbrev pub anybody_sentence : List ℕ
+anybody_sentence = codes " succeeds although no module that checks who logs in does"
+
+abbrev pub jump_sentence : List ℕ
+jump_sentence = codes "a jump past the end of the list, which fails the stack; jump over fewer items"
+
+abbrev pub no_other_sentence : List ℕ
+no_other_sentence = codes "there is no file other, which decides for each service without a file; make one that denies"
+
+abbrev pub unreachable_sentence : List ℕ
+unreachable_sentence = codes "services are looked up in lowercase, so no program finds this file; write its name in lowercase"
+
+abbrev pub large_sentence : List ℕ
+large_sentence = codes " can come to more than 65,536 places, so it is not known whether it lets nobody or anybody in"
+
+abbrev pub left_over_sentence : List ℕ
+left_over_sentence = codes "a copy that an editor or a package left, for which no program asks; it is not checked, and may be removed"
+
+abbrev pub no_function_sentence : List ℕ
+no_function_sentence = codes "the module has no function for this kind, so it always answers module_unknown; remove the rule"

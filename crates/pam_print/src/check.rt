@@ -1,0 +1,164 @@
+//! The text of `check`: a line for each finding, and a last line with their numbers.
+
+ghost use Rattle.std.specs.Prelude.{◌≡◌, [], IfOk, map};
+ghost use Rattle.std.specs.List.{flat_map};
+ghost use Rattle.std.specs.Option.{option_map_or};
+ghost use Rattle.pam_codes.specs.Out.{Writes, WritesAndFlushes};
+ghost use Rattle.pam_report.specs.Reply.{Check};
+ghost use Rattle.pam_report.specs.ReplyViews.{check_view};
+ghost use Rattle.pam_print.specs.Check.{counted, finding_line, is_level, last_line, levels_text};
+ghost use Rattle.pam_print.specs.Check.{names_of_value, number_at, report_text};
+ghost use Rattle.pam_print.specs.CheckNames.{names_view};
+ghost use Rattle.pam_print.specs.Leaves.{Prints};
+
+mod escaped;
+mod finding;
+mod met;
+mod sentences;
+
+use finding::{Names, put_finding};
+use pam_codes::{Device, Out, Piece};
+use pam_host::{Finding, Level, Place};
+use pam_report::{CheckReply, Fault};
+use pam_text::Texts;
+use std::alloc::{AllocError, Global};
+use std::collections::BTreeMap;
+use std::io::Write;
+
+/// The number of kinds: each service has a stack for each of them.
+const KINDS: usize = 4;
+
+/// Returns the texts of a list, by position.
+fn slices(alloc: Global, texts: &Texts) -> Result<Vec<&[u8]>, AllocError>
+    ensures { IfOk result (λ v. map (λ text. text.now) v.items ≡ texts.now) }
+{
+    texts.iter().collect(alloc)
+}
+
+/// Returns the paths of a check by position, if it has any.
+fn slices_if_any(alloc: Global, texts: Option<&Texts>) -> Result<Vec<&[u8]>, AllocError>
+    ensures { IfOk result (λ v. map (λ text. text.now) v.items ≡ option_map_or (λ t. t.now) texts.entry []) }
+{
+    match texts {
+        Some(texts) => slices(alloc, texts),
+        None => Ok(Vec::new(alloc)),
+    }
+}
+
+fn is_level(level: Level, other: Level) -> bool
+    ensures { result ≡ is_level level other }
+{
+    level == other
+}
+
+/// Returns the number of findings of a level.
+fn number_at(found: &BTreeMap<Place, Finding>, level: Level) -> usize
+    ensures { result ≡ number_at level found.now.entries }
+{
+    found
+        .values()
+        .filter(|finding| is_level(finding.problem.level(), level))
+        .count()
+}
+
+/// Writes a number and what is counted, as `1 error` or `2 errors`.
+#[tactic(auto, unfolding(crate::specs::Check::counted))]
+fn put_counted<W: Write>(count: usize, name: &str, out: &mut Out<W>) -> Result<(), Device>
+    ensures { Writes W.contents out.old out.new result (counted count name.now) }
+{
+    out.put_line(&[
+        Piece::Number(count as u64),
+        Piece::Bytes(b" "),
+        Piece::Bytes(name.as_bytes()),
+    ])?;
+    if count == 1 {
+        return Ok(());
+    }
+    out.put(b"s")
+}
+
+/// Writes `ERRORS, WARNINGS, NOTES`.
+fn put_levels<W: Write>(found: &BTreeMap<Place, Finding>, out: &mut Out<W>) -> Result<(), Device>
+    ensures { Writes W.contents out.old out.new result (levels_text found.now.entries) }
+{
+    put_counted(number_at(found, Level::Error), "error", out)?;
+    out.put(b", ")?;
+    put_counted(number_at(found, Level::Warning), "warning", out)?;
+    out.put(b", ")?;
+    put_counted(number_at(found, Level::Note), "note", out)
+}
+
+/// Writes the last line.
+#[tactic(auto, unfolding(crate::specs::Check::last_line))]
+fn put_last_line<W: Write>(
+    services: usize,
+    found: &BTreeMap<Place, Finding>,
+    out: &mut Out<W>,
+) -> Result<(), Device>
+    ensures { Writes W.contents out.old out.new result (last_line services found.now.entries) }
+{
+    out.put(b"checked ")?;
+    put_counted(services, "service", out)?;
+    out.put(b", ")?;
+    put_counted(services.saturating_mul(KINDS), "stack", out)?;
+    out.put(b": ")?;
+    put_levels(found, out)?;
+    out.put(b"\n")
+}
+
+fn put_findings<W: Write>(
+    names: &Names<'_>,
+    found: &BTreeMap<Place, Finding>,
+    out: &mut Out<W>,
+) -> Result<(), Device>
+    ensures { Writes W.contents out.old out.new result (flat_map (finding_line (names_view names.now)) found.now.entries) }
+{
+    for (place, finding) in found {
+        put_finding(names, place, *finding, out)?;
+    }
+    Ok(())
+}
+
+fn write_report<W: Write>(
+    names: &Names<'_>,
+    found: &BTreeMap<Place, Finding>,
+    out: &mut Out<W>,
+) -> Result<(), Device>
+    ensures { WritesAndFlushes W.contents out.old out.new result (report_text (names_view names.now) found.now) }
+{
+    put_findings(names, found, out)?;
+    put_last_line(names.services.len(), found, out)?;
+    out.finish()
+}
+
+/// Returns the names of a check by position.
+fn names_of<'a>(alloc: Global, reply: &'a CheckReply<'_>) -> Result<Names<'a>, AllocError>
+    ensures { IfOk result (λ n. names_view n ≡ names_of_value (check_view reply.now)) }
+{
+    let paths = slices_if_any(alloc, reply.paths)?;
+    let services = slices(alloc, &reply.report.services)?;
+    Ok(Names {
+        form: reply.form,
+        paths,
+        services,
+        ways_in: &reply.report.ways_in,
+    })
+}
+
+/// Writes the findings of a check. Allocates lists of names before the first byte.
+pub(crate) fn write_check<W: Write>(
+    alloc: Global,
+    reply: &CheckReply<'_>,
+    out: &mut Out<W>,
+) -> Result<(), Fault>
+    ensures { Prints W.contents out.old out.new result (Check (check_view reply.now)) }
+{
+    let names = match names_of(alloc, reply) {
+        Ok(names) => names,
+        Err(_) => return Err(Fault::Memory),
+    };
+    match write_report(&names, &reply.report.found, out) {
+        Ok(()) => Ok(()),
+        Err(Device) => Err(Fault::Device),
+    }
+}

@@ -1,0 +1,253 @@
+//! A line for a finding.
+
+ghost use Rattle.std.specs.Prelude.{◌≡◌, ◌++◌, map};
+ghost use Rattle.std.specs.List.{flat_map};
+ghost use Rattle.pam_codes.specs.Out.{Writes};
+ghost use Rattle.pam_print.specs.Check.{answer_text, answers_text, finding_line, kind_of_service, line_text, met_if_any, next_answer};
+ghost use Rattle.pam_print.specs.Check.{of_service, path_of, place_text, sentence, text_at, way_in_at, way_text};
+ghost use Rattle.pam_print.specs.CheckNames.{names_view};
+
+use super::escaped::put_name;
+use super::met::put_met_if_any;
+use super::sentences::{
+    ANYBODY, JUMP, LARGE, LEFT_OVER, NO_FUNCTION, NO_OTHER, NOBODY, UNREACHABLE, fault_text,
+    level_name, problem_name, put_released,
+};
+use crate::decide::name_of;
+use crate::header::kind_name;
+use pam_codes::{Device, Out, Piece};
+use pam_conf::{Form, Kind, Stack};
+use pam_host::{Answered, Finding, Met, Place, Problem, WayIn};
+use pam_known::name_of_path;
+use pam_report::path_at;
+use std::io::Write;
+
+/// The names that the lines of a check use.
+#[derive(Drop)]
+pub(super) struct Names<'a> {
+    pub form: Form,
+    /// The path of the configuration, and then that of each file by its position.
+    pub paths: Vec<&'a [u8]>,
+    pub services: Vec<&'a [u8]>,
+    /// The first way in of each service.
+    pub ways_in: &'a [Option<WayIn>],
+}
+
+/// Returns the text at a position, empty if there is none.
+pub(super) fn text_at<'a>(texts: &[&'a [u8]], position: usize) -> &'a [u8]
+    ensures { result.now ≡ text_at (map (λ t. t.now) texts.now) position }
+{
+    match texts.get(position) {
+        Some(text) => text,
+        None => b"",
+    }
+}
+
+/// Returns the path of a file, or of the configuration as a whole.
+fn path_of<'a>(names: &Names<'a>, file: Option<usize>) -> &'a [u8]
+    ensures { result.now ≡ path_of (names_view names.now).paths file }
+{
+    match file {
+        None => text_at(&names.paths, 0),
+        Some(file) => match names.paths.split_first() {
+            Some((_, files)) => text_at(files, file),
+            None => b"",
+        },
+    }
+}
+
+/// Writes `:LINE`, but nothing for a file as a whole.
+fn put_line_number<W: Write>(line: usize, out: &mut Out<W>) -> Result<(), Device>
+    ensures { Writes W.contents out.old out.new result (line_text line) }
+{
+    if line == 0 {
+        return Ok(());
+    }
+    out.put_line(&[Piece::Bytes(b":"), Piece::Number(line as u64)])
+}
+
+/// Writes `PATH:LINE: `.
+#[tactic(auto, unfolding(crate::specs::Check::place_text))]
+fn put_place<W: Write>(names: &Names<'_>, place: &Place, out: &mut Out<W>) -> Result<(), Device>
+    ensures { Writes W.contents out.old out.new result (place_text (names_view names.now).paths place.now) }
+{
+    put_name(path_of(names, place.file), out)?;
+    put_line_number(place.line, out)?;
+    out.put(b": ")
+}
+
+/// Writes ` of SERVICE` in pam.conf.
+fn put_of_service<W: Write>(
+    names: &Names<'_>,
+    service: usize,
+    out: &mut Out<W>,
+) -> Result<(), Device>
+    ensures { Writes W.contents out.old out.new result (of_service names.now.form (names_view names.now).services service) }
+{
+    match names.form {
+        Form::Dir => Ok(()),
+        Form::Single => {
+            out.put(b" of ")?;
+            put_name(text_at(&names.services, service), out)
+        }
+    }
+}
+
+/// Writes the kind and, in pam.conf, the service of a stack.
+fn put_kind<W: Write>(
+    names: &Names<'_>,
+    kind: Kind,
+    service: usize,
+    out: &mut Out<W>,
+) -> Result<(), Device>
+    ensures { Writes W.contents out.old out.new result (kind_of_service (names_view names.now) kind service) }
+{
+    out.put(kind_name(kind).as_bytes())?;
+    put_of_service(names, service, out)
+}
+
+/// Writes ` NUMBER NAME CODE`.
+#[tactic(auto, unfolding(crate::specs::Check::answer_text))]
+fn put_answer<W: Write>(stack: &Stack, answer: &Answered, out: &mut Out<W>) -> Result<(), Device>
+    ensures { Writes W.contents out.old out.new result (answer_text stack.now answer.now) }
+{
+    out.put_line(&[
+        Piece::Bytes(b" "),
+        Piece::Number(answer.number as u64),
+        Piece::Bytes(b" "),
+    ])?;
+    put_name(name_of_path(path_at(stack, answer.number)), out)?;
+    out.put_line(&[Piece::Bytes(b" "), Piece::Bytes(name_of(answer.code))])
+}
+
+fn put_next_answers<W: Write>(
+    stack: &Stack,
+    answers: &[Answered],
+    out: &mut Out<W>,
+) -> Result<(), Device>
+    ensures { Writes W.contents out.old out.new result (flat_map (next_answer stack.now) answers.now) }
+{
+    for answer in answers {
+        out.put(b",")?;
+        put_answer(stack, answer, out)?;
+    }
+    Ok(())
+}
+
+/// Writes `: NUMBER NAME CODE, NUMBER NAME CODE`.
+#[tactic(auto, unfolding(crate::specs::Check::answers_text))]
+fn put_answers<W: Write>(
+    stack: &Stack,
+    answers: &[Answered],
+    out: &mut Out<W>,
+) -> Result<(), Device>
+    ensures { Writes W.contents out.old out.new result (answers_text stack.now answers.now) }
+{
+    let Some((first, others)) = answers.split_first() else {
+        return Ok(());
+    };
+    out.put(b":")?;
+    put_answer(stack, first, out)?;
+    put_next_answers(stack, others, out)
+}
+
+fn put_way<W: Write>(way: &Option<WayIn>, out: &mut Out<W>) -> Result<(), Device>
+    ensures { Writes W.contents out.old out.new result (way_text way.now) }
+{
+    match way {
+        Some(way) => put_answers(&way.stack, &way.answers, out),
+        None => Ok(()),
+    }
+}
+
+/// Writes the first way in of a service.
+fn put_way_in<W: Write>(names: &Names<'_>, service: usize, out: &mut Out<W>) -> Result<(), Device>
+    ensures { Writes W.contents out.old out.new result (way_in_at names.now.ways_in.now service) }
+{
+    match names.ways_in.get(service) {
+        Some(way) => put_way(way, out),
+        None => Ok(()),
+    }
+}
+
+/// Writes what is wrong with the stack of a service for a kind.
+fn put_of_stack<W: Write>(
+    names: &Names<'_>,
+    kind: Kind,
+    service: usize,
+    sentence: &[u8],
+    out: &mut Out<W>,
+) -> Result<(), Device>
+    ensures { Writes W.contents out.old out.new result (kind_of_service (names_view names.now) kind service ++ sentence.now) }
+{
+    put_kind(names, kind, service, out)?;
+    out.put(sentence)
+}
+
+/// Writes what is wrong with a line, and which stacks meet it.
+fn put_with_met<W: Write>(
+    names: &Names<'_>,
+    sentence: &[u8],
+    met: Option<Met>,
+    out: &mut Out<W>,
+) -> Result<(), Device>
+    ensures { Writes W.contents out.old out.new result (sentence.now ++ met_if_any (names_view names.now).services met) }
+{
+    out.put(sentence)?;
+    put_met_if_any(&names.services, met, out)
+}
+
+/// Writes what is wrong, how to mend it, and which stacks meet it.
+#[tactic(auto, unfolding(crate::specs::Check::sentence))]
+fn put_sentence<W: Write>(
+    names: &Names<'_>,
+    line: usize,
+    finding: Finding,
+    out: &mut Out<W>,
+) -> Result<(), Device>
+    ensures { Writes W.contents out.old out.new result (sentence (names_view names.now) line finding.met finding.problem) }
+{
+    match finding.problem {
+        Problem::Fault(fault) | Problem::Walk(fault) => {
+            put_with_met(names, fault_text(line, fault).as_bytes(), finding.met, out)
+        }
+        Problem::Released(difference) => {
+            put_released(difference, out)?;
+            put_met_if_any(&names.services, finding.met, out)
+        }
+        Problem::LetsNobodyIn { service, kind } => {
+            put_of_stack(names, kind, service, NOBODY, out)
+        }
+        Problem::LetsAnybodyIn { service } => {
+            put_of_stack(names, Kind::Auth, service, ANYBODY, out)?;
+            put_way_in(names, service, out)
+        }
+        Problem::TooLarge { service, kind } => put_of_stack(names, kind, service, LARGE, out),
+        Problem::JumpPastEnd => put_with_met(names, JUMP, finding.met, out),
+        Problem::NoFunction => put_with_met(names, NO_FUNCTION, finding.met, out),
+        Problem::NoOther => out.put(NO_OTHER),
+        Problem::UnreachableName => out.put(UNREACHABLE),
+        Problem::LeftOver => out.put(LEFT_OVER),
+    }
+}
+
+/// Writes `PLACE: LEVEL: NUMBER NAME: SENTENCE`.
+#[tactic(auto, unfolding(crate::specs::Check::finding_line))]
+pub(super) fn put_finding<W: Write>(
+    names: &Names<'_>,
+    place: &Place,
+    finding: Finding,
+    out: &mut Out<W>,
+) -> Result<(), Device>
+    ensures { Writes W.contents out.old out.new result (finding_line (names_view names.now) (place.now, finding)) }
+{
+    put_place(names, place, out)?;
+    out.put_line(&[
+        Piece::Bytes(level_name(finding.problem.level()).as_bytes()),
+        Piece::Bytes(b": "),
+        Piece::Bytes(problem_name(finding.problem).as_bytes()),
+        Piece::Bytes(b": "),
+    ])?;
+    put_sentence(names, place.line, finding, out)?;
+    out.put(b"\n")
+}

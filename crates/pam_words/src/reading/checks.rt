@@ -1,0 +1,77 @@
+//! Reads a `check` request from its words.
+
+ghost use Rattle.std.specs.Prelude.{◌≡◌, option_map};
+ghost use Rattle.clap.specs.Words.{found_of, rows_of};
+ghost use Rattle.pam_words.specs.Request.{check_task, level_named as level_of_name, level_of, source_or_root as source_or_root_of};
+ghost use Rattle.pam_words.specs.Request.{names_source as has_source};
+ghost use Rattle.pam_words.specs.Wanted.{GivesTask, source_view};
+
+use crate::reading::knowledge::has;
+use crate::reading::{source, texts, value};
+use crate::wanted::{ConfSource, LevelName, Task, Usage};
+use clap::ArgMatches;
+use std::alloc::Global;
+
+/// Whether an option of a source is given.
+fn names_source(matches: &ArgMatches<'_>) -> bool
+    ensures { result ≡ has_source (rows_of (found_of matches.now)) }
+{
+    has(matches, "dir")
+        || has(matches, "vendor-dir")
+        || has(matches, "conf")
+        || has(matches, "root")
+}
+
+/// Returns the source, which is the running system if no option names one.
+fn source_or_root<'a>(matches: &ArgMatches<'a>) -> Option<ConfSource<'a>>
+    ensures { option_map source_view result ≡ source_or_root_of (rows_of (found_of matches.now)) }
+{
+    if names_source(matches) {
+        source(matches)
+    } else {
+        Some(ConfSource::Root("/"))
+    }
+}
+
+fn level_named(name: &str) -> Option<LevelName>
+    ensures { result ≡ level_of_name name.now }
+{
+    if name == "error" {
+        Some(LevelName::Error)
+    } else if name == "warning" {
+        Some(LevelName::Warning)
+    } else if name == "note" {
+        Some(LevelName::Note)
+    } else {
+        None
+    }
+}
+
+/// Returns the least level that fails, or `None` if the name that is given is not that of one.
+fn level(matches: &ArgMatches<'_>) -> Option<LevelName>
+    ensures { result ≡ level_of (rows_of (found_of matches.now)) }
+{
+    match value(matches, "fail-on") {
+        Some(name) => level_named(name),
+        None => Some(LevelName::Warning),
+    }
+}
+
+pub(crate) fn check<'a>(alloc: Global, matches: &ArgMatches<'a>) -> Result<Task<'a>, Usage>
+    ensures { GivesTask (check_task (rows_of (found_of matches.now))) result }
+{
+    let Some(source) = source_or_root(matches) else {
+        return Err(Usage::Source);
+    };
+    let Some(fail_on) = level(matches) else {
+        return Err(Usage::LevelName);
+    };
+    match texts(alloc, matches, "name") {
+        Ok(services) => Ok(Task::Check {
+            source,
+            services,
+            fail_on,
+        }),
+        Err(_) => Err(Usage::Memory),
+    }
+}
