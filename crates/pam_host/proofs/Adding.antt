@@ -87,7 +87,7 @@ adds-walk faults old new is =
     (λ spot. (walk-from faults spot, walk-to faults spot.file spot.line spot.problem))
     (adds-list old new (map walk_spot faults) is)
 
--- the same where they are seen behind a reference, and there was nothing before
+-- the same for a reference to them, added to an empty list
 pub walk-seen : (faults seen : List ConfError) (old new : List Spot) → old ≡ [] → seen ≡ faults → new ≡ old ++ map walk_spot seen →
     Adds (λ spot. InWalk faults spot spot.problem) [] new
 walk-seen faults seen old new none same is =

@@ -23,7 +23,7 @@ use Rattle.pam_host.specs.Services.{begins, each_once, has_text, is_service, ser
 slice-rest : (name : List ℕ) (n : ℕ) → take (length name - n) (drop n name) ≡ drop n name
 slice-rest name n = take_all (length name - n) (drop n name) (simp length-drop (omega arith))
 
--- what is behind an option of references
+-- the value that an optional reference refers to
 pub seen-of : {X Y : Type 0} (f : X → Y) (o : Option X) (x : X) (p : Option Y) → option_map f o ≡ p → o ≡ Some x → p ≡ Some (f x)
 seen-of f o x p h is = sym h ∙ ap (option_map f) is
 

@@ -28,17 +28,18 @@ Earlier service s k = s < service
 abbrev And : (ℕ → Kind → Type 0) → ℕ → Kind → ℕ → Kind → Type 0
 And T service kind s k = T s k ⊎ ((s ≡ service) × (k ≡ kind))
 
-abbrev T1 : ℕ → ℕ → Kind → Type 0
-T1 service = And (Earlier service) service Auth
+-- with those of the services before it: up to `auth`, and so on
+abbrev UpToAuth : ℕ → ℕ → Kind → Type 0
+UpToAuth service = And (Earlier service) service Auth
 
-abbrev T2 : ℕ → ℕ → Kind → Type 0
-T2 service = And (T1 service) service Account
+abbrev UpToAccount : ℕ → ℕ → Kind → Type 0
+UpToAccount service = And (UpToAuth service) service Account
 
-abbrev T3 : ℕ → ℕ → Kind → Type 0
-T3 service = And (T2 service) service Password
+abbrev UpToPassword : ℕ → ℕ → Kind → Type 0
+UpToPassword service = And (UpToAccount service) service Password
 
-abbrev T4 : ℕ → ℕ → Kind → Type 0
-T4 service = And (T3 service) service Session
+abbrev UpToSession : ℕ → ℕ → Kind → Type 0
+UpToSession service = And (UpToPassword service) service Session
 
 -- none of them is of a later service
 and-upto : (T : ℕ → Kind → Type 0) (service : ℕ) (kind : Kind) → ((s : ℕ) (k : Kind) → T s k → s ≤ service) →
@@ -51,16 +52,16 @@ and-apart : (T : ℕ → Kind → Type 0) (service : ℕ) (kind other : Kind) �
 and-apart T service kind other none differ (inl h) = none h
 and-apart T service kind other none differ (inr e) = differ e.1
 
-all-kinds : (service s : ℕ) (k : Kind) → s ≡ service → T4 service s k
+all-kinds : (service s : ℕ) (k : Kind) → s ≡ service → UpToSession service s k
 all-kinds service s Auth e = inl (inl (inl (inr (e, refl))))
 all-kinds service s Account e = inl (inl (inr (e, refl)))
 all-kinds service s Password e = inl (inr (e, refl))
 all-kinds service s Session e = inr (e, refl)
 
-taken-all : (service s : ℕ) (k : Kind) → T4 service s k ↔ (s < service + 1)
+taken-all : (service s : ℕ) (k : Kind) → UpToSession service s k ↔ (s < service + 1)
 taken-all service s k = (
   λ h. let upto : (x : ℕ) (y : Kind) → Earlier service x y → x ≤ service = λ x y l. omega (arith, l) in
-      let most = and-upto (T3 service) service Session (and-upto (T2 service) service Password (and-upto (T1 service) service Account
+      let most = and-upto (UpToPassword service) service Session (and-upto (UpToAccount service) service Password (and-upto (UpToAuth service) service Account
       (and-upto (Earlier service) service Auth upto))) s k h in
       omega (arith, most),
   λ h. elim (cases_eq s service) [ inl e ↦ all-kinds service s k e | inr ne ↦ inl (inl (inl (inl (omega (arith, h, ne))))) ],
@@ -91,22 +92,22 @@ take-service host service old new ways way h adds =
     let all : List (Option WayIn) = ways ++ way ∷ [] in
     let up0 : (x : ℕ) (y : Kind) → Earlier service x y → x ≤ service = λ x y l. omega (arith, l) in
     let up1 = and-upto (Earlier service) service Auth up0 in
-    let up2 = and-upto (T1 service) service Account up1 in
-    let up3 = and-upto (T2 service) service Password up2 in
+    let up2 = and-upto (UpToAuth service) service Account up1 in
+    let up3 = and-upto (UpToAccount service) service Password up2 in
     let no0 : (k : Kind) → Earlier service service k → ⊥ = λ k l. omega (arith, l) in
     let first = take-stack host (Earlier service) service Auth old adds.first all way up0 (no0 Auth) (with-way host service old ways way h.count h.taken)
     adds.auth (λ e. subst (HasWayIn adds.auth.verdict) (sym (last-way ways way service h.count)) (adds.auth.way_in refl)) in
-    let second = take-stack host (T1 service) service Account adds.first adds.second all adds.others.0 up1
+    let second = take-stack host (UpToAuth service) service Account adds.first adds.second all adds.others.0 up1
     (and-apart (Earlier service) service Auth Account (no0 Account) (λ e. cc)) first adds.account (λ e. absurd cc) in
-    let third = take-stack host (T2 service) service Password adds.second adds.third all adds.others.1 up2
-    (and-apart (T1 service) service Account Password (and-apart (Earlier service) service Auth Password (no0 Password) (λ e. cc)) (λ e. cc))
+    let third = take-stack host (UpToAccount service) service Password adds.second adds.third all adds.others.1 up2
+    (and-apart (UpToAuth service) service Account Password (and-apart (Earlier service) service Auth Password (no0 Password) (λ e. cc)) (λ e. cc))
     second adds.password (λ e. absurd cc) in
-    let fourth = take-stack host (T3 service) service Session adds.third new all adds.others.2 up3
-    (and-apart (T2 service) service Password Session
-    (and-apart (T1 service) service Account Session (and-apart (Earlier service) service Auth Session (no0 Session) (λ e. cc)) (λ e. cc)) (λ e. cc))
+    let fourth = take-stack host (UpToPassword service) service Session adds.third new all adds.others.2 up3
+    (and-apart (UpToAccount service) service Password Session
+    (and-apart (UpToAuth service) service Account Session (and-apart (Earlier service) service Auth Session (no0 Session) (λ e. cc)) (λ e. cc)) (λ e. cc))
     third adds.session (λ e. absurd cc) in
     record {
-      taken = alike-taken host (T4 service) (λ s k. s < service + 1) new all (taken-all service) fourth;
+      taken = alike-taken host (UpToSession service) (λ s k. s < service + 1) new all (taken-all service) fourth;
       count = length-append ways (way ∷ []) ∙ ap (λ n. n + 1) h.count;
     }
 
