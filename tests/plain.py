@@ -2,11 +2,12 @@
 
 `answer` gives standard output, standard error and the status for the words after the program's name, over a tree of
 files: a dictionary from names to bytes, or to a dictionary for a folder. What the parser of the command line prints for
-words that it does not take is its own, so standard error is `None` then. Help is not covered.
+words that it does not take is its own, so standard error is `None` then. Help and `explain` are not covered.
 """
 import re
 from itertools import islice
 
+import plain_given
 import plain_graph
 import plain_host
 import plain_outcomes
@@ -18,7 +19,7 @@ from plain_faults import Fault
 KNOWING = b" --access --time --group --returns --user --rhost --tty --at --at-unix --zone"
 SOURCES = b"--dir --vendor-dir --conf --root"
 OPTIONS = {
-    b"check": SOURCES + b" --fail-on",
+    b"check": SOURCES + b" --modules --facts --accept --fail-on",
     b"show": SOURCES,
     b"decide": SOURCES,
     b"paths": SOURCES + b" --limit --after --before --decision --asks" + KNOWING,
@@ -26,10 +27,16 @@ OPTIONS = {
     b"graph": SOURCES + b" --format" + KNOWING,
     b"access": b"--access --user --group --rhost --tty",
     b"time": b"--time --user --tty --at --at-unix --zone",
+    b"facts": b"",
+    b"version": b"",
 }
+REPEATED = b"--modules"
+ABOUT = (b"facts", b"version")
+VERSION = b"pamcheck 1.0.0 (proved with rattle, logic dac8208d650f15bf)\n"
 REQUIRED = {b"access": [b"--access", b"--user"], b"time": [b"--time", b"--user"]}
-MOST_ARGUMENTS = {b"show": 2, b"paths": 2, b"outcomes": 2, b"graph": 2, b"time": 1}
-LEAST_ARGUMENTS = {b"check": 0, b"show": 2, b"decide": 2, b"paths": 2, b"outcomes": 2, b"graph": 2, b"access": 1, b"time": 1}
+MOST_ARGUMENTS = {b"facts": 0, b"version": 0, b"show": 2, b"paths": 2, b"outcomes": 2, b"graph": 2, b"time": 1}
+LEAST_ARGUMENTS = {b"check": 0, b"facts": 0, b"version": 0, b"show": 2, b"decide": 2, b"paths": 2, b"outcomes": 2, b"graph": 2,
+                   b"access": 1, b"time": 1}
 MOST_COUNTED = 2 ** 128
 
 
@@ -113,7 +120,7 @@ class Request:
         self.judge_source()
         if self.options.get(b"--fail-on", b"warning") not in plain_host.LEVELS:
             raise Fault("U13")
-        if self.command == b"check":
+        if self.command == b"check" or self.command in ABOUT:
             return
         self.service = self.arguments[0].lower()
         if self.command in (b"show", b"decide", b"paths", b"outcomes", b"graph"):
@@ -133,7 +140,7 @@ class Request:
 
     def judge_source(self):
         """Refuses more than one source, or none where there is no other."""
-        if self.command in (b"access", b"time"):
+        if self.command in (b"access", b"time") or self.command in ABOUT:
             return
         given = [name for name in (b"--dir", b"--conf", b"--root") if name in self.options]
         if self.command == b"check" and not given and b"--vendor-dir" not in self.options:
@@ -158,6 +165,10 @@ class Request:
 
     def answer(self, tree):
         """The text on standard output and the status."""
+        if self.command == b"facts":
+            return b"".join(b" ".join(row) + b"\n" for row in plain_host.FACTS), 0
+        if self.command == b"version":
+            return VERSION, 0
         files = self.read_source(tree)
         self.tables = {}
         for option in (b"--group", b"--access", b"--time", b"--returns"):
@@ -170,8 +181,7 @@ class Request:
             granted, line = tables.TimeTable(self.tables[b"--time"]).decide(self.login(), moment)
             return (b"granted\n", 0) if granted else (b"denied line %d\n" % line, 1)
         if self.command == b"check":
-            host = plain_host.Host(files.form, files.files, self.arguments)
-            return plain_host.text(host, self.paths_of_files, self.options.get(b"--fail-on", b"warning"))
+            return self.check(files, tree)
         items, modules = stacks.resolve(files, self.service, self.kind)
         header = b"%s %s %d modules\n" % (self.service, self.kind, len(modules))
         if self.command == b"show":
@@ -184,6 +194,20 @@ class Request:
         if self.command == b"outcomes":
             return header + self.outcomes(items, modules), 0
         return header + self.page(items, modules), 0
+
+    def check(self, files, tree):
+        """What is wrong with a host."""
+        folders = self.options.get(REPEATED, [])
+        for folder in folders:
+            if not isinstance(found(tree, folder), dict):
+                raise Fault("V1", folder)
+        data = {name: read(tree, self.options[name]) if name in self.options else b"" for name in (b"--facts", b"--accept")}
+        facts = plain_given.facts(data[b"--facts"])
+        accepted = plain_given.accepted(data[b"--accept"])
+        there = plain_given.there(self.options.get(b"--root"), folders, files.files.values(), lambda path: found(tree, path))
+        host = plain_host.Host(files.form, files.files, self.arguments, there, facts)
+        accept = self.options.get(b"--accept", b""), accepted
+        return plain_host.text(host, self.paths_of_files, self.options.get(b"--fail-on", b"warning"), accept)
 
     def read_source(self, tree):
         """The files of the source, where the command has one, and the paths under which they are read."""
@@ -351,9 +375,10 @@ def parsed(words):
             arguments.append(word)
             continue
         name, sign, value = word.partition(b"=")
-        if name not in OPTIONS[command].split() or name in options or not (sign or words):
+        if name not in OPTIONS[command].split() or name in options and name != REPEATED or not (sign or words):
             raise WrongWords
-        options[name] = value if sign else words.pop(0)
+        value = value if sign else words.pop(0)
+        options[name] = options.get(name, []) + [value] if name == REPEATED else value
     least = LEAST_ARGUMENTS[command]
     if not least <= len(arguments) <= MOST_ARGUMENTS.get(command, len(arguments)):
         raise WrongWords

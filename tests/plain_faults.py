@@ -34,6 +34,8 @@ NAMES = dict(line.split() for line in """
     TE12 TableTooLong
     TE13 BadCode
     TE14 BadModule
+    TE15 BadAccept
+    TE16 BadFact
     C1 Syntax
     C2 NotLeast
     C3 TooShort

@@ -1,11 +1,12 @@
 -- What is read for a task: the inputs that fit it, or the input that cannot be read.
-use Rattle.std.specs.Prelude.{◌≡◌, ◌⊎◌, ⊤, true, ℕ, List, Option, Some, Result, Ok, Err, is_some}
+use Rattle.std.specs.Prelude.{◌≡◌, ◌⊎◌, ⊤, true, ℕ, List, Option, Some, Result, Ok, Err, is_some, map}
 use Rattle.std.specs.Borrow.{Bor}
 use Rattle.std.specs.Bool.{beq}
 use Rattle.std.specs.Option.{option_copied}
 use Rattle.clap.specs.Words.{Text}
-use Rattle.pam_conf.specs.declared.rule.Kind.{Kind}
-use Rattle.pam_report.specs.Inputs.{fits_knowledge, fits_task}
+use Rattle.pam_paths.specs.Classes.{Member}
+use Rattle.pam_report.specs.Inputs.{fits_check, fits_knowledge, fits_task}
+use Rattle.pam_report.specs.declared.inputs.CheckInputs.{CheckInputs}
 use Rattle.pam_report.specs.declared.inputs.InputError.{InputError}
 use Rattle.pam_report.specs.declared.inputs.Inputs.{Inputs}
 use Rattle.pam_report.specs.declared.inputs.Inputs.TheVariants as inputs
@@ -13,23 +14,22 @@ use Rattle.pam_words.specs.declared.wanted.ConfSource.{ConfSource}
 use Rattle.pam_words.specs.declared.wanted.KnowledgeSource.{KnowledgeSource}
 use Rattle.pam_words.specs.declared.wanted.LevelName.{LevelName}
 use Rattle.pam_words.specs.declared.wanted.Login.{Login}
-use Rattle.pam_words.specs.declared.wanted.Moment.{Moment}
-use Rattle.pam_words.specs.declared.wanted.PagePart.{PagePart}
 use Rattle.pam_words.specs.declared.wanted.Task.{Task}
 use Rattle.pam_words.specs.declared.wanted.Task.TheVariants.{Check, Show, Decide, Access, Time, Paths, Outcomes, Graph}
+use Rattle.pam_words.specs.declared.wanted.CheckFiles.{CheckFiles}
 use Rattle.pam_cli.specs.Sources.{IsFrom, IsInSource, IsRead, IsUnread}
 
 -- ---- what is read
 
 -- a configuration is read from its source, for `check` with its paths
 abbrev pub HasFiles : ConfSource → Inputs → Type 0
-HasFiles source (inputs.Host files paths) = IsRead source files paths
+HasFiles source (inputs.Host files paths given) = IsRead source files paths
 HasFiles source (inputs.Stack files) = IsFrom source files
 HasFiles source (inputs.Paths files groups access time returns) = IsFrom source files
 HasFiles source given = ⊤
 
 abbrev pub HasSource : Task → Inputs → Type 0
-HasSource (Check source services fail_on) given = HasFiles source given
+HasSource (Check source services fail_on named) given = HasFiles source given
 HasSource (Show source kind) given = HasFiles source given
 HasSource (Decide source kind answered) given = HasFiles source given
 HasSource (Paths source kind limit part filter knowledge) given = HasFiles source given
@@ -53,9 +53,13 @@ IsOfKnowledge source named name =
     IsInSource source name ⊎ IsNamed (option_copied named.groups) name ⊎ IsNamed (option_copied named.access) name
     ⊎ IsNamed (option_copied named.time) name ⊎ IsNamed (option_copied named.returns) name
 
+-- the facts file or the accept file, or one of the folders of modules
+abbrev pub IsOfCheck : CheckFiles → List ℕ → Type 0
+IsOfCheck named name = Member name (map (λ folder. folder.now) named.modules.items) ⊎ IsNamed (option_copied named.facts) name ⊎ IsNamed (option_copied named.accept) name
+
 -- a name of the task's source or of a file that it names
 abbrev pub IsOfTask : Task → List ℕ → Type 0
-IsOfTask (Check source services fail_on) name = IsInSource source name
+IsOfTask (Check source services fail_on named) name = IsInSource source name ⊎ IsOfCheck named name
 IsOfTask (Show source kind) name = IsInSource source name
 IsOfTask (Decide source kind answered) name = IsInSource source name
 IsOfTask (Access table groups login arguments) name = IsNamed (option_copied groups) name ⊎ (name ≡ table.now)
@@ -63,6 +67,7 @@ IsOfTask (Time table login moment) name = name ≡ table.now
 IsOfTask (Paths source kind limit part filter knowledge) name = IsOfKnowledge source knowledge name
 IsOfTask (Outcomes source kind knowledge) name = IsOfKnowledge source knowledge name
 IsOfTask (Graph source kind format knowledge) name = IsOfKnowledge source knowledge name
+IsOfTask task name = ⊥
 
 -- THE INPUTS of a task, or why there are none
 abbrev pub IsReading : Task → Result Inputs InputError → Type 0
@@ -75,9 +80,14 @@ IsReading task (Err error) = IsUnread (IsOfTask task) error
 abbrev pub IsGiven : {A B : Type 0} → Option A → Option B → Type 0
 IsGiven given named = beq (is_some given) (is_some named) ≡ true
 
--- what is read for each `check` of this source
-abbrev pub IsCheckReading : ConfSource → Result Inputs InputError → Type 0
-IsCheckReading source result = (services : List Text) (fail_on : LevelName) → IsReading (Check source services fail_on) result
+-- what is read for each `check` of this source and these files
+abbrev pub IsCheckReading : ConfSource → CheckFiles → Result Inputs InputError → Type 0
+IsCheckReading source named result = (services : List Text) (fail_on : LevelName) → IsReading (Check source services fail_on named) result
+
+-- what a check is given besides the configuration
+abbrev pub IsGivenReading : ConfSource → CheckFiles → Result CheckInputs InputError → Type 0
+IsGivenReading source named (Ok given) = fits_check named given ≡ true
+IsGivenReading source named (Err error) = IsUnread (λ name. IsInSource source name ⊎ IsOfCheck named name) error
 
 -- what is read for each `access` of these files
 abbrev pub IsAccessReading : Bor Text → Option (Bor Text) → Result Inputs InputError → Type 0

@@ -2,15 +2,19 @@
 
 ghost use Rattle.std.specs.Prelude.{◌⊎◌, IfErr, IfOk, MatchResult};
 ghost use Rattle.std.specs.Option.{option_copied};
-ghost use Rattle.pam_cli.specs.Reading.{IsAccessReading, IsCheckReading, IsGiven, IsKnowledgeReading, IsNamed, IsReading};
+ghost use Rattle.pam_cli.specs.Reading.{IsAccessReading, IsCheckReading, IsGiven, IsGivenReading, IsKnowledgeReading, IsNamed};
+ghost use Rattle.pam_cli.specs.Reading.{IsReading};
 ghost use Rattle.pam_cli.specs.Sources.{IsUnread};
 
 mod files;
+mod modules;
 mod sources;
 
 use files::named_file;
-use pam_report::{InputError, Inputs};
-use pam_words::{ConfSource, KnowledgeSource, Request, Task};
+use modules::modules_there;
+use pam_conf::Files;
+use pam_report::{CheckInputs, InputError, Inputs};
+use pam_words::{CheckFiles, ConfSource, KnowledgeSource, Request, Task};
 use sources::source_files;
 use std::alloc::Global;
 
@@ -43,18 +47,40 @@ fn optional_files<R: std::rt::Files>(
     Ok((first, second))
 }
 
-/// Reads a configuration with its paths.
+/// Looks for the modules of a configuration, and reads the facts file and the accept file that are named.
+fn given_inputs<R: std::rt::Files + AllocGlobal + Clone + Drop>(
+    rt: &R,
+    alloc: Global,
+    source: ConfSource<'_>,
+    named: &CheckFiles<'_>,
+    files: &Files,
+) -> Result<CheckInputs, InputError>
+    ensures { IsGivenReading source.entry named.now result }
+{
+    let there = modules_there(rt, alloc, source, &named.modules, files)?;
+    let others = optional_files(rt, alloc, named.facts, named.accept)?;
+    Ok(CheckInputs {
+        there,
+        facts: others.0,
+        accept: others.1,
+    })
+}
+
+/// Reads a configuration with its paths, and what else a check is given.
 fn check_inputs<R: std::rt::Files + AllocGlobal + Clone + Drop>(
     rt: &R,
     alloc: Global,
     source: ConfSource<'_>,
+    named: &CheckFiles<'_>,
 ) -> Result<Inputs, InputError>
-    ensures { IsCheckReading source.entry result }
+    ensures { IsCheckReading source.entry named.now result }
 {
     let found = source_files(rt, alloc, source)?;
+    let given = given_inputs(rt, alloc, source, named, &found.files)?;
     Ok(Inputs::Host {
         files: found.files,
         paths: found.paths,
+        given,
     })
 }
 
@@ -104,7 +130,7 @@ pub(crate) fn inputs_of<R: std::rt::Files + AllocGlobal + Clone + Drop>(
     ensures { IsReading request.now.task result }
 {
     match &request.task {
-        Task::Check { source, .. } => check_inputs(rt, alloc, *source),
+        Task::Check { source, given, .. } => check_inputs(rt, alloc, *source, given),
         Task::Show { source, .. } | Task::Decide { source, .. } => {
             Ok(Inputs::Stack(source_files(rt, alloc, *source)?.files))
         }
@@ -127,5 +153,6 @@ pub(crate) fn inputs_of<R: std::rt::Files + AllocGlobal + Clone + Drop>(
             knowledge,
             ..
         } => knowledge_inputs(rt, alloc, *source, knowledge),
+        Task::Explain(_) | Task::Facts | Task::Version => Ok(Inputs::Nothing),
     }
 }

@@ -1,12 +1,14 @@
 pub mod Adding
 pub mod FileNames
 pub mod Foldered
+pub mod Listed
 pub mod Meeting
 pub mod OneService
 pub mod Owned
 pub mod Passes
 pub mod Places
 pub mod Reporting
+pub mod Ruled
 pub mod Seen
 pub mod Silence
 pub mod Taking

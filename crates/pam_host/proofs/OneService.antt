@@ -87,7 +87,7 @@ with-way host service found ways way count t = record {
 }
 
 pub take-service : (host : Host) (service : ℕ) (old new : Found) (ways : List (Option WayIn)) (way : Option WayIn) → SoFar host service old ways →
-    AddsService host.folder host.facts service (service_at host service) old new way → SoFar host (service + 1) new (ways ++ way ∷ [])
+    AddsService host.folder host.modules service (service_at host service) old new way → SoFar host (service + 1) new (ways ++ way ∷ [])
 take-service host service old new ways way h adds =
     let all : List (Option WayIn) = ways ++ way ∷ [] in
     let up0 : (x : ℕ) (y : Kind) → Earlier service x y → x ≤ service = λ x y l. omega (arith, l) in

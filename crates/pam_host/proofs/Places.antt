@@ -1,5 +1,5 @@
 -- The places of problems: their order, and that two problems have two places.
-use Rattle.std.proofs.Common.{◌≡◌, ℕ, ◌+◌, ◌-◌, cond, nat_lt, if◌then◌else◌, [], ◌∷◌, refl, sym, ◌∙◌, ap, subst, inl, inr, Option, Some, None}
+use Rattle.std.proofs.Common.{◌≡◌, ℕ, ◌+◌, ◌-◌, cond, nat_lt, if◌then◌else◌, Bool, true, false, [], ◌∷◌, refl, sym, ◌∙◌, ap, subst, inl, inr, Option, Some, None}
 use Rattle.std.proofs.Common.{slice_index_or, IfSome, nat_cmp}
 use Rattle.std.specs.BTreeMap.{Updates, get, is_at}
 use Rattle.std.specs.Cmp.{IsTotalOrder}
@@ -47,11 +47,13 @@ other_numbered n service kind =
     if nat_lt n 2 then problems.LetsNobodyIn service (kind_numbered kind)
     else if nat_lt n 3 then problems.LetsAnybodyIn service
     else if nat_lt n 5 then problems.JumpPastEnd
+    else if nat_lt n 6 then problems.NoModule (nat_lt 0 kind)
     else if nat_lt n 7 then problems.NoOther
     else if nat_lt n 8 then problems.UnreachableName
     else if nat_lt n 10 then problems.TooLarge service (kind_numbered kind)
     else if nat_lt n 12 then problems.LeftOver
-    else problems.NoFunction
+    else if nat_lt n 14 then problems.NoFunction
+    else problems.CallerIsRoot
 
 -- the problem with this rank, service and kind
 problem_of : ℕ → ℕ → ℕ → Problem
@@ -129,6 +131,11 @@ of_large service Account = refl
 of_large service Password = refl
 of_large service Session = refl
 
+of_missing : (is_dashed : Bool) → problem_of 55 0 (if is_dashed then 1 else 0) ≡ problems.NoModule is_dashed
+unfolding problem_of
+of_missing true = refl
+of_missing false = refl
+
 of_problem : (problem : Problem) → problem_of (rank_of problem) (service_of problem) (kind_of problem) ≡ problem
 unfolding problem_of
 of_problem (problems.Fault fault) = of_fault fault
@@ -137,11 +144,13 @@ of_problem (problems.Released difference) = of_difference difference
 of_problem (problems.LetsNobodyIn service kind) = of_nobody service kind
 of_problem (problems.LetsAnybodyIn service) = refl
 of_problem problems.JumpPastEnd = refl
+of_problem (problems.NoModule is_dashed) = of_missing is_dashed
 of_problem problems.NoOther = refl
 of_problem problems.UnreachableName = refl
 of_problem (problems.TooLarge service kind) = of_large service kind
 of_problem problems.LeftOver = refl
 of_problem problems.NoFunction = refl
+of_problem problems.CallerIsRoot = refl
 
 -- TWO PROBLEMS HAVE TWO PLACES
 pub spot-from_place : (one other : Spot) → place_of one ≡ place_of other → one ≡ other

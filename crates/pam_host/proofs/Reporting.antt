@@ -11,17 +11,17 @@ use Rattle.pam_conf.specs.Stack.{Items}
 use Rattle.pam_conf.specs.declared.conf_error.ConfError.{ConfError}
 use Rattle.pam_conf.specs.declared.rule.Form.{Form}
 use Rattle.pam_conf.specs.declared.rule.Kind.{Kind}
-use Rattle.pam_facts.specs.Rows.{Row}
 use Rattle.pam_paths.specs.Classes.{Member}
 use Rattle.pam_host.specs.FileProblems.{BytesHave, FileHas}
 use Rattle.pam_host.specs.FolderProblems.{is_of_folder}
-use Rattle.pam_host.specs.Host.{Host, Meets, Verdicts, reads_at, survey_at}
+use Rattle.pam_host.specs.Host.{Host, Meets, Verdicts, reads_at, service_at, survey_at}
 use Rattle.pam_host.specs.Meeting.{MetSoFar}
 use Rattle.pam_host.specs.Met.{AreMet}
 use Rattle.pam_host.specs.Own.{IsOwn, IsRead, met_in, read_by}
 use Rattle.pam_host.specs.Problems.{compare_places, place_of}
 use Rattle.pam_host.specs.Report.{IsFound, IsMetFinding, IsPlaced, IsReportOn}
 use Rattle.pam_host.specs.SoFar.{InStackAt, Shows, SoFar}
+use Rattle.pam_host.specs.Modules.{Modules}
 use Rattle.pam_host.specs.StackProblems.{ByVerdict, InItems, InWalk}
 use Rattle.pam_host.specs.Table.{ArePlaced, Puts, Table, finding_at, with_met}
 use Rattle.pam_host.specs.Verdicts.{Verdict}
@@ -39,27 +39,29 @@ use Rattle.pam_host.proofs.Taking.{alike-finding}
 
 -- A PROBLEM OF A FILE IS NONE OF A STACK
 
-not-in-stack : (facts : List Row) (service : ℕ) (kind : Kind) (faults : List ConfError) (items : Option Items) (home : Option ℕ) (verdict : Verdict)
+not-in-stack : (modules : Modules) (service : ℕ) (name : List ℕ) (kind : Kind) (faults : List ConfError) (items : Option Items) (home : Option ℕ) (verdict : Verdict)
     (spot : Spot)
     (form : Form) (bytes : List ℕ) (problem : Problem) → BytesHave form bytes spot.line problem →
-    InWalk faults spot problem ⊎ (InItems facts kind items spot problem ⊎ ByVerdict service kind home verdict spot problem) → ⊥
-not-in-stack facts service kind faults items home verdict spot form bytes (problems.Fault fault) h (inl w) = w
-not-in-stack facts service kind faults None home verdict spot form bytes (problems.Fault fault) h (inr (inl i)) = i
-not-in-stack facts service kind faults (Some items) home verdict spot form bytes (problems.Fault fault) h (inr (inl i)) = i
-not-in-stack facts service kind faults items home verdict spot form bytes (problems.Fault fault) h (inr (inr v)) = v
-not-in-stack facts service kind faults items home verdict spot form bytes (problems.Released difference) h (inl w) = w
-not-in-stack facts service kind faults None home verdict spot form bytes (problems.Released difference) h (inr (inl i)) = i
-not-in-stack facts service kind faults (Some items) home verdict spot form bytes (problems.Released difference) h (inr (inl i)) = i
-not-in-stack facts service kind faults items home verdict spot form bytes (problems.Released difference) h (inr (inr v)) = v
-not-in-stack facts service kind faults items home verdict spot form bytes (problems.Walk fault) h k = h
-not-in-stack facts service kind faults items home verdict spot form bytes (problems.LetsNobodyIn of_service of_kind) h k = h
-not-in-stack facts service kind faults items home verdict spot form bytes (problems.LetsAnybodyIn of_service) h k = h
-not-in-stack facts service kind faults items home verdict spot form bytes problems.JumpPastEnd h k = h
-not-in-stack facts service kind faults items home verdict spot form bytes problems.NoOther h k = h
-not-in-stack facts service kind faults items home verdict spot form bytes problems.UnreachableName h k = h
-not-in-stack facts service kind faults items home verdict spot form bytes (problems.TooLarge of_service of_kind) h k = h
-not-in-stack facts service kind faults items home verdict spot form bytes problems.LeftOver h k = h
-not-in-stack facts service kind faults items home verdict spot form bytes problems.NoFunction h k = h
+    InWalk faults spot problem ⊎ (InItems modules name kind items spot problem ⊎ ByVerdict service kind home verdict spot problem) → ⊥
+not-in-stack modules service name kind faults items home verdict spot form bytes (problems.Fault fault) h (inl w) = w
+not-in-stack modules service name kind faults None home verdict spot form bytes (problems.Fault fault) h (inr (inl i)) = i
+not-in-stack modules service name kind faults (Some items) home verdict spot form bytes (problems.Fault fault) h (inr (inl i)) = i.3
+not-in-stack modules service name kind faults items home verdict spot form bytes (problems.Fault fault) h (inr (inr v)) = v
+not-in-stack modules service name kind faults items home verdict spot form bytes (problems.Released difference) h (inl w) = w
+not-in-stack modules service name kind faults None home verdict spot form bytes (problems.Released difference) h (inr (inl i)) = i
+not-in-stack modules service name kind faults (Some items) home verdict spot form bytes (problems.Released difference) h (inr (inl i)) = i.3
+not-in-stack modules service name kind faults items home verdict spot form bytes (problems.Released difference) h (inr (inr v)) = v
+not-in-stack modules service name kind faults items home verdict spot form bytes (problems.Walk fault) h k = h
+not-in-stack modules service name kind faults items home verdict spot form bytes (problems.LetsNobodyIn of_service of_kind) h k = h
+not-in-stack modules service name kind faults items home verdict spot form bytes (problems.LetsAnybodyIn of_service) h k = h
+not-in-stack modules service name kind faults items home verdict spot form bytes problems.JumpPastEnd h k = h
+not-in-stack modules service name kind faults items home verdict spot form bytes (problems.NoModule is_dashed) h k = h
+not-in-stack modules service name kind faults items home verdict spot form bytes problems.NoOther h k = h
+not-in-stack modules service name kind faults items home verdict spot form bytes problems.UnreachableName h k = h
+not-in-stack modules service name kind faults items home verdict spot form bytes (problems.TooLarge of_service of_kind) h k = h
+not-in-stack modules service name kind faults items home verdict spot form bytes problems.LeftOver h k = h
+not-in-stack modules service name kind faults items home verdict spot form bytes problems.NoFunction h k = h
+not-in-stack modules service name kind faults items home verdict spot form bytes problems.CallerIsRoot h k = h
 
 -- the bytes of a file that has a problem
 has-bytes : (P : List ℕ → Type 0) (o : Option (List ℕ)) → MatchOption o ⊥ P → (bytes : List ℕ) × P bytes
@@ -102,7 +104,7 @@ module _ (host : Host) (named : List (List ℕ)) (found : Found) (ways : List (O
           (m.0, subst (λ f. Member f (reads_at host s k)) same i.2)
       | inr stack ↦
           let b = has-bytes (λ bytes. BytesHave host.folder.form bytes spot.line spot.problem) (bytes_at file host.folder.entries) own.1 in
-          absurd (not-in-stack host.facts s k (survey_at host s k).faults (survey_at host s k).items (slice_get (survey_at host s k).reached 0) (V s k) spot
+          absurd (not-in-stack host.modules s (service_at host s) k (survey_at host s k).faults (survey_at host s k).items (slice_get (survey_at host s k).reached 0) (V s k) spot
           host.folder.form b.0 spot.problem b.1 stack)
     ],
   )

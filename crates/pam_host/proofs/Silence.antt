@@ -167,7 +167,7 @@ module _ (host : Host) (named : List (List ℕ)) (found : Table) (ways : List (O
         let note : Warning ≡ Note = met-note spot service kind (within, inr (inr (inr (refl, auth, (refl, refl), h)))) in
         cc
 
-    sound-judged : (j : Judgement) → report.verdicts service kind ≡ Judged j → IsJudgement host.folder host.facts (service_at host service) kind j →
+    sound-judged : (j : Judgement) → report.verdicts service kind ≡ Judged j → IsJudgement host.folder host.modules (service_at host service) kind j →
         IsSoundStack host service kind
     sound-judged j is h = record {
       items = j.items;
@@ -188,7 +188,7 @@ module _ (host : Host) (named : List (List ℕ)) (found : Table) (ways : List (O
         way-none auth None none says lets = says lets
         way-none auth (Some path) some says lets = not-anybody auth (ap (λ v. is_some (way_in_of v)) is ∙ ap is_some some)
 
-    sound-by : (v : Verdict) → report.verdicts service kind ≡ v → IsVerdict host.folder host.facts (service_at host service) kind v →
+    sound-by : (v : Verdict) → report.verdicts service kind ≡ v → IsVerdict host.folder host.modules (service_at host service) kind v →
         IsSoundStack host service kind
     sound-by Refused is h = absurd (h accepted.0 accepted.1)
     sound-by TooLarge is h = absurd (not-large is)

@@ -98,7 +98,7 @@ alike-taken host T U found ways same t = record {
 
 module _ (host : Host) (T : ℕ → Kind → Type 0) (service : ℕ) (kind : Kind) (old new : Found) (ways : List (Option WayIn)) (way : Option WayIn)
     (upto : (s : ℕ) (k : Kind) → T s k → s ≤ service) (apart : T service kind → ⊥) (t : Taken host T old ways)
-    (adds : AddsStack host.folder host.facts service (service_at host service) kind old new way)
+    (adds : AddsStack host.folder host.modules service (service_at host service) kind old new way)
     (way_in : kind ≡ Auth → HasWayIn adds.verdict (slice_index_or ways service None)) where
   abbrev Is : ℕ → Kind → Type 0
   Is s k = (s ≡ service) × (k ≡ kind)
@@ -144,7 +144,7 @@ module _ (host : Host) (T : ℕ → Kind → Type 0) (service : ℕ) (kind : Kin
 
   in-stack : (spot : Spot) (s : ℕ) (k : Kind) → T s k → InStackAt host t.verdicts spot s k ↔ InStackAt host now spot s k
   in-stack spot s k h =
-      let P : Verdict → Type 0 = λ v. InStack host.facts s k (survey_at host s k) v spot in
+      let P : Verdict → Type 0 = λ v. InStack host.modules s (service_at host s) k (survey_at host s k) v spot in
       (λ i. subst P (sym (as-before s k h)) i, λ i. subst P (as-before s k h) i)
 
   shows-more : (spot : Spot) → Shows (λ s k. More s k × InStackAt host now spot s k) spot (finding_at new.table spot)
@@ -152,7 +152,7 @@ module _ (host : Host) (T : ℕ → Kind → Type 0) (service : ℕ) (kind : Kin
       let P : ℕ → Kind → Type 0 = InStackAt host t.verdicts spot in
       let Q : ℕ → Kind → Type 0 = InStackAt host now spot in
       let before : Option Finding = finding_at old.table spot in
-      let V : Verdict → Type 0 = λ v. InStack host.facts service kind (survey_at host service kind) v spot in
+      let V : Verdict → Type 0 = λ v. InStack host.modules service (service_at host service) kind (survey_at host service kind) v spot in
       elim (adds.puts.each spot) [
         | inl h ↦
             let finding : IsMetFinding (λ s k. More s k × Q s k) spot (with_stack service kind spot before) = record {
@@ -187,10 +187,10 @@ module _ (host : Host) (T : ℕ → Kind → Type 0) (service : ℕ) (kind : Kin
   take-stack = record {
     verdicts = now;
     are = λ s k m. elim m [
-      | inl h ↦ subst (IsVerdict host.folder host.facts (service_at host s) k) (sym (as-before s k h)) (t.are s k h)
+      | inl h ↦ subst (IsVerdict host.folder host.modules (service_at host s) k) (sym (as-before s k h)) (t.are s k h)
       | inr e ↦
-          at-it (λ x y. IsVerdict host.folder host.facts (service_at host x) y (now x y)) s k e
-          (subst (IsVerdict host.folder host.facts (service_at host service) kind) (sym here) adds.is_verdict)
+          at-it (λ x y. IsVerdict host.folder host.modules (service_at host x) y (now x y)) s k e
+          (subst (IsVerdict host.folder host.modules (service_at host service) kind) (sym here) adds.is_verdict)
     ];
     shows = shows-more;
     reads = reads-more;

@@ -3,9 +3,9 @@ use Rattle.std.specs.Prelude.{◌≡◌, ◌⊎◌, ℕ, ◌<◌, List, [], Some
 use Rattle.pam_conf.specs.Files.{Folder}
 use Rattle.pam_conf.specs.Survey.{SurveyText, surveyed}
 use Rattle.pam_conf.specs.declared.rule.Kind.{Kind}
-use Rattle.pam_facts.specs.Rows.{Row}
 use Rattle.pam_paths.specs.Classes.{Member}
 use Rattle.pam_host.specs.FileProblems.{FileHas, files_read}
+use Rattle.pam_host.specs.Modules.{Modules}
 use Rattle.pam_host.specs.StackProblems.{InStack}
 use Rattle.pam_host.specs.Verdicts.{Verdict}
 use Rattle.pam_host.specs.declared.problem.Spot.{Spot}
@@ -14,7 +14,7 @@ use Rattle.pam_host.specs.declared.problem.Spot.{Spot}
 pub record Host : Type 0 where
   pub folder : Folder
   pub services : List (List ℕ)
-  pub facts : List Row
+  pub modules : Modules
 
 -- the service at a position
 abbrev pub service_at : Host → ℕ → List ℕ
@@ -41,4 +41,4 @@ Verdicts = ℕ → Kind → Verdict
 abbrev pub Meets : Host → Verdicts → Spot → ℕ → Kind → Type 0
 Meets host verdicts spot service kind =
     (service < length host.services)
-    × (InFile host spot service kind ⊎ InStack host.facts service kind (survey_at host service kind) (verdicts service kind) spot)
+    × (InFile host spot service kind ⊎ InStack host.modules service (service_at host service) kind (survey_at host service kind) (verdicts service kind) spot)

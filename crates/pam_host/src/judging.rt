@@ -9,12 +9,12 @@ ghost use Rattle.pam_host.specs.StackProblems.{ByVerdict, HasWayIn};
 ghost use Rattle.pam_host.specs.Table.{Adds};
 ghost use Rattle.pam_host.specs.Verdicts.{HasOther, Judged};
 
+use crate::known_modules::Modules;
 use crate::modules::{has_other, push_jumps};
 use crate::problem::{Problem, Spot};
 use crate::way_in::{WayIn, answers_on};
 use pam_check::Soundness;
 use pam_conf::{Kind, Stack};
-use pam_facts::Facts;
 use pam_graph::GraphError;
 use pam_paths::Known;
 use std::alloc::{AllocError, Global};
@@ -121,15 +121,15 @@ fn way_into(
 pub(crate) fn judge(
     alloc: Global,
     spots: &mut Vec<Spot>,
-    facts: &Facts<'_>,
+    modules: &Modules<'_, '_>,
     at: Stacked,
     stack: Stack,
 ) -> Result<Option<WayIn>, AllocError>
     ensures { (folder : Folder) (name : List ℕ) → resolved folder name at.kind ≡ Ok stack →
-        IfOk result (Judges folder facts.now name at spots.old.items spots.new.items) }
+        IfOk result (Judges folder modules.now name at spots.old.items spots.new.items) }
 {
-    let free = facts.answers(&stack, at.kind, None);
-    let failing = facts.answers_if_checks_fail(&stack, at.kind, None);
+    let free = modules.answers(&stack, at.kind);
+    let failing = modules.answers_if_checks_fail(&stack, at.kind);
     match Soundness::of(alloc, &stack, &free, &failing) {
         Ok(soundness) => {
             push_judged(spots, at, &stack, &soundness)?;

@@ -1,6 +1,6 @@
 //! What is found of a stack.
 
-ghost use Rattle.std.specs.Prelude.{◌≡◌, ◌↔◌, IfOk, IsTrue, List, None, [], ℕ, length};
+ghost use Rattle.std.specs.Prelude.{◌≡◌, ◌↔◌, IfOk, IsTrue, None, [], length};
 ghost use Rattle.std.proofs.Common.{replicate};
 ghost use Rattle.pam_conf.specs.Laws.{IsSound};
 ghost use Rattle.pam_conf.specs.Survey.{faults_at, surveyed};
@@ -12,8 +12,9 @@ ghost use Rattle.pam_host.specs.Checking.{AddsService, AddsStack};
 ghost use Rattle.pam_host.specs.Looked.{Looks};
 
 use crate::judging::{Stacked, judge};
+use crate::known_modules::Modules;
 use crate::met::Met;
-use crate::modules::push_all_functionless;
+use crate::modules::push_modules;
 use crate::problem::Spot;
 use crate::readers::note_read;
 use crate::table::{Table, put_stack_at_all};
@@ -21,7 +22,6 @@ use crate::walk::push_walk;
 use crate::way_in::WayIn;
 use pam_conf::laws::stack_is_sound_survey;
 use pam_conf::{Files, Kind, RuleFiles, Survey};
-use pam_facts::Facts;
 use pam_text::Texts;
 use std::alloc::{AllocError, Global};
 use std::collections::BTreeMap;
@@ -32,7 +32,7 @@ pub(crate) struct Checker<'x, 'f> {
     pub alloc: Global,
     pub files: &'x Files,
     pub rules: &'x RuleFiles<'x>,
-    pub facts: &'x Facts<'f>,
+    pub modules: &'x Modules<'x, 'f>,
     ghost same: { rules.now ≡ files.now },
 }
 
@@ -88,12 +88,13 @@ impl Checker<'_, '_> {
         &self,
         spots: &mut Vec<Spot>,
         service: usize,
+        name: &[u8],
         kind: Kind,
         survey: Survey,
     ) -> Result<Option<WayIn>, AllocError>
         requires { spots.old.items ≡ [] }
-        ensures { (name : List ℕ) → survey_text survey ≡ surveyed self.now.rules.now name kind →
-            IfOk result (Looks self.now.rules.now self.now.facts.now name service kind (survey_text survey) spots.new.items) }
+        ensures { survey_text survey ≡ surveyed self.now.rules.now name.now kind →
+            IfOk result (Looks self.now.rules.now self.now.modules.now name.now service kind (survey_text survey) spots.new.items) }
     {
         stack_is_sound_survey();
         let is_sound = is_sound(self.rules, &survey);
@@ -112,11 +113,11 @@ impl Checker<'_, '_> {
             Some(stack) => stack,
             None => return Ok(None),
         };
-        push_all_functionless(spots, self.facts, kind, &stack)?;
+        push_modules(spots, self.modules, name, kind, &stack)?;
         if !is_sound {
             return Ok(None);
         }
-        judge(self.alloc, spots, self.facts, at, stack)
+        judge(self.alloc, spots, self.modules, at, stack)
     }
 
     /// Adds what the stack of a service for a kind meets. Returns the first way in, if it is one of `auth`.
@@ -128,7 +129,7 @@ impl Checker<'_, '_> {
         kind: Kind,
     ) -> Result<Option<WayIn>, AllocError>
         requires { length found.old.readers.items ≡ length self.now.files.now.entries }
-        ensures { IfOk result (AddsStack self.now.files.now self.now.facts.now service name.now kind found.old found.new) }
+        ensures { IfOk result (AddsStack self.now.files.now self.now.modules.now service name.now kind found.old found.new) }
     {
         let survey = self.rules.survey(self.alloc, name, kind)?;
         note_read(
@@ -139,7 +140,7 @@ impl Checker<'_, '_> {
             kind,
         )?;
         let mut spots = Vec::new(self.alloc);
-        let way = self.look(&mut spots, service, kind, survey)?;
+        let way = self.look(&mut spots, service, name, kind, survey)?;
         put_stack_at_all(&mut found.table, &spots, service, kind)?;
         Ok(way)
     }
@@ -152,7 +153,7 @@ impl Checker<'_, '_> {
         name: &[u8],
     ) -> Result<Option<WayIn>, AllocError>
         requires { length found.old.readers.items ≡ length self.now.files.now.entries }
-        ensures { IfOk result (AddsService self.now.files.now self.now.facts.now service name.now found.old found.new) }
+        ensures { IfOk result (AddsService self.now.files.now self.now.modules.now service name.now found.old found.new) }
     {
         let way = self.add_stack(found, service, name, Kind::Auth)?;
         let _ = self.add_stack(found, service, name, Kind::Account)?;
@@ -167,8 +168,8 @@ impl Checker<'_, '_> {
         found: &mut Found,
         services: &Texts,
     ) -> Result<Vec<Option<WayIn>>, AllocError>
-        requires { SoFar (host_with self.now.files.now services.now self.now.facts.now) 0 found.old [] }
-        ensures { IfOk result (λ ways. SoFar (host_with self.now.files.now services.now self.now.facts.now) (length services.now) found.new ways.items) }
+        requires { SoFar (host_with self.now.files.now services.now self.now.modules.now) 0 found.old [] }
+        ensures { IfOk result (λ ways. SoFar (host_with self.now.files.now services.now self.now.modules.now) (length services.now) found.new ways.items) }
     {
         let mut ways_in = Vec::new(self.alloc);
         for name in services.iter() {

@@ -9,6 +9,7 @@ use Rattle.pam_host.specs.declared.report.Finding.{Finding}
 use Rattle.pam_host.specs.declared.way_in.Answered.{Answered}
 use Rattle.pam_known.specs.Answers.{name_of_path}
 use Rattle.pam_report.specs.Decide.{path_at}
+use Rattle.pam_report.specs.Names.{problem_name}
 use Rattle.pam_print.specs.Check.{Names, answer_text, answers_text, finding_line, next_answer, place_text, sentence, shown_name}
 use Rattle.pam_print.specs.Header.{code_name}
 use Rattle.pam_print.specs.Sentences as say
@@ -38,7 +39,7 @@ line_parts : (place level name said : List ℕ) → ((place ++ concat (level ∷
 line_parts place level name said = simp (append_assoc, append-nil)
 
 pub finding_line-is : (names : Names) (place : Place) (finding : Finding) (level name : List ℕ)
-    → level ≡ say.level_name (level_of finding.problem) → name ≡ say.problem_name finding.problem
+    → level ≡ say.level_name (level_of finding.problem) → name ≡ problem_name finding.problem
     → ((place_text names.paths place ++ concat (level ∷ codes ": " ∷ name ∷ codes ": " ∷ [])) ++ sentence names place.line finding.met finding.problem)
     ++ codes "\n" ≡ finding_line names (place, finding)
 unfolding finding_line

@@ -1,12 +1,15 @@
 -- What a call leaves that finds a reply and prints it.
-use Rattle.std.proofs.Common.{◌≡◌, ◌∙◌, ℕ, Bool, true, false, List, Option, Result, Ok, Err, ap, refl, subst, sym}
+use Rattle.std.proofs.Common.{◌≡◌, ◌∙◌, ℕ, Bool, true, false, List, Option, None, Some, Result, Ok, Err, ap, refl, subst, sym}
 use Rattle.std.specs.Prelude.{MatchResult}
+use Rattle.std.specs.Option.{option_copied}
 use Rattle.pam_codes.specs.Out.{Device, Out, WritesAndFlushes}
 use Rattle.pam_conf.specs.Files.{Folder}
 use Rattle.pam_conf.specs.Stack.{Items}
 use Rattle.pam_conf.specs.declared.conf_error.ConfError.{ConfError}
 use Rattle.pam_conf.specs.declared.rule.Kind.{Kind}
-use Rattle.pam_report.specs.Answer.{AnswersBy, shown, with_stack}
+use Rattle.pam_explain.specs.Explanation.{Explanation}
+use Rattle.pam_explain.specs.Explanations.{explanation_of}
+use Rattle.pam_report.specs.Answer.{AnswersBy, explained, explained_by, shown, with_stack}
 use Rattle.pam_report.specs.Finds.{Finds, Refuses}
 use Rattle.pam_report.specs.Memory.{IsWanting, Wants, wants as wants_of}
 use Rattle.pam_report.specs.Reply.{Answer, Reply, status_of, wants_memory}
@@ -17,7 +20,7 @@ use Rattle.pam_report.specs.declared.inputs.Inputs.{Inputs}
 use Rattle.pam_report.specs.declared.report.Status.{Status}
 use Rattle.pam_report.specs.declared.report.replies.Reply as declared
 use Rattle.pam_words.specs.declared.wanted.Task.{Task}
-use Rattle.pam_words.specs.declared.wanted.Task.TheVariants.{Show, Decide, Access, Time, Paths, Outcomes, Graph, Check}
+use Rattle.pam_words.specs.declared.wanted.Task.TheVariants.{Show, Decide, Access, Time, Paths, Outcomes, Graph, Check, Explain, Facts, Version}
 use Rattle.pam_print.specs.Leaves.{LeavesFault, LeavesSome, Prints}
 use Rattle.pam_print.specs.Text.{IsText}
 
@@ -31,7 +34,10 @@ answers-by One Other go service (Time table login moment) files inputs h = (h.0,
 answers-by One Other go service (Paths source kind limit part filter knowledge) files inputs h = (h.0, h.1, go _ h.2)
 answers-by One Other go service (Outcomes source kind knowledge) files inputs h = (h.0, h.1, go _ h.2)
 answers-by One Other go service (Graph source kind format knowledge) files inputs h = (h.0, h.1, go _ h.2)
-answers-by One Other go service (Check source services fail_on) files inputs h = go _ h
+answers-by One Other go service (Check source services fail_on named) files inputs h = go _ h
+answers-by One Other go service (Explain number) files inputs h = go _ h
+answers-by One Other go service Facts files inputs h = go _ h
+answers-by One Other go service Version files inputs h = go _ h
 
 module _ {W : Type 0} (contents : W → Option (List ℕ)) (old new : Out W) where
   -- the text of a reply is written, and what is told of it is this
@@ -57,6 +63,9 @@ module _ {W : Type 0} (contents : W → Option (List ℕ)) (old new : Out W) whe
   refused (faults.Count e) IsAnswer same h = (same, h)
   refused faults.TooManyStates IsAnswer same h = (same, h)
   refused faults.NoSuchModule IsAnswer same h = (same, h)
+  refused faults.NoSuchNumber IsAnswer same h = (same, h)
+  refused (faults.Facts e) IsAnswer same h = (same, h)
+  refused (faults.Accept e) IsAnswer same h = (same, h)
   refused (faults.Moment e) IsAnswer same h = (same, h)
   refused (faults.Table e) IsAnswer same h = (same, h)
   refused (faults.Time e) IsAnswer same h = (same, h)
@@ -76,6 +85,9 @@ module _ {W : Type 0} (contents : W → Option (List ℕ)) (old new : Out W) whe
   unprinted (faults.Count e) reply h IsAnswer is = absurd h
   unprinted faults.TooManyStates reply h IsAnswer is = absurd h
   unprinted faults.NoSuchModule reply h IsAnswer is = absurd h
+  unprinted faults.NoSuchNumber reply h IsAnswer is = absurd h
+  unprinted (faults.Facts e) reply h IsAnswer is = absurd h
+  unprinted (faults.Accept e) reply h IsAnswer is = absurd h
   unprinted (faults.Moment e) reply h IsAnswer is = absurd h
   unprinted (faults.Table e) reply h IsAnswer is = absurd h
   unprinted (faults.Time e) reply h IsAnswer is = absurd h
@@ -90,6 +102,9 @@ module _ {W : Type 0} (contents : W → Option (List ℕ)) (old new : Out W) whe
   unprinted-wants wants (faults.Count e) reply h works = absurd h
   unprinted-wants wants faults.TooManyStates reply h works = absurd h
   unprinted-wants wants faults.NoSuchModule reply h works = absurd h
+  unprinted-wants wants faults.NoSuchNumber reply h works = absurd h
+  unprinted-wants wants (faults.Facts e) reply h works = absurd h
+  unprinted-wants wants (faults.Accept e) reply h works = absurd h
   unprinted-wants wants (faults.Moment e) reply h works = absurd h
   unprinted-wants wants (faults.Table e) reply h works = absurd h
   unprinted-wants wants (faults.Time e) reply h works = absurd h
@@ -104,6 +119,14 @@ no_page : (service : List ℕ) (kind : Kind) (files : Folder) (given : Result It
 no_page service kind files (Err e) = refl
 no_page service kind files (Ok items) = refl
 
+no_explanation : (found : Option Explanation) → page_in (explained_by found) ≡ false
+no_explanation None = refl
+no_explanation (Some explanation) = refl
+
+no_explained : (number : Option (List ℕ)) → page_in (explained number) ≡ false
+no_explained None = refl
+no_explained (Some number) = no_explanation (explanation_of number)
+
 not_both : true ≡ false → ⊥
 not_both both = cc
 
@@ -117,4 +140,7 @@ page-wants service (Time table login moment) files inputs reply h page = refl
 page-wants service (Paths source kind limit part filter knowledge) files inputs reply h page = refl
 page-wants service (Outcomes source kind knowledge) files inputs reply h page = refl
 page-wants service (Graph source kind format knowledge) files inputs reply h page = refl
-page-wants service (Check source services fail_on) files inputs reply h page = refl
+page-wants service (Check source services fail_on named) files inputs reply h page = refl
+page-wants service (Explain number) files inputs reply h page = absurd (not_both (sym page ∙ ap page_in (sym h) ∙ no_explained (option_copied number)))
+page-wants service Facts files inputs reply h page = absurd (not_both (sym page ∙ ap page_in (sym h)))
+page-wants service Version files inputs reply h page = absurd (not_both (sym page ∙ ap page_in (sym h)))

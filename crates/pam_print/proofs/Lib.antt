@@ -2,9 +2,11 @@ pub mod CheckFindings
 pub mod CheckMet
 pub mod CheckTexts
 pub mod Drawings
+pub mod ExplainTexts
 pub mod FlatTexts
 pub mod ItemTexts
 pub mod Leaving
+pub mod ListTexts
 pub mod OutcomeTexts
 pub mod PageTexts
 pub mod ShowTexts

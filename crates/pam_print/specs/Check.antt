@@ -1,7 +1,6 @@
 -- The text of `check`: a line for each finding, and a last line with their numbers.
 use Rattle.std.specs.Prelude.{ℕ, ◌+◌, ◌-◌, ◌*◌, ◌/◌, ◌%◌, ◌==◌, ◌||◌, nat_lt, Bool, true, false, List, [], ◌∷◌, ◌++◌, codes, count_by}
 use Rattle.std.specs.Prelude.{decimal, length, min, if◌then◌else◌, Option, None, Some, slice_get, slice_index_or, unwrap_or}
-use Rattle.std.specs.BTreeMap.{BTreeMap}
 use Rattle.std.specs.List.{flat_map}
 use Rattle.std.specs.Option.{option_map_or}
 use Rattle.pam_conf.specs.Stack.{Items}
@@ -10,7 +9,6 @@ use Rattle.pam_conf.specs.declared.error.FaultKind.TheVariants.{NoService}
 use Rattle.pam_conf.specs.declared.rule.Form.{Form}
 use Rattle.pam_conf.specs.declared.rule.Form.TheVariants.{Dir, Single}
 use Rattle.pam_conf.specs.declared.rule.Kind.{Kind}
-use Rattle.pam_conf.specs.declared.rule.Kind.TheVariants.{Auth}
 use Rattle.pam_host.specs.Levels.{level_of}
 use Rattle.pam_host.specs.declared.level.Level.{Level}
 use Rattle.pam_host.specs.declared.level.Level.TheVariants as levels
@@ -24,6 +22,7 @@ use Rattle.pam_host.specs.declared.way_in.Answered.{Answered}
 use Rattle.pam_host.specs.declared.way_in.WayIn.{WayIn}
 use Rattle.pam_known.specs.Answers.{name_of_path}
 use Rattle.pam_report.specs.Decide.{path_at}
+use Rattle.pam_report.specs.Names.{problem_name, stack_of}
 use Rattle.pam_report.specs.Reply.{CheckValue}
 use Rattle.pam_print.specs.Header.{code_name, kind_name}
 use Rattle.pam_print.specs.Sentences as say
@@ -138,25 +137,36 @@ abbrev pub fault_text : ℕ → FaultKind → List ℕ
 fault_text line NoService = if line == 0 then say.no_rules_sentence else say.fault_sentence NoService
 fault_text line fault = say.fault_sentence fault
 
+-- the kind and the service of a problem of a whole stack
+abbrev pub subject_text : Names → Option (ℕ × Kind) → List ℕ
+subject_text names None = []
+subject_text names (Some stack) = kind_of_service names stack.1 stack.0
+
+-- what is wrong, and how to mend it
+abbrev pub said : ℕ → Problem → List ℕ
+said line (problems.Fault fault) = fault_text line fault
+said line (problems.Walk fault) = fault_text line fault
+said line (problems.Released difference) = say.released_sentence difference
+said line problem = say.problem_sentence problem
+
+-- the stacks that meet a problem of a line
+abbrev pub met_unless : List (List ℕ) → Option Met → Option (ℕ × Kind) → List ℕ
+met_unless services met None = met_if_any services met
+met_unless services met (Some stack) = []
+
+-- the first way in, or the stacks that meet the problem
+abbrev pub rest_text : Names → Option Met → Problem → List ℕ
+rest_text names met (problems.LetsAnybodyIn service) = way_in_at names.ways_in service
+rest_text names met problem = met_unless names.services met (stack_of problem)
+
 -- what is wrong, how to mend it, and which stacks meet it
 unfoldable pub sentence : Names → ℕ → Option Met → Problem → List ℕ
-sentence names line met (problems.Fault fault) = fault_text line fault ++ met_if_any names.services met
-sentence names line met (problems.Walk fault) = fault_text line fault ++ met_if_any names.services met
-sentence names line met (problems.Released difference) = say.released_sentence difference ++ met_if_any names.services met
-sentence names line met (problems.LetsNobodyIn service kind) = kind_of_service names kind service ++ say.nobody_sentence
-sentence names line met (problems.LetsAnybodyIn service) =
-    kind_of_service names Auth service ++ say.anybody_sentence ++ way_in_at names.ways_in service
-sentence names line met problems.JumpPastEnd = say.jump_sentence ++ met_if_any names.services met
-sentence names line met problems.NoOther = say.no_other_sentence
-sentence names line met problems.UnreachableName = say.unreachable_sentence
-sentence names line met (problems.TooLarge service kind) = kind_of_service names kind service ++ say.large_sentence
-sentence names line met problems.LeftOver = say.left_over_sentence
-sentence names line met problems.NoFunction = say.no_function_sentence ++ met_if_any names.services met
+sentence names line met problem = subject_text names (stack_of problem) ++ said line problem ++ rest_text names met problem
 
 -- A LINE: `PLACE: LEVEL: NUMBER NAME: SENTENCE`
 unfoldable pub finding_line : Names → Place × Finding → List ℕ
 finding_line names entry =
-    place_text names.paths entry.0 ++ say.level_name (level_of entry.1.problem) ++ codes ": " ++ say.problem_name entry.1.problem ++ codes ": "
+    place_text names.paths entry.0 ++ say.level_name (level_of entry.1.problem) ++ codes ": " ++ problem_name entry.1.problem ++ codes ": "
     ++ sentence names entry.0.line entry.1.met entry.1.problem ++ codes "\n"
 
 -- THE LAST LINE
@@ -175,28 +185,39 @@ number_at level found = count_by (λ entry. is_level (level_of entry.1.problem) 
 abbrev pub counted : ℕ → List ℕ → List ℕ
 counted count name = decimal count ++ codes " " ++ name ++ (if count == 1 then [] else codes "s")
 
+-- at most as much as a number of 64 bits can say
+abbrev pub at_most : ℕ → ℕ
+at_most count = min count 18446744073709551615
+
+-- the warnings, with S8 for each line of the accept file that accepts nothing
+abbrev pub warnings_in : List (Place × Finding) → List ℕ → ℕ
+warnings_in found unused = at_most (number_at levels.Warning found + length unused)
+
 -- `ERRORS, WARNINGS, NOTES`
-abbrev pub levels_text : List (Place × Finding) → List ℕ
-levels_text found =
-    counted (number_at levels.Error found) (codes "error") ++ codes ", " ++ counted (number_at levels.Warning found) (codes "warning") ++ codes ", "
+abbrev pub levels_text : List (Place × Finding) → List ℕ → List ℕ
+levels_text found unused =
+    counted (number_at levels.Error found) (codes "error") ++ codes ", " ++ counted (warnings_in found unused) (codes "warning") ++ codes ", "
     ++ counted (number_at levels.Note found) (codes "note")
 
--- the stacks of services, one for each of the four kinds: as many as a number of 64 bits can say
+-- the stacks of services, one for each of the four kinds
 abbrev pub stacks_of : ℕ → ℕ
-stacks_of services = min (services * 4) 18446744073709551615
+stacks_of services = at_most (services * 4)
 
 -- `checked SERVICES, STACKS: ERRORS, WARNINGS, NOTES`
-unfoldable pub last_line : ℕ → List (Place × Finding) → List ℕ
-last_line services found =
+unfoldable pub last_line : ℕ → List (Place × Finding) → List ℕ → List ℕ
+last_line services found unused =
     codes "checked " ++ counted services (codes "service") ++ codes ", " ++ counted (stacks_of services) (codes "stack") ++ codes ": "
-    ++ levels_text found ++ codes "\n"
+    ++ levels_text found unused ++ codes "\n"
 
-abbrev pub report_text : Names → BTreeMap Place Finding → List ℕ
-report_text names found = flat_map (finding_line names) found.entries ++ last_line (length names.services) found.entries
+-- `FILE:LINE: warning: S8 NothingAccepted: SENTENCE`
+unfoldable pub unused_line : List ℕ → ℕ → List ℕ
+unused_line accept line = shown_name accept ++ codes ":" ++ decimal line ++ codes ": warning: S8 NothingAccepted: " ++ say.unused_sentence ++ codes "\n"
 
 abbrev pub names_of_value : CheckValue → Names
 names_of_value value = record { form = value.form; paths = value.paths; services = value.services; ways_in = value.ways_in }
 
 -- THE TEXT of `check`
 abbrev pub check_text : CheckValue → List ℕ
-check_text value = report_text (names_of_value value) value.found
+check_text value =
+    flat_map (finding_line (names_of_value value)) value.found ++ flat_map (unused_line value.accept) value.unused
+    ++ last_line (length value.services) value.found value.unused

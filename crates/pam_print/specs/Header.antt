@@ -5,14 +5,8 @@ use Rattle.std.specs.Char.{to_ascii_lowercase}
 use Rattle.std.specs.List.{concat}
 use Rattle.pam_conf.specs.Files.{Folder}
 use Rattle.pam_conf.specs.declared.rule.Kind.{Kind}
-use Rattle.pam_conf.specs.declared.rule.Kind.TheVariants.{Auth, Account, Password, Session}
 unfoldable pub use Rattle.pam_page.specs.Page.{code_name}
-
-abbrev pub kind_name : Kind → List ℕ
-kind_name Auth = codes "auth"
-kind_name Account = codes "account"
-kind_name Password = codes "password"
-kind_name Session = codes "session"
+pub use Rattle.pam_report.specs.Names.{kind_name}
 
 -- `SERVICE KIND N modules`, with the service in lowercase
 unfoldable pub header_text : List ℕ → Kind → ℕ → List ℕ

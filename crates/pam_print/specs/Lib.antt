@@ -1,8 +1,10 @@
+pub mod About
 pub mod Answer
 pub mod Check
 pub mod CheckNames
 pub mod Decide
 pub mod Drawing
+pub mod Explain
 pub mod Header
 pub mod Leaves
 pub mod Outcomes

@@ -1,5 +1,5 @@
--- What `check` says of each problem: its number and name, what is wrong, and how to mend it.
-use Rattle.std.specs.Prelude.{ℕ, List, ◌++◌, codes}
+-- What `check` says of each problem: what is wrong, and how to mend it.
+use Rattle.std.specs.Prelude.{ℕ, List, [], ◌++◌, codes}
 use Rattle.pam_codes.specs.declared.error.ControlError.{ControlError}
 use Rattle.pam_codes.specs.declared.error.ControlError.TheVariants.{BadControl, BadValue, BadAction, ZeroJump, OpenBracket}
 use Rattle.pam_conf.specs.declared.error.FaultKind.{FaultKind}
@@ -8,28 +8,13 @@ use Rattle.pam_host.specs.declared.level.Level.{Level}
 use Rattle.pam_host.specs.declared.level.Level.TheVariants.{Error, Note, Warning}
 use Rattle.pam_host.specs.declared.problem.Problem.{Problem}
 use Rattle.pam_host.specs.declared.problem.Problem.TheVariants as problems
-use Rattle.pam_released.specs.Meanings.{meaning_of, mending_of, name_of}
+use Rattle.pam_released.specs.Meanings.{meaning_of, mending_of}
 use Rattle.pam_released.specs.declared.difference.Difference.{Difference}
-use Rattle.pam_report.specs.FaultTable.{conf_row}
 
 abbrev pub level_name : Level → List ℕ
 level_name Note = codes "note"
 level_name Warning = codes "warning"
 level_name Error = codes "error"
-
--- the number and the name
-unfoldable pub problem_name : Problem → List ℕ
-problem_name (problems.Fault fault) = (conf_row fault).name
-problem_name (problems.Walk fault) = (conf_row fault).name
-problem_name (problems.Released difference) = name_of difference
-problem_name (problems.LetsNobodyIn service kind) = codes "S1 LetsNobodyIn"
-problem_name (problems.LetsAnybodyIn service) = codes "S2 LetsAnybodyIn"
-problem_name problems.JumpPastEnd = codes "S4 JumpPastEnd"
-problem_name problems.NoOther = codes "S6 NoOther"
-problem_name problems.UnreachableName = codes "S7 UnreachableName"
-problem_name (problems.TooLarge service kind) = codes "S9 TooLarge"
-problem_name problems.LeftOver = codes "S11 LeftOver"
-problem_name problems.NoFunction = codes "S13 NoFunction"
 
 unfoldable pub control_sentence : ControlError → List ℕ
 control_sentence BadControl =
@@ -71,6 +56,10 @@ anybody_sentence = codes " succeeds although no module that checks who logs in d
 abbrev pub jump_sentence : List ℕ
 jump_sentence = codes "a jump past the end of the list, which fails the stack; jump over fewer items"
 
+abbrev pub no_module_sentence : List ℕ
+no_module_sentence =
+    codes "no folder of modules has this module, so it always answers module_unknown; install it, or remove the rule"
+
 abbrev pub no_other_sentence : List ℕ
 no_other_sentence = codes "there is no file other, which decides for each service without a file; make one that denies"
 
@@ -85,3 +74,26 @@ left_over_sentence = codes "a copy that an editor or a package left, for which n
 
 abbrev pub no_function_sentence : List ℕ
 no_function_sentence = codes "the module has no function for this kind, so it always answers module_unknown; remove the rule"
+
+abbrev pub caller_sentence : List ℕ
+caller_sentence = codes "the module looks at the user of the process, which in this service is always root; remove the rule"
+
+-- S8: a line of the accept file that accepts nothing
+abbrev pub unused_sentence : List ℕ
+unused_sentence = codes "no finding has this number and place; remove the line, or mend it"
+
+-- of a problem that is neither a fault nor a difference
+unfoldable pub problem_sentence : Problem → List ℕ
+problem_sentence (problems.Fault fault) = []
+problem_sentence (problems.Walk fault) = []
+problem_sentence (problems.Released difference) = []
+problem_sentence (problems.LetsNobodyIn service kind) = nobody_sentence
+problem_sentence (problems.LetsAnybodyIn service) = anybody_sentence
+problem_sentence problems.JumpPastEnd = jump_sentence
+problem_sentence (problems.NoModule is_dashed) = no_module_sentence
+problem_sentence problems.NoOther = no_other_sentence
+problem_sentence problems.UnreachableName = unreachable_sentence
+problem_sentence (problems.TooLarge service kind) = large_sentence
+problem_sentence problems.LeftOver = left_over_sentence
+problem_sentence problems.NoFunction = no_function_sentence
+problem_sentence problems.CallerIsRoot = caller_sentence

@@ -6,8 +6,8 @@ ghost use Rattle.std.specs.Option.{option_map_or};
 ghost use Rattle.pam_codes.specs.Out.{Writes, WritesAndFlushes};
 ghost use Rattle.pam_report.specs.Reply.{Check};
 ghost use Rattle.pam_report.specs.ReplyViews.{check_view};
-ghost use Rattle.pam_print.specs.Check.{counted, finding_line, is_level, last_line, levels_text};
-ghost use Rattle.pam_print.specs.Check.{names_of_value, number_at, report_text};
+ghost use Rattle.pam_print.specs.Check.{check_text, counted, finding_line, is_level, last_line, levels_text};
+ghost use Rattle.pam_print.specs.Check.{names_of_value, number_at, unused_line, warnings_in};
 ghost use Rattle.pam_print.specs.CheckNames.{names_view};
 ghost use Rattle.pam_print.specs.Leaves.{Prints};
 
@@ -16,13 +16,14 @@ mod finding;
 mod met;
 mod sentences;
 
+use escaped::put_name;
 use finding::{Names, put_finding};
 use pam_codes::{Device, Out, Piece};
 use pam_host::{Finding, Level, Place};
 use pam_report::{CheckReply, Fault};
 use pam_text::Texts;
+use sentences::UNUSED;
 use std::alloc::{AllocError, Global};
-use std::collections::BTreeMap;
 use std::io::Write;
 
 /// The number of kinds: each service has a stack for each of them.
@@ -52,13 +53,20 @@ fn is_level(level: Level, other: Level) -> bool
 }
 
 /// Returns the number of findings of a level.
-fn number_at(found: &BTreeMap<Place, Finding>, level: Level) -> usize
-    ensures { result ≡ number_at level found.now.entries }
+fn number_at(found: &[(Place, Finding)], level: Level) -> usize
+    ensures { result ≡ number_at level found.now }
 {
     found
-        .values()
-        .filter(|finding| is_level(finding.problem.level(), level))
+        .iter()
+        .filter(|entry| is_level(entry.1.problem.level(), level))
         .count()
+}
+
+/// Returns the number of warnings, with S8 for each line of the accept file that accepts nothing.
+fn warnings_in(found: &[(Place, Finding)], unused: &[u32]) -> usize
+    ensures { result ≡ warnings_in found.now unused.now }
+{
+    number_at(found, Level::Warning).saturating_add(unused.len())
 }
 
 /// Writes a number and what is counted, as `1 error` or `2 errors`.
@@ -78,12 +86,16 @@ fn put_counted<W: Write>(count: usize, name: &str, out: &mut Out<W>) -> Result<(
 }
 
 /// Writes `ERRORS, WARNINGS, NOTES`.
-fn put_levels<W: Write>(found: &BTreeMap<Place, Finding>, out: &mut Out<W>) -> Result<(), Device>
-    ensures { Writes W.contents out.old out.new result (levels_text found.now.entries) }
+fn put_levels<W: Write>(
+    found: &[(Place, Finding)],
+    unused: &[u32],
+    out: &mut Out<W>,
+) -> Result<(), Device>
+    ensures { Writes W.contents out.old out.new result (levels_text found.now unused.now) }
 {
     put_counted(number_at(found, Level::Error), "error", out)?;
     out.put(b", ")?;
-    put_counted(number_at(found, Level::Warning), "warning", out)?;
+    put_counted(warnings_in(found, unused), "warning", out)?;
     out.put(b", ")?;
     put_counted(number_at(found, Level::Note), "note", out)
 }
@@ -92,42 +104,70 @@ fn put_levels<W: Write>(found: &BTreeMap<Place, Finding>, out: &mut Out<W>) -> R
 #[tactic(auto, unfolding(crate::specs::Check::last_line))]
 fn put_last_line<W: Write>(
     services: usize,
-    found: &BTreeMap<Place, Finding>,
+    found: &[(Place, Finding)],
+    unused: &[u32],
     out: &mut Out<W>,
 ) -> Result<(), Device>
-    ensures { Writes W.contents out.old out.new result (last_line services found.now.entries) }
+    ensures { Writes W.contents out.old out.new result (last_line services found.now unused.now) }
 {
     out.put(b"checked ")?;
     put_counted(services, "service", out)?;
     out.put(b", ")?;
     put_counted(services.saturating_mul(KINDS), "stack", out)?;
     out.put(b": ")?;
-    put_levels(found, out)?;
+    put_levels(found, unused, out)?;
     out.put(b"\n")
 }
 
 fn put_findings<W: Write>(
     names: &Names<'_>,
-    found: &BTreeMap<Place, Finding>,
+    found: &[(Place, Finding)],
     out: &mut Out<W>,
 ) -> Result<(), Device>
-    ensures { Writes W.contents out.old out.new result (flat_map (finding_line (names_view names.now)) found.now.entries) }
+    ensures { Writes W.contents out.old out.new result (flat_map (finding_line (names_view names.now)) found.now) }
 {
-    for (place, finding) in found {
-        put_finding(names, place, *finding, out)?;
+    for entry in found {
+        put_finding(names, &entry.0, entry.1, out)?;
     }
     Ok(())
 }
 
+/// Writes S8 of a line of the accept file.
+#[tactic(auto, unfolding(crate::specs::Check::unused_line))]
+fn put_unused<W: Write>(accept: &[u8], line: u32, out: &mut Out<W>) -> Result<(), Device>
+    ensures { Writes W.contents out.old out.new result (unused_line accept.now line) }
+{
+    put_name(accept, out)?;
+    out.put_line(&[
+        Piece::Bytes(b":"),
+        Piece::Number(u64::from(line)),
+        Piece::Bytes(b": warning: S8 NothingAccepted: "),
+        Piece::Bytes(UNUSED),
+        Piece::Bytes(b"\n"),
+    ])
+}
+
+fn put_all_unused<W: Write>(accept: &[u8], lines: &[u32], out: &mut Out<W>) -> Result<(), Device>
+    ensures { Writes W.contents out.old out.new result (flat_map (unused_line accept.now) lines.now) }
+{
+    for line in lines {
+        put_unused(accept, *line, out)?;
+    }
+    Ok(())
+}
+
+/// Writes the findings, and flushes.
 fn write_report<W: Write>(
     names: &Names<'_>,
-    found: &BTreeMap<Place, Finding>,
+    reply: &CheckReply<'_>,
     out: &mut Out<W>,
 ) -> Result<(), Device>
-    ensures { WritesAndFlushes W.contents out.old out.new result (report_text (names_view names.now) found.now) }
+    requires { names_view names.now ≡ names_of_value (check_view reply.now) }
+    ensures { WritesAndFlushes W.contents out.old out.new result (check_text (check_view reply.now)) }
 {
-    put_findings(names, found, out)?;
-    put_last_line(names.services.len(), found, out)?;
+    put_findings(names, &reply.found, out)?;
+    put_all_unused(reply.accept.as_bytes(), &reply.unused, out)?;
+    put_last_line(names.services.len(), &reply.found, &reply.unused, out)?;
     out.finish()
 }
 
@@ -157,7 +197,7 @@ pub(crate) fn write_check<W: Write>(
         Ok(names) => names,
         Err(_) => return Err(Fault::Memory),
     };
-    match write_report(&names, &reply.report.found, out) {
+    match write_report(&names, reply, out) {
         Ok(()) => Ok(()),
         Err(Device) => Err(Fault::Device),
     }

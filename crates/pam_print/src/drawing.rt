@@ -8,11 +8,10 @@ ghost use Rattle.pam_report.specs.ReplyViews.{drawing_view};
 ghost use Rattle.pam_print.specs.Drawing.{drawing_in, title_of};
 ghost use Rattle.pam_print.specs.Leaves.{Prints};
 
-use crate::header::kind_name;
 use pam_codes::{Device, Out};
 use pam_conf::Kind;
 use pam_drawing::{write_dot, write_mermaid};
-use pam_report::{Fault, GraphReply};
+use pam_report::{Fault, GraphReply, kind_name};
 use pam_words::GraphFormat;
 use std::alloc::{AllocError, Global};
 use std::io::Write;

@@ -3,22 +3,12 @@
 ghost use Rattle.std.specs.Prelude.{◌≡◌, map};
 ghost use Rattle.std.specs.Char.{to_ascii_lowercase};
 ghost use Rattle.pam_codes.specs.Out.{Writes};
-ghost use Rattle.pam_print.specs.Header.{header_text, kind_name};
+ghost use Rattle.pam_print.specs.Header.{header_text};
 
 use pam_codes::{Device, Out, Piece};
 use pam_conf::Kind;
+use pam_report::kind_name;
 use std::io::Write;
-
-pub(crate) fn kind_name(kind: Kind) -> &'static str
-    ensures { result.now ≡ kind_name kind }
-{
-    match kind {
-        Kind::Auth => "auth",
-        Kind::Account => "account",
-        Kind::Password => "password",
-        Kind::Session => "session",
-    }
-}
 
 fn put_lowercase<W: Write>(text: &[u8], out: &mut Out<W>) -> Result<(), Device>
     ensures { Writes W.contents out.old out.new result (map to_ascii_lowercase text.now) }

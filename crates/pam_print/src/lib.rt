@@ -1,9 +1,11 @@
 //! The text of answers: each reply of `pam_report` is written as text, and nowhere else.
 #![tactic(auto)]
 
+mod about;
 mod check;
 mod decide;
 mod drawing;
+mod explain;
 mod header;
 mod outcomes;
 mod paths;

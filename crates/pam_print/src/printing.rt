@@ -6,9 +6,11 @@ ghost use Rattle.pam_report.specs.declared.fault.Fault.TheVariants as faults;
 ghost use Rattle.pam_print.specs.Answer.{Answers};
 ghost use Rattle.pam_print.specs.Leaves.{Prints};
 
+use crate::about::{write_known, write_version};
 use crate::check::write_check;
 use crate::decide::write_run;
 use crate::drawing::write_drawing;
+use crate::explain::{write_explanation, write_explanations};
 use crate::outcomes::write_outcomes;
 use crate::paths::write_page;
 use crate::show::write_stack;
@@ -33,6 +35,10 @@ pub fn print<W: Write>(alloc: Global, reply: &Reply<'_>, out: &mut Out<W>) -> Re
         Reply::Time(answer) => told(write_time(*answer, out)),
         Reply::Outcomes(outcomes) => told(write_outcomes(outcomes, out)),
         Reply::Check(check) => write_check(alloc, check, out),
+        Reply::Explained(explanation) => told(write_explanation(explanation, out)),
+        Reply::Explanations => told(write_explanations(out)),
+        Reply::Facts => told(write_known(out)),
+        Reply::Version => told(write_version(out)),
         Reply::Graph(drawing) => write_drawing(alloc, drawing, out),
         Reply::Paths(page) => write_page(alloc, page, out),
     }

@@ -73,7 +73,8 @@ finds-ok items told found h = record {
 
 with_its : (given : Inputs) (moment : Option DateTime) → with_time (tables_given given None) (tables_given given moment).time ≡ tables_given given moment
 with_its (inputs.Paths files groups access time returns) moment = refl
-with_its (inputs.Host files paths) moment = refl
+with_its (inputs.Host files paths given) moment = refl
+with_its inputs.Nothing moment = refl
 with_its (inputs.Stack files) moment = refl
 with_its (inputs.Access table groups) moment = refl
 with_its (inputs.Time table) moment = refl
@@ -118,6 +119,9 @@ module _ (IsAnswerOf : Items → Allowance → Answer → Type 0) (told : Result
   fault-found (faults.Count e) h = from-err (faults.Count e) h
   fault-found faults.TooManyStates h = from-err faults.TooManyStates h
   fault-found faults.NoSuchModule h = from-err faults.NoSuchModule h
+  fault-found (faults.Facts e) h = from-err (faults.Facts e) h
+  fault-found (faults.Accept e) h = from-err (faults.Accept e) h
+  fault-found faults.NoSuchNumber h = from-err faults.NoSuchNumber h
   fault-found (faults.Moment e) h = from-err (faults.Moment e) h
   fault-found (faults.Cursor e) h = absurd h
   fault-found (faults.Table e) h = from-table e e.fault h

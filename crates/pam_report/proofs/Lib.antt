@@ -1,6 +1,8 @@
+pub mod CheckAnswers
 pub mod Civil
 pub mod Drawings
 pub mod GoalPages
+pub mod Kept
 pub mod KnownStacks
 pub mod OutcomeLists
 pub mod PageParts

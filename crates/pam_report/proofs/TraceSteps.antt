@@ -13,8 +13,8 @@ use Rattle.pam_dispatch.specs.Decision.{decision_of}
 use Rattle.pam_dispatch.specs.Flat.{modules_of, rest_of}
 use Rattle.pam_dispatch.specs.Runs.{Ask, AsksRise, Assignment, Runs, after_answer, answers_of, asked_by, asked_module as number_asked}
 use Rattle.pam_dispatch.specs.Runs.{final_state, next_ask, outcome_of}
-use Rattle.pam_dispatch.specs.State.{action_of, start_state}
-use Rattle.pam_dispatch.specs.Tree.{asked, decided, runs_of_stack}
+use Rattle.pam_dispatch.specs.State.{action_of}
+use Rattle.pam_dispatch.specs.Tree.{decided, runs_of_stack}
 use Rattle.pam_dispatch.proofs.Asking.{AsksRise-step, asked_by-end, asked_by-step}
 use Rattle.pam_dispatch.proofs.Numbering.{AsksRise-lower}
 use Rattle.pam_dispatch.proofs.OpenRuns.{asked_by-runs_of_stack, decision_of-runs_of_stack}

@@ -40,7 +40,8 @@ wanted given (known.Time e) h = λ memory. h
 given_are : (inputs : Inputs) (moment : Option DateTime) → all_given (tables_given inputs moment) ≡ paths_tables (is_some moment) inputs
 given_are (inputs.Paths files groups access time returns) moment =
     rw (map_is (λ b. b.items) groups, map_is (λ b. b.items) access, map_is (λ b. b.items) returns, time_is time moment) refl
-given_are (inputs.Host files paths) moment = refl
+given_are (inputs.Host files paths given) moment = refl
+given_are inputs.Nothing moment = refl
 given_are (inputs.Stack files) moment = refl
 given_are (inputs.Access table groups) moment = refl
 given_are (inputs.Time table) moment = refl

@@ -1,12 +1,15 @@
 -- The answer to a request: the reply that its inputs imply, or the first fault.
-use Rattle.std.specs.Prelude.{◌≡◌, ℕ, List, map, Option, Result, Ok, Err, ◌==◌, if◌then◌else◌, length, unwrap_or}
+use Rattle.std.specs.Prelude.{◌≡◌, ℕ, List, map, Option, Some, None, Result, Ok, Err, ◌==◌, if◌then◌else◌, length, unwrap_or}
 use Rattle.std.specs.Char.{to_ascii_lowercase}
+use Rattle.std.specs.Option.{option_copied}
 use Rattle.pam_conf.specs.Files.{Folder}
 use Rattle.pam_conf.specs.Resolution.{resolved}
 use Rattle.pam_conf.specs.Stack.{Items, module_count}
 use Rattle.pam_conf.specs.declared.conf_error.ConfError.{ConfError}
 use Rattle.pam_conf.specs.declared.rule.Kind.{Kind}
 use Rattle.jiff.specs.Types.{DateTime}
+use Rattle.pam_explain.specs.Explanation.{Explanation}
+use Rattle.pam_explain.specs.Explanations.{explanation_of}
 use Rattle.pam_dispatch.specs.Runs.{answers_of}
 use Rattle.pam_dispatch.specs.State.{start_state}
 use Rattle.pam_dispatch.specs.Tree.{asked, decided}
@@ -25,11 +28,11 @@ use Rattle.pam_times.specs.declared.moments.MomentError.{MomentError}
 use Rattle.pam_times.specs.declared.times.TimeAnswer.{TimeAnswer}
 use Rattle.pam_words.specs.declared.wanted.Login.{Login}
 use Rattle.pam_words.specs.declared.wanted.Task.{Task}
-use Rattle.pam_words.specs.declared.wanted.Task.TheVariants.{Show, Decide, Access, Time, Paths, Outcomes, Graph, Check}
+use Rattle.pam_words.specs.declared.wanted.Task.TheVariants.{Show, Decide, Access, Time, Paths, Outcomes, Graph, Check, Explain, Facts, Version}
 use Rattle.pam_report.specs.Check.{IsCheck}
 use Rattle.pam_report.specs.Decide.{asked_modules}
 use Rattle.pam_report.specs.Graph.{IsGraphReply}
-use Rattle.pam_report.specs.Inputs.{access_given, files_given, group_file, groups_in, no_files, paths_given, time_given}
+use Rattle.pam_report.specs.Inputs.{access_given, files_given, group_file, groups_in, no_files, time_given}
 use Rattle.pam_report.specs.KnownStack.{KnownItems, known_stack}
 use Rattle.pam_report.specs.Finds.{Finds, IsTableFault, IsTimeFault}
 use Rattle.pam_report.specs.Memory.{WantsOnly, wants}
@@ -37,7 +40,8 @@ use Rattle.pam_report.specs.Moments.{IsGivenMoment, IsMoment}
 use Rattle.pam_report.specs.Outcomes.{IsOutcomes}
 use Rattle.pam_report.specs.Paths.{IsPage}
 use Rattle.pam_report.specs.Reply.{Answer, RunValue, Run, Stack}
-use Rattle.pam_report.specs.Reply.{Access as AccessReply, Time as TimeReply}
+use Rattle.pam_report.specs.Reply.{Explained, Explanations}
+use Rattle.pam_report.specs.Reply.{Access as AccessReply, Facts as FactsReply, Time as TimeReply, Version as VersionReply}
 use Rattle.pam_report.specs.declared.inputs.Inputs.{Inputs}
 use Rattle.pam_report.specs.declared.fault.Fault.{Fault}
 use Rattle.pam_report.specs.declared.fault.Fault.TheVariants as faults
@@ -66,6 +70,17 @@ abbrev pub decided_by : List ℕ → Kind → List ℕ → Items → Answer
 decided_by service kind answered items =
     if length answered == module_count items then Ok (Run (run_of service kind answered items))
     else Err (faults.Count (record { modules = module_count items }))
+
+-- ---- explanations
+
+abbrev pub explained_by : Option Explanation → Answer
+explained_by None = Err faults.NoSuchNumber
+explained_by (Some explanation) = Ok (Explained explanation)
+
+-- the explanation of a number, or all if none is given
+abbrev pub explained : Option (List ℕ) → Answer
+explained None = Ok Explanations
+explained (Some number) = explained_by (explanation_of number)
 
 -- ---- access tables
 
@@ -128,7 +143,10 @@ module _ (Gives : (Answer → Type 0) → Type 0) where
   AnswersBy service (Outcomes source kind knowledge) files inputs =
       (at : Option (Result DateTime MomentError)) × IsGivenMoment knowledge.moment at
       × Gives (IsOutcomes service kind (stack_at service kind knowledge.login inputs at files))
-  AnswersBy service (Check source services fail_on) files inputs = Gives (IsCheck services fail_on files (paths_given inputs))
+  AnswersBy service (Check source services fail_on named) files inputs = Gives (IsCheck services fail_on named files inputs)
+  AnswersBy service (Explain number) files inputs = Gives (λ answer. explained (option_copied number) ≡ answer)
+  AnswersBy service Facts files inputs = Gives (λ answer. Ok FactsReply ≡ answer)
+  AnswersBy service Version files inputs = Gives (λ answer. Ok VersionReply ≡ answer)
   AnswersBy service (Graph source kind format knowledge) files inputs =
       (at : Option (Result DateTime MomentError)) × IsGivenMoment knowledge.moment at
       × Gives (IsGraphReply format service kind (stack_at service kind knowledge.login inputs at files))

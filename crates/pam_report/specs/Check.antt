@@ -1,24 +1,76 @@
 -- The reply of `check`: what is wrong with the host.
-use Rattle.std.specs.Prelude.{◌≡◌, ℕ, List, [], Ok}
+use Rattle.std.specs.Prelude.{◌≡◌, ◌≢◌, ⊤, ℕ, List, [], Result, Ok, Err, unwrap_or}
+use Rattle.std.specs.BTreeMap.{BTreeMap}
+use Rattle.std.specs.Option.{option_copied}
+use Rattle.pam_accept.specs.Lines.{Accepted, accepted_lines}
+use Rattle.pam_accept.specs.declared.error.AcceptError.{AcceptError}
+use Rattle.pam_accept.specs.declared.error.AcceptFault.TheVariants as accept_faults
 use Rattle.pam_conf.specs.Files.{Folder}
 use Rattle.pam_facts.specs.Reading.{known_rows}
 use Rattle.pam_facts.specs.Rows.{Row}
+use Rattle.pam_facts.specs.declared.error.FactsError.{FactsError}
+use Rattle.pam_facts.specs.declared.error.FactsFault.TheVariants as facts_faults
 use Rattle.pam_host.specs.Report.{IsReport}
 use Rattle.pam_host.specs.Services.{checked_services}
+use Rattle.pam_host.specs.declared.problem.Place.{Place}
+use Rattle.pam_host.specs.declared.report.Finding.{Finding}
+use Rattle.pam_host.specs.declared.report.HostReport.{HostReport}
+use Rattle.pam_words.specs.declared.wanted.CheckFiles.{CheckFiles}
 use Rattle.pam_words.specs.declared.wanted.LevelName.{LevelName}
+use Rattle.pam_report.specs.Accepting.{not_accepted, unused_lines}
+use Rattle.pam_report.specs.Fault.{accept_fault, facts_fault}
+use Rattle.pam_report.specs.Inputs.{accept_given, facts_given, paths_given, there_given}
 use Rattle.pam_report.specs.Reply.{Answer, Check, CheckValue}
+use Rattle.pam_report.specs.declared.fault.Fault.{Fault}
+use Rattle.pam_report.specs.declared.fault.Fault.TheVariants as faults
+use Rattle.pam_report.specs.declared.inputs.Inputs.{Inputs}
 
--- the findings of the services that are named, or of all, by the program's table of facts
-pub record IsCheckOf (named : List (List ℕ)) (fail_on : LevelName) (files : Folder) (paths : List (List ℕ)) (value : CheckValue) : Type 0 where
-  pub same_form : value.form ≡ files.form
-  pub same_paths : value.paths ≡ paths
-  pub are_services : value.services ≡ checked_services files named
-  pub same_level : value.fail_on ≡ fail_on
+-- what is checked: the services that are named, or all, and the files of the configuration
+module _ (services : List (List ℕ)) (fail_on : LevelName) (named : CheckFiles) (files : Folder) (inputs : Inputs) where
+  -- the findings by these facts that no line accepts, and the lines that accept none
+  pub record IsCheckOf (facts : List Row) (lines : List Accepted) (value : CheckValue) : Type 0 where
+    pub same_form : value.form ≡ files.form
+    pub same_paths : value.paths ≡ paths_given inputs
+    pub are_services : value.services ≡ checked_services files services
+    pub same_level : value.fail_on ≡ fail_on
+    pub same_accept : value.accept ≡ unwrap_or (option_copied named.accept) []
+    pub all : BTreeMap Place Finding
+    pub report : IsReport files services facts (there_given inputs) all value.ways_in
+    pub not_accepted : value.found ≡ not_accepted lines files value.services all.entries
+    pub unused : value.unused ≡ unused_lines lines files value.services all.entries
+
+  -- a fault of the facts file comes before one of the accept file
+  abbrev pub IsChecked : Result (List Row) FactsError → Result (List Accepted) AcceptError → Answer → Type 0
+  IsChecked (Err e) lines answer = answer ≡ Err (facts_fault e)
+  IsChecked (Ok facts) (Err e) answer = answer ≡ Err (accept_fault e)
+  IsChecked (Ok facts) (Ok lines) (Ok (Check value)) = IsCheckOf facts lines value
+  IsChecked (Ok facts) (Ok lines) answer = ⊥
+
+  -- THE REPLY of `check`
+  abbrev pub IsCheck : Answer → Type 0
+  IsCheck answer = IsChecked (known_rows (facts_given inputs)) (accepted_lines (accept_given inputs)) answer
+
+-- ---- for private contracts and proofs alone
+
+-- a report by what the facts file says
+pub record IsReported (services : List (List ℕ)) (files : Folder) (inputs : Inputs) (report : HostReport) : Type 0 where
   pub facts : List Row
-  pub known : known_rows [] ≡ Ok facts
-  pub report : IsReport files named facts value.found value.ways_in
+  pub known : known_rows (facts_given inputs) ≡ Ok facts
+  pub are_services : report.services ≡ checked_services files services
+  pub is_report : IsReport files services facts (there_given inputs) report.found report.ways_in.items
 
--- THE REPLY of `check`
-abbrev pub IsCheck : List (List ℕ) → LevelName → Folder → List (List ℕ) → Answer → Type 0
-IsCheck named fail_on files paths (Ok (Check value)) = IsCheckOf named fail_on files paths value
-IsCheck named fail_on files paths answer = ⊥
+-- a fault of the facts file, or a failed allocation
+abbrev pub IsUnreported : Inputs → Fault → Type 0
+IsUnreported inputs (faults.Facts e) = (known_rows (facts_given inputs) ≡ Err e) × (e.fault ≢ facts_faults.Memory)
+IsUnreported inputs faults.Memory = ⊤
+IsUnreported inputs fault = ⊥
+
+-- the lines of the accept file
+abbrev pub IsAccepted : Inputs → List Accepted → Type 0
+IsAccepted inputs lines = accepted_lines (accept_given inputs) ≡ Ok lines
+
+-- a fault of the accept file, or a failed allocation
+abbrev pub IsUnaccepted : Inputs → Fault → Type 0
+IsUnaccepted inputs (faults.Accept e) = (accepted_lines (accept_given inputs) ≡ Err e) × (e.fault ≢ accept_faults.Memory)
+IsUnaccepted inputs faults.Memory = ⊤
+IsUnaccepted inputs fault = ⊥

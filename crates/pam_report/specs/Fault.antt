@@ -5,12 +5,18 @@ use Rattle.std.specs.Option.{option_map}
 use Rattle.pam_conf.specs.Files.{Folder}
 use Rattle.pam_conf.specs.declared.error.FaultKind.{FaultKind}
 use Rattle.pam_conf.specs.declared.error.FaultKind.TheVariants as conf
+use Rattle.pam_accept.specs.declared.error.AcceptError.{AcceptError}
+use Rattle.pam_accept.specs.declared.error.AcceptFault.{AcceptFault}
+use Rattle.pam_accept.specs.declared.error.AcceptFault.TheVariants as accept
+use Rattle.pam_facts.specs.declared.error.FactsError.{FactsError}
+use Rattle.pam_facts.specs.declared.error.FactsFault.{FactsFault}
+use Rattle.pam_facts.specs.declared.error.FactsFault.TheVariants as facts
 use Rattle.pam_known.specs.declared.error.KnownError.{KnownError}
 use Rattle.pam_known.specs.declared.error.KnownError.TheVariants as known
 use Rattle.pam_paths.specs.declared.cursor.CursorError.{CursorError}
 use Rattle.pam_paths.specs.declared.cursor.CursorError.TheVariants as cursor
-use Rattle.pam_report.specs.FaultTable.{Row, conf_row, count_row, cursor_row, graph_row, input_row, memory_row, module_row, moment_row}
-use Rattle.pam_report.specs.FaultTable.{table_name, table_row, time_row, usage_row, write_row}
+use Rattle.pam_report.specs.FaultTable.{Row, accept_row, conf_row, count_row, cursor_row, facts_row, graph_row, input_row, memory_row, module_row, moment_row}
+use Rattle.pam_report.specs.FaultTable.{number_row, table_name, table_row, time_row, usage_row, write_row}
 use Rattle.pam_report.specs.declared.fault.Fault.{Fault}
 use Rattle.pam_report.specs.declared.fault.Fault.TheVariants as faults
 use Rattle.pam_report.specs.declared.inputs.InputError.{InputError}
@@ -23,20 +29,38 @@ use Rattle.pam_times.specs.declared.error.TimeFault.TheVariants as time
 use Rattle.pam_words.specs.declared.wanted.Usage.{Usage}
 use Rattle.pam_words.specs.declared.wanted.Usage.TheVariants.{Help, Words}
 
+abbrev pub fault_of_facts : FactsFault → FactsError → Fault
+fault_of_facts facts.Memory e = faults.Memory
+fault_of_facts fault e = faults.Facts e
+
+abbrev pub fault_of_accept : AcceptFault → AcceptError → Fault
+fault_of_accept accept.Memory e = faults.Memory
+fault_of_accept fault e = faults.Accept e
+
 -- the fault of a table that modules read
 abbrev pub known_fault : KnownError → Fault
 known_fault (known.Table e) = faults.Table e
 known_fault (known.Time e) = faults.Time e
+
+-- the fault of a facts file and of an accept file. A failed allocation has no place
+abbrev pub facts_fault : FactsError → Fault
+facts_fault e = fault_of_facts e.fault e
+
+abbrev pub accept_fault : AcceptError → Fault
+accept_fault e = fault_of_accept e.fault e
 
 -- the row of a fault in the table
 abbrev pub row_of : Fault → Row
 row_of (faults.Conf e) = conf_row e.kind
 row_of (faults.Table e) = table_row e.fault
 row_of (faults.Time e) = time_row e.fault
+row_of (faults.Facts e) = facts_row e.fault
+row_of (faults.Accept e) = accept_row e.fault
 row_of (faults.Moment e) = moment_row e
 row_of (faults.Count e) = count_row
 row_of faults.TooManyStates = graph_row
 row_of faults.NoSuchModule = module_row
+row_of faults.NoSuchNumber = number_row
 row_of (faults.Cursor e) = cursor_row e
 row_of faults.Device = write_row
 row_of faults.Memory = memory_row
@@ -76,6 +100,8 @@ abbrev pub place_of : Folder → Fault → List ℕ
 place_of files (faults.Conf e) = line_place (conf_file files e.at e.kind) e.line
 place_of files (faults.Table e) = line_place (table_file e.table e.fault) e.line
 place_of files (faults.Time e) = line_place (time_file e.fault) e.line
+place_of files (faults.Facts e) = line_place (Some (codes "facts")) e.line
+place_of files (faults.Accept e) = line_place (Some (codes "accept")) e.line
 place_of files (faults.Count e) = concat (codes " want " ∷ decimal e.modules ∷ [])
 place_of files (faults.Cursor e) = cursor_place e
 place_of files fault = []

@@ -2,8 +2,12 @@
 use Rattle.std.specs.Prelude.{ℕ, List, codes}
 use Rattle.pam_codes.specs.declared.error.ControlError.{ControlError}
 use Rattle.pam_codes.specs.declared.error.ControlError.TheVariants.{BadControl, BadValue, BadAction, ZeroJump, OpenBracket}
+use Rattle.pam_accept.specs.declared.error.AcceptFault.{AcceptFault}
+use Rattle.pam_accept.specs.declared.error.AcceptFault.TheVariants as accept
 use Rattle.pam_conf.specs.declared.error.FaultKind.{FaultKind}
 use Rattle.pam_conf.specs.declared.error.FaultKind.TheVariants as conf
+use Rattle.pam_facts.specs.declared.error.FactsFault.{FactsFault}
+use Rattle.pam_facts.specs.declared.error.FactsFault.TheVariants as facts
 use Rattle.pam_paths.specs.declared.cursor.CursorError.{CursorError}
 use Rattle.pam_paths.specs.declared.cursor.CursorError.TheVariants as cursor
 use Rattle.pam_report.specs.declared.inputs.InputError.{InputError}
@@ -81,6 +85,9 @@ graph_row = row (codes "E19 TooManyStates") 3
 abbrev pub module_row : Row
 module_row = row (codes "U9 NoSuchModule") 2
 
+abbrev pub number_row : Row
+number_row = row (codes "U14 NoSuchNumber") 2
+
 abbrev pub count_row : Row
 count_row = row (codes "DE1 WrongCount") 2
 
@@ -114,6 +121,18 @@ time_row time.BadLogic = row (codes "TE8 BadLogic") 4
 time_row time.NulByte = row (codes "TE10 NulByte") 4
 time_row time.Memory = row (codes "TE11 Memory") 6
 time_row time.TooLong = row (codes "TE12 TableTooLong") 4
+
+unfoldable pub facts_row : FactsFault → Row
+facts_row facts.BadFact = row (codes "TE16 BadFact") 4
+facts_row facts.NulByte = row (codes "TE10 NulByte") 4
+facts_row facts.Memory = row (codes "TE11 Memory") 6
+facts_row facts.TooLong = row (codes "TE12 TableTooLong") 4
+
+unfoldable pub accept_row : AcceptFault → Row
+accept_row accept.BadAccept = row (codes "TE15 BadAccept") 4
+accept_row accept.NulByte = row (codes "TE10 NulByte") 4
+accept_row accept.Memory = row (codes "TE11 Memory") 6
+accept_row accept.TooLong = row (codes "TE12 TableTooLong") 4
 
 -- the name of a table, which is its place in a line
 abbrev pub table_name : Table → List ℕ

@@ -1,6 +1,7 @@
 -- The tables that a request is answered from: access.conf(5), group(5), time.conf(5).
 use Rattle.std.specs.Prelude.{ℕ, suc, ◌==◌, List, [], length, Option, Some, None, Result, Ok, Vec, Bool, true, false, is_some, option_map, ◌&&◌}
 use Rattle.std.specs.Bool.{beq}
+use Rattle.std.specs.Option.{option_map_or}
 use Rattle.std.specs.Global.{Global}
 use Rattle.jiff.specs.Types.{DateTime}
 use Rattle.pam_conf.specs.Files.{Folder}
@@ -10,22 +11,39 @@ use Rattle.pam_tables.specs.Groups.{Group, groups_of}
 use Rattle.pam_tables.specs.declared.error.TableFault.{TableFault}
 use Rattle.pam_words.specs.declared.wanted.Task.{Task}
 use Rattle.pam_words.specs.declared.wanted.KnowledgeSource.{KnowledgeSource}
-use Rattle.pam_words.specs.declared.wanted.Task.TheVariants.{Check, Show, Decide, Access, Time, Paths, Outcomes, Graph}
+use Rattle.pam_words.specs.declared.wanted.Task.TheVariants.{Check, Show, Decide, Access, Time, Paths, Outcomes, Graph, Explain, Facts, Version}
+use Rattle.pam_words.specs.declared.wanted.CheckFiles.{CheckFiles}
+use Rattle.pam_report.specs.declared.inputs.CheckInputs.{CheckInputs}
 use Rattle.pam_report.specs.declared.inputs.Inputs.{Inputs}
 use Rattle.pam_report.specs.declared.inputs.Inputs.TheVariants as inputs
 
--- the configuration, unless these are the inputs of `access` or `time`
+-- the configuration, if there is one
 abbrev pub files_given : Inputs → Option Folder
-files_given (inputs.Host files paths) = Some files
+files_given (inputs.Host files paths given) = Some files
 files_given (inputs.Stack files) = Some files
 files_given (inputs.Paths files groups access time returns) = Some files
 files_given (inputs.Access table groups) = None
 files_given (inputs.Time table) = None
+files_given inputs.Nothing = None
 
 -- the paths of a configuration and of its files, as far as they are known
 abbrev pub paths_given : Inputs → List (List ℕ)
-paths_given (inputs.Host files paths) = paths
+paths_given (inputs.Host files paths given) = paths
 paths_given _ = []
+
+-- the paths at which a module is there, if that is known
+abbrev pub there_given : Inputs → Option (List (List ℕ))
+there_given (inputs.Host files paths given) = given.there
+there_given _ = None
+
+-- the facts file and the accept file of `check`, which are empty where none is named
+abbrev pub facts_given : Inputs → List ℕ
+facts_given (inputs.Host files paths given) = option_map_or (λ b. b.items) given.facts []
+facts_given _ = []
+
+abbrev pub accept_given : Inputs → List ℕ
+accept_given (inputs.Host files paths given) = option_map_or (λ b. b.items) given.accept []
+accept_given _ = []
 
 -- no files
 abbrev pub no_files : Folder
@@ -65,9 +83,13 @@ fits_knowledge named _ = false
 abbrev pub has_paths : Folder → List (List ℕ) → Bool
 has_paths files paths = length paths == suc (length files.entries)
 
+-- the contents of exactly the facts file and the accept file that are named
+abbrev pub fits_check : CheckFiles → CheckInputs → Bool
+fits_check named given = beq (is_some given.facts) (is_some named.facts) && beq (is_some given.accept) (is_some named.accept)
+
 -- the contents of exactly the files that a task names are given
 abbrev pub fits_task : Task → Inputs → Bool
-fits_task (Check source services fail_on) (inputs.Host files paths) = has_paths files paths
+fits_task (Check source services fail_on named) (inputs.Host files paths given) = has_paths files paths && fits_check named given
 fits_task (Show source kind) (inputs.Stack files) = true
 fits_task (Decide source kind answered) (inputs.Stack files) = true
 fits_task (Access name groups_named login arguments) (inputs.Access table groups) = beq (is_some groups) (is_some groups_named)
@@ -75,6 +97,9 @@ fits_task (Time name login moment) (inputs.Time table) = true
 fits_task (Paths source kind limit part filter knowledge) inputs = fits_knowledge knowledge inputs
 fits_task (Outcomes source kind knowledge) inputs = fits_knowledge knowledge inputs
 fits_task (Graph source kind format knowledge) inputs = fits_knowledge knowledge inputs
+fits_task (Explain number) inputs.Nothing = true
+fits_task Facts inputs.Nothing = true
+fits_task Version inputs.Nothing = true
 fits_task _ _ = false
 
 -- ---- the tables that tell the codes of modules

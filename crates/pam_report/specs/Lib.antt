@@ -1,3 +1,4 @@
+pub mod Accepting
 pub mod Answer
 pub mod Check
 pub mod Decide
@@ -12,6 +13,7 @@ pub mod Known
 pub mod KnownStack
 pub mod Memory
 pub mod Moments
+pub mod Names
 pub mod OutcomeViews
 pub mod Outcomes
 pub mod PageView

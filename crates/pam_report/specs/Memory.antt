@@ -1,13 +1,15 @@
 -- Want of memory: the faults that a failed allocation may give, by the task.
-use Rattle.std.specs.Prelude.{◌≡◌, ⊤, Bool, ◌&&◌, true, false, is_some, Result, IfErr}
+use Rattle.std.specs.Prelude.{◌≡◌, ◌≢◌, ⊤, Bool, ◌&&◌, true, false, is_some, Result, IfErr}
+use Rattle.pam_accept.specs.declared.error.AcceptFault.TheVariants as accept
 use Rattle.pam_conf.specs.declared.error.FaultKind.TheVariants as conf
+use Rattle.pam_facts.specs.declared.error.FactsFault.TheVariants as facts
 use Rattle.pam_known.specs.Reads.{TablesRead}
 use Rattle.pam_tables.specs.declared.error.Table.{Table}
 use Rattle.pam_tables.specs.declared.error.Table.TheVariants.{Access as AccessTable, Group, Returns}
 use Rattle.pam_tables.specs.declared.error.TableFault.TheVariants as reasons
 use Rattle.pam_times.specs.declared.error.TimeFault.TheVariants as times
 use Rattle.pam_words.specs.declared.wanted.Task.{Task}
-use Rattle.pam_words.specs.declared.wanted.Task.TheVariants.{Check, Show, Decide, Access, Time, Paths, Outcomes, Graph}
+use Rattle.pam_words.specs.declared.wanted.Task.TheVariants.{Check, Show, Decide, Access, Time, Paths, Outcomes, Graph, Explain, Facts, Version}
 use Rattle.pam_report.specs.Inputs.{group_file}
 use Rattle.pam_report.specs.declared.fault.Fault.{Fault}
 use Rattle.pam_report.specs.declared.fault.Fault.TheVariants as faults
@@ -29,6 +31,10 @@ pub record Wants : Type 0 where
 -- a stack is read, and no table
 abbrev pub of_stack : Bool → Wants
 of_stack work = record { configuration = true; access = false; groups = false; returns = false; time = false; work = work }
+
+-- nothing is read
+abbrev pub of_nothing : Wants
+of_nothing = record { configuration = false; access = false; groups = false; returns = false; time = false; work = false }
 
 -- a login is looked up in tables, with no configuration
 abbrev pub of_tables : Bool → Bool → Bool → Wants
@@ -53,7 +59,10 @@ of_paths given = record {
 
 -- THE WANTS of a task with these inputs
 abbrev pub wants : Task → Inputs → Wants
-wants (Check source services fail_on) inputs = of_stack true
+wants (Check source services fail_on named) inputs = of_stack true
+wants (Explain number) inputs = of_nothing
+wants Facts inputs = of_nothing
+wants Version inputs = of_nothing
 wants (Show source kind) inputs = of_stack false
 wants (Decide source kind answered) inputs = of_stack true
 wants (Access table groups login arguments) inputs = of_tables true (is_some (group_file inputs)) false
@@ -73,6 +82,8 @@ IsWanting wants faults.Memory = wants.work ≡ true
 IsWanting wants (faults.Conf e) = e.kind ≡ conf.Memory → wants.configuration ≡ true
 IsWanting wants (faults.Table e) = e.fault ≡ reasons.Memory → wants_table wants e.table ≡ true
 IsWanting wants (faults.Time e) = e.fault ≡ times.Memory → wants.time ≡ true
+IsWanting wants (faults.Facts e) = e.fault ≢ facts.Memory
+IsWanting wants (faults.Accept e) = e.fault ≢ accept.Memory
 IsWanting wants _ = ⊤
 
 -- the same, for a result

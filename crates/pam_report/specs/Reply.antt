@@ -1,12 +1,12 @@
 -- A reply: the value that answers a request.
-use Rattle.std.specs.BTreeMap.{BTreeMap}
 use Rattle.std.specs.List.{list_any}
-use Rattle.std.specs.Prelude.{ℕ, List, Option, Result, Bool, true, false, ◌==◌, if◌then◌else◌}
+use Rattle.std.specs.Prelude.{ℕ, List, [], ◌∷◌, Option, Result, Bool, true, false, not, ◌==◌, ◌&&◌, ◌||◌, if◌then◌else◌}
 use Rattle.pam_conf.specs.Files.{Folder}
 use Rattle.pam_conf.specs.Stack.{Items}
 use Rattle.pam_conf.specs.declared.rule.Form.{Form}
 use Rattle.pam_conf.specs.declared.rule.Kind.{Kind}
 use Rattle.pam_dispatch.specs.declared.flat_item.FlatItem.{FlatItem}
+use Rattle.pam_explain.specs.Explanation.{Explanation}
 use Rattle.pam_graph.specs.Walks.{GraphValue}
 use Rattle.pam_host.specs.Levels.{level_of}
 use Rattle.pam_host.specs.declared.level.Level.{Level}
@@ -80,14 +80,17 @@ pub record PageValue : Type 0 where
   pub limit : ℕ
   pub part : PagePart
 
--- the findings of a host: the path of its configuration and of each file, the services that were checked, the first way in of
--- each, and the least level that makes the status a refusal
+-- the findings of a host that are not accepted: the path of its configuration and of each file, the services that were checked,
+-- the first way in of each, the name of the accept file and its lines that accept nothing, and the least level that makes the
+-- status a refusal
 pub record CheckValue : Type 0 where
   pub form : Form
   pub paths : List (List ℕ)
   pub services : List (List ℕ)
-  pub found : BTreeMap Place Finding
+  pub found : List (Place × Finding)
   pub ways_in : List (Option WayIn)
+  pub accept : List ℕ
+  pub unused : List ℕ
   pub fail_on : LevelName
 
 pub data Reply : Type 0 where
@@ -99,6 +102,10 @@ pub data Reply : Type 0 where
   Drawing : DrawingValue → Reply
   Page : PageValue → Reply
   Check : CheckValue → Reply
+  Explained : Explanation → Reply
+  Explanations : Reply
+  Facts : Reply
+  Version : Reply
 
 -- a reply, or the first fault
 abbrev pub Answer : Type 0
@@ -124,8 +131,18 @@ counts names.Warning level = true
 counts names.Error levels.Error = true
 counts names.Error level = false
 
+-- some finding counts
+abbrev pub has_counting : LevelName → List (Place × Finding) → Bool
+has_counting fail_on found = list_any (λ entry. counts fail_on (level_of entry.1.problem)) found
+
+abbrev pub is_empty : {A : Type 0} → List A → Bool
+is_empty [] = true
+is_empty (x ∷ xs) = false
+
+-- a line of the accept file that accepts nothing counts as a warning does
 abbrev pub check_status : CheckValue → Status
-check_status value = if list_any (λ entry. counts value.fail_on (level_of entry.1.problem)) value.found.entries then Refusal else Success
+check_status value =
+    if has_counting value.fail_on value.found || (counts value.fail_on levels.Warning && not (is_empty value.unused)) then Refusal else Success
 
 -- THE STATUS of a reply
 abbrev pub status_of : Reply → Status

@@ -1,6 +1,7 @@
 -- The values of replies.
 use Rattle.std.specs.Option.{option_map_or}
-use Rattle.std.specs.Prelude.{List, [], map, option_map, unwrap_or}
+use Rattle.std.specs.Prelude.{[], map, option_map, unwrap_or}
+use Rattle.pam_explain.specs.Views.{explanation_view}
 use Rattle.pam_report.specs.Decide.{AskedModule}
 use Rattle.pam_report.specs.Inputs.{no_files}
 use Rattle.pam_report.specs.PageView.{page_value}
@@ -55,8 +56,10 @@ check_view c = record {
   form = c.form;
   paths = option_map_or (λ paths. paths.now) c.paths [];
   services = c.report.services;
-  found = c.report.found;
+  found = c.found.items;
   ways_in = c.report.ways_in.items;
+  accept = c.accept.now;
+  unused = c.unused.items;
   fail_on = c.fail_on;
 }
 
@@ -69,4 +72,8 @@ reply_view (replies.Time found) = spec.Time found
 reply_view (replies.Outcomes outcomes) = spec.Outcomes (outcomes_view outcomes)
 reply_view (replies.Graph drawing) = spec.Drawing (drawing_view drawing)
 reply_view (replies.Check check) = spec.Check (check_view check)
+reply_view (replies.Explained explanation) = spec.Explained (explanation_view explanation.now)
+reply_view replies.Explanations = spec.Explanations
+reply_view replies.Facts = spec.Facts
+reply_view replies.Version = spec.Version
 reply_view (replies.Paths page) = spec.Page (page_value page)

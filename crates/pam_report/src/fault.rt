@@ -11,9 +11,11 @@ mod row;
 mod table;
 
 use crate::inputs::InputError;
+use pam_accept::{AcceptError, AcceptFault};
 use pam_codes::Piece;
 use pam_conf::{ConfError, FaultKind, Files};
 use pam_dispatch::WrongCount;
+use pam_facts::{FactsError, FactsFault};
 use pam_known::KnownError;
 use pam_paths::CursorError;
 use pam_tables::{TableError, TableFault};
@@ -22,8 +24,8 @@ use pam_words::Usage;
 use row::Row;
 use std::alloc::{AllocError, Global};
 use table::{
-    conf_row, count_row, cursor_row, graph_row, input_row, memory_row, module_row, moment_row,
-    table_name, table_row, time_row, usage_row, write_row,
+    accept_row, conf_row, count_row, cursor_row, facts_row, graph_row, input_row, memory_row,
+    module_row, moment_row, number_row, table_name, table_row, time_row, usage_row, write_row,
 };
 use thiserror::Error;
 
@@ -39,6 +41,12 @@ pub enum Fault {
     /// A fault of a time table.
     #[error(transparent)]
     Time(TimeError),
+    /// A fault of a facts file. A failed allocation is `Memory`.
+    #[error(transparent)]
+    Facts(FactsError),
+    /// A fault of an accept file. A failed allocation is `Memory`.
+    #[error(transparent)]
+    Accept(AcceptError),
     /// The moment is invalid.
     #[error(transparent)]
     Moment(MomentError),
@@ -51,6 +59,9 @@ pub enum Fault {
     /// The stack has no module with the number that paths are to ask.
     #[error("the stack has no such module")]
     NoSuchModule,
+    /// No fault or finding has the number that is to be explained.
+    #[error("there is no such number")]
+    NoSuchNumber,
     /// The cursor is that of no path of the stack.
     #[error(transparent)]
     Cursor(CursorError),
@@ -72,6 +83,26 @@ pub(crate) fn known_fault(error: KnownError) -> Fault
     }
 }
 
+/// Returns the fault of a facts file, where a failed allocation has no place.
+pub(crate) fn facts_fault(error: FactsError) -> Fault
+    ensures { result ≡ spec.facts_fault error }
+{
+    match error.fault {
+        FactsFault::Memory => Fault::Memory,
+        _ => Fault::Facts(error),
+    }
+}
+
+/// Returns the fault of an accept file, where a failed allocation has no place.
+pub(crate) fn accept_fault(error: AcceptError) -> Fault
+    ensures { result ≡ spec.accept_fault error }
+{
+    match error.fault {
+        AcceptFault::Memory => Fault::Memory,
+        _ => Fault::Accept(error),
+    }
+}
+
 /// Returns the row of a fault in the table.
 fn row_of(fault: &Fault) -> Row
     ensures { row_view result ≡ spec.row_of fault.now }
@@ -80,10 +111,13 @@ fn row_of(fault: &Fault) -> Row
         Fault::Conf(error) => conf_row(error.kind),
         Fault::Table(error) => table_row(error.fault),
         Fault::Time(error) => time_row(error.fault),
+        Fault::Facts(error) => facts_row(error.fault),
+        Fault::Accept(error) => accept_row(error.fault),
         Fault::Moment(error) => moment_row(*error),
         Fault::Count(_) => count_row(),
         Fault::TooManyStates => graph_row(),
         Fault::NoSuchModule => module_row(),
+        Fault::NoSuchNumber => number_row(),
         Fault::Cursor(error) => cursor_row(*error),
         Fault::Device => write_row(),
         Fault::Memory => memory_row(),
@@ -102,7 +136,7 @@ fn push_piece(text: &mut Vec<u8>, piece: Piece<'_>) -> Result<(), AllocError>
     }
 }
 
-fn push_pieces(text: &mut Vec<u8>, pieces: &[Piece<'_>]) -> Result<(), AllocError>
+pub(crate) fn push_pieces(text: &mut Vec<u8>, pieces: &[Piece<'_>]) -> Result<(), AllocError>
     ensures { OnOk result (text.new.items ≡ text.old.items ++ line_text pieces.now) }
 {
     for piece in pieces {
@@ -200,6 +234,8 @@ pub fn fault_text(alloc: Global, fault: &Fault, files: &Files) -> Result<Vec<u8>
         Fault::Conf(error) => line_at(alloc, row, conf_file(files, error), error.line as u64),
         Fault::Table(error) => line_at(alloc, row, table_file(error), u64::from(error.line)),
         Fault::Time(error) => line_at(alloc, row, time_file(error.fault), u64::from(error.line)),
+        Fault::Facts(error) => line_at(alloc, row, Some(b"facts"), u64::from(error.line)),
+        Fault::Accept(error) => line_at(alloc, row, Some(b"accept"), u64::from(error.line)),
         Fault::Count(error) => line(
             alloc,
             row,
@@ -209,6 +245,7 @@ pub fn fault_text(alloc: Global, fault: &Fault, files: &Files) -> Result<Vec<u8>
         Fault::Moment(_)
         | Fault::TooManyStates
         | Fault::NoSuchModule
+        | Fault::NoSuchNumber
         | Fault::Device
         | Fault::Memory => line(alloc, row, &[]),
     }

@@ -1,7 +1,7 @@
 //! The contents of the files that a request names.
 
 ghost use Rattle.std.specs.Prelude.{◌≡◌, None, option_map};
-ghost use Rattle.pam_report.specs.Inputs.{has_paths as has_paths_in, tables_given as tables_in, timed as timed_text};
+ghost use Rattle.pam_report.specs.Inputs.{fits_check as fits_check_in, has_paths as has_paths_in, tables_given as tables_in, timed as timed_text};
 ghost use Rattle.pam_report.specs.Known.{with_time};
 ghost use Rattle.pam_known.specs.Tables.{tables_view, timed_view};
 
@@ -9,7 +9,7 @@ use jiff::civil::DateTime;
 use pam_conf::Files;
 use pam_known::{Tables, TimedTable};
 use pam_text::Texts;
-use pam_words::{KnowledgeSource, Request, Task};
+use pam_words::{CheckFiles, KnowledgeSource, Request, Task};
 use std::alloc::{AllocError, AllocFailed};
 use thiserror::Error;
 
@@ -43,6 +43,17 @@ impl<T: Drop> From<AllocFailed<T>> for InputError {
     }
 }
 
+/// What a check is given besides the configuration.
+#[derive(Drop)]
+pub struct CheckInputs {
+    /// The paths at which a module is there, as rules write them; `None` if that is not known.
+    pub there: Option<Texts>,
+    /// The contents of the facts file, if one is named.
+    pub facts: Option<Vec<u8>>,
+    /// The contents of the accept file, if one is named.
+    pub accept: Option<Vec<u8>>,
+}
+
 /// The contents of the files that a request names. A group file, or a table of `paths`, that is not named is `None`.
 #[derive(Drop)]
 pub enum Inputs {
@@ -51,6 +62,7 @@ pub enum Inputs {
     Host {
         files: Files,
         paths: Texts,
+        given: CheckInputs,
     },
     /// For `show` and `decide`.
     Stack(Files),
@@ -69,19 +81,29 @@ pub enum Inputs {
         time: Option<Vec<u8>>,
         returns: Option<Vec<u8>>,
     },
+    /// For a command that reads no file.
+    Nothing,
 }
 
 impl Inputs {
     ghost use Rattle.std.specs.Prelude.{◌≡◌, [], option_map};
     ghost use Rattle.std.specs.Option.{option_map_or};
-    ghost use Rattle.pam_report.specs.Inputs.{access_given, files_given, fits_knowledge, fits_task, group_file, paths_given, time_given};
+    ghost use Rattle.pam_report.specs.Inputs.{accept_given, access_given, facts_given, files_given, fits_knowledge, fits_task};
+    ghost use Rattle.pam_report.specs.Inputs.{group_file, paths_given, there_given, time_given};
 
     /// Whether these are the contents of exactly the files that the request names, each with its path for `check`.
     pub fn fits(&self, request: &Request<'_>) -> bool
         ensures { result ≡ fits_task request.now.task self.now }
     {
         match (self, &request.task) {
-            (Inputs::Host { files, paths }, Task::Check { .. }) => has_paths(files, paths),
+            (
+                Inputs::Host {
+                    files,
+                    paths,
+                    given,
+                },
+                Task::Check { given: named, .. },
+            ) => { has_paths(files, paths) && fits_check(named, given) }
             (Inputs::Stack(_), Task::Show { .. }) => true,
             (Inputs::Stack(_), Task::Decide { .. }) => true,
             (Inputs::Access { groups, .. }, Task::Access { groups: named, .. }) => {
@@ -91,6 +113,9 @@ impl Inputs {
             (inputs, Task::Paths { knowledge, .. }) => inputs.fits_knowledge(knowledge),
             (inputs, Task::Outcomes { knowledge, .. }) => inputs.fits_knowledge(knowledge),
             (inputs, Task::Graph { knowledge, .. }) => inputs.fits_knowledge(knowledge),
+            (Inputs::Nothing, Task::Explain(_)) => true,
+            (Inputs::Nothing, Task::Facts) => true,
+            (Inputs::Nothing, Task::Version) => true,
             _ => false,
         }
     }
@@ -116,7 +141,7 @@ impl Inputs {
         }
     }
 
-    /// Returns the configuration, unless these are the inputs of `access` or `time`.
+    /// Returns the configuration, if there is one.
     pub fn files(&self) -> Option<&Files>
         ensures { option_map (λ f. f.now) result ≡ files_given self.now }
     {
@@ -126,6 +151,37 @@ impl Inputs {
             Inputs::Paths { files, .. } => Some(files),
             Inputs::Access { .. } => None,
             Inputs::Time { .. } => None,
+            Inputs::Nothing => None,
+        }
+    }
+
+    /// Returns the paths at which a module is there, if that is known.
+    pub(crate) fn there(&self) -> Option<&Texts>
+        ensures { option_map (λ t. t.now) result ≡ there_given self.now }
+    {
+        match self {
+            Inputs::Host { given, .. } => given.there.as_ref(),
+            _ => None,
+        }
+    }
+
+    /// Returns the facts file, which is empty if none is named.
+    pub(crate) fn facts_file(&self) -> &[u8]
+        ensures { result.now ≡ facts_given self.now }
+    {
+        match self {
+            Inputs::Host { given, .. } => slice_given(&given.facts).unwrap_or(b""),
+            _ => b"",
+        }
+    }
+
+    /// Returns the accept file, which is empty if none is named.
+    pub(crate) fn accept_file(&self) -> &[u8]
+        ensures { result.now ≡ accept_given self.now }
+    {
+        match self {
+            Inputs::Host { given, .. } => slice_given(&given.accept).unwrap_or(b""),
+            _ => b"",
         }
     }
 
@@ -175,6 +231,14 @@ fn has_paths(files: &Files, paths: &Texts) -> bool
     ensures { result ≡ has_paths_in files.now paths.now }
 {
     paths.len() > files.len() && paths.len() - files.len() == 1
+}
+
+/// Whether these are the contents of exactly the facts file and the accept file that are named.
+fn fits_check(named: &CheckFiles<'_>, given: &CheckInputs) -> bool
+    ensures { result ≡ fits_check_in named.now given.now }
+{
+    given.facts.is_some() == named.facts.is_some()
+        && given.accept.is_some() == named.accept.is_some()
 }
 
 fn slice_given(bytes: &Option<Vec<u8>>) -> Option<&[u8]>

@@ -7,9 +7,11 @@ ghost use Rattle.pam_report.specs.Inputs.{files_given, no_files};
 ghost use Rattle.pam_report.specs.Memory.{WantsOnly, wants};
 ghost use Rattle.pam_report.specs.Reply.{status_number};
 
+mod accepting;
 mod access;
 mod check;
 mod decide;
+mod explain;
 mod goal_pages;
 mod graph;
 mod known_stack;
@@ -26,9 +28,10 @@ use crate::fault::Fault;
 use crate::inputs::Inputs;
 use access::answer_access;
 pub use check::CheckReply;
-use check::checked;
+use check::{CheckRequest, checked};
 pub use decide::RunReply;
 use decide::decided;
+use explain::explained;
 pub use graph::GraphReply;
 use graph::{DrawingRequest, answer_graph};
 use known_stack::StackRequest;
@@ -116,8 +119,16 @@ fn reply_from<'a>(
         Task::Check {
             services,
             fail_on,
+            given,
             ..
-        } => checked(alloc, services, *fail_on, files, inputs),
+        } => {
+            let asked = CheckRequest {
+                services,
+                fail_on: *fail_on,
+                given,
+            };
+            checked(alloc, asked, files, inputs)
+        }
         Task::Show { kind, .. } => shown(alloc, service, *kind, files, inputs.files()),
         Task::Decide { kind, codes, .. } => decided(alloc, service, *kind, codes, files),
         Task::Access {
@@ -168,5 +179,8 @@ fn reply_from<'a>(
             let moment = given_moment(knowledge.moment);
             answer_graph(alloc, &drawing, moment, files, inputs)
         }
+        Task::Explain(number) => explained(*number),
+        Task::Facts => Ok(Reply::Facts),
+        Task::Version => Ok(Reply::Version),
     }
 }

@@ -6,7 +6,7 @@ use Rattle.clap.specs.declared.Error.{Error}
 use Rattle.clap.specs.declared.error.ErrorKind.{ErrorKind}
 use Rattle.clap.specs.declared.error.ErrorKind.TheVariants.{OutOfMemory}
 use Rattle.pam_words.specs.Request.{Refusal, RequestText, request_of}
-use Rattle.pam_words.specs.Wanted.{Answers, IsRead, IsRefusal, IsRefusalOf, Reads, RefusesBy}
+use Rattle.pam_words.specs.Wanted.{Answers, IsHelp, IsRead, IsRefusal, IsRefusalOf, Reads, RefusesBy}
 use Rattle.pam_words.specs.declared.wanted.Request.{Request}
 use Rattle.pam_words.specs.declared.wanted.Usage.{Usage}
 use Rattle.pam_words.specs.declared.wanted.Usage.TheVariants as usage
@@ -27,10 +27,15 @@ answers-reads asked _ h = h
 among : (kinds : Kinds) (k : ErrorKind) (error : Error) → k ≡ kind_of error → IsAmong (kind_of error) kinds → IsAmong k kinds
 among kinds k error e h = subst (λ (x : ErrorKind). IsAmong x kinds) (sym e) h
 
+-- a failed allocation is no help
+no-help : (kind : ErrorKind) → IsHelp kind → kind ≡ OutOfMemory → ⊥
+no-help kind (inl help) m = cc
+no-help kind (inr version) m = cc
+
 pub refused-by : (kinds : Kinds) (error : Error) (u : Usage) → IsRefusalOf error u → HasKind kinds error → RefusesBy kinds (Err u)
 refused-by kinds error usage.Memory h k = tt
-refused-by kinds error (usage.Help e) h (inl m) = let a = h.0 in let b = h.1 in cc
-refused-by kinds error (usage.Help e) h (inr k) = (among kinds _ error (sym h.1 ∙ h.0) k, h.1)
+refused-by kinds error (usage.Help e) h (inl m) = absurd (no-help _ h.1 (h.0 ∙ m))
+refused-by kinds error (usage.Help e) h (inr k) = (among kinds _ error h.0 k, h.1)
 refused-by kinds error (usage.Words e) h (inl m) = absurd (h.2 (h.0 ∙ m))
 refused-by kinds error (usage.Words e) h (inr k) = (among kinds _ error h.0 k, h.1)
 refused-by kinds error _ h k = absurd h
@@ -44,7 +49,7 @@ answers-read asked _ h = tt
 -- if `clap` accepts the words, it fails only for an allocation
 pub refused-read : (error : Error) (u : Usage) → IsRefusalOf error u → kind_of error ≡ OutOfMemory → IsRead (Err u)
 refused-read error usage.Memory h m = tt
-refused-read error (usage.Help e) h m = let a = h.0 in let b = h.1 in cc
+refused-read error (usage.Help e) h m = absurd (no-help _ h.1 (h.0 ∙ m))
 refused-read error (usage.Words e) h m = absurd (h.2 (h.0 ∙ m))
 refused-read error _ h m = absurd h
 

@@ -6,7 +6,7 @@ use Rattle.clap.specs.declared.builder.Arg.{Arg}
 use Rattle.clap.specs.declared.builder.Command.{Command}
 use Rattle.clap.specs.declared.builder.Command.TheViews.{out-Command}
 use Rattle.pam_words.specs.Building.{app_of_row, rule_of_row, with_args, with_commands}
-use Rattle.pam_words.specs.declared.words.ArgRow.{ArgRow}
+use Rattle.pam_words.specs.declared.arguments.ArgRow.{ArgRow}
 use Rattle.pam_words.specs.declared.words.CommandRow.{CommandRow}
 
 pub add-app : (old sub new : Command) (a b : App) → AddsSubcommand old sub new → (out-Command sub).has_globals ≡ false → app_of old ≡ a → app_of sub ≡ b

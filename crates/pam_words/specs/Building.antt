@@ -4,10 +4,10 @@ use Rattle.std.specs.declared.alloc.AllocError.{AllocError}
 use Rattle.clap.specs.Words.{App, Rule, Text, app_of, new_app, with_rule, with_subcommand}
 use Rattle.clap.specs.declared.builder.Command.{Command}
 use Rattle.clap.specs.declared.builder.Command.TheViews.{out-Command as fields_of}
-use Rattle.pam_words.specs.Words.{number_rule, option_rule, repeated_rule, required_option_rule, required_rule}
-use Rattle.pam_words.specs.declared.words.ArgForm.{ArgForm}
-use Rattle.pam_words.specs.declared.words.ArgForm.TheVariants.{Positional, Repeated, Optional, Required, Number}
-use Rattle.pam_words.specs.declared.words.ArgRow.{ArgRow}
+use Rattle.pam_words.specs.Words.{number_rule, option_rule, optional_rule, repeated_option_rule, repeated_rule, required_option_rule, required_rule}
+use Rattle.pam_words.specs.declared.arguments.ArgForm.{ArgForm}
+use Rattle.pam_words.specs.declared.arguments.ArgForm.TheVariants.{Positional, OptionalPositional, Repeated, Optional, RepeatedOption, Required, Number}
+use Rattle.pam_words.specs.declared.arguments.ArgRow.{ArgRow}
 use Rattle.pam_words.specs.declared.words.CommandRow.{CommandRow}
 
 -- a command that accepts these words, unless an allocation failed. None of its options is passed on to its commands
@@ -16,8 +16,10 @@ IsBuilt built app = IfOk built (λ c. (app_of c ≡ app) × ((fields_of c).has_g
 
 abbrev pub rule_in_form : ArgForm → Text → Rule
 rule_in_form Positional id = required_rule id
+rule_in_form OptionalPositional id = optional_rule id
 rule_in_form Repeated id = repeated_rule id
 rule_in_form Optional id = option_rule id
+rule_in_form RepeatedOption id = repeated_option_rule id
 rule_in_form Required id = required_option_rule id
 rule_in_form Number id = number_rule id
 

@@ -79,11 +79,14 @@ pub record GraphTask : Type 0 where
   pub format : GraphFormat
   pub knowledge : KnowledgeText
 
--- the services are all if none is named
+-- the services are all if none is named. The folders of modules, a facts file and an accept file may be named
 pub record CheckTask : Type 0 where
   pub source : SourceText
   pub services : List Text
   pub fail_on : LevelName
+  pub modules : List Text
+  pub facts : Option Text
+  pub accept : Option Text
 
 pub data TaskText : Type 0 where
   check : CheckTask → TaskText
@@ -94,6 +97,9 @@ pub data TaskText : Type 0 where
   paths : PathsTask → TaskText
   outcomes : OutcomesTask → TaskText
   graph : GraphTask → TaskText
+  explain : Option Text → TaskText
+  facts : TaskText
+  version : TaskText
 
 pub record RequestText : Type 0 where
   pub service : Text
@@ -274,7 +280,14 @@ abbrev pub check_task : List Row → Result TaskText Refusal
 check_task rows =
     or_refuse (source_or_root rows) source (λ from.
     or_refuse (level_of rows) level_name (λ level.
-    Ok (check (record { source = from; services = texts_of (codes "name") rows; fail_on = level }))))
+    Ok (check (record {
+      source = from;
+      services = texts_of (codes "name") rows;
+      fail_on = level;
+      modules = texts_of (codes "modules") rows;
+      facts = first_of (codes "facts") rows;
+      accept = first_of (codes "accept") rows;
+    }))))
 
 -- `show SERVICE KIND`
 abbrev pub show_task : List Row → Result TaskText Refusal
@@ -357,6 +370,10 @@ time_task rows =
       moment = at;
     })))
 
+-- `explain [NUMBER]`
+abbrev pub explain_task : List Row → Result TaskText Refusal
+explain_task rows = Ok (explain (first_of (codes "number") rows))
+
 abbrev pub task_of : Text → List Row → Result TaskText Refusal
 task_of command rows =
     if bytes_eq command (codes "check") then check_task rows
@@ -366,9 +383,12 @@ task_of command rows =
     else if bytes_eq command (codes "outcomes") then outcomes_task rows
     else if bytes_eq command (codes "graph") then graph_task rows
     else if bytes_eq command (codes "access") then access_task rows
-    else time_task rows
+    else if bytes_eq command (codes "time") then time_task rows
+    else if bytes_eq command (codes "explain") then explain_task rows
+    else if bytes_eq command (codes "facts") then Ok facts
+    else Ok version
 
--- THE REQUEST of a command, or its first refusal. `check` has no SERVICE of that name, so its service is empty
+-- THE REQUEST of a command, or its first refusal. A command without SERVICE has the empty service
 abbrev pub request_of : Text → List Row → Result RequestText Refusal
 request_of command rows =
     task_of command rows >>= λ task. Ok (record { service = text_of (codes "service") rows; task = task })

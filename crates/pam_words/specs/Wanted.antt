@@ -1,11 +1,14 @@
 -- The command line: results of the library's functions, against the request that the words spell.
-use Rattle.std.specs.Prelude.{◌≡◌, ◌≢◌, ⊤, Result, Ok, Err, [], option_map}
+use Rattle.std.specs.Prelude.{◌≡◌, ◌≢◌, ◌⊎◌, ⊤, Result, Ok, Err, List, [], codes, map, option_map}
 use Rattle.std.specs.Option.{option_copied}
-use Rattle.clap.specs.Words.{IsAmong, Kinds, kind_of}
+use Rattle.clap.specs.Words.{IsAmong, Kinds, Row, first_of, kind_of}
 use Rattle.clap.specs.declared.Error.{Error}
-use Rattle.clap.specs.declared.error.ErrorKind.TheVariants.{DisplayHelp, OutOfMemory}
+use Rattle.clap.specs.declared.error.ErrorKind.TheVariants.{DisplayHelp, DisplayVersion, OutOfMemory}
+use Rattle.clap.specs.declared.error.ErrorKind.{ErrorKind}
 use Rattle.pam_words.specs.Request.{KnowledgeText, LoginText, MomentText, PartText, Refusal, RequestText, SourceText, TaskText}
 use Rattle.pam_words.specs.Request as spec
+use Rattle.pam_words.specs.Request.{texts_of}
+use Rattle.pam_words.specs.declared.wanted.CheckFiles.{CheckFiles}
 use Rattle.pam_words.specs.declared.wanted.ConfSource.{ConfSource}
 use Rattle.pam_words.specs.declared.wanted.ConfSource.TheVariants.{Dir, Over, Conf, Root}
 use Rattle.pam_words.specs.declared.wanted.KnowledgeSource.{KnowledgeSource}
@@ -15,7 +18,7 @@ use Rattle.pam_words.specs.declared.wanted.Moment.TheVariants.{Civil, Instant}
 use Rattle.pam_words.specs.declared.wanted.PagePart.{PagePart}
 use Rattle.pam_words.specs.declared.wanted.PagePart.TheVariants.{Whole, After, Before}
 use Rattle.pam_words.specs.declared.wanted.Task.{Task}
-use Rattle.pam_words.specs.declared.wanted.Task.TheVariants.{Check, Show, Decide, Access, Time, Paths, Outcomes, Graph}
+use Rattle.pam_words.specs.declared.wanted.Task.TheVariants.{Check, Show, Decide, Access, Time, Paths, Outcomes, Graph, Explain, Facts, Version}
 use Rattle.pam_words.specs.declared.wanted.Request.{Request}
 use Rattle.pam_words.specs.declared.wanted.Usage.{Usage}
 use Rattle.pam_words.specs.declared.wanted.Usage.TheVariants as usage
@@ -51,10 +54,13 @@ knowledge_view k = record {
 }
 
 abbrev pub task_view : Task → TaskText
-task_view (Check source services fail_on) = spec.check (record {
+task_view (Check source services fail_on given) = spec.check (record {
   source = source_view source;
   services = services;
   fail_on = fail_on;
+  modules = map (λ s. s.now) given.modules.items;
+  facts = option_copied given.facts;
+  accept = option_copied given.accept;
 })
 task_view (Show source kind) = spec.show (source_view source) kind
 task_view (Decide source kind codes) = spec.decide (source_view source) kind codes.items
@@ -88,6 +94,9 @@ task_view (Graph source kind format knowledge) = spec.graph (record {
   format = format;
   knowledge = knowledge_view knowledge;
 })
+task_view (Explain number) = spec.explain (option_copied number)
+task_view Facts = spec.facts
+task_view Version = spec.version
 
 abbrev pub request_view : Request → RequestText
 request_view request = record { service = request.service.now; task = task_view request.task }
@@ -140,16 +149,27 @@ Reads asked (Err (usage.Words error)) = ⊤
 Reads asked (Err other) = Answers asked (Err other)
 Reads asked (Ok request) = Answers asked (Ok request)
 
+-- help or the version is asked for
+abbrev pub IsHelp : ErrorKind → Type 0
+IsHelp kind = (kind ≡ DisplayHelp) ⊎ (kind ≡ DisplayVersion)
+
 -- the refusal for an error of `clap`
 abbrev pub IsRefusalOf : Error → Usage → Type 0
 IsRefusalOf error usage.Memory = kind_of error ≡ OutOfMemory
-IsRefusalOf error (usage.Help e) = (kind_of e ≡ kind_of error) × (kind_of e ≡ DisplayHelp)
-IsRefusalOf error (usage.Words e) = (kind_of e ≡ kind_of error) × (kind_of e ≢ DisplayHelp) × (kind_of e ≢ OutOfMemory)
+IsRefusalOf error (usage.Help e) = (kind_of e ≡ kind_of error) × IsHelp (kind_of e)
+IsRefusalOf error (usage.Words e) = (kind_of e ≡ kind_of error) × (IsHelp (kind_of e) → ⊥) × (kind_of e ≢ OutOfMemory)
 IsRefusalOf error _ = ⊥
 
--- `clap` refuses the words if and only if they have a kind of error: with help if that is the kind, else as wrong words
+-- `clap` refuses the words if and only if they have a kind of error: with a text if help or the version is asked for, else as
+-- wrong words
 abbrev pub RefusesBy : Kinds → Result Request Usage → Type 0
 RefusesBy kinds (Err usage.Memory) = ⊤
-RefusesBy kinds (Err (usage.Help error)) = IsAmong DisplayHelp kinds × (kind_of error ≡ DisplayHelp)
-RefusesBy kinds (Err (usage.Words error)) = IsAmong (kind_of error) kinds × (kind_of error ≢ DisplayHelp)
+RefusesBy kinds (Err (usage.Help error)) = IsAmong (kind_of error) kinds × IsHelp (kind_of error)
+RefusesBy kinds (Err (usage.Words error)) = IsAmong (kind_of error) kinds × (IsHelp (kind_of error) → ⊥)
 RefusesBy kinds _ = kinds ≡ []
+
+-- for private contracts alone: what a check reads besides the configuration
+pub record IsGiven (rows : List Row) (given : CheckFiles) : Type 0 where
+  pub modules : map (λ s. s.now) given.modules.items ≡ texts_of (codes "modules") rows
+  pub facts : option_copied given.facts ≡ first_of (codes "facts") rows
+  pub accept : option_copied given.accept ≡ first_of (codes "accept") rows

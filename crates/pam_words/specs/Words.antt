@@ -17,9 +17,17 @@ option_rule id = record (new_rule id) { long = Some id; value_names = 1 }
 abbrev pub required_option_rule : Text → Rule
 required_option_rule id = record (option_rule id) { required = true }
 
+-- a word that may be left out
+abbrev pub optional_rule : Text → Rule
+optional_rule id = record (new_rule id) { value_names = 1 }
+
 -- any number of words
 abbrev pub repeated_rule : Text → Rule
-repeated_rule id = record (new_rule id) { value_names = 1; action = Some Append }
+repeated_rule id = record (optional_rule id) { action = Some Append }
+
+-- `--ID VALUE`, any number of times
+abbrev pub repeated_option_rule : Text → Rule
+repeated_option_rule id = record (option_rule id) { action = Some Append }
 
 -- the range of `--limit` and `--asks`
 abbrev pub least_number : ℕ
@@ -48,9 +56,26 @@ service_app name = with_rule (new_app name) (required_rule (codes "service"))
 abbrev pub with_source : App → App
 with_source app = with_options app (codes "dir" ∷ codes "vendor-dir" ∷ codes "conf" ∷ codes "root" ∷ [])
 
+-- the options of a check: the folders of modules, a facts file, an accept file and the level that fails
+abbrev pub with_check : App → App
+with_check app =
+    with_options (with_rule app (repeated_option_rule (codes "modules"))) (codes "facts" ∷ codes "accept" ∷ codes "fail-on" ∷ [])
+
 -- `check [SERVICE]...`
 unfoldable pub check_app : App
-check_app = with_rule (with_options (with_source (new_app (codes "check"))) (codes "fail-on" ∷ [])) (repeated_rule (codes "name"))
+check_app = with_rule (with_check (with_source (new_app (codes "check")))) (repeated_rule (codes "name"))
+
+-- `explain [NUMBER]`
+unfoldable pub explain_app : App
+explain_app = with_rule (new_app (codes "explain")) (optional_rule (codes "number"))
+
+-- `facts`
+unfoldable pub facts_app : App
+facts_app = new_app (codes "facts")
+
+-- `version`
+unfoldable pub version_app : App
+version_app = new_app (codes "version")
 
 -- `NAME SERVICE KIND`, with a source
 abbrev pub stack_app : Text → App
@@ -114,9 +139,13 @@ access_app =
 unfoldable pub time_app : App
 time_app = with_moment (login_app (codes "time"))
 
--- the program, which requires a command
+-- the version of the program, and the toolchain that proved it
+abbrev pub version : Text
+version = codes "1.0.0 (proved with rattle, logic dac8208d650f15bf)"
+
+-- the program, which has a version and requires a command
 unfoldable pub bare_app : App
-bare_app = let app = new_app (codes "pamcheck") in record app { top = record app.top { subcommand_required = true } }
+bare_app = let app = new_app (codes "pamcheck") in record app { top = record app.top { has_version = true; subcommand_required = true } }
 
 -- the commands that read a stack
 abbrev pub with_stacks : App → App
@@ -124,7 +153,13 @@ with_stacks app =
     with_subcommand (with_subcommand (with_subcommand (with_subcommand (with_subcommand app
     show_app.top) decide_app.top) paths_app.top) outcomes_app.top) graph_app.top
 
+-- the commands that look a login up
+abbrev pub with_lookups : App → App
+with_lookups app = with_subcommand (with_subcommand app access_app.top) time_app.top
+
+-- the commands about the program itself
+abbrev pub with_pages : App → App
+with_pages app = with_subcommand (with_subcommand (with_subcommand app explain_app.top) facts_app.top) version_app.top
+
 unfoldable pub pamcheck_app : App
-pamcheck_app =
-    with_subcommand (with_subcommand (with_stacks (with_subcommand bare_app check_app.top))
-    access_app.top) time_app.top
+pamcheck_app = with_pages (with_lookups (with_stacks (with_subcommand bare_app check_app.top)))

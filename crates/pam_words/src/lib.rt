@@ -2,6 +2,7 @@
 //! Wrong words are refused with a `Usage`.
 #![tactic(auto)]
 
+mod arguments;
 mod number;
 mod reading;
 mod wanted;
@@ -9,6 +10,7 @@ mod words;
 
 pub use reading::request;
 pub use wanted::{
-    ConfSource, GraphFormat, KnowledgeSource, LevelName, Login, Moment, PagePart, PathFilter,
-    Request, Task, Usage,
+    CheckFiles, ConfSource, GraphFormat, KnowledgeSource, LevelName, Login, Moment, PagePart,
+    PathFilter, Request, Task, Usage,
 };
+pub use words::version;

@@ -261,8 +261,14 @@ fn task<'a>(alloc: Global, command: &str, matches: &ArgMatches<'a>) -> Result<Ta
         graph::graph(matches)
     } else if command == "access" {
         access(alloc, matches)
-    } else {
+    } else if command == "time" {
         time(matches)
+    } else if command == "explain" {
+        Ok(Task::Explain(value(matches, "number")))
+    } else if command == "facts" {
+        Ok(Task::Facts)
+    } else {
+        Ok(Task::Version)
     }
 }
 
@@ -283,7 +289,7 @@ fn refused(error: Error) -> Usage
 {
     match error.kind() {
         ErrorKind::OutOfMemory => Usage::Memory,
-        ErrorKind::DisplayHelp => Usage::Help(error),
+        ErrorKind::DisplayHelp | ErrorKind::DisplayVersion => Usage::Help(error),
         _ => Usage::Words(error),
     }
 }

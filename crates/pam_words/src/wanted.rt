@@ -85,7 +85,18 @@ pub struct KnowledgeSource<'a> {
     pub moment: Option<Moment<'a>>,
 }
 
-/// A command for a service, or for all services.
+/// What a check reads besides the configuration.
+#[derive(Drop)]
+pub struct CheckFiles<'a> {
+    /// The folders of modules. With `ConfSource::Root`, those of the system are read too.
+    pub modules: Vec<&'a str>,
+    /// What is known of modules, after the program's own table.
+    pub facts: Option<&'a str>,
+    /// The findings that are meant to be.
+    pub accept: Option<&'a str>,
+}
+
+/// A command for a service or for all services, or about the program itself.
 #[derive(Drop)]
 pub enum Task<'a> {
     /// Looks for faults, and for stacks that let nobody or anybody in, in these services, or in all if none is named.
@@ -93,6 +104,7 @@ pub enum Task<'a> {
         source: ConfSource<'a>,
         services: Texts,
         fail_on: LevelName,
+        given: CheckFiles<'a>,
     },
     /// Lists the stack.
     Show {
@@ -140,9 +152,15 @@ pub enum Task<'a> {
         format: GraphFormat,
         knowledge: KnowledgeSource<'a>,
     },
+    /// Says what a fault or finding means, by its number, or lists all of them.
+    Explain(Option<&'a str>),
+    /// Lists what is known of modules.
+    Facts,
+    /// Says which program this is.
+    Version,
 }
 
-/// A command with its service. The service is as given, not lowercased, and empty for `check`, which names its own.
+/// A command with its service. The service is as given, not lowercased, and empty for a command that takes none, or several.
 #[derive(Drop)]
 pub struct Request<'a> {
     pub service: &'a str,
@@ -152,7 +170,7 @@ pub struct Request<'a> {
 /// Why the words are refused. If several reasons apply, the first in this order is returned.
 #[derive(Debug, Drop, Error)]
 pub enum Usage {
-    /// Help was requested. The text of the `clap` error goes to standard output.
+    /// Help or the version was requested. The text of the `clap` error goes to standard output.
     #[error(transparent)]
     Help(clap::Error),
     /// U1: `clap` refuses the words.

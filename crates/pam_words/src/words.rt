@@ -4,239 +4,24 @@ ghost use Rattle.std.specs.Prelude.{◌≡◌, false};
 ghost use Rattle.clap.specs.Words.{App, app_of, rule_of};
 ghost use Rattle.clap.specs.declared.builder.Command.TheViews.{out-Command as fields_of};
 ghost use Rattle.pam_words.specs.Building.{IsBuilt, app_of_row, rule_of_row, with_args as with_rules, with_commands as with_apps};
-ghost use Rattle.pam_words.specs.Words.{bare_app, pamcheck_app};
+ghost use Rattle.pam_words.specs.Words.{bare_app, pamcheck_app, version};
 
+use crate::arguments::{
+    ACCEPT, ACCESS, ACCESS_TABLE, AFTER, ARGUMENTS, ASKS, AT, AT_UNIX, ArgForm, ArgRow, BEFORE,
+    CODES, CONF, DECISION, DIR, FACTS, FAIL_ON, FORMAT, GROUP, KIND, LIMIT, MODULES, NUMBER,
+    RETURNS, RHOST, ROOT, SERVICE, SERVICES, TABLE_USER, TIME, TIME_TABLE, TTY, USER, VENDOR_DIR,
+    ZONE,
+};
 use crate::number::number_parser;
 use clap::{Arg, ArgAction, Command};
 use std::alloc::{AllocError, Global};
 
-/// How an argument is given.
-#[derive(Clone, Copy)]
-enum ArgForm {
-    /// A required word.
-    Positional,
-    /// Any number of words, before and after the options.
-    Repeated,
-    /// An option `--ID NAME`.
-    Optional,
-    /// A required option `--ID NAME`.
-    Required,
-    /// An option `--ID NAME` for a number.
-    Number,
+/// Returns the version of the program, and the toolchain that proved it.
+pub fn version() -> &'static str
+    ensures { result.now ≡ version }
+{
+    "1.0.0 (proved with rattle, logic dac8208d650f15bf)"
 }
-
-/// An argument of a command.
-#[derive(Clone, Copy)]
-struct ArgRow {
-    form: ArgForm,
-    id: &'static str,
-    /// The name of its value, for help.
-    name: &'static str,
-    help: &'static str,
-}
-
-const SERVICE: ArgRow = ArgRow {
-    form: ArgForm::Positional,
-    id: "service",
-    name: "SERVICE",
-    help: "The service",
-};
-
-const KIND: ArgRow = ArgRow {
-    form: ArgForm::Positional,
-    id: "kind",
-    name: "KIND",
-    help: "auth, account, password or session",
-};
-
-const DIR: ArgRow = ArgRow {
-    form: ArgForm::Optional,
-    id: "dir",
-    name: "DIR",
-    help: "The folder with a file for each service",
-};
-
-const VENDOR_DIR: ArgRow = ArgRow {
-    form: ArgForm::Optional,
-    id: "vendor-dir",
-    name: "DIR",
-    help: "The folder for services that --dir lacks",
-};
-
-const CONF: ArgRow = ArgRow {
-    form: ArgForm::Optional,
-    id: "conf",
-    name: "FILE",
-    help: "The file for all services",
-};
-
-const ROOT: ArgRow = ArgRow {
-    form: ArgForm::Optional,
-    id: "root",
-    name: "DIR",
-    help: "The root folder of a system",
-};
-
-const FAIL_ON: ArgRow = ArgRow {
-    form: ArgForm::Optional,
-    id: "fail-on",
-    name: "LEVEL",
-    help: "error, warning or note: the least level that fails; warning if left out",
-};
-
-const SERVICES: ArgRow = ArgRow {
-    form: ArgForm::Repeated,
-    id: "name",
-    name: "SERVICE",
-    help: "The services to check; all if left out",
-};
-
-const CODES: ArgRow = ArgRow {
-    form: ArgForm::Repeated,
-    id: "code",
-    name: "CODE",
-    help: "The return code of each module, in turn",
-};
-
-const LIMIT: ArgRow = ArgRow {
-    form: ArgForm::Number,
-    id: "limit",
-    name: "N",
-    help: "The most paths to list, 1 to 1000000; 1000 if left out",
-};
-
-const AFTER: ArgRow = ArgRow {
-    form: ArgForm::Optional,
-    id: "after",
-    name: "CURSOR",
-    help: "Lists the paths after this cursor",
-};
-
-const BEFORE: ArgRow = ArgRow {
-    form: ArgForm::Optional,
-    id: "before",
-    name: "CURSOR",
-    help: "Lists the paths before this cursor, the last first",
-};
-
-const DECISION: ArgRow = ArgRow {
-    form: ArgForm::Optional,
-    id: "decision",
-    name: "CODES",
-    help: "Lists the paths that end in one of these codes",
-};
-
-const ASKS: ArgRow = ArgRow {
-    form: ArgForm::Number,
-    id: "asks",
-    name: "N",
-    help: "Lists the paths that ask module N",
-};
-
-const FORMAT: ArgRow = ArgRow {
-    form: ArgForm::Optional,
-    id: "format",
-    name: "FORMAT",
-    help: "dot (for Graphviz) or mermaid; dot if left out",
-};
-
-const USER: ArgRow = ArgRow {
-    form: ArgForm::Optional,
-    id: "user",
-    name: "NAME",
-    help: "The user",
-};
-
-const RHOST: ArgRow = ArgRow {
-    form: ArgForm::Optional,
-    id: "rhost",
-    name: "HOST",
-    help: "The remote host",
-};
-
-const TTY: ArgRow = ArgRow {
-    form: ArgForm::Optional,
-    id: "tty",
-    name: "TTY",
-    help: "The terminal",
-};
-
-const ACCESS: ArgRow = ArgRow {
-    form: ArgForm::Optional,
-    id: "access",
-    name: "FILE",
-    help: "The access table of pam_access.so; needs --user",
-};
-
-const TIME: ArgRow = ArgRow {
-    form: ArgForm::Optional,
-    id: "time",
-    name: "FILE",
-    help: "The time table of pam_time.so; needs --user and a moment",
-};
-
-const GROUP: ArgRow = ArgRow {
-    form: ArgForm::Optional,
-    id: "group",
-    name: "FILE",
-    help: "The group file",
-};
-
-const RETURNS: ArgRow = ArgRow {
-    form: ArgForm::Optional,
-    id: "returns",
-    name: "FILE",
-    help: "The codes that other modules can return",
-};
-
-const AT: ArgRow = ArgRow {
-    form: ArgForm::Optional,
-    id: "at",
-    name: "CIVIL",
-    help: "The moment, as 2024-05-06T10:00",
-};
-
-const AT_UNIX: ArgRow = ArgRow {
-    form: ArgForm::Optional,
-    id: "at-unix",
-    name: "SECONDS",
-    help: "The moment, in seconds since 1970",
-};
-
-const ZONE: ArgRow = ArgRow {
-    form: ArgForm::Optional,
-    id: "zone",
-    name: "RULE",
-    help: "The POSIX zone rule of --at-unix; UTC0 if left out",
-};
-
-const ACCESS_TABLE: ArgRow = ArgRow {
-    form: ArgForm::Required,
-    id: "access",
-    name: "FILE",
-    help: "The table",
-};
-
-const TIME_TABLE: ArgRow = ArgRow {
-    form: ArgForm::Required,
-    id: "time",
-    name: "FILE",
-    help: "The table",
-};
-
-const TABLE_USER: ArgRow = ArgRow {
-    form: ArgForm::Required,
-    id: "user",
-    name: "NAME",
-    help: "The user",
-};
-
-const ARGUMENTS: ArgRow = ArgRow {
-    form: ArgForm::Repeated,
-    id: "argument",
-    name: "ARGUMENT",
-    help: "The arguments of pam_access.so",
-};
 
 /// A command with its arguments.
 #[derive(Clone, Copy)]
@@ -246,11 +31,13 @@ struct CommandRow {
     args: &'static [ArgRow],
 }
 
-static COMMANDS: [CommandRow; 8] = [
+static COMMANDS: [CommandRow; 11] = [
     CommandRow {
         name: "check",
         about: "Checks all services for faults, and for stacks that let nobody or anybody in",
-        args: &[DIR, VENDOR_DIR, CONF, ROOT, FAIL_ON, SERVICES],
+        args: &[
+            DIR, VENDOR_DIR, CONF, ROOT, MODULES, FACTS, ACCEPT, FAIL_ON, SERVICES,
+        ],
     },
     CommandRow {
         name: "show",
@@ -304,6 +91,21 @@ static COMMANDS: [CommandRow; 8] = [
         about: "Looks a login up in a time table",
         args: &[SERVICE, TIME_TABLE, TABLE_USER, TTY, AT, AT_UNIX, ZONE],
     },
+    CommandRow {
+        name: "explain",
+        about: "Explains a fault or finding, and how to mend it",
+        args: &[NUMBER],
+    },
+    CommandRow {
+        name: "facts",
+        about: "Lists what is known of modules",
+        args: &[],
+    },
+    CommandRow {
+        name: "version",
+        about: "Shows the version of the program",
+        args: &[],
+    },
 ];
 
 fn arg<'a>(alloc: Global, row: &ArgRow) -> Arg<'a>
@@ -313,8 +115,10 @@ fn arg<'a>(alloc: Global, row: &ArgRow) -> Arg<'a>
     let arg = Arg::new(alloc, row.id).value_name(row.name).help(row.help);
     match row.form {
         ArgForm::Positional => arg.required(true),
+        ArgForm::OptionalPositional => arg,
         ArgForm::Repeated => arg.action(ArgAction::Append),
         ArgForm::Optional => arg.long(row.id),
+        ArgForm::RepeatedOption => arg.long(row.id).action(ArgAction::Append),
         ArgForm::Required => arg.long(row.id).required(true),
         ArgForm::Number => arg.long(row.id).value_parser(number_parser()),
     }
@@ -368,7 +172,8 @@ fn bare_command<'a>(alloc: Global) -> Command<'a>
     ensures local { (fields_of result).has_globals ≡ false }
 {
     Command::new(alloc, "pamcheck")
-        .about("Explains what a PAM stack can decide")
+        .about("Checks what the PAM configuration of a system can decide")
+        .version(version())
         .subcommand_required(true)
 }
 

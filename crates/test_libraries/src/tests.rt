@@ -1,5 +1,6 @@
 //! The tests, by what they test.
 
+mod accepts;
 mod answers;
 mod controls;
 mod faults;

@@ -1,25 +1,22 @@
 //! A line for a finding.
 
-ghost use Rattle.std.specs.Prelude.{◌≡◌, ◌++◌, map};
+ghost use Rattle.std.specs.Prelude.{◌≡◌, map};
 ghost use Rattle.std.specs.List.{flat_map};
 ghost use Rattle.pam_codes.specs.Out.{Writes};
-ghost use Rattle.pam_print.specs.Check.{answer_text, answers_text, finding_line, kind_of_service, line_text, met_if_any, next_answer};
-ghost use Rattle.pam_print.specs.Check.{of_service, path_of, place_text, sentence, text_at, way_in_at, way_text};
+ghost use Rattle.pam_print.specs.Check.{answer_text, answers_text, finding_line, kind_of_service, line_text, next_answer};
+ghost use Rattle.pam_print.specs.Check.{met_unless, of_service, path_of, place_text, rest_text, said, sentence, subject_text, text_at};
+ghost use Rattle.pam_print.specs.Check.{way_in_at, way_text};
 ghost use Rattle.pam_print.specs.CheckNames.{names_view};
 
 use super::escaped::put_name;
 use super::met::put_met_if_any;
-use super::sentences::{
-    ANYBODY, JUMP, LARGE, LEFT_OVER, NO_FUNCTION, NO_OTHER, NOBODY, UNREACHABLE, fault_text,
-    level_name, problem_name, put_released,
-};
+use super::sentences::{fault_text, level_name, problem_sentence, put_released};
 use crate::decide::name_of;
-use crate::header::kind_name;
 use pam_codes::{Device, Out, Piece};
 use pam_conf::{Form, Kind, Stack};
 use pam_host::{Answered, Finding, Met, Place, Problem, WayIn};
 use pam_known::name_of_path;
-use pam_report::path_at;
+use pam_report::{kind_name, path_at, problem_name, stack_of};
 use std::io::Write;
 
 /// The names that the lines of a check use.
@@ -170,31 +167,54 @@ fn put_way_in<W: Write>(names: &Names<'_>, service: usize, out: &mut Out<W>) -> 
     }
 }
 
-/// Writes what is wrong with the stack of a service for a kind.
-fn put_of_stack<W: Write>(
+/// Writes the kind and the service of a problem of a whole stack.
+fn put_subject<W: Write>(
     names: &Names<'_>,
-    kind: Kind,
-    service: usize,
-    sentence: &[u8],
+    stack: Option<(usize, Kind)>,
     out: &mut Out<W>,
 ) -> Result<(), Device>
-    ensures { Writes W.contents out.old out.new result (kind_of_service (names_view names.now) kind service ++ sentence.now) }
+    ensures { Writes W.contents out.old out.new result (subject_text (names_view names.now) stack) }
 {
-    put_kind(names, kind, service, out)?;
-    out.put(sentence)
+    match stack {
+        Some((service, kind)) => put_kind(names, kind, service, out),
+        None => Ok(()),
+    }
 }
 
-/// Writes what is wrong with a line, and which stacks meet it.
-fn put_with_met<W: Write>(
+/// Writes what is wrong, and how to mend it.
+fn put_said<W: Write>(line: usize, problem: Problem, out: &mut Out<W>) -> Result<(), Device>
+    ensures { Writes W.contents out.old out.new result (said line problem) }
+{
+    match problem {
+        Problem::Fault(fault) | Problem::Walk(fault) => out.put(fault_text(line, fault).as_bytes()),
+        Problem::Released(difference) => put_released(difference, out),
+        _ => out.put(problem_sentence(problem).as_bytes()),
+    }
+}
+
+/// Writes the stacks that meet a problem, unless it is one of a whole stack.
+fn put_met_unless<W: Write>(
     names: &Names<'_>,
-    sentence: &[u8],
     met: Option<Met>,
+    stack: Option<(usize, Kind)>,
     out: &mut Out<W>,
 ) -> Result<(), Device>
-    ensures { Writes W.contents out.old out.new result (sentence.now ++ met_if_any (names_view names.now).services met) }
+    ensures { Writes W.contents out.old out.new result (met_unless (names_view names.now).services met stack) }
 {
-    out.put(sentence)?;
-    put_met_if_any(&names.services, met, out)
+    match stack {
+        Some(_) => Ok(()),
+        None => put_met_if_any(&names.services, met, out),
+    }
+}
+
+/// Writes the first way in, or the stacks that meet the problem.
+fn put_rest<W: Write>(names: &Names<'_>, finding: Finding, out: &mut Out<W>) -> Result<(), Device>
+    ensures { Writes W.contents out.old out.new result (rest_text (names_view names.now) finding.met finding.problem) }
+{
+    match finding.problem {
+        Problem::LetsAnybodyIn { service } => put_way_in(names, service, out),
+        _ => put_met_unless(names, finding.met, stack_of(finding.problem), out),
+    }
 }
 
 /// Writes what is wrong, how to mend it, and which stacks meet it.
@@ -207,28 +227,9 @@ fn put_sentence<W: Write>(
 ) -> Result<(), Device>
     ensures { Writes W.contents out.old out.new result (sentence (names_view names.now) line finding.met finding.problem) }
 {
-    match finding.problem {
-        Problem::Fault(fault) | Problem::Walk(fault) => {
-            put_with_met(names, fault_text(line, fault).as_bytes(), finding.met, out)
-        }
-        Problem::Released(difference) => {
-            put_released(difference, out)?;
-            put_met_if_any(&names.services, finding.met, out)
-        }
-        Problem::LetsNobodyIn { service, kind } => {
-            put_of_stack(names, kind, service, NOBODY, out)
-        }
-        Problem::LetsAnybodyIn { service } => {
-            put_of_stack(names, Kind::Auth, service, ANYBODY, out)?;
-            put_way_in(names, service, out)
-        }
-        Problem::TooLarge { service, kind } => put_of_stack(names, kind, service, LARGE, out),
-        Problem::JumpPastEnd => put_with_met(names, JUMP, finding.met, out),
-        Problem::NoFunction => put_with_met(names, NO_FUNCTION, finding.met, out),
-        Problem::NoOther => out.put(NO_OTHER),
-        Problem::UnreachableName => out.put(UNREACHABLE),
-        Problem::LeftOver => out.put(LEFT_OVER),
-    }
+    put_subject(names, stack_of(finding.problem), out)?;
+    put_said(line, finding.problem, out)?;
+    put_rest(names, finding, out)
 }
 
 /// Writes `PLACE: LEVEL: NUMBER NAME: SENTENCE`.

@@ -1,4 +1,4 @@
-//! What `check` says of each problem: its number and name, what is wrong, and how to mend it.
+//! What `check` says of each problem: what is wrong, and how to mend it.
 
 ghost use Rattle.std.specs.Prelude.{◌≡◌};
 ghost use Rattle.pam_codes.specs.Out.{Writes};
@@ -9,31 +9,49 @@ use pam_codes::{ControlError, Device, Out, Piece};
 use pam_conf::FaultKind;
 use pam_host::{Level, Problem};
 use pam_released::Difference;
-use pam_report::conf_name;
 use std::io::Write;
 
-pub(super) const NOBODY: &[u8] =
-    b" never succeeds, whatever its modules answer; look for a jump over too many items, or a module that always fails";
+pub(super) const UNUSED: &[u8] =
+    b"no finding has this number and place; remove the line, or mend it";
 
-pub(super) const ANYBODY: &[u8] = b" succeeds although no module that checks who logs in does";
-
-pub(super) const JUMP: &[u8] =
-    b"a jump past the end of the list, which fails the stack; jump over fewer items";
-
-pub(super) const NO_OTHER: &[u8] =
-    b"there is no file other, which decides for each service without a file; make one that denies";
-
-pub(super) const UNREACHABLE: &[u8] =
-    b"services are looked up in lowercase, so no program finds this file; write its name in lowercase";
-
-pub(super) const LARGE: &[u8] =
-    b" can come to more than 65,536 places, so it is not known whether it lets nobody or anybody in";
-
-pub(super) const LEFT_OVER: &[u8] =
-    b"a copy that an editor or a package left, for which no program asks; it is not checked, and may be removed";
-
-pub(super) const NO_FUNCTION: &[u8] =
-    b"the module has no function for this kind, so it always answers module_unknown; remove the rule";
+/// Returns what is wrong, and how to mend it, of a problem that is neither a fault nor a difference.
+#[tactic(auto, unfolding(crate::specs::Sentences::problem_sentence))]
+pub(super) fn problem_sentence(problem: Problem) -> &'static str
+    ensures { result.now ≡ spec.problem_sentence problem }
+{
+    match problem {
+        Problem::Fault(_) | Problem::Walk(_) | Problem::Released(_) => "",
+        Problem::LetsNobodyIn { .. } => {
+            " never succeeds, whatever its modules answer; look for a jump over too many items, or a module that always fails"
+        }
+        Problem::LetsAnybodyIn { .. } =>
+            " succeeds although no module that checks who logs in does",
+        Problem::JumpPastEnd => {
+            "a jump past the end of the list, which fails the stack; jump over fewer items"
+        }
+        Problem::NoModule { .. } => {
+            "no folder of modules has this module, so it always answers module_unknown; install it, or remove the rule"
+        }
+        Problem::NoOther => {
+            "there is no file other, which decides for each service without a file; make one that denies"
+        }
+        Problem::UnreachableName => {
+            "services are looked up in lowercase, so no program finds this file; write its name in lowercase"
+        }
+        Problem::TooLarge { .. } => {
+            " can come to more than 65,536 places, so it is not known whether it lets nobody or anybody in"
+        }
+        Problem::LeftOver => {
+            "a copy that an editor or a package left, for which no program asks; it is not checked, and may be removed"
+        }
+        Problem::NoFunction => {
+            "the module has no function for this kind, so it always answers module_unknown; remove the rule"
+        }
+        Problem::CallerIsRoot => {
+            "the module looks at the user of the process, which in this service is always root; remove the rule"
+        }
+    }
+}
 
 pub(super) fn level_name(level: Level) -> &'static str
     ensures { result.now ≡ spec.level_name level }
@@ -42,25 +60,6 @@ pub(super) fn level_name(level: Level) -> &'static str
         Level::Note => "note",
         Level::Warning => "warning",
         Level::Error => "error",
-    }
-}
-
-/// Returns the number and the name of a problem.
-#[tactic(auto, unfolding(crate::specs::Sentences::problem_name))]
-pub(super) fn problem_name(problem: Problem) -> &'static str
-    ensures { result.now ≡ spec.problem_name problem }
-{
-    match problem {
-        Problem::Fault(fault) | Problem::Walk(fault) => conf_name(fault),
-        Problem::Released(difference) => difference.name(),
-        Problem::LetsNobodyIn { .. } => "S1 LetsNobodyIn",
-        Problem::LetsAnybodyIn { .. } => "S2 LetsAnybodyIn",
-        Problem::JumpPastEnd => "S4 JumpPastEnd",
-        Problem::NoOther => "S6 NoOther",
-        Problem::UnreachableName => "S7 UnreachableName",
-        Problem::TooLarge { .. } => "S9 TooLarge",
-        Problem::LeftOver => "S11 LeftOver",
-        Problem::NoFunction => "S13 NoFunction",
     }
 }
 

@@ -6,8 +6,10 @@ ghost use Rattle.pam_report.specs.FaultViews.{row_view};
 
 use super::row::Row;
 use crate::inputs::InputError;
+use pam_accept::AcceptFault;
 use pam_codes::ControlError;
 use pam_conf::FaultKind;
+use pam_facts::FactsFault;
 use pam_paths::CursorError;
 use pam_tables::{Table, TableFault};
 use pam_times::{MomentError, TimeFault};
@@ -104,6 +106,13 @@ pub(super) fn module_row() -> Row
     Row::of("U9 NoSuchModule", BAD_REQUEST)
 }
 
+/// The row of a number that no fault or finding has.
+pub(super) fn number_row() -> Row
+    ensures { row_view result ≡ spec.number_row }
+{
+    Row::of("U14 NoSuchNumber", BAD_REQUEST)
+}
+
 /// The row of codes that are not as many as the modules.
 pub(super) fn count_row() -> Row
     ensures { row_view result ≡ spec.count_row }
@@ -138,6 +147,30 @@ pub(super) fn table_row(fault: TableFault) -> Row
         TableFault::TableTooLong => Row::of("TE12 TableTooLong", BAD_TABLE),
         TableFault::BadCode => Row::of("TE13 BadCode", BAD_TABLE),
         TableFault::BadModule => Row::of("TE14 BadModule", BAD_TABLE),
+    }
+}
+
+#[tactic(auto, unfolding(crate::specs::FaultTable::facts_row))]
+pub(super) fn facts_row(fault: FactsFault) -> Row
+    ensures { row_view result ≡ spec.facts_row fault }
+{
+    match fault {
+        FactsFault::BadFact => Row::of("TE16 BadFact", BAD_TABLE),
+        FactsFault::NulByte => Row::of("TE10 NulByte", BAD_TABLE),
+        FactsFault::Memory => Row::of("TE11 Memory", NO_MEMORY),
+        FactsFault::TooLong => Row::of("TE12 TableTooLong", BAD_TABLE),
+    }
+}
+
+#[tactic(auto, unfolding(crate::specs::FaultTable::accept_row))]
+pub(super) fn accept_row(fault: AcceptFault) -> Row
+    ensures { row_view result ≡ spec.accept_row fault }
+{
+    match fault {
+        AcceptFault::BadAccept => Row::of("TE15 BadAccept", BAD_TABLE),
+        AcceptFault::NulByte => Row::of("TE10 NulByte", BAD_TABLE),
+        AcceptFault::Memory => Row::of("TE11 Memory", NO_MEMORY),
+        AcceptFault::TooLong => Row::of("TE12 TableTooLong", BAD_TABLE),
     }
 }
 

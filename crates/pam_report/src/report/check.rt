@@ -1,27 +1,27 @@
 //! The `check` command: what is wrong with a host.
 
-ghost use Rattle.std.specs.Prelude.{◌≡◌, option_map, true};
-ghost use Rattle.std.specs.List.{list_any};
-ghost use Rattle.std.specs.Option.{option_map_or};
+ghost use Rattle.std.specs.Prelude.{◌≡◌, [], IfOk, IfErr, MatchResult, option_map, true, unwrap_or};
+ghost use Rattle.std.specs.Option.{option_copied, option_map_or};
 ghost use Rattle.pam_host.specs.Levels.{level_of};
-ghost use Rattle.pam_report.specs.Check.{IsCheck};
+ghost use Rattle.pam_report.specs.Check.{IsAccepted, IsCheck, IsReported, IsUnaccepted, IsUnreported};
 ghost use Rattle.pam_report.specs.Finds.{Finds};
 ghost use Rattle.pam_report.specs.Inputs.{paths_given};
 ghost use Rattle.pam_report.specs.Memory.{WantsOnly, of_stack};
-ghost use Rattle.pam_report.specs.Reply.{check_status, counts};
+ghost use Rattle.pam_report.specs.Reply.{check_status, counts, has_counting};
 ghost use Rattle.pam_report.specs.ReplyViews.{check_view};
 
 use super::Status;
+use super::accepting::list_findings;
 use super::replies::Reply;
-use crate::fault::Fault;
+use crate::fault::{Fault, accept_fault, facts_fault};
 use crate::inputs::Inputs;
+use pam_accept::AcceptFile;
 use pam_conf::{Files, Form};
 use pam_facts::Facts;
 use pam_host::{Finding, HostReport, Level, Place};
 use pam_text::Texts;
-use pam_words::LevelName;
+use pam_words::{CheckFiles, LevelName};
 use std::alloc::Global;
-use std::collections::BTreeMap;
 
 /// What is wrong with a host.
 #[derive(Drop)]
@@ -30,8 +30,22 @@ pub struct CheckReply<'a> {
     /// The path of the configuration, and then that of each file by its position, as far as they are known.
     pub paths: Option<&'a Texts>,
     pub report: HostReport,
+    /// The findings of the report that are not accepted, in its order.
+    pub found: Vec<(Place, Finding)>,
+    /// The name of the accept file, empty if there is none.
+    pub accept: &'a str,
+    /// The numbers of its lines that accept nothing (S8), from 1.
+    pub unused: Vec<u32>,
     /// The least level of a finding that makes the status a refusal.
     pub fail_on: LevelName,
+}
+
+/// The services that are checked, all if none is named, and how.
+#[derive(Clone, Copy)]
+pub(super) struct CheckRequest<'x, 'a> {
+    pub services: &'x Texts,
+    pub fail_on: LevelName,
+    pub given: &'x CheckFiles<'a>,
 }
 
 /// Whether a finding of this level makes the status a refusal.
@@ -46,12 +60,12 @@ fn counts(fail_on: LevelName, level: Level) -> bool
 }
 
 /// Whether some finding counts.
-fn has_counting(found: &BTreeMap<Place, Finding>, fail_on: LevelName) -> bool
-    ensures { result ≡ list_any (λ entry. counts fail_on (level_of entry.1.problem)) found.now.entries }
+fn has_counting(found: &[(Place, Finding)], fail_on: LevelName) -> bool
+    ensures { result ≡ has_counting fail_on found.now }
 {
     found
-        .values()
-        .any(|finding| counts(fail_on, finding.problem.level()))
+        .iter()
+        .any(|entry| counts(fail_on, entry.1.problem.level()))
 }
 
 impl CheckReply<'_> {
@@ -59,7 +73,8 @@ impl CheckReply<'_> {
     pub(super) fn status(&self) -> Status
         ensures { result ≡ check_status (check_view self.now) }
     {
-        if has_counting(&self.report.found, self.fail_on) {
+        let has_unused = counts(self.fail_on, Level::Warning) && !self.unused.is_empty();
+        if has_counting(&self.found, self.fail_on) || has_unused {
             Status::Refusal
         } else {
             Status::Success
@@ -67,27 +82,66 @@ impl CheckReply<'_> {
     }
 }
 
+/// Reports on the services of a host, by what is known of modules.
+fn report(
+    alloc: Global,
+    services: &Texts,
+    files: &Files,
+    inputs: &Inputs,
+) -> Result<HostReport, Fault>
+    ensures { MatchResult result (IsReported services.now files.now inputs.now) (IsUnreported inputs.now) }
+{
+    let facts = match Facts::read(alloc, inputs.facts_file()) {
+        Ok(facts) => facts,
+        Err(error) => return Err(facts_fault(error)),
+    };
+    match HostReport::of(alloc, files, services, &facts, inputs.there()) {
+        Ok(report) => Ok(report),
+        Err(_) => Err(Fault::Memory),
+    }
+}
+
+fn accepted(alloc: Global, inputs: &Inputs) -> Result<AcceptFile, Fault>
+    ensures { MatchResult result (IsAccepted inputs.now) (IsUnaccepted inputs.now) }
+{
+    match AcceptFile::read(alloc, inputs.accept_file()) {
+        Ok(accept) => Ok(accept),
+        Err(error) => Err(accept_fault(error)),
+    }
+}
+
+/// Returns the name of the accept file, empty if none is named.
+fn accept_name<'a>(given: &CheckFiles<'a>) -> &'a str
+    ensures { result.now ≡ unwrap_or (option_copied given.now.accept) [] }
+{
+    match given.accept {
+        Some(name) => name,
+        None => "",
+    }
+}
+
 /// Returns the findings of the services that are named, or of all.
 pub(super) fn checked<'a>(
     alloc: Global,
-    named: &Texts,
-    fail_on: LevelName,
+    asked: CheckRequest<'_, 'a>,
     files: &Files,
     inputs: &'a Inputs,
 ) -> Result<Reply<'a>, Fault>
-    ensures answer { Finds result (IsCheck named.now fail_on files.now (paths_given inputs.now)) }
+    ensures answer { Finds result (IsCheck asked.entry.services.now asked.entry.fail_on asked.entry.given.now files.now inputs.now) }
     ensures wants { WantsOnly (of_stack true) result }
 {
-    let Ok(facts) = Facts::read(alloc, b"") else {
-        return Err(Fault::Memory);
-    };
-    let Ok(report) = HostReport::of(alloc, files, named, &facts) else {
+    let report = report(alloc, asked.services, files, inputs)?;
+    let accept = accepted(alloc, inputs)?;
+    let Ok(listed) = list_findings(alloc, files, &report, &accept) else {
         return Err(Fault::Memory);
     };
     Ok(Reply::Check(CheckReply {
         form: files.form(),
         paths: inputs.paths(),
         report,
-        fail_on,
+        found: listed.found,
+        accept: accept_name(asked.given),
+        unused: listed.unused,
+        fail_on: asked.fail_on,
     }))
 }

@@ -12,6 +12,7 @@ use super::outcomes::OutcomesReply;
 use super::paths::PathsPage;
 use super::show::StackReply;
 use pam_dispatch::Decision;
+use pam_explain::Explanation;
 use pam_tables::AccessAnswer;
 use pam_times::TimeAnswer;
 
@@ -34,6 +35,14 @@ pub enum Reply<'a> {
     Graph(GraphReply<'a>),
     /// Of `check`.
     Check(CheckReply<'a>),
+    /// Of `explain` with a number.
+    Explained(&'static Explanation),
+    /// Of `explain` without one: a list of all explanations.
+    Explanations,
+    /// Of `facts`.
+    Facts,
+    /// Of `version`.
+    Version,
 }
 
 impl Reply<'_> {
@@ -47,6 +56,8 @@ impl Reply<'_> {
             Reply::Time(answer) => status_of_time(*answer),
             Reply::Check(check) => check.status(),
             Reply::Stack(_) | Reply::Paths(_) | Reply::Outcomes(_) | Reply::Graph(_) =>
+                Status::Success,
+            Reply::Explained(_) | Reply::Explanations | Reply::Facts | Reply::Version =>
                 Status::Success,
         }
     }

@@ -1,16 +1,16 @@
 //! Reads a `check` request from its words.
 
-ghost use Rattle.std.specs.Prelude.{◌≡◌, option_map};
+ghost use Rattle.std.specs.Prelude.{◌≡◌, IfOk, codes, map, option_map};
 ghost use Rattle.clap.specs.Words.{found_of, rows_of};
 ghost use Rattle.pam_words.specs.Request.{check_task, level_named as level_of_name, level_of, source_or_root as source_or_root_of};
-ghost use Rattle.pam_words.specs.Request.{names_source as has_source};
-ghost use Rattle.pam_words.specs.Wanted.{GivesTask, source_view};
+ghost use Rattle.pam_words.specs.Request.{names_source as has_source, texts_of};
+ghost use Rattle.pam_words.specs.Wanted.{GivesTask, IsGiven, source_view};
 
 use crate::reading::knowledge::has;
-use crate::reading::{source, texts, value};
-use crate::wanted::{ConfSource, LevelName, Task, Usage};
+use crate::reading::{source, texts, value, values};
+use crate::wanted::{CheckFiles, ConfSource, LevelName, Task, Usage};
 use clap::ArgMatches;
-use std::alloc::Global;
+use std::alloc::{AllocError, Global};
 
 /// Whether an option of a source is given.
 fn names_source(matches: &ArgMatches<'_>) -> bool
@@ -57,6 +57,27 @@ fn level(matches: &ArgMatches<'_>) -> Option<LevelName>
     }
 }
 
+/// Returns the folders of modules that are named, in order.
+fn folders<'a>(alloc: Global, matches: &ArgMatches<'a>) -> Result<Vec<&'a str>, AllocError>
+    ensures { IfOk result (λ v. map (λ s. s.now) v.items ≡ texts_of (codes "modules") (rows_of (found_of matches.now))) }
+{
+    match values(matches, "modules") {
+        Some(names) => Vec::from_slice(alloc, names),
+        None => Ok(Vec::new(alloc)),
+    }
+}
+
+/// Reads the names of the folders and files that a check reads besides the configuration.
+fn given<'a>(alloc: Global, matches: &ArgMatches<'a>) -> Result<CheckFiles<'a>, AllocError>
+    ensures { IfOk result (λ given. IsGiven (rows_of (found_of matches.now)) given) }
+{
+    Ok(CheckFiles {
+        modules: folders(alloc, matches)?,
+        facts: value(matches, "facts"),
+        accept: value(matches, "accept"),
+    })
+}
+
 pub(crate) fn check<'a>(alloc: Global, matches: &ArgMatches<'a>) -> Result<Task<'a>, Usage>
     ensures { GivesTask (check_task (rows_of (found_of matches.now))) result }
 {
@@ -66,11 +87,15 @@ pub(crate) fn check<'a>(alloc: Global, matches: &ArgMatches<'a>) -> Result<Task<
     let Some(fail_on) = level(matches) else {
         return Err(Usage::LevelName);
     };
+    let Ok(given) = given(alloc, matches) else {
+        return Err(Usage::Memory);
+    };
     match texts(alloc, matches, "name") {
         Ok(services) => Ok(Task::Check {
             source,
             services,
             fail_on,
+            given,
         }),
         Err(_) => Err(Usage::Memory),
     }

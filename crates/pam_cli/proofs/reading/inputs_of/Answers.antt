@@ -27,7 +27,8 @@ module _ (source : ConfSource) (kind : Kind) (knowledge : KnowledgeSource) where
   graph-read format (Err error) h = h
 
 pub returns-in-Check : goal.returns-in-Check
-returns-in-Check g c = subst (λ t. IsReading t c.check_inputs.result) (sym c.in-Check.is) (c.check_inputs.ensures c.in-Check.services c.in-Check.fail_on)
+returns-in-Check g c =
+    subst (λ t. IsReading t c.check_inputs.result) (sym c.in-Check.is) (c.check_inputs.ensures c.in-Check.services c.in-Check.fail_on)
 
 pub returns-in-Access : goal.returns-in-Access
 returns-in-Access g c =

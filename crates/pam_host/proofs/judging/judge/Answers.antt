@@ -12,7 +12,7 @@ returns-in-Ok c folder name stack =
     let failing = c.answers_if_checks_fail-failing.result in
     let j = judgement_of c.args.stack free failing c.in-Ok.soundness in
     IfOk-weaker c.way_into.result (λ way. c.args.at.kind ≡ Auth → HasWayIn (Judged j) way)
-    (Judges folder c.args.facts.now name c.args.at c.args.spots.now.items c.push_judged.new.spots.items)
+    (Judges folder c.args.modules.now name c.args.at c.args.spots.now.items c.push_judged.new.spots.items)
     (λ way h. record {
       verdict = Judged j;
       is_verdict = record {

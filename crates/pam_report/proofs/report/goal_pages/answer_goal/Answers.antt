@@ -1,6 +1,6 @@
 use Rattle.std.proofs.Common.{Ok, Some, ap, inr}
 use Rattle.pam_paths.specs.Known.{may_answer}
-use Rattle.pam_report.specs.Reply.{Answer, Reply}
+use Rattle.pam_report.specs.Reply.{Reply}
 use Rattle.pam_report.proofs.report.goal_pages.answer_goal.Goals as goal
 
 pub returns-in-Ok-clause-answer : goal.returns-in-Ok-clause-answer

@@ -4,7 +4,7 @@ use Rattle.pam_known.proofs.Listings.{same_listing}
 use Rattle.pam_paths.specs.Known.{may_answer}
 use Rattle.pam_paths.specs.Paths.{path_through}
 use Rattle.pam_report.proofs.OutcomeLists.{outcomes_value-is}
-use Rattle.pam_report.specs.Reply.{Answer, Outcomes, OutcomesValue}
+use Rattle.pam_report.specs.Reply.{Outcomes, OutcomesValue}
 use Rattle.pam_report.proofs.report.outcomes.answer_known.Goals as goal
 
 pub returns-in-Ok-clause-answer : goal.returns-in-Ok-clause-answer

@@ -1,0 +1,3 @@
+pub mod KeySteps
+pub mod LineSteps
+pub mod WordSteps

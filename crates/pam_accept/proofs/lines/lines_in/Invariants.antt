@@ -1,0 +1,12 @@
+-- the lines that are read, and those that are left
+use Rattle.std.proofs.Common.{◌≡◌, ◌+◌, drop, length, map}
+use Rattle.pam_accept.specs.Lines.{before_lines, lines_from, physical_lines}
+use Rattle.pam_accept.specs.Views.{line_view}
+use Rattle.pam_accept.proofs.lines.lines_in.Given as goal
+
+abbrev pub invariant-loop-line : goal.invariant-loop-line
+invariant-loop-line l = record {
+  count : l.number ≡ length l.yielded;
+  same : before_lines (map line_view l.lines.items) (lines_from (length l.yielded + 1) (drop (length l.yielded) (physical_lines l.fn.source.bytes.now)))
+      ≡ lines_from 1 (physical_lines l.fn.source.bytes.now);
+}

@@ -1,0 +1,5 @@
+pub mod Error
+pub mod Keys
+pub mod Lines
+pub mod Views
+pub mod Words

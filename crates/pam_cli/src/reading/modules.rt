@@ -1,0 +1,241 @@
+//! Looks for the modules that are there: pam.conf(5), module-path.
+
+ghost use Rattle.std.specs.Prelude.{◌≡◌, ◌⊎◌, IfErr, map};
+ghost use Rattle.pam_paths.specs.Classes.{Member};
+ghost use Rattle.pam_cli.specs.Sources.{IsInSource, IsUnread};
+
+use crate::reading::files::{entry_names, is_folder, is_there, unread};
+use indexmap::IndexSet;
+use pam_conf::Files;
+use pam_report::InputError;
+use pam_text::Texts;
+use pam_words::ConfSource;
+use std::alloc::{AllocError, Global};
+use std::path::Path;
+
+/// The folders of a system that have a folder of modules, or folders that do.
+const LIBRARIES: [&str; 4] = ["lib", "lib64", "usr/lib", "usr/lib64"];
+
+/// The name of a folder of modules.
+const SECURITY: &str = "security";
+
+/// The paths at which a module is there so far, as rules write them, and whether any folder of modules was read.
+#[derive(Drop)]
+struct Found {
+    paths: IndexSet<Vec<u8>>,
+    is_known: bool,
+}
+
+impl Found {
+    fn put(&mut self, alloc: Global, path: &[u8]) -> Result<(), AllocError> {
+        self.paths.insert(Vec::from_slice(alloc, path)?)?;
+        Ok(())
+    }
+
+    /// Returns the paths, unless no folder of modules was read.
+    fn into_texts(self, alloc: Global) -> Result<Option<Texts>, AllocError> {
+        if !self.is_known {
+            return Ok(None);
+        }
+        let mut texts = Texts::new(alloc);
+        for path in &self.paths {
+            texts.push(path)?;
+        }
+        Ok(Some(texts))
+    }
+}
+
+/// Adds the names of the entries of a folder of modules.
+fn put_folder<R: std::rt::Files + AllocGlobal + Clone + Drop>(
+    rt: &R,
+    alloc: Global,
+    folder: &str,
+    found: &mut Found,
+) -> Result<(), InputError>
+    ensures { IfErr result (IsUnread (λ n. n ≡ folder.now)) }
+{
+    let names = match entry_names(rt, alloc, folder) {
+        Ok(names) => names,
+        Err(error) => return Err(unread(alloc, folder, &error)),
+    };
+    found.is_known = true;
+    for name in names {
+        found.put(alloc, name.as_bytes())?;
+    }
+    Ok(())
+}
+
+/// Adds the names of the entries of these folders of modules.
+fn put_folders<R: std::rt::Files + AllocGlobal + Clone + Drop>(
+    rt: &R,
+    alloc: Global,
+    folders: &[&str],
+    found: &mut Found,
+) -> Result<(), InputError>
+    ensures { IfErr result (IsUnread (λ n. Member n (map (λ f. f.now) folders.now))) }
+{
+    for folder in folders {
+        if let Err(error) = put_folder(rt, alloc, folder, found) {
+            return Err(error);
+        }
+    }
+    Ok(())
+}
+
+/// Adds the names of the entries of the folder of modules in this folder, if it has one.
+fn put_security<R: std::rt::Files + AllocGlobal + Clone + Drop>(
+    rt: &R,
+    alloc: Global,
+    folder: Path<'_>,
+    found: &mut Found,
+) -> Result<(), InputError> {
+    let security = folder.join(alloc, SECURITY)?;
+    match is_folder(rt, security.as_path()) {
+        Ok(true) => put_folder(rt, alloc, security.as_str(), found),
+        Ok(false) => Ok(()),
+        Err(error) => Err(unread(alloc, security.as_str(), &error)),
+    }
+}
+
+/// Whether the name of a folder is that of a machine and GNU/Linux, as `x86_64-linux-gnu`.
+fn is_triplet(name: &str) -> bool {
+    name.contains("-linux-gnu")
+}
+
+/// Adds the modules of a folder of libraries, and of those for one machine in it.
+fn put_library<R: std::rt::Files + AllocGlobal + Clone + Drop>(
+    rt: &R,
+    alloc: Global,
+    library: Path<'_>,
+    found: &mut Found,
+) -> Result<(), InputError> {
+    put_security(rt, alloc, library, found)?;
+    let names = match entry_names(rt, alloc, library.as_str()) {
+        Ok(names) => names,
+        Err(error) => return Err(unread(alloc, library.as_str(), &error)),
+    };
+    for name in names {
+        if is_triplet(name.as_str()) {
+            let folder = library.join(alloc, name.as_str())?;
+            put_security(rt, alloc, folder.as_path(), found)?;
+        }
+    }
+    Ok(())
+}
+
+/// Adds the modules of the system whose root is this folder.
+fn put_system<R: std::rt::Files + AllocGlobal + Clone + Drop>(
+    rt: &R,
+    alloc: Global,
+    root: &str,
+    found: &mut Found,
+) -> Result<(), InputError> {
+    for library in LIBRARIES {
+        let library = Path::new(root).join(alloc, library)?;
+        match is_folder(rt, library.as_path()) {
+            Ok(true) => put_library(rt, alloc, library.as_path(), found)?,
+            Ok(false) => {}
+            Err(error) => return Err(unread(alloc, library.as_str(), &error)),
+        }
+    }
+    Ok(())
+}
+
+/// Whether something is at an absolute path of the system whose root is this folder. What may not be looked at counts as there.
+fn is_at_root<R: std::rt::Files>(
+    rt: &R,
+    alloc: Global,
+    root: &str,
+    path: &str,
+) -> Result<bool, AllocError> {
+    let path = Path::new(root).join(alloc, path.trim_start_matches('/'))?;
+    Ok(is_there(rt, path.as_path()).unwrap_or(true))
+}
+
+fn is_blank(byte: &u8) -> bool {
+    *byte == b' ' || *byte == b'\t' || *byte == b'\n' || *byte == b'\r'
+}
+
+/// Adds each word of a file that is an absolute path at which something is there. Such a word may be a module.
+fn put_absolute<R: std::rt::Files>(
+    rt: &R,
+    alloc: Global,
+    root: &str,
+    bytes: &[u8],
+    found: &mut Found,
+) -> Result<(), AllocError> {
+    for word in bytes.split(is_blank) {
+        let Ok(path) = std::str::from_utf8(word) else {
+            continue;
+        };
+        if path.starts_with('/')
+            && !found.paths.contains(word)
+            && is_at_root(rt, alloc, root, path)?
+        {
+            found.put(alloc, word)?;
+        }
+    }
+    Ok(())
+}
+
+/// Adds the absolute paths in the files of a configuration at which something is there.
+fn put_all_absolute<R: std::rt::Files>(
+    rt: &R,
+    alloc: Global,
+    root: &str,
+    files: &Files,
+    found: &mut Found,
+) -> Result<(), AllocError> {
+    for position in 0..files.len() {
+        if let Some(bytes) = files.bytes(position) {
+            put_absolute(rt, alloc, root, bytes, found)?;
+        }
+    }
+    Ok(())
+}
+
+/// Returns the folder below which the modules of a source are: that of the system for `--root`, else that of the running one.
+fn root_of<'a>(source: ConfSource<'a>) -> &'a str {
+    match source {
+        ConfSource::Root(root) => root,
+        _ => "/",
+    }
+}
+
+/// Adds the modules of the system, if the source is one.
+fn put_source<R: std::rt::Files + AllocGlobal + Clone + Drop>(
+    rt: &R,
+    alloc: Global,
+    source: ConfSource<'_>,
+    found: &mut Found,
+) -> Result<(), InputError>
+    ensures { IfErr result (IsUnread (IsInSource source.entry)) }
+{
+    match source {
+        ConfSource::Root(root) => put_system(rt, alloc, root, found),
+        _ => Ok(()),
+    }
+}
+
+/// Returns the paths at which a module is there, as rules write them: the names of the entries of these folders of modules and of
+/// those of the system, if the source is one, and the absolute paths that the files have. Returns `None` if there is no such folder.
+pub(super) fn modules_there<R: std::rt::Files + AllocGlobal + Clone + Drop>(
+    rt: &R,
+    alloc: Global,
+    source: ConfSource<'_>,
+    folders: &[&str],
+    files: &Files,
+) -> Result<Option<Texts>, InputError>
+    ensures { IfErr result (IsUnread (λ n. IsInSource source.entry n ⊎ Member n (map (λ f. f.now) folders.now))) }
+{
+    let mut found = Found {
+        paths: IndexSet::new(alloc),
+        is_known: false,
+    };
+    put_source(rt, alloc, source, &mut found)?;
+    put_folders(rt, alloc, folders, &mut found)?;
+    if found.is_known {
+        put_all_absolute(rt, alloc, root_of(source), files, &mut found)?;
+    }
+    Ok(found.into_texts(alloc)?)
+}

@@ -1,0 +1,11 @@
+pub mod Explanation
+pub mod Explanations
+pub mod Hosts
+pub mod Laws
+pub mod Paths
+pub mod Released
+pub mod Rules
+pub mod Stacks
+pub mod Tables
+pub mod Views
+pub mod Words

@@ -1,0 +1,224 @@
+-- Faults of a stack: files that rules name, and limits.
+use Rattle.std.specs.Prelude.{List, [], ◌∷◌, ◌++◌, codes}
+use Rattle.pam_explain.specs.Explanation.{Explanation}
+use Rattle.pam_explain.specs.declared.explanation.Level.TheVariants.{Error, Warning}
+
+-- files that rules name
+unfoldable pub broken_includes : List Explanation
+broken_includes =
+    record {
+      number = codes "E9";
+      name = codes "MissingTarget";
+      level = Error;
+      meaning =
+          codes "No file is named after include, substack or @include. The rules that were\n"
+          ++ codes "meant are not in the stack.";
+      example =
+          codes "# login"
+          ∷ codes "auth include"
+          ∷ [];
+      linux_pam =
+          codes "1.5.2 and 1.7.0 make a rule of it that always fails.";
+      mending =
+          codes "write the name of the file, or remove the line.";
+    }
+    ∷ record {
+      number = codes "E10";
+      name = codes "BadTarget";
+      level = Warning;
+      meaning =
+          codes "A rule includes a file of another folder, or one without a name. pamcheck\n"
+          ++ codes "reads the folder that it was given, and no other. So it does not know the\n"
+          ++ codes "stack, and does not say whether it is sound. check reports this as a warning;\n"
+          ++ codes "the commands for one stack refuse the stack.";
+      example =
+          codes "# login"
+          ∷ codes "auth include /etc/security/common-auth"
+          ∷ [];
+      linux_pam =
+          codes "Debian's opens the file.";
+      mending =
+          codes "move the file beside the others, and write its name alone. The\n"
+          ++ codes "prefix /etc/pam.d/ may stay.";
+    }
+    ∷ record {
+      number = codes "E11";
+      name = codes "Cycle";
+      level = Error;
+      meaning =
+          codes "A file includes itself, or files include one another in a circle. It would be\n"
+          ++ codes "read without end.";
+      example =
+          codes "# login"
+          ∷ codes "auth required pam_unix.so"
+          ∷ codes "auth include login"
+          ∷ [];
+      linux_pam =
+          codes "pam.conf(5) does not say what happens then.";
+      mending =
+          codes "remove the line, or the one that leads back to this file.";
+    }
+    ∷ record {
+      number = codes "E12";
+      name = codes "TooDeep";
+      level = Error;
+      meaning =
+          codes "More than 16 files would be open at once, since each includes the next. The\n"
+          ++ codes "first is that of the service.";
+      example =
+          codes "$ for n in $(seq 1 16); do echo \"auth include f$((n+1))\" >f$n; done"
+          ∷ codes "$ echo 'auth required pam_unix.so' >f17"
+          ∷ [];
+      linux_pam =
+          codes "pam.conf(5) names no limit. This one is pamcheck's.";
+      mending =
+          codes "include fewer files in one another.";
+    }
+    ∷ []
+
+-- files that are not there, or not read
+unfoldable pub missing_and_long_files : List Explanation
+missing_and_long_files =
+    record {
+      number = codes "E13";
+      name = codes "TooManyModules";
+      level = Error;
+      meaning =
+          codes "A stack has more than 256 modules, those of included files among them.";
+      example =
+          codes "$ yes 'auth required pam_unix.so' | head -n 257 >login"
+          ∷ [];
+      linux_pam =
+          codes "pam.conf(5) names no limit. This one is pamcheck's.";
+      mending =
+          codes "remove rules, or files that are included more than once.";
+    }
+    ∷ record {
+      number = codes "E14";
+      name = codes "IncludeInSingleFile";
+      level = Error;
+      meaning =
+          codes "A rule of pam.conf includes another file. pamcheck reads pam.conf alone, so it\n"
+          ++ codes "does not know the stack.";
+      example =
+          codes "# pam.conf"
+          ∷ codes "login auth include common-auth"
+          ∷ codes "$ pamcheck show login auth --conf pam.conf"
+          ∷ [];
+      linux_pam =
+          codes "1.5.2 and 1.7.0 take such a rule as an include. pam.conf(5) does\n"
+          ++ codes "not say in which folder they look for the file.";
+      mending =
+          codes "write the rules themselves, or a folder with a file for each\n"
+          ++ codes "service.";
+    }
+    ∷ record {
+      number = codes "E15";
+      name = codes "NoService";
+      level = Error;
+      meaning =
+          codes "A rule includes a file that is not there; often its name is misspelled.\n"
+          ++ codes "Without a line number, neither the service nor other has rules of this kind,\n"
+          ++ codes "so there is no stack that could let anybody in.";
+      example =
+          codes "# login"
+          ∷ codes "auth include common-auht"
+          ∷ [];
+      linux_pam =
+          codes "it reads all four kinds of a service, and of other, whenever a\n"
+          ++ codes "program starts, so a fault in one of them stops all.";
+      mending =
+          codes "correct the name, or make the file.";
+    }
+    ∷ record {
+      number = codes "E16";
+      name = codes "FileTooLong";
+      level = Error;
+      meaning =
+          codes "A configuration file has more than 1,048,576 bytes. It is not read: a file of\n"
+          ++ codes "that size is hardly one of rules.";
+      example =
+          codes "$ yes '# comment' | head -c 1048577 >login"
+          ∷ [];
+      linux_pam =
+          codes "it reads on. This limit is pamcheck's.";
+      mending =
+          codes "shorten the file, or put a part of it into a file that it\n"
+          ++ codes "includes.";
+    }
+    ∷ []
+
+-- limits of a run
+unfoldable pub limits : List Explanation
+limits =
+    record {
+      number = codes "E17";
+      name = codes "Memory";
+      level = Error;
+      meaning =
+          codes "The system gave no memory. This says nothing of the configuration.";
+      example =
+          [];
+      linux_pam =
+          codes "this is a fault of pamcheck's run alone.";
+      mending =
+          codes "free memory, or raise the limit of the process, and run pamcheck\n"
+          ++ codes "again.";
+    }
+    ∷ record {
+      number = codes "E18";
+      name = codes "TooManyFollowed";
+      level = Error;
+      meaning =
+          codes "More than 256 includes and substacks are followed for one stack. Files that\n"
+          ++ codes "include others twice double their number with each level.";
+      example =
+          codes "$ yes 'auth include common' | head -n 257 >login"
+          ∷ codes "$ echo '# no rules yet' >common"
+          ∷ [];
+      linux_pam =
+          codes "pam.conf(5) names no limit. This one is pamcheck's.";
+      mending =
+          codes "include fewer files.";
+    }
+    ∷ record {
+      number = codes "E19";
+      name = codes "TooManyStates";
+      level = Error;
+      meaning =
+          codes "A run of the stack can be at more than 65,536 places: a module, the state\n"
+          ++ codes "there, and the states in which the open substacks began. outcomes, graph, and\n"
+          ++ codes "paths with --decision or --asks look at each of them. paths without these has\n"
+          ++ codes "no such limit.";
+      example =
+          codes "$ for n in $(seq 1 15); do"
+          ∷ codes "> printf 'auth required pam_unix.so\\nauth substack f%d\\n' $((n+1)) >f$n"
+          ∷ codes "> done"
+          ∷ codes "$ echo 'auth required pam_unix.so' >f16"
+          ∷ codes "$ pamcheck outcomes f1 auth --dir ."
+          ∷ [];
+      linux_pam =
+          codes "this limit is pamcheck's. The stack itself may be sound.";
+      mending =
+          codes "give a returns file with what the modules can answer (--returns),\n"
+          ++ codes "or use fewer substacks in one another.";
+    }
+    ∷ record {
+      number = codes "DE1";
+      name = codes "WrongCount";
+      level = Error;
+      meaning =
+          codes "decide was given too few or too many codes. It takes one for each module of\n"
+          ++ codes "the stack, even for one that is not asked.";
+      example =
+          codes "# login"
+          ∷ codes "auth required pam_unix.so"
+          ∷ codes "$ pamcheck decide login auth success success --dir ."
+          ∷ [];
+      linux_pam =
+          codes "this is a fault of the words that pamcheck was given.";
+      mending =
+          codes "give a code for each module, in the order of their numbers. show\n"
+          ++ codes "prints these numbers.";
+    }
+    ∷ []

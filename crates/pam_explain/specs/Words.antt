@@ -1,0 +1,255 @@
+-- Faults of the words of the command line, and of reads and writes.
+use Rattle.std.specs.Prelude.{List, [], ◌∷◌, ◌++◌, codes}
+use Rattle.pam_explain.specs.Explanation.{Explanation}
+use Rattle.pam_explain.specs.declared.explanation.Level.TheVariants.{Error}
+
+-- words that name what is asked about
+unfoldable pub sources_and_names : List Explanation
+sources_and_names =
+    record {
+      number = codes "U1";
+      name = codes "NotUtf8";
+      level = Error;
+      meaning =
+          codes "A word of the command line is not UTF-8. Other words that are wrong get the\n"
+          ++ codes "text of the parser, which names them.";
+      example =
+          codes "$ pamcheck show \"$(printf '\\377')\" auth --dir ."
+          ∷ [];
+      linux_pam =
+          codes "this is a fault of the words that pamcheck was given.";
+      mending =
+          codes "write the word in UTF-8, or rename the file that it names.";
+    }
+    ∷ record {
+      number = codes "U2";
+      name = codes "Source";
+      level = Error;
+      meaning =
+          codes "It is not said what is to be read, or it is said twice.";
+      example =
+          codes "$ pamcheck show login auth"
+          ∷ [];
+      linux_pam =
+          codes "by pam.conf(5) it ignores /etc/pam.conf where there is a folder\n"
+          ++ codes "/etc/pam.d.";
+      mending =
+          codes "give one of --dir, --conf and --root. --vendor-dir may stand\n"
+          ++ codes "beside --dir. Only check may go without.";
+    }
+    ∷ record {
+      number = codes "U3";
+      name = codes "KindName";
+      level = Error;
+      meaning =
+          codes "The word after the service is not a kind.";
+      example =
+          codes "$ pamcheck show login atuh --dir ."
+          ∷ [];
+      linux_pam =
+          codes "this is a fault of the words that pamcheck was given.";
+      mending =
+          codes "write auth, account, password or session.";
+    }
+    ∷ record {
+      number = codes "U4";
+      name = codes "CodeName";
+      level = Error;
+      meaning =
+          codes "A word is not the name of a return code.";
+      example =
+          codes "$ pamcheck decide login auth succes --dir ."
+          ∷ [];
+      linux_pam =
+          codes "this is a fault of the words that pamcheck was given.";
+      mending =
+          codes "write success, auth_err or another code of pam(3), without the\n"
+          ++ codes "prefix PAM_.";
+    }
+    ∷ []
+
+-- words of a question
+unfoldable pub questions : List Explanation
+questions =
+    record {
+      number = codes "U5";
+      name = codes "Login";
+      level = Error;
+      meaning =
+          codes "An access table or a time table is given, and no user. What these tables say\n"
+          ++ codes "depends on who logs in.";
+      example =
+          codes "$ pamcheck paths login auth --dir . --access access.conf"
+          ∷ [];
+      linux_pam =
+          codes "this is a fault of the words that pamcheck was given.";
+      mending =
+          codes "add --user, and where the table asks for them --rhost and --tty.";
+    }
+    ∷ record {
+      number = codes "U6";
+      name = codes "Moment";
+      level = Error;
+      meaning =
+          codes "A time table is given and no moment, or a moment is given twice or in parts\n"
+          ++ codes "that do not fit.";
+      example =
+          codes "$ pamcheck time login --time time.conf --user alice"
+          ∷ [];
+      linux_pam =
+          codes "this is a fault of the words that pamcheck was given.";
+      mending =
+          codes "give --at 2024-05-11T07:59, or --at-unix with the seconds and, if\n"
+          ++ codes "it is not UTC, --zone.";
+    }
+    ∷ record {
+      number = codes "U7";
+      name = codes "Memory";
+      level = Error;
+      meaning =
+          codes "The system gave no memory while the words of the command line were read.";
+      example =
+          [];
+      linux_pam =
+          codes "this is a fault of pamcheck's run alone.";
+      mending =
+          codes "free memory, or raise the limit of the process, and run pamcheck\n"
+          ++ codes "again.";
+    }
+    ∷ record {
+      number = codes "U8";
+      name = codes "BothEnds";
+      level = Error;
+      meaning =
+          codes "Both --after and --before are given. A page has the paths after one cursor, or\n"
+          ++ codes "those before one.";
+      example =
+          codes "$ pamcheck paths login auth --dir . --after 0 --before 1"
+          ∷ [];
+      linux_pam =
+          codes "this is a fault of the words that pamcheck was given.";
+      mending =
+          codes "give one of the two.";
+    }
+    ∷ []
+
+-- filters and forms
+unfoldable pub filters_and_forms : List Explanation
+filters_and_forms =
+    record {
+      number = codes "U9";
+      name = codes "NoSuchModule";
+      level = Error;
+      meaning =
+          codes "The number of --asks is greater than the number of modules in the stack.";
+      example =
+          codes "# login"
+          ∷ codes "auth required pam_unix.so"
+          ∷ codes "$ pamcheck paths login auth --dir . --asks 2"
+          ∷ [];
+      linux_pam =
+          codes "this is a fault of the words that pamcheck was given.";
+      mending =
+          codes "take the number from the lines that show prints.";
+    }
+    ∷ record {
+      number = codes "U11";
+      name = codes "BothFilters";
+      level = Error;
+      meaning =
+          codes "Both --decision and --asks are given.";
+      example =
+          codes "$ pamcheck paths login auth --dir . --decision success --asks 1"
+          ∷ [];
+      linux_pam =
+          codes "this is a fault of the words that pamcheck was given.";
+      mending =
+          codes "give one of the two.";
+    }
+    ∷ record {
+      number = codes "U12";
+      name = codes "FormatName";
+      level = Error;
+      meaning =
+          codes "The word after --format is not a format that graph can draw.";
+      example =
+          codes "$ pamcheck graph login auth --dir . --format png"
+          ∷ [];
+      linux_pam =
+          codes "this is a fault of the words that pamcheck was given.";
+      mending =
+          codes "write dot or mermaid, in small letters. Graphviz makes a picture\n"
+          ++ codes "of the first: dot -Tpng.";
+    }
+    ∷ record {
+      number = codes "U13";
+      name = codes "LevelName";
+      level = Error;
+      meaning =
+          codes "The word after --fail-on is not a level.";
+      example =
+          codes "$ pamcheck check --dir . --fail-on fatal"
+          ∷ [];
+      linux_pam =
+          codes "this is a fault of the words that pamcheck was given.";
+      mending =
+          codes "write error, warning or note, in small letters.";
+    }
+    ∷ []
+
+-- reads and writes
+unfoldable pub reads_and_writes : List Explanation
+reads_and_writes =
+    record {
+      number = codes "V1";
+      name = codes "Read";
+      level = Error;
+      meaning =
+          codes "A file or folder cannot be read: it is not there, or may not be read. check\n"
+          ++ codes "then says nothing at all, since a report on a part of a host could be silent\n"
+          ++ codes "where the host is not sound.";
+      example =
+          codes "$ pamcheck check --dir no-such-folder"
+          ∷ [];
+      linux_pam =
+          codes "this is a fault of pamcheck's run alone.";
+      mending =
+          codes "correct the name, or run pamcheck as a user who may read it.";
+    }
+    ∷ record {
+      number = codes "V2";
+      name = codes "Write";
+      level = Error;
+      meaning =
+          codes "A write to standard output failed, as on a full disk. What was written by then\n"
+          ++ codes "is the beginning of the answer.";
+      example =
+          codes "# login"
+          ∷ codes "auth required pam_unix.so"
+          ∷ codes "$ pamcheck show login auth --dir . >/dev/full"
+          ∷ [];
+      linux_pam =
+          codes "this is a fault of pamcheck's run alone.";
+      mending =
+          codes "make room, and run pamcheck again.";
+    }
+    ∷ []
+
+-- numbers to explain
+unfoldable pub numbers : List Explanation
+numbers =
+    record {
+      number = codes "U14";
+      name = codes "NoSuchNumber";
+      level = Error;
+      meaning =
+          codes "No fault or finding has the number that explain was given.";
+      example =
+          codes "$ pamcheck explain E20"
+          ∷ [];
+      linux_pam =
+          codes "this is a fault of the words that pamcheck was given.";
+      mending =
+          codes "write a number as E15. The command explain alone lists all.";
+    }
+    ∷ []

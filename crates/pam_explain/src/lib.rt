@@ -1,0 +1,16 @@
+//! What each fault and each finding means: a table with a row for each number.
+#![tactic(auto)]
+
+mod explanation;
+mod hosts;
+pub mod laws;
+mod paths;
+mod released;
+mod rules;
+mod stacks;
+mod table;
+mod tables;
+mod words;
+
+pub use explanation::{Explanation, Level};
+pub use table::{ExplanationsIter, explain, explanations};

@@ -1,0 +1,150 @@
+//! Faults of cursors and moments.
+
+ghost use Rattle.std.specs.Prelude.{◌≡◌, map};
+ghost use Rattle.pam_explain.specs.Paths as spec;
+ghost use Rattle.pam_explain.specs.Views.{explanation_view};
+
+use crate::explanation::{Explanation, Level};
+
+static CURSORS: [Explanation; 4] = [
+    Explanation {
+        number: "C1",
+        name: "Syntax",
+        level: Level::Error,
+        meaning: concat!(
+            "The word after --after or --before is not a cursor: numbers from 0 to 30\n",
+            "joined by dots, without leading zeros, or - for none."
+        ),
+        example: &[
+            "# login",
+            "auth required pam_unix.so",
+            "$ pamcheck paths login auth --dir . --after 1,2",
+        ],
+        linux_pam: "a cursor is pamcheck's own.",
+        mending: "copy the cursor from the last line of a page.",
+    },
+    Explanation {
+        number: "C2",
+        name: "NotLeast",
+        level: Level::Error,
+        meaning: concat!(
+            "A number of the cursor is not the least of its class: all answers that lead on\n",
+            "alike are one path, which has the number of the least of them. The cursor was\n",
+            "written by hand, or the stack is not the one that it came from."
+        ),
+        example: &[
+            "# login",
+            "auth optional pam_unix.so",
+            "$ pamcheck paths login auth --dir . --after 3",
+        ],
+        linux_pam: "a cursor is pamcheck's own.",
+        mending: concat!(
+            "list the paths of the stack as it is now, and take a cursor from\n",
+            "there."
+        ),
+    },
+    Explanation {
+        number: "C3",
+        name: "TooShort",
+        level: Level::Error,
+        meaning: concat!(
+            "The cursor ends while a module is still asked. It was cut, or the stack has\n",
+            "more modules than the one that it came from."
+        ),
+        example: &[
+            "# login",
+            "auth required pam_unix.so",
+            "auth required pam_unix.so",
+            "$ pamcheck paths login auth --dir . --after 0",
+        ],
+        linux_pam: "a cursor is pamcheck's own.",
+        mending: concat!(
+            "list the paths of the stack as it is now, and take a cursor from\n",
+            "there."
+        ),
+    },
+    Explanation {
+        number: "C4",
+        name: "TooLong",
+        level: Level::Error,
+        meaning: concat!(
+            "The run ends before the cursor does. The stack has fewer modules than the one\n",
+            "that the cursor came from."
+        ),
+        example: &[
+            "# login",
+            "auth required pam_unix.so",
+            "$ pamcheck paths login auth --dir . --after 0.0",
+        ],
+        linux_pam: "a cursor is pamcheck's own.",
+        mending: concat!(
+            "list the paths of the stack as it is now, and take a cursor from\n",
+            "there."
+        ),
+    },
+];
+
+#[tactic(auto, unfolding(crate::specs::Paths::cursors))]
+pub(crate) fn cursors() -> &'static [Explanation]
+    ensures { map explanation_view result.now ≡ spec.cursors }
+{
+    &CURSORS
+}
+
+static MOMENTS: [Explanation; 3] = [
+    Explanation {
+        number: "M1",
+        name: "Range",
+        level: Level::Error,
+        meaning: concat!(
+            "The seconds of --at-unix are past 9999-12-30T22:00:00Z, the last instant of\n",
+            "which every clock can show a date."
+        ),
+        example: &[
+            "$ echo 'login;*;*;Al0800-1800' >time.conf",
+            "$ pamcheck time login --time time.conf --user alice --at-unix 253402207201",
+        ],
+        linux_pam: "this is a fault of the words that pamcheck was given.",
+        mending: concat!(
+            "count the seconds since 1970-01-01 00:00 UTC. A time in\n",
+            "milliseconds has three digits too many."
+        ),
+    },
+    Explanation {
+        number: "M2",
+        name: "Rule",
+        level: Level::Error,
+        meaning: concat!(
+            "The text of --zone is not a POSIX rule for a time zone: a name alone, such as\n",
+            "CET, does not say how far it is from UTC."
+        ),
+        example: &[
+            "$ echo 'login;*;*;Al0800-1800' >time.conf",
+            "$ pamcheck time login --time time.conf --user alice --at-unix 0 --zone CET",
+        ],
+        linux_pam: "this is a fault of the words that pamcheck was given.",
+        mending: concat!(
+            "write a rule such as CET-1CEST,M3.5.0,M10.5.0/3. The last line of\n",
+            "a file in /usr/share/zoneinfo is one."
+        ),
+    },
+    Explanation {
+        number: "M4",
+        name: "Syntax",
+        level: Level::Error,
+        meaning: "The text of --at is not a date and a time that exist, as in 2024-05-11T07:59.",
+        example: &[
+            "$ echo 'login;*;*;Al0800-1800' >time.conf",
+            "$ pamcheck time login --time time.conf --user alice --at 2024-02-30T07:59",
+        ],
+        linux_pam: "this is a fault of the words that pamcheck was given.",
+        mending: "write YYYY-MM-DDTHH:MM, or the same with :SS.",
+    },
+];
+
+#[tactic(auto, unfolding(crate::specs::Paths::moments))]
+pub(crate) fn moments() -> &'static [Explanation]
+    ensures { map explanation_view result.now ≡ spec.moments }
+{
+    &MOMENTS
+}

@@ -1,0 +1,189 @@
+//! What released Linux-PAM reads otherwise than the manual pages say.
+
+ghost use Rattle.std.specs.Prelude.{◌≡◌, map};
+ghost use Rattle.pam_explain.specs.Released as spec;
+ghost use Rattle.pam_explain.specs.Views.{explanation_view};
+
+use crate::explanation::{Explanation, Level};
+
+static CONTINUED_LINES: [Explanation; 4] = [
+    Explanation {
+        number: "L1",
+        name: "CarriageReturn",
+        level: Level::Warning,
+        meaning: concat!(
+            "A line has a carriage return, as files from other systems have at the end of\n",
+            "each. It is a blank here."
+        ),
+        example: &["$ printf 'auth required pam_unix.so\\r\\n' >login"],
+        linux_pam: concat!(
+            "1.5.2 and 1.7.0 take it as a part of the word before it. A module's\n",
+            "path that ends in it is the path of a module that is not there, which locks\n",
+            "out. A line of it alone is a rule that fails."
+        ),
+        mending: "end each line with a line feed alone: sed -i 's/\\r$//' FILE.",
+    },
+    Explanation {
+        number: "L2",
+        name: "ContinuedOverBlank",
+        level: Level::Warning,
+        meaning: concat!(
+            "A line ends in a backslash, and the next is blank or a comment. The rule ends\n",
+            "there, and the line after that is a rule of its own."
+        ),
+        example: &[
+            "# login",
+            "auth required pam_env.so \\",
+            "# the password",
+            "auth required pam_unix.so",
+        ],
+        linux_pam: concat!(
+            "1.5.2 goes on over blank lines and comments, so the next rule\n",
+            "becomes arguments of this one. A module that was to check somebody is then not\n",
+            "asked, which lets in."
+        ),
+        mending: "remove the backslash, or the blank lines and comments after it.",
+    },
+    Explanation {
+        number: "L3",
+        name: "BackslashBlank",
+        level: Level::Warning,
+        meaning: concat!(
+            "A line ends in a backslash with blanks after it. It does not go on with the\n",
+            "next line: the backslash is an argument."
+        ),
+        example: &[
+            "$ printf 'auth required pam_env.so \\\\ \\n' >login",
+            "$ echo 'auth required pam_unix.so' >>login",
+        ],
+        linux_pam: concat!(
+            "1.5.2 and 1.7.0 go on with the next line, so the next rule becomes\n",
+            "arguments of this one. A module that was to check somebody is then not asked,\n",
+            "which lets in."
+        ),
+        mending: "remove the blanks after the backslash, or the backslash.",
+    },
+    Explanation {
+        number: "L4",
+        name: "BackslashComment",
+        level: Level::Warning,
+        meaning: concat!(
+            "A backslash is directly before a comment. Without the comment it is the last\n",
+            "byte of the line, which goes on with the next one."
+        ),
+        example: &[
+            "# login",
+            "auth required pam_unix.so \\# and its arguments",
+            "    nullok",
+        ],
+        linux_pam: concat!(
+            "1.5.2 and 1.7.0 do not go on with the next line. What stands there\n",
+            "is a line of its own."
+        ),
+        mending: "remove the comment, or the backslash.",
+    },
+];
+
+#[tactic(auto, unfolding(crate::specs::Released::continued_lines))]
+pub(crate) fn continued_lines() -> &'static [Explanation]
+    ensures { map explanation_view result.now ≡ spec.continued_lines }
+{
+    &CONTINUED_LINES
+}
+
+static CONTROLS_AND_LENGTHS: [Explanation; 3] = [
+    Explanation {
+        number: "L5",
+        name: "EndsInContinuation",
+        level: Level::Warning,
+        meaning: concat!(
+            "The last line of a file ends in a backslash, so it goes on where nothing\n",
+            "follows."
+        ),
+        example: &["# login", "auth required pam_unix.so \\"],
+        linux_pam: concat!(
+            "1.5.2 and 1.7.0 refuse the whole file, and with it each service\n",
+            "that needs it, which locks out. 1.5.2 does so too where only blank lines and\n",
+            "comments follow."
+        ),
+        mending: "remove the backslash.",
+    },
+    Explanation {
+        number: "L6",
+        name: "CapitalInBrackets",
+        level: Level::Warning,
+        meaning: concat!(
+            "A control in brackets has a capital letter. Case does not matter here, as in\n",
+            "the keywords."
+        ),
+        example: &["# login", "auth [Success=ok Default=bad] pam_unix.so"],
+        linux_pam: concat!(
+            "1.5.2 and 1.7.0 compare what is in brackets with case. Where they\n",
+            "do not know a name, each answer of the module counts as a failure (bad),\n",
+            "success too, which locks out."
+        ),
+        mending: "write what is in brackets in small letters.",
+    },
+    Explanation {
+        number: "L7",
+        name: "LongLine",
+        level: Level::Note,
+        meaning: "The lines of a rule have together more than 1,023 bytes.",
+        example: &["$ printf 'auth required pam_unix.so %1000s\\n' nullok >login"],
+        linux_pam: concat!(
+            "1.5.2 cuts the line there, and takes the rest as a rule that fails.\n",
+            "Where exactly 1,023 bytes go on with the next line, it reads for ever. 1.7.0\n",
+            "has no such limit."
+        ),
+        mending: "shorten the rule.",
+    },
+];
+
+#[tactic(auto, unfolding(crate::specs::Released::controls_and_lengths))]
+pub(crate) fn controls_and_lengths() -> &'static [Explanation]
+    ensures { map explanation_view result.now ≡ spec.controls_and_lengths }
+{
+    &CONTROLS_AND_LENGTHS
+}
+
+static NAMES_AND_BLANKS: [Explanation; 2] = [
+    Explanation {
+        number: "L8",
+        name: "EmptyModuleName",
+        level: Level::Warning,
+        meaning: concat!(
+            "The path of a module has no name: nothing, or only a question mark, is after\n",
+            "its last / and before its last dot."
+        ),
+        example: &["# login", "auth required /lib/security/.so"],
+        linux_pam: "1.5.2 and 1.7.0 refuse the whole configuration, which locks out.",
+        mending: "name the file of the module.",
+    },
+    Explanation {
+        number: "L9",
+        name: "DroppedBlank",
+        level: Level::Note,
+        meaning: concat!(
+            "A word in brackets goes on to the next line, and that line begins with blanks.\n",
+            "They belong to the word."
+        ),
+        example: &[
+            "# login",
+            "auth required pam_unix.so",
+            "auth optional pam_exec.so [say \"a\\",
+            "     b\"]",
+        ],
+        linux_pam: concat!(
+            "1.7.0 drops the blanks that a line begins with, so the word has\n",
+            "another text there. No control changes by it."
+        ),
+        mending: "write the word in brackets on one line.",
+    },
+];
+
+#[tactic(auto, unfolding(crate::specs::Released::names_and_blanks))]
+pub(crate) fn names_and_blanks() -> &'static [Explanation]
+    ensures { map explanation_view result.now ≡ spec.names_and_blanks }
+{
+    &NAMES_AND_BLANKS
+}

@@ -1,0 +1,158 @@
+//! Faults of a rule by itself.
+
+ghost use Rattle.std.specs.Prelude.{◌≡◌, map};
+ghost use Rattle.pam_explain.specs.Rules as spec;
+ghost use Rattle.pam_explain.specs.Views.{explanation_view};
+
+use crate::explanation::{Explanation, Level};
+
+static BROKEN_RULES: [Explanation; 4] = [
+    Explanation {
+        number: "E1",
+        name: "NulByte",
+        level: Level::Error,
+        meaning: concat!(
+            "A configuration file has a NUL byte, so it is no text: it was damaged, or is\n",
+            "no configuration. None of its rules is looked at."
+        ),
+        example: &["$ printf 'auth required pam_unix.so\\0\\n' >login"],
+        linux_pam: "it does not refuse such a file, and reads on.",
+        mending: concat!(
+            "restore the file from a copy. If only the byte is wrong, tr -d\n",
+            "'\\000' removes it."
+        ),
+    },
+    Explanation {
+        number: "E2",
+        name: "MissingField",
+        level: Level::Error,
+        meaning: concat!(
+            "A rule ends before its kind, its control or the path of its module. It needs\n",
+            "all three, and in pam.conf the service before them."
+        ),
+        example: &["# login", "auth required"],
+        linux_pam: "1.5.2 and 1.7.0 make a rule of it that always fails.",
+        mending: "write the words that are missing, or remove the line.",
+    },
+    Explanation {
+        number: "E3",
+        name: "BadKind",
+        level: Level::Error,
+        meaning: concat!(
+            "The kind of a rule is not auth, account, password or session. So the rule is\n",
+            "in no stack, and what it was to check is not checked."
+        ),
+        example: &["# login", "auht required pam_unix.so"],
+        linux_pam: "1.5.2 and 1.7.0 make a rule of it that always fails.",
+        mending: concat!(
+            "correct the word. A - before it is allowed: it only keeps a\n",
+            "missing module out of the system log."
+        ),
+    },
+    Explanation {
+        number: "E4",
+        name: "BadControl",
+        level: Level::Error,
+        meaning: concat!(
+            "The control of a rule says what an answer of its module does to the stack.\n",
+            "This one is not a keyword, and not pairs CODE=ACTION in one pair of brackets."
+        ),
+        example: &["# login", "auth requird pam_unix.so"],
+        linux_pam: concat!(
+            "where 1.5.2 and 1.7.0 cannot read a control, each answer of the\n",
+            "module counts as a failure (bad), success too."
+        ),
+        mending: concat!(
+            "write required, requisite, sufficient, optional, include or\n",
+            "substack, or pairs such as [success=1 default=ignore]."
+        ),
+    },
+];
+
+#[tactic(auto, unfolding(crate::specs::Rules::broken_rules))]
+pub(crate) fn broken_rules() -> &'static [Explanation]
+    ensures { map explanation_view result.now ≡ spec.broken_rules }
+{
+    &BROKEN_RULES
+}
+
+static BROKEN_CONTROLS: [Explanation; 4] = [
+    Explanation {
+        number: "E5",
+        name: "BadValue",
+        level: Level::Error,
+        meaning: concat!(
+            "In a control in brackets, the word before = is not the name of a return code.\n",
+            "The answers that were meant there get another action."
+        ),
+        example: &[
+            "# login",
+            "auth [succes=1 default=ignore] pam_unix.so",
+            "auth requisite pam_deny.so",
+            "auth required pam_permit.so",
+        ],
+        linux_pam: concat!(
+            "where 1.5.2 and 1.7.0 cannot read a control, each answer of the\n",
+            "module counts as a failure (bad), success too."
+        ),
+        mending: concat!(
+            "correct the name; pam.conf(5) lists them all. default stands for\n",
+            "each code that is not named."
+        ),
+    },
+    Explanation {
+        number: "E6",
+        name: "BadAction",
+        level: Level::Error,
+        meaning: "In a control in brackets, the word after = is not an action.",
+        example: &["# login", "auth [success=don default=die] pam_unix.so"],
+        linux_pam: concat!(
+            "where 1.5.2 and 1.7.0 cannot read a control, each answer of the\n",
+            "module counts as a failure (bad), success too."
+        ),
+        mending: concat!(
+            "write ignore, bad, die, ok, done, reset, or the number of items to\n",
+            "jump over, which has at most 9 digits."
+        ),
+    },
+    Explanation {
+        number: "E7",
+        name: "ZeroJump",
+        level: Level::Error,
+        meaning: concat!(
+            "A control jumps over 0 items. Often a line below it was removed, and the\n",
+            "number lowered once too often."
+        ),
+        example: &["# login", "auth [success=0 default=bad] pam_unix.so"],
+        linux_pam: concat!(
+            "pam.conf(5) does not allow it, and where 1.5.2 and 1.7.0 cannot\n",
+            "read a control, each answer of the module counts as a failure (bad), success\n",
+            "too."
+        ),
+        mending: "write ok or ignore, or the number of items to jump over.",
+    },
+    Explanation {
+        number: "E8",
+        name: "OpenBracket",
+        level: Level::Error,
+        meaning: concat!(
+            "A word of a rule begins with [, and no ] closes it on the same line. A ] with\n",
+            "a backslash before it does not close it."
+        ),
+        example: &[
+            "# login",
+            "auth [success=1 default=ignore pam_unix.so",
+            "auth requisite pam_deny.so",
+            "auth required pam_permit.so",
+        ],
+        linux_pam: "1.5.2 and 1.7.0 take all up to the end of the line as one word.",
+        mending: "write ] after the last word that belongs in the brackets.",
+    },
+];
+
+#[tactic(auto, unfolding(crate::specs::Rules::broken_controls))]
+pub(crate) fn broken_controls() -> &'static [Explanation]
+    ensures { map explanation_view result.now ≡ spec.broken_controls }
+{
+    &BROKEN_CONTROLS
+}

@@ -1,0 +1,235 @@
+//! Faults of the words of the command line, and of reads and writes.
+
+ghost use Rattle.std.specs.Prelude.{◌≡◌, map};
+ghost use Rattle.pam_explain.specs.Words as spec;
+ghost use Rattle.pam_explain.specs.Views.{explanation_view};
+
+use crate::explanation::{Explanation, Level};
+
+static SOURCES_AND_NAMES: [Explanation; 4] = [
+    Explanation {
+        number: "U1",
+        name: "NotUtf8",
+        level: Level::Error,
+        meaning: concat!(
+            "A word of the command line is not UTF-8. Other words that are wrong get the\n",
+            "text of the parser, which names them."
+        ),
+        example: &["$ pamcheck show \"$(printf '\\377')\" auth --dir ."],
+        linux_pam: "this is a fault of the words that pamcheck was given.",
+        mending: "write the word in UTF-8, or rename the file that it names.",
+    },
+    Explanation {
+        number: "U2",
+        name: "Source",
+        level: Level::Error,
+        meaning: "It is not said what is to be read, or it is said twice.",
+        example: &["$ pamcheck show login auth"],
+        linux_pam: concat!(
+            "by pam.conf(5) it ignores /etc/pam.conf where there is a folder\n",
+            "/etc/pam.d."
+        ),
+        mending: concat!(
+            "give one of --dir, --conf and --root. --vendor-dir may stand\n",
+            "beside --dir. Only check may go without."
+        ),
+    },
+    Explanation {
+        number: "U3",
+        name: "KindName",
+        level: Level::Error,
+        meaning: "The word after the service is not a kind.",
+        example: &["$ pamcheck show login atuh --dir ."],
+        linux_pam: "this is a fault of the words that pamcheck was given.",
+        mending: "write auth, account, password or session.",
+    },
+    Explanation {
+        number: "U4",
+        name: "CodeName",
+        level: Level::Error,
+        meaning: "A word is not the name of a return code.",
+        example: &["$ pamcheck decide login auth succes --dir ."],
+        linux_pam: "this is a fault of the words that pamcheck was given.",
+        mending: concat!(
+            "write success, auth_err or another code of pam(3), without the\n",
+            "prefix PAM_."
+        ),
+    },
+];
+
+#[tactic(auto, unfolding(crate::specs::Words::sources_and_names))]
+pub(crate) fn sources_and_names() -> &'static [Explanation]
+    ensures { map explanation_view result.now ≡ spec.sources_and_names }
+{
+    &SOURCES_AND_NAMES
+}
+
+static QUESTIONS: [Explanation; 4] = [
+    Explanation {
+        number: "U5",
+        name: "Login",
+        level: Level::Error,
+        meaning: concat!(
+            "An access table or a time table is given, and no user. What these tables say\n",
+            "depends on who logs in."
+        ),
+        example: &["$ pamcheck paths login auth --dir . --access access.conf"],
+        linux_pam: "this is a fault of the words that pamcheck was given.",
+        mending: "add --user, and where the table asks for them --rhost and --tty.",
+    },
+    Explanation {
+        number: "U6",
+        name: "Moment",
+        level: Level::Error,
+        meaning: concat!(
+            "A time table is given and no moment, or a moment is given twice or in parts\n",
+            "that do not fit."
+        ),
+        example: &["$ pamcheck time login --time time.conf --user alice"],
+        linux_pam: "this is a fault of the words that pamcheck was given.",
+        mending: concat!(
+            "give --at 2024-05-11T07:59, or --at-unix with the seconds and, if\n",
+            "it is not UTC, --zone."
+        ),
+    },
+    Explanation {
+        number: "U7",
+        name: "Memory",
+        level: Level::Error,
+        meaning: "The system gave no memory while the words of the command line were read.",
+        example: &[],
+        linux_pam: "this is a fault of pamcheck's run alone.",
+        mending: concat!(
+            "free memory, or raise the limit of the process, and run pamcheck\n",
+            "again."
+        ),
+    },
+    Explanation {
+        number: "U8",
+        name: "BothEnds",
+        level: Level::Error,
+        meaning: concat!(
+            "Both --after and --before are given. A page has the paths after one cursor, or\n",
+            "those before one."
+        ),
+        example: &["$ pamcheck paths login auth --dir . --after 0 --before 1"],
+        linux_pam: "this is a fault of the words that pamcheck was given.",
+        mending: "give one of the two.",
+    },
+];
+
+#[tactic(auto, unfolding(crate::specs::Words::questions))]
+pub(crate) fn questions() -> &'static [Explanation]
+    ensures { map explanation_view result.now ≡ spec.questions }
+{
+    &QUESTIONS
+}
+
+static FILTERS_AND_FORMS: [Explanation; 4] = [
+    Explanation {
+        number: "U9",
+        name: "NoSuchModule",
+        level: Level::Error,
+        meaning: "The number of --asks is greater than the number of modules in the stack.",
+        example: &[
+            "# login",
+            "auth required pam_unix.so",
+            "$ pamcheck paths login auth --dir . --asks 2",
+        ],
+        linux_pam: "this is a fault of the words that pamcheck was given.",
+        mending: "take the number from the lines that show prints.",
+    },
+    Explanation {
+        number: "U11",
+        name: "BothFilters",
+        level: Level::Error,
+        meaning: "Both --decision and --asks are given.",
+        example: &["$ pamcheck paths login auth --dir . --decision success --asks 1"],
+        linux_pam: "this is a fault of the words that pamcheck was given.",
+        mending: "give one of the two.",
+    },
+    Explanation {
+        number: "U12",
+        name: "FormatName",
+        level: Level::Error,
+        meaning: "The word after --format is not a format that graph can draw.",
+        example: &["$ pamcheck graph login auth --dir . --format png"],
+        linux_pam: "this is a fault of the words that pamcheck was given.",
+        mending: concat!(
+            "write dot or mermaid, in small letters. Graphviz makes a picture\n",
+            "of the first: dot -Tpng."
+        ),
+    },
+    Explanation {
+        number: "U13",
+        name: "LevelName",
+        level: Level::Error,
+        meaning: "The word after --fail-on is not a level.",
+        example: &["$ pamcheck check --dir . --fail-on fatal"],
+        linux_pam: "this is a fault of the words that pamcheck was given.",
+        mending: "write error, warning or note, in small letters.",
+    },
+];
+
+#[tactic(auto, unfolding(crate::specs::Words::filters_and_forms))]
+pub(crate) fn filters_and_forms() -> &'static [Explanation]
+    ensures { map explanation_view result.now ≡ spec.filters_and_forms }
+{
+    &FILTERS_AND_FORMS
+}
+
+static READS_AND_WRITES: [Explanation; 2] = [
+    Explanation {
+        number: "V1",
+        name: "Read",
+        level: Level::Error,
+        meaning: concat!(
+            "A file or folder cannot be read: it is not there, or may not be read. check\n",
+            "then says nothing at all, since a report on a part of a host could be silent\n",
+            "where the host is not sound."
+        ),
+        example: &["$ pamcheck check --dir no-such-folder"],
+        linux_pam: "this is a fault of pamcheck's run alone.",
+        mending: "correct the name, or run pamcheck as a user who may read it.",
+    },
+    Explanation {
+        number: "V2",
+        name: "Write",
+        level: Level::Error,
+        meaning: concat!(
+            "A write to standard output failed, as on a full disk. What was written by then\n",
+            "is the beginning of the answer."
+        ),
+        example: &[
+            "# login",
+            "auth required pam_unix.so",
+            "$ pamcheck show login auth --dir . >/dev/full",
+        ],
+        linux_pam: "this is a fault of pamcheck's run alone.",
+        mending: "make room, and run pamcheck again.",
+    },
+];
+
+#[tactic(auto, unfolding(crate::specs::Words::reads_and_writes))]
+pub(crate) fn reads_and_writes() -> &'static [Explanation]
+    ensures { map explanation_view result.now ≡ spec.reads_and_writes }
+{
+    &READS_AND_WRITES
+}
+
+static NUMBERS: [Explanation; 1] = [Explanation {
+    number: "U14",
+    name: "NoSuchNumber",
+    level: Level::Error,
+    meaning: "No fault or finding has the number that explain was given.",
+    example: &["$ pamcheck explain E20"],
+    linux_pam: "this is a fault of the words that pamcheck was given.",
+    mending: "write a number as E15. The command explain alone lists all.",
+}];
+
+#[tactic(auto, unfolding(crate::specs::Words::numbers))]
+pub(crate) fn numbers() -> &'static [Explanation]
+    ensures { map explanation_view result.now ≡ spec.numbers }
+{
+    &NUMBERS
+}

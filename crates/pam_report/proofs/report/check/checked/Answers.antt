@@ -1,0 +1,21 @@
+use Rattle.std.proofs.Common.{refl}
+use Rattle.pam_report.proofs.CheckAnswers.{check-of}
+use Rattle.pam_report.proofs.report.check.checked.Goals as goal
+
+pub returns-clause-answer : goal.returns-clause-answer
+returns-clause-answer c =
+    let reported = c.in_ok-report.ensures in
+    let listed = c.in-Ok.ensures in
+    check-of c.args.asked.services.now c.args.asked.fail_on c.args.asked.given.now c.args.files.now c.args.inputs.now reported.facts _ _ reported.known
+    c.in_ok-accept.ensures
+    record {
+      same_form = c.form.ensures;
+      same_paths = c.paths.ensures;
+      are_services = reported.are_services;
+      same_level = refl;
+      same_accept = c.accept_name.ensures;
+      all = c.in_ok-report.report.found;
+      report = reported.is_report;
+      not_accepted = listed.found;
+      unused = listed.unused;
+    }

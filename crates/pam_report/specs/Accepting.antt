@@ -1,0 +1,62 @@
+-- The findings that are meant to be: a line of an accept file has the number and the place of each that it accepts.
+use Rattle.std.specs.Prelude.{◌≡◌, ℕ, ◌==◌, Bool, not, List, [], ◌∷◌, ◌++◌, codes, decimal, filter, map, if◌then◌else◌, Option, Some, None, slice_get, unwrap_or}
+use Rattle.std.specs.List.{list_any}
+use Rattle.std.specs.Option.{option_map_or}
+use Rattle.std.specs.Str.{bytes_eq}
+use Rattle.pam_accept.specs.Lines.{Accepted}
+use Rattle.pam_conf.specs.Files.{Folder}
+use Rattle.pam_conf.specs.declared.rule.Kind.{Kind}
+use Rattle.pam_host.specs.declared.problem.Place.{Place}
+use Rattle.pam_host.specs.declared.report.Finding.{Finding}
+use Rattle.pam_text.specs.Cut.{cut_at, is_among}
+use Rattle.pam_report.specs.Fault.{file_at}
+use Rattle.pam_report.specs.declared.report.accepting.Listed.{Listed}
+use Rattle.pam_report.specs.Names.{kind_name, problem_name, stack_of}
+
+-- a number is what is before the blank of a number and a name
+abbrev pub number_in : List ℕ → List ℕ
+number_in name = option_map_or (λ p. p.0) (cut_at (is_among (32 ∷ [])) name) name
+
+-- the service at a position
+abbrev pub service_at : List (List ℕ) → ℕ → List ℕ
+service_at services position = unwrap_or (slice_get services position) []
+
+abbrev pub stack_key : List (List ℕ) → ℕ × Kind → List ℕ
+stack_key services stack = codes " " ++ service_at services stack.0 ++ codes " " ++ kind_name stack.1
+
+abbrev pub line_key : ℕ → List ℕ
+line_key line = if line == 0 then [] else codes ":" ++ decimal line
+
+abbrev pub file_key : Option (List ℕ) → ℕ → List ℕ
+file_key None line = []
+file_key (Some name) line = codes " " ++ name ++ line_key line
+
+-- ` SERVICE KIND` for a stack, ` FILE:LINE` for a line, ` FILE` for a file as a whole, and nothing for the configuration as a whole
+abbrev pub place_key : Folder → List (List ℕ) → Place → Option (ℕ × Kind) → List ℕ
+place_key files services place (Some stack) = stack_key services stack
+place_key files services place None = file_key (file_at files place.file) place.line
+
+-- THE KEY of a finding: its number and its place
+unfoldable pub key_of : Folder → List (List ℕ) → Place × Finding → List ℕ
+key_of files services entry = number_in (problem_name entry.1.problem) ++ place_key files services entry.0 (stack_of entry.1.problem)
+
+-- some line has this key
+abbrev pub accepts : List Accepted → List ℕ → Bool
+accepts lines key = list_any (λ line. bytes_eq key line.1) lines
+
+-- the findings that no line accepts
+abbrev pub not_accepted : List Accepted → Folder → List (List ℕ) → List (Place × Finding) → List (Place × Finding)
+not_accepted lines files services found = filter (λ entry. not (accepts lines (key_of files services entry))) found
+
+-- the numbers of the lines that have none of these keys
+abbrev pub lines_without : List (List ℕ) → List Accepted → List ℕ
+lines_without keys lines = map (λ line. line.0) (filter (λ line. not (list_any (bytes_eq line.1) keys)) lines)
+
+-- the numbers of the lines that accept nothing
+abbrev pub unused_lines : List Accepted → Folder → List (List ℕ) → List (Place × Finding) → List ℕ
+unused_lines lines files services found = lines_without (map (key_of files services) found) lines
+
+-- for private contracts and proofs alone: what is listed of these findings
+pub record IsListed (lines : List Accepted) (files : Folder) (services : List (List ℕ)) (all : List (Place × Finding)) (listed : Listed) : Type 0 where
+  pub found : listed.found.items ≡ not_accepted lines files services all
+  pub unused : listed.unused.items ≡ unused_lines lines files services all

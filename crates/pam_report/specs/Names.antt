@@ -1,0 +1,37 @@
+-- The names of what is wrong with a host, each after its number, and of kinds.
+use Rattle.std.specs.Prelude.{ℕ, List, codes, Option, Some, None}
+use Rattle.pam_conf.specs.declared.rule.Kind.{Kind}
+use Rattle.pam_conf.specs.declared.rule.Kind.TheVariants.{Auth, Account, Password, Session}
+use Rattle.pam_host.specs.declared.problem.Problem.{Problem}
+use Rattle.pam_host.specs.declared.problem.Problem.TheVariants as problems
+use Rattle.pam_released.specs.Meanings.{name_of}
+use Rattle.pam_report.specs.FaultTable.{conf_row}
+
+abbrev pub kind_name : Kind → List ℕ
+kind_name Auth = codes "auth"
+kind_name Account = codes "account"
+kind_name Password = codes "password"
+kind_name Session = codes "session"
+
+-- the number and the name
+unfoldable pub problem_name : Problem → List ℕ
+problem_name (problems.Fault fault) = (conf_row fault).name
+problem_name (problems.Walk fault) = (conf_row fault).name
+problem_name (problems.Released difference) = name_of difference
+problem_name (problems.LetsNobodyIn service kind) = codes "S1 LetsNobodyIn"
+problem_name (problems.LetsAnybodyIn service) = codes "S2 LetsAnybodyIn"
+problem_name problems.JumpPastEnd = codes "S4 JumpPastEnd"
+problem_name (problems.NoModule is_dashed) = codes "S5 NoModule"
+problem_name problems.NoOther = codes "S6 NoOther"
+problem_name problems.UnreachableName = codes "S7 UnreachableName"
+problem_name (problems.TooLarge service kind) = codes "S9 TooLarge"
+problem_name problems.LeftOver = codes "S11 LeftOver"
+problem_name problems.NoFunction = codes "S13 NoFunction"
+problem_name problems.CallerIsRoot = codes "S14 CallerIsRoot"
+
+-- the service and the kind of a problem of a whole stack
+abbrev pub stack_of : Problem → Option (ℕ × Kind)
+stack_of (problems.LetsNobodyIn service kind) = Some (service, kind)
+stack_of (problems.LetsAnybodyIn service) = Some (service, Auth)
+stack_of (problems.TooLarge service kind) = Some (service, kind)
+stack_of problem = None

@@ -1,0 +1,54 @@
+//! The names of what is wrong with a host, each after its number, and of kinds.
+
+ghost use Rattle.std.specs.Prelude.{◌≡◌};
+ghost use Rattle.pam_report.specs.Names as spec;
+
+use crate::fault::conf_name;
+use pam_conf::Kind;
+use pam_host::Problem;
+
+/// Returns the name of a kind.
+pub fn kind_name(kind: Kind) -> &'static str
+    ensures { result.now ≡ spec.kind_name kind }
+{
+    match kind {
+        Kind::Auth => "auth",
+        Kind::Account => "account",
+        Kind::Password => "password",
+        Kind::Session => "session",
+    }
+}
+
+/// Returns the number and the name of a problem, as `S2 LetsAnybodyIn`.
+#[tactic(auto, unfolding(crate::specs::Names::problem_name))]
+pub fn problem_name(problem: Problem) -> &'static str
+    ensures { result.now ≡ spec.problem_name problem }
+{
+    match problem {
+        Problem::Fault(fault) | Problem::Walk(fault) => conf_name(fault),
+        Problem::Released(difference) => difference.name(),
+        Problem::LetsNobodyIn { .. } => "S1 LetsNobodyIn",
+        Problem::LetsAnybodyIn { .. } => "S2 LetsAnybodyIn",
+        Problem::JumpPastEnd => "S4 JumpPastEnd",
+        Problem::NoModule { .. } => "S5 NoModule",
+        Problem::NoOther => "S6 NoOther",
+        Problem::UnreachableName => "S7 UnreachableName",
+        Problem::TooLarge { .. } => "S9 TooLarge",
+        Problem::LeftOver => "S11 LeftOver",
+        Problem::NoFunction => "S13 NoFunction",
+        Problem::CallerIsRoot => "S14 CallerIsRoot",
+    }
+}
+
+/// Returns the position of the service and the kind of a problem of a whole stack.
+pub fn stack_of(problem: Problem) -> Option<(usize, Kind)>
+    ensures { result ≡ spec.stack_of problem }
+{
+    match problem {
+        Problem::LetsNobodyIn { service, kind } | Problem::TooLarge { service, kind } => Some((
+            service, kind,
+        )),
+        Problem::LetsAnybodyIn { service } => Some((service, Kind::Auth)),
+        _ => None,
+    }
+}

@@ -1,0 +1,209 @@
+//! The findings that are meant to be, by an accept file.
+
+ghost use Rattle.std.specs.Prelude.{◌≡◌, ◌++◌, IfOk, OnOk, map};
+ghost use Rattle.std.specs.List.{list_any};
+ghost use Rattle.std.specs.Option.{option_map};
+ghost use Rattle.std.specs.Str.{bytes_eq};
+ghost use Rattle.pam_report.specs.Accepting as spec;
+ghost use Rattle.pam_report.specs.Fault.{file_at};
+
+use crate::fault::push_pieces;
+use crate::names::{kind_name, problem_name, stack_of};
+use pam_accept::AcceptFile;
+use pam_codes::Piece;
+use pam_conf::{Files, Kind};
+use pam_host::{Finding, HostReport, Place};
+use pam_text::{Texts, cut};
+use std::alloc::{AllocError, Global};
+use std::collections::BTreeMap;
+
+/// The findings that no line of the accept file accepts, and the numbers of its lines that accept none.
+#[derive(Drop)]
+pub(super) struct Listed {
+    pub(super) found: Vec<(Place, Finding)>,
+    pub(super) unused: Vec<u32>,
+}
+
+/// Returns what is before the blank of a number and a name.
+fn number_in(name: &[u8]) -> &[u8]
+    ensures { result.now ≡ spec.number_in name.now }
+{
+    match cut(name, b' ') {
+        Some((number, _)) => number,
+        None => name,
+    }
+}
+
+/// The names of files and services.
+#[derive(Drop)]
+struct Names<'a> {
+    files: &'a Files,
+    services: Vec<&'a [u8]>,
+}
+
+fn names_of<'a>(
+    alloc: Global,
+    files: &'a Files,
+    services: &'a Texts,
+) -> Result<Names<'a>, AllocError>
+    ensures { IfOk result (λ n. (n.files.now ≡ files.now) × (map (λ s. s.now) n.services.items ≡ services.now)) }
+{
+    let services = services.iter().collect(alloc)?;
+    Ok(Names { files, services })
+}
+
+impl Names<'_> {
+    fn service(&self, position: usize) -> &[u8]
+        ensures { result.now ≡ spec.service_at (map (λ s. s.now) self.now.services.items) position }
+    {
+        match self.services.get(position) {
+            Some(service) => service,
+            None => b"",
+        }
+    }
+
+    fn file(&self, position: Option<usize>) -> Option<&[u8]>
+        ensures { option_map (λ name. name.now) result ≡ file_at self.now.files.now position }
+    {
+        match position {
+            Some(position) => self.files.name(position),
+            None => None,
+        }
+    }
+
+    /// Appends ` SERVICE KIND`.
+    fn push_stack(&self, key: &mut Vec<u8>, stack: (usize, Kind)) -> Result<(), AllocError>
+        ensures { OnOk result (key.new.items ≡ key.old.items ++ spec.stack_key (map (λ s. s.now) self.now.services.items) stack) }
+    {
+        push_pieces(
+            key,
+            &[
+                Piece::Bytes(b" "),
+                Piece::Bytes(self.service(stack.0)),
+                Piece::Bytes(b" "),
+                Piece::Bytes(kind_name(stack.1).as_bytes()),
+            ],
+        )
+    }
+
+    /// Appends ` FILE:LINE`, or ` FILE` for line 0. The configuration as a whole has neither.
+    fn push_file(&self, key: &mut Vec<u8>, place: &Place) -> Result<(), AllocError>
+        ensures { OnOk result (key.new.items ≡ key.old.items ++ spec.file_key (file_at self.now.files.now place.now.file) place.now.line) }
+    {
+        let Some(name) = self.file(place.file) else {
+            return Ok(());
+        };
+        push_pieces(key, &[Piece::Bytes(b" "), Piece::Bytes(name)])?;
+        if place.line == 0 {
+            return Ok(());
+        }
+        push_pieces(key, &[Piece::Bytes(b":"), Piece::Number(place.line as u64)])
+    }
+
+    /// Returns the key of a finding: its number and its place.
+    #[tactic(auto, unfolding(crate::specs::Accepting::key_of))]
+    fn key(&self, alloc: Global, place: &Place, finding: Finding) -> Result<Vec<u8>, AllocError>
+        ensures { IfOk result (λ key. key.items ≡ spec.key_of self.now.files.now (map (λ s. s.now) self.now.services.items) (place.now, finding)) }
+    {
+        let mut key = Vec::from_slice(alloc, number_in(problem_name(finding.problem).as_bytes()))?;
+        match stack_of(finding.problem) {
+            Some(stack) => self.push_stack(&mut key, stack)?,
+            None => self.push_file(&mut key, place)?,
+        }
+        Ok(key)
+    }
+
+    /// Returns the keys of findings, in order.
+    fn keys(&self, alloc: Global, found: &[(Place, Finding)]) -> Result<Texts, AllocError>
+        ensures { IfOk result (λ keys. keys ≡ map (spec.key_of self.now.files.now (map (λ s. s.now) self.now.services.items)) found.now) }
+    {
+        let mut keys = Texts::new(alloc);
+        for entry in found {
+            let key = self.key(alloc, &entry.0, entry.1)?;
+            keys.push(&key)?;
+        }
+        Ok(keys)
+    }
+}
+
+/// Returns the findings that no line accepts.
+fn not_accepted(
+    alloc: Global,
+    names: &Names<'_>,
+    found: &[(Place, Finding)],
+    accept: &AcceptFile,
+) -> Result<Vec<(Place, Finding)>, AllocError>
+    ensures { IfOk result (λ kept. kept.items ≡ spec.not_accepted accept.now names.now.files.now (map (λ s. s.now) names.now.services.items) found.now) }
+{
+    let mut kept = Vec::new(alloc);
+    for entry in found {
+        let key = names.key(alloc, &entry.0, entry.1)?;
+        if !accept.accepts(&key) {
+            kept.push(*entry)?;
+        }
+    }
+    Ok(kept)
+}
+
+/// Whether a finding has this key.
+fn has_key(keys: &Texts, key: &[u8]) -> bool
+    ensures { result ≡ list_any (λ known. bytes_eq key.now known) keys.now }
+{
+    keys.iter().any(|known| key == known)
+}
+
+/// Returns the numbers of the lines with other keys than these.
+fn unused(alloc: Global, keys: &Texts, accept: &AcceptFile) -> Result<Vec<u32>, AllocError>
+    ensures { IfOk result (λ unused. unused.items ≡ spec.lines_without keys.now accept.now) }
+{
+    let mut unused = Vec::new(alloc);
+    for line in accept.lines() {
+        if !has_key(keys, &line.key) {
+            unused.push(line.number)?;
+        }
+    }
+    Ok(unused)
+}
+
+/// Returns which of these findings are not accepted, and the lines that accept none.
+fn list_entries(
+    alloc: Global,
+    files: &Files,
+    services: &Texts,
+    found: &[(Place, Finding)],
+    accept: &AcceptFile,
+) -> Result<Listed, AllocError>
+    ensures { IfOk result (spec.IsListed accept.now files.now services.now found.now) }
+{
+    let names = names_of(alloc, files, services)?;
+    let unused = unused(alloc, &names.keys(alloc, found)?, accept)?;
+    let found = not_accepted(alloc, &names, found, accept)?;
+    Ok(Listed { found, unused })
+}
+
+/// Returns the findings of a report, in order.
+fn entries(
+    alloc: Global,
+    found: &BTreeMap<Place, Finding>,
+) -> Result<Vec<(Place, Finding)>, AllocError>
+    ensures { IfOk result (λ entries. entries.items ≡ found.now.entries) }
+{
+    let mut entries = Vec::new(alloc);
+    for (place, finding) in found {
+        entries.push((*place, *finding))?;
+    }
+    Ok(entries)
+}
+
+/// Returns the findings of a report that are not accepted, and the lines that accept none.
+pub(super) fn list_findings(
+    alloc: Global,
+    files: &Files,
+    report: &HostReport,
+    accept: &AcceptFile,
+) -> Result<Listed, AllocError>
+    ensures { IfOk result (spec.IsListed accept.now files.now report.now.services report.now.found.entries) }
+{
+    let found = entries(alloc, &report.found)?;
+    list_entries(alloc, files, &report.services, &found, accept)
+}

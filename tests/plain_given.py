@@ -1,0 +1,107 @@
+"""What a check is given besides its configuration, read plainly from `docs/SPECIFICATION.md`: modules, facts and accepted findings."""
+import os
+import re
+
+import plain_faults
+import plain_stacks as stacks
+from plain_faults import LineFault
+
+CLASSES = (b"checks", b"ignores", b"passes", b"fails")
+MOST_ARGUMENTS = 2
+LIBRARIES = (b"lib", b"lib64", b"usr/lib", b"usr/lib64")
+
+
+def lines_of(data):
+    """The lines of a file, numbered, each without a carriage return at its end."""
+    return [(number, line[:-1] if line.endswith(b"\r") else line) for number, line in enumerate(data.split(b"\n"), 1)]
+
+
+# Facts
+
+def facts(data):
+    """The rows of a facts file, as lists of words."""
+    plain_faults.judge_whole(b"facts", data, "TE12", "TE10")
+    rows = plain_faults.judged(b"facts", lines_of(data), lambda number, line: row_of(line))
+    return [row for row in rows if row]
+
+
+def row_of(line):
+    """The words of a row, with its class, kinds and codes in lower case; none of a comment or a blank line."""
+    words = [word for word in re.split(rb"[ \t]", line) if word]
+    if line.startswith(b"#") or not words:
+        return []
+    name, rest = words[0], words[1:]
+    of_class = next((at for at, word in enumerate(rest[:MOST_ARGUMENTS + 1]) if word in CLASSES), None)
+    if b"/" in name or name.endswith(b".so") or of_class is None:
+        raise LineFault("TE16")
+    return [name] + rest[:of_class + 1] + judged_codes([word.lower() for word in rest[of_class + 1:]])
+
+
+def judged_codes(words):
+    """The kinds and codes after a class: each list of kinds has a code."""
+    named, needs_code = False, False
+    for word in words:
+        if set(word.split(b",")) <= set(stacks.KINDS) and not needs_code:
+            named, needs_code = True, True
+        elif word in stacks.CODES and named:
+            needs_code = False
+        else:
+            raise LineFault("TE16")
+    if needs_code:
+        raise LineFault("TE16")
+    return words
+
+
+# Accepted findings
+
+def accepted(data):
+    """The lines of an accept file that have words, each with the key of a finding."""
+    plain_faults.judge_whole(b"accept", data, "TE12", "TE10")
+    keys = plain_faults.judged(b"accept", enumerate(data.split(b"\n"), 1), key_of_line)
+    return [key for key in keys if key]
+
+
+def key_of_line(number, line):
+    """The number of a line and its key, none for a line without words."""
+    words = []
+    for word in re.findall(rb"[^ \t\r]+", line):
+        if word.startswith(b"#"):
+            break
+        words.append(word)
+    if not words:
+        return None
+    has_kind = len(words) < 3 or words[2].lower() in stacks.KINDS
+    if not re.fullmatch(rb"(E|L|S|A|T|TE)[0-9]{1,2}", words[0]) or len(words) > 3 or not has_kind:
+        raise LineFault("TE15")
+    return number, b" ".join(words)
+
+
+# Modules
+
+def there(root, folders, files, found):
+    """The paths at which a module is there, or `None` if there is no folder of modules. `found` is what is at a path, or `None`."""
+    known = [found(folder) for folder in folders]
+    if root is not None:
+        for library in LIBRARIES:
+            path = joined(root, library)
+            names = found(path) if isinstance(found(path), dict) else {}
+            inner = [path] + [joined(path, name.encode()) for name in names if "-linux-gnu" in name]
+            known += [found(joined(folder, b"security")) for folder in inner]
+    known = [folder for folder in known if isinstance(folder, dict)]
+    if not known:
+        return None
+    paths = {name.encode() for folder in known for name in folder}
+    words = {word for data in files for word in re.split(rb"[ \t\r\n]", data) if word.startswith(b"/")}
+    return paths | {word for word in words if is_at(root, word, found)}
+
+
+def is_at(root, path, found):
+    """Whether something is at an absolute path, of the system with this root or of the running one."""
+    if root is None:
+        return os.path.exists(path)
+    return found(joined(root, path.lstrip(b"/"))) is not None
+
+
+def joined(folder, name):
+    """The path of a name in a folder."""
+    return folder + name if folder.endswith(b"/") else folder + b"/" + name
