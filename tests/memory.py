@@ -42,13 +42,17 @@ TABLE_PAGES = TABLES + [E17]
 DRAWINGS = PAGES + [KEPT, E17]
 TABLE_DRAWINGS = TABLE_PAGES + [KEPT, E17]
 
-# The facts and the findings; then the lists of the paths and of the services, which ask for room again where it is refused once.
-CHECKS = STACKS + [KEPT] * 2
+# The facts and the findings; then the list of the services, by which findings are accepted; and to print, the lists of the paths
+# and of the services. These lists ask for room again where it is refused once.
+CHECKS = STACKS + [KEPT] * 3
+# Findings are listed after it.
+FOUND_CHECKS = STACKS + [KEPT, E17] + [KEPT] * 2
 # With more than four paths, their list grows.
-LONG_CHECKS = STACKS + [KEPT] * 3
+LONG_CHECKS = FOUND_CHECKS + [KEPT]
 
 TREE = {"d": FOLDER, "stack": {"login": STACK}, "pam.conf": b"login auth required a.so x\n" * 40, "access": ACCESS,
-        "group": GROUP, "time": TIME, "returns": RETURNS,
+        "group": GROUP, "time": TIME, "returns": RETURNS, "facts": b"pam_own passes auth success\n", "accept": b"S6\nS2 login auth\n",
+        "m": {"a.so": b""},
         "big": {"login": STACK + b"session required [success=ok default=bad] a.so [d e]\n" * 2000}}
 ACCESS_TABLE = ["--access", "access", "--group", "group", "--user", "alice"]
 TIME_TABLE = ["--time", "time", "--at", MOMENT]
@@ -82,6 +86,8 @@ ASKED = [
     (["check", "--dir", "d"], LONG_CHECKS),
     (["check", "LOGIN", "--dir", "d", "--vendor-dir", "stack"], LONG_CHECKS),
     (["check", "--conf", "pam.conf", "--fail-on", "note"], CHECKS),
+    (["check", "--dir", "stack", "--modules", "m", "--facts", "facts", "--accept", "accept"], FOUND_CHECKS),
+    (["version"], WORDS),
     (["show", "login"], WORDS),
     (["show", "login", "atuh", "--dir", "d"], [*WORDS, UNSAID]),
     (["time", "login", "--time", "time", "--user", "alice"], [*WORDS, UNSAID]),
@@ -90,6 +96,8 @@ ASKED = [
     (["show", "ftp", "auth", "--conf", "pam.conf"], [*STACKS, UNSAID]),
     (["time", "login", "--time", "time", "--user", "alice", "--at", "2024-05-06"], [*STACKS, UNSAID]),
     (["access", "login", *ACCESS_TABLE, "listsep=,"], [*TABLES, UNSAID]),
+    (["check", "--dir", "stack", "--facts", "group"], [*STACKS, UNSAID]),
+    (["check", "--dir", "stack", "--accept", "group"], [*STACKS, UNSAID]),
     ([*PATHS, "--after", "3"], [*PAGES, UNSAID]),
     ([*ACCOUNT, *RETURNS_FILE, "--before", "x"], [*TABLE_PAGES, UNSAID]),
 ]

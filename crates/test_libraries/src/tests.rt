@@ -1,6 +1,5 @@
 //! The tests, by what they test.
 
-mod accepts;
 mod answers;
 mod controls;
 mod faults;
