@@ -1,14 +1,16 @@
 -- Lists of problems.
 use Rattle.std.proofs.Common.{◌≡◌, ◌⊎◌, ◌↔◌, ℕ, ◌+◌, ◌<◌, ◌≤◌, true, false, List, [], ◌∷◌, ◌++◌, take, length, map, refl, sym, ◌∙◌, ap, subst, inl}
-use Rattle.std.proofs.Common.{inr, arith, Option, Some, None, get_or, is_some}
+use Rattle.std.proofs.Common.{inr, arith, MatchOption, Option, Some, None, get_or, is_some}
 use Rattle.std.specs.Option.{option_map, option_map_or}
 use Rattle.std.proofs.lemmas.Bool.{cases_eq, false≢true}
 use Rattle.pam_conf.specs.Stack.{Items, IsNumbered, ModuleText, module_at, module_count}
 use Rattle.pam_conf.specs.declared.conf_error.ConfError.{ConfError}
+use Rattle.pam_conf.specs.declared.rule.Kind.{Kind}
 use Rattle.pam_conf.proofs.StackTree.{module_at-range}
 use Rattle.pam_paths.specs.Classes.{Member}
-use Rattle.pam_host.specs.Looked.{OfModule, OfModules, walk_spot}
-use Rattle.pam_host.specs.StackProblems.{InWalk}
+use Rattle.pam_host.specs.Looked.{OfModule, OfModules, OfNumber, OfRule, walk_spot}
+use Rattle.pam_host.specs.Modules.{Modules}
+use Rattle.pam_host.specs.StackProblems.{InItems, InWalk}
 use Rattle.pam_host.specs.Table.{Adds}
 use Rattle.pam_host.specs.Verdicts.{HasOther, is_other}
 use Rattle.pam_host.specs.declared.problem.Problem.{Problem}
@@ -74,12 +76,15 @@ walk-to faults file line (problems.Fault fault) h = absurd h
 walk-to faults file line (problems.Released difference) h = absurd h
 walk-to faults file line (problems.LetsNobodyIn service kind) h = absurd h
 walk-to faults file line (problems.LetsAnybodyIn service) h = absurd h
+walk-to faults file line problems.NeverAsked h = absurd h
 walk-to faults file line problems.JumpPastEnd h = absurd h
+walk-to faults file line (problems.NoModule is_dashed) h = absurd h
 walk-to faults file line problems.NoOther h = absurd h
 walk-to faults file line problems.UnreachableName h = absurd h
 walk-to faults file line (problems.TooLarge service kind) h = absurd h
 walk-to faults file line problems.LeftOver h = absurd h
 walk-to faults file line problems.NoFunction h = absurd h
+walk-to faults file line problems.CallerIsRoot h = absurd h
 
 pub adds-walk : (faults : List ConfError) (old new : List Spot) → new ≡ old ++ map walk_spot faults → Adds (λ spot. InWalk faults spot spot.problem) old new
 adds-walk faults old new is =
@@ -132,32 +137,25 @@ adds-if Is Holds old new is h = adds-iff Holds (λ spot. Is × Holds spot) old n
 pub adds-unless : (Is : Type 0) (Holds : Spot → Type 0) (spots : List Spot) → (Is → ⊥) → Adds (λ spot. Is × Holds spot) spots spots
 adds-unless Is Holds spots isnt = adds-none (λ spot. Is × Holds spot) spots (λ spot k. isnt k.0)
 
--- numbers so far
-abbrev pub UpTo : (ℕ → Type 0) → ℕ → ℕ → Type 0
-UpTo IsOne n number = (1 ≤ number) × (number ≤ n) × IsOne number
+-- of the first modules
+abbrev pub OfFirst : (ℕ → Spot → Type 0) → ℕ → Spot → Type 0
+OfFirst Of n spot = (number : ℕ) × (1 ≤ number) × (number ≤ n) × Of number spot
 
-pub modules-none : (problem : Problem) (items : Items) (IsOne : ℕ → Type 0) (spots : List Spot) →
-    Adds (OfModules problem items (UpTo IsOne 0)) spots spots
-modules-none problem items IsOne spots =
-    adds-none (OfModules problem items (UpTo IsOne 0)) spots (λ spot m. omega (arith, m.one.0, m.one.1))
+pub modules-none : (Of : ℕ → Spot → Type 0) (spots : List Spot) → Adds (OfFirst Of 0) spots spots
+modules-none Of spots = adds-none (OfFirst Of 0) spots (λ spot m. omega (arith, m.1, m.2))
 
-pub modules-more : (problem : Problem) (items : Items) (IsOne : ℕ → Type 0) (n : ℕ) (old middle new : List Spot) →
-    Adds (OfModules problem items (UpTo IsOne n)) old middle → Adds (λ spot. IsOne (n + 1) × OfModule problem items (n + 1) spot) middle new →
-    Adds (OfModules problem items (UpTo IsOne (n + 1))) old new
-modules-more problem items IsOne n old middle new h k =
-    adds-iff (λ spot. OfModules problem items (UpTo IsOne n) spot ⊎ (IsOne (n + 1) × OfModule problem items (n + 1) spot))
-    (OfModules problem items (UpTo IsOne (n + 1))) old new
+pub modules-more : (Of : ℕ → Spot → Type 0) (n : ℕ) (old middle new : List Spot) → Adds (OfFirst Of n) old middle → Adds (Of (n + 1)) middle new →
+    Adds (OfFirst Of (n + 1)) old new
+modules-more Of n old middle new h k =
+    adds-iff (λ spot. OfFirst Of n spot ⊎ Of (n + 1) spot) (OfFirst Of (n + 1)) old new
     (λ spot. (
-      λ w. elim w [
-        | inl m ↦ record { number = m.number; one = (m.one.0, omega (arith, m.one.1), m.one.2); of = m.of }
-        | inr m ↦ record { number = n + 1; one = (omega arith, omega arith, m.0); of = m.1 }
-      ],
-      λ m. elim (cases_eq m.number (n + 1)) [
-        | inl e ↦ inr (subst IsOne e m.one.2, subst (λ number. OfModule problem items number spot) e m.of)
-        | inr ne ↦ inl record { number = m.number; one = (m.one.0, omega (arith, m.one.1, ne), m.one.2); of = m.of }
+      λ w. elim w [ inl m ↦ (m.0, m.1, omega (arith, m.2), m.3) | inr o ↦ (n + 1, omega arith, omega arith, o) ],
+      λ m. elim (cases_eq m.0 (n + 1)) [
+        | inl e ↦ inr (subst (λ number. Of number spot) e m.3)
+        | inr ne ↦ inl (m.0, m.1, omega (arith, m.2, ne), m.3)
       ],
     ))
-    (adds-both (OfModules problem items (UpTo IsOne n)) (λ spot. IsOne (n + 1) × OfModule problem items (n + 1) spot) old middle new h k)
+    (adds-both (OfFirst Of n) (Of (n + 1)) old middle new h k)
 
 -- the numbers of a stack's modules
 pub numbered : (items : Items) (number : ℕ) (rule : ModuleText) → IsNumbered items → module_at number items ≡ Some rule →
@@ -166,14 +164,49 @@ numbered items number rule is there =
     let range = module_at-range 1 number items is (ap is_some there) in
     (range.0, omega (arith, range.1))
 
-pub modules-all : (problem : Problem) (items : Items) (IsOne : ℕ → Type 0) (n : ℕ) (old new : List Spot) → IsNumbered items → module_count items ≤ n →
-    Adds (OfModules problem items (UpTo IsOne n)) old new → Adds (OfModules problem items IsOne) old new
-modules-all problem items IsOne n old new is all h =
-    adds-iff (OfModules problem items (UpTo IsOne n)) (OfModules problem items IsOne) old new
+rule-of : (modules : Modules) (name : List ℕ) (kind : Kind) (spot : Spot) (o : Option ModuleText) →
+    MatchOption o ⊥ (λ rule. OfRule modules name kind rule spot) → (rule : ModuleText) × (o ≡ Some rule) × OfRule modules name kind rule spot
+rule-of modules name kind spot None h = absurd h
+rule-of modules name kind spot (Some rule) h = (rule, refl, h)
+
+-- the problems that the module with a number has by itself
+pub of-number : (modules : Modules) (name : List ℕ) (kind : Kind) (items : Items) (number : ℕ) (rule : ModuleText) → module_at number items ≡ Some rule →
+    (old new : List Spot) → Adds (OfRule modules name kind rule) old new → Adds (OfNumber modules name kind items number) old new
+of-number modules name kind items number rule there old new h =
+    subst (λ (o : Option ModuleText). Adds (λ spot. MatchOption o ⊥ (λ r. OfRule modules name kind r spot)) old new) (sym there) h
+
+pub of-no-number : (modules : Modules) (name : List ℕ) (kind : Kind) (items : Items) (number : ℕ) → module_at number items ≡ None → (spots : List Spot) →
+    Adds (OfNumber modules name kind items number) spots spots
+of-no-number modules name kind items number none spots =
+    subst (λ (o : Option ModuleText). Adds (λ spot. MatchOption o ⊥ (λ r. OfRule modules name kind r spot)) spots spots) (sym none)
+    (adds-none (λ spot. ⊥) spots (λ spot h. h))
+
+pub modules-all : (modules : Modules) (name : List ℕ) (kind : Kind) (items : Items) (n : ℕ) (old new : List Spot) → IsNumbered items → module_count items ≤ n →
+    Adds (OfFirst (OfNumber modules name kind items) n) old new → Adds (λ spot. InItems modules name kind (Some items) spot spot.problem) old new
+modules-all modules name kind items n old new is all h =
+    adds-iff (OfFirst (OfNumber modules name kind items) n) (λ spot. InItems modules name kind (Some items) spot spot.problem) old new
     (λ spot. (
-      λ m. record { number = m.number; one = m.one.2; of = m.of },
-      λ m. let range = numbered items m.number m.of.rule is m.of.at.is_there in
-          record { number = m.number; one = (range.0, omega (arith, range.1, all), m.one); of = m.of },
+      λ m.
+          let k = rule-of modules name kind spot (module_at m.0 items) m.3 in
+          (m.0, k.0, record { is_there = k.1; file = k.2.file; line = k.2.line }, k.2.has),
+      λ m.
+          let range = numbered items m.0 m.1 is m.2.is_there in (
+            m.0,
+            range.0,
+            omega (arith, range.1, all),
+            subst (λ (o : Option ModuleText). MatchOption o ⊥ (λ rule. OfRule modules name kind rule spot)) (sym m.2.is_there)
+                (record { file = m.2.file; line = m.2.line; has = m.3 }),
+          ),
+    ))
+    h
+
+pub tested-all : (problem : Problem) (items : Items) (IsOne : ℕ → Type 0) (n : ℕ) (old new : List Spot) → IsNumbered items → module_count items ≤ n →
+    Adds (OfFirst (λ number spot. IsOne number × OfModule problem items number spot) n) old new → Adds (OfModules problem items IsOne) old new
+tested-all problem items IsOne n old new is all h =
+    adds-iff (OfFirst (λ number spot. IsOne number × OfModule problem items number spot) n) (OfModules problem items IsOne) old new
+    (λ spot. (
+      λ m. record { number = m.0; one = m.3.0; of = m.3.1 },
+      λ m. let range = numbered items m.number m.of.rule is m.of.at.is_there in (m.number, range.0, omega (arith, range.1, all), (m.one, m.of)),
     ))
     h
 

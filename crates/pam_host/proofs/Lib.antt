@@ -1,12 +1,16 @@
 pub mod Adding
+pub mod Asking
 pub mod FileNames
 pub mod Foldered
+pub mod Listed
 pub mod Meeting
 pub mod OneService
 pub mod Owned
 pub mod Passes
 pub mod Places
+pub mod Removing
 pub mod Reporting
+pub mod Ruled
 pub mod Seen
 pub mod Silence
 pub mod Taking

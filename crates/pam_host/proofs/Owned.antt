@@ -53,11 +53,14 @@ module _ (form : Form) (file : ℕ) (bytes : List ℕ) where
   to_spot line (problems.LetsNobodyIn service kind) h = absurd h
   to_spot line (problems.LetsAnybodyIn service) h = absurd h
   to_spot line problems.JumpPastEnd h = absurd h
+  to_spot line problems.NeverAsked h = absurd h
+  to_spot line (problems.NoModule is_dashed) h = absurd h
   to_spot line problems.NoOther h = absurd h
   to_spot line problems.UnreachableName h = absurd h
   to_spot line (problems.TooLarge service kind) h = absurd h
   to_spot line problems.LeftOver h = absurd h
   to_spot line problems.NoFunction h = absurd h
+  to_spot line problems.CallerIsRoot h = absurd h
 
   from_spot : (spot : Spot) → Member spot (faults ++ founds) → (spot.file ≡ Some file) × BytesHave form bytes spot.line spot.problem
   unfolding faults founds

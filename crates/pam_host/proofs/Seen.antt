@@ -1,7 +1,6 @@
 -- What is seen of a stack.
-use Rattle.std.proofs.Common.{◌≡◌, ◌⊎◌, ◌↔◌, ℕ, ◌+◌, ◌<◌, ◌≤◌, false, All, List, [], take, length, get_or, refl, sym, ◌∙◌, ap, subst, inl, inr}
+use Rattle.std.proofs.Common.{◌≡◌, ◌⊎◌, ◌↔◌, ℕ, ◌+◌, ◌<◌, ◌≤◌, All, List, [], take, length, get_or, refl, sym, ◌∙◌, ap, subst, inl, inr}
 use Rattle.std.proofs.Common.{Option, Some, None, Ok, slice_get}
-use Rattle.std.specs.Option.{option_map_or}
 use Rattle.std.proofs.lemmas.Bool.{false≢true}
 use Rattle.std.proofs.lemmas.List.{take_all, take_more}
 use Rattle.std.proofs.lemmas.List.Elements.{All-push}
@@ -12,21 +11,21 @@ use Rattle.pam_conf.specs.Stack.{Items}
 use Rattle.pam_conf.specs.Survey.{SurveyText, surveyed}
 use Rattle.pam_conf.specs.declared.rule.Kind.{Kind}
 use Rattle.pam_conf.specs.declared.rule.Form.{Form}
-use Rattle.pam_facts.specs.Rows.{Row}
 use Rattle.pam_paths.specs.Classes.{Member}
 use Rattle.pam_host.specs.Checking.{AddsStack}
 use Rattle.pam_host.specs.FileProblems.{files_read}
-use Rattle.pam_host.specs.Looked.{Judges, Looks, OfModules, lacks}
+use Rattle.pam_host.specs.Looked.{Asks, Judges, Looks, OfModules}
+use Rattle.pam_host.specs.Modules.{Modules}
 use Rattle.pam_host.specs.StackProblems.{ByVerdict, InItems, InStack, InWalk}
 use Rattle.pam_host.specs.Table.{Adds, Notes, Puts, with_stack}
-use Rattle.pam_host.specs.Verdicts.{IsVerdict, Refused, Verdict, has_no_function}
+use Rattle.pam_host.specs.Verdicts.{IsVerdict, Refused, Verdict, never_asked_in}
 use Rattle.pam_host.specs.declared.judging.Stacked.{Stacked}
 use Rattle.pam_host.specs.declared.problem.Problem.{Problem}
 use Rattle.pam_host.specs.declared.problem.Problem.TheVariants as problems
 use Rattle.pam_host.specs.declared.problem.Spot.{Spot}
 use Rattle.pam_host.specs.declared.stacks.Found.{Found}
 use Rattle.pam_host.specs.declared.way_in.WayIn.{WayIn}
-use Rattle.pam_host.proofs.Adding.{adds-both, adds-iff}
+use Rattle.pam_host.proofs.Adding.{adds-both, adds-iff, adds-none}
 use Rattle.pam_host.proofs.Passes.{puts-iff}
 
 -- A SOUND SURVEY
@@ -48,42 +47,29 @@ none-by-refused service kind home spot problems.JumpPastEnd h = h
 none-by-refused service kind home spot (problems.Fault fault) h = h
 none-by-refused service kind home spot (problems.Walk fault) h = h
 none-by-refused service kind home spot (problems.Released difference) h = h
+none-by-refused service kind home spot problems.NeverAsked h = h
+none-by-refused service kind home spot (problems.NoModule is_dashed) h = h
 none-by-refused service kind home spot problems.NoOther h = h
 none-by-refused service kind home spot problems.UnreachableName h = h
 none-by-refused service kind home spot problems.LeftOver h = h
 none-by-refused service kind home spot problems.NoFunction h = h
+none-by-refused service kind home spot problems.CallerIsRoot h = h
 
--- MODULES WITHOUT A FUNCTION
+-- WHAT A STACK MAY ASK
 
-module _ (facts : List Row) (kind : Kind) where
-  lacking : (items : Items) (spot : Spot) → OfModules problems.NoFunction items (lacks facts kind items) spot
-      → InItems facts kind (Some items) spot spot.problem
-  lacking items spot m =
-      subst (InItems facts kind (Some items) spot) (sym m.of.problem_is)
-      (m.number, m.of.rule, m.of.at, sym (ap (λ o. option_map_or (has_no_function facts kind) o false) m.of.at.is_there) ∙ m.one)
-
-  from-lacking : (items : Items) (file : Option ℕ) (line : ℕ) (problem : Problem) →
-      (let spot : Spot = record { file = file; line = line; problem = problem } in
-      InItems facts kind (Some items) spot problem → OfModules problems.NoFunction items (lacks facts kind items) spot)
-  from-lacking items file line problems.NoFunction h = record {
-    number = h.0;
-    one = ap (λ o. option_map_or (has_no_function facts kind) o false) h.2.is_there ∙ h.3;
-    of = record { problem_is = refl; rule = h.1; at = h.2 };
-  }
-  from-lacking items file line (problems.LetsNobodyIn service of_kind) h = absurd h
-  from-lacking items file line (problems.LetsAnybodyIn service) h = absurd h
-  from-lacking items file line (problems.TooLarge service of_kind) h = absurd h
-  from-lacking items file line problems.JumpPastEnd h = absurd h
-  from-lacking items file line (problems.Fault fault) h = absurd h
-  from-lacking items file line (problems.Walk fault) h = absurd h
-  from-lacking items file line (problems.Released difference) h = absurd h
-  from-lacking items file line problems.NoOther h = absurd h
-  from-lacking items file line problems.UnreachableName h = absurd h
-  from-lacking items file line problems.LeftOver h = absurd h
+pub asks-of : (items : Items) (verdict : Verdict) (old new : List Spot) →
+    Adds (OfModules problems.NeverAsked items (λ number. Member number (never_asked_in verdict) → ⊥)) old new → Adds (Asks (Some items) verdict) old new
+asks-of items verdict old new h =
+    adds-iff (OfModules problems.NeverAsked items (λ number. Member number (never_asked_in verdict) → ⊥)) (Asks (Some items) verdict) old new
+    (λ spot. (
+      λ m. record { problem_is = m.of.problem_is; may_ask = (m.number, m.of.rule, m.of.at, m.one) },
+      λ a. record { number = a.may_ask.0; one = a.may_ask.3; of = record { problem_is = a.problem_is; rule = a.may_ask.1; at = a.may_ask.2 } },
+    ))
+    h
 
 -- WHAT IS SEEN
 
-module _ (folder : Folder) (facts : List Row) (name : List ℕ) (service : ℕ) (kind : Kind) (survey : SurveyText)
+module _ (folder : Folder) (modules : Modules) (name : List ℕ) (service : ℕ) (kind : Kind) (survey : SurveyText)
     (is : survey ≡ surveyed folder name kind) (law : StackIsSoundSurvey) where
   pub stack-of : (items : Items) → survey.items ≡ Some items → IsSound folder survey → resolved folder name kind ≡ Ok items
   stack-of items there sound =
@@ -100,60 +86,61 @@ module _ (folder : Folder) (facts : List Row) (name : List ℕ) (service : ℕ) 
   By : Verdict → Spot → Type 0
   By verdict spot = ByVerdict service kind (slice_get survey.reached 0) verdict spot spot.problem
 
-  pub looks-none : survey.items ≡ None → (spots : List Spot) → Adds (λ spot. InWalk survey.faults spot spot.problem) [] spots →
-      Looks folder facts name service kind survey spots None
-  looks-none none spots h = record {
+  pub looks-none : survey.items ≡ None → (spots asked : List Spot) → Adds (λ spot. InWalk survey.faults spot spot.problem) [] spots →
+      Looks folder modules name service kind survey spots asked asked None
+  looks-none none spots asked h = record {
     verdict = Refused;
     is_verdict = λ items stack. let k = (sound-of items stack).0 in let clash : Some items ≡ None = sym k ∙ none in absurd cc;
-    adds = adds-iff (λ spot. InWalk survey.faults spot spot.problem) (InStack facts service kind survey Refused) [] spots
+    adds = adds-iff (λ spot. InWalk survey.faults spot spot.problem) (InStack modules service name kind survey Refused) [] spots
         (λ spot. (
           λ w. inl w,
           λ k. elim k [
             | inl w ↦ w
             | inr r ↦ elim r [
-              | inl i ↦ absurd (subst (λ (o : Option Items). InItems facts kind o spot spot.problem) none i)
+              | inl i ↦ absurd (subst (λ (o : Option Items). InItems modules name kind o spot spot.problem) none i)
               | inr b ↦ absurd (none-by-refused service kind (slice_get survey.reached 0) spot spot.problem b)
             ]
           ],
         ))
         h;
+    asks = subst (λ (o : Option Items). Adds (Asks o Refused) asked asked) (sym none) (adds-none (Asks None Refused) asked (λ spot a. a.may_ask));
     way_in = λ _. refl;
   }
 
   -- the parts of what is wrong with a stack of these items
   parts : (items : Items) → survey.items ≡ Some items → (verdict : Verdict) (spot : Spot) →
-      ((InWalk survey.faults spot spot.problem ⊎ OfModules problems.NoFunction items (lacks facts kind items) spot)
+      ((InWalk survey.faults spot spot.problem ⊎ InItems modules name kind (Some items) spot spot.problem)
       ⊎ ByVerdict service kind (slice_get survey.reached 0) verdict spot spot.problem)
-      ↔ InStack facts service kind survey verdict spot
+      ↔ InStack modules service name kind survey verdict spot
   parts items there verdict spot = (
     λ k. elim k [
       | inl w ↦ elim w [
         | inl i ↦ inl i
-        | inr m ↦ inr (inl (subst (λ (o : Option Items). InItems facts kind o spot spot.problem) (sym there) (lacking facts kind items spot m)))
+        | inr m ↦ inr (inl (subst (λ (o : Option Items). InItems modules name kind o spot spot.problem) (sym there) m))
       ]
       | inr b ↦ inr (inr b)
     ],
     λ k. elim k [
       | inl w ↦ inl (inl w)
       | inr r ↦ elim r [
-        | inl i ↦ inl (inr (from-lacking facts kind items spot.file spot.line spot.problem
-            (subst (λ (o : Option Items). InItems facts kind o spot spot.problem) there i)))
+        | inl i ↦ inl (inr (subst (λ (o : Option Items). InItems modules name kind o spot spot.problem) there i))
         | inr b ↦ inr b
       ]
     ],
   )
 
-  pub looks-unsound : (items : Items) → survey.items ≡ Some items → (IsSound folder survey → ⊥) → (first spots : List Spot) →
+  pub looks-unsound : (items : Items) → survey.items ≡ Some items → (IsSound folder survey → ⊥) → (first spots asked more : List Spot) →
       Adds (λ spot. InWalk survey.faults spot spot.problem) [] first →
-      Adds (OfModules problems.NoFunction items (lacks facts kind items)) first spots →
-      Looks folder facts name service kind survey spots None
-  looks-unsound items there unsound first spots h k = record {
+      Adds (λ spot. InItems modules name kind (Some items) spot spot.problem) first spots →
+      Adds (OfModules problems.NeverAsked items (λ number. Member number [] → ⊥)) asked more →
+      Looks folder modules name service kind survey spots asked more None
+  looks-unsound items there unsound first spots asked more h k l = record {
     verdict = Refused;
     is_verdict = λ others stack. unsound (sound-of others stack).1;
     adds =
         let A : Spot → Type 0 = λ spot. InWalk survey.faults spot spot.problem in
-        let B : Spot → Type 0 = OfModules problems.NoFunction items (lacks facts kind items) in
-        adds-iff (λ spot. A spot ⊎ B spot) (InStack facts service kind survey Refused) [] spots
+        let B : Spot → Type 0 = λ spot. InItems modules name kind (Some items) spot spot.problem in
+        adds-iff (λ spot. A spot ⊎ B spot) (InStack modules service name kind survey Refused) [] spots
         (λ spot. (
           λ w. (parts items there Refused spot).0 (inl w),
           λ s. elim ((parts items there Refused spot).1 s) [
@@ -162,49 +149,51 @@ module _ (folder : Folder) (facts : List Row) (name : List ℕ) (service : ℕ) 
           ],
         ))
         (adds-both A B [] first spots h k);
+    asks = subst (λ (o : Option Items). Adds (Asks o Refused) asked more) (sym there) (asks-of items Refused asked more l);
     way_in = λ _. refl;
   }
 
-  pub looks-judged : (items : Items) → survey.items ≡ Some items → (first second spots : List Spot) →
+  pub looks-judged : (items : Items) → survey.items ≡ Some items → (first second spots asked more : List Spot) →
       Adds (λ spot. InWalk survey.faults spot spot.problem) [] first →
-      Adds (OfModules problems.NoFunction items (lacks facts kind items)) first second →
+      Adds (λ spot. InItems modules name kind (Some items) spot spot.problem) first second →
       (way : Option WayIn) (home : Option ℕ) → home ≡ slice_get survey.reached 0 →
-      (let at : Stacked = record { service = service; kind = kind; home = home } in Judges folder facts name at second spots way →
-      Looks folder facts name service kind survey spots way)
-  looks-judged items there first second spots h k way home is_home judged = record {
+      (let at : Stacked = record { service = service; kind = kind; home = home } in Judges folder modules name at items second spots asked more way →
+      Looks folder modules name service kind survey spots asked more way)
+  looks-judged items there first second spots asked more h k way home is_home judged = record {
     verdict = judged.verdict;
     is_verdict = judged.is_verdict;
     adds =
         let A : Spot → Type 0 = λ spot. InWalk survey.faults spot spot.problem in
-        let B : Spot → Type 0 = OfModules problems.NoFunction items (lacks facts kind items) in
+        let B : Spot → Type 0 = λ spot. InItems modules name kind (Some items) spot spot.problem in
         let C : Spot → Type 0 = λ spot. ByVerdict service kind (slice_get survey.reached 0) judged.verdict spot spot.problem in
-        adds-iff (λ spot. (A spot ⊎ B spot) ⊎ C spot) (InStack facts service kind survey judged.verdict) [] spots (parts items there judged.verdict)
+        adds-iff (λ spot. (A spot ⊎ B spot) ⊎ C spot) (InStack modules service name kind survey judged.verdict) [] spots (parts items there judged.verdict)
         (adds-both (λ spot. A spot ⊎ B spot) C [] second spots (adds-both A B [] first second h k)
         (subst (λ (o : Option ℕ). Adds (λ spot. ByVerdict service kind o judged.verdict spot spot.problem) second spots) is_home judged.adds));
+    asks = subst (λ (o : Option Items). Adds (Asks o judged.verdict) asked more) (sym there) judged.asks;
     way_in = judged.way_in;
   }
 
 -- WHAT A STACK ADDS
 
-pub adds-stack : (files rules : Folder) (facts : List Row) (service : ℕ) (name : List ℕ) (kind : Kind) (survey : SurveyText) (spots : List Spot)
+pub adds-stack : (files rules : Folder) (modules : Modules) (service : ℕ) (name : List ℕ) (kind : Kind) (survey : SurveyText) (spots : List Spot)
     (way : Option WayIn)
     (old new : Found) (form : Form) (reached : List ℕ) → rules ≡ files → survey ≡ surveyed rules name kind → form ≡ files.form → reached ≡ survey.reached →
-    length old.readers.items ≡ length files.entries → Looks rules facts name service kind survey spots way →
+    length old.readers.items ≡ length files.entries → Looks rules modules name service kind survey spots old.asked.items new.asked.items way →
     Puts (λ spot. Member spot spots) (with_stack service kind) old.table new.table →
     Notes (λ file. Member file (files_read form (length old.readers.items) reached)) service kind old.readers.items new.readers.items →
-    AddsStack files facts service name kind old new way
+    AddsStack files modules service name kind old new way
 unfolding Member
-adds-stack files rules facts service name kind survey spots way old new form reached same is is_form is_reached count looks puts notes =
+adds-stack files rules modules service name kind survey spots way old new form reached same is is_form is_reached count looks puts notes =
     let here : survey ≡ surveyed files name kind = subst (λ (r : Folder). survey ≡ surveyed r name kind) same is in
     record {
       verdict = looks.verdict;
-      is_verdict = subst (λ (r : Folder). IsVerdict r facts name kind looks.verdict) same looks.is_verdict;
-      puts = puts-iff (λ spot. Member spot spots) (InStack facts service kind (surveyed files name kind) looks.verdict) (with_stack service kind)
+      is_verdict = subst (λ (r : Folder). IsVerdict r modules name kind looks.verdict) same looks.is_verdict;
+      puts = puts-iff (λ spot. Member spot spots) (InStack modules service name kind (surveyed files name kind) looks.verdict) (with_stack service kind)
           old.table new.table
           (λ spot. (
-            λ m. subst (λ (s : SurveyText). InStack facts service kind s looks.verdict spot) here
+            λ m. subst (λ (s : SurveyText). InStack modules service name kind s looks.verdict spot) here
                 (elim ((looks.adds.each spot).1 m) [ inl n ↦ absurd n | inr k ↦ k ]),
-            λ k. (looks.adds.each spot).0 (inr (subst (λ (s : SurveyText). InStack facts service kind s looks.verdict spot) (sym here) k)),
+            λ k. (looks.adds.each spot).0 (inr (subst (λ (s : SurveyText). InStack modules service name kind s looks.verdict spot) (sym here) k)),
           ))
           puts;
       notes = subst (λ (l : List ℕ). Notes (λ file. Member file l) service kind old.readers.items new.readers.items)
@@ -212,5 +201,6 @@ adds-stack files rules facts service name kind survey spots way old new form rea
           ∙ ap (λ (n : ℕ). files_read files.form n reached) count
           ∙ ap (files_read files.form (length files.entries)) (is_reached ∙ ap (λ (s : SurveyText). s.reached) here))
           notes;
+      asks = subst (λ (s : SurveyText). Adds (Asks s.items looks.verdict) old.asked.items new.asked.items) here looks.asks;
       way_in = looks.way_in;
     }

@@ -8,11 +8,12 @@ use Rattle.pam_conf.specs.declared.rule.Kind.TheVariants.{Auth, Account, Passwor
 use Rattle.pam_paths.specs.Classes.{Member}
 use Rattle.pam_host.specs.Checking.{AddsStack}
 use Rattle.pam_host.specs.Host.{Host, Verdicts, reads_at, service_at, survey_at}
+use Rattle.pam_host.specs.Looked.{Asks}
 use Rattle.pam_host.specs.Meeting.{MetSoFar}
 use Rattle.pam_host.specs.Met.{AreMet}
 use Rattle.pam_host.specs.Problems.{number_of_kind}
 use Rattle.pam_host.specs.Report.{IsMetFinding}
-use Rattle.pam_host.specs.SoFar.{InStackAt, Shows, Taken, with_verdict}
+use Rattle.pam_host.specs.SoFar.{AsksAt, InStackAt, Shows, Taken, with_verdict}
 use Rattle.pam_host.specs.StackProblems.{HasWayIn, InStack}
 use Rattle.pam_host.specs.Table.{finding_at, met_of, with_stack}
 use Rattle.pam_host.specs.Verdicts.{IsVerdict, Verdict}
@@ -89,6 +90,9 @@ alike-taken host T U found ways same t = record {
   reads = λ file within.
       alike-met (λ s k. T s k × Member file (reads_at host s k)) (λ s k. U s k × Member file (reads_at host s k))
       (λ s k. (λ p. ((same s k).0 p.0, p.1), λ p. ((same s k).1 p.0, p.1))) (slice_index_or found.readers.items file None) (t.reads file within);
+  asks = λ spot.
+      let k = t.asks spot in
+      (λ m. let a = k.0 m in (a.0, a.1, (same a.0 a.1).0 a.2, a.3), λ a. k.1 (a.0, a.1, (same a.0 a.1).1 a.2, a.3));
   placed = t.placed;
   readers = t.readers;
   ways_in = λ s u. t.ways_in s ((same s Auth).1 u);
@@ -98,7 +102,7 @@ alike-taken host T U found ways same t = record {
 
 module _ (host : Host) (T : ℕ → Kind → Type 0) (service : ℕ) (kind : Kind) (old new : Found) (ways : List (Option WayIn)) (way : Option WayIn)
     (upto : (s : ℕ) (k : Kind) → T s k → s ≤ service) (apart : T service kind → ⊥) (t : Taken host T old ways)
-    (adds : AddsStack host.folder host.facts service (service_at host service) kind old new way)
+    (adds : AddsStack host.folder host.modules service (service_at host service) kind old new way)
     (way_in : kind ≡ Auth → HasWayIn adds.verdict (slice_index_or ways service None)) where
   abbrev Is : ℕ → Kind → Type 0
   Is s k = (s ≡ service) × (k ≡ kind)
@@ -144,7 +148,7 @@ module _ (host : Host) (T : ℕ → Kind → Type 0) (service : ℕ) (kind : Kin
 
   in-stack : (spot : Spot) (s : ℕ) (k : Kind) → T s k → InStackAt host t.verdicts spot s k ↔ InStackAt host now spot s k
   in-stack spot s k h =
-      let P : Verdict → Type 0 = λ v. InStack host.facts s k (survey_at host s k) v spot in
+      let P : Verdict → Type 0 = λ v. InStack host.modules s (service_at host s) k (survey_at host s k) v spot in
       (λ i. subst P (sym (as-before s k h)) i, λ i. subst P (as-before s k h) i)
 
   shows-more : (spot : Spot) → Shows (λ s k. More s k × InStackAt host now spot s k) spot (finding_at new.table spot)
@@ -152,7 +156,7 @@ module _ (host : Host) (T : ℕ → Kind → Type 0) (service : ℕ) (kind : Kin
       let P : ℕ → Kind → Type 0 = InStackAt host t.verdicts spot in
       let Q : ℕ → Kind → Type 0 = InStackAt host now spot in
       let before : Option Finding = finding_at old.table spot in
-      let V : Verdict → Type 0 = λ v. InStack host.facts service kind (survey_at host service kind) v spot in
+      let V : Verdict → Type 0 = λ v. InStack host.modules service (service_at host service) kind (survey_at host service kind) v spot in
       elim (adds.puts.each spot) [
         | inl h ↦
             let finding : IsMetFinding (λ s k. More s k × Q s k) spot (with_stack service kind spot before) = record {
@@ -183,16 +187,31 @@ module _ (host : Host) (T : ℕ → Kind → Type 0) (service : ℕ) (kind : Kin
             (alike-met (λ s k. T s k × P s k) (λ s k. More s k × P s k) (without-it P P same h.0) before (t.reads file within))
       ]
 
+  asks-more : (spot : Spot) → Member spot new.asked.items ↔ ((s : ℕ) × (k : Kind) × More s k × AsksAt host now spot s k)
+  asks-more spot =
+      let before = t.asks spot in
+      let A : ℕ → Kind → Verdict → Type 0 = λ s k v. Asks (survey_at host s k).items v spot in (
+        λ m. elim ((adds.asks.each spot).1 m) [
+          | inl o ↦ let a = before.0 o in (a.0, a.1, inl a.2, subst (A a.0 a.1) (sym (as-before a.0 a.1 a.2)) a.3)
+          | inr a ↦ (service, kind, inr (refl, refl), subst (A service kind) (sym here) a)
+        ],
+        λ a. (adds.asks.each spot).0 (elim a.2 [
+          | inl h ↦ inl (before.1 (a.0, a.1, h, subst (A a.0 a.1) (as-before a.0 a.1 h) a.3))
+          | inr e ↦ inr (subst (A service kind) here (from-it (λ s k. AsksAt host now spot s k) a.0 a.1 e a.3))
+        ]),
+      )
+
   pub take-stack : Taken host (λ s k. T s k ⊎ ((s ≡ service) × (k ≡ kind))) new ways
   take-stack = record {
     verdicts = now;
     are = λ s k m. elim m [
-      | inl h ↦ subst (IsVerdict host.folder host.facts (service_at host s) k) (sym (as-before s k h)) (t.are s k h)
+      | inl h ↦ subst (IsVerdict host.folder host.modules (service_at host s) k) (sym (as-before s k h)) (t.are s k h)
       | inr e ↦
-          at-it (λ x y. IsVerdict host.folder host.facts (service_at host x) y (now x y)) s k e
-          (subst (IsVerdict host.folder host.facts (service_at host service) kind) (sym here) adds.is_verdict)
+          at-it (λ x y. IsVerdict host.folder host.modules (service_at host x) y (now x y)) s k e
+          (subst (IsVerdict host.folder host.modules (service_at host service) kind) (sym here) adds.is_verdict)
     ];
     shows = shows-more;
+    asks = asks-more;
     reads = reads-more;
     placed = adds.puts.placed t.placed;
     readers = adds.notes.count ∙ t.readers;

@@ -66,10 +66,13 @@ module _ (at : Stacked) (j : Judgement) (nobody anybody : Bool) (says_nobody : (
   from-verdict file line (problems.Fault fault) h = absurd h
   from-verdict file line (problems.Walk fault) h = absurd h
   from-verdict file line (problems.Released difference) h = absurd h
+  from-verdict file line problems.NeverAsked h = absurd h
+  from-verdict file line (problems.NoModule is_dashed) h = absurd h
   from-verdict file line problems.NoOther h = absurd h
   from-verdict file line problems.UnreachableName h = absurd h
   from-verdict file line problems.LeftOver h = absurd h
   from-verdict file line problems.NoFunction h = absurd h
+  from-verdict file line problems.CallerIsRoot h = absurd h
 
   pub adds-judged : (old first second new : List Spot) →
       Adds (λ spot. (nobody ≡ true) × (spot ≡ spot_of at (problems.LetsNobodyIn at.service at.kind))) old first →

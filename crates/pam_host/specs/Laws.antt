@@ -32,8 +32,8 @@ pub record IsSoundStack (host : Host) (service : ℕ) (kind : Kind) : Type 0 whe
   pub stack : resolved host.folder (service_at host service) kind ≡ Ok items
   pub free : Known
   pub failing : Known
-  pub is_free : IsFree host.facts kind items free
-  pub is_failing : IsFailing host.facts kind items failing
+  pub is_free : IsFree host.modules kind items free
+  pub is_failing : IsFailing host.modules kind items failing
   pub somebody : HasOther items → LetsIn (may_answer free) items
   pub nobody_else : kind ≡ Auth → (answers : Assignment) → IsAllowed (may_answer failing) (module_count items) answers → decided items answers ≡ success → ⊥
 

@@ -1,4 +1,5 @@
 -- How grave the findings of a host are.
+use Rattle.std.specs.Prelude.{if◌then◌else◌}
 use Rattle.pam_conf.specs.declared.error.FaultKind.{FaultKind}
 use Rattle.pam_conf.specs.declared.error.FaultKind.TheVariants as faults
 use Rattle.pam_released.specs.declared.difference.Difference.{Difference}
@@ -19,10 +20,14 @@ level_of_difference LongLine = Note
 level_of_difference DroppedBlank = Note
 level_of_difference difference = Warning
 
+-- a dash before the kind of a rule says that its module may not be there
 abbrev pub level_of : Problem → Level
 level_of (problems.Fault fault) = level_of_fault fault
 level_of (problems.Walk fault) = level_of_fault fault
 level_of (problems.Released difference) = level_of_difference difference
+level_of problems.NeverAsked = Note
+level_of (problems.NoModule is_dashed) = if is_dashed then Note else Warning
 level_of problems.NoOther = Note
 level_of problems.LeftOver = Note
+level_of problems.CallerIsRoot = Note
 level_of problem = Warning

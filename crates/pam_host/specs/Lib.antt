@@ -1,3 +1,4 @@
+pub mod Callers
 pub mod Checking
 pub mod FileProblems
 pub mod FolderProblems
@@ -7,6 +8,7 @@ pub mod Levels
 pub mod Looked
 pub mod Meeting
 pub mod Met
+pub mod Modules
 pub mod OfFolder
 pub mod Own
 pub mod Problems

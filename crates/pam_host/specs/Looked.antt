@@ -1,6 +1,5 @@
 -- For private contracts and proofs alone: what is seen of a stack.
-use Rattle.std.specs.Prelude.{◌≡◌, ℕ, true, false, List, [], Option}
-use Rattle.std.specs.Option.{option_map_or}
+use Rattle.std.specs.Prelude.{◌≡◌, ℕ, List, [], MatchOption, Option, Some}
 use Rattle.pam_check.specs.declared.soundness.Soundness.{Soundness}
 use Rattle.pam_conf.specs.Files.{Folder}
 use Rattle.pam_conf.specs.Stack.{Items, ModuleText, module_at}
@@ -8,11 +7,11 @@ use Rattle.pam_conf.specs.Survey.{SurveyText}
 use Rattle.pam_conf.specs.declared.conf_error.ConfError.{ConfError}
 use Rattle.pam_conf.specs.declared.rule.Kind.{Kind}
 use Rattle.pam_conf.specs.declared.rule.Kind.TheVariants.{Auth}
-use Rattle.pam_facts.specs.Rows.{Row}
 use Rattle.pam_paths.specs.declared.knowledge.Known.{Known}
-use Rattle.pam_host.specs.StackProblems.{ByVerdict, HasWayIn, InStack, IsAt}
+use Rattle.pam_host.specs.Modules.{Modules}
+use Rattle.pam_host.specs.StackProblems.{ByVerdict, HasWayIn, InStack, IsAt, MayAsk, ModuleHas}
 use Rattle.pam_host.specs.Table.{Adds}
-use Rattle.pam_host.specs.Verdicts.{IsVerdict, Judgement, Verdict, has_no_function}
+use Rattle.pam_host.specs.Verdicts.{IsVerdict, Judgement, Verdict}
 use Rattle.pam_host.specs.declared.judging.Stacked.{Stacked}
 use Rattle.pam_host.specs.declared.problem.Problem.{Problem}
 use Rattle.pam_host.specs.declared.problem.Problem.TheVariants as problems
@@ -34,9 +33,18 @@ pub record OfModules (problem : Problem) (items : Items) (IsOne : ℕ → Type 0
   pub one : IsOne number
   pub of : OfModule problem items number spot
 
--- the module with this number has no function in the kind
-abbrev pub lacks : List Row → Kind → Items → ℕ → Type 0
-lacks facts kind items number = option_map_or (has_no_function facts kind) (module_at number items) false ≡ true
+abbrev pub spot_at : ModuleText → Problem → Spot
+spot_at rule problem = record { file = Some rule.file; line = rule.line; problem = problem }
+
+-- a problem of a rule, whose module has it by itself
+pub record OfRule (modules : Modules) (name : List ℕ) (kind : Kind) (rule : ModuleText) (spot : Spot) : Type 0 where
+  pub file : spot.file ≡ Some rule.file
+  pub line : spot.line ≡ rule.line
+  pub has : ModuleHas modules name kind rule spot.problem
+
+-- the same, by the number of the module
+abbrev pub OfNumber : Modules → List ℕ → Kind → Items → ℕ → Spot → Type 0
+OfNumber modules name kind items number spot = MatchOption (module_at number items) ⊥ (λ rule. OfRule modules name kind rule spot)
 
 -- what the runs of a stack come to, as a judgement
 abbrev pub judgement_of : Items → Known → Known → Soundness → Judgement
@@ -46,20 +54,29 @@ judgement_of items free failing s = record {
   failing = failing;
   nobody = s.lets_nobody_in;
   way = s.lets_anybody_in;
+  never_asked = s.never_asked.items;
   jumps = s.jumps_past_end.items;
 }
 
--- some verdict on a stack, the problems that it gives, and the first way in
-pub record Judges (folder : Folder) (facts : List Row) (name : List ℕ) (at : Stacked) (old new : List Spot) (way : Option WayIn) : Type 0 where
+-- the rules that a stack may ask, as S3 of them
+pub record Asks (items : Option Items) (verdict : Verdict) (spot : Spot) : Type 0 where
+  pub problem_is : spot.problem ≡ problems.NeverAsked
+  pub may_ask : MayAsk items verdict spot
+
+-- some verdict on a stack, the problems that it gives, the rules that it may ask, and the first way in
+pub record Judges (folder : Folder) (modules : Modules) (name : List ℕ) (at : Stacked) (items : Items) (old new asked more : List Spot)
+    (way : Option WayIn) : Type 0 where
   pub verdict : Verdict
-  pub is_verdict : IsVerdict folder facts name at.kind verdict
+  pub is_verdict : IsVerdict folder modules name at.kind verdict
   pub adds : Adds (λ spot. ByVerdict at.service at.kind at.home verdict spot spot.problem) old new
+  pub asks : Adds (Asks (Some items) verdict) asked more
   pub way_in : at.kind ≡ Auth → HasWayIn verdict way
 
 -- the same, with all problems of the stack
-pub record Looks (folder : Folder) (facts : List Row) (name : List ℕ) (service : ℕ) (kind : Kind) (survey : SurveyText) (spots : List Spot)
-    (way : Option WayIn) : Type 0 where
+pub record Looks (folder : Folder) (modules : Modules) (name : List ℕ) (service : ℕ) (kind : Kind) (survey : SurveyText)
+    (spots asked more : List Spot) (way : Option WayIn) : Type 0 where
   pub verdict : Verdict
-  pub is_verdict : IsVerdict folder facts name kind verdict
-  pub adds : Adds (InStack facts service kind survey verdict) [] spots
+  pub is_verdict : IsVerdict folder modules name kind verdict
+  pub adds : Adds (InStack modules service name kind survey verdict) [] spots
+  pub asks : Adds (Asks survey.items verdict) asked more
   pub way_in : kind ≡ Auth → HasWayIn verdict way

@@ -1,5 +1,5 @@
 -- The problems of a host, in the order in which they are listed.
-use Rattle.std.specs.Prelude.{ℕ, ◌+◌}
+use Rattle.std.specs.Prelude.{ℕ, ◌+◌, if◌then◌else◌}
 use Rattle.std.specs.declared.cmp.Ordering.{Ordering}
 use Rattle.pam_codes.specs.declared.error.ControlError.{ControlError}
 use Rattle.pam_codes.specs.declared.error.ControlError.TheVariants.{BadControl, BadValue, BadAction, ZeroJump, OpenBracket}
@@ -52,19 +52,22 @@ rank_of_difference LongLine = 7
 rank_of_difference EmptyModuleName = 8
 rank_of_difference DroppedBlank = 9
 
--- E1 to E18 of lines come first, then those of walks, then L1 to L9, then S1 to S13
+-- E1 to E18 of lines come first, then those of walks, then L1 to L9, then S1 to S14
 abbrev pub rank_of : Problem → ℕ
 rank_of (problems.Fault fault) = rank_of_fault fault
 rank_of (problems.Walk fault) = 20 + rank_of_fault fault
 rank_of (problems.Released difference) = 40 + rank_of_difference difference
 rank_of (problems.LetsNobodyIn service kind) = 51
 rank_of (problems.LetsAnybodyIn service) = 52
+rank_of problems.NeverAsked = 53
 rank_of problems.JumpPastEnd = 54
+rank_of (problems.NoModule is_dashed) = 55
 rank_of problems.NoOther = 56
 rank_of problems.UnreachableName = 57
 rank_of (problems.TooLarge service kind) = 59
 rank_of problems.LeftOver = 61
 rank_of problems.NoFunction = 63
+rank_of problems.CallerIsRoot = 64
 
 abbrev pub number_of_kind : Kind → ℕ
 number_of_kind Auth = 0
@@ -72,16 +75,18 @@ number_of_kind Account = 1
 number_of_kind Password = 2
 number_of_kind Session = 3
 
--- the service and the kind of a problem that names them
+-- the service of a problem that names one
 abbrev pub service_of : Problem → ℕ
 service_of (problems.LetsNobodyIn service kind) = service
 service_of (problems.LetsAnybodyIn service) = service
 service_of (problems.TooLarge service kind) = service
 service_of problem = 0
 
+-- the number of its kind; S5 of a dashed rule has another one than that of a rule without a dash
 abbrev pub kind_of : Problem → ℕ
 kind_of (problems.LetsNobodyIn service kind) = number_of_kind kind
 kind_of (problems.TooLarge service kind) = number_of_kind kind
+kind_of (problems.NoModule is_dashed) = if is_dashed then 1 else 0
 kind_of problem = 0
 
 -- THE PLACE of a problem at a line of a file

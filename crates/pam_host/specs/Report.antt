@@ -37,15 +37,19 @@ IsPlaced entry = entry.0 ≡ place_of record { file = entry.0.file; line = entry
 abbrev pub AreVerdicts : Host → Verdicts → Type 0
 AreVerdicts host verdicts =
     (service : ℕ) (kind : Kind) → service < length host.services →
-    IsVerdict host.folder host.facts (service_at host service) kind (verdicts service kind)
+    IsVerdict host.folder host.modules (service_at host service) kind (verdicts service kind)
 
 -- for each service the first way into its `auth` stack, if there is one
 pub record AreWaysIn (host : Host) (verdicts : Verdicts) (ways : List (Option WayIn)) : Type 0 where
   pub count : length ways ≡ length host.services
   pub each : (service : ℕ) → service < length host.services → HasWayIn (verdicts service Auth) (slice_index_or ways service None)
 
-abbrev pub host_of : Folder → List (List ℕ) → List Row → Host
-host_of folder named facts = record { folder = folder; services = checked_services folder named; facts = facts }
+abbrev pub host_of : Folder → List (List ℕ) → List Row → Option (List (List ℕ)) → Host
+host_of folder named facts there = record {
+  folder = folder;
+  services = checked_services folder named;
+  modules = record { facts = facts; there = there };
+}
 
 -- THE REPORT on a host: the findings in the order of their places, each once, are exactly those of all problems at all lines
 pub record IsReportOn (host : Host) (named : List (List ℕ)) (found : BTreeMap Place Finding) (ways : List (Option WayIn)) : Type 0 where
@@ -56,5 +60,5 @@ pub record IsReportOn (host : Host) (named : List (List ℕ)) (found : BTreeMap 
   pub findings : (spot : Spot) → IsFound host verdicts named spot (get compare_places found (place_of spot))
   pub ways_in : AreWaysIn host verdicts ways
 
-abbrev pub IsReport : Folder → List (List ℕ) → List Row → BTreeMap Place Finding → List (Option WayIn) → Type 0
-IsReport folder named facts found ways = IsReportOn (host_of folder named facts) named found ways
+abbrev pub IsReport : Folder → List (List ℕ) → List Row → Option (List (List ℕ)) → BTreeMap Place Finding → List (Option WayIn) → Type 0
+IsReport folder named facts there found ways = IsReportOn (host_of folder named facts there) named found ways

@@ -1,15 +1,16 @@
 -- What a stack does to everybody: pam.conf(5), DESCRIPTION.
-use Rattle.std.specs.Prelude.{◌≡◌, ◌⊎◌, ℕ, ◌&&◌, ◌||◌, Bool, true, false, not, List, map, codes, if◌then◌else◌, Option, Some, None, Ok, slice_get, unwrap_or}
+use Rattle.std.specs.Prelude.{◌≡◌, ◌⊎◌, ℕ, ◌&&◌, ◌||◌, Bool, true, false, not, List, [], map, codes, if◌then◌else◌}
+use Rattle.std.specs.Prelude.{Option, Some, None, Ok, slice_get, unwrap_or}
 use Rattle.std.specs.Str.{bytes_eq}
 use Rattle.std.specs.Option.{option_map_or}
 use Rattle.pam_codes.specs.Set.{codes_where, is_in}
-use Rattle.pam_check.specs.Asked.{AreExactly, JumpsPastEnd}
+use Rattle.pam_check.specs.Asked.{AreExactly, IsNeverAsked, JumpsPastEnd}
 use Rattle.pam_check.specs.Soundness.{HasTooManyPlaces, SaysNobody, SaysWayIn}
 use Rattle.pam_conf.specs.Files.{Folder}
 use Rattle.pam_conf.specs.Resolution.{resolved}
 use Rattle.pam_conf.specs.Stack.{Items, ModuleText, module_at, module_count}
 use Rattle.pam_conf.specs.declared.rule.Kind.{Kind}
-use Rattle.pam_facts.specs.Answers.{Allows, auth_err, failing_answers, free_answers}
+use Rattle.pam_facts.specs.Answers.{Allows, auth_err, failing_answers, free_answers, is_there}
 use Rattle.pam_facts.specs.Facts.{has_function}
 use Rattle.pam_facts.specs.Fitting.{fact_of}
 use Rattle.pam_facts.specs.Paths.{module_name}
@@ -18,16 +19,18 @@ use Rattle.pam_paths.specs.Known.{may_answer}
 use Rattle.pam_paths.specs.Listing.{Allowance}
 use Rattle.pam_paths.specs.Paths.{PathValue, StepValue}
 use Rattle.pam_paths.specs.declared.knowledge.Known.{Known}
+use Rattle.pam_host.specs.Modules.{Modules}
 use Rattle.pam_host.specs.declared.way_in.Answered.{Answered}
 
 -- what is found of a stack: its items; the answers that its modules can give, and those if each check fails; whether nobody is
--- let in, the first way in if each check fails, and the modules that can jump past the end of their list
+-- let in, the first way in if each check fails, the modules that are never asked, and those that can jump past the end of their list
 pub record Judgement : Type 0 where
   pub items : Items
   pub free : Known
   pub failing : Known
   pub nobody : Bool
   pub way : Option PathValue
+  pub never_asked : List ℕ
   pub jumps : List ℕ
 
 pub data Verdict : Type 0 where
@@ -36,20 +39,21 @@ pub data Verdict : Type 0 where
   Judged : Judgement → Verdict
 
 -- the answers of the modules of a stack, as far as facts say, and those if each module that checks who logs in fails
-abbrev pub IsFree : List Row → Kind → Items → Known → Type 0
-IsFree facts kind items known = Allows (module_count items) known (free_answers kind facts None items)
+abbrev pub IsFree : Modules → Kind → Items → Known → Type 0
+IsFree modules kind items known = Allows (module_count items) known (free_answers kind modules.facts modules.there items)
 
-abbrev pub IsFailing : List Row → Kind → Items → Known → Type 0
-IsFailing facts kind items known = Allows (module_count items) known (failing_answers kind facts None items)
+abbrev pub IsFailing : Modules → Kind → Items → Known → Type 0
+IsFailing modules kind items known = Allows (module_count items) known (failing_answers kind modules.facts modules.there items)
 
 -- the stack of a service for a kind
-module _ (folder : Folder) (facts : List Row) (service : List ℕ) (kind : Kind) where
+module _ (folder : Folder) (modules : Modules) (service : List ℕ) (kind : Kind) where
   pub record IsJudgement (j : Judgement) : Type 0 where
     pub stack : resolved folder service kind ≡ Ok j.items
-    pub free : IsFree facts kind j.items j.free
-    pub failing : IsFailing facts kind j.items j.failing
+    pub free : IsFree modules kind j.items j.free
+    pub failing : IsFailing modules kind j.items j.failing
     pub nobody : SaysNobody (may_answer j.free) j.items j.nobody
     pub way : SaysWayIn (may_answer j.failing) j.items j.way
+    pub never_asked : AreExactly (IsNeverAsked (may_answer j.free) j.items) j.never_asked
     pub jumps : AreExactly (JumpsPastEnd (may_answer j.free) j.items) j.jumps
 
   -- its runs come to more places than a graph has nodes
@@ -58,8 +62,8 @@ module _ (folder : Folder) (facts : List Row) (service : List ℕ) (kind : Kind)
     pub free : Known
     pub failing : Known
     pub stack : resolved folder service kind ≡ Ok items
-    pub is_free : IsFree facts kind items free
-    pub is_failing : IsFailing facts kind items failing
+    pub is_free : IsFree modules kind items free
+    pub is_failing : IsFailing modules kind items failing
     pub large : HasTooManyPlaces (may_answer free) items ⊎ HasTooManyPlaces (may_answer failing) items
 
   -- THE VERDICT on it
@@ -89,6 +93,16 @@ abbrev pub way_in_of : Verdict → Option PathValue
 way_in_of Refused = None
 way_in_of TooLarge = None
 way_in_of (Judged j) = j.way
+
+-- S3: the modules that are known never to be asked
+abbrev pub never_asked_in : Verdict → List ℕ
+never_asked_in Refused = []
+never_asked_in TooLarge = []
+never_asked_in (Judged j) = j.never_asked
+
+-- S5: a module is not there
+abbrev pub is_missing : Modules → ModuleText → Bool
+is_missing modules m = not (is_there modules.there m.path)
 
 -- S13: a module has no function in a kind
 abbrev pub has_no_function : List Row → Kind → ModuleText → Bool

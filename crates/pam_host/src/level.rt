@@ -41,10 +41,15 @@ impl Problem {
         match self {
             Problem::Fault(fault) | Problem::Walk(fault) => level_of_fault(fault),
             Problem::Released(difference) => level_of_difference(difference),
-            Problem::NoOther | Problem::LeftOver => Level::Note,
+            Problem::NeverAsked
+            | Problem::NoOther
+            | Problem::LeftOver
+            | Problem::CallerIsRoot
+            | Problem::NoModule { is_dashed: true } => Level::Note,
             Problem::LetsNobodyIn { .. }
             | Problem::LetsAnybodyIn { .. }
             | Problem::JumpPastEnd
+            | Problem::NoModule { is_dashed: false }
             | Problem::UnreachableName
             | Problem::TooLarge { .. }
             | Problem::NoFunction => Level::Warning,

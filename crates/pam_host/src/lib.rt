@@ -2,8 +2,10 @@
 //! however many stacks meet it.
 #![tactic(auto)]
 
+mod callers;
 mod folder;
 mod judging;
+mod known_modules;
 pub mod laws;
 mod level;
 mod met;

@@ -1,17 +1,21 @@
 //! The problems of the modules of a stack.
 
-ghost use Rattle.std.specs.Prelude.{◌≡◌, IsFalse, IsTrue, OnOk, false};
+ghost use Rattle.std.specs.Prelude.{◌≡◌, ◌==◌, IsFalse, IsTrue, OnOk, true, false};
+ghost use Rattle.std.specs.List.{list_any};
 ghost use Rattle.std.specs.Option.{option_map_or};
 ghost use Rattle.pam_conf.specs.ItemsOf.{module_text};
 ghost use Rattle.pam_conf.specs.Stack.{module_at};
 ghost use Rattle.pam_paths.specs.Classes.{Member};
-ghost use Rattle.pam_host.specs.Looked.{OfModule, OfModules, lacks};
+ghost use Rattle.pam_host.specs.Looked.{OfModule, OfModules, OfNumber, OfRule, spot_at};
+ghost use Rattle.pam_host.specs.StackProblems.{InItems};
 ghost use Rattle.pam_host.specs.Table.{Adds};
-ghost use Rattle.pam_host.specs.Verdicts.{HasOther, denies_or_warns, has_no_function, is_other};
+ghost use Rattle.pam_host.specs.Verdicts.{HasOther, denies_or_warns, is_other};
 
+use crate::callers::caller_is_root;
+use crate::known_modules::Modules;
 use crate::problem::{Problem, Spot};
 use pam_conf::{Kind, Module, Stack};
-use pam_facts::{Facts, module_name};
+use pam_facts::module_name;
 use std::alloc::AllocError;
 
 /// Appends a problem of the module with this number.
@@ -34,45 +38,79 @@ fn push_module(
     Ok(())
 }
 
-/// Whether the module with this number has no function in a kind.
-fn lacks_function(facts: &Facts<'_>, kind: Kind, stack: &Stack, number: usize) -> bool
-    ensures { result ≡ option_map_or (has_no_function facts.now kind) (module_at number stack.now) false }
-{
-    match stack.module(number) {
-        Some(module) => !facts.of(&module.path, &module.arguments).has_function(kind),
-        None => false,
-    }
-}
-
-/// Appends the module with this number, if it has no function in the kind.
-fn push_functionless(
+/// Appends a problem of a rule, if it has it.
+fn push_if(
     spots: &mut Vec<Spot>,
-    facts: &Facts<'_>,
-    kind: Kind,
-    stack: &Stack,
-    number: usize,
+    module: &Module,
+    has: bool,
+    problem: Problem,
 ) -> Result<(), AllocError>
-    ensures { OnOk result (Adds (λ spot. lacks facts.now kind stack.now number × OfModule Problem.NoFunction stack.now number spot) spots.old.items spots.new.items) }
+    ensures { OnOk result (Adds (λ spot. (has ≡ true) × (spot ≡ spot_at (module_text «module».now) problem)) spots.old.items spots.new.items) }
 {
-    if lacks_function(facts, kind, stack, number) {
-        push_module(spots, stack, number, Problem::NoFunction)?;
+    if has {
+        spots.push(Spot {
+            file: Some(module.file),
+            line: module.line,
+            problem,
+        })?;
     }
     Ok(())
 }
 
-/// Appends the modules that have no function in the kind: S13.
-pub(crate) fn push_all_functionless(
+/// Appends the problems that a module of a stack has by itself: S5, S13, S14, and S3 if no stack may ask it.
+fn push_of_rule(
     spots: &mut Vec<Spot>,
-    facts: &Facts<'_>,
+    modules: &Modules<'_, '_>,
+    service: &[u8],
+    kind: Kind,
+    module: &Module,
+) -> Result<(), AllocError>
+    ensures { OnOk result (Adds (OfRule modules.now service.now kind (module_text «module».now)) spots.old.items spots.new.items) }
+{
+    let is_dashed = module.dashed;
+    let is_other = is_other(module);
+    push_if(spots, module, is_other, Problem::NeverAsked)?;
+    let missing = modules.is_missing(module);
+    push_if(spots, module, missing, Problem::NoModule { is_dashed })?;
+    let lacks_function = modules.lacks_function(module, kind);
+    push_if(spots, module, lacks_function, Problem::NoFunction)?;
+    let caller_is_root = caller_is_root(kind, service, module);
+    push_if(spots, module, caller_is_root, Problem::CallerIsRoot)?;
+    Ok(())
+}
+
+/// Appends the problems that the module with this number has by itself.
+fn push_of_number(
+    spots: &mut Vec<Spot>,
+    modules: &Modules<'_, '_>,
+    service: &[u8],
+    kind: Kind,
+    stack: &Stack,
+    number: usize,
+) -> Result<(), AllocError>
+    ensures { OnOk result (Adds (OfNumber modules.now service.now kind stack.now number) spots.old.items spots.new.items) }
+{
+    let Some(module) = stack.module(number) else {
+        return Ok(());
+    };
+    push_of_rule(spots, modules, service, kind, module)?;
+    Ok(())
+}
+
+/// Appends the problems that modules have by themselves.
+pub(crate) fn push_modules(
+    spots: &mut Vec<Spot>,
+    modules: &Modules<'_, '_>,
+    service: &[u8],
     kind: Kind,
     stack: &Stack,
 ) -> Result<(), AllocError>
-    ensures { OnOk result (Adds (OfModules Problem.NoFunction stack.now (lacks facts.now kind stack.now)) spots.old.items spots.new.items) }
+    ensures { OnOk result (Adds (λ spot. InItems modules.now service.now kind (Some stack.now) spot spot.problem) spots.old.items spots.new.items) }
 {
     // The items say that the modules are numbered from 1 on.
     let _items = stack.items();
     for index in 0..stack.modules() {
-        push_functionless(spots, facts, kind, stack, index + 1)?;
+        push_of_number(spots, modules, service, kind, stack, index + 1)?;
     }
     Ok(())
 }
@@ -87,6 +125,45 @@ pub(crate) fn push_jumps(
 {
     for number in numbers {
         push_module(spots, stack, *number, Problem::JumpPastEnd)?;
+    }
+    Ok(())
+}
+
+/// Whether a number is one of these.
+fn is_listed(number: usize, numbers: &[usize]) -> bool
+    ensures { result ≡ list_any (λ listed. listed == number) numbers.now }
+{
+    numbers.iter().any(|listed| *listed == number)
+}
+
+/// Appends S3 of the module with this number, unless it is one of these.
+fn push_unless_listed(
+    asked: &mut Vec<Spot>,
+    stack: &Stack,
+    never_asked: &[usize],
+    number: usize,
+) -> Result<(), AllocError>
+    ensures { OnOk result (Adds (λ spot. (Member number never_asked.now → ⊥) × OfModule Problem.NeverAsked stack.now number spot) asked.old.items asked.new.items) }
+{
+    if is_listed(number, never_asked) {
+        return Ok(());
+    }
+    push_module(asked, stack, number, Problem::NeverAsked)?;
+    Ok(())
+}
+
+/// Appends S3 of each module that may be asked, where those with these numbers are not.
+pub(crate) fn push_asked(
+    asked: &mut Vec<Spot>,
+    stack: &Stack,
+    never_asked: &[usize],
+) -> Result<(), AllocError>
+    ensures { OnOk result (Adds (OfModules Problem.NeverAsked stack.now (λ number. Member number never_asked.now → ⊥)) asked.old.items asked.new.items) }
+{
+    // The items say that the modules are numbered from 1 on.
+    let _items = stack.items();
+    for index in 0..stack.modules() {
+        push_unless_listed(asked, stack, never_asked, index + 1)?;
     }
     Ok(())
 }

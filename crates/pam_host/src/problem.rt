@@ -27,8 +27,15 @@ pub enum Problem {
         /// The position of the service in `HostReport::services`.
         service: usize,
     },
+    /// S3: no answers ask a module, in any stack that its rule is in.
+    NeverAsked,
     /// S4: a module jumps past the end of its list.
     JumpPastEnd,
+    /// S5: a module is not there.
+    NoModule {
+        /// Whether the kind of the rule has a dash, which says that the module may not be there.
+        is_dashed: bool,
+    },
     /// S6: a folder has no `other`.
     NoOther,
     /// S7: the name of a file has a capital letter, but services are looked up in lowercase.
@@ -43,6 +50,8 @@ pub enum Problem {
     LeftOver,
     /// S13: a module has no function in the kind of its rule.
     NoFunction,
+    /// S14: a module of an `auth` stack looks at the user of the calling process, which is always root in this service.
+    CallerIsRoot,
 }
 
 /// A problem at a line of a file.
@@ -64,8 +73,9 @@ pub struct Place {
     pub line: usize,
     /// Problems of one line are in the order of their ranks: faults of the line, those of walks, differences, and then the others.
     pub rank: u8,
-    /// The service and the kind of a problem that names them, else 0.
+    /// The service of a problem that names one, else 0.
     pub service: usize,
+    /// The number of the kind of a problem that names one, and 1 for S5 of a dashed rule; else 0.
     pub kind: u8,
 }
 
@@ -144,12 +154,15 @@ impl Problem {
             Problem::Released(difference) => 40 + rank_of_difference(difference),
             Problem::LetsNobodyIn { .. } => 51,
             Problem::LetsAnybodyIn { .. } => 52,
+            Problem::NeverAsked => 53,
             Problem::JumpPastEnd => 54,
+            Problem::NoModule { .. } => 55,
             Problem::NoOther => 56,
             Problem::UnreachableName => 57,
             Problem::TooLarge { .. } => 59,
             Problem::LeftOver => 61,
             Problem::NoFunction => 63,
+            Problem::CallerIsRoot => 64,
         }
     }
 
@@ -164,15 +177,18 @@ impl Problem {
             Problem::Fault(_)
             | Problem::Walk(_)
             | Problem::Released(_)
+            | Problem::NeverAsked
             | Problem::JumpPastEnd
+            | Problem::NoModule { .. }
             | Problem::NoOther
             | Problem::UnreachableName
             | Problem::LeftOver
-            | Problem::NoFunction => 0,
+            | Problem::NoFunction
+            | Problem::CallerIsRoot => 0,
         }
     }
 
-    /// The number of the kind of a problem that names one, else 0.
+    /// The number of the kind of a problem that names one, and 1 for S5 of a dashed rule; else 0.
     fn kind_number(self) -> u8
         ensures { result ≡ kind_of self }
     {
@@ -180,15 +196,18 @@ impl Problem {
             Problem::LetsNobodyIn { kind, .. } | Problem::TooLarge { kind, .. } => number_of_kind(
                 kind,
             ),
+            Problem::NoModule { is_dashed } => u8::from(is_dashed),
             Problem::Fault(_)
             | Problem::Walk(_)
             | Problem::Released(_)
             | Problem::LetsAnybodyIn { .. }
+            | Problem::NeverAsked
             | Problem::JumpPastEnd
             | Problem::NoOther
             | Problem::UnreachableName
             | Problem::LeftOver
-            | Problem::NoFunction => 0,
+            | Problem::NoFunction
+            | Problem::CallerIsRoot => 0,
         }
     }
 }

@@ -1,6 +1,6 @@
 //! What is found of a stack.
 
-ghost use Rattle.std.specs.Prelude.{◌≡◌, ◌↔◌, IfOk, IsTrue, List, None, [], ℕ, length};
+ghost use Rattle.std.specs.Prelude.{◌≡◌, ◌↔◌, IfOk, IsTrue, None, [], length, slice_get};
 ghost use Rattle.std.proofs.Common.{replicate};
 ghost use Rattle.pam_conf.specs.Laws.{IsSound};
 ghost use Rattle.pam_conf.specs.Survey.{faults_at, surveyed};
@@ -12,8 +12,9 @@ ghost use Rattle.pam_host.specs.Checking.{AddsService, AddsStack};
 ghost use Rattle.pam_host.specs.Looked.{Looks};
 
 use crate::judging::{Stacked, judge};
+use crate::known_modules::Modules;
 use crate::met::Met;
-use crate::modules::push_all_functionless;
+use crate::modules::{push_asked, push_modules};
 use crate::problem::Spot;
 use crate::readers::note_read;
 use crate::table::{Table, put_stack_at_all};
@@ -21,7 +22,6 @@ use crate::walk::push_walk;
 use crate::way_in::WayIn;
 use pam_conf::laws::stack_is_sound_survey;
 use pam_conf::{Files, Kind, RuleFiles, Survey};
-use pam_facts::Facts;
 use pam_text::Texts;
 use std::alloc::{AllocError, Global};
 use std::collections::BTreeMap;
@@ -32,14 +32,16 @@ pub(crate) struct Checker<'x, 'f> {
     pub alloc: Global,
     pub files: &'x Files,
     pub rules: &'x RuleFiles<'x>,
-    pub facts: &'x Facts<'f>,
+    pub modules: &'x Modules<'x, 'f>,
     ghost same: { rules.now ≡ files.now },
 }
 
-/// What is found so far: the findings, and the stacks that read each file, by its position.
+/// What is found so far: the findings, where S3 is found of each rule that does not deny or only warn; S3 of each rule that a
+/// stack may ask; and the stacks that read each file, by its position.
 #[derive(Drop)]
 pub(crate) struct Found {
     pub table: Table,
+    pub asked: Vec<Spot>,
     pub readers: Vec<Option<Met>>,
 }
 
@@ -49,9 +51,11 @@ impl Found {
         ensures readers { IfOk result (λ f. f.readers.items ≡ replicate files None) }
         ensures found { IfOk result (λ f. (spot : SpotText) → finding_at f.table spot ≡ None) }
         ensures placed { IfOk result (λ f. ArePlaced f.table) }
+        ensures asked { IfOk result (λ f. f.asked.items ≡ []) }
     {
         Ok(Found {
             table: BTreeMap::new(alloc),
+            asked: Vec::new(alloc),
             readers: vec![in alloc; None; files]?,
         })
     }
@@ -83,26 +87,24 @@ fn is_sound(rules: &RuleFiles<'_>, survey: &Survey) -> bool
 }
 
 impl Checker<'_, '_> {
-    /// The problems of a stack itself, and the first way in, if it is one of `auth`.
+    /// The problems of a stack itself, the rules that it may ask, and the first way in, if it is one of `auth`.
     fn look(
         &self,
         spots: &mut Vec<Spot>,
-        service: usize,
-        kind: Kind,
+        asked: &mut Vec<Spot>,
+        at: Stacked,
+        name: &[u8],
         survey: Survey,
     ) -> Result<Option<WayIn>, AllocError>
-        requires { spots.old.items ≡ [] }
-        ensures { (name : List ℕ) → survey_text survey ≡ surveyed self.now.rules.now name kind →
-            IfOk result (Looks self.now.rules.now self.now.facts.now name service kind (survey_text survey) spots.new.items) }
+        requires none { spots.old.items ≡ [] }
+        requires home { at.home ≡ slice_get (survey_text survey).reached 0 }
+        ensures { survey_text survey ≡ surveyed self.now.rules.now name.now at.kind →
+            IfOk result (Looks self.now.rules.now self.now.modules.now name.now at.service at.kind (survey_text survey) spots.new.items
+            asked.old.items asked.new.items) }
     {
         stack_is_sound_survey();
         let is_sound = is_sound(self.rules, &survey);
         push_walk(spots, &survey.faults)?;
-        let at = Stacked {
-            service,
-            kind,
-            home: survey.reached.first().copied(),
-        };
         let Survey {
             stack,
             faults: _,
@@ -112,11 +114,12 @@ impl Checker<'_, '_> {
             Some(stack) => stack,
             None => return Ok(None),
         };
-        push_all_functionless(spots, self.facts, kind, &stack)?;
+        push_modules(spots, self.modules, name, at.kind, &stack)?;
         if !is_sound {
+            push_asked(asked, &stack, &[])?;
             return Ok(None);
         }
-        judge(self.alloc, spots, self.facts, at, stack)
+        judge(self.alloc, spots, asked, self.modules, at, stack)
     }
 
     /// Adds what the stack of a service for a kind meets. Returns the first way in, if it is one of `auth`.
@@ -128,7 +131,7 @@ impl Checker<'_, '_> {
         kind: Kind,
     ) -> Result<Option<WayIn>, AllocError>
         requires { length found.old.readers.items ≡ length self.now.files.now.entries }
-        ensures { IfOk result (AddsStack self.now.files.now self.now.facts.now service name.now kind found.old found.new) }
+        ensures { IfOk result (AddsStack self.now.files.now self.now.modules.now service name.now kind found.old found.new) }
     {
         let survey = self.rules.survey(self.alloc, name, kind)?;
         note_read(
@@ -139,7 +142,12 @@ impl Checker<'_, '_> {
             kind,
         )?;
         let mut spots = Vec::new(self.alloc);
-        let way = self.look(&mut spots, service, kind, survey)?;
+        let at = Stacked {
+            service,
+            kind,
+            home: survey.reached.first().copied(),
+        };
+        let way = self.look(&mut spots, &mut found.asked, at, name, survey)?;
         put_stack_at_all(&mut found.table, &spots, service, kind)?;
         Ok(way)
     }
@@ -152,7 +160,7 @@ impl Checker<'_, '_> {
         name: &[u8],
     ) -> Result<Option<WayIn>, AllocError>
         requires { length found.old.readers.items ≡ length self.now.files.now.entries }
-        ensures { IfOk result (AddsService self.now.files.now self.now.facts.now service name.now found.old found.new) }
+        ensures { IfOk result (AddsService self.now.files.now self.now.modules.now service name.now found.old found.new) }
     {
         let way = self.add_stack(found, service, name, Kind::Auth)?;
         let _ = self.add_stack(found, service, name, Kind::Account)?;
@@ -167,8 +175,8 @@ impl Checker<'_, '_> {
         found: &mut Found,
         services: &Texts,
     ) -> Result<Vec<Option<WayIn>>, AllocError>
-        requires { SoFar (host_with self.now.files.now services.now self.now.facts.now) 0 found.old [] }
-        ensures { IfOk result (λ ways. SoFar (host_with self.now.files.now services.now self.now.facts.now) (length services.now) found.new ways.items) }
+        requires { SoFar (host_with self.now.files.now services.now self.now.modules.now) 0 found.old [] }
+        ensures { IfOk result (λ ways. SoFar (host_with self.now.files.now services.now self.now.modules.now) (length services.now) found.new ways.items) }
     {
         let mut ways_in = Vec::new(self.alloc);
         for name in services.iter() {

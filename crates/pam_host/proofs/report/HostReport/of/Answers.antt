@@ -1,29 +1,37 @@
 use Rattle.std.proofs.Common.{◌∙◌, List, None, Option, ap, length, replicate, subst, ℕ}
+use Rattle.pam_paths.specs.Classes.{Member}
 use Rattle.pam_host.specs.Host.{Host}
+use Rattle.pam_host.specs.Modules.{Modules}
 use Rattle.pam_host.specs.Own.{IsRead, read_by}
+use Rattle.pam_host.specs.Report.{IsReportOn}
 use Rattle.pam_host.specs.Services.{checked_services}
 use Rattle.pam_host.specs.SoFar.{SoFar, host_with}
-use Rattle.pam_host.specs.Table.{Puts}
+use Rattle.pam_host.specs.Table.{Puts, Removes}
 use Rattle.pam_host.specs.declared.met.Met.{Met}
+use Rattle.pam_host.specs.declared.problem.Spot.{Spot}
 use Rattle.pam_host.proofs.OneService.{take-none}
 use Rattle.pam_host.proofs.Reporting.{report-from}
 use Rattle.pam_host.proofs.report.HostReport.of.Goals as goal
 
 pub add_all-requires : goal.add_all-requires
 add_all-requires c =
-    take-none (host_with c.args.files.now c.in_ok-services.services c.args.facts.now) c.in_ok-found.found
+    take-none (host_with c.args.files.now c.in_ok-services.services c.new-modules.result) c.in_ok-found.found
     (c.in_ok-found.ensures.readers ∙ ap (λ (n : ℕ). let none : Option Met = None in replicate n none) c.len.ensures)
-    c.in_ok-found.ensures.found c.in_ok-found.ensures.placed
+    c.in_ok-found.ensures.found c.in_ok-found.ensures.placed c.in_ok-found.ensures.asked
 
 pub returns-clause-report : goal.returns-clause-report
 returns-clause-report c =
-    let host : List (List ℕ) → Host = λ services. host_with c.args.files.now services c.args.facts.now in
+    let host : List (List ℕ) → Host = λ services. host_with c.args.files.now services c.new-modules.result in
     let services = c.in_ok-services.ensures in
     let found = c.add_all.new.found in
     let ways = c.in_ok-ways_in.ways_in.items in
     let sofar = subst (λ (l : List (List ℕ)). SoFar (host l) (length l) found ways) services c.in_ok-ways_in.ensures in
-    report-from (host (checked_services c.args.files.now c.args.named.now)) c.args.named.now found ways sofar
-    c.put_files.new.table c.put_folder.new.table
-    (subst (λ (l : List (Option Met)). Puts (IsRead c.args.files.now l (length l)) (read_by l) found.table c.put_files.new.table)
-    c.deref.ensures.value c.in_ok-put_files.ensures)
-    c.in_ok-put_folder.ensures c.len-count.ensures.ordered
+    let checked = checked_services c.args.files.now c.args.named.now in
+    let Is : Modules → Type 0 = λ m. IsReportOn (host_with c.args.files.now checked m) c.args.named.now c.put_folder.new.table ways in
+    subst Is c.new-modules.ensures
+    (report-from (host checked) c.args.named.now found ways sofar
+    c.remove_all.new.table c.put_files.new.table c.put_folder.new.table
+    (subst (λ (l : List Spot). Removes (λ spot. Member spot l) found.table c.remove_all.new.table) c.deref.ensures.value c.remove_all.ensures)
+    (subst (λ (l : List (Option Met)). Puts (IsRead c.args.files.now l (length l)) (read_by l) c.remove_all.new.table c.put_files.new.table)
+    c.deref-2.ensures.value c.in_ok-put_files.ensures)
+    c.in_ok-put_folder.ensures c.len-count.ensures.ordered)

@@ -9,8 +9,8 @@ pub loop-name-preserved : goal.loop-name-preserved
 loop-name-preserved c =
     let services = c.args.services.now in
     let files = c.args.self.now.files.now in
-    let facts = c.args.self.now.facts.now in
-    let host = host_with files services facts in
+    let modules = c.args.self.now.modules.now in
+    let host = host_with files services modules in
     let ways = c.loop-name.ways_in.items in
     let n = length ways in
     let name = c.in-Some.name.now in
@@ -19,8 +19,8 @@ loop-name-preserved c =
     let way = c.in_ok-way.way in
     let next = next-left services n name c.next.new.self (c.loop-name.invariant.left ∙ c.in-Some.ensures.steps) in
     let number = c.len.ensures ∙ c.loop-name.ways_in.ok.0 in
-    let adds = subst (λ (l : List ℕ). AddsService files facts n l old new way) (sym next.0)
-    (subst (λ (m : ℕ). AddsService files facts m name old new way) number c.in_ok-way.ensures) in
+    let adds = subst (λ (l : List ℕ). AddsService files modules n l old new way) (sym next.0)
+    (subst (λ (m : ℕ). AddsService files modules m name old new way) number c.in_ok-way.ensures) in
     let taken = take-service host n old new ways way c.loop-name.invariant.taken adds in
     let pushed = c.in_ok-push.ensures.items in
     let counted = subst (λ (m : ℕ). SoFar host m new (ways ++ way ∷ [])) (sym taken.count) taken in
@@ -37,5 +37,5 @@ returns c =
     let n = length c.loop-name.ways_in.items in
     let low = none-left services n (c.loop-name.invariant.left ∙ c.in-None.ensures.steps.0) in
     let same : n ≡ length services = omega (arith, low, c.loop-name.invariant.within) in
-    subst (λ (m : ℕ). SoFar (host_with c.args.self.now.files.now services c.args.self.now.facts.now) m c.loop-name.found c.loop-name.ways_in.items) same
+    subst (λ (m : ℕ). SoFar (host_with c.args.self.now.files.now services c.args.self.now.modules.now) m c.loop-name.found c.loop-name.ways_in.items) same
     c.loop-name.invariant.taken

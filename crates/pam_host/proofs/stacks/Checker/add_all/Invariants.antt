@@ -5,7 +5,7 @@ use Rattle.pam_host.proofs.stacks.Checker.add_all.Given as goal
 -- the services so far are taken, and the others are left
 abbrev pub invariant-loop-name : goal.invariant-loop-name
 invariant-loop-name l = record {
-  taken : SoFar (host_with l.self.files.now l.services l.self.facts.now) (length l.ways_in.items) l.found l.ways_in.items;
+  taken : SoFar (host_with l.self.files.now l.services l.self.modules.now) (length l.ways_in.items) l.found l.ways_in.items;
   within : length l.ways_in.items ≤ length l.services;
   left : drop (length l.ways_in.items) l.services ≡ l.name-iterator;
 }
