@@ -9,7 +9,7 @@ use pam_text::cut;
 
 /// An IPv4 or IPv6 address, as a number.
 #[derive(Clone, Copy, Debug, PartialEq, Eq)]
-pub(crate) enum Address {
+pub enum Address {
     V4(u32),
     V6(u128),
 }
