@@ -1,0 +1,115 @@
+# Completion of pamcheck for bash, by the package bash-completion. It never runs pamcheck itself, whose launcher may build.
+
+_pamcheck_commands='check show decide paths outcomes graph access time help'
+_pamcheck_kinds='auth account password session'
+_pamcheck_codes='success open_err symbol_err service_err system_err buf_err perm_denied auth_err cred_insufficient
+    authinfo_unavail user_unknown maxtries new_authtok_reqd acct_expired session_err cred_unavail cred_expired cred_err
+    no_module_data conv_err authtok_err authtok_recover_err authtok_lock_busy authtok_disable_aging try_again ignore abort
+    authtok_expired module_unknown bad_item conv_again'
+
+# The options of a command.
+_pamcheck_options() {
+    local source='--dir --vendor-dir --conf --root'
+    local moment='--at --at-unix --zone'
+    local known="--user --rhost --tty --access --time --group --returns $moment"
+    case $1 in
+        check) echo "$source --fail-on --help" ;;
+        show | decide) echo "$source --help" ;;
+        paths) echo "$source --limit --after --before --decision --asks $known --help" ;;
+        outcomes) echo "$source $known --help" ;;
+        graph) echo "$source --format $known --help" ;;
+        access) echo '--access --user --tty --group --rhost --help' ;;
+        time) echo "--time --user --tty $moment --help" ;;
+        *) echo '--help' ;;
+    esac
+}
+
+# The value of an option among the words that follow it here.
+_pamcheck_value() {
+    local option=$1 before='' word
+    shift
+    for word in "$@"; do
+        if [[ $before == "$option" ]]; then
+            printf '%s' "${word/#\~\//$HOME/}"
+            return
+        fi
+        [[ $word != "$option"=* ]] || printf '%s' "${word#*=}"
+        before=$word
+    done
+}
+
+# The services of the source that the words name, or of the running system.
+_pamcheck_services() {
+    local dir vendor conf root file
+    dir=$(_pamcheck_value --dir "$@")
+    vendor=$(_pamcheck_value --vendor-dir "$@")
+    conf=$(_pamcheck_value --conf "$@")
+    root=$(_pamcheck_value --root "$@")
+    if [[ -n $conf ]]; then
+        awk '!/^[ \t]*(#|$)/ { print $1 }' "$conf" 2>/dev/null
+        return
+    fi
+    [[ -n $dir ]] || dir=${root%/}/etc/pam.d vendor=${root%/}/usr/lib/pam.d
+    for file in "$dir"/* "${vendor:-$dir}"/*; do
+        [[ ! -f $file ]] || printf '%s\n' "${file##*/}"
+    done
+}
+
+# A set of codes: `any`, or names with commas between them, with `but:` before them or not.
+_pamcheck_set() {
+    local before='' last=${1##*[,:]} code
+    [[ $1 != *[,:]* ]] || before=${1%"$last"}
+    [[ -n $before ]] || COMPREPLY+=($(compgen -W 'any but:' -- "$last"))
+    for code in $(compgen -W "$_pamcheck_codes" -- "${last,,}"); do
+        COMPREPLY+=("$before$code")
+    done
+    compopt -o nospace
+    __ltrim_colon_completions "$1"
+}
+
+_pamcheck() {
+    local cur prev words cword split
+    _init_completion -s -n : || return
+    local command=${words[1]} at place=0
+    if ((cword == 1)); then
+        COMPREPLY=($(compgen -W "$_pamcheck_commands --help" -- "$cur"))
+        return
+    fi
+    if [[ $cword -eq 2 && $command == help ]]; then
+        COMPREPLY=($(compgen -W "$_pamcheck_commands" -- "$cur"))
+        return
+    fi
+    case $prev in
+        --dir | --vendor-dir | --root) _filedir -d ;;
+        --conf | --access | --time | --group | --returns) _filedir ;;
+        --fail-on) COMPREPLY=($(compgen -W 'error warning note' -- "$cur")) ;;
+        --format) COMPREPLY=($(compgen -W 'dot mermaid' -- "$cur")) ;;
+        --decision) _pamcheck_set "$cur" ;;
+        --user) COMPREPLY=($(compgen -u -- "$cur")) ;;
+        --rhost) _known_hosts_real -- "$cur" ;;
+    esac
+    # The value of an option is no other word.
+    ! $split && [[ $prev != --* || $prev == *=* ]] || return
+    if [[ $cur == -* ]]; then
+        COMPREPLY=($(compgen -W "$(_pamcheck_options "$command")" -- "$cur"))
+        return
+    fi
+    # The place of this word among those that are neither options nor their values.
+    for ((at = 2; at < cword; at++)); do
+        case ${words[at]} in
+            --*=*) ;;
+            --*) at=$((at + 1)) ;;
+            *) place=$((place + 1)) ;;
+        esac
+    done
+    case $command:$place in
+        check:* | show:0 | decide:0 | paths:0 | outcomes:0 | graph:0 | access:0 | time:0)
+            COMPREPLY=($(compgen -W "$(_pamcheck_services "${words[@]:2}")" -- "$cur")) ;;
+        show:1 | decide:1 | paths:1 | outcomes:1 | graph:1) COMPREPLY=($(compgen -W "$_pamcheck_kinds" -- "$cur")) ;;
+        decide:*) COMPREPLY=($(compgen -W "$_pamcheck_codes" -- "$cur")) ;;
+        access:*)
+            COMPREPLY=($(compgen -W 'fieldsep= listsep= nodefgroup' -- "$cur"))
+            [[ ${COMPREPLY[0]} != *= ]] || compopt -o nospace
+            ;;
+    esac
+} && complete -F _pamcheck pamcheck
