@@ -6,7 +6,8 @@ use crate::tests::same::same;
 use pam_codes::{Code, Device, Out, Piece};
 use pam_page::Listing;
 use pam_paths::Known;
-use pam_report::{Fault, PageRenderer, PathsPage, Reply, RunReply, reply_to};
+use pam_report::{Fault, Inputs, PageRenderer, PathsPage, Reply, RunReply, reply_to};
+use pam_words::Request;
 use std::alloc::Global;
 use std::io::Write;
 use std::process::Abort;
@@ -66,15 +67,26 @@ fn put_reply<W: Write>(alloc: Global, reply: &Reply<'_>, out: &mut Out<W>) -> Re
     }
 }
 
+/// Answers a request in this form.
+fn answer_as_json<W: Write>(
+    alloc: Global,
+    request: &Request<'_>,
+    inputs: &Inputs,
+    out: &mut Out<W>,
+) -> Result<(), Fault> {
+    let reply = match reply_to(alloc, request, inputs) {
+        Ok(reply) => reply,
+        Err(fault) => return Err(fault),
+    };
+    put_reply(alloc, &reply, out)
+}
+
 /// Asserts that the reply of a command is written so.
 fn writes(rt: &impl Abort, alloc: Global, command: &Command, text: &[u8]) -> Result<(), Fail> {
     let request = asked(alloc, command.words)?;
     let inputs = inputs(alloc, command)?;
     let mut halting = Halting::new(alloc, usize::MAX, usize::MAX, NOTHING, true);
-    let written = match reply_to(alloc, &request, &inputs) {
-        Ok(reply) => put_reply(alloc, &reply, &mut Out::new(&mut halting)),
-        Err(fault) => Err(fault),
-    };
+    let written = answer_as_json(alloc, &request, &inputs, &mut Out::new(&mut halting));
     same(rt, "the reply", &written, &Ok(()));
     same(rt, "the text", &halting.bytes.as_slice(), &text);
     Ok(())
