@@ -6,7 +6,7 @@ use Rattle.pam_explain.specs.Explanation.{Explanation}
 use Rattle.pam_explain.specs.Views.{explanation_view}
 use Rattle.pam_explain.specs.declared.explanation.Explanation.{Explanation as Declared}
 use Rattle.pam_explain.specs.Explanations.{families, rows_of}
-use Rattle.pam_explain.specs.Hosts.{files_and_rules, folders_and_limits, whole_stacks}
+use Rattle.pam_explain.specs.Hosts.{limits_and_rules, modules_and_files, whole_stacks}
 use Rattle.pam_explain.specs.Paths.{cursors, moments}
 use Rattle.pam_explain.specs.Released.{continued_lines, controls_and_lengths, names_and_blanks}
 use Rattle.pam_explain.specs.Rules.{broken_controls, broken_rules}
@@ -21,7 +21,7 @@ has_rows (row ∷ rows) = true
 pub all_have_rows : list_all has_rows families ≡ true
 unfolding families broken_controls broken_rules broken_includes limits missing_and_long_files lists_and_groups returns_files table_lines table_words
     cursors moments filters_and_forms questions reads_and_writes sources_and_names continued_lines controls_and_lengths names_and_blanks
-    files_and_rules folders_and_limits whole_stacks accept_and_facts_files numbers
+    limits_and_rules modules_and_files whole_stacks accept_and_facts_files numbers
 all_have_rows = refl
 
 pub are_few : length families ≡ 23

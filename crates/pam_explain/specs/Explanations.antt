@@ -2,7 +2,7 @@
 use Rattle.std.specs.Prelude.{ℕ, Bool, List, [], ◌∷◌, ◌++◌, bytes_eq, find, map, Option}
 use Rattle.std.specs.Char.{to_ascii_lowercase}
 use Rattle.pam_explain.specs.Explanation.{Explanation}
-use Rattle.pam_explain.specs.Hosts.{files_and_rules, folders_and_limits, whole_stacks}
+use Rattle.pam_explain.specs.Hosts.{limits_and_rules, modules_and_files, whole_stacks}
 use Rattle.pam_explain.specs.Paths.{cursors, moments}
 use Rattle.pam_explain.specs.Released.{continued_lines, controls_and_lengths, names_and_blanks}
 use Rattle.pam_explain.specs.Rules.{broken_controls, broken_rules}
@@ -19,7 +19,7 @@ families =
     ∷ cursors ∷ moments
     ∷ sources_and_names ∷ questions ∷ filters_and_forms ∷ numbers ∷ reads_and_writes
     ∷ continued_lines ∷ controls_and_lengths ∷ names_and_blanks
-    ∷ whole_stacks ∷ folders_and_limits ∷ files_and_rules
+    ∷ whole_stacks ∷ modules_and_files ∷ limits_and_rules
     ∷ []
 
 -- the rows of families, one family after the other

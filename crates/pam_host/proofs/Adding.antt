@@ -76,6 +76,7 @@ walk-to faults file line (problems.Fault fault) h = absurd h
 walk-to faults file line (problems.Released difference) h = absurd h
 walk-to faults file line (problems.LetsNobodyIn service kind) h = absurd h
 walk-to faults file line (problems.LetsAnybodyIn service) h = absurd h
+walk-to faults file line problems.NeverAsked h = absurd h
 walk-to faults file line problems.JumpPastEnd h = absurd h
 walk-to faults file line (problems.NoModule is_dashed) h = absurd h
 walk-to faults file line problems.NoOther h = absurd h
@@ -163,8 +164,8 @@ numbered items number rule is there =
     let range = module_at-range 1 number items is (ap is_some there) in
     (range.0, omega (arith, range.1))
 
-rule-of : (modules : Modules) (name : List ℕ) (kind : Kind) (spot : Spot) (o : Option ModuleText) → MatchOption o ⊥ (λ rule. OfRule modules name kind rule spot) →
-    (rule : ModuleText) × (o ≡ Some rule) × OfRule modules name kind rule spot
+rule-of : (modules : Modules) (name : List ℕ) (kind : Kind) (spot : Spot) (o : Option ModuleText) →
+    MatchOption o ⊥ (λ rule. OfRule modules name kind rule spot) → (rule : ModuleText) × (o ≡ Some rule) × OfRule modules name kind rule spot
 rule-of modules name kind spot None h = absurd h
 rule-of modules name kind spot (Some rule) h = (rule, refl, h)
 
@@ -196,6 +197,16 @@ modules-all modules name kind items n old new is all h =
             subst (λ (o : Option ModuleText). MatchOption o ⊥ (λ rule. OfRule modules name kind rule spot)) (sym m.2.is_there)
                 (record { file = m.2.file; line = m.2.line; has = m.3 }),
           ),
+    ))
+    h
+
+pub tested-all : (problem : Problem) (items : Items) (IsOne : ℕ → Type 0) (n : ℕ) (old new : List Spot) → IsNumbered items → module_count items ≤ n →
+    Adds (OfFirst (λ number spot. IsOne number × OfModule problem items number spot) n) old new → Adds (OfModules problem items IsOne) old new
+tested-all problem items IsOne n old new is all h =
+    adds-iff (OfFirst (λ number spot. IsOne number × OfModule problem items number spot) n) (OfModules problem items IsOne) old new
+    (λ spot. (
+      λ m. record { number = m.0; one = m.3.0; of = m.3.1 },
+      λ m. let range = numbered items m.number m.of.rule is m.of.at.is_there in (m.number, range.0, omega (arith, range.1, all), (m.one, m.of)),
     ))
     h
 

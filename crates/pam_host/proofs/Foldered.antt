@@ -134,6 +134,7 @@ module _ (folder : Folder) where
   from-folder file line (problems.LetsNobodyIn service kind) first h = absurd (false≢true h)
   from-folder file line (problems.LetsAnybodyIn service) first h = absurd (false≢true h)
   from-folder file line problems.JumpPastEnd first h = absurd (false≢true h)
+  from-folder file line problems.NeverAsked first h = absurd (false≢true h)
   from-folder file line (problems.NoModule is_dashed) first h = absurd (false≢true h)
   from-folder file line (problems.TooLarge service kind) first h = absurd (false≢true h)
   from-folder file line problems.NoFunction first h = absurd (false≢true h)

@@ -1,4 +1,5 @@
 pub mod Adding
+pub mod Asking
 pub mod FileNames
 pub mod Foldered
 pub mod Listed
@@ -7,6 +8,7 @@ pub mod OneService
 pub mod Owned
 pub mod Passes
 pub mod Places
+pub mod Removing
 pub mod Reporting
 pub mod Ruled
 pub mod Seen

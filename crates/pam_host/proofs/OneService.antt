@@ -80,6 +80,7 @@ with-way host service found ways way count t = record {
   verdicts = t.verdicts;
   are = t.are;
   shows = t.shows;
+  asks = t.asks;
   reads = t.reads;
   placed = t.placed;
   readers = t.readers;
@@ -134,8 +135,9 @@ none-left (x ∷ xs) (suc n) h = let again = none-left xs n h in omega (arith, a
 -- no service is taken at first
 pub take-none : (host : Host) (found : Found) → found.readers.items ≡ replicate (length host.folder.entries) None
     → ((spot : Spot) → finding_at found.table spot ≡ None) →
-    ArePlaced found.table → SoFar host 0 found []
-take-none host found readers nothing_found placed = record {
+    ArePlaced found.table → found.asked.items ≡ [] → SoFar host 0 found []
+unfolding Member
+take-none host found readers nothing_found placed nothing_asked = record {
   taken = record {
     verdicts = λ s k. Refused;
     are = λ s k h. absurd (omega (arith, h));
@@ -145,6 +147,7 @@ take-none host found readers nothing_found placed = record {
         subst (MetSoFar (λ s k. (s < 0) × Member file (reads_at host s k)))
         (sym (ap (λ (l : List (Option Met)). slice_index_or l file None) readers ∙ get_or-replicate (length host.folder.entries) file None None within))
         (λ s k h. omega (arith, h.0));
+    asks = λ spot. (λ m. absurd (subst (Member spot) nothing_asked m), λ a. absurd (omega (arith, a.2)));
     placed = placed;
     readers = ap (λ (l : List (Option Met)). length l) readers ∙ length-replicate (length host.folder.entries) None;
     ways_in = λ s h. absurd (omega (arith, h));

@@ -53,6 +53,7 @@ module _ (form : Form) (file : ℕ) (bytes : List ℕ) where
   to_spot line (problems.LetsNobodyIn service kind) h = absurd h
   to_spot line (problems.LetsAnybodyIn service) h = absurd h
   to_spot line problems.JumpPastEnd h = absurd h
+  to_spot line problems.NeverAsked h = absurd h
   to_spot line (problems.NoModule is_dashed) h = absurd h
   to_spot line problems.NoOther h = absurd h
   to_spot line problems.UnreachableName h = absurd h

@@ -1,6 +1,6 @@
 -- The places of problems: their order, and that two problems have two places.
-use Rattle.std.proofs.Common.{◌≡◌, ℕ, ◌+◌, ◌-◌, cond, nat_lt, if◌then◌else◌, Bool, true, false, [], ◌∷◌, refl, sym, ◌∙◌, ap, subst, inl, inr, Option, Some, None}
-use Rattle.std.proofs.Common.{slice_index_or, IfSome, nat_cmp}
+use Rattle.std.proofs.Common.{◌≡◌, ℕ, ◌+◌, ◌-◌, cond, nat_lt, if◌then◌else◌, Bool, true, false, [], ◌∷◌, refl, sym, ◌∙◌, ap, subst, inl, inr}
+use Rattle.std.proofs.Common.{Option, Some, None, slice_index_or, IfSome, nat_cmp}
 use Rattle.std.specs.BTreeMap.{Updates, get, is_at}
 use Rattle.std.specs.Cmp.{IsTotalOrder}
 use Rattle.std.specs.Cmp.Lexicographic.{options_total}
@@ -20,7 +20,7 @@ use Rattle.pam_released.specs.declared.difference.Difference.{Difference}
 use Rattle.pam_released.specs.declared.difference.Difference.TheVariants.{CarriageReturn, ContinuedOverBlank, BackslashBlank, BackslashComment}
 use Rattle.pam_released.specs.declared.difference.Difference.TheVariants.{EndsInContinuation, CapitalInBrackets, LongLine, EmptyModuleName, DroppedBlank}
 use Rattle.pam_host.specs.Problems.{compare_places, kind_of, number_of_kind, place_of, rank_of, rank_of_difference, rank_of_fault, service_of}
-use Rattle.pam_host.specs.Table.{Puts, Table, finding_at}
+use Rattle.pam_host.specs.Table.{Puts, Removes, Table, finding_at}
 use Rattle.pam_host.specs.declared.problem.Place.{Place}
 use Rattle.pam_host.specs.declared.problem.Problem.{Problem}
 use Rattle.pam_host.specs.declared.problem.Problem.TheVariants as problems
@@ -46,6 +46,7 @@ abbrev other_numbered : ℕ → ℕ → ℕ → Problem
 other_numbered n service kind =
     if nat_lt n 2 then problems.LetsNobodyIn service (kind_numbered kind)
     else if nat_lt n 3 then problems.LetsAnybodyIn service
+    else if nat_lt n 4 then problems.NeverAsked
     else if nat_lt n 5 then problems.JumpPastEnd
     else if nat_lt n 6 then problems.NoModule (nat_lt 0 kind)
     else if nat_lt n 7 then problems.NoOther
@@ -143,6 +144,7 @@ of_problem (problems.Walk fault) = of_walk fault
 of_problem (problems.Released difference) = of_difference difference
 of_problem (problems.LetsNobodyIn service kind) = of_nobody service kind
 of_problem (problems.LetsAnybodyIn service) = refl
+of_problem problems.NeverAsked = refl
 of_problem problems.JumpPastEnd = refl
 of_problem (problems.NoModule is_dashed) = of_missing is_dashed
 of_problem problems.NoOther = refl
@@ -236,6 +238,35 @@ put-one old new spot finding value updates is_value is_problem =
             let P : Option Finding → Type 0 = λ o. IfSome o (λ f. place ≡ place_of record { file = place.file; line = place.line; problem = f.problem }) in
             subst P (sym (updates.2 place f)) (were place)
       ];
+    }
+
+pub removed-one : (old new : Table) (spot : Spot) (key : Place) → key ≡ place_of spot → Updates compare_places old new key None →
+    Removes (λ other. other ≡ spot) old new
+unfolding place_of
+removed-one old new spot key is updates =
+    let at : key ≡ place_of spot = is in
+    record {
+      each = λ other. elim (cases_Bool (is_at (compare_places key) (place_of other))) [
+        | inl t ↦
+            let none : Option Finding = None in
+            inl (
+              sym (spot-from_place spot other (sym at ∙ tells_apart exact_places key (place_of other) t)),
+              updates.0 (place_of other) ∙ ap (λ b. cond b none (finding_at old other)) t,
+            )
+        | inr f ↦ inr (
+          (λ same. false≢true (sym f ∙ ap (λ (s : Spot). is_at (compare_places key) (place_of s)) same
+              ∙ ap (λ (k : Place). is_at (compare_places key) k) (sym at) ∙ ap is_eq (tied_itself places_total key))),
+          updates.2 (place_of other) f,
+        )
+      ];
+      placed = λ were place.
+          let P : Option Finding → Type 0 = λ o. IfSome o (λ f. place ≡ place_of record { file = place.file; line = place.line; problem = f.problem }) in
+          elim (cases_Bool (is_at (compare_places key) place)) [
+            | inl t ↦
+                let none : Option Finding = None in
+                subst P (sym (updates.0 place ∙ ap (λ b. cond b none (get compare_places old place)) t)) tt
+            | inr f ↦ subst P (sym (updates.2 place f)) (were place)
+          ];
     }
 
 pub put-at : (old new : Table) (spot : Spot) (key : Place) (finding : Finding) (value : Spot → Option Finding → Finding) → key ≡ place_of spot →

@@ -14,7 +14,7 @@ use Rattle.pam_conf.specs.declared.rule.Kind.{Kind}
 use Rattle.pam_paths.specs.Classes.{Member}
 use Rattle.pam_host.specs.FileProblems.{BytesHave, FileHas}
 use Rattle.pam_host.specs.FolderProblems.{is_of_folder}
-use Rattle.pam_host.specs.Host.{Host, Meets, Verdicts, reads_at, service_at, survey_at}
+use Rattle.pam_host.specs.Host.{Host, IsAsked, Meets, Verdicts, reads_at, service_at, survey_at}
 use Rattle.pam_host.specs.Meeting.{MetSoFar}
 use Rattle.pam_host.specs.Met.{AreMet}
 use Rattle.pam_host.specs.Own.{IsOwn, IsRead, met_in, read_by}
@@ -23,7 +23,7 @@ use Rattle.pam_host.specs.Report.{IsFound, IsMetFinding, IsPlaced, IsReportOn}
 use Rattle.pam_host.specs.SoFar.{InStackAt, Shows, SoFar}
 use Rattle.pam_host.specs.Modules.{Modules}
 use Rattle.pam_host.specs.StackProblems.{ByVerdict, InItems, InWalk}
-use Rattle.pam_host.specs.Table.{ArePlaced, Puts, Table, finding_at, with_met}
+use Rattle.pam_host.specs.Table.{ArePlaced, Puts, Removes, Table, finding_at, with_met}
 use Rattle.pam_host.specs.Verdicts.{Verdict}
 use Rattle.pam_host.specs.declared.met.Met.{Met}
 use Rattle.pam_host.specs.declared.problem.Place.{Place}
@@ -35,11 +35,12 @@ use Rattle.pam_host.specs.declared.stacks.Found.{Found}
 use Rattle.pam_host.specs.declared.way_in.WayIn.{WayIn}
 use Rattle.pam_host.proofs.Meeting.{alike-met}
 use Rattle.pam_host.proofs.Places.{places_total}
-use Rattle.pam_host.proofs.Taking.{alike-finding}
+use Rattle.pam_host.proofs.Taking.{alike-finding, alike-shows}
 
 -- A PROBLEM OF A FILE IS NONE OF A STACK
 
-not-in-stack : (modules : Modules) (service : ℕ) (name : List ℕ) (kind : Kind) (faults : List ConfError) (items : Option Items) (home : Option ℕ) (verdict : Verdict)
+not-in-stack : (modules : Modules) (service : ℕ) (name : List ℕ) (kind : Kind) (faults : List ConfError) (items : Option Items)
+    (home : Option ℕ) (verdict : Verdict)
     (spot : Spot)
     (form : Form) (bytes : List ℕ) (problem : Problem) → BytesHave form bytes spot.line problem →
     InWalk faults spot problem ⊎ (InItems modules name kind items spot problem ⊎ ByVerdict service kind home verdict spot problem) → ⊥
@@ -56,6 +57,7 @@ not-in-stack modules service name kind faults items home verdict spot form bytes
 not-in-stack modules service name kind faults items home verdict spot form bytes (problems.LetsAnybodyIn of_service) h k = h
 not-in-stack modules service name kind faults items home verdict spot form bytes problems.JumpPastEnd h k = h
 not-in-stack modules service name kind faults items home verdict spot form bytes (problems.NoModule is_dashed) h k = h
+not-in-stack modules service name kind faults items home verdict spot form bytes problems.NeverAsked h k = h
 not-in-stack modules service name kind faults items home verdict spot form bytes problems.NoOther h k = h
 not-in-stack modules service name kind faults items home verdict spot form bytes problems.UnreachableName h k = h
 not-in-stack modules service name kind faults items home verdict spot form bytes (problems.TooLarge of_service of_kind) h k = h
@@ -88,7 +90,7 @@ module _ (host : Host) (named : List (List ℕ)) (found : Found) (ways : List (O
   V = h.taken.verdicts
 
   abbrev Of : Spot → ℕ → Kind → Type 0
-  Of spot s k = (s < length host.services) × InStackAt host V spot s k
+  Of spot s k = (s < length host.services) × InStackAt host V spot s k × (spot.problem ≡ problems.NeverAsked → IsAsked host V spot → ⊥)
 
   abbrev Reads : ℕ → ℕ → Kind → Type 0
   Reads file s k = (s < length host.services) × Member file (reads_at host s k)
@@ -96,7 +98,9 @@ module _ (host : Host) (named : List (List ℕ)) (found : Found) (ways : List (O
   -- a problem that a file has is met by the stacks that read the file
   met-by-reading : (spot : Spot) (file : ℕ) → IsOwn host.folder file spot → (s : ℕ) (k : Kind) → Reads file s k ↔ Meets host V spot s k
   met-by-reading spot file own s k = (
-    λ r. (r.0, inl (file, own.0, r.1, own.1)),
+    λ r.
+        let b = has-bytes (λ bytes. BytesHave host.folder.form bytes spot.line spot.problem) (bytes_at file host.folder.entries) own.1 in
+        (r.0, inl (file, own.0, r.1, own.1), λ e a. subst (BytesHave host.folder.form b.0 spot.line) e b.1),
     λ m. elim m.1 [
       | inl i ↦
           let equal : Some i.0 ≡ Some file = sym i.1 ∙ own.0 in
@@ -104,7 +108,8 @@ module _ (host : Host) (named : List (List ℕ)) (found : Found) (ways : List (O
           (m.0, subst (λ f. Member f (reads_at host s k)) same i.2)
       | inr stack ↦
           let b = has-bytes (λ bytes. BytesHave host.folder.form bytes spot.line spot.problem) (bytes_at file host.folder.entries) own.1 in
-          absurd (not-in-stack host.modules s (service_at host s) k (survey_at host s k).faults (survey_at host s k).items (slice_get (survey_at host s k).reached 0) (V s k) spot
+          absurd (not-in-stack host.modules s (service_at host s) k (survey_at host s k).faults (survey_at host s k).items
+          (slice_get (survey_at host s k).reached 0) (V s k) spot
           host.folder.form b.0 spot.problem b.1 stack)
     ],
   )
@@ -123,12 +128,12 @@ module _ (host : Host) (named : List (List ℕ)) (found : Found) (ways : List (O
           reads = met.1;
           own = (i.1, i.3);
         })
-    | inr stack ↦ (m.0, stack)
+    | inr stack ↦ (m.0, stack, m.2)
   ]
 
   met-by-stacks : (spot : Spot) → (IsRead host.folder found.readers.items (length found.readers.items) spot → ⊥) → (s : ℕ) (k : Kind) →
       Of spot s k ↔ Meets host V spot s k
-  met-by-stacks spot none s k = (λ o. (o.0, inr o.1), unread spot none s k)
+  met-by-stacks spot none s k = (λ o. (o.0, inr o.1, o.2), unread spot none s k)
 
   found-read : (spot : Spot) (r : IsRead host.folder found.readers.items (length found.readers.items) spot) →
       IsMetFinding (Meets host V spot) spot (let f : Finding = record { problem = spot.problem; met = met_in found.readers.items spot.file } in f)
@@ -151,9 +156,29 @@ module _ (host : Host) (named : List (List ℕ)) (found : Found) (ways : List (O
   not-folder : (spot : Spot) → (is_of_folder host.folder named spot ≡ true → ⊥) → is_of_folder host.folder named spot ≡ false
   not-folder spot none = elim (cases_Bool (is_of_folder host.folder named spot)) [ inl y ↦ absurd (none y) | inr n ↦ n ]
 
-  module _ (middle new : Table)
-      (files : Puts (IsRead host.folder found.readers.items (length found.readers.items)) (read_by found.readers.items) found.table middle)
+  module _ (left middle new : Table)
+      (removed : Removes (λ spot. Member spot found.asked.items) found.table left)
+      (files : Puts (IsRead host.folder found.readers.items (length found.readers.items)) (read_by found.readers.items) left middle)
       (folder : Puts (λ spot. is_of_folder host.folder named spot ≡ true) (with_met None) middle new) where
+    -- S3 is left where no stack may ask the module
+    shows-left : (spot : Spot) → Shows (Of spot) spot (finding_at left spot)
+    shows-left spot =
+        let asks = h.taken.asks spot in
+        elim (removed.each spot) [
+          | inl m ↦
+              let a = asks.0 m.0 in
+              subst (Shows (Of spot) spot) (sym m.1)
+              (λ s k o. o.2 a.3.problem_is (record { service = a.0; within = a.2; kind = a.1; may_ask = a.3.may_ask }))
+          | inr n ↦
+              subst (Shows (Of spot) spot) (sym n.1)
+              (alike-shows (λ s k. (s < length host.services) × InStackAt host V spot s k) (Of spot)
+              (λ s k. (
+                λ p. (p.0, p.1, λ e a. n.0 (asks.1 (a.service, a.kind, a.within, record { problem_is = e; may_ask = a.may_ask }))),
+                λ o. (o.0, o.1),
+              ))
+              spot (finding_at found.table spot) (h.taken.shows spot))
+        ]
+
     found-at : (spot : Spot) → IsFound host V named spot (finding_at new spot)
     found-at spot = elim (folder.each spot) [
       | inl y ↦ subst (IsFound host V named spot) (sym y.1) (inr (y.0, refl))
@@ -162,14 +187,14 @@ module _ (host : Host) (named : List (List ℕ)) (found : Found) (ways : List (O
           elim (files.each spot) [
             | inl r ↦ subst (IsFound host V named spot) (sym (n.1 ∙ r.1)) (inl (found-read spot r.0))
             | inr u ↦
-                subst (IsFound host V named spot) (sym (n.1 ∙ u.1)) (found-unread spot (finding_at found.table spot) u.0 not_folder (h.taken.shows spot))
+                subst (IsFound host V named spot) (sym (n.1 ∙ u.1)) (found-unread spot (finding_at left spot) u.0 not_folder (shows-left spot))
           ]
     ]
 
     placed-at : IsOrdered compare_places new → All IsPlaced new.entries
     placed-at ordered = λ k d within.
         let entry : Place × Finding = get_or new.entries k d in
-        let placed : ArePlaced new = folder.placed (files.placed h.taken.placed) in
+        let placed : ArePlaced new = folder.placed (files.placed (removed.placed h.taken.placed)) in
         let there = All-found places_total new ordered k d within in
         let P : Option Finding → Type 0 = λ o. IfSome o (λ f. entry.0 ≡ place_of record { file = entry.0.file; line = entry.0.line; problem = f.problem }) in
         subst P there (placed entry.0)

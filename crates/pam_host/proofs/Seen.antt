@@ -1,5 +1,5 @@
 -- What is seen of a stack.
-use Rattle.std.proofs.Common.{◌≡◌, ◌⊎◌, ◌↔◌, ℕ, ◌+◌, ◌<◌, ◌≤◌, false, All, List, [], take, length, get_or, refl, sym, ◌∙◌, ap, subst, inl, inr}
+use Rattle.std.proofs.Common.{◌≡◌, ◌⊎◌, ◌↔◌, ℕ, ◌+◌, ◌<◌, ◌≤◌, All, List, [], take, length, get_or, refl, sym, ◌∙◌, ap, subst, inl, inr}
 use Rattle.std.proofs.Common.{Option, Some, None, Ok, slice_get}
 use Rattle.std.proofs.lemmas.Bool.{false≢true}
 use Rattle.std.proofs.lemmas.List.{take_all, take_more}
@@ -14,18 +14,18 @@ use Rattle.pam_conf.specs.declared.rule.Form.{Form}
 use Rattle.pam_paths.specs.Classes.{Member}
 use Rattle.pam_host.specs.Checking.{AddsStack}
 use Rattle.pam_host.specs.FileProblems.{files_read}
-use Rattle.pam_host.specs.Looked.{Judges, Looks}
+use Rattle.pam_host.specs.Looked.{Asks, Judges, Looks, OfModules}
 use Rattle.pam_host.specs.Modules.{Modules}
 use Rattle.pam_host.specs.StackProblems.{ByVerdict, InItems, InStack, InWalk}
 use Rattle.pam_host.specs.Table.{Adds, Notes, Puts, with_stack}
-use Rattle.pam_host.specs.Verdicts.{IsVerdict, Refused, Verdict}
+use Rattle.pam_host.specs.Verdicts.{IsVerdict, Refused, Verdict, never_asked_in}
 use Rattle.pam_host.specs.declared.judging.Stacked.{Stacked}
 use Rattle.pam_host.specs.declared.problem.Problem.{Problem}
 use Rattle.pam_host.specs.declared.problem.Problem.TheVariants as problems
 use Rattle.pam_host.specs.declared.problem.Spot.{Spot}
 use Rattle.pam_host.specs.declared.stacks.Found.{Found}
 use Rattle.pam_host.specs.declared.way_in.WayIn.{WayIn}
-use Rattle.pam_host.proofs.Adding.{adds-both, adds-iff}
+use Rattle.pam_host.proofs.Adding.{adds-both, adds-iff, adds-none}
 use Rattle.pam_host.proofs.Passes.{puts-iff}
 
 -- A SOUND SURVEY
@@ -47,12 +47,25 @@ none-by-refused service kind home spot problems.JumpPastEnd h = h
 none-by-refused service kind home spot (problems.Fault fault) h = h
 none-by-refused service kind home spot (problems.Walk fault) h = h
 none-by-refused service kind home spot (problems.Released difference) h = h
+none-by-refused service kind home spot problems.NeverAsked h = h
 none-by-refused service kind home spot (problems.NoModule is_dashed) h = h
 none-by-refused service kind home spot problems.NoOther h = h
 none-by-refused service kind home spot problems.UnreachableName h = h
 none-by-refused service kind home spot problems.LeftOver h = h
 none-by-refused service kind home spot problems.NoFunction h = h
 none-by-refused service kind home spot problems.CallerIsRoot h = h
+
+-- WHAT A STACK MAY ASK
+
+pub asks-of : (items : Items) (verdict : Verdict) (old new : List Spot) →
+    Adds (OfModules problems.NeverAsked items (λ number. Member number (never_asked_in verdict) → ⊥)) old new → Adds (Asks (Some items) verdict) old new
+asks-of items verdict old new h =
+    adds-iff (OfModules problems.NeverAsked items (λ number. Member number (never_asked_in verdict) → ⊥)) (Asks (Some items) verdict) old new
+    (λ spot. (
+      λ m. record { problem_is = m.of.problem_is; may_ask = (m.number, m.of.rule, m.of.at, m.one) },
+      λ a. record { number = a.may_ask.0; one = a.may_ask.3; of = record { problem_is = a.problem_is; rule = a.may_ask.1; at = a.may_ask.2 } },
+    ))
+    h
 
 -- WHAT IS SEEN
 
@@ -73,9 +86,9 @@ module _ (folder : Folder) (modules : Modules) (name : List ℕ) (service : ℕ)
   By : Verdict → Spot → Type 0
   By verdict spot = ByVerdict service kind (slice_get survey.reached 0) verdict spot spot.problem
 
-  pub looks-none : survey.items ≡ None → (spots : List Spot) → Adds (λ spot. InWalk survey.faults spot spot.problem) [] spots →
-      Looks folder modules name service kind survey spots None
-  looks-none none spots h = record {
+  pub looks-none : survey.items ≡ None → (spots asked : List Spot) → Adds (λ spot. InWalk survey.faults spot spot.problem) [] spots →
+      Looks folder modules name service kind survey spots asked asked None
+  looks-none none spots asked h = record {
     verdict = Refused;
     is_verdict = λ items stack. let k = (sound-of items stack).0 in let clash : Some items ≡ None = sym k ∙ none in absurd cc;
     adds = adds-iff (λ spot. InWalk survey.faults spot spot.problem) (InStack modules service name kind survey Refused) [] spots
@@ -90,6 +103,7 @@ module _ (folder : Folder) (modules : Modules) (name : List ℕ) (service : ℕ)
           ],
         ))
         h;
+    asks = subst (λ (o : Option Items). Adds (Asks o Refused) asked asked) (sym none) (adds-none (Asks None Refused) asked (λ spot a. a.may_ask));
     way_in = λ _. refl;
   }
 
@@ -115,11 +129,12 @@ module _ (folder : Folder) (modules : Modules) (name : List ℕ) (service : ℕ)
     ],
   )
 
-  pub looks-unsound : (items : Items) → survey.items ≡ Some items → (IsSound folder survey → ⊥) → (first spots : List Spot) →
+  pub looks-unsound : (items : Items) → survey.items ≡ Some items → (IsSound folder survey → ⊥) → (first spots asked more : List Spot) →
       Adds (λ spot. InWalk survey.faults spot spot.problem) [] first →
       Adds (λ spot. InItems modules name kind (Some items) spot spot.problem) first spots →
-      Looks folder modules name service kind survey spots None
-  looks-unsound items there unsound first spots h k = record {
+      Adds (OfModules problems.NeverAsked items (λ number. Member number [] → ⊥)) asked more →
+      Looks folder modules name service kind survey spots asked more None
+  looks-unsound items there unsound first spots asked more h k l = record {
     verdict = Refused;
     is_verdict = λ others stack. unsound (sound-of others stack).1;
     adds =
@@ -134,16 +149,17 @@ module _ (folder : Folder) (modules : Modules) (name : List ℕ) (service : ℕ)
           ],
         ))
         (adds-both A B [] first spots h k);
+    asks = subst (λ (o : Option Items). Adds (Asks o Refused) asked more) (sym there) (asks-of items Refused asked more l);
     way_in = λ _. refl;
   }
 
-  pub looks-judged : (items : Items) → survey.items ≡ Some items → (first second spots : List Spot) →
+  pub looks-judged : (items : Items) → survey.items ≡ Some items → (first second spots asked more : List Spot) →
       Adds (λ spot. InWalk survey.faults spot spot.problem) [] first →
       Adds (λ spot. InItems modules name kind (Some items) spot spot.problem) first second →
       (way : Option WayIn) (home : Option ℕ) → home ≡ slice_get survey.reached 0 →
-      (let at : Stacked = record { service = service; kind = kind; home = home } in Judges folder modules name at second spots way →
-      Looks folder modules name service kind survey spots way)
-  looks-judged items there first second spots h k way home is_home judged = record {
+      (let at : Stacked = record { service = service; kind = kind; home = home } in Judges folder modules name at items second spots asked more way →
+      Looks folder modules name service kind survey spots asked more way)
+  looks-judged items there first second spots asked more h k way home is_home judged = record {
     verdict = judged.verdict;
     is_verdict = judged.is_verdict;
     adds =
@@ -153,6 +169,7 @@ module _ (folder : Folder) (modules : Modules) (name : List ℕ) (service : ℕ)
         adds-iff (λ spot. (A spot ⊎ B spot) ⊎ C spot) (InStack modules service name kind survey judged.verdict) [] spots (parts items there judged.verdict)
         (adds-both (λ spot. A spot ⊎ B spot) C [] second spots (adds-both A B [] first second h k)
         (subst (λ (o : Option ℕ). Adds (λ spot. ByVerdict service kind o judged.verdict spot spot.problem) second spots) is_home judged.adds));
+    asks = subst (λ (o : Option Items). Adds (Asks o judged.verdict) asked more) (sym there) judged.asks;
     way_in = judged.way_in;
   }
 
@@ -161,7 +178,7 @@ module _ (folder : Folder) (modules : Modules) (name : List ℕ) (service : ℕ)
 pub adds-stack : (files rules : Folder) (modules : Modules) (service : ℕ) (name : List ℕ) (kind : Kind) (survey : SurveyText) (spots : List Spot)
     (way : Option WayIn)
     (old new : Found) (form : Form) (reached : List ℕ) → rules ≡ files → survey ≡ surveyed rules name kind → form ≡ files.form → reached ≡ survey.reached →
-    length old.readers.items ≡ length files.entries → Looks rules modules name service kind survey spots way →
+    length old.readers.items ≡ length files.entries → Looks rules modules name service kind survey spots old.asked.items new.asked.items way →
     Puts (λ spot. Member spot spots) (with_stack service kind) old.table new.table →
     Notes (λ file. Member file (files_read form (length old.readers.items) reached)) service kind old.readers.items new.readers.items →
     AddsStack files modules service name kind old new way
@@ -184,5 +201,6 @@ adds-stack files rules modules service name kind survey spots way old new form r
           ∙ ap (λ (n : ℕ). files_read files.form n reached) count
           ∙ ap (files_read files.form (length files.entries)) (is_reached ∙ ap (λ (s : SurveyText). s.reached) here))
           notes;
+      asks = subst (λ (s : SurveyText). Adds (Asks s.items looks.verdict) old.asked.items new.asked.items) here looks.asks;
       way_in = looks.way_in;
     }

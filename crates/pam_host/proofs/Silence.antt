@@ -108,7 +108,7 @@ module _ (host : Host) (named : List (List ℕ)) (found : Table) (ways : List (O
     no-walk-fault (fault ∷ rest) is =
         let spot : Spot = record { file = fault.at; line = fault.line; problem = problems.Walk fault.kind } in
         let walked : InWalk survey.faults spot spot.problem = first-in fault rest survey.faults is in
-        absurd (grave fault.kind (met-note spot service kind (within, inr (inl walked))))
+        absurd (grave fault.kind (met-note spot service kind (within, inr (inl walked), λ e. absurd cc)))
 
     -- a file that it reaches has none
     no-line-fault : (file : ℕ) (bytes : List ℕ) → Member file survey.reached → bytes_at file host.folder.entries ≡ Some bytes →
@@ -123,7 +123,7 @@ module _ (host : Host) (named : List (List ℕ)) (found : Table) (ways : List (O
         first-in fault rest (own_faults host.folder.form bytes) is in
         let Has : Option (List ℕ) → Type 0 = λ o. MatchOption o ⊥ (λ b. BytesHave host.folder.form b fault.line (problems.Fault fault.kind)) in
         let has : FileHas host.folder file fault.line (problems.Fault fault.kind) = subst Has (sym there) own in
-        absurd (grave fault.kind (met-note spot service kind (within, inl (file, refl, read, has))))
+        absurd (grave fault.kind (met-note spot service kind (within, inl (file, refl, read, has), λ e. absurd cc)))
 
     faultless-bytes : (file : ℕ) → Member file survey.reached → (o : Option (List ℕ)) → bytes_at file host.folder.entries ≡ o →
         own_faults host.folder.form (unwrap_or o []) ≡ []
@@ -152,19 +152,19 @@ module _ (host : Host) (named : List (List ℕ)) (found : Table) (ways : List (O
     not-large : report.verdicts service kind ≡ TooLarge → ⊥
     not-large is =
         let spot : Spot = record { file = home; line = 0; problem = problems.TooLarge service kind } in
-        let note : Warning ≡ Note = met-note spot service kind (within, inr (inr (inr (refl, refl, (refl, refl), is)))) in
+        let note : Warning ≡ Note = met-note spot service kind (within, inr (inr (inr (refl, refl, (refl, refl), is))), λ e. absurd cc) in
         cc
 
     not-nobody : LetsNobody (report.verdicts service kind) → ⊥
     not-nobody h =
         let spot : Spot = record { file = home; line = 0; problem = problems.LetsNobodyIn service kind } in
-        let note : Warning ≡ Note = met-note spot service kind (within, inr (inr (inr (refl, refl, (refl, refl), h)))) in
+        let note : Warning ≡ Note = met-note spot service kind (within, inr (inr (inr (refl, refl, (refl, refl), h))), λ e. absurd cc) in
         cc
 
     not-anybody : kind ≡ Auth → IsSome (way_in_of (report.verdicts service kind)) → ⊥
     not-anybody auth h =
         let spot : Spot = record { file = home; line = 0; problem = problems.LetsAnybodyIn service } in
-        let note : Warning ≡ Note = met-note spot service kind (within, inr (inr (inr (refl, auth, (refl, refl), h)))) in
+        let note : Warning ≡ Note = met-note spot service kind (within, inr (inr (inr (refl, auth, (refl, refl), h))), λ e. absurd cc) in
         cc
 
     sound-judged : (j : Judgement) → report.verdicts service kind ≡ Judged j → IsJudgement host.folder host.modules (service_at host service) kind j →

@@ -8,11 +8,12 @@ use Rattle.pam_conf.specs.declared.rule.Kind.TheVariants.{Auth, Account, Passwor
 use Rattle.pam_paths.specs.Classes.{Member}
 use Rattle.pam_host.specs.Checking.{AddsStack}
 use Rattle.pam_host.specs.Host.{Host, Verdicts, reads_at, service_at, survey_at}
+use Rattle.pam_host.specs.Looked.{Asks}
 use Rattle.pam_host.specs.Meeting.{MetSoFar}
 use Rattle.pam_host.specs.Met.{AreMet}
 use Rattle.pam_host.specs.Problems.{number_of_kind}
 use Rattle.pam_host.specs.Report.{IsMetFinding}
-use Rattle.pam_host.specs.SoFar.{InStackAt, Shows, Taken, with_verdict}
+use Rattle.pam_host.specs.SoFar.{AsksAt, InStackAt, Shows, Taken, with_verdict}
 use Rattle.pam_host.specs.StackProblems.{HasWayIn, InStack}
 use Rattle.pam_host.specs.Table.{finding_at, met_of, with_stack}
 use Rattle.pam_host.specs.Verdicts.{IsVerdict, Verdict}
@@ -89,6 +90,9 @@ alike-taken host T U found ways same t = record {
   reads = λ file within.
       alike-met (λ s k. T s k × Member file (reads_at host s k)) (λ s k. U s k × Member file (reads_at host s k))
       (λ s k. (λ p. ((same s k).0 p.0, p.1), λ p. ((same s k).1 p.0, p.1))) (slice_index_or found.readers.items file None) (t.reads file within);
+  asks = λ spot.
+      let k = t.asks spot in
+      (λ m. let a = k.0 m in (a.0, a.1, (same a.0 a.1).0 a.2, a.3), λ a. k.1 (a.0, a.1, (same a.0 a.1).1 a.2, a.3));
   placed = t.placed;
   readers = t.readers;
   ways_in = λ s u. t.ways_in s ((same s Auth).1 u);
@@ -183,6 +187,20 @@ module _ (host : Host) (T : ℕ → Kind → Type 0) (service : ℕ) (kind : Kin
             (alike-met (λ s k. T s k × P s k) (λ s k. More s k × P s k) (without-it P P same h.0) before (t.reads file within))
       ]
 
+  asks-more : (spot : Spot) → Member spot new.asked.items ↔ ((s : ℕ) × (k : Kind) × More s k × AsksAt host now spot s k)
+  asks-more spot =
+      let before = t.asks spot in
+      let A : ℕ → Kind → Verdict → Type 0 = λ s k v. Asks (survey_at host s k).items v spot in (
+        λ m. elim ((adds.asks.each spot).1 m) [
+          | inl o ↦ let a = before.0 o in (a.0, a.1, inl a.2, subst (A a.0 a.1) (sym (as-before a.0 a.1 a.2)) a.3)
+          | inr a ↦ (service, kind, inr (refl, refl), subst (A service kind) (sym here) a)
+        ],
+        λ a. (adds.asks.each spot).0 (elim a.2 [
+          | inl h ↦ inl (before.1 (a.0, a.1, h, subst (A a.0 a.1) (as-before a.0 a.1 h) a.3))
+          | inr e ↦ inr (subst (A service kind) here (from-it (λ s k. AsksAt host now spot s k) a.0 a.1 e a.3))
+        ]),
+      )
+
   pub take-stack : Taken host (λ s k. T s k ⊎ ((s ≡ service) × (k ≡ kind))) new ways
   take-stack = record {
     verdicts = now;
@@ -193,6 +211,7 @@ module _ (host : Host) (T : ℕ → Kind → Type 0) (service : ℕ) (kind : Kin
           (subst (IsVerdict host.folder host.modules (service_at host service) kind) (sym here) adds.is_verdict)
     ];
     shows = shows-more;
+    asks = asks-more;
     reads = reads-more;
     placed = adds.puts.placed t.placed;
     readers = adds.notes.count ∙ t.readers;

@@ -66,6 +66,7 @@ module _ (at : Stacked) (j : Judgement) (nobody anybody : Bool) (says_nobody : (
   from-verdict file line (problems.Fault fault) h = absurd h
   from-verdict file line (problems.Walk fault) h = absurd h
   from-verdict file line (problems.Released difference) h = absurd h
+  from-verdict file line problems.NeverAsked h = absurd h
   from-verdict file line (problems.NoModule is_dashed) h = absurd h
   from-verdict file line problems.NoOther h = absurd h
   from-verdict file line problems.UnreachableName h = absurd h

@@ -6,8 +6,9 @@ use Rattle.pam_conf.specs.declared.rule.Kind.{Kind}
 use Rattle.pam_paths.specs.Classes.{Member}
 use Rattle.pam_host.specs.FileProblems.{FileHas, files_read}
 use Rattle.pam_host.specs.Modules.{Modules}
-use Rattle.pam_host.specs.StackProblems.{InStack}
+use Rattle.pam_host.specs.StackProblems.{InStack, MayAsk}
 use Rattle.pam_host.specs.Verdicts.{Verdict}
+use Rattle.pam_host.specs.declared.problem.Problem.TheVariants as problems
 use Rattle.pam_host.specs.declared.problem.Spot.{Spot}
 
 -- a host: its configuration, the services that are checked, and what is known of modules
@@ -37,8 +38,16 @@ InFile host spot service kind =
 abbrev pub Verdicts : Type 0
 Verdicts = ℕ → Kind → Verdict
 
--- A STACK MEETS A PROBLEM: of a file that is read for it, or of the stack itself
+-- S3: some stack may ask a module with its rule here
+pub record IsAsked (host : Host) (verdicts : Verdicts) (spot : Spot) : Type 0 where
+  pub service : ℕ
+  pub within : service < length host.services
+  pub kind : Kind
+  pub may_ask : MayAsk (survey_at host service kind).items (verdicts service kind) spot
+
+-- A STACK MEETS A PROBLEM: of a file that is read for it, or of the stack itself; but S3 only where no stack may ask the module
 abbrev pub Meets : Host → Verdicts → Spot → ℕ → Kind → Type 0
 Meets host verdicts spot service kind =
     (service < length host.services)
     × (InFile host spot service kind ⊎ InStack host.modules service (service_at host service) kind (survey_at host service kind) (verdicts service kind) spot)
+    × (spot.problem ≡ problems.NeverAsked → IsAsked host verdicts spot → ⊥)

@@ -25,6 +25,7 @@ abbrev pub level_of : Problem → Level
 level_of (problems.Fault fault) = level_of_fault fault
 level_of (problems.Walk fault) = level_of_fault fault
 level_of (problems.Released difference) = level_of_difference difference
+level_of problems.NeverAsked = Note
 level_of (problems.NoModule is_dashed) = if is_dashed then Note else Warning
 level_of problems.NoOther = Note
 level_of problems.LeftOver = Note

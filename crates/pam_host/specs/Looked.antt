@@ -9,7 +9,7 @@ use Rattle.pam_conf.specs.declared.rule.Kind.{Kind}
 use Rattle.pam_conf.specs.declared.rule.Kind.TheVariants.{Auth}
 use Rattle.pam_paths.specs.declared.knowledge.Known.{Known}
 use Rattle.pam_host.specs.Modules.{Modules}
-use Rattle.pam_host.specs.StackProblems.{ByVerdict, HasWayIn, InStack, IsAt, ModuleHas}
+use Rattle.pam_host.specs.StackProblems.{ByVerdict, HasWayIn, InStack, IsAt, MayAsk, ModuleHas}
 use Rattle.pam_host.specs.Table.{Adds}
 use Rattle.pam_host.specs.Verdicts.{IsVerdict, Judgement, Verdict}
 use Rattle.pam_host.specs.declared.judging.Stacked.{Stacked}
@@ -54,20 +54,29 @@ judgement_of items free failing s = record {
   failing = failing;
   nobody = s.lets_nobody_in;
   way = s.lets_anybody_in;
+  never_asked = s.never_asked.items;
   jumps = s.jumps_past_end.items;
 }
 
--- some verdict on a stack, the problems that it gives, and the first way in
-pub record Judges (folder : Folder) (modules : Modules) (name : List ℕ) (at : Stacked) (old new : List Spot) (way : Option WayIn) : Type 0 where
+-- the rules that a stack may ask, as S3 of them
+pub record Asks (items : Option Items) (verdict : Verdict) (spot : Spot) : Type 0 where
+  pub problem_is : spot.problem ≡ problems.NeverAsked
+  pub may_ask : MayAsk items verdict spot
+
+-- some verdict on a stack, the problems that it gives, the rules that it may ask, and the first way in
+pub record Judges (folder : Folder) (modules : Modules) (name : List ℕ) (at : Stacked) (items : Items) (old new asked more : List Spot)
+    (way : Option WayIn) : Type 0 where
   pub verdict : Verdict
   pub is_verdict : IsVerdict folder modules name at.kind verdict
   pub adds : Adds (λ spot. ByVerdict at.service at.kind at.home verdict spot spot.problem) old new
+  pub asks : Adds (Asks (Some items) verdict) asked more
   pub way_in : at.kind ≡ Auth → HasWayIn verdict way
 
 -- the same, with all problems of the stack
-pub record Looks (folder : Folder) (modules : Modules) (name : List ℕ) (service : ℕ) (kind : Kind) (survey : SurveyText) (spots : List Spot)
-    (way : Option WayIn) : Type 0 where
+pub record Looks (folder : Folder) (modules : Modules) (name : List ℕ) (service : ℕ) (kind : Kind) (survey : SurveyText)
+    (spots asked more : List Spot) (way : Option WayIn) : Type 0 where
   pub verdict : Verdict
   pub is_verdict : IsVerdict folder modules name kind verdict
   pub adds : Adds (InStack modules service name kind survey verdict) [] spots
+  pub asks : Adds (Asks survey.items verdict) asked more
   pub way_in : kind ≡ Auth → HasWayIn verdict way

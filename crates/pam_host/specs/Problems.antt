@@ -59,6 +59,7 @@ rank_of (problems.Walk fault) = 20 + rank_of_fault fault
 rank_of (problems.Released difference) = 40 + rank_of_difference difference
 rank_of (problems.LetsNobodyIn service kind) = 51
 rank_of (problems.LetsAnybodyIn service) = 52
+rank_of problems.NeverAsked = 53
 rank_of problems.JumpPastEnd = 54
 rank_of (problems.NoModule is_dashed) = 55
 rank_of problems.NoOther = 56

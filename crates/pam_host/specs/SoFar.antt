@@ -1,10 +1,11 @@
 -- For private contracts and proofs alone: what is found after some stacks.
-use Rattle.std.specs.Prelude.{◌≡◌, ℕ, ◌<◌, ◌==◌, ◌&&◌, List, length, slice_index_or, if◌then◌else◌, Option, Some, None}
+use Rattle.std.specs.Prelude.{◌≡◌, ◌↔◌, ℕ, ◌<◌, ◌==◌, ◌&&◌, List, length, slice_index_or, if◌then◌else◌, Option, Some, None}
 use Rattle.pam_conf.specs.Files.{Folder}
 use Rattle.pam_conf.specs.declared.rule.Kind.{Kind}
 use Rattle.pam_conf.specs.declared.rule.Kind.TheVariants.{Auth}
 use Rattle.pam_paths.specs.Classes.{Member}
 use Rattle.pam_host.specs.Host.{Host, Verdicts, reads_at, service_at, survey_at}
+use Rattle.pam_host.specs.Looked.{Asks}
 use Rattle.pam_host.specs.Meeting.{MetSoFar}
 use Rattle.pam_host.specs.Met.{IsMetByNone}
 use Rattle.pam_host.specs.Modules.{Modules}
@@ -28,7 +29,12 @@ Shows MeetsIt spot (Some finding) = IsMetFinding MeetsIt spot finding
 
 -- a stack has a problem itself
 abbrev pub InStackAt : Host → Verdicts → Spot → ℕ → Kind → Type 0
-InStackAt host verdicts spot service kind = InStack host.modules service (service_at host service) kind (survey_at host service kind) (verdicts service kind) spot
+InStackAt host verdicts spot service kind =
+    InStack host.modules service (service_at host service) kind (survey_at host service kind) (verdicts service kind) spot
+
+-- a stack may ask a module with its rule here
+abbrev pub AsksAt : Host → Verdicts → Spot → ℕ → Kind → Type 0
+AsksAt host verdicts spot service kind = Asks (survey_at host service kind).items (verdicts service kind) spot
 
 -- one more verdict
 abbrev pub with_verdict : Verdicts → ℕ → Kind → Verdict → Verdicts
@@ -41,6 +47,7 @@ pub record Taken (host : Host) (IsTaken : ℕ → Kind → Type 0) (found : Foun
   pub are : (service : ℕ) (kind : Kind) → IsTaken service kind →
       IsVerdict host.folder host.modules (service_at host service) kind (verdicts service kind)
   pub shows : (spot : Spot) → Shows (λ service kind. IsTaken service kind × InStackAt host verdicts spot service kind) spot (finding_at found.table spot)
+  pub asks : (spot : Spot) → Member spot found.asked.items ↔ ((service : ℕ) × (kind : Kind) × IsTaken service kind × AsksAt host verdicts spot service kind)
   pub reads : (file : ℕ) → file < length host.folder.entries →
       MetSoFar (λ service kind. IsTaken service kind × Member file (reads_at host service kind)) (slice_index_or found.readers.items file None)
   pub placed : ArePlaced found.table

@@ -10,7 +10,8 @@ use Rattle.pam_paths.specs.Known.{may_answer}
 use Rattle.pam_paths.specs.Paths.{PathValue}
 use Rattle.pam_host.specs.Callers.{caller_is_root}
 use Rattle.pam_host.specs.Modules.{Modules}
-use Rattle.pam_host.specs.Verdicts.{Judged, Judgement, LetsNobody, Refused, TooLarge, Verdict, answers_on, has_no_function, is_missing, way_in_of}
+use Rattle.pam_host.specs.Verdicts.{Judged, Judgement, LetsNobody, Refused, TooLarge, Verdict}
+use Rattle.pam_host.specs.Verdicts.{answers_on, has_no_function, is_missing, is_other, never_asked_in, way_in_of}
 use Rattle.pam_host.specs.declared.problem.Problem.{Problem}
 use Rattle.pam_host.specs.declared.problem.Problem.TheVariants as problems
 use Rattle.pam_host.specs.declared.problem.Spot.{Spot}
@@ -34,8 +35,9 @@ pub record IsAt (items : Items) (number : ℕ) (spot : Spot) (rule : ModuleText)
 abbrev pub HasModule : Items → Spot → (ℕ → ModuleText → Type 0) → Type 0
 HasModule items spot Passes = (number : ℕ) × (rule : ModuleText) × IsAt items number spot rule × Passes number rule
 
--- S5, S13 and S14, in a stack of a service for a kind
+-- S5, S13 and S14, in a stack of a service for a kind; and S3, if no stack may ask it
 abbrev pub ModuleHas : Modules → List ℕ → Kind → ModuleText → Problem → Type 0
+ModuleHas modules name kind rule problems.NeverAsked = is_other rule ≡ true
 ModuleHas modules name kind rule (problems.NoModule is_dashed) = (is_missing modules rule ≡ true) × (is_dashed ≡ rule.dashed)
 ModuleHas modules name kind rule problems.NoFunction = has_no_function modules.facts kind rule ≡ true
 ModuleHas modules name kind rule problems.CallerIsRoot = caller_is_root kind name rule ≡ true
@@ -45,6 +47,11 @@ ModuleHas modules name kind rule problem = ⊥
 abbrev pub InItems : Modules → List ℕ → Kind → Option Items → Spot → Problem → Type 0
 InItems modules name kind None spot problem = ⊥
 InItems modules name kind (Some items) spot problem = HasModule items spot (λ number rule. ModuleHas modules name kind rule problem)
+
+-- S3: answers may ask a module with its rule here. Where a stack is refused or too large it is not known of any that they do not
+abbrev pub MayAsk : Option Items → Verdict → Spot → Type 0
+MayAsk None verdict spot = ⊥
+MayAsk (Some items) verdict spot = HasModule items spot (λ number rule. Member number (never_asked_in verdict) → ⊥)
 
 -- S4: a module can jump past the end of its list
 abbrev pub Jumps : Verdict → Spot → Type 0

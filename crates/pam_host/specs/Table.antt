@@ -39,6 +39,11 @@ pub record Puts (Holds : Spot → Type 0) (value : Spot → Option Finding → F
   pub each : (spot : Spot) → Changes (Holds spot) (value spot (finding_at old spot)) (finding_at old spot) (finding_at new spot)
   pub placed : ArePlaced old → ArePlaced new
 
+-- the problems of which something holds lose their finding, and the others keep theirs
+pub record Removes (Holds : Spot → Type 0) (old new : Table) : Type 0 where
+  pub each : (spot : Spot) → (Holds spot × (finding_at new spot ≡ None)) ⊎ ((Holds spot → ⊥) × (finding_at new spot ≡ finding_at old spot))
+  pub placed : ArePlaced old → ArePlaced new
+
 -- a stack is noted at the files of which something holds
 pub record Notes (Holds : ℕ → Type 0) (service : ℕ) (kind : Kind) (old new : List (Option Met)) : Type 0 where
   pub each : (file : ℕ) → file < length old →

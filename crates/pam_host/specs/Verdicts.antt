@@ -1,9 +1,10 @@
 -- What a stack does to everybody: pam.conf(5), DESCRIPTION.
-use Rattle.std.specs.Prelude.{◌≡◌, ◌⊎◌, ℕ, ◌&&◌, ◌||◌, Bool, true, false, not, List, map, codes, if◌then◌else◌, Option, Some, None, Ok, slice_get, unwrap_or}
+use Rattle.std.specs.Prelude.{◌≡◌, ◌⊎◌, ℕ, ◌&&◌, ◌||◌, Bool, true, false, not, List, [], map, codes, if◌then◌else◌}
+use Rattle.std.specs.Prelude.{Option, Some, None, Ok, slice_get, unwrap_or}
 use Rattle.std.specs.Str.{bytes_eq}
 use Rattle.std.specs.Option.{option_map_or}
 use Rattle.pam_codes.specs.Set.{codes_where, is_in}
-use Rattle.pam_check.specs.Asked.{AreExactly, JumpsPastEnd}
+use Rattle.pam_check.specs.Asked.{AreExactly, IsNeverAsked, JumpsPastEnd}
 use Rattle.pam_check.specs.Soundness.{HasTooManyPlaces, SaysNobody, SaysWayIn}
 use Rattle.pam_conf.specs.Files.{Folder}
 use Rattle.pam_conf.specs.Resolution.{resolved}
@@ -22,13 +23,14 @@ use Rattle.pam_host.specs.Modules.{Modules}
 use Rattle.pam_host.specs.declared.way_in.Answered.{Answered}
 
 -- what is found of a stack: its items; the answers that its modules can give, and those if each check fails; whether nobody is
--- let in, the first way in if each check fails, and the modules that can jump past the end of their list
+-- let in, the first way in if each check fails, the modules that are never asked, and those that can jump past the end of their list
 pub record Judgement : Type 0 where
   pub items : Items
   pub free : Known
   pub failing : Known
   pub nobody : Bool
   pub way : Option PathValue
+  pub never_asked : List ℕ
   pub jumps : List ℕ
 
 pub data Verdict : Type 0 where
@@ -51,6 +53,7 @@ module _ (folder : Folder) (modules : Modules) (service : List ℕ) (kind : Kind
     pub failing : IsFailing modules kind j.items j.failing
     pub nobody : SaysNobody (may_answer j.free) j.items j.nobody
     pub way : SaysWayIn (may_answer j.failing) j.items j.way
+    pub never_asked : AreExactly (IsNeverAsked (may_answer j.free) j.items) j.never_asked
     pub jumps : AreExactly (JumpsPastEnd (may_answer j.free) j.items) j.jumps
 
   -- its runs come to more places than a graph has nodes
@@ -90,6 +93,12 @@ abbrev pub way_in_of : Verdict → Option PathValue
 way_in_of Refused = None
 way_in_of TooLarge = None
 way_in_of (Judged j) = j.way
+
+-- S3: the modules that are known never to be asked
+abbrev pub never_asked_in : Verdict → List ℕ
+never_asked_in Refused = []
+never_asked_in TooLarge = []
+never_asked_in (Judged j) = j.never_asked
 
 -- S5: a module is not there
 abbrev pub is_missing : Modules → ModuleText → Bool

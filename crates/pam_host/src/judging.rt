@@ -10,7 +10,7 @@ ghost use Rattle.pam_host.specs.Table.{Adds};
 ghost use Rattle.pam_host.specs.Verdicts.{HasOther, Judged};
 
 use crate::known_modules::Modules;
-use crate::modules::{has_other, push_jumps};
+use crate::modules::{has_other, push_asked, push_jumps};
 use crate::problem::{Problem, Spot};
 use crate::way_in::{WayIn, answers_on};
 use pam_check::Soundness;
@@ -117,22 +117,24 @@ fn way_into(
     Ok(Some(WayIn { stack, answers }))
 }
 
-/// Judges a stack, and appends its problems by the verdict.
+/// Judges a stack, and appends its problems by the verdict, and the rules that it may ask.
 pub(crate) fn judge(
     alloc: Global,
     spots: &mut Vec<Spot>,
+    asked: &mut Vec<Spot>,
     modules: &Modules<'_, '_>,
     at: Stacked,
     stack: Stack,
 ) -> Result<Option<WayIn>, AllocError>
     ensures { (folder : Folder) (name : List ℕ) → resolved folder name at.kind ≡ Ok stack →
-        IfOk result (Judges folder modules.now name at spots.old.items spots.new.items) }
+        IfOk result (Judges folder modules.now name at stack spots.old.items spots.new.items asked.old.items asked.new.items) }
 {
     let free = modules.answers(&stack, at.kind);
     let failing = modules.answers_if_checks_fail(&stack, at.kind);
     match Soundness::of(alloc, &stack, &free, &failing) {
         Ok(soundness) => {
             push_judged(spots, at, &stack, &soundness)?;
+            push_asked(asked, &stack, &soundness.never_asked)?;
             way_into(alloc, at.kind, stack, &failing, &soundness)
         }
         Err(GraphError::Memory) => Err(AllocError),
@@ -142,6 +144,7 @@ pub(crate) fn judge(
                 kind: at.kind,
             };
             push_whole(spots, at, true, problem)?;
+            push_asked(asked, &stack, &[])?;
             Ok(None)
         }
     }

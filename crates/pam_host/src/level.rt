@@ -41,7 +41,8 @@ impl Problem {
         match self {
             Problem::Fault(fault) | Problem::Walk(fault) => level_of_fault(fault),
             Problem::Released(difference) => level_of_difference(difference),
-            Problem::NoOther
+            Problem::NeverAsked
+            | Problem::NoOther
             | Problem::LeftOver
             | Problem::CallerIsRoot
             | Problem::NoModule { is_dashed: true } => Level::Note,

@@ -1,6 +1,7 @@
 //! The problems of the modules of a stack.
 
-ghost use Rattle.std.specs.Prelude.{◌≡◌, IsFalse, IsTrue, OnOk, true, false};
+ghost use Rattle.std.specs.Prelude.{◌≡◌, ◌==◌, IsFalse, IsTrue, OnOk, true, false};
+ghost use Rattle.std.specs.List.{list_any};
 ghost use Rattle.std.specs.Option.{option_map_or};
 ghost use Rattle.pam_conf.specs.ItemsOf.{module_text};
 ghost use Rattle.pam_conf.specs.Stack.{module_at};
@@ -56,7 +57,7 @@ fn push_if(
     Ok(())
 }
 
-/// Appends the problems that a module of a stack has by itself: S5, S13 and S14.
+/// Appends the problems that a module of a stack has by itself: S5, S13, S14, and S3 if no stack may ask it.
 fn push_of_rule(
     spots: &mut Vec<Spot>,
     modules: &Modules<'_, '_>,
@@ -67,6 +68,8 @@ fn push_of_rule(
     ensures { OnOk result (Adds (OfRule modules.now service.now kind (module_text «module».now)) spots.old.items spots.new.items) }
 {
     let is_dashed = module.dashed;
+    let is_other = is_other(module);
+    push_if(spots, module, is_other, Problem::NeverAsked)?;
     let missing = modules.is_missing(module);
     push_if(spots, module, missing, Problem::NoModule { is_dashed })?;
     let lacks_function = modules.lacks_function(module, kind);
@@ -122,6 +125,45 @@ pub(crate) fn push_jumps(
 {
     for number in numbers {
         push_module(spots, stack, *number, Problem::JumpPastEnd)?;
+    }
+    Ok(())
+}
+
+/// Whether a number is one of these.
+fn is_listed(number: usize, numbers: &[usize]) -> bool
+    ensures { result ≡ list_any (λ listed. listed == number) numbers.now }
+{
+    numbers.iter().any(|listed| *listed == number)
+}
+
+/// Appends S3 of the module with this number, unless it is one of these.
+fn push_unless_listed(
+    asked: &mut Vec<Spot>,
+    stack: &Stack,
+    never_asked: &[usize],
+    number: usize,
+) -> Result<(), AllocError>
+    ensures { OnOk result (Adds (λ spot. (Member number never_asked.now → ⊥) × OfModule Problem.NeverAsked stack.now number spot) asked.old.items asked.new.items) }
+{
+    if is_listed(number, never_asked) {
+        return Ok(());
+    }
+    push_module(asked, stack, number, Problem::NeverAsked)?;
+    Ok(())
+}
+
+/// Appends S3 of each module that may be asked, where those with these numbers are not.
+pub(crate) fn push_asked(
+    asked: &mut Vec<Spot>,
+    stack: &Stack,
+    never_asked: &[usize],
+) -> Result<(), AllocError>
+    ensures { OnOk result (Adds (OfModules Problem.NeverAsked stack.now (λ number. Member number never_asked.now → ⊥)) asked.old.items asked.new.items) }
+{
+    // The items say that the modules are numbered from 1 on.
+    let _items = stack.items();
+    for index in 0..stack.modules() {
+        push_unless_listed(asked, stack, never_asked, index + 1)?;
     }
     Ok(())
 }

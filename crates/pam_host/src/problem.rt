@@ -27,6 +27,8 @@ pub enum Problem {
         /// The position of the service in `HostReport::services`.
         service: usize,
     },
+    /// S3: no answers ask a module, in any stack that its rule is in.
+    NeverAsked,
     /// S4: a module jumps past the end of its list.
     JumpPastEnd,
     /// S5: a module is not there.
@@ -152,6 +154,7 @@ impl Problem {
             Problem::Released(difference) => 40 + rank_of_difference(difference),
             Problem::LetsNobodyIn { .. } => 51,
             Problem::LetsAnybodyIn { .. } => 52,
+            Problem::NeverAsked => 53,
             Problem::JumpPastEnd => 54,
             Problem::NoModule { .. } => 55,
             Problem::NoOther => 56,
@@ -174,6 +177,7 @@ impl Problem {
             Problem::Fault(_)
             | Problem::Walk(_)
             | Problem::Released(_)
+            | Problem::NeverAsked
             | Problem::JumpPastEnd
             | Problem::NoModule { .. }
             | Problem::NoOther
@@ -197,6 +201,7 @@ impl Problem {
             | Problem::Walk(_)
             | Problem::Released(_)
             | Problem::LetsAnybodyIn { .. }
+            | Problem::NeverAsked
             | Problem::JumpPastEnd
             | Problem::NoOther
             | Problem::UnreachableName

@@ -12,6 +12,7 @@ use crate::own::put_files;
 use crate::problem::{Place, Problem};
 use crate::services::checked_services;
 use crate::stacks::{Checker, Found};
+use crate::table::remove_all;
 use crate::way_in::WayIn;
 use pam_conf::{Files, RuleFiles};
 use pam_facts::Facts;
@@ -67,7 +68,12 @@ impl HostReport {
             modules: &modules,
         };
         let ways_in = checker.add_all(&mut found, &services)?;
-        let Found { mut table, readers } = found;
+        let Found {
+            mut table,
+            asked,
+            readers,
+        } = found;
+        remove_all(&mut table, &asked);
         put_files(alloc, files, &rules, &readers, &mut table)?;
         put_folder(&mut table, files, named)?;
         // The length says that the entries are in order.

@@ -1,6 +1,6 @@
 //! What is found of a stack.
 
-ghost use Rattle.std.specs.Prelude.{◌≡◌, ◌↔◌, IfOk, IsTrue, None, [], length};
+ghost use Rattle.std.specs.Prelude.{◌≡◌, ◌↔◌, IfOk, IsTrue, None, [], length, slice_get};
 ghost use Rattle.std.proofs.Common.{replicate};
 ghost use Rattle.pam_conf.specs.Laws.{IsSound};
 ghost use Rattle.pam_conf.specs.Survey.{faults_at, surveyed};
@@ -14,7 +14,7 @@ ghost use Rattle.pam_host.specs.Looked.{Looks};
 use crate::judging::{Stacked, judge};
 use crate::known_modules::Modules;
 use crate::met::Met;
-use crate::modules::push_modules;
+use crate::modules::{push_asked, push_modules};
 use crate::problem::Spot;
 use crate::readers::note_read;
 use crate::table::{Table, put_stack_at_all};
@@ -36,10 +36,12 @@ pub(crate) struct Checker<'x, 'f> {
     ghost same: { rules.now ≡ files.now },
 }
 
-/// What is found so far: the findings, and the stacks that read each file, by its position.
+/// What is found so far: the findings, where S3 is found of each rule that does not deny or only warn; S3 of each rule that a
+/// stack may ask; and the stacks that read each file, by its position.
 #[derive(Drop)]
 pub(crate) struct Found {
     pub table: Table,
+    pub asked: Vec<Spot>,
     pub readers: Vec<Option<Met>>,
 }
 
@@ -49,9 +51,11 @@ impl Found {
         ensures readers { IfOk result (λ f. f.readers.items ≡ replicate files None) }
         ensures found { IfOk result (λ f. (spot : SpotText) → finding_at f.table spot ≡ None) }
         ensures placed { IfOk result (λ f. ArePlaced f.table) }
+        ensures asked { IfOk result (λ f. f.asked.items ≡ []) }
     {
         Ok(Found {
             table: BTreeMap::new(alloc),
+            asked: Vec::new(alloc),
             readers: vec![in alloc; None; files]?,
         })
     }
@@ -83,27 +87,24 @@ fn is_sound(rules: &RuleFiles<'_>, survey: &Survey) -> bool
 }
 
 impl Checker<'_, '_> {
-    /// The problems of a stack itself, and the first way in, if it is one of `auth`.
+    /// The problems of a stack itself, the rules that it may ask, and the first way in, if it is one of `auth`.
     fn look(
         &self,
         spots: &mut Vec<Spot>,
-        service: usize,
+        asked: &mut Vec<Spot>,
+        at: Stacked,
         name: &[u8],
-        kind: Kind,
         survey: Survey,
     ) -> Result<Option<WayIn>, AllocError>
-        requires { spots.old.items ≡ [] }
-        ensures { survey_text survey ≡ surveyed self.now.rules.now name.now kind →
-            IfOk result (Looks self.now.rules.now self.now.modules.now name.now service kind (survey_text survey) spots.new.items) }
+        requires none { spots.old.items ≡ [] }
+        requires home { at.home ≡ slice_get (survey_text survey).reached 0 }
+        ensures { survey_text survey ≡ surveyed self.now.rules.now name.now at.kind →
+            IfOk result (Looks self.now.rules.now self.now.modules.now name.now at.service at.kind (survey_text survey) spots.new.items
+            asked.old.items asked.new.items) }
     {
         stack_is_sound_survey();
         let is_sound = is_sound(self.rules, &survey);
         push_walk(spots, &survey.faults)?;
-        let at = Stacked {
-            service,
-            kind,
-            home: survey.reached.first().copied(),
-        };
         let Survey {
             stack,
             faults: _,
@@ -113,11 +114,12 @@ impl Checker<'_, '_> {
             Some(stack) => stack,
             None => return Ok(None),
         };
-        push_modules(spots, self.modules, name, kind, &stack)?;
+        push_modules(spots, self.modules, name, at.kind, &stack)?;
         if !is_sound {
+            push_asked(asked, &stack, &[])?;
             return Ok(None);
         }
-        judge(self.alloc, spots, self.modules, at, stack)
+        judge(self.alloc, spots, asked, self.modules, at, stack)
     }
 
     /// Adds what the stack of a service for a kind meets. Returns the first way in, if it is one of `auth`.
@@ -140,7 +142,12 @@ impl Checker<'_, '_> {
             kind,
         )?;
         let mut spots = Vec::new(self.alloc);
-        let way = self.look(&mut spots, service, name, kind, survey)?;
+        let at = Stacked {
+            service,
+            kind,
+            home: survey.reached.first().copied(),
+        };
+        let way = self.look(&mut spots, &mut found.asked, at, name, survey)?;
         put_stack_at_all(&mut found.table, &spots, service, kind)?;
         Ok(way)
     }

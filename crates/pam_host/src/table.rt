@@ -3,7 +3,7 @@
 ghost use Rattle.std.specs.Prelude.{◌≡◌, OnOk, Some};
 ghost use Rattle.pam_paths.specs.Classes.{Member};
 ghost use Rattle.pam_host.specs.Problems.{place_of};
-ghost use Rattle.pam_host.specs.Table.{Puts, finding_at, met_of, with_met, with_stack};
+ghost use Rattle.pam_host.specs.Table.{Puts, Removes, finding_at, met_of, with_met, with_stack};
 
 use crate::met::Met;
 use crate::problem::{Place, Spot};
@@ -52,6 +52,22 @@ pub(crate) fn put_all(table: &mut Table, spots: &[Spot], met: Option<Met>) -> Re
         put(table, *spot, met)?;
     }
     Ok(())
+}
+
+/// Removes the finding of a problem, if there is one.
+fn remove(table: &mut Table, spot: Spot)
+    ensures { Removes (λ other. other ≡ spot) table.old table.new }
+{
+    let _ = table.remove(&spot.place());
+}
+
+/// Removes the findings of these problems.
+pub(crate) fn remove_all(table: &mut Table, spots: &[Spot])
+    ensures { Removes (λ spot. Member spot spots.now) table.old table.new }
+{
+    for spot in spots {
+        remove(table, *spot);
+    }
 }
 
 /// Finds the problems that one more stack meets.

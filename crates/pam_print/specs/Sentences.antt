@@ -53,6 +53,10 @@ nobody_sentence = codes " never succeeds, whatever its modules answer; look for 
 abbrev pub anybody_sentence : List ℕ
 anybody_sentence = codes " succeeds although no module that checks who logs in does"
 
+abbrev pub asked_sentence : List ℕ
+asked_sentence =
+    codes "the module is never asked, whatever other modules answer; remove the rule, or mend a control above that ends the stack or jumps over it"
+
 abbrev pub jump_sentence : List ℕ
 jump_sentence = codes "a jump past the end of the list, which fails the stack; jump over fewer items"
 
@@ -89,6 +93,7 @@ problem_sentence (problems.Walk fault) = []
 problem_sentence (problems.Released difference) = []
 problem_sentence (problems.LetsNobodyIn service kind) = nobody_sentence
 problem_sentence (problems.LetsAnybodyIn service) = anybody_sentence
+problem_sentence problems.NeverAsked = asked_sentence
 problem_sentence problems.JumpPastEnd = jump_sentence
 problem_sentence (problems.NoModule is_dashed) = no_module_sentence
 problem_sentence problems.NoOther = no_other_sentence

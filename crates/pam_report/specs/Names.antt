@@ -20,6 +20,7 @@ problem_name (problems.Walk fault) = (conf_row fault).name
 problem_name (problems.Released difference) = name_of difference
 problem_name (problems.LetsNobodyIn service kind) = codes "S1 LetsNobodyIn"
 problem_name (problems.LetsAnybodyIn service) = codes "S2 LetsAnybodyIn"
+problem_name problems.NeverAsked = codes "S3 NeverAsked"
 problem_name problems.JumpPastEnd = codes "S4 JumpPastEnd"
 problem_name (problems.NoModule is_dashed) = codes "S5 NoModule"
 problem_name problems.NoOther = codes "S6 NoOther"

@@ -29,6 +29,7 @@ pub fn problem_name(problem: Problem) -> &'static str
         Problem::Released(difference) => difference.name(),
         Problem::LetsNobodyIn { .. } => "S1 LetsNobodyIn",
         Problem::LetsAnybodyIn { .. } => "S2 LetsAnybodyIn",
+        Problem::NeverAsked => "S3 NeverAsked",
         Problem::JumpPastEnd => "S4 JumpPastEnd",
         Problem::NoModule { .. } => "S5 NoModule",
         Problem::NoOther => "S6 NoOther",

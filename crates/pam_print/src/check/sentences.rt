@@ -26,6 +26,9 @@ pub(super) fn problem_sentence(problem: Problem) -> &'static str
         }
         Problem::LetsAnybodyIn { .. } =>
             " succeeds although no module that checks who logs in does",
+        Problem::NeverAsked => {
+            "the module is never asked, whatever other modules answer; remove the rule, or mend a control above that ends the stack or jumps over it"
+        }
         Problem::JumpPastEnd => {
             "a jump past the end of the list, which fails the stack; jump over fewer items"
         }

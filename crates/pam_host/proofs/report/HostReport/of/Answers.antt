@@ -1,12 +1,14 @@
 use Rattle.std.proofs.Common.{◌∙◌, List, None, Option, ap, length, replicate, subst, ℕ}
+use Rattle.pam_paths.specs.Classes.{Member}
 use Rattle.pam_host.specs.Host.{Host}
 use Rattle.pam_host.specs.Modules.{Modules}
 use Rattle.pam_host.specs.Own.{IsRead, read_by}
 use Rattle.pam_host.specs.Report.{IsReportOn}
 use Rattle.pam_host.specs.Services.{checked_services}
 use Rattle.pam_host.specs.SoFar.{SoFar, host_with}
-use Rattle.pam_host.specs.Table.{Puts}
+use Rattle.pam_host.specs.Table.{Puts, Removes}
 use Rattle.pam_host.specs.declared.met.Met.{Met}
+use Rattle.pam_host.specs.declared.problem.Spot.{Spot}
 use Rattle.pam_host.proofs.OneService.{take-none}
 use Rattle.pam_host.proofs.Reporting.{report-from}
 use Rattle.pam_host.proofs.report.HostReport.of.Goals as goal
@@ -15,7 +17,7 @@ pub add_all-requires : goal.add_all-requires
 add_all-requires c =
     take-none (host_with c.args.files.now c.in_ok-services.services c.new-modules.result) c.in_ok-found.found
     (c.in_ok-found.ensures.readers ∙ ap (λ (n : ℕ). let none : Option Met = None in replicate n none) c.len.ensures)
-    c.in_ok-found.ensures.found c.in_ok-found.ensures.placed
+    c.in_ok-found.ensures.found c.in_ok-found.ensures.placed c.in_ok-found.ensures.asked
 
 pub returns-clause-report : goal.returns-clause-report
 returns-clause-report c =
@@ -28,7 +30,8 @@ returns-clause-report c =
     let Is : Modules → Type 0 = λ m. IsReportOn (host_with c.args.files.now checked m) c.args.named.now c.put_folder.new.table ways in
     subst Is c.new-modules.ensures
     (report-from (host checked) c.args.named.now found ways sofar
-    c.put_files.new.table c.put_folder.new.table
-    (subst (λ (l : List (Option Met)). Puts (IsRead c.args.files.now l (length l)) (read_by l) found.table c.put_files.new.table)
-    c.deref.ensures.value c.in_ok-put_files.ensures)
+    c.remove_all.new.table c.put_files.new.table c.put_folder.new.table
+    (subst (λ (l : List Spot). Removes (λ spot. Member spot l) found.table c.remove_all.new.table) c.deref.ensures.value c.remove_all.ensures)
+    (subst (λ (l : List (Option Met)). Puts (IsRead c.args.files.now l (length l)) (read_by l) c.remove_all.new.table c.put_files.new.table)
+    c.deref-2.ensures.value c.in_ok-put_files.ensures)
     c.in_ok-put_folder.ensures c.len-count.ensures.ordered)

@@ -1,4 +1,4 @@
-use Rattle.std.proofs.Common.{◌∙◌, List, ap, slice_get, sym, ℕ}
+use Rattle.std.proofs.Common.{◌∙◌, sym}
 use Rattle.std.proofs.lemmas.Bool.{false≢true}
 use Rattle.std.proofs.lemmas.Result.{IfOk-weaker}
 use Rattle.pam_conf.specs.SurveyText.{survey_text}
@@ -9,37 +9,40 @@ use Rattle.pam_host.proofs.stacks.Checker.look.Goals as goal
 
 pub returns-in-None : goal.returns-in-None
 returns-in-None c is =
-    looks-none c.args.self.now.rules.now c.args.self.now.modules.now c.args.name.now c.args.service c.args.kind (survey_text c.args.survey) is
-    c.stack_is_sound_survey.ensures.sound c.in-None.is c.push_walk.new.spots.items
-    (walk-seen c.args.survey.faults.items c.deref.result.now c.args.spots.now.items c.push_walk.new.spots.items c.requires c.deref.ensures.value
+    looks-none c.args.self.now.rules.now c.args.self.now.modules.now c.args.name.now c.args.at.service c.args.at.kind (survey_text c.args.survey) is
+    c.stack_is_sound_survey.ensures.sound c.in-None.is c.push_walk.new.spots.items c.args.asked.now.items
+    (walk-seen c.args.survey.faults.items c.deref.result.now c.args.spots.now.items c.push_walk.new.spots.items c.requires.none c.deref.ensures.value
     c.in_ok-push_walk.ensures)
 
 pub returns-then-not-is_sound : goal.returns-then-not-is_sound
 returns-then-not-is_sound c is =
-    looks-unsound c.args.self.now.rules.now c.args.self.now.modules.now c.args.name.now c.args.service c.args.kind (survey_text c.args.survey) is
+    looks-unsound c.args.self.now.rules.now c.args.self.now.modules.now c.args.name.now c.args.at.service c.args.at.kind (survey_text c.args.survey) is
     c.stack_is_sound_survey.ensures.sound c.in-Some.stack c.in-Some.is
     (λ s. false≢true (sym c.if-not-is_sound.true ∙ c.is_sound-is_sound.ensures.1 s))
-    c.push_walk.new.spots.items c.push_modules.new.spots.items
-    (walk-seen c.args.survey.faults.items c.deref.result.now c.args.spots.now.items c.push_walk.new.spots.items c.requires c.deref.ensures.value
+    c.push_walk.new.spots.items c.push_modules.new.spots.items c.args.asked.now.items c.push_asked.new.asked.items
+    (walk-seen c.args.survey.faults.items c.deref.result.now c.args.spots.now.items c.push_walk.new.spots.items c.requires.none c.deref.ensures.value
     c.in_ok-push_walk.ensures)
-    c.in_ok-push_modules.ensures
+    c.in_ok-push_modules.ensures c.in_ok-push_asked.ensures
 
 pub returns : goal.returns
 returns c is =
     let rules = c.args.self.now.rules.now in
     let modules = c.args.self.now.modules.now in
     let survey = survey_text c.args.survey in
+    let name = c.args.name.now in
+    let at = c.args.at in
     let sound = c.is_sound-is_sound.ensures.0 c.if-not-is_sound.false in
-    let stack = stack-of rules modules c.args.name.now c.args.service c.args.kind survey is c.stack_is_sound_survey.ensures.sound c.in-Some.stack c.in-Some.is sound in
+    let stack = stack-of rules modules name at.service at.kind survey is c.stack_is_sound_survey.ensures.sound c.in-Some.stack c.in-Some.is sound in
     let second = c.push_modules.new.spots.items in
     let spots = c.judge.new.spots.items in
-    IfOk-weaker c.judge.result (Judges rules modules c.args.name.now (record { service = c.args.service; kind = c.args.kind; home = c.copied.result }) second spots)
-    (Looks rules modules c.args.name.now c.args.service c.args.kind survey spots)
+    let asked = c.args.asked.now.items in
+    let more = c.judge.new.asked.items in
+    IfOk-weaker c.judge.result (Judges rules modules name at c.in-Some.stack second spots asked more)
+    (Looks rules modules name at.service at.kind survey spots asked more)
     (λ way judged.
-    looks-judged rules modules c.args.name.now c.args.service c.args.kind survey is c.stack_is_sound_survey.ensures.sound c.in-Some.stack c.in-Some.is
-    c.push_walk.new.spots.items second spots
-    (walk-seen c.args.survey.faults.items c.deref.result.now c.args.spots.now.items c.push_walk.new.spots.items c.requires c.deref.ensures.value
+    looks-judged rules modules name at.service at.kind survey is c.stack_is_sound_survey.ensures.sound c.in-Some.stack c.in-Some.is
+    c.push_walk.new.spots.items second spots asked more
+    (walk-seen c.args.survey.faults.items c.deref.result.now c.args.spots.now.items c.push_walk.new.spots.items c.requires.none c.deref.ensures.value
     c.in_ok-push_walk.ensures)
-    c.in_ok-push_modules.ensures way c.copied.result
-    (c.copied.ensures ∙ c.first.ensures.value ∙ ap (λ (l : List ℕ). slice_get l 0) c.deref-2.ensures.value) judged)
-    (c.judge.ensures rules c.args.name.now stack)
+    c.in_ok-push_modules.ensures way at.home c.requires.home judged)
+    (c.judge.ensures rules name stack)
