@@ -6,7 +6,7 @@ use Rattle.std.specs.List.{list_any}
 use Rattle.std.specs.Str.{bytes_eq}
 use Rattle.indexmap.specs.IndexSet.{insert_key}
 use Rattle.pam_conf.specs.Files.{Folder, Named, put_file}
-use Rattle.pam_cli.specs.Sources.{AddsFile, AddsFiles, HasNames, IsOfFolder, IsOver, is_given, path_in}
+use Rattle.pam_cli.specs.Sources.{AddsFile, AddsFiles, HasNames, IsThen, is_given, path_in}
 use Rattle.pam_cli.specs.declared.reading.sources.SourceFiles.{SourceFiles}
 
 any-map : {A : Type 0} (text : A → List ℕ) (name : List ℕ) (xs : List A) → list_any (λ x. bytes_eq name (text x)) xs ≡ list_any (bytes_eq name) (map text xs)
@@ -69,47 +69,47 @@ lacked_by_fewer few more (f ∷ files) lacked =
 
 pub no_more : (folder : List ℕ) (found : SourceFiles) → HasNames found → AddsFiles folder found found
 no_more folder found names = record {
-  more = [];
-  form = refl;
-  entries = sym (append-nil found.files.entries);
-  paths = sym (append-nil found.paths);
-  lacked = refl;
+  read = record {
+    more = [];
+    form = refl;
+    entries = sym (append-nil found.files.entries);
+    paths = sym (append-nil found.paths);
+    lacked = refl;
+  };
   names = names;
 }
 
 pub one_more : (folder name bytes path : List ℕ) (old new : SourceFiles) → is_given name old.files.entries ≡ false → path ≡ path_in folder (name, bytes)
     → AddsFile name bytes path old new → AddsFiles folder old new
 one_more folder name bytes path old new lacked at added = record {
-  more = (name, bytes) ∷ [];
-  form = ap (λ f. f.form) added.files;
-  entries = ap (λ f. f.entries) added.files;
-  paths = added.paths ∙ ap (λ p. old.paths ++ p ∷ []) at;
-  lacked = neither _ _ lacked refl;
+  read = record {
+    more = (name, bytes) ∷ [];
+    form = ap (λ f. f.form) added.files;
+    entries = ap (λ f. f.entries) added.files;
+    paths = added.paths ∙ ap (λ p. old.paths ++ p ∷ []) at;
+    lacked = neither _ _ lacked refl;
+  };
   names = added.names;
+}
+
+-- more files of a folder, and then more of it
+then_read : (folder : List ℕ) (first mid last : Folder) (first_places mid_places last_places : List (List ℕ))
+    → IsThen folder first first_places mid mid_places → IsThen folder mid mid_places last last_places → IsThen folder first first_places last last_places
+then_read folder first mid last first_places mid_places last_places before after = record {
+  more = before.more ++ after.more;
+  form = after.form ∙ before.form;
+  entries = after.entries ∙ ap (λ es. es ++ after.more) before.entries ∙ append_assoc first.entries before.more after.more;
+  paths = after.paths ∙ ap (λ ps. ps ++ map (path_in folder) after.more) before.paths
+      ∙ append_assoc first_places (map (path_in folder) before.more) (map (path_in folder) after.more)
+      ∙ ap (λ ps. first_places ++ ps) (sym (map-append (path_in folder) before.more after.more));
+  lacked = list_any-append (λ f. is_given f.0 first.entries) before.more after.more
+      ∙ neither _ _ before.lacked
+      (lacked_by_fewer first.entries before.more after.more
+      (ap (λ es. list_any (λ f. is_given f.0 es) after.more) (sym before.entries) ∙ after.lacked));
 }
 
 pub then_more : (folder : List ℕ) (old mid new : SourceFiles) → AddsFiles folder old mid → AddsFiles folder mid new → AddsFiles folder old new
 then_more folder old mid new before after = record {
-  more = before.more ++ after.more;
-  form = after.form ∙ before.form;
-  entries = after.entries ∙ ap (λ es. es ++ after.more) before.entries ∙ append_assoc old.files.entries before.more after.more;
-  paths = after.paths ∙ ap (λ ps. ps ++ map (path_in folder) after.more) before.paths
-      ∙ append_assoc old.paths (map (path_in folder) before.more) (map (path_in folder) after.more)
-      ∙ ap (λ ps. old.paths ++ ps) (sym (map-append (path_in folder) before.more after.more));
-  lacked = list_any-append (λ f. is_given f.0 old.files.entries) before.more after.more
-      ∙ neither _ _ before.lacked
-      (lacked_by_fewer old.files.entries before.more after.more
-      (ap (λ es. list_any (λ f. is_given f.0 es) after.more) (sym before.entries) ∙ after.lacked));
+  read = then_read folder old.files mid.files new.files old.paths mid.paths new.paths before.read after.read;
   names = after.names;
-}
-
--- a folder over one that has no files
-pub alone : (folder vendor : List ℕ) (found : Folder) (places : List (List ℕ)) → IsOfFolder folder found places → IsOver folder vendor found places
-alone folder vendor found places h = record {
-  first = found.entries;
-  second = [];
-  form = h.0;
-  entries = sym (append-nil found.entries);
-  paths = h.1 ∙ ap (λ ps. folder ∷ ps) (sym (append-nil (map (path_in folder) found.entries)));
-  lacked = refl;
 }

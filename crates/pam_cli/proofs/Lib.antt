@@ -1,2 +1,3 @@
 mod Added
+mod Candidates
 mod Folders

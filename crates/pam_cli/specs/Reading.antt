@@ -22,24 +22,24 @@ use Rattle.pam_cli.specs.Sources.{IsFrom, IsInSource, IsRead, IsUnread}
 -- ---- what is read
 
 -- a configuration is read from its source, for `check` with its paths
-abbrev pub HasFiles : ConfSource → Inputs → Type 0
-HasFiles source (inputs.Host files paths given) = IsRead source files paths
-HasFiles source (inputs.Stack files) = IsFrom source files
-HasFiles source (inputs.Paths files groups access time returns) = IsFrom source files
-HasFiles source given = ⊤
+abbrev pub HasFiles : List (Text × Text) → ConfSource → Inputs → Type 0
+HasFiles candidates source (inputs.Host files paths given) = IsRead candidates source files paths
+HasFiles candidates source (inputs.Stack files) = IsFrom candidates source files
+HasFiles candidates source (inputs.Paths files groups access time returns) = IsFrom candidates source files
+HasFiles candidates source given = ⊤
 
-abbrev pub HasSource : Task → Inputs → Type 0
-HasSource (Check source services fail_on named) given = HasFiles source given
-HasSource (Show source kind) given = HasFiles source given
-HasSource (Decide source kind answered) given = HasFiles source given
-HasSource (Paths source kind limit part filter knowledge) given = HasFiles source given
-HasSource (Outcomes source kind knowledge) given = HasFiles source given
-HasSource (Graph source kind format knowledge) given = HasFiles source given
-HasSource task given = ⊤
+abbrev pub HasSource : List (Text × Text) → Task → Inputs → Type 0
+HasSource candidates (Check source services fail_on named) given = HasFiles candidates source given
+HasSource candidates (Show source kind) given = HasFiles candidates source given
+HasSource candidates (Decide source kind answered) given = HasFiles candidates source given
+HasSource candidates (Paths source kind limit part filter knowledge) given = HasFiles candidates source given
+HasSource candidates (Outcomes source kind knowledge) given = HasFiles candidates source given
+HasSource candidates (Graph source kind format knowledge) given = HasFiles candidates source given
+HasSource candidates task given = ⊤
 
--- THE INPUTS of a task: those of exactly the files that it names
-abbrev pub AreInputs : Task → Inputs → Type 0
-AreInputs task given = (fits_task task given ≡ true) × HasSource task given
+-- THE INPUTS of a task with these candidates: those of exactly the files that are named
+abbrev pub AreInputs : List (Text × Text) → Task → Inputs → Type 0
+AreInputs candidates task given = (fits_task task given ≡ true) × HasSource candidates task given
 
 -- ---- what cannot be read
 
@@ -70,9 +70,9 @@ IsOfTask (Graph source kind format knowledge) name = IsOfKnowledge source knowle
 IsOfTask task name = ⊥
 
 -- THE INPUTS of a task, or why there are none
-abbrev pub IsReading : Task → Result Inputs InputError → Type 0
-IsReading task (Ok given) = AreInputs task given
-IsReading task (Err error) = IsUnread (IsOfTask task) error
+abbrev pub IsReading : List (Text × Text) → Task → Result Inputs InputError → Type 0
+IsReading candidates task (Ok given) = AreInputs candidates task given
+IsReading candidates task (Err error) = IsUnread (IsOfTask task) error
 
 -- ---- for private contracts and proofs alone
 
@@ -81,8 +81,9 @@ abbrev pub IsGiven : {A B : Type 0} → Option A → Option B → Type 0
 IsGiven given named = beq (is_some given) (is_some named) ≡ true
 
 -- what is read for each `check` of this source and these files
-abbrev pub IsCheckReading : ConfSource → CheckFiles → Result Inputs InputError → Type 0
-IsCheckReading source named result = (services : List Text) (fail_on : LevelName) → IsReading (Check source services fail_on named) result
+abbrev pub IsCheckReading : List (Text × Text) → ConfSource → CheckFiles → Result Inputs InputError → Type 0
+IsCheckReading candidates source named result =
+    (services : List Text) (fail_on : LevelName) → IsReading candidates (Check source services fail_on named) result
 
 -- what a check is given besides the configuration
 abbrev pub IsGivenReading : ConfSource → CheckFiles → Result CheckInputs InputError → Type 0
@@ -92,9 +93,9 @@ IsGivenReading source named (Err error) = IsUnread (λ name. IsInSource source n
 -- what is read for each `access` of these files
 abbrev pub IsAccessReading : Bor Text → Option (Bor Text) → Result Inputs InputError → Type 0
 IsAccessReading table groups result =
-    (login : Login) (arguments : List Text) → IsReading (Access table groups login arguments) result
+    (candidates : List (Text × Text)) (login : Login) (arguments : List Text) → IsReading candidates (Access table groups login arguments) result
 
 -- what is read for each task about this source with what is known of answers
-abbrev pub IsKnowledgeReading : ConfSource → KnowledgeSource → Result Inputs InputError → Type 0
-IsKnowledgeReading source named (Ok given) = (fits_knowledge named given ≡ true) × HasFiles source given
-IsKnowledgeReading source named (Err error) = IsUnread (IsOfKnowledge source named) error
+abbrev pub IsKnowledgeReading : List (Text × Text) → ConfSource → KnowledgeSource → Result Inputs InputError → Type 0
+IsKnowledgeReading candidates source named (Ok given) = (fits_knowledge named given ≡ true) × HasFiles candidates source given
+IsKnowledgeReading candidates source named (Err error) = IsUnread (IsOfKnowledge source named) error

@@ -1,5 +1,5 @@
 -- A run of the program: from the words to the status, and what is left on standard output.
-use Rattle.std.specs.Prelude.{◌≡◌, ◌⊎◌, true, ℕ, List, Option, Result, Ok, Err, MatchOption}
+use Rattle.std.specs.Prelude.{◌≡◌, ◌⊎◌, true, ℕ, List, Option, Result, Ok, Err, MatchOption, map}
 use Rattle.clap.specs.Words.{fault_of, subcommand_of, takes}
 use Rattle.pam_codes.specs.Out.{Out}
 use Rattle.pam_print.specs.Answer.{Answers}
@@ -11,7 +11,7 @@ use Rattle.pam_report.specs.declared.inputs.InputError.{InputError}
 use Rattle.pam_report.specs.declared.inputs.Inputs.{Inputs}
 use Rattle.pam_report.specs.declared.report.Status.{Status}
 use Rattle.pam_words.specs.Request.{request_of}
-use Rattle.pam_words.specs.Wanted.{IsRead, IsRefusal, Reads, RefusesBy}
+use Rattle.pam_words.specs.Wanted.{IsRead, IsRefusal, Reads, RefusesBy, candidate_view}
 use Rattle.pam_words.specs.Words.{pamcheck_app}
 use Rattle.pam_words.specs.declared.wanted.Request.{Request}
 use Rattle.pam_words.specs.declared.wanted.Usage.{Usage}
@@ -49,7 +49,7 @@ module _ {W : Type 0} (contents : W → Option (List ℕ)) (old new : Out W) (st
 
   -- some inputs of the request are read and answered, or one cannot be read
   abbrev pub EndsRequest : Request → Type 0
-  EndsRequest request = (given : Result Inputs InputError) × IsReading request.task given × EndsRead request given
+  EndsRequest request = (given : Result Inputs InputError) × IsReading (map candidate_view request.candidates.items) request.task given × EndsRead request given
 
   abbrev pub EndsAsked : Result Request Usage → Type 0
   EndsAsked (Ok request) = EndsRequest request

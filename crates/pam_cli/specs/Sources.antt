@@ -1,6 +1,6 @@
 -- What is read of a source: its files, and the paths under which they were read.
-use Rattle.std.specs.Prelude.{◌≡◌, ◌⊎◌, ⊤, Bool, false, ℕ, List, [], ◌∷◌, ◌++◌, codes, map, string_bytes}
-use Rattle.std.specs.List.{list_any}
+use Rattle.std.specs.Prelude.{◌≡◌, ◌⊎◌, ⊤, Bool, false, not, ℕ, List, [], ◌∷◌, ◌++◌, codes, map, string_bytes, if◌then◌else◌}
+use Rattle.std.specs.List.{filter, list_any}
 use Rattle.std.specs.Path.{path_join}
 use Rattle.std.specs.Str.{bytes_eq}
 use Rattle.clap.specs.Words.{Text}
@@ -21,20 +21,38 @@ is_given name files = list_any (λ f. bytes_eq name f.0) files
 abbrev pub path_in : Text → Named → Text
 path_in folder file = path_join folder file.0
 
+-- the first candidate of each name
+abbrev pub firsts_of : List (Text × Text) → List (Text × Text)
+firsts_of [] = []
+firsts_of (c ∷ cs) = c ∷ filter (λ other. not (bytes_eq other.0 c.0)) (firsts_of cs)
+
 -- ---- the files of a source, and the paths: that of the whole configuration, and then that of each file
 
--- the files of a folder
-abbrev pub IsOfFolder : Text → Folder → List Text → Type 0
-IsOfFolder folder files paths = (files.form ≡ forms.Dir) × (paths ≡ folder ∷ map (path_in folder) files.entries)
-
--- the files of a folder, and then those of another one whose names the first lacks
-pub record IsOver (folder vendor : Text) (found : Folder) (places : List Text) : Type 0 where
-  pub first : List Named
-  pub second : List Named
+-- the files of the candidates, the first of each name
+pub record IsOfCandidates (candidates : List (Text × Text)) (folder : Text) (found : Folder) (places : List Text) : Type 0 where
   pub form : found.form ≡ forms.Dir
-  pub entries : found.entries ≡ first ++ second
-  pub paths : places ≡ folder ∷ map (path_in folder) first ++ map (path_in vendor) second
-  pub lacked : list_any (λ f. is_given f.0 first) second ≡ false
+  pub names : map (λ f. f.0) found.entries ≡ map (λ c. c.0) (firsts_of candidates)
+  pub paths : places ≡ folder ∷ map (λ c. c.1) (firsts_of candidates)
+
+-- files, and then those of a folder whose names they lack
+pub record IsThen (folder : Text) (first : Folder) (first_places : List Text) (found : Folder) (places : List Text) : Type 0 where
+  pub more : List Named
+  pub form : found.form ≡ first.form
+  pub entries : found.entries ≡ first.entries ++ more
+  pub paths : places ≡ first_places ++ map (path_in folder) more
+  pub lacked : list_any (λ f. is_given f.0 first.entries) more ≡ false
+
+-- the files of the candidates, and then those of a folder whose names no candidate has
+abbrev pub IsOfFolder : List (Text × Text) → Text → Folder → List Text → Type 0
+IsOfFolder candidates folder found places =
+    (given : Folder) × (given_places : List Text)
+    × IsOfCandidates candidates folder given given_places × IsThen folder given given_places found places
+
+-- the same, and then the files of another folder whose names none of these has
+abbrev pub IsOver : List (Text × Text) → Text → Text → Folder → List Text → Type 0
+IsOver candidates folder vendor found places =
+    (first : Folder) × (first_places : List Text)
+    × IsOfFolder candidates folder first first_places × IsThen vendor first first_places found places
 
 -- one file in place of `pam.conf`
 abbrev pub IsOneFile : Text → Folder → List Text → Type 0
@@ -45,18 +63,23 @@ IsOneFile path files paths =
 abbrev pub IsRootFile : Text → Folder → List Text → Type 0
 IsRootFile path files paths = ((files ≡ record { form = forms.Single; entries = [] }) × (paths ≡ path ∷ [])) ⊎ IsOneFile path files paths
 
--- THE FILES of a source, and their paths
-abbrev pub IsRead : ConfSource → Folder → List Text → Type 0
-IsRead (Dir folder) files paths = IsOfFolder folder.now files paths
-IsRead (Over folder vendor) files paths = IsOver folder.now vendor.now files paths
-IsRead (Conf name) files paths = IsOneFile name.now files paths
-IsRead (Root root) files paths =
-    IsOver (path_join root.now (codes "etc/pam.d")) (path_join root.now (codes "usr/lib/pam.d")) files paths
-    ⊎ IsRootFile (path_join root.now (codes "etc/pam.conf")) files paths
+-- the files of a system: those of its folders, else its one file, in whose place no candidate can stand
+abbrev pub IsOfRoot : List (Text × Text) → Text → Folder → List Text → Type 0
+IsOfRoot candidates root files paths =
+    IsOver candidates (path_join root (codes "etc/pam.d")) (path_join root (codes "usr/lib/pam.d")) files paths
+    ⊎ IsOfFolder candidates (path_join root (codes "etc/pam.d")) files paths
+    ⊎ (candidates ≡ []) × IsRootFile (path_join root (codes "etc/pam.conf")) files paths
+
+-- THE FILES of a source with these candidates, and their paths
+abbrev pub IsRead : List (Text × Text) → ConfSource → Folder → List Text → Type 0
+IsRead candidates (Dir folder) files paths = IsOfFolder candidates folder.now files paths
+IsRead candidates (Over folder vendor) files paths = IsOver candidates folder.now vendor.now files paths
+IsRead candidates (Conf name) files paths = IsOneFile name.now files paths
+IsRead candidates (Root root) files paths = IsOfRoot candidates root.now files paths
 
 -- the files of a source, whatever their paths
-abbrev pub IsFrom : ConfSource → Folder → Type 0
-IsFrom source files = (paths : List Text) × IsRead source files paths
+abbrev pub IsFrom : List (Text × Text) → ConfSource → Folder → Type 0
+IsFrom candidates source files = (paths : List Text) × IsRead candidates source files paths
 
 -- ---- what cannot be read
 
@@ -88,11 +111,20 @@ pub record AddsFile (name bytes path : Text) (old new : SourceFiles) : Type 0 wh
   pub paths : new.paths ≡ old.paths ++ path ∷ []
   pub names : HasNames new
 
+-- the file of a candidate is added, unless one of its name is there
+pub record AddsCandidate (candidate : Text × Text) (old new : SourceFiles) : Type 0 where
+  pub form : new.files.form ≡ old.files.form
+  pub entries : map (λ f. f.0) new.files.entries
+      ≡ map (λ f. f.0) old.files.entries ++ (if is_given candidate.0 old.files.entries then [] else candidate.0 ∷ [])
+  pub paths : new.paths ≡ old.paths ++ (if is_given candidate.0 old.files.entries then [] else candidate.1 ∷ [])
+  pub names : HasNames new
+
+-- the files of the candidates are found
+pub record HasCandidates (candidates : List (Text × Text)) (folder : Text) (found : SourceFiles) : Type 0 where
+  pub read : IsOfCandidates candidates folder found.files found.paths
+  pub names : HasNames found
+
 -- some files of a folder are added, whose names were lacked
 pub record AddsFiles (folder : Text) (old new : SourceFiles) : Type 0 where
-  pub more : List Named
-  pub form : new.files.form ≡ old.files.form
-  pub entries : new.files.entries ≡ old.files.entries ++ more
-  pub paths : new.paths ≡ old.paths ++ map (path_in folder) more
-  pub lacked : list_any (λ f. is_given f.0 old.files.entries) more ≡ false
+  pub read : IsThen folder old.files old.paths new.files new.paths
   pub names : HasNames new

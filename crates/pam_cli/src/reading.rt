@@ -1,10 +1,11 @@
 //! Reads the files that a request names.
 
-ghost use Rattle.std.specs.Prelude.{◌⊎◌, IfErr, IfOk, MatchResult};
+ghost use Rattle.std.specs.Prelude.{◌⊎◌, IfErr, IfOk, MatchResult, map};
 ghost use Rattle.std.specs.Option.{option_copied};
 ghost use Rattle.pam_cli.specs.Reading.{IsAccessReading, IsCheckReading, IsGiven, IsGivenReading, IsKnowledgeReading, IsNamed};
 ghost use Rattle.pam_cli.specs.Reading.{IsReading};
 ghost use Rattle.pam_cli.specs.Sources.{IsUnread};
+ghost use Rattle.pam_words.specs.Wanted.{candidate_view};
 
 mod files;
 mod modules;
@@ -14,7 +15,7 @@ use files::named_file;
 use modules::modules_there;
 use pam_conf::Files;
 use pam_report::{CheckInputs, InputError, Inputs};
-use pam_words::{CheckFiles, ConfSource, KnowledgeSource, Request, Task};
+use pam_words::{Candidate, CheckFiles, ConfSource, KnowledgeSource, Request, Task};
 use sources::source_files;
 use std::alloc::Global;
 
@@ -71,11 +72,12 @@ fn check_inputs<R: std::rt::Files + AllocGlobal + Clone + Drop>(
     rt: &R,
     alloc: Global,
     source: ConfSource<'_>,
+    candidates: &[Candidate<'_>],
     named: &CheckFiles<'_>,
 ) -> Result<Inputs, InputError>
-    ensures { IsCheckReading source.entry named.now result }
+    ensures { IsCheckReading (map candidate_view candidates.now) source.entry named.now result }
 {
-    let found = source_files(rt, alloc, source)?;
+    let found = source_files(rt, alloc, source, candidates)?;
     let given = given_inputs(rt, alloc, source, named, &found.files)?;
     Ok(Inputs::Host {
         files: found.files,
@@ -104,11 +106,12 @@ fn knowledge_inputs<R: std::rt::Files + AllocGlobal + Clone + Drop>(
     rt: &R,
     alloc: Global,
     source: ConfSource<'_>,
+    candidates: &[Candidate<'_>],
     named: &KnowledgeSource<'_>,
 ) -> Result<Inputs, InputError>
-    ensures { IsKnowledgeReading source.entry named.now result }
+    ensures { IsKnowledgeReading (map candidate_view candidates.now) source.entry named.now result }
 {
-    let files = source_files(rt, alloc, source)?.files;
+    let files = source_files(rt, alloc, source, candidates)?.files;
     let of_access = optional_files(rt, alloc, named.groups, named.access)?;
     let others = optional_files(rt, alloc, named.time, named.returns)?;
     Ok(Inputs::Paths {
@@ -127,13 +130,14 @@ pub(crate) fn inputs_of<R: std::rt::Files + AllocGlobal + Clone + Drop>(
     alloc: Global,
     request: &Request<'_>,
 ) -> Result<Inputs, InputError>
-    ensures { IsReading request.now.task result }
+    ensures { IsReading (map candidate_view request.now.candidates.items) request.now.task result }
 {
+    let candidates = &request.candidates;
     match &request.task {
-        Task::Check { source, given, .. } => check_inputs(rt, alloc, *source, given),
-        Task::Show { source, .. } | Task::Decide { source, .. } => {
-            Ok(Inputs::Stack(source_files(rt, alloc, *source)?.files))
-        }
+        Task::Check { source, given, .. } => check_inputs(rt, alloc, *source, candidates, given),
+        Task::Show { source, .. } | Task::Decide { source, .. } => Ok(Inputs::Stack(
+            source_files(rt, alloc, *source, candidates)?.files,
+        )),
         Task::Access { table, groups, .. } => access_inputs(rt, alloc, table, *groups),
         Task::Time { table, .. } => Ok(Inputs::Time {
             table: named_file(rt, alloc, table)?,
@@ -142,17 +146,17 @@ pub(crate) fn inputs_of<R: std::rt::Files + AllocGlobal + Clone + Drop>(
             source,
             knowledge,
             ..
-        } => knowledge_inputs(rt, alloc, *source, knowledge),
+        } => knowledge_inputs(rt, alloc, *source, candidates, knowledge),
         Task::Outcomes {
             source,
             knowledge,
             ..
-        } => knowledge_inputs(rt, alloc, *source, knowledge),
+        } => knowledge_inputs(rt, alloc, *source, candidates, knowledge),
         Task::Graph {
             source,
             knowledge,
             ..
-        } => knowledge_inputs(rt, alloc, *source, knowledge),
+        } => knowledge_inputs(rt, alloc, *source, candidates, knowledge),
         Task::Explain(_) | Task::Facts | Task::Version => Ok(Inputs::Nothing),
     }
 }

@@ -235,9 +235,9 @@ reads_and_writes =
     }
     ∷ []
 
--- numbers to explain
-unfoldable pub numbers : List Explanation
-numbers =
+-- a number to explain, and candidates
+unfoldable pub numbers_and_candidates : List Explanation
+numbers_and_candidates =
     record {
       number = codes "U14";
       name = codes "NoSuchNumber";
@@ -251,5 +251,21 @@ numbers =
           codes "this is a fault of the words that pamcheck was given.";
       mending =
           codes "write a number as E15. The command explain alone lists all.";
+    }
+    ∷ record {
+      number = codes "U15";
+      name = codes "CandidateForm";
+      level = Error;
+      meaning =
+          codes "A value of --with is not a name, = and a file; or --with stands beside --conf,\n"
+          ++ codes "whose one file is for all services, so that there is no file of a name.";
+      example =
+          codes "$ pamcheck show login auth --dir . --with login"
+          ∷ [];
+      linux_pam =
+          codes "this is a fault of the words that pamcheck was given.";
+      mending =
+          codes "write --with NAME=FILE, as --with sshd=/tmp/sshd, beside --dir or\n"
+          ++ codes "--root.";
     }
     ∷ []

@@ -217,19 +217,36 @@ pub(crate) fn reads_and_writes() -> &'static [Explanation]
     &READS_AND_WRITES
 }
 
-static NUMBERS: [Explanation; 1] = [Explanation {
-    number: "U14",
-    name: "NoSuchNumber",
-    level: Level::Error,
-    meaning: "No fault or finding has the number that explain was given.",
-    example: &["$ pamcheck explain E20"],
-    linux_pam: "this is a fault of the words that pamcheck was given.",
-    mending: "write a number as E15. The command explain alone lists all.",
-}];
+static NUMBERS_AND_CANDIDATES: [Explanation; 2] = [
+    Explanation {
+        number: "U14",
+        name: "NoSuchNumber",
+        level: Level::Error,
+        meaning: "No fault or finding has the number that explain was given.",
+        example: &["$ pamcheck explain E20"],
+        linux_pam: "this is a fault of the words that pamcheck was given.",
+        mending: "write a number as E15. The command explain alone lists all.",
+    },
+    Explanation {
+        number: "U15",
+        name: "CandidateForm",
+        level: Level::Error,
+        meaning: concat!(
+            "A value of --with is not a name, = and a file; or --with stands beside --conf,\n",
+            "whose one file is for all services, so that there is no file of a name."
+        ),
+        example: &["$ pamcheck show login auth --dir . --with login"],
+        linux_pam: "this is a fault of the words that pamcheck was given.",
+        mending: concat!(
+            "write --with NAME=FILE, as --with sshd=/tmp/sshd, beside --dir or\n",
+            "--root."
+        ),
+    },
+];
 
-#[tactic(auto, unfolding(crate::specs::Words::numbers))]
-pub(crate) fn numbers() -> &'static [Explanation]
-    ensures { map explanation_view result.now ≡ spec.numbers }
+#[tactic(auto, unfolding(crate::specs::Words::numbers_and_candidates))]
+pub(crate) fn numbers_and_candidates() -> &'static [Explanation]
+    ensures { map explanation_view result.now ≡ spec.numbers_and_candidates }
 {
-    &NUMBERS
+    &NUMBERS_AND_CANDIDATES
 }

@@ -10,9 +10,10 @@ use Rattle.clap.specs.Words.{Row, Text, first_of}
 unfoldable pub code_named : Text → Option ℕ
 code_named name = position (λ n. same_name n name) code_names
 
-abbrev pub both : Option ℕ → Option (List ℕ) → Option (List ℕ)
-both (Some code) (Some rest) = Some (code ∷ rest)
-both (Some code) None = None
+-- a value before the others, if each is there
+abbrev pub both : {A : Type 0} → Option A → Option (List A) → Option (List A)
+both (Some value) (Some rest) = Some (value ∷ rest)
+both (Some value) None = None
 both None rest = None
 
 -- the codes with these names, in order. Each must be the name of one

@@ -1,4 +1,5 @@
 pub mod Building
+pub mod Candidates
 pub mod Decisions
 pub mod Request
 pub mod Wanted

@@ -10,6 +10,7 @@ use Rattle.pam_conf.specs.Rule.{kind_named}
 use Rattle.pam_conf.specs.declared.Kind.{Kind}
 use Rattle.clap.specs.ValueTests.{accepts}
 use Rattle.clap.specs.Words.{Row, Text, all_of, first_of}
+use Rattle.pam_words.specs.Candidates.{candidates_beside}
 use Rattle.pam_words.specs.Decisions.{codes_named, decisions_of}
 use Rattle.pam_words.specs.Words.{number_parser}
 use Rattle.pam_words.specs.declared.wanted.GraphFormat.{GraphFormat}
@@ -101,11 +102,13 @@ pub data TaskText : Type 0 where
   facts : TaskText
   version : TaskText
 
+-- a command with its service. Each candidate is a name and the file that is read in place of the one of this name
 pub record RequestText : Type 0 where
   pub service : Text
   pub task : TaskText
+  pub candidates : List (Text × Text)
 
--- U2 to U6, U8, U11 to U13
+-- U2 to U6, U8, U11 to U13, U15
 pub data Refusal : Type 0 where
   source : Refusal
   kind_name : Refusal
@@ -116,6 +119,7 @@ pub data Refusal : Type 0 where
   moment : Refusal
   both_ends : Refusal
   both_filters : Refusal
+  candidate_form : Refusal
 
 -- ---- values
 
@@ -151,6 +155,10 @@ names_source rows = has (codes "dir") rows || has (codes "vendor-dir") rows || h
 -- the source of `check`, which is the running system if no option names one
 abbrev pub source_or_root : List Row → Option SourceText
 source_or_root rows = if names_source rows then source_of rows else Some (root (codes "/"))
+
+-- the candidates for files of the source
+abbrev pub candidates_of : List Row → Option (List (Text × Text))
+candidates_of rows = candidates_beside (has (codes "conf") rows) (all_of (codes "with") rows)
 
 abbrev pub kind_of_rows : List Row → Option Kind
 kind_of_rows rows = kind_named (text_of (codes "kind") rows)
@@ -391,4 +399,6 @@ task_of command rows =
 -- THE REQUEST of a command, or its first refusal. A command without SERVICE has the empty service
 abbrev pub request_of : Text → List Row → Result RequestText Refusal
 request_of command rows =
-    task_of command rows >>= λ task. Ok (record { service = text_of (codes "service") rows; task = task })
+    task_of command rows >>= λ task.
+    or_refuse (candidates_of rows) candidate_form (λ candidates.
+    Ok (record { service = text_of (codes "service") rows; task = task; candidates = candidates }))

@@ -1,13 +1,14 @@
 -- The command line: results of the library's functions, against the request that the words spell.
 use Rattle.std.specs.Prelude.{◌≡◌, ◌≢◌, ◌⊎◌, ⊤, Result, Ok, Err, List, [], codes, map, option_map}
 use Rattle.std.specs.Option.{option_copied}
-use Rattle.clap.specs.Words.{IsAmong, Kinds, Row, first_of, kind_of}
+use Rattle.clap.specs.Words.{IsAmong, Kinds, Row, Text, first_of, kind_of}
 use Rattle.clap.specs.declared.Error.{Error}
 use Rattle.clap.specs.declared.error.ErrorKind.TheVariants.{DisplayHelp, DisplayVersion, OutOfMemory}
 use Rattle.clap.specs.declared.error.ErrorKind.{ErrorKind}
 use Rattle.pam_words.specs.Request.{KnowledgeText, LoginText, MomentText, PartText, Refusal, RequestText, SourceText, TaskText}
 use Rattle.pam_words.specs.Request as spec
 use Rattle.pam_words.specs.Request.{texts_of}
+use Rattle.pam_words.specs.declared.wanted.Candidate.{Candidate}
 use Rattle.pam_words.specs.declared.wanted.CheckFiles.{CheckFiles}
 use Rattle.pam_words.specs.declared.wanted.ConfSource.{ConfSource}
 use Rattle.pam_words.specs.declared.wanted.ConfSource.TheVariants.{Dir, Over, Conf, Root}
@@ -98,8 +99,15 @@ task_view (Explain number) = spec.explain (option_copied number)
 task_view Facts = spec.facts
 task_view Version = spec.version
 
+abbrev pub candidate_view : Candidate → Text × Text
+candidate_view candidate = (candidate.name.now, candidate.file.now)
+
 abbrev pub request_view : Request → RequestText
-request_view request = record { service = request.service.now; task = task_view request.task }
+request_view request = record {
+  service = request.service.now;
+  task = task_view request.task;
+  candidates = map candidate_view request.candidates.items;
+}
 
 -- ---- results, if `clap` accepts the words
 
@@ -115,6 +123,7 @@ Gives view value (Err usage.Login) = value ≡ Err spec.login
 Gives view value (Err usage.Moment) = value ≡ Err spec.moment
 Gives view value (Err usage.BothEnds) = value ≡ Err spec.both_ends
 Gives view value (Err usage.BothFilters) = value ≡ Err spec.both_filters
+Gives view value (Err usage.CandidateForm) = value ≡ Err spec.candidate_form
 Gives view value (Err usage.Memory) = ⊤
 Gives view value (Err (usage.Help error)) = ⊥
 Gives view value (Err (usage.Words error)) = ⊥

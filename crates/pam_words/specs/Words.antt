@@ -52,9 +52,10 @@ with_options app (id ∷ ids) = with_options (with_rule app (option_rule id)) id
 abbrev pub service_app : Text → App
 service_app name = with_rule (new_app name) (required_rule (codes "service"))
 
--- the options of a source
+-- the options of a source, and the candidates for its files
 abbrev pub with_source : App → App
-with_source app = with_options app (codes "dir" ∷ codes "vendor-dir" ∷ codes "conf" ∷ codes "root" ∷ [])
+with_source app =
+    with_rule (with_options app (codes "dir" ∷ codes "vendor-dir" ∷ codes "conf" ∷ codes "root" ∷ [])) (repeated_option_rule (codes "with"))
 
 -- the options of a check: the folders of modules, a facts file, an accept file and the level that fails
 abbrev pub with_check : App → App

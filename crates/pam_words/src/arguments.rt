@@ -71,6 +71,13 @@ pub(crate) const ROOT: ArgRow = ArgRow {
     help: "The root folder of a system",
 };
 
+pub(crate) const WITH: ArgRow = ArgRow {
+    form: ArgForm::RepeatedOption,
+    id: "with",
+    name: "NAME=FILE",
+    help: "A file to read in place of the file NAME of the folder; may be repeated",
+};
+
 pub(crate) const MODULES: ArgRow = ArgRow {
     form: ArgForm::RepeatedOption,
     id: "modules",

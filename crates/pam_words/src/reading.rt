@@ -13,6 +13,7 @@ ghost use Rattle.pam_words.specs.Wanted.{Answers, Gives, GivesTask, IsRead, IsRe
 ghost use Rattle.pam_words.specs.Wanted.{login_view, moment_view, source_view};
 ghost use Rattle.pam_words.specs.Words.{pamcheck_app};
 
+mod candidates;
 mod checks;
 mod decisions;
 mod graph;
@@ -277,10 +278,15 @@ fn read<'a>(alloc: Global, command: &str, matches: &ArgMatches<'a>) -> Result<Re
     ensures { Answers (request_of command.now (rows_of (found_of matches.now))) result }
 {
     let task = task(alloc, command, matches)?;
-    Ok(Request {
-        service: text(matches, "service"),
-        task,
-    })
+    match candidates::candidates(alloc, matches) {
+        Ok(Some(candidates)) => Ok(Request {
+            service: text(matches, "service"),
+            task,
+            candidates,
+        }),
+        Ok(None) => Err(Usage::CandidateForm),
+        Err(_) => Err(Usage::Memory),
+    }
 }
 
 /// Converts an error of `clap`.

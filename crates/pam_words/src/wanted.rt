@@ -160,11 +160,20 @@ pub enum Task<'a> {
     Version,
 }
 
+/// A file that is read in place of the file of a name, or beside the others if there is none: a change that is not yet made.
+#[derive(Clone, Copy)]
+pub struct Candidate<'a> {
+    pub name: &'a str,
+    pub file: &'a str,
+}
+
 /// A command with its service. The service is as given, not lowercased, and empty for a command that takes none, or several.
 #[derive(Drop)]
 pub struct Request<'a> {
     pub service: &'a str,
     pub task: Task<'a>,
+    /// The candidates for files of the source, none for a command without one. Of several for one name, the first counts.
+    pub candidates: Vec<Candidate<'a>>,
 }
 
 /// Why the words are refused. If several reasons apply, the first in this order is returned.
@@ -207,6 +216,9 @@ pub enum Usage {
     /// U11: both `--decision` and `--asks` are given.
     #[error("more than one of --decision and --asks")]
     BothFilters,
+    /// U15: a value of `--with` is not NAME=FILE, or one is given beside `--conf`.
+    #[error("a candidate that is not NAME=FILE, or beside --conf")]
+    CandidateForm,
     /// U7: an allocation failed.
     #[error("out of memory")]
     Memory,

@@ -10,7 +10,7 @@ use crate::arguments::{
     ACCEPT, ACCESS, ACCESS_TABLE, AFTER, ARGUMENTS, ASKS, AT, AT_UNIX, ArgForm, ArgRow, BEFORE,
     CODES, CONF, DECISION, DIR, FACTS, FAIL_ON, FORMAT, GROUP, KIND, LIMIT, MODULES, NUMBER,
     RETURNS, RHOST, ROOT, SERVICE, SERVICES, TABLE_USER, TIME, TIME_TABLE, TTY, USER, VENDOR_DIR,
-    ZONE,
+    WITH, ZONE,
 };
 use crate::number::number_parser;
 use clap::{Arg, ArgAction, Command};
@@ -36,41 +36,41 @@ static COMMANDS: [CommandRow; 11] = [
         name: "check",
         about: "Checks all services for faults, and for stacks that let nobody or anybody in",
         args: &[
-            DIR, VENDOR_DIR, CONF, ROOT, MODULES, FACTS, ACCEPT, FAIL_ON, SERVICES,
+            DIR, VENDOR_DIR, CONF, ROOT, WITH, MODULES, FACTS, ACCEPT, FAIL_ON, SERVICES,
         ],
     },
     CommandRow {
         name: "show",
         about: "Shows the modules of a stack",
-        args: &[SERVICE, KIND, DIR, VENDOR_DIR, CONF, ROOT],
+        args: &[SERVICE, KIND, DIR, VENDOR_DIR, CONF, ROOT, WITH],
     },
     CommandRow {
         name: "decide",
         about: "Runs a stack with given return codes",
-        args: &[SERVICE, KIND, DIR, VENDOR_DIR, CONF, ROOT, CODES],
+        args: &[SERVICE, KIND, DIR, VENDOR_DIR, CONF, ROOT, WITH, CODES],
     },
     CommandRow {
         name: "paths",
         about: "Lists the paths through a stack",
         args: &[
-            SERVICE, KIND, DIR, VENDOR_DIR, CONF, ROOT, LIMIT, AFTER, BEFORE, DECISION, ASKS, USER,
-            RHOST, TTY, ACCESS, TIME, GROUP, RETURNS, AT, AT_UNIX, ZONE,
+            SERVICE, KIND, DIR, VENDOR_DIR, CONF, ROOT, WITH, LIMIT, AFTER, BEFORE, DECISION, ASKS,
+            USER, RHOST, TTY, ACCESS, TIME, GROUP, RETURNS, AT, AT_UNIX, ZONE,
         ],
     },
     CommandRow {
         name: "outcomes",
         about: "Counts the paths through a stack by their decisions",
         args: &[
-            SERVICE, KIND, DIR, VENDOR_DIR, CONF, ROOT, USER, RHOST, TTY, ACCESS, TIME, GROUP,
-            RETURNS, AT, AT_UNIX, ZONE,
+            SERVICE, KIND, DIR, VENDOR_DIR, CONF, ROOT, WITH, USER, RHOST, TTY, ACCESS, TIME,
+            GROUP, RETURNS, AT, AT_UNIX, ZONE,
         ],
     },
     CommandRow {
         name: "graph",
         about: "Draws the graph of a stack",
         args: &[
-            SERVICE, KIND, DIR, VENDOR_DIR, CONF, ROOT, FORMAT, USER, RHOST, TTY, ACCESS, TIME,
-            GROUP, RETURNS, AT, AT_UNIX, ZONE,
+            SERVICE, KIND, DIR, VENDOR_DIR, CONF, ROOT, WITH, FORMAT, USER, RHOST, TTY, ACCESS,
+            TIME, GROUP, RETURNS, AT, AT_UNIX, ZONE,
         ],
     },
     CommandRow {

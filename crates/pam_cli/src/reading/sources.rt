@@ -1,15 +1,17 @@
 //! Reads the files of a source, each with its path.
 
-ghost use Rattle.std.specs.Prelude.{◌≡◌, false, IfErr, IfOk, IsOkUnless, MatchResult, OnOk, string_bytes};
-ghost use Rattle.pam_cli.specs.Sources.{AddsFile, AddsFiles, HasNames, IsInSource, IsOfFolder, IsOneFile, IsOver, IsRead, IsRootFile, IsStart, IsUnread};
-ghost use Rattle.pam_cli.specs.Sources.{is_given};
+ghost use Rattle.std.specs.Prelude.{◌≡◌, codes, false, IfErr, IfOk, IsOkUnless, MatchResult, OnOk, map, string_bytes};
+ghost use Rattle.std.specs.Path.{path_join};
+ghost use Rattle.pam_cli.specs.Sources.{AddsCandidate, AddsFile, AddsFiles, HasCandidates, HasNames, IsInSource, IsOfFolder, IsOfRoot};
+ghost use Rattle.pam_cli.specs.Sources.{IsOneFile, IsOver, IsRead, IsRootFile, IsStart, IsUnread, is_given};
+ghost use Rattle.pam_words.specs.Wanted.{candidate_view};
 
 use crate::reading::files::{entry_names, is_folder, is_there, named_file, regular_bytes, unread};
 use indexmap::IndexSet;
 use pam_conf::{Files, Form};
 use pam_report::InputError;
 use pam_text::Texts;
-use pam_words::ConfSource;
+use pam_words::{Candidate, ConfSource};
 use std::alloc::{AllocError, Global};
 use std::io::ErrorKind;
 use std::path::Path;
@@ -101,29 +103,66 @@ fn add_folder<R: std::rt::Files + AllocGlobal + Clone + Drop>(
     Ok(())
 }
 
+/// Reads the file of a candidate, and adds it if no file of its name is there.
+fn put_candidate<R: std::rt::Files>(
+    rt: &R,
+    alloc: Global,
+    candidate: Candidate<'_>,
+    found: &mut SourceFiles,
+) -> Result<(), InputError>
+    requires { HasNames found.old }
+    ensures { OnOk result (AddsCandidate (candidate_view candidate.entry) found.old found.new) }
+{
+    if found.names.contains(candidate.name.as_bytes()) {
+        return Ok(());
+    }
+    let bytes = named_file(rt, alloc, candidate.file)?;
+    let name = Vec::from_slice(alloc, candidate.name.as_bytes())?;
+    found.put(alloc, name, candidate.file, bytes)
+}
+
+/// Reads the files of the candidates for a folder, the first of each name.
+fn candidate_files<R: std::rt::Files>(
+    rt: &R,
+    alloc: Global,
+    folder: &str,
+    candidates: &[Candidate<'_>],
+) -> Result<SourceFiles, InputError>
+    ensures { IfOk result (HasCandidates (map candidate_view candidates.now) folder.now) }
+{
+    let mut found = SourceFiles::new(alloc, Form::Dir, folder)?;
+    for candidate in candidates {
+        put_candidate(rt, alloc, *candidate, &mut found)?;
+    }
+    Ok(found)
+}
+
+/// Reads the files of the candidates, and those of a folder whose names no candidate has.
 fn folder_files<R: std::rt::Files + AllocGlobal + Clone + Drop>(
     rt: &R,
     alloc: Global,
     folder: &str,
+    candidates: &[Candidate<'_>],
 ) -> Result<SourceFiles, InputError>
     ensures names { IfOk result HasNames }
-    ensures files { IfOk result (λ found. IsOfFolder folder.now found.files found.paths) }
+    ensures files { IfOk result (λ found. IsOfFolder (map candidate_view candidates.now) folder.now found.files found.paths) }
 {
-    let mut found = SourceFiles::new(alloc, Form::Dir, folder)?;
+    let mut found = candidate_files(rt, alloc, folder, candidates)?;
     add_folder(rt, alloc, folder, &mut found)?;
     Ok(found)
 }
 
-/// Reads the files of a folder, and those of another one whose names the first lacks.
+/// Reads the files of the candidates and of a folder, and those of another one whose names none of these has.
 fn over_files<R: std::rt::Files + AllocGlobal + Clone + Drop>(
     rt: &R,
     alloc: Global,
     folder: &str,
     vendor: &str,
+    candidates: &[Candidate<'_>],
 ) -> Result<SourceFiles, InputError>
-    ensures { IfOk result (λ found. IsOver folder.now vendor.now found.files found.paths) }
+    ensures { IfOk result (λ found. IsOver (map candidate_view candidates.now) folder.now vendor.now found.files found.paths) }
 {
-    let mut found = folder_files(rt, alloc, folder)?;
+    let mut found = folder_files(rt, alloc, folder, candidates)?;
     add_folder(rt, alloc, vendor, &mut found)?;
     Ok(found)
 }
@@ -151,19 +190,23 @@ fn one_file(alloc: Global, path: &str, bytes: Vec<u8>) -> Result<SourceFiles, In
     Ok(found)
 }
 
-/// Reads the files of a folder, and those of another one, if it is there, whose names the first lacks.
-fn over_files_if_there<R: std::rt::Files + AllocGlobal + Clone + Drop>(
+/// Reads the files of the candidates and of the folder of a system, and those of its second one, if that is there, whose names
+/// none of these has.
+fn system_files<R: std::rt::Files + AllocGlobal + Clone + Drop>(
     rt: &R,
     alloc: Global,
+    root: Path<'_>,
     folder: &str,
-    vendor: &str,
+    candidates: &[Candidate<'_>],
 ) -> Result<SourceFiles, InputError>
-    ensures { IfOk result (λ found. IsOver folder.now vendor.now found.files found.paths) }
+    requires { folder.now ≡ path_join root.now (codes "etc/pam.d") }
+    ensures { IfOk result (λ found. IsOfRoot (map candidate_view candidates.now) root.now found.files found.paths) }
 {
-    match is_there(rt, Path::new(vendor)) {
-        Ok(true) => over_files(rt, alloc, folder, vendor),
-        Ok(false) => folder_files(rt, alloc, folder),
-        Err(error) => Err(unread(alloc, vendor, &error)),
+    let vendor = root.join(alloc, "usr/lib/pam.d")?;
+    match is_there(rt, vendor.as_path()) {
+        Ok(true) => over_files(rt, alloc, folder, vendor.as_str(), candidates),
+        Ok(false) => folder_files(rt, alloc, folder, candidates),
+        Err(error) => Err(unread(alloc, vendor.as_str(), &error)),
     }
 }
 
@@ -197,13 +240,15 @@ fn root_file<R: std::rt::Files>(
     }
 }
 
-/// Reads the configuration of the system whose root is this folder.
+/// Reads the configuration of the system whose root is this folder. Candidates stand for files of a folder, so it is an error if
+/// there are any and the system has none.
 fn root_files<R: std::rt::Files + AllocGlobal + Clone + Drop>(
     rt: &R,
     alloc: Global,
     root: &str,
+    candidates: &[Candidate<'_>],
 ) -> Result<SourceFiles, InputError>
-    ensures { IfOk result (λ found. IsRead (ConfSource.Root root.entry) found.files found.paths) }
+    ensures { IfOk result (λ found. IsOfRoot (map candidate_view candidates.now) root.now found.files found.paths) }
 {
     if let Err(error) = fs::read_dir(rt, root) {
         return Err(unread(alloc, root, &error));
@@ -211,30 +256,33 @@ fn root_files<R: std::rt::Files + AllocGlobal + Clone + Drop>(
     let root = Path::new(root);
     let folder = root.join(alloc, "etc/pam.d")?;
     match is_folder(rt, folder.as_path()) {
-        Ok(true) => {
-            let vendor = root.join(alloc, "usr/lib/pam.d")?;
-            over_files_if_there(rt, alloc, folder.as_str(), vendor.as_str())
-        }
-        Ok(false) => {
+        Ok(true) => system_files(rt, alloc, root, folder.as_str(), candidates),
+        Ok(false) if candidates.is_empty() => {
             let file = root.join(alloc, "etc/pam.conf")?;
             root_file(rt, alloc, file.as_str())
         }
+        Ok(false) => Err(unread(
+            alloc,
+            folder.as_str(),
+            &io::Error::from(ErrorKind::NotFound),
+        )),
         Err(error) => Err(unread(alloc, folder.as_str(), &error)),
     }
 }
 
-/// Reads the configuration of a source.
+/// Reads the configuration of a source with its candidates, which the one file of `--conf` has none of.
 pub(super) fn source_files<R: std::rt::Files + AllocGlobal + Clone + Drop>(
     rt: &R,
     alloc: Global,
     source: ConfSource<'_>,
+    candidates: &[Candidate<'_>],
 ) -> Result<SourceFiles, InputError>
-    ensures { MatchResult result (λ found. IsRead source.entry found.files found.paths) (IsUnread (IsInSource source.entry)) }
+    ensures { MatchResult result (λ found. IsRead (map candidate_view candidates.now) source.entry found.files found.paths) (IsUnread (IsInSource source.entry)) }
 {
     match source {
-        ConfSource::Dir(folder) => folder_files(rt, alloc, folder),
-        ConfSource::Over { folder, vendor } => over_files(rt, alloc, folder, vendor),
+        ConfSource::Dir(folder) => folder_files(rt, alloc, folder, candidates),
+        ConfSource::Over { folder, vendor } => over_files(rt, alloc, folder, vendor, candidates),
         ConfSource::Conf(name) => conf_file(rt, alloc, name),
-        ConfSource::Root(root) => root_files(rt, alloc, root),
+        ConfSource::Root(root) => root_files(rt, alloc, root, candidates),
     }
 }
