@@ -28,11 +28,12 @@ put_new name bytes (f ∷ files) new =
       | false ↦ λ g. ap (λ fs. f ∷ fs) (put_new name bytes files g)
     ] new
 
--- the same, for a call that found that it is not
-pub not_given : {A : Type 0} (text : A → List ℕ) (name given : List ℕ) (names : List A) (files : List Named) (found : Bool)
-    → map text names ≡ map (λ f. f.0) files → found ≡ list_any (λ n. bytes_eq given (text n)) names → given ≡ name → found ≡ false → is_given name files ≡ false
-not_given text name given names files found same is equal none =
-    sym (among_names text name names files same) ∙ ap (λ n. list_any (λ m. bytes_eq n (text m)) names) (sym equal) ∙ sym is ∙ none
+-- the same, for a call that found whether it is
+pub as_found : {A : Type 0} (text : A → List ℕ) (name given : List ℕ) (names : List A) (files : List Named) (found answer : Bool)
+    → map text names ≡ map (λ f. f.0) files → found ≡ list_any (λ n. bytes_eq given (text n)) names → given ≡ name → found ≡ answer
+    → is_given name files ≡ answer
+as_found text name given names files found answer same is equal answered =
+    sym (among_names text name names files same) ∙ ap (λ n. list_any (λ m. bytes_eq n (text m)) names) (sym equal) ∙ sym is ∙ answered
 
 -- a new name comes last, as its file does
 pub names_with : {A : Type 0} (text : A → List ℕ) (one : A) (name bytes : List ℕ) (names new : List A) (files : List Named)

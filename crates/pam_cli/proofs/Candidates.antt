@@ -1,13 +1,15 @@
 -- The files of candidates.
-use Rattle.std.proofs.Common.{◌≡◌, ◌∙◌, ◌++◌, ◌||◌, Bool, true, false, List, [], ◌∷◌, ℕ, append-nil, ap, map, not, refl, sym, if◌then◌else◌}
+use Rattle.std.proofs.Common.{◌≡◌, ◌∙◌, ◌++◌, ◌||◌, ◌==◌, ◌+◌, ◌<◌, Bool, true, false, List, [], ◌∷◌, ℕ, add-one, append-nil, ap, get_or, length, map, not, refl, subst, sym}
+use Rattle.std.proofs.Common.{arith, take, if◌then◌else◌}
+use Rattle.std.proofs.Math.Seq.{take-suc}
+use Rattle.std.proofs.lemmas.Bool.{eqb-true}
 use Rattle.std.proofs.lemmas.List.{map-append}
 use Rattle.std.proofs.lemmas.List.Elements.{filter-append}
 use Rattle.std.proofs.lemmas.Slice.Eq.{bytes_eq-Decides}
 use Rattle.std.specs.List.{filter, list_any}
 use Rattle.std.specs.Str.{bytes_eq}
-use Rattle.pam_cli.specs.Sources.{AddsCandidate, AddsFile, HasCandidates, HasNames, IsStart, firsts_of, is_given}
+use Rattle.pam_cli.specs.Sources.{AddsCandidate, AddsFile, HasCandidates, HasNames, firsts_of, is_given}
 use Rattle.pam_cli.specs.declared.reading.sources.SourceFiles.{SourceFiles}
-use Rattle.pam_conf.specs.declared.rule.Form.TheVariants as forms
 use Rattle.pam_cli.proofs.Added.{among_names}
 
 abbrev Pair : Type 0
@@ -88,19 +90,8 @@ module _ (name file : List ℕ) (old : SourceFiles) where
     names = added.names;
   }
 
--- no candidates yet
-pub none_yet : (folder : List ℕ) (found : SourceFiles) → IsStart forms.Dir folder found → HasCandidates [] folder found
-none_yet folder found start = record {
-  read = record {
-    form = ap (λ f. f.form) start.files;
-    names = ap (λ f. map (λ e. e.0) f.entries) start.files;
-    paths = start.paths;
-  };
-  names = start.names;
-}
-
 -- one more candidate
-pub one_more : (cs : List Pair) (c : Pair) (folder : List ℕ) (old new : SourceFiles) → HasCandidates cs folder old → AddsCandidate c old new
+one_more : (cs : List Pair) (c : Pair) (folder : List ℕ) (old new : SourceFiles) → HasCandidates cs folder old → AddsCandidate c old new
     → HasCandidates (cs ++ c ∷ []) folder new
 one_more cs c folder old new before added =
     let here : is_given c.0 old.files.entries ≡ has c.0 cs =
@@ -121,3 +112,15 @@ one_more cs c folder old new before added =
       };
       names = added.names;
     }
+
+-- the next candidate of a list
+pub next_one : {A : Type 0} (view : A → Pair) (cs : List A) (i : ℕ) (d : A) → i < length cs → (folder : List ℕ) (old new : SourceFiles)
+    → HasCandidates (map view (take i cs)) folder old → AddsCandidate (view (get_or cs i d)) old new → HasCandidates (map view (take (i + 1) cs)) folder new
+next_one view cs i d low folder old new before added =
+    let same : map view (take (i + 1) cs) ≡ map view (take i cs) ++ view (get_or cs i d) ∷ [] =
+    rw add-one (ap (map view) (take-suc cs i d low) ∙ map-append view (take i cs) (get_or cs i d ∷ [])) in
+    subst (λ (l : List Pair). HasCandidates l folder new) (sym same) (one_more (map view (take i cs)) (view (get_or cs i d)) folder old new before added)
+
+pub none_given : {A : Type 0} (view : A → Pair) (cs : List A) → (length cs == 0) ≡ true → map view cs ≡ []
+none_given view [] e = refl
+none_given view (c ∷ cs) e = absurd (let none : length (c ∷ cs) ≡ 0 = eqb-true _ _ e in omega (arith, none))

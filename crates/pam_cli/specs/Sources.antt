@@ -68,7 +68,7 @@ abbrev pub IsOfRoot : List (Text × Text) → Text → Folder → List Text → 
 IsOfRoot candidates root files paths =
     IsOver candidates (path_join root (codes "etc/pam.d")) (path_join root (codes "usr/lib/pam.d")) files paths
     ⊎ IsOfFolder candidates (path_join root (codes "etc/pam.d")) files paths
-    ⊎ (candidates ≡ []) × IsRootFile (path_join root (codes "etc/pam.conf")) files paths
+    ⊎ ((candidates ≡ []) × IsRootFile (path_join root (codes "etc/pam.conf")) files paths)
 
 -- THE FILES of a source with these candidates, and their paths
 abbrev pub IsRead : List (Text × Text) → ConfSource → Folder → List Text → Type 0

@@ -199,8 +199,8 @@ fn system_files<R: std::rt::Files + AllocGlobal + Clone + Drop>(
     folder: &str,
     candidates: &[Candidate<'_>],
 ) -> Result<SourceFiles, InputError>
-    requires { folder.now ≡ path_join root.now (codes "etc/pam.d") }
-    ensures { IfOk result (λ found. IsOfRoot (map candidate_view candidates.now) root.now found.files found.paths) }
+    requires { folder.now ≡ path_join root.text.now (codes "etc/pam.d") }
+    ensures { IfOk result (λ found. IsOfRoot (map candidate_view candidates.now) root.entry.text.now found.files found.paths) }
 {
     let vendor = root.join(alloc, "usr/lib/pam.d")?;
     match is_there(rt, vendor.as_path()) {

@@ -1,21 +1,21 @@
-use Rattle.std.proofs.Common.{◌∙◌, ap, ap₂, sym}
+use Rattle.std.proofs.Common.{◌∙◌, ap, ap₂, false, sym}
 use Rattle.std.proofs.lemmas.Result.{on_ok_weaker}
 use Rattle.std.specs.Path.{path_join}
-use Rattle.pam_cli.proofs.Added.{not_given, one_more}
+use Rattle.pam_cli.proofs.Added.{as_found, one_more}
 use Rattle.pam_cli.proofs.reading.sources.put_entry.Goals as goal
 
 pub put-requires-clause-new : goal.put-requires-clause-new
 put-requires-clause-new g c =
     let found = c.args.found.now in
     let spelled = sym (ap (λ v. v.items) c.into_bytes.ensures.value) in
-    not_given (λ n. n.items) c.into_bytes.result.items _ found.names.keys found.files.entries c.contains.result c.requires c.contains.ensures
+    as_found (λ n. n.items) c.into_bytes.result.items _ found.names.keys found.files.entries c.contains.result false c.requires c.contains.ensures
     (c.as_bytes.ensures.value ∙ spelled) c.if-contains.false
 
 pub returns-in-Ok-Some-clause-ok : goal.returns-in-Ok-Some-clause-ok
 returns-in-Ok-Some-clause-ok g c =
     let found = c.args.found.now in
     let spelled = sym (ap (λ v. v.items) c.into_bytes.ensures.value) in
-    let lacked = not_given (λ n. n.items) c.into_bytes.result.items _ found.names.keys found.files.entries c.contains.result c.requires c.contains.ensures
+    let lacked = as_found (λ n. n.items) c.into_bytes.result.items _ found.names.keys found.files.entries c.contains.result false c.requires c.contains.ensures
     (c.as_bytes.ensures.value ∙ spelled) c.if-contains.false in
     let place = c.as_str-in-Ok-Some.ensures ∙ c.in_ok-path.ensures ∙ ap₂ path_join c.new.ensures (c.as_str.ensures.value ∙ spelled) in
     on_ok_weaker c.put.result
