@@ -120,9 +120,13 @@ class Request:
             except UnicodeDecodeError:
                 raise Fault("U1") from None
         self.command, self.arguments, self.options = parsed(words)
+        self.judge()
+        plain_sources.judge_candidates(self.options)
+
+    def judge(self):
+        """Refuses words, the candidates aside."""
         if self.command in WITH_SOURCE:
             plain_sources.judge(self.options, self.command == b"check")
-            plain_sources.judge_candidates(self.options)
         if self.options.get(b"--fail-on", b"warning") not in plain_host.LEVELS:
             raise Fault("U13")
         if self.command == b"check" or self.command in ABOUT:
