@@ -7,12 +7,12 @@ _pamcheck_codes='success open_err symbol_err service_err system_err buf_err perm
     no_module_data conv_err authtok_err authtok_recover_err authtok_lock_busy authtok_disable_aging try_again ignore abort
     authtok_expired module_unknown bad_item conv_again'
 _pamcheck_numbers='E1 E2 E3 E4 E5 E6 E7 E8 E9 E10 E11 E12 E13 E14 E15 E16 E17 E18 E19 DE1 TE1 TE2 TE3 TE4 TE5 TE6 TE7
-    TE8 TE9 TE10 TE11 TE12 TE13 TE14 TE15 TE16 C1 C2 C3 C4 M1 M2 M4 U1 U2 U3 U4 U5 U6 U7 U8 U9 U11 U12 U13 U14 V1 V2 L1
-    L2 L3 L4 L5 L6 L7 L8 L9 S1 S2 S4 S5 S6 S7 S8 S9 S11 S13 S14'
+    TE8 TE9 TE10 TE11 TE12 TE13 TE14 TE15 TE16 C1 C2 C3 C4 M1 M2 M4 U1 U2 U3 U4 U5 U6 U7 U8 U9 U11 U12 U13 U14 U15 V1 V2 L1
+    L2 L3 L4 L5 L6 L7 L8 L9 S1 S2 S3 S4 S5 S6 S7 S8 S9 S11 S13 S14'
 
 # The options of a command.
 _pamcheck_options() {
-    local source='--dir --vendor-dir --conf --root'
+    local source='--dir --vendor-dir --conf --root --with'
     local moment='--at --at-unix --zone'
     local known="--user --rhost --tty --access --time --group --returns $moment"
     case $1 in
@@ -58,6 +58,17 @@ _pamcheck_services() {
     done
 }
 
+# A candidate: the name of a file, `=`, and the file that is read in its place.
+_pamcheck_candidate() {
+    if [[ $cur == *=* ]]; then
+        cur=${cur#*=}
+        _filedir
+    else
+        COMPREPLY=($(compgen -S = -W "$(_pamcheck_services "${words[@]:2}")" -- "$cur"))
+        compopt -o nospace
+    fi
+}
+
 # A set of codes: `any`, or names with commas between them, with `but:` before them or not.
 _pamcheck_set() {
     local before='' last=${1##*[,:]} code
@@ -85,6 +96,7 @@ _pamcheck() {
     case $prev in
         --dir | --vendor-dir | --root | --modules) _filedir -d ;;
         --conf | --facts | --accept | --access | --time | --group | --returns) _filedir ;;
+        --with) _pamcheck_candidate ;;
         --fail-on) COMPREPLY=($(compgen -W 'error warning note' -- "$cur")) ;;
         --format) COMPREPLY=($(compgen -W 'dot mermaid' -- "$cur")) ;;
         --decision) _pamcheck_set "$cur" ;;

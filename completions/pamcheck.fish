@@ -6,7 +6,7 @@ set -g __pamcheck_codes success open_err symbol_err service_err system_err buf_e
     authtok_disable_aging try_again ignore abort authtok_expired module_unknown bad_item conv_again
 set -g __pamcheck_numbers E1 E2 E3 E4 E5 E6 E7 E8 E9 E10 E11 E12 E13 E14 E15 E16 E17 E18 E19 DE1 TE1 TE2 TE3 TE4 TE5 \
     TE6 TE7 TE8 TE9 TE10 TE11 TE12 TE13 TE14 TE15 TE16 C1 C2 C3 C4 M1 M2 M4 U1 U2 U3 U4 U5 U6 U7 U8 U9 U11 U12 U13 \
-    U14 V1 V2 L1 L2 L3 L4 L5 L6 L7 L8 L9 S1 S2 S4 S5 S6 S7 S8 S9 S11 S13 S14
+    U14 U15 V1 V2 L1 L2 L3 L4 L5 L6 L7 L8 L9 S1 S2 S3 S4 S5 S6 S7 S8 S9 S11 S13 S14
 
 # Whether the command is one of these.
 function __pamcheck_in
@@ -71,6 +71,16 @@ function __pamcheck_services
     end
 end
 
+# Candidates: the name of a file, `=`, and the file that is read in its place.
+function __pamcheck_candidates
+    set -l parts (string replace -r -- '^--with=' '' (commandline -ct) | string split -m 1 =)
+    if test (count $parts) = 2
+        printf '%s\n' $parts[1]=(__fish_complete_path "$parts[2]")
+    else
+        printf '%s=\n' (__pamcheck_services)
+    end
+end
+
 # A set of codes: `any`, or names with commas between them, with `but:` before them or not.
 function __pamcheck_set
     set -l before (string match -r -- '^(?:--decision=)?((?:but:)?(?:[a-z_]+,)*)' (commandline -ct))[2]
@@ -110,6 +120,7 @@ complete -c pamcheck -n '__pamcheck_in check show decide paths outcomes graph' -
 complete -c pamcheck -n '__pamcheck_in check show decide paths outcomes graph' -l vendor-dir -xa '(__fish_complete_directories)' -d 'The folder for services that --dir lacks'
 complete -c pamcheck -n '__pamcheck_in check show decide paths outcomes graph' -l conf -rF -d 'The file for all services'
 complete -c pamcheck -n '__pamcheck_in check show decide paths outcomes graph' -l root -xa '(__fish_complete_directories)' -d 'The root folder of a system'
+complete -c pamcheck -n '__pamcheck_in check show decide paths outcomes graph' -l with -xa '(__pamcheck_candidates)' -d 'A file to read in place of NAME, as NAME=FILE'
 complete -c pamcheck -n '__pamcheck_in check' -l modules -xa '(__fish_complete_directories)' -d 'A folder of modules'
 complete -c pamcheck -n '__pamcheck_in check' -l facts -rF -d 'What is known of more modules'
 complete -c pamcheck -n '__pamcheck_in check' -l accept -rF -d 'The findings that are meant to be'

@@ -11,13 +11,15 @@ import plain_given
 import plain_graph
 import plain_host
 import plain_outcomes
+import plain_sources
 import plain_stacks as stacks
 import plain_tables as tables
 import plain_zones as zones
 from plain_faults import Fault
+from plain_sources import found, listed, read
 
 KNOWING = b" --access --time --group --returns --user --rhost --tty --at --at-unix --zone"
-SOURCES = b"--dir --vendor-dir --conf --root"
+SOURCES = b"--dir --vendor-dir --conf --root --with"
 OPTIONS = {
     b"check": SOURCES + b" --modules --facts --accept --fail-on",
     b"show": SOURCES,
@@ -30,7 +32,8 @@ OPTIONS = {
     b"facts": b"",
     b"version": b"",
 }
-REPEATED = b"--modules"
+REPEATED = (b"--modules", b"--with")
+WITH_SOURCE = [name for name, options in OPTIONS.items() if options.startswith(SOURCES)]
 ABOUT = (b"facts", b"version")
 VERSION = b"pamcheck 1.0.0 (proved with rattle, logic dac8208d650f15bf)\n"
 REQUIRED = {b"access": [b"--access", b"--user"], b"time": [b"--time", b"--user"]}
@@ -117,7 +120,13 @@ class Request:
             except UnicodeDecodeError:
                 raise Fault("U1") from None
         self.command, self.arguments, self.options = parsed(words)
-        self.judge_source()
+        self.judge()
+        plain_sources.judge_candidates(self.options)
+
+    def judge(self):
+        """Refuses words, the candidates aside."""
+        if self.command in WITH_SOURCE:
+            plain_sources.judge(self.options, self.command == b"check")
         if self.options.get(b"--fail-on", b"warning") not in plain_host.LEVELS:
             raise Fault("U13")
         if self.command == b"check" or self.command in ABOUT:
@@ -137,16 +146,6 @@ class Request:
         self.decisions = decisions_of(self.options[b"--decision"]) if b"--decision" in self.options else set()
         if self.command in (b"paths", b"outcomes", b"graph", b"time"):
             self.judge_login_and_moment()
-
-    def judge_source(self):
-        """Refuses more than one source, or none where there is no other."""
-        if self.command in (b"access", b"time") or self.command in ABOUT:
-            return
-        given = [name for name in (b"--dir", b"--conf", b"--root") if name in self.options]
-        if self.command == b"check" and not given and b"--vendor-dir" not in self.options:
-            self.options[b"--root"] = b"/"
-        elif len(given) != 1 or b"--vendor-dir" in self.options and given != [b"--dir"]:
-            raise Fault("U2")
 
     def judge_login_and_moment(self):
         given = self.options
@@ -169,7 +168,7 @@ class Request:
             return b"".join(b" ".join(row) + b"\n" for row in plain_host.FACTS), 0
         if self.command == b"version":
             return VERSION, 0
-        files = self.read_source(tree)
+        source = plain_sources.Source(self.options, tree) if self.command in WITH_SOURCE else None
         self.tables = {}
         for option in (b"--group", b"--access", b"--time", b"--returns"):
             if option in self.options:
@@ -181,8 +180,8 @@ class Request:
             granted, line = tables.TimeTable(self.tables[b"--time"]).decide(self.login(), moment)
             return (b"granted\n", 0) if granted else (b"denied line %d\n" % line, 1)
         if self.command == b"check":
-            return self.check(files, tree)
-        items, modules = stacks.resolve(files, self.service, self.kind)
+            return self.check(source, tree)
+        items, modules = stacks.resolve(source.files, self.service, self.kind)
         header = b"%s %s %d modules\n" % (self.service, self.kind, len(modules))
         if self.command == b"show":
             return header + b"".join(item_lines(items, b"")), 0
@@ -195,57 +194,19 @@ class Request:
             return header + self.outcomes(items, modules), 0
         return header + self.page(items, modules), 0
 
-    def check(self, files, tree):
+    def check(self, source, tree):
         """What is wrong with a host."""
-        folders = self.options.get(REPEATED, [])
+        folders = self.options.get(b"--modules", [])
         for folder in folders:
-            if not isinstance(found(tree, folder), dict):
-                raise Fault("V1", folder)
+            listed(tree, folder)
         data = {name: read(tree, self.options[name]) if name in self.options else b"" for name in (b"--facts", b"--accept")}
         facts = plain_given.facts(data[b"--facts"])
         accepted = plain_given.accepted(data[b"--accept"])
-        there = plain_given.there(self.options.get(b"--root"), folders, files.files.values(), lambda path: found(tree, path))
-        host = plain_host.Host(files.form, files.files, self.arguments, there, facts)
+        form, files = source.files.form, source.files.files
+        there = plain_given.there(self.options.get(b"--root"), folders, files.values(), lambda path: found(tree, path))
+        host = plain_host.Host(form, files, self.arguments, there, facts)
         accept = self.options.get(b"--accept", b""), accepted
-        return plain_host.text(host, self.paths_of_files, self.options.get(b"--fail-on", b"warning"), accept)
-
-    def read_source(self, tree):
-        """The files of the source, where the command has one, and the paths under which they are read."""
-        self.paths_of_files = {}
-        if b"--dir" in self.options:
-            folders = [self.options[name] for name in (b"--dir", b"--vendor-dir") if name in self.options]
-            return self.read_folders(tree, folders)
-        if b"--conf" in self.options:
-            self.paths_of_files = {None: self.options[b"--conf"], b"pam.conf": self.options[b"--conf"]}
-            return stacks.Files(stacks.SINGLE, {b"pam.conf": read(tree, self.options[b"--conf"])})
-        if b"--root" in self.options:
-            return self.read_root(tree, self.options[b"--root"])
-        return None
-
-    def read_folders(self, tree, folders):
-        """The files of a folder by name, and those of a second one whose names the first has not."""
-        files = {}
-        for name in folders:
-            folder = found(tree, name)
-            if not isinstance(folder, dict):
-                raise Fault("V1", name)
-            for file, data in sorted(folder.items(), key=lambda item: item[0].encode()):
-                if isinstance(data, bytes) and file.encode() not in files:
-                    files[file.encode()] = data
-                    self.paths_of_files[file.encode()] = joined(name, file.encode())
-        self.paths_of_files[None] = folders[0]
-        return stacks.Files(stacks.DIR, files)
-
-    def read_root(self, tree, root):
-        """The files of a system."""
-        if not isinstance(found(tree, root), dict):
-            raise Fault("V1", root)
-        folder, vendor, conf = (joined(root, name) for name in (b"etc/pam.d", b"usr/lib/pam.d", b"etc/pam.conf"))
-        if isinstance(found(tree, folder), dict):
-            return self.read_folders(tree, [folder] + [vendor] * isinstance(found(tree, vendor), dict))
-        self.paths_of_files = {None: conf, b"pam.conf": conf}
-        data = found(tree, conf)
-        return stacks.Files(stacks.SINGLE, {b"pam.conf": data} if isinstance(data, bytes) else {})
+        return plain_host.text(host, source.paths, self.options.get(b"--fail-on", b"warning"), accept)
 
     def login(self):
         """The login that the words tell."""
@@ -375,10 +336,10 @@ def parsed(words):
             arguments.append(word)
             continue
         name, sign, value = word.partition(b"=")
-        if name not in OPTIONS[command].split() or name in options and name != REPEATED or not (sign or words):
+        if name not in OPTIONS[command].split() or name in options and name not in REPEATED or not (sign or words):
             raise WrongWords
         value = value if sign else words.pop(0)
-        options[name] = options.get(name, []) + [value] if name == REPEATED else value
+        options[name] = options.get(name, []) + [value] if name in REPEATED else value
     least = LEAST_ARGUMENTS[command]
     if not least <= len(arguments) <= MOST_ARGUMENTS.get(command, len(arguments)):
         raise WrongWords
@@ -388,25 +349,3 @@ def parsed(words):
         if not re.fullmatch(rb"[0-9]{1,7}", number) or not 1 <= int(number) <= 1000000:
             raise WrongWords
     return command, arguments, options
-
-
-def joined(folder, name):
-    """The path of a name in a folder."""
-    return folder + name if folder.endswith(b"/") else folder + b"/" + name
-
-
-def found(tree, path):
-    """The bytes or the folder at a path, or `None`; a file of the system has its whole path as its name."""
-    if path.decode() in tree:
-        return tree[path.decode()]
-    for name in path.decode().split("/"):
-        tree = tree.get(name) if isinstance(tree, dict) else None
-    return tree
-
-
-def read(tree, name):
-    """The bytes of a file that the words name."""
-    data = found(tree, name)
-    if not isinstance(data, bytes):
-        raise Fault("V1", name)
-    return data

@@ -54,6 +54,7 @@ NAMES = dict(line.split() for line in """
     U11 BothFilters
     U12 FormatName
     U13 LevelName
+    U15 CandidateForm
     V1 Read
     V2 Write
 """.strip().splitlines())

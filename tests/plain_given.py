@@ -5,6 +5,7 @@ import re
 import plain_faults
 import plain_stacks as stacks
 from plain_faults import LineFault
+from plain_sources import joined
 
 CLASSES = (b"checks", b"ignores", b"passes", b"fails")
 MOST_ARGUMENTS = 2
@@ -100,8 +101,3 @@ def is_at(root, path, found):
     if root is None:
         return os.path.exists(path)
     return found(joined(root, path.lstrip(b"/"))) is not None
-
-
-def joined(folder, name):
-    """The path of a name in a folder."""
-    return folder + name if folder.endswith(b"/") else folder + b"/" + name

@@ -243,6 +243,7 @@ def sources(program):
     base = ["paths", *known, "--limit", "3"]
     for name in ("ring", "d", "gone", "/dev/zero", "/dev/null"):
         check_like(program, ["show", "login", "auth", "--conf", name], endless)
+        check_like(program, ["show", "login", "auth", "--dir", "d", "--with", "login=" + name], endless)
         for option in ("--access", "--group", "--time", "--returns"):
             check_like(program, [*base, option, name], endless)
             for command in ("outcomes", "graph"):
@@ -251,7 +252,7 @@ def sources(program):
         check_like(program, ["access", "login", "--user", "a", "--access", "access", "--group", name], endless)
         check_like(program, ["time", "login", "--user", "a", "--time", name, "--at", "2024-05-06T10:00"], endless)
         check_like(program, [*base, "--returns", "gone", "--time", "gone2", "--access", name, "--group", "d"], endless)
-        runs += 17
+        runs += 18
     os.remove("ring")
     os.remove("link")
     os.rmdir("empty")

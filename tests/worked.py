@@ -62,6 +62,7 @@ account required pam_time.so
 """
 CURSORS = [b"0.0.12", b"25.1", b"6.0", b"-"]
 MOMENT = b"2024-05-06T17:29:59"
+CANDIDATE = b"login=o/other"
 
 SHOW = ["show", "login", "auth"]
 DECIDE = ["decide", "login", "auth", "success", "auth_err", "success", "new_authtok_reqd", "ignore"]
@@ -150,7 +151,7 @@ def tables():
 
 
 def words():
-    """Cursors, a moment, formats and names in the words."""
+    """Cursors, a moment, formats, candidates and names in the words."""
     tree = {"access": ACCESS, "group": GROUP, "time": TIME, "returns": RETURNS, "d": {"login": STACK},
             "o": {"other": b"auth requisite a.so\n"}}
     for cursor in CURSORS:
@@ -162,6 +163,8 @@ def words():
     for name in FORMATS:
         for change in changed(name):
             yield [*GRAPH, "--dir", "d", *TABLES, "--format", change], tree
+    for change in changed(CANDIDATE):
+        yield [*SHOW, "--dir", "d", "--with", change], tree
     for more in OTHER_WORDS:
         yield [*GRAPH, "--dir", "d", *more], tree
         yield [*OUTCOMES, "--dir", "d", *more], tree
