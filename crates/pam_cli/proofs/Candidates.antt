@@ -1,6 +1,6 @@
 -- The files of candidates.
-use Rattle.std.proofs.Common.{◌≡◌, ◌∙◌, ◌++◌, ◌||◌, ◌==◌, ◌+◌, ◌<◌, Bool, true, false, List, [], ◌∷◌, ℕ, add-one, append-nil, ap, get_or, length, map, not, refl, subst, sym}
-use Rattle.std.proofs.Common.{arith, take, if◌then◌else◌}
+use Rattle.std.proofs.Common.{◌≡◌, ◌∙◌, ◌++◌, ◌||◌, ◌==◌, ◌+◌, ◌<◌, Bool, true, false, List, [], ◌∷◌, ℕ, add-one, append-nil, ap, arith, get_or}
+use Rattle.std.proofs.Common.{length, map, not, refl, subst, sym, take, if◌then◌else◌}
 use Rattle.std.proofs.Math.Seq.{take-suc}
 use Rattle.std.proofs.lemmas.Bool.{eqb-true}
 use Rattle.std.proofs.lemmas.List.{map-append}

@@ -55,7 +55,9 @@ IsOfKnowledge source named name =
 
 -- the facts file or the accept file, or one of the folders of modules
 abbrev pub IsOfCheck : CheckFiles → List ℕ → Type 0
-IsOfCheck named name = Member name (map (λ folder. folder.now) named.modules.items) ⊎ IsNamed (option_copied named.facts) name ⊎ IsNamed (option_copied named.accept) name
+IsOfCheck named name =
+    Member name (map (λ folder. folder.now) named.modules.items)
+    ⊎ IsNamed (option_copied named.facts) name ⊎ IsNamed (option_copied named.accept) name
 
 -- a name of the task's source or of a file that it names
 abbrev pub IsOfTask : Task → List ℕ → Type 0

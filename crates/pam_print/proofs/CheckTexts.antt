@@ -24,7 +24,8 @@ counted-many count name bytes h e = rw (e, unequal count 1 h) (simp (append_asso
 
 pub levels-are : (found : List (Place × Finding)) (unused : List ℕ) (errors warnings notes : ℕ) → errors ≡ number_at levels.Error found
     → warnings ≡ warnings_in found unused → notes ≡ number_at levels.Note found
-    → counted errors (codes "error") ++ codes ", " ++ counted warnings (codes "warning") ++ codes ", " ++ counted notes (codes "note") ≡ levels_text found unused
+    → counted errors (codes "error") ++ codes ", " ++ counted warnings (codes "warning") ++ codes ", " ++ counted notes (codes "note")
+    ≡ levels_text found unused
 levels-are found unused errors warnings notes e f g = rw (e, f, g) refl
 
 pub last_line-is : (services stacks : ℕ) (found : List (Place × Finding)) (unused : List ℕ) → stacks ≡ stacks_of services

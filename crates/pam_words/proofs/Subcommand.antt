@@ -10,7 +10,8 @@ use Rattle.clap.specs.Simple.{argument_words, names_of}
 use Rattle.clap.specs.Walk.{Held, Names, finished, nothing_held, settled, walk, walk_from}
 use Rattle.clap.specs.declared.ArgMatches.{ArgMatches}
 use Rattle.clap.specs.declared.ArgMatches.TheViews.{out-ArgMatches}
-use Rattle.pam_words.specs.Words.{access_app, bare_app, check_app, decide_app, explain_app, facts_app, graph_app, outcomes_app, pamcheck_app, paths_app, show_app, time_app, version_app}
+use Rattle.pam_words.specs.Words.{access_app, bare_app, check_app, decide_app, explain_app, facts_app, graph_app, outcomes_app, pamcheck_app}
+use Rattle.pam_words.specs.Words.{paths_app, show_app, time_app, version_app}
 
 pub is_simple-pamcheck : is_simple pamcheck_app ≡ true
 unfolding pamcheck_app bare_app check_app show_app decide_app paths_app outcomes_app graph_app access_app time_app explain_app facts_app version_app

@@ -12,7 +12,8 @@ returns-in_err-put g c =
     let first = front-longer (counted services (codes "service")) c.in_err-put.ensures in
     let stacks = front-longer (counted (stacks_of services) (codes "stack")) (front-longer (codes ", ") first) in
     err-front _ c.from_residual.ensures.0
-    (front-is (front-longer (codes "\n") (front-longer (levels_text found unused) (front-longer (codes ": ") stacks))) (last_line-is services _ found unused refl))
+    (front-is (front-longer (codes "\n") (front-longer (levels_text found unused) (front-longer (codes ": ") stacks)))
+    (last_line-is services _ found unused refl))
 
 pub returns-in_err-put_counted : goal.returns-in_err-put_counted
 returns-in_err-put_counted g c =

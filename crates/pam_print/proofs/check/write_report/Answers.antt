@@ -9,7 +9,9 @@ pub returns-in_err-put_all_unused : goal.returns-in_err-put_all_unused
 returns-in_err-put_all_unused g c =
     let value = check_view c.args.reply.now in
     err-flushes _ c.from_residual-in_err-put_all_unused.ensures.0
-    (front-is (front-longer (last_line c.args.names.now.services.len value.found value.unused) (front-then c.in_ok-put_findings.ensures c.in_err-put_all_unused.ensures))
+    (front-is
+    (front-longer (last_line c.args.names.now.services.len value.found value.unused)
+    (front-then c.in_ok-put_findings.ensures c.in_err-put_all_unused.ensures))
     (lines-are c.args.names.now value _ _ _ _ c.requires (omega (arith, c.args.names.now.services.ok)) c.deref.ensures.value c.as_bytes.ensures.value
     c.deref-2.ensures.value))
 
@@ -17,13 +19,15 @@ pub returns-in_err-put_last_line : goal.returns-in_err-put_last_line
 returns-in_err-put_last_line g c =
     err-flushes _ c.from_residual-in_err-put_last_line.ensures.0
     (front-is (front-then (all-then c.in_ok-put_findings.ensures c.in_ok-put_all_unused.ensures) c.in_err-put_last_line.ensures)
-    (all-lines-are c.args.names.now (check_view c.args.reply.now) c.len.result _ _ _ _ _ c.requires (omega (arith, c.len.ensures, c.args.names.now.services.ok)) c.deref.ensures.value c.as_bytes.ensures.value
-    c.deref-2.ensures.value c.deref-3.ensures.value c.deref-4.ensures.value))
+    (all-lines-are c.args.names.now (check_view c.args.reply.now) c.len.result _ _ _ _ _ c.requires
+    (omega (arith, c.len.ensures, c.args.names.now.services.ok)) c.deref.ensures.value c.as_bytes.ensures.value c.deref-2.ensures.value
+    c.deref-3.ensures.value c.deref-4.ensures.value))
 
 pub returns : goal.returns
 returns g c =
     flushes-last _ _
     (all-is (all-then (all-then c.in_ok-put_findings.ensures c.in_ok-put_all_unused.ensures) c.in_ok-put_last_line.ensures)
-    (all-lines-are c.args.names.now (check_view c.args.reply.now) c.len.result _ _ _ _ _ c.requires (omega (arith, c.len.ensures, c.args.names.now.services.ok)) c.deref.ensures.value c.as_bytes.ensures.value
-    c.deref-2.ensures.value c.deref-3.ensures.value c.deref-4.ensures.value))
+    (all-lines-are c.args.names.now (check_view c.args.reply.now) c.len.result _ _ _ _ _ c.requires
+    (omega (arith, c.len.ensures, c.args.names.now.services.ok)) c.deref.ensures.value c.as_bytes.ensures.value c.deref-2.ensures.value
+    c.deref-3.ensures.value c.deref-4.ensures.value))
     c.finish.ensures

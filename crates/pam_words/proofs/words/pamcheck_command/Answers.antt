@@ -1,4 +1,5 @@
-use Rattle.pam_words.specs.Words.{access_app, bare_app, check_app, decide_app, explain_app, facts_app, graph_app, outcomes_app, pamcheck_app, paths_app, show_app, time_app, version_app}
+use Rattle.pam_words.specs.Words.{access_app, bare_app, check_app, decide_app, explain_app, facts_app, graph_app, outcomes_app, pamcheck_app}
+use Rattle.pam_words.specs.Words.{paths_app, show_app, time_app, version_app}
 use Rattle.pam_words.proofs.words.pamcheck_command.Goals as goal
 
 pub returns : goal.returns

@@ -11,7 +11,8 @@ returns-in_err-first-in-None-clause-steps c =
 
 pub returns-in_ok-first-in-None-clause-steps : goal.returns-in_ok-first-in-None-clause-steps
 returns-in_ok-first-in-None-clause-steps c =
-    sym c.self.view_is ∙ next_row _ _ _ _ _ _ c.in-None.ensures.cases c.in_ok-first-in-None.ensures.cases.0 c.family.ensures c.saturating_add-self-inside.ensures
+    sym c.self.view_is
+    ∙ next_row _ _ _ _ _ _ c.in-None.ensures.cases c.in_ok-first-in-None.ensures.cases.0 c.family.ensures c.saturating_add-self-inside.ensures
 
 pub returns-in_ok-first-in-None-clause-goes : goal.returns-in_ok-first-in-None-clause-goes
 returns-in_ok-first-in-None-clause-goes c =

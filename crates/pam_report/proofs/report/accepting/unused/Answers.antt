@@ -19,8 +19,10 @@ loop-line-preserved c =
     elim c.if-not-has_key.branch [
       | then-not-has_key+in_ok-push w ↦
           ap (λ v. v.items) w.unused-is ∙ w.in_ok-push.ensures.items ∙ ap (λ l. c.loop-line.unused.items ++ l.number ∷ []) c.line-item.is
-          ∙ number-with line_view number p lines i _ c.loop-line.unused.items c.loop-line-test.true c.loop-line.invariant (ap not (known ∙ w.if-not-has_key.true))
+          ∙ number-with line_view number p lines i _ c.loop-line.unused.items c.loop-line-test.true c.loop-line.invariant
+          (ap not (known ∙ w.if-not-has_key.true))
       | else-not-has_key w ↦
           ap (λ v. v.items) w.unused-is
-          ∙ number-without line_view number p lines i _ c.loop-line.unused.items c.loop-line-test.true c.loop-line.invariant (ap not (known ∙ w.if-not-has_key.false))
+          ∙ number-without line_view number p lines i _ c.loop-line.unused.items c.loop-line-test.true c.loop-line.invariant
+          (ap not (known ∙ w.if-not-has_key.false))
     ]
