@@ -1,0 +1,4 @@
+pub mod FindingSteps
+pub mod LastLine
+pub mod Splitting
+pub mod TokenSteps

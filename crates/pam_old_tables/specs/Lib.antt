@@ -1,0 +1,6 @@
+pub mod Access
+pub mod Findings
+pub mod Meanings
+pub mod Pieces
+pub mod Separators
+pub mod Times
