@@ -5,7 +5,7 @@ use Rattle.pam_text.specs.Blanks.{is_text_blank}
 use Rattle.pam_text.specs.Cut.{cut_at, is_among}
 use Rattle.pam_tables.proofs.Cutting.{split_found, split_none}
 use Rattle.pam_released.specs.Laws.{ManualLines}
-use Rattle.pam_released.specs.Lines.{before_hash, continued, ends_in_backslash, last_is_space, manual_lines_of, onto_line, pieces}
+use Rattle.pam_released.specs.Lines.{before_hash, continued, ends_in_backslash, has_hash, last_is_space, manual_lines_of, onto_line, pieces}
 use Rattle.pam_old_tables.specs.Pieces.{filled_after, front_of, is_filled_by}
 use Rattle.pam_old_tables.specs.Times.{ends_in_rule, has_word, last_of}
 
@@ -64,19 +64,20 @@ skips f t x (y ∷ ys) =
     ]
 
 -- the pieces say whether the last of the lines has a word
-is_filled : (f : Bool) (ps : List (List ℕ)) → is_filled_by f ps ≡ filled_last f (continued (map before_hash ps))
+is_filled : (f : Bool) (ps : List (List ℕ)) →
+    is_filled_by f ps ≡ (not (has_hash (last_of ps)) && filled_last f (continued (map before_hash ps)))
 unfolding is_filled_by continued
 is_filled f [] = refl
 is_filled f (p ∷ []) = refl
 is_filled f (p ∷ q ∷ ps) =
     let more = continued (before_hash q ∷ map before_hash ps) in
     is_filled (filled_after f (before_hash p)) (q ∷ ps)
-    ∙ elim (ends_in_backslash (before_hash p)) as (λ (e : Bool). filled_last (e && (f || has_word (front_of (before_hash p)))) more
+    ∙ ap (λ (x : Bool). not (has_hash (last_of (q ∷ ps))) && x) (elim (ends_in_backslash (before_hash p)) as (λ (e : Bool). filled_last (e && (f || has_word (front_of (before_hash p)))) more
     ≡ filled_last f (cond e (onto_line (last_is_space (before_hash p)) more) (before_hash p ∷ more))) [
       | true ↦ ap (λ (x : Bool). filled_last (f || x) more) (sym (no_word_at_end (before_hash p)))
           ∙ sym (onto_last f (last_is_space (before_hash p)) more)
       | false ↦ sym (skips f (before_hash p) (before_hash q) (map before_hash ps))
-    ]
+    ])
 
 -- ---- piece by piece
 
@@ -106,22 +107,9 @@ piece_read f g whole text a r h is all =
     ap (λ (x : Bool). left x r) is ∙ sym (step f a (is_among (10 ∷ [])) r)
     ∙ sym (ap (λ (ps : List (List ℕ)). is_filled_by f ps) (split_found (is_among (10 ∷ [])) text a r h)) ∙ all
 
-last_piece : (f : Bool) (p : List ℕ) → is_filled_by f (p ∷ []) ≡ (f || has_word (before_hash p))
-unfolding is_filled_by
-last_piece f p = refl
-
 pub all_read : (f whole : Bool) (text : List ℕ) → None ≡ cut_at (is_among (10 ∷ [])) text → left f text ≡ whole →
-    (f || has_word (before_hash text)) ≡ whole
-all_read f whole text h all =
-    sym (last_piece f text) ∙ sym (ap (λ (ps : List (List ℕ)). is_filled_by f ps) (split_none (is_among (10 ∷ [])) text h)) ∙ all
-
-pub filled_before : (f w : Bool) → f ≡ true → f ≡ (f || w)
-filled_before true w h = refl
-filled_before false w h = absurd (cc)
-
-pub not_filled_before : (f w x : Bool) → f ≡ false → x ≡ w → x ≡ (f || w)
-not_filled_before true w x h is = absurd (cc)
-not_filled_before false w x h is = is
+    is_filled_by f (text ∷ []) ≡ whole
+all_read f whole text h all = sym (ap (λ (ps : List (List ℕ)). is_filled_by f ps) (split_none (is_among (10 ∷ [])) text h)) ∙ all
 
 same_feed : (b : ℕ) → is_among (10 ∷ []) b ≡ (b == 10)
 unfolding is_among
@@ -137,7 +125,8 @@ pub ends_so : ManualLines → (bytes : List ℕ) → left false bytes ≡ ends_i
 unfolding ends_in_rule
 ends_so law bytes =
     ap (λ (ps : List (List ℕ)). is_filled_by false ps) (same_pieces bytes) ∙ is_filled false (pieces bytes)
-    ∙ ap (λ (ls : List (List ℕ)). filled_last false ls) (sym (law bytes)) ∙ last_word (manual_lines_of bytes)
+    ∙ ap (λ (ls : List (List ℕ)). not (has_hash (last_of (pieces bytes))) && filled_last false ls) (sym (law bytes))
+    ∙ ap (λ (x : Bool). not (has_hash (last_of (pieces bytes))) && x) (last_word (manual_lines_of bytes))
 
 -- ---- the last byte
 

@@ -1,14 +1,17 @@
 -- Where released Linux-PAM reads a table of access.conf(5) otherwise than the manual page says: A1 to A7.
-use Rattle.std.specs.Prelude.{ℕ, ◌+◌, ◌==◌, ◌&&◌, ◌||◌, not, Bool, true, false, List, [], ◌∷◌, codes, count_by, length, nat_eq, nat_le, nat_lt}
+use Rattle.std.specs.Prelude.{ℕ, ◌+◌, ◌*◌, ◌^◌, ◌==◌, ◌&&◌, ◌||◌, not, Bool, true, false, List, [], ◌∷◌, codes, count_by, length, nat_eq, nat_le, nat_lt}
 use Rattle.std.specs.Prelude.{if◌then◌else◌, Option, Some, None, Result, Ok, Err}
 use Rattle.std.specs.List.{list_all, list_any, slice_split, starts_with}
 use Rattle.std.specs.Option.{option_map_or}
 use Rattle.std.specs.Str.{bytes_eq}
 use Rattle.pam_tables.specs.Access.{fields_of, is_passed_over}
+use Rattle.pam_tables.specs.Address.{address_of}
 use Rattle.pam_tables.specs.Lines.{cut_at, is_among, is_blank_line, lines_from}
 use Rattle.pam_tables.specs.Network.{network_of}
 use Rattle.pam_tables.specs.Options.{Options}
 use Rattle.pam_tables.specs.Tokens.{tokens_of}
+use Rattle.pam_tables.specs.declared.address.Address.{Address}
+use Rattle.pam_tables.specs.declared.address.Address.TheVariants.{V4, V6}
 use Rattle.pam_tables.specs.declared.error.TableFault.{TableFault}
 use Rattle.pam_tables.specs.declared.network.Network.{Network}
 use Rattle.pam_released.specs.Bracket.{begins_in_blank}
@@ -29,6 +32,10 @@ is_network (Err fault) = false
 abbrev pub after_slash : List ℕ → List ℕ
 after_slash token = option_map_or (λ p. p.1) (cut_at (is_among (codes "/")) token) []
 
+-- the text before the first slash; all of it where there is no slash
+abbrev pub before_slash : List ℕ → List ℕ
+before_slash token = option_map_or (λ p. p.0) (cut_at (is_among (codes "/")) token) token
+
 -- A1: an address, a slash and a mask of one or more digits that are all 0
 abbrev pub has_zero_mask : List ℕ → Bool
 has_zero_mask token = list_all (λ b. b == 48) (after_slash token) && is_network (network_of token)
@@ -44,9 +51,15 @@ has_leading_zero mask = nat_lt 1 (length mask) && starts_with nat_eq mask (codes
 abbrev pub has_mask_digits : List ℕ → Bool
 has_mask_digits token = has_leading_zero (after_slash token) && is_network (network_of token)
 
--- A7: one of the two addresses that 1.7.0 takes for each other
+-- 127.0.0.1 or ::1, which 1.7.0 takes for each other
+abbrev pub is_loopback_address : Option Address → Bool
+is_loopback_address None = false
+is_loopback_address (Some (V4 number)) = number == 127 * 2 ^ 24 + 1
+is_loopback_address (Some (V6 number)) = number == 1
+
+-- A7: the address of a token, also before a mask, is one of these two
 abbrev pub is_loopback : List ℕ → Bool
-is_loopback token = bytes_eq token (codes "127.0.0.1") || bytes_eq token (codes "::1")
+is_loopback token = is_loopback_address (address_of (before_slash token))
 
 -- ---- lists
 

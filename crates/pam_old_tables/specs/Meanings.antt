@@ -22,14 +22,14 @@ name_of FinishMinute = codes "T4 FinishMinute"
 unfoldable pub meaning_of : TableDifference → List ℕ
 meaning_of ZeroMask = codes "Linux-PAM 1.5.2 to 1.7.0 takes a mask of 0 bits for no mask, so the token matches that address alone"
 meaning_of AccessNoLineFeed = codes "Linux-PAM 1.5.2 to 1.7.0 passes over a last line that no line feed ends"
-meaning_of LeadingBlank = codes "Linux-PAM 1.5.2 to 1.7.0 passes over a rule that blanks are before"
+meaning_of LeadingBlank = codes "Linux-PAM 1.5.2 to 1.7.0 passes over a rule that begins with a blank"
 meaning_of BlankInToken = codes "Linux-PAM 1.5.2 to 1.7.0 takes a blank that listsep= lacks as a part of the token"
-meaning_of EmptySeparator = codes "Linux-PAM 1.5.2 to 1.7.0 then finds no fields or no tokens, and passes over every line"
+meaning_of EmptySeparator = codes "Linux-PAM 1.5.2 to 1.7.0 then passes over every line, or takes each list for one token"
 meaning_of MaskDigits = codes "Linux-PAM 1.5.2 to 1.7.0 reads a mask that begins with 0 as an octal number, or as none"
 meaning_of Loopback = codes "Linux-PAM 1.7.0 takes 127.0.0.1 and ::1 for the same address"
 meaning_of TimeNoLineFeed = codes "Linux-PAM 1.5.2 to 1.7.0 reads no times in a last line that no line feed ends, so that its rule denies at all times"
 meaning_of OddBytes = codes "Linux-PAM 1.5.2 to 1.7.0 cuts a token at a byte other than letters, digits, *, _, -, ., / and :"
-meaning_of LongField = codes "Linux-PAM 1.5.2 to 1.7.0 has no room for a field of 1,000 bytes, and passes over its rule"
+meaning_of LongField = codes "Linux-PAM 1.5.2 to 1.7.0 has no room for a field of 1,000 bytes: it passes over its rule, or denies at all times where these are so long"
 meaning_of FinishMinute = codes "Linux-PAM 1.5.2 to 1.7.0 counts the finish minute of a range past midnight too"
 
 -- what to do

@@ -9,7 +9,7 @@ use Rattle.pam_text.specs.Text.{text_lines, text_of}
 use Rattle.pam_times.specs.Entry.{entry_of, goes_past_midnight}
 use Rattle.pam_times.specs.Logic.{is_token_byte}
 use Rattle.pam_times.specs.Reading.{FieldTexts, cut_fields}
-use Rattle.pam_released.specs.Lines.{manual_lines_of}
+use Rattle.pam_released.specs.Lines.{has_hash, manual_lines_of, pieces}
 use Rattle.pam_old_tables.specs.Findings.{found_in}
 use Rattle.pam_old_tables.specs.declared.difference.TableDifference.{TableDifference}
 use Rattle.pam_old_tables.specs.declared.difference.TableDifference.TheVariants.{TimeNoLineFeed, OddBytes, LongField, FinishMinute}
@@ -25,9 +25,9 @@ last_of [] = []
 last_of (line ∷ []) = line
 last_of (line ∷ next ∷ lines) = last_of (next ∷ lines)
 
--- the line that no line feed ends, which is empty where one ends the table, has a rule
+-- the line that no line feed ends, which is empty where one ends the table, has a rule, and no comment: a `#` would end its times
 unfoldable pub ends_in_rule : List ℕ → Bool
-ends_in_rule bytes = has_word (last_of (manual_lines_of bytes))
+ends_in_rule bytes = not (has_hash (last_of (pieces bytes))) && has_word (last_of (manual_lines_of bytes))
 
 -- the number of the last of some lines, or this one
 abbrev pub last_number : ℕ → List (ℕ × List ℕ) → ℕ

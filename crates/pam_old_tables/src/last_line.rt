@@ -1,10 +1,10 @@
 //! The last line of a time table.
 
-ghost use Rattle.std.specs.Prelude.{◌≡◌, ◌==◌, ◌≤◌, length, not};
+ghost use Rattle.std.specs.Prelude.{◌≡◌, ◌==◌, ◌≤◌, ◌∷◌, [], length, not};
 ghost use Rattle.std.specs.List.{list_all, prefix_len};
 ghost use Rattle.pam_text.specs.Blanks.{is_text_blank};
-ghost use Rattle.pam_released.specs.Lines.{before_hash, ends_in_backslash};
-ghost use Rattle.pam_old_tables.specs.Pieces.{filled_after, front_of};
+ghost use Rattle.pam_released.specs.Lines.{before_hash, ends_in_backslash, has_hash};
+ghost use Rattle.pam_old_tables.specs.Pieces.{filled_after, front_of, is_filled_by};
 ghost use Rattle.pam_old_tables.specs.Times.{ends_in_rule, has_word};
 
 use pam_released::laws::manual_lines;
@@ -63,8 +63,22 @@ fn filled_after(filled: bool, text: &[u8]) -> bool
     ends_in_backslash(text) && (filled || has_word(front_of(text)))
 }
 
-/// Whether the line that no line feed ends has a rule. A physical line without its comment that ends in a backslash goes on
-/// with the next one.
+fn has_hash(line: &[u8]) -> bool
+    ensures { result ≡ has_hash line.now }
+{
+    line.contains(&b'#')
+}
+
+/// Whether the last physical line has no comment, and its line has a word, where it has one before if `filled`.
+#[tactic(auto, unfolding(crate::specs::Pieces::is_filled_by))]
+fn is_filled_by(filled: bool, last: &[u8]) -> bool
+    ensures { result ≡ is_filled_by filled (last.now ∷ []) }
+{
+    !has_hash(last) && (filled || has_word(before_hash(last)))
+}
+
+/// Whether the line that no line feed ends has a rule, and no comment ends it. A physical line without its comment that ends
+/// in a backslash goes on with the next one.
 #[tactic(auto, unfolding(crate::specs::Times::ends_in_rule))]
 pub(crate) fn ends_in_rule(bytes: &[u8]) -> bool
     ensures { result ≡ ends_in_rule bytes.now }
@@ -76,5 +90,5 @@ pub(crate) fn ends_in_rule(bytes: &[u8]) -> bool
         is_filled = filled_after(is_filled, before_hash(line));
         rest = after;
     }
-    is_filled || has_word(before_hash(rest))
+    is_filled_by(is_filled, rest)
 }

@@ -11,19 +11,22 @@ ghost use Rattle.pam_times.specs.Logic.{is_token_byte as is_token_byte_of};
 ghost use Rattle.pam_times.specs.Reading.{fields_view};
 ghost use Rattle.pam_released.specs.Bracket.{begins_in_blank};
 ghost use Rattle.pam_released.specs.Findings.{ends_in_blank};
-ghost use Rattle.pam_old_tables.specs.Access.{after_slash, is_decimal_digit, has_blank_in_token as has_blank_in_token_of, has_leading_blank as has_leading_blank_of};
+ghost use Rattle.pam_old_tables.specs.Access.{after_slash, before_slash, is_decimal_digit, has_blank_in_token as has_blank_in_token_of, has_leading_blank as has_leading_blank_of};
 ghost use Rattle.pam_old_tables.specs.Access.{has_leading_zero as has_leading_zero_of, has_mask_digits as has_mask_digits_of};
 ghost use Rattle.pam_old_tables.specs.Access.{has_outer_blank as has_outer_blank_of, has_zero_mask as has_zero_mask_of};
 ghost use Rattle.pam_old_tables.specs.Access.{is_loopback as is_loopback_of, is_network as is_network_of, lacks_line_feed as lacks_line_feed_of};
 ghost use Rattle.pam_old_tables.specs.Times.{has_odd_byte as has_odd_byte_of, has_past_midnight as has_past_midnight_of, is_known, is_long};
 ghost use Rattle.pam_old_tables.specs.Times.{have_long as have_long_of, have_odd_byte as have_odd_byte_of, is_past_midnight};
 
-use pam_tables::parts::{Network, is_passed_over};
+use pam_tables::parts::{Address, Network, is_passed_over};
 use pam_text::{ByteSet, cut, cut_among, is_table_blank};
 use pam_times::parts::{Fields, TimeEntry, is_token_byte};
 
 /// The bytes of a field that Linux-PAM has no room for, with the `;` after it.
 const ROOM: usize = 1000;
+
+/// 127.0.0.1, as a number.
+const LOOPBACK_V4: u32 = 0x7f00_0001;
 
 /// The text after the first slash of a token; empty where there is no slash.
 fn after_slash(token: &[u8]) -> &[u8]
@@ -32,6 +35,16 @@ fn after_slash(token: &[u8]) -> &[u8]
     match cut(token, b'/') {
         Some((_, mask)) => mask,
         None => b"",
+    }
+}
+
+/// The text before the first slash of a token; all of it where there is no slash.
+fn before_slash(token: &[u8]) -> &[u8]
+    ensures { result.now ≡ before_slash token.now }
+{
+    match cut(token, b'/') {
+        Some((front, _)) => front,
+        None => token,
     }
 }
 
@@ -77,11 +90,15 @@ pub fn has_mask_digits(token: &[u8]) -> bool
     has_leading_zero(after_slash(token)) && is_network(token)
 }
 
-/// A7: whether a token of origins is `127.0.0.1` or `::1`.
+/// A7: whether the address of a token of origins, also before a mask, is 127.0.0.1 or ::1.
 pub fn is_loopback(token: &[u8]) -> bool
     ensures { result ≡ is_loopback_of token.now }
 {
-    token == b"127.0.0.1".as_slice() || token == b"::1".as_slice()
+    match Address::read(before_slash(token)) {
+        Some(Address::V4(number)) => number == LOOPBACK_V4,
+        Some(Address::V6(number)) => number == 1,
+        None => false,
+    }
 }
 
 fn is_blank_text(text: &[u8]) -> bool
