@@ -9,12 +9,12 @@ use Rattle.pam_old_tables.specs.Times.{time_findings, time_tests, unfinished_lin
 use Rattle.pam_old_tables.specs.declared.difference.TableDifference.{TableDifference}
 use Rattle.pam_old_tables.specs.declared.finding.TableFinding.{TableFinding}
 
-next_line : (tests : ℕ → List ℕ → List (Bool × TableDifference)) (line : ℕ × List ℕ) (lines : List (ℕ × List ℕ)) →
+pub next_line : (tests : ℕ → List ℕ → List (Bool × TableDifference)) (line : ℕ × List ℕ) (lines : List (ℕ × List ℕ)) →
     found_in tests (line ∷ lines) ≡ found_at line.0 (tests line.0 line.1) ++ found_in tests lines
 unfolding found_in
 next_line tests line lines = refl
 
-no_line : (tests : ℕ → List ℕ → List (Bool × TableDifference)) → found_in tests [] ≡ []
+pub no_line : (tests : ℕ → List ℕ → List (Bool × TableDifference)) → found_in tests [] ≡ []
 unfolding found_in
 no_line tests = refl
 

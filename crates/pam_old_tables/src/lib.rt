@@ -6,6 +6,7 @@ mod access;
 mod difference;
 mod finding;
 mod last_line;
+pub mod laws;
 pub mod rows;
 mod times;
 
