@@ -1,5 +1,5 @@
 -- The last line of a text, over its physical lines.
-use Rattle.std.proofs.Common.{◌≡◌, ◌∙◌, ◌==◌, ◌&&◌, ◌||◌, ◌++◌, not, ℕ, Bool, true, false, List, [], ◌∷◌, Option, Some, None, arith, cond, length, map, ap, sym, refl}
+use Rattle.std.proofs.Common.{◌≡◌, ◌∙◌, ◌==◌, ◌&&◌, ◌||◌, ◌++◌, not, ℕ, Bool, true, false, List, [], ◌∷◌, Some, None, arith, cond, length, map, ap, sym, refl}
 use Rattle.std.specs.List.{list_all, onto_first, slice_split}
 use Rattle.pam_text.specs.Blanks.{is_text_blank}
 use Rattle.pam_text.specs.Cut.{cut_at, is_among}

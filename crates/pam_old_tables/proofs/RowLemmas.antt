@@ -1,5 +1,5 @@
 -- Each finding of a table is at a line at which its row shows.
-use Rattle.std.proofs.Common.{◌≡◌, ◌↔◌, ◌⊎◌, inl, inr, ◌++◌, ◌∙◌, ℕ, Bool, true, false, List, [], ◌∷◌, ap, sym, refl, subst}
+use Rattle.std.proofs.Common.{◌≡◌, ◌↔◌, ◌⊎◌, inl, inr, ◌++◌, ℕ, Bool, true, false, List, [], ◌∷◌, ap, sym, subst}
 use Rattle.pam_text.specs.Text.{text_lines, text_of}
 use Rattle.pam_tables.specs.Lines.{lines_from}
 use Rattle.pam_tables.specs.Options.{Options}

@@ -1,5 +1,5 @@
 -- The parts of a text, one after another.
-use Rattle.std.proofs.Common.{◌≡◌, ◌∙◌, ◌||◌, ℕ, Bool, true, false, List, [], ◌∷◌, Option, Some, None, ap, sym, refl}
+use Rattle.std.proofs.Common.{◌≡◌, ◌∙◌, ◌||◌, ℕ, Bool, true, false, List, Some, None, ap, sym, refl}
 use Rattle.std.specs.List.{list_any, slice_split}
 use Rattle.pam_text.specs.Cut.{cut_at}
 use Rattle.pam_tables.proofs.Cutting.{split_found, split_none}

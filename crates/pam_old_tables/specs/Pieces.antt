@@ -1,5 +1,5 @@
 -- For private contracts and proofs alone: the last line of a time table, found over its physical lines.
-use Rattle.std.specs.Prelude.{ℕ, ◌&&◌, ◌||◌, not, Bool, false, List, [], ◌∷◌}
+use Rattle.std.specs.Prelude.{ℕ, ◌&&◌, ◌||◌, not, Bool, List, [], ◌∷◌}
 use Rattle.pam_released.specs.Lines.{before_hash, ends_in_backslash, has_hash}
 use Rattle.pam_old_tables.specs.Times.{has_word}
 

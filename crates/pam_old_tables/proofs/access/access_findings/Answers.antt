@@ -1,5 +1,4 @@
 use Rattle.std.proofs.Common.{◌∙◌}
-use Rattle.pam_tables.specs.Lines.{lines_left}
 use Rattle.pam_old_tables.specs.Access.{access_tests}
 use Rattle.pam_old_tables.specs.Separators.{options_with}
 use Rattle.pam_old_tables.proofs.FindingSteps.{access_are, line_end, line_step}
