@@ -1,6 +1,7 @@
 -- The last line of a text, over its physical lines.
 use Rattle.std.proofs.Common.{◌≡◌, ◌∙◌, ◌==◌, ◌&&◌, ◌||◌, ◌++◌, not, ℕ, Bool, true, false, List, [], ◌∷◌, Some, None, arith, cond, length, map, ap, sym, refl}
 use Rattle.std.specs.List.{list_all, onto_first, slice_split}
+use Rattle.std.proofs.Math.Bool.{or_assoc}
 use Rattle.pam_text.specs.Blanks.{is_text_blank}
 use Rattle.pam_text.specs.Cut.{cut_at, is_among}
 use Rattle.pam_tables.proofs.Cutting.{split_found, split_none}
@@ -28,13 +29,9 @@ words_of_both (b ∷ t) l =
       | false ↦ refl
     ]
 
-or_assoc : (a b c : Bool) → (a || (b || c)) ≡ ((a || b) || c)
-or_assoc true b c = refl
-or_assoc false b c = refl
-
 onto_last : (f : Bool) (t : List ℕ) (lines : List (List ℕ)) → filled_last f (onto_line t lines) ≡ filled_last (f || has_word t) lines
 onto_last f t [] = refl
-onto_last f t (line ∷ []) = ap (λ (x : Bool). f || x) (words_of_both t line) ∙ or_assoc f (has_word t) (has_word line)
+onto_last f t (line ∷ []) = ap (λ (x : Bool). f || x) (words_of_both t line) ∙ sym (or_assoc f (has_word t) (has_word line))
 onto_last f t (line ∷ next ∷ lines) = refl
 
 -- the space of a joint is no word
@@ -43,7 +40,8 @@ unfolding last_is_space
 no_word_at_end [] = refl
 no_word_at_end (b ∷ []) = refl
 no_word_at_end (b ∷ c ∷ bs) =
-    elim (is_text_blank b) as (λ (x : Bool). not (x && list_all is_text_blank (last_is_space (c ∷ bs))) ≡ not (x && list_all is_text_blank (front_of (c ∷ bs)))) [
+    elim (is_text_blank b) as (λ (x : Bool).
+    not (x && list_all is_text_blank (last_is_space (c ∷ bs))) ≡ not (x && list_all is_text_blank (front_of (c ∷ bs)))) [
       | true ↦ no_word_at_end (c ∷ bs)
       | false ↦ refl
     ]
@@ -72,7 +70,9 @@ is_filled f (p ∷ []) = refl
 is_filled f (p ∷ q ∷ ps) =
     let more = continued (before_hash q ∷ map before_hash ps) in
     is_filled (filled_after f (before_hash p)) (q ∷ ps)
-    ∙ ap (λ (x : Bool). not (has_hash (last_of (q ∷ ps))) && x) (elim (ends_in_backslash (before_hash p)) as (λ (e : Bool). filled_last (e && (f || has_word (front_of (before_hash p)))) more
+    ∙ ap (λ (x : Bool). not (has_hash (last_of (q ∷ ps))) && x)
+    (elim (ends_in_backslash (before_hash p)) as (λ (e : Bool).
+    filled_last (e && (f || has_word (front_of (before_hash p)))) more
     ≡ filled_last f (cond e (onto_line (last_is_space (before_hash p)) more) (before_hash p ∷ more))) [
       | true ↦ ap (λ (x : Bool). filled_last (f || x) more) (sym (no_word_at_end (before_hash p)))
           ∙ sym (onto_last f (last_is_space (before_hash p)) more)

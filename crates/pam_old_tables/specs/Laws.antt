@@ -8,8 +8,8 @@ use Rattle.pam_released.specs.FindingLaws.{Member}
 use Rattle.pam_old_tables.specs.Access.{access_findings, access_tests, last_line}
 use Rattle.pam_old_tables.specs.Times.{time_findings, time_tests, unfinished_line}
 use Rattle.pam_old_tables.specs.declared.difference.TableDifference.{TableDifference}
-use Rattle.pam_old_tables.specs.declared.difference.TableDifference.TheVariants.{ZeroMask, AccessNoLineFeed, LeadingBlank, BlankInToken, EmptySeparator, MaskDigits}
-use Rattle.pam_old_tables.specs.declared.difference.TableDifference.TheVariants.{Loopback, TimeNoLineFeed, OddBytes, LongField, FinishMinute}
+use Rattle.pam_old_tables.specs.declared.difference.TableDifference.TheVariants.{ZeroMask, AccessNoLineFeed, LeadingBlank, BlankInToken, EmptySeparator}
+use Rattle.pam_old_tables.specs.declared.difference.TableDifference.TheVariants.{MaskDigits, Loopback, TimeNoLineFeed, OddBytes, LongField, FinishMinute}
 use Rattle.pam_old_tables.specs.declared.finding.TableFinding.{TableFinding}
 
 -- WHERE EACH IS

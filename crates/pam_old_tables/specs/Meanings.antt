@@ -1,8 +1,8 @@
 -- What each difference means, and how it is mended: texts for people.
 use Rattle.std.specs.Prelude.{ℕ, List, codes}
 use Rattle.pam_old_tables.specs.declared.difference.TableDifference.{TableDifference}
-use Rattle.pam_old_tables.specs.declared.difference.TableDifference.TheVariants.{ZeroMask, AccessNoLineFeed, LeadingBlank, BlankInToken, EmptySeparator, MaskDigits}
-use Rattle.pam_old_tables.specs.declared.difference.TableDifference.TheVariants.{Loopback, TimeNoLineFeed, OddBytes, LongField, FinishMinute}
+use Rattle.pam_old_tables.specs.declared.difference.TableDifference.TheVariants.{ZeroMask, AccessNoLineFeed, LeadingBlank, BlankInToken, EmptySeparator}
+use Rattle.pam_old_tables.specs.declared.difference.TableDifference.TheVariants.{MaskDigits, Loopback, TimeNoLineFeed, OddBytes, LongField, FinishMinute}
 
 -- the number and the name
 unfoldable pub name_of : TableDifference → List ℕ
@@ -29,7 +29,7 @@ meaning_of MaskDigits = codes "Linux-PAM 1.5.2 to 1.7.0 reads a mask that begins
 meaning_of Loopback = codes "Linux-PAM 1.7.0 takes 127.0.0.1 and ::1 for the same address"
 meaning_of TimeNoLineFeed = codes "Linux-PAM 1.5.2 to 1.7.0 reads no times in a last line that no line feed ends, so that its rule denies at all times"
 meaning_of OddBytes = codes "Linux-PAM 1.5.2 to 1.7.0 cuts a token at a byte other than letters, digits, *, _, -, ., / and :"
-meaning_of LongField = codes "Linux-PAM 1.5.2 to 1.7.0 has no room for a field of 1,000 bytes: it passes over its rule, or denies at all times where these are so long"
+meaning_of LongField = codes "Linux-PAM 1.5.2 to 1.7.0 has no room for 1,000 bytes: it passes over the rule, or denies at all times where these are so long"
 meaning_of FinishMinute = codes "Linux-PAM 1.5.2 to 1.7.0 counts the finish minute of a range past midnight too"
 
 -- what to do

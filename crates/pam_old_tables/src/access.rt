@@ -71,7 +71,8 @@ pub fn access_findings(
 
 /// The fields of a line, if it has a rule.
 fn rule_fields<'a>(line: &'a [u8], separators: &Separators<'_>) -> Option<AccessFields<'a>>
-    ensures { option_map (λ f. (f.permission.now, f.users.now, f.origins.now)) result ≡ rule_fields (options_with separators.now) line.now }
+    ensures { option_map (λ f. (f.permission.now, f.users.now, f.origins.now)) result
+        ≡ rule_fields (options_with separators.now) line.now }
 {
     if is_passed_over(line) {
         None

@@ -5,7 +5,8 @@ ghost use Rattle.std.specs.Option.{option_map};
 ghost use Rattle.pam_text.specs.Text.{text_lines, text_of};
 ghost use Rattle.pam_times.specs.Reading.{cut_fields, fields_view};
 ghost use Rattle.pam_old_tables.specs.Findings.{found_at};
-ghost use Rattle.pam_old_tables.specs.Times.{has_past_midnight, have_long, have_odd_byte, last_number, of_fields, time_findings, time_tests};
+ghost use Rattle.pam_old_tables.specs.Times.{has_past_midnight, have_long, have_odd_byte, last_number, of_fields};
+ghost use Rattle.pam_old_tables.specs.Times.{time_findings, time_tests};
 ghost use Rattle.pam_old_tables.specs.Times.{unfinished_line};
 
 use crate::difference::TableDifference;

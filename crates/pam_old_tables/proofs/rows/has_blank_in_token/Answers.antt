@@ -5,12 +5,14 @@ use Rattle.pam_old_tables.proofs.rows.has_blank_in_token.Goals as goal
 
 pub returns-then-has_outer_blank : goal.returns-then-has_outer_blank
 returns-then-has_outer_blank c =
-    sym (part_passes _ has_outer_blank c.loop-text.rest.now c.in-Some.text.now c.in-Some.after.now c.in-Some.ensures.value (sym c.has_outer_blank.ensures ∙ c.if-has_outer_blank.true))
+    sym (part_passes _ has_outer_blank c.loop-text.rest.now c.in-Some.text.now c.in-Some.after.now c.in-Some.ensures.value
+    (sym c.has_outer_blank.ensures ∙ c.if-has_outer_blank.true))
     ∙ c.loop-text.invariant
 
 pub loop-text-preserved : goal.loop-text-preserved
 loop-text-preserved c =
-    part_fails _ has_outer_blank c.loop-text.rest.now c.in-Some.text.now c.in-Some.after.now c.in-Some.ensures.value (sym c.has_outer_blank.ensures ∙ c.if-has_outer_blank.false)
+    part_fails _ has_outer_blank c.loop-text.rest.now c.in-Some.text.now c.in-Some.after.now c.in-Some.ensures.value
+    (sym c.has_outer_blank.ensures ∙ c.if-has_outer_blank.false)
     ∙ c.loop-text.invariant
 
 pub returns : goal.returns

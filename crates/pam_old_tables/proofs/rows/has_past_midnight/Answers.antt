@@ -5,12 +5,14 @@ use Rattle.pam_old_tables.proofs.rows.has_past_midnight.Goals as goal
 
 pub returns-then-is_past_midnight : goal.returns-then-is_past_midnight
 returns-then-is_past_midnight c =
-    sym (part_passes _ is_past_midnight c.loop-token.rest.now c.in-Some.token.now c.in-Some.after.now c.in-Some.ensures.value (sym c.is_past_midnight.ensures ∙ c.if-is_past_midnight.true))
+    sym (part_passes _ is_past_midnight c.loop-token.rest.now c.in-Some.token.now c.in-Some.after.now c.in-Some.ensures.value
+    (sym c.is_past_midnight.ensures ∙ c.if-is_past_midnight.true))
     ∙ c.loop-token.invariant
 
 pub loop-token-preserved : goal.loop-token-preserved
 loop-token-preserved c =
-    part_fails _ is_past_midnight c.loop-token.rest.now c.in-Some.token.now c.in-Some.after.now c.in-Some.ensures.value (sym c.is_past_midnight.ensures ∙ c.if-is_past_midnight.false)
+    part_fails _ is_past_midnight c.loop-token.rest.now c.in-Some.token.now c.in-Some.after.now c.in-Some.ensures.value
+    (sym c.is_past_midnight.ensures ∙ c.if-is_past_midnight.false)
     ∙ c.loop-token.invariant
 
 pub returns : goal.returns
