@@ -46,7 +46,7 @@ numbered number (line ∷ lines) = (number, without_return line) ∷ numbered (n
 unfoldable pub lines_from : ℕ → List ℕ → List (ℕ × List ℕ)
 lines_from number bytes = numbered number (slice_split (is_among (10 ∷ [])) bytes)
 
--- for private contracts and proofs alone: the remaining lines, of which there are none after the last was yielded
+-- the remaining lines, of which there are none after the last was yielded
 unfoldable pub lines_left : Bool → ℕ → List ℕ → List (ℕ × List ℕ)
 lines_left true number bytes = []
 lines_left false number bytes = lines_from number bytes

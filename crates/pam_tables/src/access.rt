@@ -65,15 +65,15 @@ impl Permission {
 
 /// The three fields of a line, not yet split into tokens.
 #[derive(Clone, Copy)]
-struct AccessFields<'a> {
-    permission: &'a [u8],
-    users: &'a [u8],
-    origins: &'a [u8],
+pub struct AccessFields<'a> {
+    pub permission: &'a [u8],
+    pub users: &'a [u8],
+    pub origins: &'a [u8],
 }
 
 /// Whether a line is a comment or blank.
 #[tactic(auto, unfolding(crate::specs::Access::is_passed_over))]
-fn is_passed_over(line: &[u8]) -> bool
+pub fn is_passed_over(line: &[u8]) -> bool
     ensures { result ≡ is_passed_over_of line.now }
 {
     line.starts_with(b"#") || is_blank_text(line)
@@ -90,9 +90,10 @@ fn cut_permission<'a>(line: &'a [u8], separators: &ByteSet<'_>) -> Option<(&'a [
     cut_among(line, separators)
 }
 
+/// Cuts a line at its first two field separators. Returns `None` if it has fewer.
 #[inline(always)]
 #[tactic(auto, unfolding(crate::specs::Access::fields_of))]
-fn cut_fields<'a>(line: &'a [u8], separators: &ByteSet<'_>) -> Option<AccessFields<'a>>
+pub fn cut_fields<'a>(line: &'a [u8], separators: &ByteSet<'_>) -> Option<AccessFields<'a>>
     ensures { option_map (λ f. (f.permission.now, f.users.now, f.origins.now)) result ≡ fields_of_line separators.now.bytes.now line.now }
 {
     match cut_permission(line, separators) {

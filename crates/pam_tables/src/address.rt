@@ -9,7 +9,7 @@ use pam_text::cut;
 
 /// An IPv4 or IPv6 address, as a number.
 #[derive(Clone, Copy, Debug, PartialEq, Eq)]
-pub(crate) enum Address {
+pub enum Address {
     V4(u32),
     V6(u128),
 }
@@ -69,7 +69,7 @@ pub(crate) fn v4(text: &[u8]) -> Option<u32>
 impl Address {
     /// Parses an IPv4 or IPv6 address.
     #[tactic(auto, unfolding(crate::specs::Address::address_of))]
-    pub(crate) fn read(text: &[u8]) -> Option<Address>
+    pub fn read(text: &[u8]) -> Option<Address>
         ensures { result ≡ address_of text.now }
     {
         match v4(text) {

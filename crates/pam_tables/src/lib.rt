@@ -15,6 +15,7 @@ mod named;
 mod network;
 mod options;
 mod origins;
+pub mod parts;
 mod pieces;
 mod returns;
 mod tokens;

@@ -106,7 +106,7 @@ fn cut_line(text: &[u8]) -> Option<(&[u8], &[u8])>
 
 /// The remaining lines of a table, with their numbers, without line ends.
 #[derive(Drop)]
-pub(crate) struct Lines<'a> {
+pub struct Lines<'a> {
     rest: &'a [u8],
     number: u32,
     is_done: bool,
@@ -114,8 +114,9 @@ pub(crate) struct Lines<'a> {
 }
 
 impl<'a> Lines<'a> {
+    /// All lines of a table, numbered from 1.
     #[tactic(auto, unfolding(crate::specs::Lines::lines_left))]
-    pub(crate) fn of(source: Source<'a>) -> Self
+    pub fn of(source: Source<'a>) -> Self
         ensures { lines_left result.is_done result.number result.rest.now ≡ lines_from 1 source.entry.bytes.now }
     {
         Lines {

@@ -11,7 +11,7 @@ use pam_text::cut;
 
 /// The addresses that agree with `address` in each bit of `mask`.
 #[derive(Clone, Copy, Debug, PartialEq, Eq)]
-pub(crate) enum Network {
+pub enum Network {
     V4 { address: u32, mask: u32 },
     V6 { address: u128, mask: u128 },
 }
@@ -100,7 +100,7 @@ impl Network {
     ///
     /// Returns `Ok(None)` if no address comes before the first slash, and `BadMask` if the mask is invalid.
     #[tactic(auto, unfolding(crate::specs::Network::network_of))]
-    pub(crate) fn read(text: &[u8]) -> Result<Option<Network>, TableFault>
+    pub fn read(text: &[u8]) -> Result<Option<Network>, TableFault>
         ensures { result ≡ network_of text.now }
     {
         let (front, after) = match cut(text, b'/') {

@@ -73,6 +73,20 @@ impl<'a> AccessOptions<'a> {
         }
     }
 
+    /// The bytes that separate the fields of a line.
+    pub fn field_separators(&self) -> &'a [u8]
+        ensures { result.now ≡ self.now.field_separators }
+    {
+        self.field_separators
+    }
+
+    /// The bytes that separate the tokens of a list.
+    pub fn list_separators(&self) -> &'a [u8]
+        ensures { result.now ≡ self.now.list_separators }
+    {
+        self.list_separators
+    }
+
     /// Whether these are the same options, byte by byte, so that a table has the same answers under both.
     pub fn is_same(&self, other: &AccessOptions<'_>) -> bool
         ensures { (result ≡ true) ↔ (self.now ≡ other.now) }

@@ -56,13 +56,14 @@ pub(crate) fn has_token(text: &[u8], separators: &ByteSet<'_>) -> bool
 
 /// An iterator over the tokens of a list.
 #[derive(Drop)]
-pub(crate) struct Tokens<'a, 's> {
+pub struct Tokens<'a, 's> {
     rest: &'a [u8],
     separators: &'s ByteSet<'s>,
 }
 
 impl<'a, 's> Tokens<'a, 's> {
-    pub(crate) fn of(rest: &'a [u8], separators: &'s ByteSet<'s>) -> Self
+    /// The tokens of a list: the texts between separators, without blanks at their ends, but for empty ones.
+    pub fn of(rest: &'a [u8], separators: &'s ByteSet<'s>) -> Self
         ensures { tokens_of result.separators.now.bytes.now result.rest.now ≡ tokens_of separators.now.bytes.now rest.now }
     {
         Tokens { rest, separators }

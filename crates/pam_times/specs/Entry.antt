@@ -98,6 +98,10 @@ entry_of text = if nat_lt (length text) 11 then None
     else let at = length text - 9 in
     entry_from (days_of (take at text)) (time_at text at) (slice_index text (at + 4) == 45) (finish_at text (at + 5))
 
+-- whether the range of an entry goes past midnight
+abbrev pub goes_past_midnight : TimeEntry → Bool
+goes_past_midnight e = not (nat_lt e.start e.finish)
+
 abbrev pub is_on : TimeEntry → ℕ → Bool
 is_on e day = slice_index_or e.days day false
 

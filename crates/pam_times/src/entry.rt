@@ -3,7 +3,7 @@
 ghost use Rattle.std.specs.Prelude.{◌≡◌, ◌+◌, ◌<◌, ◌≤◌, ◌&&◌, nat_le, length, slice_index, slice_index_or, false, IfSome};
 ghost use Rattle.std.specs.Option.{option_map};
 ghost use Rattle.pam_codes.specs.Code.{same_name};
-ghost use Rattle.pam_times.specs.Entry.{covers, named_days, toggled, days_of, time_at, finish_at, entry_of, holds};
+ghost use Rattle.pam_times.specs.Entry.{covers, named_days, toggled, days_of, time_at, finish_at, entry_of, goes_past_midnight, holds};
 
 use crate::moments::pair;
 
@@ -130,7 +130,7 @@ fn finish(text: &[u8], at: usize) -> Option<u16>
 /// The days of the week from Monday on, and the range of minutes of the day. The finish is excluded; if it is not after
 /// the start, the range goes past midnight and belongs to the day on which it starts.
 #[derive(Clone, Copy)]
-pub(crate) struct TimeEntry {
+pub struct TimeEntry {
     days: [bool; 7],
     start: u16,
     finish: u16,
@@ -141,7 +141,7 @@ impl TimeEntry {
     /// not build its days.
     #[inline(always)]
     #[tactic(auto, unfolding(crate::specs::Entry::entry_of))]
-    pub(crate) fn read(text: &[u8]) -> Option<TimeEntry>
+    pub fn read(text: &[u8]) -> Option<TimeEntry>
         ensures { result ≡ entry_of text.now }
     {
         if text.len() < 11 {
@@ -159,6 +159,13 @@ impl TimeEntry {
             start,
             finish,
         })
+    }
+
+    /// Whether the range goes past midnight: its finish is not after its start.
+    pub fn goes_past_midnight(&self) -> bool
+        ensures { result ≡ goes_past_midnight self.now }
+    {
+        self.start >= self.finish
     }
 
     fn is_on(&self, day: u8) -> bool

@@ -10,6 +10,7 @@ mod logic;
 mod login;
 mod moments;
 mod one_pass;
+pub mod parts;
 mod pattern;
 mod reading;
 mod rule_lines;

@@ -36,9 +36,10 @@ impl Joint {
     }
 }
 
-/// Most bytes of tokens are between `&` and `|`, so that one comparison of a difference is enough.
+/// Whether a byte is a part of a token: neither a blank nor `!`, `&` or `|`.
+// Most bytes of tokens are between `&` and `|`, so that one comparison of a difference is enough.
 #[inline(always)]
-fn is_token_byte(byte: u8) -> bool
+pub fn is_token_byte(byte: u8) -> bool
     ensures { result ≡ is_token_byte byte }
 {
     (b'&' < byte && byte < b'|')

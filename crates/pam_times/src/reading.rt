@@ -23,13 +23,13 @@ pub(crate) enum Field {
     Times,
 }
 
-/// The four fields of a line.
+/// The four fields of a line, as they are written: with blanks, and not checked.
 #[derive(Clone, Copy)]
-pub(crate) struct Fields<'a> {
-    pub(crate) services: &'a [u8],
-    pub(crate) terminals: &'a [u8],
-    pub(crate) users: &'a [u8],
-    pub(crate) times: &'a [u8],
+pub struct Fields<'a> {
+    pub services: &'a [u8],
+    pub terminals: &'a [u8],
+    pub users: &'a [u8],
+    pub times: &'a [u8],
 }
 
 fn is_blank_text(text: &[u8]) -> bool
@@ -62,7 +62,7 @@ pub(crate) fn cut_others<'a>(services: &'a [u8], rest: &'a [u8]) -> Option<Field
 }
 
 /// Cuts a line into its four fields. Returns `None` if one is missing. The last is the rest of the line.
-fn cut_fields(line: &[u8]) -> Option<Fields<'_>>
+pub fn cut_fields(line: &[u8]) -> Option<Fields<'_>>
     ensures { option_map fields_view result ≡ cut_fields line.now }
 {
     let (services, rest) = cut(line, b';')?;
