@@ -1,0 +1,14 @@
+use Rattle.std.proofs.Common.{◌≡◌, ◌||◌, ℕ, Bool, true, List, [], ◌∷◌, Option, None, Some, ap, eqb, eq-eqb, refl, subst, sym}
+use Rattle.std.specs.List.{list_any}
+use Rattle.std.specs.Prelude.{IfSome, slice_get}
+use Rattle.std.proofs.lemmas.Bool.{or_left}
+use Rattle.pam_codes.specs.Set.{is_in}
+use Rattle.pam_compare.proofs.usual.first_usual.Goals as goal
+
+least-in : (r : Option ℕ) (codes : List ℕ) → r ≡ slice_get codes 0 → IfSome r (λ x. is_in x codes ≡ true)
+least-in None codes e = tt
+least-in (Some x) [] e = absurd (let bad : ⊥ = cc in bad)
+least-in (Some x) (y ∷ ys) e = let same : y ≡ x = cc in or_left (eqb y x) (list_any (λ c. eqb c x) ys) (eq-eqb y x same)
+
+pub returns-clause-member : goal.returns-clause-member
+returns-clause-member c = least-in c.least.result c.args.codes c.least.ensures.first

@@ -1,0 +1,7 @@
+pub mod Changes
+pub mod Comparison
+pub mod Held
+pub mod Matching
+pub mod Naming
+pub mod Nodes
+pub mod Turn

@@ -1,0 +1,223 @@
+//! The comparison.
+
+ghost use Rattle.std.specs.Prelude.{◌≡◌, ◌<◌, ℕ, IfNone, IfOk, IfSome, IsTrue, List, None, OnOk, Option, Some, length, slice_get};
+ghost use Rattle.pam_dispatch.specs.Flat.{IsPlaceOf, modules_of, rest_of, runs_of};
+ghost use Rattle.pam_dispatch.specs.Runs.{Assignment, asked_module};
+ghost use Rattle.pam_compare.specs.declared.change.Change.{Change};
+ghost use Rattle.pam_compare.specs.declared.situation.Situation.{Situation};
+ghost use Rattle.pam_compare.specs.Changes.{change_of};
+ghost use Rattle.pam_compare.specs.Comparison.{AreChanges, IsComparison, decision_in};
+ghost use Rattle.pam_compare.specs.Naming.{AreNames, IsKnown, IsPossible};
+ghost use Rattle.pam_compare.specs.Nodes.{AreNodes, IsBegun, IsNoted, IsSearched, IsVisited, KeepsNodes};
+ghost use Rattle.pam_compare.specs.Turn.{IsTurn};
+
+use crate::change::Change;
+use crate::expanding::{Fork, expand};
+use crate::matching::Matching;
+use crate::naming::Naming;
+use crate::node::{Node, Pair};
+use crate::nodes::{Found, Nodes, Way};
+use crate::turn::{Turn, next_turn};
+use crate::witness::{Evidence, Witness, witness_at};
+use pam_codes::Code;
+use pam_dispatch::{Memory, Program};
+use pam_paths::Knowledge;
+use std::alloc::Global;
+
+/// The most situations that are looked at.
+pub const MAX_SITUATIONS: usize = 1_000_000;
+
+/// For each change, answers that make it, or `None` if no answers do.
+#[derive(Debug, Drop)]
+pub struct Changes {
+    pub admits: Option<Witness>,
+    pub refuses: Option<Witness>,
+    pub tells: Option<Witness>,
+}
+
+/// What a comparison finds.
+#[derive(Debug, Drop)]
+pub enum Comparison {
+    Known(Changes),
+    /// The stacks can be in more than `MAX_SITUATIONS` situations.
+    NotKnown,
+}
+
+/// The turn at a node; `None` at the end of both runs.
+fn turn_at(pair: &Pair<'_>, node: &Node) -> Option<Turn>
+    requires old { IsPlaceOf pair.now.old.now node.now.old }
+    requires new { IsPlaceOf pair.now.new.now node.now.new }
+    ensures turn { IfSome result (λ turn. IsTurn pair.now.naming.now.names.items (asked_module (rest_of pair.now.old.now node.now.old))
+        (asked_module (rest_of pair.now.new.now node.now.new)) turn) }
+    ensures old { IfNone result (asked_module (rest_of pair.now.old.now node.now.old) ≡ None) }
+    ensures new { IfNone result (asked_module (rest_of pair.now.new.now node.now.new) ≡ None) }
+{
+    next_turn(pair.naming, node.old.module(), node.new.module())
+}
+
+/// The change at a node at which both runs end.
+fn change_at(pair: &Pair<'_>, node: &Node) -> Option<Change>
+    requires old { IsPlaceOf pair.now.old.now node.now.old }
+    requires new { IsPlaceOf pair.now.new.now node.now.new }
+    requires old_end { asked_module (rest_of pair.now.old.now node.now.old) ≡ None }
+    requires new_end { asked_module (rest_of pair.now.new.now node.now.new) ≡ None }
+    ensures { (a b : Assignment) → result ≡ change_of (decision_in (rest_of pair.now.old.now node.now.old) a) (decision_in (rest_of pair.now.new.now node.now.new) b) }
+{
+    Change::of(
+        pair.old.decision(&node.old).code(),
+        pair.new.decision(&node.new).code(),
+    )
+}
+
+/// Visits the node at `index`. Returns whether all that follow it are there.
+fn visit(
+    alloc: Global,
+    pair: &Pair<'_>,
+    nodes: &mut Nodes,
+    found: &mut Found,
+    index: usize,
+) -> Result<bool, Memory>
+    requires within { index < length nodes.old.situations.keys }
+    requires nodes { AreNodes pair.now.old.now pair.now.new.now nodes.old }
+    ensures keeps { OnOk result (KeepsNodes nodes.old nodes.new) }
+    ensures nodes { OnOk result (AreNodes pair.now.old.now pair.now.new.now nodes.new) }
+    ensures found { (c : Option Change) → IsNoted found.old c → IsNoted found.new c }
+    ensures visited { IfOk result (λ all. IsTrue all → (s : Situation) → slice_get nodes.old.situations.keys index ≡ Some s
+        → IsVisited pair.now.old.now pair.now.new.now pair.now.naming.now.names.items pair.now.naming.now.possible.items nodes.new found.new s) }
+{
+    let node = nodes.node_at(index)?;
+    let Some(turn) = turn_at(pair, &node) else {
+        if let Some(change) = change_at(pair, &node) {
+            found.note(change, index);
+        }
+        return Ok(true);
+    };
+    let fork = Fork {
+        node: &node,
+        turn,
+        index,
+    };
+    expand(alloc, pair, nodes, &fork)
+}
+
+/// What a search finds.
+#[derive(Drop)]
+struct Searched {
+    nodes: Nodes,
+    found: Found,
+}
+
+/// The node at which both stacks begin.
+fn begin(alloc: Global, pair: &Pair<'_>) -> Result<Nodes, Memory>
+    ensures nodes { IfOk result (λ nodes. AreNodes pair.now.old.now pair.now.new.now nodes) }
+    ensures begun { IfOk result (λ nodes. IsBegun pair.now.old.now pair.now.new.now nodes) }
+{
+    let mut nodes = Nodes::new(alloc);
+    let way = Way {
+        parent: 0,
+        name: 0,
+        code: Code::SUCCESS,
+    };
+    let old = pair.old.first();
+    let new = pair.new.first();
+    nodes.add(&old, &new, Vec::new(alloc), way)?;
+    Ok(nodes)
+}
+
+/// Looks at each situation in turn, in breadth; `None` if there are more than `limit`.
+fn search(alloc: Global, pair: &Pair<'_>, limit: usize) -> Result<Option<Searched>, Memory>
+    ensures { IfOk result (λ some. IfSome some (λ s.
+        IsSearched pair.now.old.now pair.now.new.now pair.now.naming.now.names.items pair.now.naming.now.possible.items s.found)) }
+{
+    let mut nodes = begin(alloc, pair)?;
+    let mut found = Found::new();
+    for index in 0..limit {
+        if index >= nodes.situations.len() {
+            return Ok(Some(Searched { nodes, found }));
+        }
+        if nodes.situations.len() > limit || !visit(alloc, pair, &mut nodes, &mut found, index)? {
+            return Ok(None);
+        }
+    }
+    if nodes.situations.len() > limit {
+        return Ok(None);
+    }
+    Ok(Some(Searched { nodes, found }))
+}
+
+/// Whether there are answers for each change that was found.
+fn are_shown(found: &Found, changes: &Changes) -> bool
+    ensures admits { IsTrue result → changes.now.admits ≡ None → found.now.admits ≡ None }
+    ensures refuses { IsTrue result → changes.now.refuses ≡ None → found.now.refuses ≡ None }
+    ensures tells { IsTrue result → changes.now.tells ≡ None → found.now.tells ≡ None }
+{
+    changes.admits.is_some() == found.admits.is_some()
+        && changes.refuses.is_some() == found.refuses.is_some()
+        && changes.tells.is_some() == found.tells.is_some()
+}
+
+/// For each change, answers that make it.
+fn changes_of<K: Knowledge, L: Knowledge>(
+    alloc: Global,
+    evidence: &Evidence<'_, K, L>,
+    found: &Found,
+) -> Result<Option<Changes>, Memory>
+    ensures { (partners : List (Option ℕ))
+        → AreNames (K.allows evidence.now.old_known.now) (L.allows evidence.now.new_known.now) (modules_of evidence.now.pair.old.now)
+            (modules_of evidence.now.pair.new.now) partners evidence.now.pair.naming.now.names.items
+        → ((a : Assignment) → IsKnown (K.allows evidence.now.old_known.now) (L.allows evidence.now.new_known.now) (modules_of evidence.now.pair.old.now)
+            (modules_of evidence.now.pair.new.now) evidence.now.pair.naming.now.names.items a → IsPossible evidence.now.pair.naming.now.possible.items a)
+        → IsSearched evidence.now.pair.old.now evidence.now.pair.new.now evidence.now.pair.naming.now.names.items
+            evidence.now.pair.naming.now.possible.items found.now
+        → IfOk result (λ some. IfSome some (AreChanges (K.allows evidence.now.old_known.now) (L.allows evidence.now.new_known.now)
+            evidence.now.pair.old.now evidence.now.pair.new.now partners)) }
+{
+    // A program says with the number of its modules that they are asked in order.
+    let _old_modules = evidence.pair.old.modules();
+    let _new_modules = evidence.pair.new.modules();
+    let admits = witness_at(alloc, evidence, Change::Admits, found.admits)?;
+    let refuses = witness_at(alloc, evidence, Change::Refuses, found.refuses)?;
+    let tells = witness_at(alloc, evidence, Change::Tells, found.tells)?;
+    let changes = Changes {
+        admits,
+        refuses,
+        tells,
+    };
+    if !are_shown(found, &changes) {
+        return Ok(None);
+    }
+    Ok(Some(changes))
+}
+
+/// Compares the decisions of two stacks under all answers that are known to be possible. A module of one stack and one of the
+/// other that are matched answer alike, unless no code is possible for both. Returns `Memory` if allocation fails.
+pub fn compare<K: Knowledge, L: Knowledge>(
+    alloc: Global,
+    old: &Program,
+    new: &Program,
+    matching: &Matching,
+    old_known: &K,
+    new_known: &L,
+) -> Result<Comparison, Memory>
+    ensures { IfOk result (IsComparison (K.allows old_known.now) (L.allows new_known.now) old.now new.now matching.now) }
+{
+    let naming = Naming::of(alloc, old, new, matching, old_known, new_known)?;
+    let pair = Pair {
+        old,
+        new,
+        naming: &naming,
+    };
+    let Some(search) = search(alloc, &pair, MAX_SITUATIONS)? else {
+        return Ok(Comparison::NotKnown);
+    };
+    let evidence = Evidence {
+        pair,
+        old_known,
+        new_known,
+        ways: &search.nodes.ways,
+    };
+    match changes_of(alloc, &evidence, &search.found)? {
+        Some(changes) => Ok(Comparison::Known(changes)),
+        None => Ok(Comparison::NotKnown),
+    }
+}

@@ -1,0 +1,115 @@
+//! The nodes that follow one.
+
+ghost use Rattle.std.specs.Prelude.{◌≡◌, ◌<◌, ℕ, IfNone, IfOk, IfSome, IsTrue, None, OnOk, slice_index_or};
+ghost use Rattle.pam_codes.specs.Code.{all_codes};
+ghost use Rattle.pam_codes.specs.Set.{is_in};
+ghost use Rattle.pam_dispatch.specs.Flat.{IsPlaceOf, rest_of};
+ghost use Rattle.pam_dispatch.specs.Runs.{Assignment, asked_module};
+ghost use Rattle.pam_compare.specs.Held.{Holds};
+ghost use Rattle.pam_compare.specs.Naming.{IsPossible};
+ghost use Rattle.pam_compare.specs.Nodes.{AreNodes, IsFollowed, IsMet, KeepsNodes};
+ghost use Rattle.pam_compare.specs.Turn.{AreAlike, IsTurn, old_after, new_after, turn_name};
+
+use crate::held::{HeldAnswer, held_after, held_codes};
+use crate::naming::{common, possible_at};
+use crate::node::{Node, Pair, class_of, places_after};
+use crate::nodes::{Nodes, Way};
+use crate::turn::{Turn, turn_name};
+use crate::usual::first_usual;
+use pam_codes::{CODES, Code, CodeSet};
+use pam_dispatch::Memory;
+use std::alloc::Global;
+
+/// A node, and whose turn it is there.
+#[derive(Drop)]
+pub(crate) struct Fork<'a> {
+    pub(crate) node: &'a Node,
+    pub(crate) turn: Turn,
+    pub(crate) index: usize,
+}
+
+/// Adds the node that follows after an answer of `class`, of which `code` is one.
+fn follow(
+    alloc: Global,
+    pair: &Pair<'_>,
+    nodes: &mut Nodes,
+    fork: &Fork<'_>,
+    code: Code,
+    class: CodeSet,
+) -> Result<(), Memory>
+    requires old { IsPlaceOf pair.now.old.now fork.now.node.now.old }
+    requires new { IsPlaceOf pair.now.new.now fork.now.node.now.new }
+    requires turn { IsTurn pair.now.naming.now.names.items (asked_module (rest_of pair.now.old.now fork.now.node.now.old))
+        (asked_module (rest_of pair.now.new.now fork.now.node.now.new)) fork.now.turn }
+    requires nodes { AreNodes pair.now.old.now pair.now.new.now nodes.old }
+    requires alike { (d : ℕ) → d < 31 → IsTrue (is_in d class)
+        → AreAlike fork.now.turn (rest_of pair.now.old.now fork.now.node.now.old) (rest_of pair.now.new.now fork.now.node.now.new) code d }
+    ensures keeps { OnOk result (KeepsNodes nodes.old nodes.new) }
+    ensures nodes { OnOk result (AreNodes pair.now.old.now pair.now.new.now nodes.new) }
+    ensures met { (a : Assignment) → ((name : ℕ) → a name < 31) → Holds a fork.now.node.now.held.items
+        → IsTrue (is_in (a (turn_name pair.now.naming.now.names.items fork.now.turn)) class)
+        → OnOk result (IsMet pair.now.old.now pair.now.new.now nodes.new a
+            (old_after fork.now.turn (rest_of pair.now.old.now fork.now.node.now.old) (a (turn_name pair.now.naming.now.names.items fork.now.turn)))
+            (new_after fork.now.turn (rest_of pair.now.new.now fork.now.node.now.new) (a (turn_name pair.now.naming.now.names.items fork.now.turn)))) }
+{
+    let name = turn_name(pair.naming, fork.turn);
+    let (old, new) = places_after(pair, fork.node, fork.turn, code);
+    let answer = HeldAnswer { name, codes: class };
+    let held = held_after(
+        alloc,
+        pair.naming,
+        &fork.node.held,
+        answer,
+        old.module(),
+        new.module(),
+    )?;
+    let way = Way {
+        parent: fork.index,
+        name,
+        code,
+    };
+    nodes.add(&old, &new, held, way)
+}
+
+/// The codes that may be answered at a turn.
+fn codes_at(pair: &Pair<'_>, fork: &Fork<'_>) -> CodeSet
+    ensures { (a : Assignment) → IsPossible pair.now.naming.now.possible.items a → Holds a fork.now.node.now.held.items
+        → IsTrue (is_in (a (turn_name pair.now.naming.now.names.items fork.now.turn)) result) }
+{
+    let name = turn_name(pair.naming, fork.turn);
+    let possible = possible_at(&pair.naming.possible, name);
+    match held_codes(&fork.node.held, name) {
+        Some(codes) => common(possible, codes),
+        None => possible,
+    }
+}
+
+/// Adds the nodes that follow, in the usual order of the answers. Returns whether all are there.
+pub(crate) fn expand(
+    alloc: Global,
+    pair: &Pair<'_>,
+    nodes: &mut Nodes,
+    fork: &Fork<'_>,
+) -> Result<bool, Memory>
+    requires old { IsPlaceOf pair.now.old.now fork.now.node.now.old }
+    requires new { IsPlaceOf pair.now.new.now fork.now.node.now.new }
+    requires turn { IsTurn pair.now.naming.now.names.items (asked_module (rest_of pair.now.old.now fork.now.node.now.old))
+        (asked_module (rest_of pair.now.new.now fork.now.node.now.new)) fork.now.turn }
+    requires nodes { AreNodes pair.now.old.now pair.now.new.now nodes.old }
+    ensures keeps { OnOk result (KeepsNodes nodes.old nodes.new) }
+    ensures nodes { OnOk result (AreNodes pair.now.old.now pair.now.new.now nodes.new) }
+    ensures done { IfOk result (λ all. IsTrue all → (a : Assignment) → IsPossible pair.now.naming.now.possible.items a → Holds a fork.now.node.now.held.items
+        → IsFollowed pair.now.old.now pair.now.new.now pair.now.naming.now.names.items nodes.new a (rest_of pair.now.old.now fork.now.node.now.old)
+            (rest_of pair.now.new.now fork.now.node.now.new)) }
+{
+    let mut left = codes_at(pair, fork);
+    for round in 0..CODES {
+        let Some(code) = first_usual(left) else {
+            return Ok(true);
+        };
+        let class = class_of(pair, fork.node, fork.turn, code);
+        follow(alloc, pair, nodes, fork, code, class)?;
+        left = left.without(class);
+    }
+    Ok(left.is_empty())
+}
