@@ -12,7 +12,7 @@ use Rattle.pam_compare.specs.declared.change.Change.{Change}
 use Rattle.pam_compare.specs.declared.nodes.Found.{Found}
 use Rattle.pam_compare.specs.Changes.{change_of}
 use Rattle.pam_compare.specs.Comparison.{NeverChanges, decision_in}
-use Rattle.pam_compare.specs.Matching.{Agree}
+use Rattle.pam_compare.specs.Agreement.{Agree}
 use Rattle.pam_compare.specs.Naming.{AreNames, IsKnown, IsPossible, by_name, name_of}
 use Rattle.pam_compare.specs.Nodes.{IsNoted, IsSearched}
 

@@ -3,7 +3,8 @@ use Rattle.std.proofs.Common.{◌≡◌, ◌⊎◌, ◌<◌, ◌≤◌, ◌+◌,
 use Rattle.pam_codes.specs.Set.{codes_where, is_in}
 use Rattle.pam_codes.specs.SetBits.{is_in-codes_where}
 use Rattle.pam_paths.specs.Listing.{Allowance}
-use Rattle.pam_compare.specs.Matching.{AreTied, HaveCommonCode, partner_of}
+use Rattle.pam_compare.specs.Agreement.{AreTied, HaveCommonCode}
+use Rattle.pam_compare.specs.Matching.{partner_of}
 use Rattle.pam_compare.specs.Naming.{IsName}
 
 -- a code in both sets is one that passes both tests

@@ -12,7 +12,7 @@ use Rattle.pam_compare.specs.declared.comparing.Comparison.{Comparison}
 use Rattle.pam_compare.specs.declared.comparing.Comparison.TheVariants.{Known, NotKnown}
 use Rattle.pam_compare.specs.declared.witness.Witness.{Witness}
 use Rattle.pam_compare.specs.Changes.{change_of}
-use Rattle.pam_compare.specs.Matching.{Agree}
+use Rattle.pam_compare.specs.Agreement.{Agree}
 
 -- the decision of a run under an assignment
 abbrev pub decision_in : Runs → Assignment → ℕ

@@ -1,3 +1,4 @@
+pub mod Agreement
 pub mod Changes
 pub mod Comparison
 pub mod Held

@@ -1,10 +1,10 @@
 -- For private contracts and proofs alone: one assignment for two stacks, in which tied modules have one name.
-use Rattle.std.specs.Prelude.{◌≡◌, ◌⊎◌, ℕ, ◌+◌, ◌<◌, ◌≤◌, true, List, Option, slice_index_or, IsTrue}
+use Rattle.std.specs.Prelude.{◌≡◌, ◌⊎◌, ℕ, ◌+◌, ◌<◌, ◌≤◌, true, List, Option, length, slice_index_or, IsTrue}
 use Rattle.pam_codes.specs.Code.{all_codes}
 use Rattle.pam_codes.specs.Set.{is_in}
 use Rattle.pam_dispatch.specs.Runs.{Assignment}
 use Rattle.pam_paths.specs.Listing.{Allowance}
-use Rattle.pam_compare.specs.Matching.{AreTied}
+use Rattle.pam_compare.specs.Agreement.{AreTied}
 
 -- the name of a new module: the number of the old one to which it is tied, or else its number after those of the old ones
 pub record IsName (old new : Allowance) (count : ℕ) (partners : List (Option ℕ)) (j name : ℕ) : Type 0 where
@@ -18,9 +18,17 @@ unfoldable pub AreNames : Allowance → Allowance → ℕ → ℕ → List (Opti
 AreNames old new count modules partners names =
     (j : ℕ) → 0 < j → j ≤ modules → IsName old new count partners j (name_of names j)
 
+-- of each name, a number that is not below those of the new modules that have it
+unfoldable pub AreLast : List ℕ → List ℕ → Type 0
+AreLast names last = (k : ℕ) → 0 < k → k < length names → k ≤ name_of last (name_of names k)
+
 -- the new stack's answers where the modules answer by their names
 abbrev pub by_name : List ℕ → Assignment → Assignment
 by_name names a number = a (name_of names number)
+
+-- each name answers its code in a list
+abbrev pub by_code : List ℕ → Assignment
+by_code codes name = slice_index_or codes name 0
 
 -- each name answers a code of its set
 unfoldable pub IsPossible : List (List ℕ) → Assignment → Type 0

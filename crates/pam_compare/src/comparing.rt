@@ -18,8 +18,8 @@ use crate::naming::Naming;
 use crate::node::{Node, Pair};
 use crate::nodes::{Found, Nodes, Way};
 use crate::turn::{Turn, next_turn};
-use crate::witness::{Evidence, Witness, witness_at};
-use pam_codes::Code;
+use crate::witness::{Evidence, Witness, usual_codes, witness_at};
+use pam_codes::{Code, CodeSet};
 use pam_dispatch::{Memory, Program};
 use pam_paths::Knowledge;
 use std::alloc::Global;
@@ -69,28 +69,28 @@ fn change_at(pair: &Pair<'_>, node: &Node) -> Option<Change>
     )
 }
 
-/// Visits the node at `index`. Returns whether all that follow it are there.
+/// Visits the node at `index`: adds the nodes that follow it, or notes the change at the end of both runs.
 fn visit(
     alloc: Global,
     pair: &Pair<'_>,
     nodes: &mut Nodes,
     found: &mut Found,
     index: usize,
-) -> Result<bool, Memory>
+) -> Result<(), Memory>
     requires within { index < length nodes.old.situations.keys }
     requires nodes { AreNodes pair.now.old.now pair.now.new.now nodes.old }
     ensures keeps { OnOk result (KeepsNodes nodes.old nodes.new) }
     ensures nodes { OnOk result (AreNodes pair.now.old.now pair.now.new.now nodes.new) }
     ensures found { (c : Option Change) → IsNoted found.old c → IsNoted found.new c }
-    ensures visited { IfOk result (λ all. IsTrue all → (s : Situation) → slice_get nodes.old.situations.keys index ≡ Some s
-        → IsVisited pair.now.old.now pair.now.new.now pair.now.naming.now.names.items pair.now.naming.now.possible.items nodes.new found.new s) }
+    ensures visited { (s : Situation) → slice_get nodes.old.situations.keys index ≡ Some s
+        → OnOk result (IsVisited pair.now.old.now pair.now.new.now pair.now.naming.now.names.items pair.now.naming.now.possible.items nodes.new found.new s) }
 {
     let node = nodes.node_at(index)?;
     let Some(turn) = turn_at(pair, &node) else {
         if let Some(change) = change_at(pair, &node) {
             found.note(change, index);
         }
-        return Ok(true);
+        return Ok(());
     };
     let fork = Fork {
         node: &node,
@@ -117,6 +117,7 @@ fn begin(alloc: Global, pair: &Pair<'_>) -> Result<Nodes, Memory>
         parent: 0,
         name: 0,
         code: Code::SUCCESS,
+        class: CodeSet::empty(),
     };
     let old = pair.old.first();
     let new = pair.new.first();
@@ -135,14 +136,24 @@ fn search(alloc: Global, pair: &Pair<'_>, limit: usize) -> Result<Option<Searche
         if index >= nodes.situations.len() {
             return Ok(Some(Searched { nodes, found }));
         }
-        if nodes.situations.len() > limit || !visit(alloc, pair, &mut nodes, &mut found, index)? {
+        if nodes.situations.len() > limit {
             return Ok(None);
         }
+        visit(alloc, pair, &mut nodes, &mut found, index)?;
     }
     if nodes.situations.len() > limit {
         return Ok(None);
     }
     Ok(Some(Searched { nodes, found }))
+}
+
+/// No change.
+fn no_changes() -> Changes {
+    Changes {
+        admits: None,
+        refuses: None,
+        tells: None,
+    }
 }
 
 /// Whether there are answers for each change that was found.
@@ -202,6 +213,9 @@ pub fn compare<K: Knowledge, L: Knowledge>(
     ensures { IfOk result (IsComparison (K.allows old_known.now) (L.allows new_known.now) old.now new.now matching.now) }
 {
     let naming = Naming::of(alloc, old, new, matching, old_known, new_known)?;
+    let Some(usual) = usual_codes(alloc, &naming)? else {
+        return Ok(Comparison::Known(no_changes()));
+    };
     let pair = Pair {
         old,
         new,
@@ -214,6 +228,7 @@ pub fn compare<K: Knowledge, L: Knowledge>(
         pair,
         old_known,
         new_known,
+        usual: &usual,
         ways: &search.nodes.ways,
     };
     match changes_of(alloc, &evidence, &search.found)? {

@@ -16,7 +16,7 @@ use crate::node::{Node, Pair, class_of, places_after};
 use crate::nodes::{Nodes, Way};
 use crate::turn::{Turn, turn_name};
 use crate::usual::first_usual;
-use pam_codes::{CODES, Code, CodeSet};
+use pam_codes::{Code, CodeSet};
 use pam_dispatch::Memory;
 use std::alloc::Global;
 
@@ -67,6 +67,7 @@ fn follow(
         parent: fork.index,
         name,
         code,
+        class,
     };
     nodes.add(&old, &new, held, way)
 }
@@ -77,20 +78,16 @@ fn codes_at(pair: &Pair<'_>, fork: &Fork<'_>) -> CodeSet
         → IsTrue (is_in (a (turn_name pair.now.naming.now.names.items fork.now.turn)) result) }
 {
     let name = turn_name(pair.naming, fork.turn);
-    let possible = possible_at(&pair.naming.possible, name);
-    match held_codes(&fork.node.held, name) {
-        Some(codes) => common(possible, codes),
-        None => possible,
-    }
+    held_codes(&fork.node.held, name, possible_at(&pair.naming.possible, name))
 }
 
-/// Adds the nodes that follow, in the usual order of the answers. Returns whether all are there.
+/// Adds the nodes that follow, in the usual order of the answers.
 pub(crate) fn expand(
     alloc: Global,
     pair: &Pair<'_>,
     nodes: &mut Nodes,
     fork: &Fork<'_>,
-) -> Result<bool, Memory>
+) -> Result<(), Memory>
     requires old { IsPlaceOf pair.now.old.now fork.now.node.now.old }
     requires new { IsPlaceOf pair.now.new.now fork.now.node.now.new }
     requires turn { IsTurn pair.now.naming.now.names.items (asked_module (rest_of pair.now.old.now fork.now.node.now.old))
@@ -98,18 +95,15 @@ pub(crate) fn expand(
     requires nodes { AreNodes pair.now.old.now pair.now.new.now nodes.old }
     ensures keeps { OnOk result (KeepsNodes nodes.old nodes.new) }
     ensures nodes { OnOk result (AreNodes pair.now.old.now pair.now.new.now nodes.new) }
-    ensures done { IfOk result (λ all. IsTrue all → (a : Assignment) → IsPossible pair.now.naming.now.possible.items a → Holds a fork.now.node.now.held.items
-        → IsFollowed pair.now.old.now pair.now.new.now pair.now.naming.now.names.items nodes.new a (rest_of pair.now.old.now fork.now.node.now.old)
-            (rest_of pair.now.new.now fork.now.node.now.new)) }
+    ensures done { (a : Assignment) → IsPossible pair.now.naming.now.possible.items a → Holds a fork.now.node.now.held.items
+        → OnOk result (IsFollowed pair.now.old.now pair.now.new.now pair.now.naming.now.names.items nodes.new a
+            (rest_of pair.now.old.now fork.now.node.now.old) (rest_of pair.now.new.now fork.now.node.now.new)) }
 {
     let mut left = codes_at(pair, fork);
-    for round in 0..CODES {
-        let Some(code) = first_usual(left) else {
-            return Ok(true);
-        };
-        let class = class_of(pair, fork.node, fork.turn, code);
+    while let Some(code) = first_usual(left) {
+        let class = common(class_of(pair, fork.node, fork.turn, code), left);
         follow(alloc, pair, nodes, fork, code, class)?;
         left = left.without(class);
     }
-    Ok(left.is_empty())
+    Ok(())
 }

@@ -1,11 +1,11 @@
 //! Answers that one stack has had from modules which the other stack has still ahead.
 
-ghost use Rattle.std.specs.Prelude.{IfOk, IfSome, IsTrue, OnOk};
+ghost use Rattle.std.specs.Prelude.{IfOk, IsTrue, OnOk};
 ghost use Rattle.pam_codes.specs.Set.{is_in};
 ghost use Rattle.pam_dispatch.specs.Runs.{Assignment};
 ghost use Rattle.pam_compare.specs.Held.{Holds};
 
-use crate::naming::{Naming, value_at};
+use crate::naming::{Naming, common, value_at};
 use pam_codes::CodeSet;
 use pam_dispatch::Memory;
 use std::alloc::Global;
@@ -32,31 +32,28 @@ impl Hash for HeldAnswer {
     }
 }
 
-/// The codes that are held of the module with this name.
-pub(crate) fn held_codes(held: &[HeldAnswer], name: usize) -> Option<CodeSet>
-    ensures { (a : Assignment) → Holds a held.now → IfSome result (λ codes. IsTrue (is_in (a name) codes)) }
+/// Of these codes, those that what is held leaves to the module with this name.
+pub(crate) fn held_codes(held: &[HeldAnswer], name: usize, codes: CodeSet) -> CodeSet
+    ensures { (a : Assignment) → Holds a held.now → IsTrue (is_in (a name) codes) → IsTrue (is_in (a name) result) }
 {
+    let mut left = codes;
     for index in 0..held.len() {
         let answer = held[index];
         if answer.name == name {
-            return Some(answer.codes);
+            left = common(left, answer.codes);
         }
     }
-    None
+    left
 }
 
-/// Whether the module with this name is still ahead of one of the stacks, which ask these modules next.
+/// Whether one of the stacks, which ask these modules next, has the module with this name still ahead.
 fn is_ahead(naming: &Naming, name: usize, old: Option<usize>, new: Option<usize>) -> bool {
-    let partner = value_at(&naming.partners, name);
-    if partner == 0 {
-        return false;
-    }
     let of_old = match old {
-        Some(number) => number <= name,
+        Some(number) => number <= name && name <= naming.old_modules,
         None => false,
     };
     let of_new = match new {
-        Some(number) => number <= partner,
+        Some(number) => number <= value_at(&naming.last, name),
         None => false,
     };
     of_old || of_new

@@ -14,6 +14,8 @@ mod ranks;
 mod situation;
 mod turn;
 mod usual;
+#[cfg(test)]
+mod tests;
 mod witness;
 
 pub use change::Change;

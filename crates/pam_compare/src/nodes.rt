@@ -15,16 +15,18 @@ use crate::held::HeldAnswer;
 use crate::node::Node;
 use crate::situation::Situation;
 use indexmap::IndexSet;
-use pam_codes::Code;
+use pam_codes::{Code, CodeSet};
 use pam_dispatch::{Memory, Place, PlaceTable};
 use std::alloc::Global;
 
-/// The way to a node: the index of the node before it, and the answer.
+/// The last step of the way to a node: the index of the node before it, and the answer, which is one of a class of codes after
+/// which both stacks go on alike.
 #[derive(Clone, Copy, Debug)]
 pub(crate) struct Way {
     pub(crate) parent: usize,
     pub(crate) name: usize,
     pub(crate) code: Code,
+    pub(crate) class: CodeSet,
 }
 
 /// Places of one program, each found again by its key.

@@ -1,17 +1,18 @@
 //! Answers with which two stacks decide differently.
 
-ghost use Rattle.std.specs.Prelude.{◌≡◌, ◌≤◌, ◌<◌, ℕ, IfOk, IfSome, IsTrue, List, Option, Some, length};
+ghost use Rattle.std.specs.Prelude.{◌≡◌, ◌≤◌, ◌<◌, ℕ, IfNone, IfOk, IfSome, IsTrue, List, Option, Some, length};
 ghost use Rattle.pam_dispatch.specs.Flat.{modules_of, runs_of};
-ghost use Rattle.pam_dispatch.specs.Runs.{answers_of};
+ghost use Rattle.pam_dispatch.specs.Runs.{Assignment, answers_of};
 ghost use Rattle.pam_paths.specs.Listing.{IsAllowed};
 ghost use Rattle.pam_compare.specs.Changes.{change_of};
 ghost use Rattle.pam_compare.specs.Comparison.{IsWitness, decision_in};
-ghost use Rattle.pam_compare.specs.Naming.{AreNames, name_of};
+ghost use Rattle.pam_compare.specs.Naming.{AreNames, IsPossible, by_code, name_of};
 
 use crate::change::Change;
 use crate::naming::{Naming, possible_at, value_at};
 use crate::node::Pair;
 use crate::nodes::Way;
+use crate::usual::first_usual;
 use pam_codes::Code;
 use pam_dispatch::{Decision, Memory, Program};
 use pam_paths::Knowledge;
@@ -26,26 +27,44 @@ pub struct Witness {
     pub new: Decision,
 }
 
-/// The codes of the modules on the way to the node at `index`, by their names, and one that is possible of each other name.
-fn codes_by_name(
-    alloc: Global,
-    naming: &Naming,
-    ways: &[Way],
-    index: usize,
-) -> Result<Vec<Code>, Memory> {
+/// A code for each name that may be answered, the first in the usual order; `None` if some name has none.
+pub(crate) fn usual_codes(alloc: Global, naming: &Naming) -> Result<Option<Vec<Code>>, Memory>
+    ensures none { IfOk result (λ some. IfNone some ((a : Assignment) → IsPossible naming.now.possible.items a → ⊥)) }
+    ensures some { IfOk result (λ some. IfSome some (λ codes. IsPossible naming.now.possible.items (by_code codes.items))) }
+{
     let mut codes = Vec::new(alloc);
     for name in 0..naming.possible.len() {
-        match possible_at(&naming.possible, name).least() {
-            Some(code) => codes.push(code)?,
-            None => codes.push(Code::SUCCESS)?,
-        }
+        let Some(code) = first_usual(possible_at(&naming.possible, name)) else {
+            return Ok(None);
+        };
+        codes.push(code)?;
     }
+    Ok(Some(codes))
+}
+
+/// The steps on the way to the node at `index`, the last one first.
+fn trail_to(alloc: Global, ways: &[Way], index: usize) -> Result<Vec<Way>, Memory> {
+    let mut trail = Vec::new(alloc);
     let mut at = index;
     for _ in 0..ways.len() {
-        if at > 0 && at < ways.len() {
-            put_code(&mut codes, ways[at].name, ways[at].code);
-            at = ways[at].parent;
+        if at == 0 || at >= ways.len() {
+            return Ok(trail);
         }
+        trail.push(ways[at])?;
+        at = ways[at].parent;
+    }
+    Ok(trail)
+}
+
+/// The codes of all modules by their names: those of a trail, and the usual ones elsewhere. A later answer of a name is one
+/// that does for the earlier one too.
+fn codes_on(alloc: Global, usual: &[Code], trail: &[Way]) -> Result<Vec<Code>, Memory> {
+    let Ok(mut codes) = usual.to_vec(alloc) else {
+        return Err(Memory);
+    };
+    for back in 0..trail.len() {
+        let way = trail[trail.len() - 1 - back];
+        put_code(&mut codes, way.name, way.code);
     }
     Ok(codes)
 }
@@ -153,9 +172,15 @@ struct Codes {
     new: Vec<Code>,
 }
 
-/// The codes of the modules on the way to the node at `index`.
-fn codes_to(alloc: Global, pair: &Pair<'_>, ways: &[Way], index: usize) -> Result<Codes, Memory> {
-    let codes = codes_by_name(alloc, pair.naming, ways, index)?;
+/// The codes of all modules, where those on the way to the node at `index` answer as there.
+fn codes_to<K: Knowledge, L: Knowledge>(
+    alloc: Global,
+    evidence: &Evidence<'_, K, L>,
+    index: usize,
+) -> Result<Codes, Memory> {
+    let pair = &evidence.pair;
+    let trail = trail_to(alloc, evidence.ways, index)?;
+    let codes = codes_on(alloc, evidence.usual, &trail)?;
     let old = codes_of_old(alloc, pair.old.modules(), &codes)?;
     let new = codes_of_new(alloc, pair.naming, &codes)?;
     Ok(Codes { old, new })
@@ -167,6 +192,8 @@ pub(crate) struct Evidence<'a, K: Knowledge, L: Knowledge> {
     pub(crate) pair: Pair<'a>,
     pub(crate) old_known: &'a K,
     pub(crate) new_known: &'a L,
+    /// A code for each name.
+    pub(crate) usual: &'a [Code],
     pub(crate) ways: &'a [Way],
 }
 
@@ -187,7 +214,7 @@ pub(crate) fn witness_at<K: Knowledge, L: Knowledge>(
         return Ok(None);
     };
     let pair = &evidence.pair;
-    let codes = codes_to(alloc, pair, evidence.ways, index)?;
+    let codes = codes_to(alloc, evidence, index)?;
     if !are_allowed(evidence.old_known, &codes.old)
         || !are_allowed(evidence.new_known, &codes.new)
         || !agree(pair.naming, &codes.old, &codes.new)
