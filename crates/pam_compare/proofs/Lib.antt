@@ -1,7 +1,11 @@
 pub mod Agreeing
+pub mod Coming
+pub mod Fewer
 pub mod Growing
 pub mod Holding
 pub mod Meeting
 pub mod Names
 pub mod Possible
 pub mod Sameness
+pub mod Trails
+pub mod Writing

@@ -2,7 +2,7 @@
 use Rattle.std.proofs.Common.{◌≡◌, ◌<◌, ◌≤◌, ◌+◌, ◌∙◌, ◌&&◌, ℕ, Bool, true, false, List, [], ◌∷◌, ◌++◌, get_or, length, ap, arith, inl, inr, refl, subst, sym}
 use Rattle.std.specs.Prelude.{not}
 use Rattle.std.proofs.Math.ListN.{set}
-use Rattle.std.proofs.lemmas.Bool.{and_from, cases_eq, cases_lt}
+use Rattle.std.proofs.lemmas.Bool.{and_from, and_parts, cases_eq, cases_lt}
 use Rattle.std.proofs.lemmas.List.{get_or-set_other, get_or-set_same, get_or_append_left, get_or_past, get_or_push, length_push}
 use Rattle.pam_codes.specs.Code.{all_codes}
 use Rattle.pam_codes.specs.Set.{codes_where, is_in}
@@ -92,3 +92,44 @@ narrowed sets at codes left after a within is e member h =
     subst (λ (l : List (List ℕ)). IsPossible l a) (sym e)
     (possible-set sets at left a within h
     (subst (λ (s : List ℕ). is_in (a at) s ≡ true) (sym is) (in-common (get_or sets at all_codes) codes (a at) (h at).0 (h at).1 member)))
+
+-- WHAT IS POSSIBLE AFTERWARDS WAS POSSIBLE BEFORE
+
+pub allowed-push-back : (allows : ℕ → Bool) (sets : List (List ℕ)) (more : List ℕ) (after : List (List ℕ)) (a : Assignment) (at : ℕ) →
+    after ≡ sets ++ more ∷ [] → more ≡ codes_where allows → length sets ≡ at → IsPossible after a → IsPossible sets a × (allows (a at) ≡ true)
+unfolding IsPossible
+allowed-push-back allows sets more after a at e is same h =
+    let In : List (List ℕ) → ℕ → Type 0 = λ l n. is_in (a n) (get_or l n all_codes) ≡ true in
+    let here : In (sets ++ more ∷ []) at = subst (λ (l : List (List ℕ)). In l at) e (h at).1 in (
+      λ name. (
+        (h name).0,
+        elim (cases_lt name (length sets)) [
+          | inl less ↦ subst (λ (s : List ℕ). is_in (a name) s ≡ true) (get_or_append_left sets (more ∷ []) all_codes name less)
+              (subst (λ (l : List (List ℕ)). In l name) e (h name).1)
+          | inr most ↦ subst (λ (s : List ℕ). is_in (a name) s ≡ true) (sym (get_or_past sets name all_codes most)) (in-all (a name) (h name).0)
+        ],
+      ),
+      sym (is_in-codes_where allows (a at) (h at).0)
+      ∙ subst (λ (s : List ℕ). is_in (a at) s ≡ true) is (subst (λ (s : List ℕ). is_in (a at) s ≡ true) (get_or_push sets more all_codes at same) here),
+    )
+
+pub narrowed-back : (sets : List (List ℕ)) (at : ℕ) (codes left : List ℕ) (after : List (List ℕ)) (a : Assignment) → at < length sets →
+    left ≡ codes_where (λ c. is_in c (get_or sets at all_codes) && is_in c codes) → after ≡ set sets at left →
+    IsPossible after a → IsPossible sets a × (is_in (a at) codes ≡ true)
+unfolding IsPossible
+narrowed-back sets at codes left after a within is e h =
+    let In : List ℕ → ℕ → Type 0 = λ s n. is_in (a n) s ≡ true in
+    let moved : (name : ℕ) → In (get_or (set sets at left) name all_codes) name =
+    λ name. subst (λ (l : List (List ℕ)). In (get_or l name all_codes) name) e (h name).1 in
+    let here : In left at = subst (λ (s : List ℕ). In s at) (get_or-set_same sets at left all_codes within) (moved at) in
+    let parts = and_parts (is_in (a at) (get_or sets at all_codes)) (is_in (a at) codes)
+    (sym (is_in-codes_where (λ c. is_in c (get_or sets at all_codes) && is_in c codes) (a at) (h at).0) ∙ subst (λ (s : List ℕ). In s at) is here) in (
+      λ name. (
+        (h name).0,
+        elim (cases_eq name at) [
+          | inl same ↦ subst (λ (n : ℕ). In (get_or sets n all_codes) n) (sym same) parts.0
+          | inr other ↦ subst (λ (s : List ℕ). In s name) (get_or-set_other sets at name left all_codes other) (moved name)
+        ],
+      ),
+      parts.1,
+    )

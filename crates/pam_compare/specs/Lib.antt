@@ -5,4 +5,6 @@ pub mod Held
 pub mod Matching
 pub mod Naming
 pub mod Nodes
+pub mod Reached
+pub mod Trails
 pub mod Turn
