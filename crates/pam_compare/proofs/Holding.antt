@@ -1,6 +1,10 @@
 -- Answers that are held.
-use Rattle.std.proofs.Common.{◌≡◌, ◌<◌, ◌∙◌, ℕ, zero, suc, true, List, [], ◌∷◌, ◌++◌, get_or, length, ap, arith, subst, sym}
-use Rattle.pam_codes.specs.Set.{is_in}
+use Rattle.std.proofs.Common.{◌≡◌, ◌⊎◌, ◌<◌, ◌∙◌, ◌||◌, ◌&&◌, ℕ, zero, suc, Bool, true, false, cond, eqb, List, [], ◌∷◌, ◌++◌, Some, None, get_or, length, filter, ap, arith, inl, inr, refl, subst, sym}
+use Rattle.std.specs.Prelude.{slice_get}
+use Rattle.std.specs.List.{list_any}
+use Rattle.std.proofs.lemmas.Bool.{eqb-true, false≢true}
+use Rattle.pam_codes.specs.Code.{all_codes}
+use Rattle.pam_codes.specs.Set.{codes_where, is_in}
 use Rattle.pam_dispatch.specs.Runs.{Assignment}
 use Rattle.pam_compare.specs.declared.held.HeldAnswer.{HeldAnswer}
 use Rattle.pam_compare.specs.Held.{Holds}
@@ -20,3 +24,44 @@ holds-push a (y ∷ ys) x h new = (h.0, holds-push a ys x h.1 new)
 
 pub holds-equal : (a : Assignment) (held other : List HeldAnswer) → held ≡ other → Holds a held → Holds a other
 holds-equal a held other e h = subst (Holds a) e h
+
+none-some : (h : HeldAnswer) → None ≡ Some h → ⊥
+none-some h e = cc
+
+some-held : (h k : HeldAnswer) → Some h ≡ Some k → h ≡ k
+some-held h k e = cc
+
+pub holds-get : (a : Assignment) (held : List HeldAnswer) (i : ℕ) (h : HeldAnswer) → slice_get held i ≡ Some h → Holds a held → is_in (a h.name) h.codes ≡ true
+unfolding Holds
+holds-get a [] i h at holds = absurd (none-some h at)
+holds-get a (x ∷ xs) zero h at holds = subst (λ (y : HeldAnswer). is_in (a y.name) y.codes ≡ true) (some-held x h at) holds.0
+holds-get a (x ∷ xs) (suc i) h at holds = holds-get a xs i h at holds.1
+
+-- CODES THAT PASS A TEST
+
+in-filter : (p : ℕ → Bool) (c : ℕ) (xs : List ℕ) → is_in c (filter p xs) ≡ true → p c ≡ true
+in-filter p c [] h = absurd (false≢true h)
+in-filter p c (x ∷ xs) h =
+    elim (p x) as (λ (b : Bool). p x ≡ b → is_in c (cond b (x ∷ filter p xs) (filter p xs)) ≡ true → p c ≡ true) [
+      | true ↦ λ e k. elim (eqb x c) as (λ (t : Bool). eqb x c ≡ t → (t || is_in c (filter p xs)) ≡ true → p c ≡ true) [
+        | true ↦ λ f _. ap p (sym (eqb-true x c f)) ∙ e
+        | false ↦ λ f l. in-filter p c xs l
+      ] refl k
+      | false ↦ λ e k. in-filter p c xs k
+    ] refl h
+
+pub where-passes : (p : ℕ → Bool) (c : ℕ) → is_in c (codes_where p) ≡ true → p c ≡ true
+where-passes p c h = in-filter p c all_codes h
+
+or-cases : (s t : Bool) → (s || t) ≡ true → (s ≡ true) ⊎ (t ≡ true)
+or-cases true t h = inl refl
+or-cases false t h = inr h
+
+-- what holds of each code of a set, and of one more
+pub inserted : (P : ℕ → Type 0) (other : ℕ) (class after : List ℕ) → after ≡ codes_where (λ x. eqb x other || is_in x class) → P other →
+    ((d : ℕ) → d < 31 → is_in d class ≡ true → P d) → (d : ℕ) → d < 31 → is_in d after ≡ true → P d
+inserted P other class after e here before d low h =
+    elim (or-cases (eqb d other) (is_in d class) (where-passes (λ x. eqb x other || is_in x class) d (sym (ap (is_in d) e) ∙ h))) [
+      | inl same ↦ subst P (sym (eqb-true d other same)) here
+      | inr member ↦ before d low member
+    ]

@@ -74,7 +74,7 @@ fn follow(
 
 /// The codes that may be answered at a turn.
 fn codes_at(pair: &Pair<'_>, fork: &Fork<'_>) -> CodeSet
-    ensures { (a : Assignment) → IsPossible pair.now.naming.now.possible.items a → Holds a fork.now.node.now.held.items
+    ensures kept { (a : Assignment) → IsPossible pair.now.naming.now.possible.items a → Holds a fork.now.node.now.held.items
         → IsTrue (is_in (a (turn_name pair.now.naming.now.names.items fork.now.turn)) result) }
 {
     let name = turn_name(pair.naming, fork.turn);

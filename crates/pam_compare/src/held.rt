@@ -1,9 +1,12 @@
 //! Answers that one stack has had from modules which the other stack has still ahead.
 
-ghost use Rattle.std.specs.Prelude.{IfOk, IsTrue, OnOk};
+ghost use Rattle.std.specs.Prelude.{◌≡◌, ◌+◌, ◌<◌, ℕ, false, IfOk, IsTrue, OnOk, Some, length, slice_get};
 ghost use Rattle.pam_codes.specs.Set.{is_in};
 ghost use Rattle.pam_dispatch.specs.Runs.{Assignment};
+ghost use Rattle.pam_compare.specs.declared.held.HeldAnswer.{HeldAnswer};
 ghost use Rattle.pam_compare.specs.Held.{Holds};
+ghost use Rattle.pam_compare.specs.Naming.{AreLast};
+ghost use Rattle.pam_compare.specs.Trails.{IsPast};
 
 use crate::naming::{Naming, common, value_at};
 use pam_codes::CodeSet;
@@ -32,31 +35,50 @@ impl Hash for HeldAnswer {
     }
 }
 
+/// Of these codes, those that an answer leaves to the module with this name.
+fn codes_left(answer: HeldAnswer, name: usize, codes: CodeSet) -> CodeSet
+    ensures kept { (c : ℕ) → c < 31 → IsTrue (is_in c codes) → (answer.name ≡ name → IsTrue (is_in c answer.codes)) → IsTrue (is_in c result) }
+    ensures within { (c : ℕ) → IsTrue (is_in c result) → IsTrue (is_in c codes) }
+    ensures left { answer.name ≡ name → (c : ℕ) → IsTrue (is_in c result) → IsTrue (is_in c answer.codes) }
+{
+    if answer.name != name {
+        return codes;
+    }
+    common(codes, answer.codes)
+}
+
 /// Of these codes, those that what is held leaves to the module with this name.
 pub(crate) fn held_codes(held: &[HeldAnswer], name: usize, codes: CodeSet) -> CodeSet
-    ensures { (a : Assignment) → Holds a held.now → IsTrue (is_in (a name) codes) → IsTrue (is_in (a name) result) }
+    ensures kept { (a : Assignment) → a name < 31 → Holds a held.now → IsTrue (is_in (a name) codes) → IsTrue (is_in (a name) result) }
+    ensures within { (c : ℕ) → IsTrue (is_in c result) → IsTrue (is_in c codes) }
+    ensures left { (i : ℕ) (h : HeldAnswer) → slice_get held.now i ≡ Some h → h.name ≡ name → (c : ℕ) → IsTrue (is_in c result) → IsTrue (is_in c h.codes) }
 {
     let mut left = codes;
     for index in 0..held.len() {
-        let answer = held[index];
-        if answer.name == name {
-            left = common(left, answer.codes);
-        }
+        left = codes_left(held[index], name, left);
     }
     left
 }
 
+/// Whether a stack that asks the module `next` can still ask the module with this number.
+fn may_ask(next: Option<usize>, number: usize) -> bool
+    ensures { result ≡ false → (i : ℕ) → next ≡ Some i → number < i }
+{
+    match next {
+        Some(next) => next <= number,
+        None => false,
+    }
+}
+
 /// Whether one of the stacks, which ask these modules next, has the module with this name still ahead.
-fn is_ahead(naming: &Naming, name: usize, old: Option<usize>, new: Option<usize>) -> bool {
-    let of_old = match old {
-        Some(number) => number <= name && name <= naming.old_modules,
-        None => false,
-    };
-    let of_new = match new {
-        Some(number) => number <= value_at(&naming.last, name),
-        None => false,
-    };
-    of_old || of_new
+fn is_ahead(naming: &Naming, name: usize, old: Option<usize>, new: Option<usize>) -> bool
+    ensures { (modules : ℕ) → length naming.now.names.items ≡ modules + 1 → AreLast naming.now.names.items naming.now.last.items
+        → result ≡ false → IsPast naming.now.names.items naming.now.old_modules modules name old new }
+{
+    if name <= naming.old_modules && may_ask(old, name) {
+        return true;
+    }
+    may_ask(new, value_at(&naming.last, name))
 }
 
 /// Appends an answer, if it is wanted.

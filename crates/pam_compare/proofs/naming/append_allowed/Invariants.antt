@@ -9,4 +9,6 @@ invariant-loop-index g l = record {
   possible : (a : Assignment) (base : ℕ) → length l.fn.sets.items ≡ base + 1 → ((name : ℕ) → a name < 31) →
       ((j : ℕ) → 0 < j → j ≤ l.modules → g.K.Knowledge.allows l.known j (a (base + j)) ≡ true) →
       IsPossible l.fn.sets.items a → IsPossible l.sets.items a;
+  exact : (a : Assignment) (base : ℕ) → length l.fn.sets.items ≡ base + 1 → IsPossible l.sets.items a →
+      IsPossible l.fn.sets.items a × ((j : ℕ) → 0 < j → j ≤ l.index → g.K.Knowledge.allows l.known j (a (base + j)) ≡ true);
 }
