@@ -1,7 +1,7 @@
 -- Answers that are held.
-use Rattle.std.proofs.Common.{◌≡◌, ◌⊎◌, ◌<◌, ◌∙◌, ◌||◌, ◌&&◌, ℕ, zero, suc, Bool, true, false, cond, eqb, List, [], ◌∷◌, ◌++◌, Some, None, get_or, length, filter, ap, arith, inl, inr, refl, subst, sym}
-use Rattle.std.specs.Prelude.{slice_get}
-use Rattle.std.specs.List.{list_any}
+use Rattle.std.proofs.Common.{◌≡◌, ◌⊎◌, ◌<◌, ◌+◌, ◌∙◌, ◌||◌, ◌&&◌, ℕ, zero, suc, Bool, true, false, cond, eqb, List, [], ◌∷◌, ◌++◌, Some, None, get_or, length, filter, ap, arith, inl, inr, refl, subst, sym}
+use Rattle.std.specs.Prelude.{not, slice_get}
+use Rattle.std.specs.List.{list_any, range_with_len}
 use Rattle.std.proofs.lemmas.Bool.{eqb-true, false≢true}
 use Rattle.pam_codes.specs.Code.{all_codes}
 use Rattle.pam_codes.specs.Set.{codes_where, is_in}
@@ -28,7 +28,7 @@ holds-equal a held other e h = subst (Holds a) e h
 none-some : (h : HeldAnswer) → None ≡ Some h → ⊥
 none-some h e = cc
 
-some-held : (h k : HeldAnswer) → Some h ≡ Some k → h ≡ k
+pub some-held : (h k : HeldAnswer) → Some h ≡ Some k → h ≡ k
 some-held h k e = cc
 
 pub holds-get : (a : Assignment) (held : List HeldAnswer) (i : ℕ) (h : HeldAnswer) → slice_get held i ≡ Some h → Holds a held → is_in (a h.name) h.codes ≡ true
@@ -57,6 +57,10 @@ or-cases : (s t : Bool) → (s || t) ≡ true → (s ≡ true) ⊎ (t ≡ true)
 or-cases true t h = inl refl
 or-cases false t h = inr h
 
+pub or-right : (s t : Bool) → t ≡ true → (s || t) ≡ true
+or-right true t e = refl
+or-right false t e = e
+
 -- what holds of each code of a set, and of one more
 pub inserted : (P : ℕ → Type 0) (other : ℕ) (class after : List ℕ) → after ≡ codes_where (λ x. eqb x other || is_in x class) → P other →
     ((d : ℕ) → d < 31 → is_in d class ≡ true → P d) → (d : ℕ) → d < 31 → is_in d after ≡ true → P d
@@ -65,3 +69,32 @@ inserted P other class after e here before d low h =
       | inl same ↦ subst P (sym (eqb-true d other same)) here
       | inr member ↦ before d low member
     ]
+
+member-filter : (p : ℕ → Bool) (c : ℕ) (xs : List ℕ) → is_in c (filter p xs) ≡ true → is_in c xs ≡ true
+member-filter p c [] h = h
+member-filter p c (x ∷ xs) h =
+    elim (p x) as (λ (b : Bool). is_in c (cond b (x ∷ filter p xs) (filter p xs)) ≡ true → (eqb x c || is_in c xs) ≡ true) [
+      | true ↦ λ k. elim (eqb x c) as (λ (t : Bool). (t || is_in c (filter p xs)) ≡ true → (t || is_in c xs) ≡ true) [
+        | true ↦ λ l. refl
+        | false ↦ λ l. member-filter p c xs l
+      ] k
+      | false ↦ λ k. elim (eqb x c) as (λ (t : Bool). (t || is_in c xs) ≡ true) [ true ↦ refl | false ↦ member-filter p c xs k ]
+    ] h
+
+in-range : (c a n : ℕ) → is_in c (range_with_len a n) ≡ true → c < a + n
+in-range c a zero h = absurd (false≢true h)
+in-range c a (suc n) h =
+    elim (or-cases (eqb a c) (is_in c (range_with_len (a + 1) n)) h) [
+      | inl same ↦ let e : a ≡ c = eqb-true a c same in omega (arith, e)
+      | inr later ↦ let rest : c < a + 1 + n = in-range c (a + 1) n later in omega (arith, rest)
+    ]
+
+-- the codes of a set are codes
+pub where-low : (p : ℕ → Bool) (c : ℕ) → is_in c (codes_where p) ≡ true → c < 31
+unfolding all_codes
+where-low p c h = in-range c 0 31 (member-filter p c (range_with_len 0 31) h)
+
+pub taken-out : (s m : Bool) → s ≡ true → (s && not m) ≡ false → m ≡ true
+taken-out true true e f = refl
+taken-out true false e f = absurd (false≢true (sym f))
+taken-out false m e f = absurd (false≢true e)

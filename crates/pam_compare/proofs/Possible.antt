@@ -93,6 +93,10 @@ narrowed sets at codes left after a within is e member h =
     (possible-set sets at left a within h
     (subst (λ (s : List ℕ). is_in (a at) s ≡ true) (sym is) (in-common (get_or sets at all_codes) codes (a at) (h at).0 (h at).1 member)))
 
+pub possible-low : (sets : List (List ℕ)) (a : Assignment) (name : ℕ) → IsPossible sets a → a name < 31
+unfolding IsPossible
+possible-low sets a name h = (h name).0
+
 -- WHAT IS POSSIBLE AFTERWARDS WAS POSSIBLE BEFORE
 
 pub allowed-push-back : (allows : ℕ → Bool) (sets : List (List ℕ)) (more : List ℕ) (after : List (List ℕ)) (a : Assignment) (at : ℕ) →

@@ -87,9 +87,7 @@ fn visit(
 {
     let node = nodes.node_at(index)?;
     let Some(turn) = turn_at(pair, &node) else {
-        if let Some(change) = change_at(pair, &node) {
-            found.note(change, index);
-        }
+        found.note(change_at(pair, &node), index);
         return Ok(());
     };
     let fork = Fork {
@@ -97,7 +95,8 @@ fn visit(
         turn,
         index,
     };
-    expand(alloc, pair, nodes, &fork)
+    expand(alloc, pair, nodes, &fork)?;
+    Ok(())
 }
 
 /// What a search finds.

@@ -1,10 +1,11 @@
 //! The nodes that follow one.
 
-ghost use Rattle.std.specs.Prelude.{◌≡◌, ◌<◌, ℕ, IfNone, IfOk, IfSome, IsTrue, None, OnOk, slice_index_or};
+ghost use Rattle.std.specs.Prelude.{◌≡◌, ◌<◌, ℕ, IfNone, IfOk, IfSome, IsTrue, None, OnOk, Some, slice_get, slice_index_or};
 ghost use Rattle.pam_codes.specs.Code.{all_codes};
 ghost use Rattle.pam_codes.specs.Set.{is_in};
 ghost use Rattle.pam_dispatch.specs.Flat.{IsPlaceOf, rest_of};
 ghost use Rattle.pam_dispatch.specs.Runs.{Assignment, asked_module};
+ghost use Rattle.pam_compare.specs.declared.held.HeldAnswer.{HeldAnswer};
 ghost use Rattle.pam_compare.specs.Held.{Holds};
 ghost use Rattle.pam_compare.specs.Naming.{IsPossible};
 ghost use Rattle.pam_compare.specs.Nodes.{AreNodes, IsFollowed, IsMet, KeepsNodes};
@@ -76,6 +77,10 @@ fn follow(
 fn codes_at(pair: &Pair<'_>, fork: &Fork<'_>) -> CodeSet
     ensures kept { (a : Assignment) → IsPossible pair.now.naming.now.possible.items a → Holds a fork.now.node.now.held.items
         → IsTrue (is_in (a (turn_name pair.now.naming.now.names.items fork.now.turn)) result) }
+    ensures within { (c : ℕ) → IsTrue (is_in c result)
+        → IsTrue (is_in c (slice_index_or pair.now.naming.now.possible.items (turn_name pair.now.naming.now.names.items fork.now.turn) all_codes)) }
+    ensures left { (i : ℕ) (h : HeldAnswer) → slice_get fork.now.node.now.held.items i ≡ Some h
+        → h.name ≡ turn_name pair.now.naming.now.names.items fork.now.turn → (c : ℕ) → IsTrue (is_in c result) → IsTrue (is_in c h.codes) }
 {
     let name = turn_name(pair.naming, fork.turn);
     held_codes(&fork.node.held, name, possible_at(&pair.naming.possible, name))

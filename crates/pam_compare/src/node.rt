@@ -67,8 +67,9 @@ fn with_alike(
     requires new { IsPlaceOf pair.now.new.now node.now.new }
     requires turn { IsTurn pair.now.naming.now.names.items (asked_module (rest_of pair.now.old.now node.now.old))
         (asked_module (rest_of pair.now.new.now node.now.new)) turn }
-    ensures { ((d : ℕ) → d < 31 → IsTrue (is_in d class) → AreAlike turn (rest_of pair.now.old.now node.now.old) (rest_of pair.now.new.now node.now.new) code d)
+    ensures alike { ((d : ℕ) → d < 31 → IsTrue (is_in d class) → AreAlike turn (rest_of pair.now.old.now node.now.old) (rest_of pair.now.new.now node.now.new) code d)
         → (d : ℕ) → d < 31 → IsTrue (is_in d result) → AreAlike turn (rest_of pair.now.old.now node.now.old) (rest_of pair.now.new.now node.now.new) code d }
+    ensures more { (d : ℕ) → d < 31 → IsTrue (is_in d class) → IsTrue (is_in d result) }
 {
     let Some(other) = Code::new(number) else {
         return class;
@@ -87,8 +88,9 @@ pub(crate) fn class_of(pair: &Pair<'_>, node: &Node, turn: Turn, code: Code) -> 
     requires new { IsPlaceOf pair.now.new.now node.now.new }
     requires turn { IsTurn pair.now.naming.now.names.items (asked_module (rest_of pair.now.old.now node.now.old))
         (asked_module (rest_of pair.now.new.now node.now.new)) turn }
-    ensures { (d : ℕ) → d < 31 → IsTrue (is_in d result)
+    ensures alike { (d : ℕ) → d < 31 → IsTrue (is_in d result)
         → AreAlike turn (rest_of pair.now.old.now node.now.old) (rest_of pair.now.new.now node.now.new) code d }
+    ensures own { code < 31 → IsTrue (is_in code result) }
 {
     let mut class = CodeSet::single(code);
     for number in 0..CODES as u8 {

@@ -181,23 +181,24 @@ impl Found {
         }
     }
 
-    /// Notes the node at `index` for a change, unless one is noted.
-    pub(crate) fn note(&mut self, change: Change, index: usize)
-        ensures noted { IsNoted self.new (Some change) }
+    /// Notes the node at `index` for a change, unless one is noted or there is no change.
+    pub(crate) fn note(&mut self, change: Option<Change>, index: usize)
+        ensures noted { IsNoted self.new change }
         ensures keeps { (c : Option Change) → IsNoted self.old c → IsNoted self.new c }
     {
         match change {
-            Change::Admits => {
+            None => {}
+            Some(Change::Admits) => {
                 if self.admits.is_none() {
                     self.admits = Some(index);
                 }
             }
-            Change::Refuses => {
+            Some(Change::Refuses) => {
                 if self.refuses.is_none() {
                     self.refuses = Some(index);
                 }
             }
-            Change::Tells => {
+            Some(Change::Tells) => {
                 if self.tells.is_none() {
                     self.tells = Some(index);
                 }

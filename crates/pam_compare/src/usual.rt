@@ -1,6 +1,6 @@
 //! The order in which answers are tried.
 
-ghost use Rattle.std.specs.Prelude.{◌≡◌, IfNone, IfSome, IsTrue, []};
+ghost use Rattle.std.specs.Prelude.{◌≡◌, ◌<◌, IfNone, IfSome, IsTrue, []};
 ghost use Rattle.pam_codes.specs.Set.{is_in};
 
 use pam_codes::{Code, CodeSet};
@@ -13,6 +13,7 @@ const USUAL: [u8; 6] = [0, 7, 6, 10, 9, 25];
 /// number. `None` if there are none.
 pub(crate) fn first_usual(codes: CodeSet) -> Option<Code>
     ensures none { IfNone result (codes ≡ []) }
+    ensures low { IfSome result (λ code. code < 31) }
     ensures member { IfSome result (λ code. IsTrue (is_in code codes)) }
 {
     for index in 0..USUAL.len() {

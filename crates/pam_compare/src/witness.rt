@@ -221,5 +221,8 @@ pub(crate) fn witness_at<K: Knowledge, L: Knowledge>(
     {
         return Ok(None);
     }
-    Ok(decided(pair.old, pair.new, codes.old, codes.new, change))
+    let Some(witness) = decided(pair.old, pair.new, codes.old, codes.new, change) else {
+        return Ok(None);
+    };
+    Ok(Some(witness))
 }

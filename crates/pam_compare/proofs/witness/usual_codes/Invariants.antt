@@ -8,5 +8,6 @@ use Rattle.pam_compare.proofs.witness.usual_codes.Given as goal
 abbrev pub invariant-loop-name : goal.invariant-loop-name
 invariant-loop-name l = record {
   count : length l.codes.items ≡ l.name;
+  low : (n : ℕ) → by_code l.codes.items n < 31;
   member : (n : ℕ) → n < l.name → is_in (by_code l.codes.items n) (slice_index_or l.naming.possible.items n all_codes) ≡ true;
 }
