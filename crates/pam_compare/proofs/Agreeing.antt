@@ -1,6 +1,6 @@
 -- From names to assignments that agree.
 use Rattle.std.proofs.Common.{◌≡◌, ◌<◌, ◌≤◌, ◌+◌, ◌-◌, ◌∙◌, ◌&&◌, ℕ, zero, suc, Bool, true, false, cond, List, Option, Some, None, ap, sym, refl, subst, inl, inr, arith, leb, ltb}
-use Rattle.std.specs.Prelude.{IsSome}
+use Rattle.std.specs.Prelude.{IfSome, IsSome}
 use Rattle.std.proofs.lemmas.Bool.{cases_lt}
 use Rattle.pam_dispatch.specs.declared.flat_item.FlatItem.{FlatItem}
 use Rattle.pam_dispatch.specs.declared.state.State.{State}
@@ -10,8 +10,9 @@ use Rattle.pam_dispatch.specs.Runs.{Assignment, AsksRise, Runs, ends, asks, fina
 use Rattle.pam_paths.specs.Listing.{Allowance, IsAllowed}
 use Rattle.pam_compare.specs.declared.change.Change.{Change}
 use Rattle.pam_compare.specs.declared.nodes.Found.{Found}
+use Rattle.pam_compare.specs.declared.witness.Witness.{Witness}
 use Rattle.pam_compare.specs.Changes.{change_of}
-use Rattle.pam_compare.specs.Comparison.{NeverChanges, decision_in}
+use Rattle.pam_compare.specs.Comparison.{IsShown, IsWitness, NeverChanges, decision_in}
 use Rattle.pam_compare.specs.Agreement.{Agree}
 use Rattle.pam_compare.specs.Naming.{AreNames, IsKnown, IsPossible, by_name, name_of}
 use Rattle.pam_compare.specs.Nodes.{IsNoted, IsSearched}
@@ -123,3 +124,21 @@ module _ (old_allows new_allows : Allowance) (old new : List FlatItem) (partners
   pub never : (change : Change) → (IsNoted found (Some change) → ⊥) → NeverChanges old_allows new_allows old new partners change
   unfolding NeverChanges
   never change missing a b old_codes new_codes agree is = missing (subst (IsNoted found) is (noted a b old_codes new_codes agree))
+
+  -- a change that was not found is never made
+  pub shown : (change : Change) (index : Option ℕ) → (IsNoted found (Some change) → IsSome index) → (w : Option Witness) →
+      IfSome w (IsWitness old_allows new_allows old new partners change) → (w ≡ None → index ≡ None) →
+      IsShown old_allows new_allows old new partners change w
+  shown change index is None h none = never change (λ noted. subst IsSome (none refl) (is noted))
+  shown change index is (Some w) h none = h
+
+-- where no answers are possible, no change is made
+pub never-any : (old_allows new_allows : Allowance) (old new : List FlatItem) (partners : List (Option ℕ)) (names : List ℕ) (possible : List (List ℕ)) →
+    AreNames old_allows new_allows (modules_of old) (modules_of new) partners names →
+    ((a : Assignment) → IsKnown old_allows new_allows (modules_of old) (modules_of new) names a → IsPossible possible a) →
+    ((a : Assignment) → IsPossible possible a → ⊥) → AsksRise 0 (modules_of old) (runs_of old) → AsksRise 0 (modules_of new) (runs_of new) →
+    (change : Change) → NeverChanges old_allows new_allows old new partners change
+unfolding NeverChanges IsSearched
+never-any old_allows new_allows old new partners names possible named can none rise_old rise_new change a b old_codes new_codes agree is =
+    none _ (can _ (is-known old_allows new_allows old new partners names possible (record { admits = None; refuses = None; tells = None }) named can
+    (λ a can. absurd (none a can)) rise_old rise_new a b old_codes new_codes agree))

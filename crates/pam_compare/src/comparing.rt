@@ -85,7 +85,7 @@ fn visit(
     ensures visited { (s : Situation) → slice_get nodes.old.situations.keys index ≡ Some s
         → OnOk result (IsVisited pair.now.old.now pair.now.new.now pair.now.naming.now.names.items pair.now.naming.now.possible.items nodes.new found.new s) }
 {
-    let node = nodes.node_at(index)?;
+    let node = nodes.node_at(alloc, index)?;
     let Some(turn) = turn_at(pair, &node) else {
         found.note(change_at(pair, &node), index);
         return Ok(());
@@ -147,7 +147,11 @@ fn search(alloc: Global, pair: &Pair<'_>, limit: usize) -> Result<Option<Searche
 }
 
 /// No change.
-fn no_changes() -> Changes {
+fn no_changes() -> Changes
+    ensures admits { result.admits ≡ None }
+    ensures refuses { result.refuses ≡ None }
+    ensures tells { result.tells ≡ None }
+{
     Changes {
         admits: None,
         refuses: None,

@@ -63,6 +63,16 @@ fn push_place(places: &mut Vec<Place>, place: &Place) -> Result<(), Memory>
     }
 }
 
+fn copied(alloc: Global, held: &[HeldAnswer]) -> Result<Vec<HeldAnswer>, Memory>
+    ensures { IfOk result (λ copy. copy.items ≡ held.now) }
+{
+    let mut copy = Vec::new(alloc);
+    match copy.extend_from_slice(held) {
+        Ok(()) => Ok(copy),
+        Err(_) => Err(Memory),
+    }
+}
+
 impl Places {
     fn new(alloc: Global) -> Places
         ensures { (program : List FlatItem) → ArePlaces program result.places.items result.keys }
@@ -152,7 +162,7 @@ impl Nodes {
     }
 
     /// The node at `index`.
-    pub(crate) fn node_at(&self, index: usize) -> Result<Node, Memory>
+    pub(crate) fn node_at(&self, alloc: Global, index: usize) -> Result<Node, Memory>
         requires within { index < length self.now.situations.keys }
         requires nodes { (old new : List FlatItem) × AreNodes old new self.now }
         ensures { IfOk result (λ n. (s : Situation) × (slice_get self.now.situations.keys index ≡ Some s) × IsAt self.now s n) }
@@ -160,9 +170,7 @@ impl Nodes {
         let Some(situation) = self.situations.get_index(index) else {
             unreachable!()
         };
-        let Ok(held) = situation.held.clone() else {
-            return Err(Memory);
-        };
+        let held = copied(alloc, &situation.held)?;
         Ok(Node {
             old: self.old_places.at(situation.old),
             new: self.new_places.at(situation.new),
