@@ -1,7 +1,7 @@
 -- From names to assignments that agree.
 use Rattle.std.proofs.Common.{◌≡◌, ◌<◌, ◌≤◌, ◌+◌, ◌-◌, ◌∙◌, ◌&&◌, ℕ, zero, suc, Bool, true, false, cond, List, Option, Some, None, ap, sym, refl, subst, inl, inr, arith, leb, ltb}
 use Rattle.std.specs.Prelude.{IfSome, IsSome}
-use Rattle.std.proofs.lemmas.Bool.{cases_lt}
+use Rattle.std.proofs.lemmas.Bool.{cases_lt, false≢true}
 use Rattle.pam_dispatch.specs.declared.flat_item.FlatItem.{FlatItem}
 use Rattle.pam_dispatch.specs.declared.state.State.{State}
 use Rattle.pam_dispatch.specs.Decision.{decision_of}
@@ -72,12 +72,8 @@ both-codes count a b at_a at_b x = by (leb x count)
     by false = at_b (x - count)
 
 
-module _ (old_allows new_allows : Allowance) (old new : List FlatItem) (partners : List (Option ℕ)) (names : List ℕ) (possible : List (List ℕ))
-    (found : Found)
-    (named : AreNames old_allows new_allows (modules_of old) (modules_of new) partners names)
-    (can : (a : Assignment) → IsKnown old_allows new_allows (modules_of old) (modules_of new) names a → IsPossible possible a)
-    (searched : IsSearched old new names possible found)
-    (rise_old : AsksRise 0 (modules_of old) (runs_of old)) (rise_new : AsksRise 0 (modules_of new) (runs_of new)) where
+module _ (old_allows new_allows : Allowance) (old new : List FlatItem) (partners : List (Option ℕ)) (names : List ℕ)
+    (named : AreNames old_allows new_allows (modules_of old) (modules_of new) partners names) where
   module _ (a b : Assignment) (old_codes : IsAllowed old_allows (modules_of old) a) (new_codes : IsAllowed new_allows (modules_of new) b)
       (agree : Agree old_allows new_allows (modules_of old) (modules_of new) partners a b) where
     one : Assignment
@@ -112,33 +108,33 @@ module _ (old_allows new_allows : Allowance) (old new : List FlatItem) (partners
       new = λ j positive most. subst (λ (code : ℕ). new_allows j code ≡ true) (sym (at-new j positive most)) (new_codes j positive most).1;
     }
 
-    noted : IsNoted found (change_of (decision_in (runs_of old) a) (decision_in (runs_of new) b))
-    unfolding IsSearched
-    noted =
-        let left = same-final one a 0 (modules_of old) (runs_of old) rise_old at-old in
-        let right = same-final (by_name names one) b 0 (modules_of new) (runs_of new) rise_new at-new in
-        subst (λ (n : ℕ). IsNoted found (change_of n (decision_in (runs_of new) b))) (ap (λ (s : State). decision_of s) left)
-        (subst (λ (n : ℕ). IsNoted found (change_of (decision_in (runs_of old) one) n)) (ap (λ (s : State). decision_of s) right)
-        (searched one (can one is-known)))
+  module _ (possible : List (List ℕ)) (can : (a : Assignment) → IsKnown old_allows new_allows (modules_of old) (modules_of new) names a → IsPossible possible a) where
+    -- where no answers are possible, no change is made
+    pub never-any : ((a : Assignment) → IsPossible possible a → ⊥) → (change : Change) → NeverChanges old_allows new_allows old new partners change
+    unfolding NeverChanges
+    never-any none change a b old_codes new_codes agree is = none (one a b old_codes new_codes agree) (can _ (is-known a b old_codes new_codes agree))
 
-  pub never : (change : Change) → (IsNoted found (Some change) → ⊥) → NeverChanges old_allows new_allows old new partners change
-  unfolding NeverChanges
-  never change missing a b old_codes new_codes agree is = missing (subst (IsNoted found) is (noted a b old_codes new_codes agree))
+    module _ (found : Found) (searched : IsSearched old new names possible found)
+        (rise_old : AsksRise 0 (modules_of old) (runs_of old)) (rise_new : AsksRise 0 (modules_of new) (runs_of new)) where
+      noted : (a b : Assignment) → IsAllowed old_allows (modules_of old) a → IsAllowed new_allows (modules_of new) b →
+          Agree old_allows new_allows (modules_of old) (modules_of new) partners a b →
+          IsNoted found (change_of (decision_in (runs_of old) a) (decision_in (runs_of new) b))
+      unfolding IsSearched
+      noted a b old_codes new_codes agree =
+          let c = one a b old_codes new_codes agree in
+          let left = same-final c a 0 (modules_of old) (runs_of old) rise_old (at-old a b old_codes new_codes agree) in
+          let right = same-final (by_name names c) b 0 (modules_of new) (runs_of new) rise_new (at-new a b old_codes new_codes agree) in
+          subst (λ (n : ℕ). IsNoted found (change_of n (decision_in (runs_of new) b))) (ap (λ (s : State). decision_of s) left)
+          (subst (λ (n : ℕ). IsNoted found (change_of (decision_in (runs_of old) c) n)) (ap (λ (s : State). decision_of s) right)
+          (searched c (can c (is-known a b old_codes new_codes agree))))
 
-  -- a change that was not found is never made
-  pub shown : (change : Change) (index : Option ℕ) → (IsNoted found (Some change) → IsSome index) → (w : Option Witness) →
-      IfSome w (IsWitness old_allows new_allows old new partners change) → (w ≡ None → index ≡ None) →
-      IsShown old_allows new_allows old new partners change w
-  shown change index is None h none = never change (λ noted. subst IsSome (none refl) (is noted))
-  shown change index is (Some w) h none = h
+      never : (change : Change) → (IsNoted found (Some change) → ⊥) → NeverChanges old_allows new_allows old new partners change
+      unfolding NeverChanges
+      never change missing a b old_codes new_codes agree is = missing (subst (IsNoted found) is (noted a b old_codes new_codes agree))
 
--- where no answers are possible, no change is made
-pub never-any : (old_allows new_allows : Allowance) (old new : List FlatItem) (partners : List (Option ℕ)) (names : List ℕ) (possible : List (List ℕ)) →
-    AreNames old_allows new_allows (modules_of old) (modules_of new) partners names →
-    ((a : Assignment) → IsKnown old_allows new_allows (modules_of old) (modules_of new) names a → IsPossible possible a) →
-    ((a : Assignment) → IsPossible possible a → ⊥) → AsksRise 0 (modules_of old) (runs_of old) → AsksRise 0 (modules_of new) (runs_of new) →
-    (change : Change) → NeverChanges old_allows new_allows old new partners change
-unfolding NeverChanges IsSearched
-never-any old_allows new_allows old new partners names possible named can none rise_old rise_new change a b old_codes new_codes agree is =
-    none _ (can _ (is-known old_allows new_allows old new partners names possible (record { admits = None; refuses = None; tells = None }) named can
-    (λ a can. absurd (none a can)) rise_old rise_new a b old_codes new_codes agree))
+      -- a change that was not found is never made
+      pub shown : (change : Change) (index : Option ℕ) → (IsNoted found (Some change) → IsSome index) → (w : Option Witness) →
+          IfSome w (IsWitness old_allows new_allows old new partners change) → (w ≡ None → index ≡ None) →
+          IsShown old_allows new_allows old new partners change w
+      shown change index is None h none = never change (λ noted. false≢true (subst IsSome (none refl) (is noted)))
+      shown change index is (Some w) h none = h
