@@ -2,7 +2,7 @@
 use Rattle.std.proofs.Common.{◌≡◌, ◌∙◌, ℕ, zero, suc, Option, Some, None, ap, refl, sym, subst}
 use Rattle.pam_dispatch.specs.declared.state.State.{State}
 use Rattle.pam_dispatch.specs.Runs.{Assignment, Runs, ends, asks, after_answer, asked_module, final_state, outcome_of}
-use Rattle.pam_compare.specs.Reached.{Comes, after_steps}
+use Rattle.pam_compare.specs.Situations.{Comes, after_steps}
 
 some-number : (i j : ℕ) → Some i ≡ Some j → i ≡ j
 some-number i j e = cc

@@ -1,7 +1,8 @@
 -- Lists of places and situations that grow.
 use Rattle.std.proofs.Common.{◌≡◌, ◌<◌, ◌+◌, ◌⊎◌, ◌∙◌, inl, inr, ℕ, zero, suc, Bool, true, false, cond, List, [], ◌∷◌, ◌++◌, Option, Some, None, get_or, length, ap, arith, refl, sym, subst}
 use Rattle.std.specs.List.{list_any}
-use Rattle.std.specs.Prelude.{slice_get}
+use Rattle.std.specs.Prelude.{not, slice_get}
+use Rattle.std.proofs.lemmas.Bool.{false≢true}
 use Rattle.std.proofs.lemmas.List.{length_push}
 use Rattle.std.proofs.lemmas.Option.{slice_get-get_or, slice_get_within}
 use Rattle.pam_dispatch.specs.declared.flat_item.FlatItem.{FlatItem}
@@ -15,9 +16,11 @@ use Rattle.pam_compare.specs.declared.node.Node.{Node}
 use Rattle.pam_compare.specs.declared.nodes.Found.{Found}
 use Rattle.pam_compare.specs.declared.nodes.Nodes.{Nodes}
 use Rattle.pam_compare.specs.declared.nodes.Places.{Places}
+use Rattle.pam_compare.specs.declared.nodes.Way.{Way}
+use Rattle.pam_compare.specs.declared.held.HeldAnswer.{HeldAnswer}
 use Rattle.pam_compare.specs.declared.situation.Situation.{Situation}
 use Rattle.pam_compare.specs.Held.{Holds, IsSame}
-use Rattle.pam_compare.specs.Nodes.{AreNodes, ArePlaces, IsAt, IsDone, IsMet, IsNoted, IsStored, IsVisited, Keeps, KeepsNodes}
+use Rattle.pam_compare.specs.Nodes.{AreNodes, ArePlaces, IsAt, IsDone, IsMet, IsNew, IsNoted, IsStored, IsVisited, Keeps, KeepsNodes}
 
 nothing : {X : Type 0} (x : X) → None ≡ Some x → ⊥
 nothing x e = cc
@@ -30,7 +33,7 @@ append-left [] ys k x at = absurd (nothing x at)
 append-left (y ∷ xs) ys zero x at = at
 append-left (y ∷ xs) ys (suc k) x at = append-left xs ys k x at
 
-at-end : {X : Type 0} (xs : List X) (y : X) → slice_get (xs ++ y ∷ []) (length xs) ≡ Some y
+pub at-end : {X : Type 0} (xs : List X) (y : X) → slice_get (xs ++ y ∷ []) (length xs) ≡ Some y
 at-end [] y = refl
 at-end (x ∷ xs) y = at-end xs y
 
@@ -134,10 +137,11 @@ nodes-both a b c f g = record {
   of_old = keeps-both _ _ _ f.of_old g.of_old;
   of_new = keeps-both _ _ _ f.of_new g.of_new;
   situations = keeps-both _ _ _ f.situations g.situations;
+  ways = keeps-both _ _ _ f.ways g.ways;
 }
 
 pub nodes-same : (a : Nodes) → KeepsNodes a a
-nodes-same a = record { of_old = keeps-same _; of_new = keeps-same _; situations = keeps-same _ }
+nodes-same a = record { of_old = keeps-same _; of_new = keeps-same _; situations = keeps-same _; ways = keeps-same _ }
 
 pub at-kept : (before after : Nodes) (s : Situation) (n : Node) → KeepsNodes before after → IsAt before s n → IsAt after s n
 at-kept before after s n keeps is = record {
@@ -184,17 +188,45 @@ module _ (test : Situation → Bool) (keys after : List Situation) (value : Situ
   pub insert-keeps : Keeps keys after
   insert-keeps = by-keeps (list_any test keys) is
 
-  by-only : (t : Bool) → after ≡ cond t keys (keys ++ value ∷ []) → (k : ℕ) (s : Situation) → slice_get after k ≡ Some s →
-      (slice_get keys k ≡ Some s) ⊎ (s ≡ value)
-  by-only true e k s at = inl (sym (ap (λ (l : List Situation). slice_get l k) e) ∙ at)
-  by-only false e k s at =
-      elim (append-cases keys value k s (sym (ap (λ (l : List Situation). slice_get l k) e) ∙ at)) [
-        | inl was ↦ inl was
-        | inr new ↦ inr (sym new.0)
-      ]
+  by-new : (t : Bool) → true ≡ not t → after ≡ cond t keys (keys ++ value ∷ []) → after ≡ keys ++ value ∷ []
+  by-new true out e = absurd (false≢true (sym out))
+  by-new false out e = e
 
-  pub insert-only : (k : ℕ) (s : Situation) → slice_get after k ≡ Some s → (slice_get keys k ≡ Some s) ⊎ (s ≡ value)
-  insert-only = by-only (list_any test keys) is
+  pub insert-new : true ≡ not (list_any test keys) → after ≡ keys ++ value ∷ []
+  insert-new out = by-new (list_any test keys) out is
+
+  by-old : (t : Bool) → false ≡ not t → after ≡ cond t keys (keys ++ value ∷ []) → after ≡ keys
+  by-old true out e = e
+  by-old false out e = absurd (false≢true out)
+
+  pub insert-old : false ≡ not (list_any test keys) → after ≡ keys
+  insert-old out = by-old (list_any test keys) out is
+
+pub pushed-cases : {P : Type 0} (keys after : List Situation) (value : Situation) → after ≡ keys ++ value ∷ [] → P → (k : ℕ) (s : Situation) →
+    slice_get after k ≡ Some s → (slice_get keys k ≡ Some s) ⊎ ((s ≡ value) × (k ≡ length keys) × P)
+pushed-cases keys after value e p k s at =
+    elim (append-cases keys value k s (sym (ap (λ (l : List Situation). slice_get l k) e) ∙ at)) [
+      | inl was ↦ inl was
+      | inr new ↦ inr (sym new.0, new.1, p)
+    ]
+
+pub new-added : (old new : List FlatItem) (before after : Nodes) (op np : Places) (situation s : Situation) (p q : Place) (k : ℕ) (left right : Runs)
+    (held : List HeldAnswer) (way : Way) → after.old_places ≡ op → after.new_places ≡ np → s ≡ situation → situation.held.items ≡ held →
+    slice_get op.places.items situation.old ≡ Some p → slice_get np.places.items situation.new ≡ Some q → rest_of old p ≡ left → rest_of new q ≡ right →
+    k ≡ length before.situations.keys → after.ways.items ≡ before.ways.items ++ way ∷ [] → IsNew old new before after left right held way k s
+new-added old new before after op np situation s p q k left right held way e f same h at_old at_new l r index ways = record {
+  node = record { old = p; new = q; held = s.held };
+  is_at = record {
+    old = ap (λ (x : Places). slice_get x.places.items s.old) e ∙ ap (λ (x : Situation). slice_get op.places.items x.old) same ∙ at_old;
+    new = ap (λ (x : Places). slice_get x.places.items s.new) f ∙ ap (λ (x : Situation). slice_get np.places.items x.new) same ∙ at_new;
+    held = refl;
+  };
+  left_is = l;
+  right_is = r;
+  held_is = ap (λ (x : Situation). x.held.items) same ∙ h;
+  index = index;
+  ways = ways;
+}
 
 pub nodes-added : (old new : List FlatItem) (before after : Nodes) (op np : Places) (situation : Situation) (p q : Place) →
     AreNodes old new before →

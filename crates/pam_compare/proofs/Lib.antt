@@ -6,6 +6,8 @@ pub mod Holding
 pub mod Meeting
 pub mod Names
 pub mod Possible
+pub mod Reaching
 pub mod Sameness
+pub mod Standing
 pub mod Trails
 pub mod Writing

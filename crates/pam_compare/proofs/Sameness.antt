@@ -13,7 +13,7 @@ use Rattle.pam_codes.specs.SetBits.{bits_of_codes}
 use Rattle.pam_dispatch.specs.Runs.{Assignment}
 use Rattle.pam_compare.specs.declared.held.HeldAnswer.{HeldAnswer}
 use Rattle.pam_compare.specs.declared.situation.Situation.{Situation}
-use Rattle.pam_compare.specs.Held.{Holds, IsSame}
+use Rattle.pam_compare.specs.Held.{Holds, IsSame, same_held, same_situation}
 
 bit-in : (codes : List ℕ) (c : ℕ) → c < 31 → bit_at (bits_of_codes codes) c ≡ cond (is_in c codes) 1 0
 unfolding bits_of_codes all_codes
@@ -31,13 +31,6 @@ in-same : (xs ys : List ℕ) (c : ℕ) → c < 31 → bits_of_codes xs ≡ bits_
 in-same xs ys c low e is =
     set-bit (is_in c xs) (is_in c ys) (bit_at (bits_of_codes xs) c) (bit_at (bits_of_codes ys) c) (bit-in xs c low) (bit-in ys c low)
     (ap (λ (n : ℕ). bit_at n c) e) is
-
--- the tests that are derived
-abbrev pub same_held : HeldAnswer → HeldAnswer → Bool
-same_held a b = eqb a.name b.name && eqb (bits_of_codes a.codes) (bits_of_codes b.codes)
-
-abbrev pub same_situation : Situation → Situation → Bool
-same_situation a b = eqb a.old b.old && (eqb a.new b.new && pointwise same_held a.held.items b.held.items)
 
 holds-same : (a : Assignment) → ((name : ℕ) → a name < 31) → (xs ys : List HeldAnswer) → pointwise same_held xs ys ≡ true → Holds a xs → Holds a ys
 unfolding Holds

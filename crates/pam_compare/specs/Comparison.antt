@@ -10,9 +10,11 @@ use Rattle.pam_compare.specs.declared.change.Change.TheVariants.{Admits, Refuses
 use Rattle.pam_compare.specs.declared.comparing.Changes.{Changes}
 use Rattle.pam_compare.specs.declared.comparing.Comparison.{Comparison}
 use Rattle.pam_compare.specs.declared.comparing.Comparison.TheVariants.{Known, NotKnown}
+use Rattle.pam_compare.specs.declared.comparing.TheConstants.{MAX_SITUATIONS}
 use Rattle.pam_compare.specs.declared.witness.Witness.{Witness}
 use Rattle.pam_compare.specs.Changes.{change_of}
 use Rattle.pam_compare.specs.Agreement.{Agree}
+use Rattle.pam_compare.specs.Situations.{HasMoreSituations}
 
 -- the decision of a run under an assignment
 abbrev pub decision_in : Runs → Assignment → ℕ
@@ -47,6 +49,7 @@ module _ (old_allows new_allows : Allowance) (old new : List FlatItem) (partners
     pub refuses : IsShown Refuses changes.refuses
     pub tells : IsShown Tells changes.tells
 
+  -- what is said of each change; and it is not said only where there are too many situations
   abbrev pub IsComparison : Comparison → Type 0
   IsComparison (Known changes) = AreChanges changes
-  IsComparison NotKnown = Unit {0}
+  IsComparison NotKnown = HasMoreSituations old_allows new_allows old new partners MAX_SITUATIONS

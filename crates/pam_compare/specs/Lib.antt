@@ -5,6 +5,7 @@ pub mod Held
 pub mod Matching
 pub mod Naming
 pub mod Nodes
-pub mod Reached
+pub mod Situations
 pub mod Trails
 pub mod Turn
+pub mod Ways

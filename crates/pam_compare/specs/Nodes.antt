@@ -1,6 +1,6 @@
 -- For private contracts and proofs alone: the nodes of a comparison, which are situations that two stacks can be in, one after the same
 -- answers as the other.
-use Rattle.std.specs.Prelude.{◌≡◌, ◌⊎◌, ◌<◌, ℕ, List, Option, None, Some, IsSome, length, slice_get}
+use Rattle.std.specs.Prelude.{◌≡◌, ◌⊎◌, ◌<◌, ◌++◌, ◌∷◌, [], ℕ, List, Option, None, Some, IsSome, length, slice_get}
 use Rattle.pam_dispatch.specs.declared.flat_item.FlatItem.{FlatItem}
 use Rattle.pam_dispatch.specs.declared.key.PlaceKey.{PlaceKey}
 use Rattle.pam_dispatch.specs.declared.place.Place.{Place}
@@ -9,9 +9,11 @@ use Rattle.pam_dispatch.specs.Keys.{key_of, rest_at}
 use Rattle.pam_dispatch.specs.Runs.{Assignment, Runs, asked_module}
 use Rattle.pam_compare.specs.declared.change.Change.{Change}
 use Rattle.pam_compare.specs.declared.change.Change.TheVariants.{Admits, Refuses, Tells}
+use Rattle.pam_compare.specs.declared.held.HeldAnswer.{HeldAnswer}
 use Rattle.pam_compare.specs.declared.node.Node.{Node}
 use Rattle.pam_compare.specs.declared.nodes.Found.{Found}
 use Rattle.pam_compare.specs.declared.nodes.Nodes.{Nodes}
+use Rattle.pam_compare.specs.declared.nodes.Way.{Way}
 use Rattle.pam_compare.specs.declared.situation.Situation.{Situation}
 use Rattle.pam_compare.specs.declared.turn.Turn.{Turn}
 use Rattle.pam_compare.specs.Changes.{change_of}
@@ -45,12 +47,29 @@ pub record KeepsNodes (before after : Nodes) : Type 0 where
   pub of_old : Keeps before.old_places.places.items after.old_places.places.items
   pub of_new : Keeps before.new_places.places.items after.new_places.places.items
   pub situations : Keeps before.situations.keys after.situations.keys
+  pub ways : Keeps before.ways.items after.ways.items
 
 -- a situation is that of a node, whose places and held answers it names
 pub record IsAt (nodes : Nodes) (s : Situation) (n : Node) : Type 0 where
   pub old : slice_get nodes.old_places.places.items s.old ≡ Some n.old
   pub new : slice_get nodes.new_places.places.items s.new ≡ Some n.new
   pub held : s.held.items ≡ n.held.items
+
+-- node k is a new one, to which the last way leads
+pub record IsNew (old new : List FlatItem) (before after : Nodes) (left right : Runs) (held : List HeldAnswer) (way : Way) (k : ℕ) (s : Situation) : Type 0 where
+  pub node : Node
+  pub is_at : IsAt after s node
+  pub left_is : rest_of old node.old ≡ left
+  pub right_is : rest_of new node.new ≡ right
+  pub held_is : node.held.items ≡ held
+  pub index : k ≡ length before.situations.keys
+  pub ways : after.ways.items ≡ before.ways.items ++ way ∷ []
+
+-- each node was there, or is the new one
+abbrev pub AreAdded : List FlatItem → List FlatItem → Nodes → Nodes → Runs → Runs → List HeldAnswer → Way → Type 0
+AreAdded old new before after left right held way =
+    (k : ℕ) (s : Situation) → slice_get after.situations.keys k ≡ Some s →
+    (slice_get before.situations.keys k ≡ Some s) ⊎ IsNew old new before after left right held way k s
 
 -- one of the situations is where the runs are that are left, under an assignment
 pub record IsMet (old new : List FlatItem) (nodes : Nodes) (a : Assignment) (left right : Runs) : Type 0 where

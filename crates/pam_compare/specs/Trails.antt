@@ -1,10 +1,13 @@
 -- For private contracts and proofs alone: the steps on the way to a node of a comparison, the last one first.
-use Rattle.std.specs.Prelude.{◌≡◌, ◌⊎◌, ◌==◌, ◌<◌, ◌≤◌, ℕ, IsTrue, List, [], ◌∷◌, Option, Some, if◌then◌else◌, slice_get}
+use Rattle.std.specs.Prelude.{◌≡◌, ◌≢◌, ◌⊎◌, ◌==◌, ◌<◌, ◌≤◌, ℕ, IsTrue, List, [], ◌∷◌, Option, Some, if◌then◌else◌, slice_get, slice_index_or}
+use Rattle.pam_codes.specs.Code.{all_codes}
 use Rattle.pam_codes.specs.Set.{is_in}
-use Rattle.pam_dispatch.specs.Runs.{Assignment}
+use Rattle.pam_dispatch.specs.Runs.{Assignment, Runs, asked_module}
 use Rattle.pam_compare.specs.declared.held.HeldAnswer.{HeldAnswer}
 use Rattle.pam_compare.specs.declared.nodes.Way.{Way}
+use Rattle.pam_compare.specs.declared.turn.Turn.{Turn}
 use Rattle.pam_compare.specs.Naming.{name_of}
+use Rattle.pam_compare.specs.Turn.{AreAlike, IsTurn, turn_name}
 
 -- the steps on the way to node k, which has node 0 as its start
 unfoldable pub IsTrail : List Way → ℕ → List Way → Type 0
@@ -42,3 +45,19 @@ unfoldable pub IsCovered : List ℕ → ℕ → ℕ → List HeldAnswer → Opti
 IsCovered names count modules held old new [] = Unit {0}
 IsCovered names count modules held old new (w ∷ trail) =
     (IsKept held w ⊎ IsPast names count modules w.name old new) × IsCovered names count modules held old new trail
+
+-- what is held after an answer: what was held of other modules, and this answer, unless the module is past
+pub record IsHeldAfter (names : List ℕ) (count modules : ℕ) (held after : List HeldAnswer) (answer : HeldAnswer) (old new : Option ℕ) : Type 0 where
+  pub keeps : (i : ℕ) (h : HeldAnswer) → slice_get held i ≡ Some h → h.name ≢ answer.name →
+      ((k : ℕ) × (slice_get after k ≡ Some h)) ⊎ IsPast names count modules h.name old new
+  pub adds : ((k : ℕ) × (slice_get after k ≡ Some answer)) ⊎ IsPast names count modules answer.name old new
+
+-- a step at a turn, with an answer of this class
+pub record IsStep (names : List ℕ) (possible : List (List ℕ)) (left right : Runs) (held : List HeldAnswer) (turn : Turn) (w : Way) : Type 0 where
+  pub turn_is : IsTurn names (asked_module left) (asked_module right) turn
+  pub name : w.name ≡ turn_name names turn
+  pub member : IsTrue (is_in w.code w.class)
+  pub low : (d : ℕ) → IsTrue (is_in d w.class) → d < 31
+  pub within : (d : ℕ) → IsTrue (is_in d w.class) → IsTrue (is_in d (slice_index_or possible w.name all_codes))
+  pub narrows : (i : ℕ) (h : HeldAnswer) → slice_get held i ≡ Some h → h.name ≡ w.name → (d : ℕ) → IsTrue (is_in d w.class) → IsTrue (is_in d h.codes)
+  pub alike : (d : ℕ) → IsTrue (is_in d w.class) → AreAlike turn left right w.code d

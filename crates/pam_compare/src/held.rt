@@ -1,12 +1,13 @@
 //! Answers that one stack has had from modules which the other stack has still ahead.
 
-ghost use Rattle.std.specs.Prelude.{◌≡◌, ◌+◌, ◌<◌, ℕ, false, IfOk, IsTrue, OnOk, Some, length, slice_get};
+ghost use Rattle.std.specs.Prelude.{◌≡◌, ◌⊎◌, ◌+◌, ◌<◌, ℕ, false, true, IfOk, IsTrue, OnOk, Some, length, slice_get};
 ghost use Rattle.pam_codes.specs.Set.{is_in};
 ghost use Rattle.pam_dispatch.specs.Runs.{Assignment};
 ghost use Rattle.pam_compare.specs.declared.held.HeldAnswer.{HeldAnswer};
 ghost use Rattle.pam_compare.specs.Held.{Holds};
 ghost use Rattle.pam_compare.specs.Naming.{AreLast};
-ghost use Rattle.pam_compare.specs.Trails.{IsPast};
+ghost use Rattle.pam_compare.specs.Nodes.{Keeps};
+ghost use Rattle.pam_compare.specs.Trails.{IsHeldAfter, IsPast};
 
 use crate::naming::{Naming, common, value_at};
 use pam_codes::CodeSet;
@@ -81,13 +82,32 @@ fn is_ahead(naming: &Naming, name: usize, old: Option<usize>, new: Option<usize>
     may_ask(new, value_at(&naming.last, name))
 }
 
+/// Whether an answer of the module with this name is still held after that of `answered`.
+fn is_wanted(
+    naming: &Naming,
+    name: usize,
+    answered: usize,
+    old: Option<usize>,
+    new: Option<usize>,
+) -> bool
+    ensures { (modules : ℕ) → length naming.now.names.items ≡ modules + 1 → AreLast naming.now.names.items naming.now.last.items
+        → result ≡ false → (name ≡ answered) ⊎ IsPast naming.now.names.items naming.now.old_modules modules name old new }
+{
+    if name == answered {
+        return false;
+    }
+    is_ahead(naming, name, old, new)
+}
+
 /// Appends an answer, if it is wanted.
 fn push_if(
     is_wanted: bool,
     answer: HeldAnswer,
     held: &mut Vec<HeldAnswer>,
 ) -> Result<(), Memory>
-    ensures { (a : Assignment) → Holds a held.old.items → IsTrue (is_in (a answer.name) answer.codes) → OnOk result (Holds a held.new.items) }
+    ensures holds { (a : Assignment) → Holds a held.old.items → IsTrue (is_in (a answer.name) answer.codes) → OnOk result (Holds a held.new.items) }
+    ensures keeps { OnOk result (Keeps held.old.items held.new.items) }
+    ensures pushed { is_wanted ≡ true → OnOk result ((k : ℕ) × (slice_get held.new.items k ≡ Some answer)) }
 {
     if !is_wanted {
         return Ok(());
@@ -105,13 +125,18 @@ pub(crate) fn held_after(
     old: Option<usize>,
     new: Option<usize>,
 ) -> Result<Vec<HeldAnswer>, Memory>
-    ensures { IfOk result (λ after. (a : Assignment) → Holds a held.now → IsTrue (is_in (a answer.name) answer.codes) → Holds a after.items) }
+    ensures holds { IfOk result (λ after. (a : Assignment) → Holds a held.now → IsTrue (is_in (a answer.name) answer.codes) → Holds a after.items) }
+    ensures told { (modules : ℕ) → length naming.now.names.items ≡ modules + 1 → AreLast naming.now.names.items naming.now.last.items
+        → IfOk result (λ after. IsHeldAfter naming.now.names.items naming.now.old_modules modules held.now after.items answer old new) }
 {
     let mut after = Vec::new(alloc);
     for index in 0..held.len() {
         let earlier = held[index];
-        let is_wanted = earlier.name != answer.name && is_ahead(naming, earlier.name, old, new);
-        push_if(is_wanted, earlier, &mut after)?;
+        push_if(
+            is_wanted(naming, earlier.name, answer.name, old, new),
+            earlier,
+            &mut after,
+        )?;
     }
     push_if(is_ahead(naming, answer.name, old, new), answer, &mut after)?;
     Ok(after)

@@ -7,8 +7,11 @@ ghost use Rattle.pam_dispatch.specs.Flat.{IsPlaceOf, rest_of};
 ghost use Rattle.pam_dispatch.specs.Runs.{Assignment};
 ghost use Rattle.pam_compare.specs.declared.situation.Situation.{Situation};
 ghost use Rattle.pam_compare.specs.declared.change.Change.{Change};
-ghost use Rattle.pam_compare.specs.Held.{Holds, IsSame};
-ghost use Rattle.pam_compare.specs.Nodes.{AreNodes, ArePlaces, IsAt, IsMet, IsNoted, Keeps, KeepsNodes};
+ghost use Rattle.pam_compare.specs.Held.{Holds, IsSame, same_situation};
+ghost use Rattle.pam_compare.specs.Ways.{found_at};
+ghost use Rattle.pam_dispatch.specs.Keys.{AreDifferent};
+ghost use Rattle.std.specs.List.{IsDistinct};
+ghost use Rattle.pam_compare.specs.Nodes.{AreAdded, AreNodes, ArePlaces, IsAt, IsMet, IsNoted, Keeps, KeepsNodes};
 
 use crate::change::Change;
 use crate::held::HeldAnswer;
@@ -121,12 +124,29 @@ impl Nodes {
         }
     }
 
+    /// The number of situations, which are all different.
+    pub(crate) fn len(&self) -> usize
+        ensures count { result ≡ length self.now.situations.keys }
+        ensures different { IsDistinct same_situation self.now.situations.keys }
+        ensures old_places { AreDifferent self.now.old_places.keys }
+        ensures new_places { AreDifferent self.now.new_places.keys }
+    {
+        // A table says with its length that its places differ.
+        let _old = self.old_places.keys.len();
+        let _new = self.new_places.keys.len();
+        self.situations.len()
+    }
+
     /// Adds a situation, unless it is there. Returns its index.
     fn add_situation(&mut self, situation: Situation, way: Way) -> Result<usize, Memory>
         ensures places { OnOk result ((self.new.old_places ≡ self.old.old_places) × (self.new.new_places ≡ self.old.new_places)) }
         ensures keeps { OnOk result (Keeps self.old.situations.keys self.new.situations.keys) }
-        ensures only { OnOk result ((k : ℕ) (s : Situation) → slice_get self.new.situations.keys k ≡ Some s
-            → (slice_get self.old.situations.keys k ≡ Some s) ⊎ (s ≡ situation)) }
+        ensures ways { OnOk result (Keeps self.old.ways.items self.new.ways.items) }
+        ensures count { length self.old.ways.items ≡ length self.old.situations.keys
+            → OnOk result (length self.new.ways.items ≡ length self.new.situations.keys) }
+        ensures added { OnOk result ((k : ℕ) (s : Situation) → slice_get self.new.situations.keys k ≡ Some s
+            → (slice_get self.old.situations.keys k ≡ Some s)
+            ⊎ (s ≡ situation) × (k ≡ length self.old.situations.keys) × (self.new.ways.items ≡ self.old.ways.items ++ way ∷ [])) }
         ensures found { IfOk result (λ k. (s : Situation) × (slice_get self.new.situations.keys k ≡ Some s) × IsSame s situation) }
     {
         let (index, is_new) = self.situations.insert_full(situation)?;
@@ -147,6 +167,10 @@ impl Nodes {
         ensures keeps { OnOk result (KeepsNodes self.old self.new) }
         ensures nodes { (old new : List FlatItem) → AreNodes old new self.old → IsPlaceOf old old_place.now → IsPlaceOf new new_place.now
             → OnOk result (AreNodes old new self.new) }
+        ensures count { length self.old.ways.items ≡ length self.old.situations.keys
+            → OnOk result (length self.new.ways.items ≡ length self.new.situations.keys) }
+        ensures added { (old new : List FlatItem) → AreNodes old new self.old
+            → OnOk result (AreAdded old new self.old self.new (rest_of old old_place.now) (rest_of new new_place.now) held.items way) }
         ensures met { (old new : List FlatItem) (a : Assignment) → AreNodes old new self.old → ((name : ℕ) → a name < 31) → Holds a held.items
             → OnOk result (IsMet old new self.new a (rest_of old old_place.now) (rest_of new new_place.now)) }
     {
@@ -193,6 +217,7 @@ impl Found {
     pub(crate) fn note(&mut self, change: Option<Change>, index: usize)
         ensures noted { IsNoted self.new change }
         ensures keeps { (c : Option Change) → IsNoted self.old c → IsNoted self.new c }
+        ensures ends { (c : Change) (k : ℕ) → found_at self.new c ≡ Some k → (found_at self.old c ≡ Some k) ⊎ ((change ≡ Some c) × (k ≡ index)) }
     {
         match change {
             None => {}
