@@ -56,7 +56,7 @@ module _ (names : List ℕ) (a : Assignment) where
       (one_ends a left i (a i) is.0 refl, one_ends (by_name names a) right j (a i) is.1 same, omega arith)
 
 -- a situation is that of one node
-same-node : (nodes : Nodes) (s : Situation) (n m : Node) → IsAt nodes s n → IsAt nodes s m →
+pub same-node : (nodes : Nodes) (s : Situation) (n m : Node) → IsAt nodes s n → IsAt nodes s m →
     (n.old ≡ m.old) × (n.new ≡ m.new) × (n.held.items ≡ m.held.items)
 same-node nodes s n m one other =
     (same-some n.old m.old (sym one.old ∙ other.old), same-some n.new m.new (sym one.new ∙ other.new), sym one.held ∙ other.held)

@@ -6,21 +6,28 @@ use Rattle.std.proofs.lemmas.Bool.{cases_eq}
 use Rattle.pam_codes.specs.Code.{all_codes}
 use Rattle.pam_codes.specs.Set.{is_in}
 use Rattle.pam_dispatch.specs.declared.flat_item.FlatItem.{FlatItem}
-use Rattle.pam_dispatch.specs.Flat.{modules_of, runs_of}
+use Rattle.pam_dispatch.specs.declared.place.Place.{Place}
+use Rattle.pam_dispatch.specs.Flat.{modules_of, rest_of, runs_of}
 use Rattle.pam_dispatch.specs.Runs.{Assignment, AsksRise, Runs, after_answer, asked_module}
 use Rattle.pam_dispatch.proofs.Asking.{AsksRise-step}
 use Rattle.pam_compare.specs.declared.held.HeldAnswer.{HeldAnswer}
+use Rattle.pam_compare.specs.declared.node.Node.{Node}
+use Rattle.pam_compare.specs.declared.nodes.Found.{Found}
+use Rattle.pam_compare.specs.declared.nodes.Nodes.{Nodes}
 use Rattle.pam_compare.specs.declared.nodes.Way.{Way}
+use Rattle.pam_compare.specs.declared.situation.Situation.{Situation}
 use Rattle.pam_compare.specs.declared.turn.Turn.{Turn}
 use Rattle.pam_compare.specs.declared.turn.Turn.TheVariants.{Old, New, Both}
 use Rattle.pam_compare.specs.Held.{Holds}
 use Rattle.pam_compare.specs.Naming.{IsPossible, by_name, name_of}
-use Rattle.pam_compare.specs.Nodes.{Keeps}
-use Rattle.pam_compare.specs.Situations.{Comes}
+use Rattle.pam_compare.specs.Nodes.{IsAt, Keeps, KeepsNodes}
+use Rattle.pam_compare.specs.Situations.{Comes, after_steps}
 use Rattle.pam_compare.specs.Trails.{Follows, IsCovered, IsHeldAfter, IsPast, IsStep, IsTrail, answers_on}
 use Rattle.pam_compare.specs.Turn.{AreAlike, IsTurn, new_after, old_after, turn_name}
-use Rattle.pam_compare.specs.Ways.{IsFit, IsWayTo}
+use Rattle.pam_compare.specs.Ways.{AreEnds, IsFit, IsReachedAt, IsWayTo}
 use Rattle.pam_compare.proofs.Coming.{comes-on}
+use Rattle.pam_compare.proofs.Growing.{at-kept, kept}
+use Rattle.pam_compare.proofs.Meeting.{same-node}
 use Rattle.pam_compare.proofs.Trails.{covered-suits, follows-longer, longer-covered, trail-kept, with-other, with-same}
 
 -- THE ANSWERS OF A TRAIL ARE POSSIBLE
@@ -28,7 +35,7 @@ use Rattle.pam_compare.proofs.Trails.{covered-suits, follows-longer, longer-cove
 pub possible-on : (possible : List (List ℕ)) (base : Assignment) (trail : List Way) → IsPossible possible base → AllByRecursion (IsFit possible) trail →
     IsPossible possible (answers_on base trail)
 unfolding answers_on IsPossible
-possible-on possible base [] can fits = can
+possible-on possible base [] can fits name = can name
 possible-on possible base (w ∷ trail) can fits name =
     let Can : ℕ → Type 0 = λ code. (code < 31) × (is_in code (slice_index_or possible name all_codes) ≡ true) in
     elim (cases_eq name w.name) [
@@ -205,3 +212,54 @@ module _ (old new : List FlatItem) (names : List ℕ) (possible : List (List ℕ
         holds = λ a f. holds_after a (way.holds a f.1)
             (subst (λ (n : ℕ). is_in (a n) answer.codes ≡ true) answer_name (subst (λ (s : List ℕ). is_in (a w.name) s ≡ true) answer_codes f.0));
       }
+
+-- NODES
+
+-- the way to a node that has a situation
+pub way-at : (old new : List FlatItem) (names : List ℕ) (possible : List (List ℕ)) (nodes : Nodes) (k : ℕ) (s : Situation) (n : Node) →
+    IsReachedAt old new names possible nodes k s → IsAt nodes s n →
+    IsWayTo old new names possible nodes.ways.items k (rest_of old n.old) (rest_of new n.new) n.held.items
+way-at old new names possible nodes k s n r at =
+    let same = same-node nodes s r.node n r.is_at at in
+    subst (λ (l : List HeldAnswer). IsWayTo old new names possible nodes.ways.items k (rest_of old n.old) (rest_of new n.new) l) same.2
+    (subst (λ (p : Place). IsWayTo old new names possible nodes.ways.items k (rest_of old n.old) (rest_of new p) r.node.held.items) same.1
+    (subst (λ (p : Place). IsWayTo old new names possible nodes.ways.items k (rest_of old p) (rest_of new r.node.new) r.node.held.items) same.0 r.way))
+
+pub reached-kept : (old new : List FlatItem) (names : List ℕ) (possible : List (List ℕ)) (before after : Nodes) (k : ℕ) (s : Situation) →
+    KeepsNodes before after → IsReachedAt old new names possible before k s → IsReachedAt old new names possible after k s
+reached-kept old new names possible before after k s keeps r = record {
+  node = r.node;
+  is_at = at-kept before after s r.node keeps r.is_at;
+  way = way-kept old new names possible _ _ k _ _ _ keeps.ways r.way;
+}
+
+pub ends-kept : (old new : List FlatItem) (before after : Nodes) (found : Found) → KeepsNodes before after → AreEnds old new before found →
+    AreEnds old new after found
+unfolding AreEnds
+ends-kept old new before after found keeps ends change k is =
+    let e = ends change k is in record {
+      situation = e.situation;
+      node = e.node;
+      is_there = kept _ _ k e.situation keeps.situations e.is_there;
+      is_at = at-kept before after e.situation e.node keeps e.is_at;
+      change_is = e.change_is;
+    }
+
+-- the way on which both stacks begin
+pub way-begun : (old new : List FlatItem) (names : List ℕ) (possible : List (List ℕ)) (ways : List Way) → AsksRise 0 (modules_of old) (runs_of old) →
+    AsksRise 0 (modules_of new) (runs_of new) → IsWayTo old new names possible ways 0 (runs_of old) (runs_of new) []
+unfolding IsTrail Follows IsCovered Holds after_steps
+way-begun old new names possible ways rise_old rise_new = record {
+  trail = [];
+  is_trail = refl;
+  old_low = 0;
+  old_rise = rise_old;
+  new_low = 0;
+  new_rise = rise_new;
+  fits = tt;
+  follows = λ base. tt;
+  covered = tt;
+  old_comes = λ a f. (0, refl);
+  new_comes = λ a f. (0, refl);
+  holds = λ a f. tt;
+}

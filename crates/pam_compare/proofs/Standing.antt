@@ -3,6 +3,7 @@ use Rattle.std.proofs.Common.{◌≡◌, ◌≢◌, ◌<◌, ◌∙◌, ◌&&◌
 use Rattle.std.specs.List.{AllByRecursion, IsDistinct}
 use Rattle.std.specs.Prelude.{slice_get}
 use Rattle.std.proofs.lemmas.Bool.{and_from, false≢true}
+use Rattle.std.proofs.lemmas.Map.Keys.{IsDistinct-head, IsDistinct-tail}
 use lib.Pointwise.{pointwise}
 use Rattle.pam_codes.specs.SetBits.{bits_of_codes}
 use Rattle.pam_dispatch.specs.declared.key.PlaceKey.{PlaceKey}
@@ -76,4 +77,7 @@ module _ (olds news : List PlaceKey) (d : PlaceKey) where
     pub are-apart : (situations : List Situation) → AllByRecursion IsInside situations → IsDistinct same_situation situations → AreApart (map stand situations)
     unfolding AreApart
     are-apart [] inside distinct = tt
-    are-apart (s ∷ rest) inside distinct = (each-apart s rest inside.0 inside.1 distinct.0, are-apart rest inside.1 distinct.1)
+    are-apart (s ∷ rest) inside distinct = (
+      each-apart s rest inside.0 inside.1 (IsDistinct-head same_situation s rest distinct),
+      are-apart rest inside.1 (IsDistinct-tail same_situation s rest distinct),
+    )

@@ -1,6 +1,6 @@
 //! The comparison.
 
-ghost use Rattle.std.specs.Prelude.{◌≡◌, ◌<◌, ℕ, IfNone, IfOk, IfSome, IsTrue, List, None, OnOk, Option, Some, length, slice_get};
+ghost use Rattle.std.specs.Prelude.{◌≡◌, ◌<◌, ◌≤◌, ℕ, IfNone, IfOk, IfSome, IsTrue, List, None, OnOk, Option, Some, length, slice_get};
 ghost use Rattle.pam_dispatch.specs.Flat.{IsPlaceOf, modules_of, rest_of, runs_of};
 ghost use Rattle.pam_dispatch.specs.Runs.{Assignment, asked_module};
 ghost use Rattle.pam_compare.specs.declared.change.Change.{Change};
@@ -10,6 +10,7 @@ ghost use Rattle.pam_compare.specs.Comparison.{AreChanges, IsComparison, decisio
 ghost use Rattle.pam_compare.specs.Naming.{AreNames, IsKnown, IsPossible};
 ghost use Rattle.pam_compare.specs.Nodes.{AreNodes, IsBegun, IsNoted, IsSearched, IsVisited, KeepsNodes};
 ghost use Rattle.pam_compare.specs.Turn.{IsTurn};
+ghost use Rattle.pam_compare.specs.Ways.{AreEnds, AreReached, IsNaming};
 
 use crate::change::Change;
 use crate::expanding::{Fork, expand};
@@ -79,8 +80,13 @@ fn visit(
 ) -> Result<(), Memory>
     requires within { index < length nodes.old.situations.keys }
     requires nodes { AreNodes pair.now.old.now pair.now.new.now nodes.old }
+    requires naming { IsNaming pair.now.old.now pair.now.new.now pair.now.naming.now }
+    requires reached { AreReached pair.now.old.now pair.now.new.now pair.now.naming.now.names.items pair.now.naming.now.possible.items nodes.old }
+    requires ends { AreEnds pair.now.old.now pair.now.new.now nodes.old found.old }
     ensures keeps { OnOk result (KeepsNodes nodes.old nodes.new) }
     ensures nodes { OnOk result (AreNodes pair.now.old.now pair.now.new.now nodes.new) }
+    ensures reached { OnOk result (AreReached pair.now.old.now pair.now.new.now pair.now.naming.now.names.items pair.now.naming.now.possible.items nodes.new) }
+    ensures ends { OnOk result (AreEnds pair.now.old.now pair.now.new.now nodes.new found.new) }
     ensures found { (c : Option Change) → IsNoted found.old c → IsNoted found.new c }
     ensures visited { (s : Situation) → slice_get nodes.old.situations.keys index ≡ Some s
         → OnOk result (IsVisited pair.now.old.now pair.now.new.now pair.now.naming.now.names.items pair.now.naming.now.possible.items nodes.new found.new s) }
@@ -109,6 +115,7 @@ struct Searched {
 /// The node at which both stacks begin.
 fn begin(alloc: Global, pair: &Pair<'_>) -> Result<Nodes, Memory>
     ensures nodes { IfOk result (λ nodes. AreNodes pair.now.old.now pair.now.new.now nodes) }
+    ensures reached { IfOk result (λ nodes. AreReached pair.now.old.now pair.now.new.now pair.now.naming.now.names.items pair.now.naming.now.possible.items nodes) }
     ensures begun { IfOk result (λ nodes. IsBegun pair.now.old.now pair.now.new.now nodes) }
 {
     let mut nodes = Nodes::new(alloc);
@@ -124,26 +131,27 @@ fn begin(alloc: Global, pair: &Pair<'_>) -> Result<Nodes, Memory>
     Ok(nodes)
 }
 
-/// Looks at each situation in turn, in breadth; `None` if there are more than `limit`.
-fn search(alloc: Global, pair: &Pair<'_>, limit: usize) -> Result<Option<Searched>, Memory>
-    ensures { IfOk result (λ some. IfSome some (λ s.
-        IsSearched pair.now.old.now pair.now.new.now pair.now.naming.now.names.items pair.now.naming.now.possible.items s.found)) }
+/// Looks at each situation in turn, in breadth, until there are more than `limit`.
+fn search(alloc: Global, pair: &Pair<'_>, limit: usize) -> Result<Searched, Memory>
+    requires naming { IsNaming pair.now.old.now pair.now.new.now pair.now.naming.now }
+    ensures nodes { IfOk result (λ s. AreNodes pair.now.old.now pair.now.new.now s.nodes) }
+    ensures reached { IfOk result (λ s. AreReached pair.now.old.now pair.now.new.now pair.now.naming.now.names.items pair.now.naming.now.possible.items s.nodes) }
+    ensures ends { IfOk result (λ s. AreEnds pair.now.old.now pair.now.new.now s.nodes s.found) }
+    ensures all { IfOk result (λ s. length s.nodes.situations.keys ≤ limit
+        → IsSearched pair.now.old.now pair.now.new.now pair.now.naming.now.names.items pair.now.naming.now.possible.items s.found) }
 {
     let mut nodes = begin(alloc, pair)?;
     let mut found = Found::new();
     for index in 0..limit {
         if index >= nodes.situations.len() {
-            return Ok(Some(Searched { nodes, found }));
+            return Ok(Searched { nodes, found });
         }
         if nodes.situations.len() > limit {
-            return Ok(None);
+            return Ok(Searched { nodes, found });
         }
         visit(alloc, pair, &mut nodes, &mut found, index)?;
     }
-    if nodes.situations.len() > limit {
-        return Ok(None);
-    }
-    Ok(Some(Searched { nodes, found }))
+    Ok(Searched { nodes, found })
 }
 
 /// No change.
@@ -224,9 +232,10 @@ pub fn compare<K: Knowledge, L: Knowledge>(
         new,
         naming: &naming,
     };
-    let Some(search) = search(alloc, &pair, MAX_SITUATIONS)? else {
+    let search = search(alloc, &pair, MAX_SITUATIONS)?;
+    if search.nodes.len() > MAX_SITUATIONS {
         return Ok(Comparison::NotKnown);
-    };
+    }
     let evidence = Evidence {
         pair,
         old_known,

@@ -20,3 +20,9 @@ returns-clause-begun c a low =
     let met = c.in_ok-add.ensures.met old new a (c.new-nodes.ensures old new) low (holds-equal a [] _ (sym c.new.ensures.items) tt) in
     subst (λ (r : Runs). IsMet old new c.add.new.self a r (runs_of new)) c.first-old.ensures.whole
     (subst (λ (r : Runs). IsMet old new c.add.new.self a (rest_of old c.first-old.result) r) c.first-new.ensures.whole met)
+
+pub returns-clause-reached : goal.returns-clause-reached
+returns-clause-reached c =
+    let old = c.args.pair.now.old.now in
+    let new = c.args.pair.now.new.now in
+    let x = c.new-nodes.ensures in ?

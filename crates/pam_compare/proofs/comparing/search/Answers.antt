@@ -2,12 +2,23 @@ use Rattle.std.proofs.Common.{◌≡◌, ◌<◌, ℕ, Some, arith, inl, inr, le
 use Rattle.std.specs.Prelude.{slice_get}
 use Rattle.std.proofs.lemmas.Bool.{cases_lt}
 use Rattle.std.proofs.lemmas.Option.{slice_get_within}
+use Rattle.pam_compare.specs.Ways.{AreEnds}
 use Rattle.pam_compare.proofs.Growing.{kept-back, met-kept, visited-kept}
 use Rattle.pam_compare.proofs.Meeting.{all-searched}
 use Rattle.pam_compare.proofs.comparing.search.Goals as goal
 
-pub returns-then-index-len : goal.returns-then-index-len
-returns-then-index-len c =
+pub loop-index-init : goal.loop-index-init
+unfolding AreEnds
+loop-index-init c = record {
+  nodes = c.in_ok-nodes.ensures.nodes;
+  reached = c.in_ok-nodes.ensures.reached;
+  ends = λ change k is. ?;
+  begun = c.in_ok-nodes.ensures.begun;
+  visited = λ k s below. absurd (omega (arith, below));
+}
+
+pub returns-then-index-len-clause-all : goal.returns-then-index-len-clause-all
+returns-then-index-len-clause-all c few =
     let inv = c.loop-index.invariant in
     all-searched _ _ _ _ c.loop-index.nodes c.loop-index.found
     (λ k s at. let inside = slice_get_within _ k s at in inv.visited k s (omega (arith, inside, c.len.ensures.len, c.if-index-len.true)) at) inv.begun
@@ -21,6 +32,8 @@ loop-index-preserved c =
     let before = c.loop-index.nodes.situations.keys in
     record {
       nodes = step.nodes;
+      reached = step.reached;
+      ends = step.ends;
       begun = λ a low. met-kept old new _ _ a _ _ step.keeps (inv.begun a low);
       visited = λ k s below at.
           let inside : k < length before = omega (arith, c.len.ensures.len, c.if-index-len.false, below) in
@@ -31,9 +44,11 @@ loop-index-preserved c =
           ];
     }
 
-pub returns : goal.returns
-returns c =
+pub returns-then-len-limit-clause-all : goal.returns-then-len-limit-clause-all
+returns-then-len-limit-clause-all c few = absurd (omega (arith, few, c.len-in-loop-index.ensures.len, c.if-len-limit.true))
+
+pub returns-clause-all : goal.returns-clause-all
+returns-clause-all c few =
     let inv = c.loop-index.invariant in
     all-searched _ _ _ _ c.loop-index.nodes c.loop-index.found
-    (λ k s at. let inside = slice_get_within _ k s at in
-        inv.visited k s (omega (arith, inside, c.len-2.ensures.len, c.if-len-limit-2.false, c.loop-index-test.false)) at) inv.begun
+    (λ k s at. let inside = slice_get_within _ k s at in inv.visited k s (omega (arith, inside, few, c.loop-index-test.false)) at) inv.begun

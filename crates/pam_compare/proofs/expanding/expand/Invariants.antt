@@ -6,6 +6,7 @@ use Rattle.pam_compare.specs.Held.{Holds}
 use Rattle.pam_compare.specs.Naming.{IsPossible}
 use Rattle.pam_compare.specs.Nodes.{AreNodes, IsMet, KeepsNodes}
 use Rattle.pam_compare.specs.Turn.{new_after, old_after, turn_name}
+use Rattle.pam_compare.specs.Ways.{AreReached}
 use Rattle.pam_compare.proofs.expanding.expand.Given as goal
 
 abbrev pub invariant-loop-code : goal.invariant-loop-code
@@ -17,6 +18,8 @@ invariant-loop-code l =
     record {
       keeps : KeepsNodes l.fn.nodes l.nodes;
       nodes : AreNodes old new l.nodes;
+      reached : AreReached old new naming.names.items naming.possible.items l.nodes;
+      within : (d : ℕ) → is_in d l.left ≡ true → is_in d l.initial.left ≡ true;
       met : (a : Assignment) → IsPossible naming.possible.items a → Holds a node.held.items →
           is_in (a (turn_name naming.names.items l.fork.turn)) l.left ≡ false →
           IsMet old new l.nodes a (old_after l.fork.turn (rest_of old node.old) (a (turn_name naming.names.items l.fork.turn)))

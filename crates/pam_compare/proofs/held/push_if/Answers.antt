@@ -15,6 +15,6 @@ pub returns-clause-keeps : goal.returns-clause-keeps
 returns-clause-keeps c = keeps-push c.args.held.now.items c.args.answer _ c.in_ok-push.ensures.items
 
 pub returns-clause-pushed : goal.returns-clause-pushed
-returns-clause-pushed c yes =
+returns-clause-pushed c wanted =
     let held = c.args.held.now.items in
     (length held, ap (λ (l : List HeldAnswer). slice_get l (length held)) c.in_ok-push.ensures.items ∙ at-end held c.args.answer)
