@@ -22,7 +22,7 @@ use Rattle.pam_compare.specs.declared.situation.Situation.{Situation}
 use Rattle.pam_compare.specs.Held.{Holds, IsSame}
 use Rattle.pam_compare.specs.Nodes.{AreNodes, ArePlaces, IsAt, IsDone, IsMet, IsNew, IsNoted, IsStored, IsVisited, Keeps, KeepsNodes}
 
-nothing : {X : Type 0} (x : X) → None ≡ Some x → ⊥
+pub nothing : {X : Type 0} (x : X) → None ≡ Some x → ⊥
 nothing x e = cc
 
 pub same-some : {X : Type 0} (x y : X) → Some x ≡ Some y → x ≡ y

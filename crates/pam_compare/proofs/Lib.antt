@@ -3,6 +3,7 @@ pub mod Coming
 pub mod Fewer
 pub mod Growing
 pub mod Holding
+pub mod Many
 pub mod Meeting
 pub mod Names
 pub mod Possible
@@ -10,4 +11,5 @@ pub mod Reaching
 pub mod Sameness
 pub mod Standing
 pub mod Trails
+pub mod Witnessing
 pub mod Writing

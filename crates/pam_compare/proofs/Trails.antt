@@ -111,3 +111,16 @@ module _ (names : List ℕ) (count modules : ℕ) where
       ],
       still-covered trail c,
     )
+
+-- a trail that is not at its start has a last step
+pub trail-step : (ways : List Way) (k : ℕ) (trail : List Way) → 0 < k → IsTrail ways k trail →
+    (w : Way) × (rest : List Way) × (slice_get ways k ≡ Some w) × (w.parent < k) × IsTrail ways w.parent rest × (trail ≡ w ∷ rest)
+unfolding IsTrail
+trail-step ways k [] positive t = absurd (omega (arith, positive, t))
+trail-step ways k (w ∷ trail) positive t = (w, trail, t.1, t.2, t.3, refl)
+
+-- and one at its start has none
+pub trail-start : (ways trail : List Way) → IsTrail ways 0 trail → trail ≡ []
+unfolding IsTrail
+trail-start ways [] t = refl
+trail-start ways (w ∷ trail) t = absurd (omega (arith, t.0))

@@ -1,28 +1,13 @@
--- The answers of a trail in a table by name.
-use Rattle.std.proofs.Common.{◌≡◌, ◌≢◌, ◌⊎◌, ◌<◌, ◌≤◌, ◌∙◌, ◌+◌, ◌-◌, ℕ, zero, suc, List, [], ◌∷◌, get_or, length, drop, ap, arith, inl, inr, refl, sym, subst}
-use Rattle.std.proofs.Math.ListN.{set}
-use Rattle.std.proofs.lemmas.Bool.{cases_eq}
-use Rattle.std.proofs.lemmas.List.{get_or-set_other, get_or-set_same}
+-- The answers of a trail, name by name.
+use Rattle.std.proofs.Common.{◌≡◌, ◌≢◌, ◌<◌, ◌∙◌, ◌+◌, ℕ, suc, List, [], ◌∷◌, get_or, length, drop, ap, arith, sym}
+use Rattle.std.proofs.Math.Seq.{drop-cons}
 use Rattle.pam_dispatch.specs.Runs.{Assignment}
 use Rattle.pam_compare.specs.declared.nodes.Way.{Way}
-use Rattle.pam_compare.specs.Naming.{by_code}
-use Rattle.pam_compare.specs.Trails.{Follows, answers_on, with_answer}
-use Rattle.pam_codes.specs.Set.{is_in}
+use Rattle.pam_compare.specs.Trails.{answers_on, with_answer}
 use Rattle.pam_compare.proofs.Trails.{with-other, with-same}
-use Rattle.std.proofs.Math.Seq.{drop-cons}
-
--- one more answer in the table
-pub written-one : (codes after : List ℕ) (a : Assignment) (name code : ℕ) → name < length codes → after ≡ set codes name code →
-    ((n : ℕ) → by_code codes n ≡ a n) → (n : ℕ) → by_code after n ≡ with_answer a name code n
-written-one codes after a name code within e same n =
-    ap (λ (l : List ℕ). get_or l n 0) e
-    ∙ elim (cases_eq n name) [
-      | inl is ↦ ap (λ (m : ℕ). get_or (set codes name code) m 0) is ∙ get_or-set_same codes name code 0 within ∙ sym (with-same a name code n is)
-      | inr other ↦ get_or-set_other codes name n code 0 other ∙ same n ∙ sym (with-other a name code n other)
-    ]
 
 -- the answers of the last steps of a trail, and of one more
-pub drop-step : (base : Assignment) (trail : List Way) (i : ℕ) (w : Way) → i < length trail → w ≡ get_or trail i w →
+drop-step : (base : Assignment) (trail : List Way) (i : ℕ) (w : Way) → i < length trail → w ≡ get_or trail i w →
     answers_on base (drop i trail) ≡ with_answer (answers_on base (drop (i + 1) trail)) w.name w.code
 unfolding answers_on
 drop-step base trail i w within is =
@@ -30,7 +15,18 @@ drop-step base trail i w within is =
     let f : suc i ≡ i + 1 = omega arith in
     ap (answers_on base) e ∙ ap (λ (m : ℕ). with_answer (answers_on base (drop m trail)) w.name w.code) f
 
-follows-same : (a b : Assignment) (trail : List Way) → ((n : ℕ) → b n ≡ a n) → Follows a trail → Follows b trail
-unfolding Follows
-follows-same a b [] e f = tt
-follows-same a b (w ∷ trail) e f = (ap (λ (c : ℕ). is_in c w.class) (e w.name) ∙ f.0, follows-same a b trail e f.1)
+pub answer-here : (base : Assignment) (trail : List Way) (i : ℕ) (w : Way) (name : ℕ) → i < length trail → w ≡ get_or trail i w → w.name ≡ name →
+    answers_on base (drop i trail) name ≡ w.code
+answer-here base trail i w name within is same =
+    ap (λ (a : Assignment). a name) (drop-step base trail i w within is)
+    ∙ with-same (answers_on base (drop (i + 1) trail)) w.name w.code name (sym same)
+
+pub answer-later : (base : Assignment) (trail : List Way) (i : ℕ) (w : Way) (name : ℕ) → i < length trail → w ≡ get_or trail i w → w.name ≢ name →
+    answers_on base (drop i trail) name ≡ answers_on base (drop (i + 1) trail) name
+answer-later base trail i w name within is other =
+    ap (λ (a : Assignment). a name) (drop-step base trail i w within is)
+    ∙ with-other (answers_on base (drop (i + 1) trail)) w.name w.code name (λ e. other (sym e))
+
+pub answer-end : (base : Assignment) (trail : List Way) (i name : ℕ) → drop i trail ≡ [] → answers_on base (drop i trail) name ≡ base name
+unfolding answers_on
+answer-end base trail i name e = ap (λ (l : List Way). answers_on base l name) e

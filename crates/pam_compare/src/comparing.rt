@@ -7,7 +7,8 @@ ghost use Rattle.pam_compare.specs.declared.change.Change.{Change};
 ghost use Rattle.pam_compare.specs.declared.situation.Situation.{Situation};
 ghost use Rattle.pam_compare.specs.Changes.{change_of};
 ghost use Rattle.pam_compare.specs.Comparison.{AreChanges, IsComparison, decision_in};
-ghost use Rattle.pam_compare.specs.Naming.{AreNames, IsKnown, IsPossible};
+ghost use Rattle.pam_compare.specs.Naming.{AreNames, IsKnown, IsPossible, by_code};
+ghost use Rattle.pam_paths.specs.Listing.{Allowance};
 ghost use Rattle.pam_compare.specs.Nodes.{AreNodes, IsBegun, IsNoted, IsSearched, IsVisited, KeepsNodes};
 ghost use Rattle.pam_compare.specs.Turn.{IsTurn};
 ghost use Rattle.pam_compare.specs.Ways.{AreEnds, AreReached, IsNaming};
@@ -19,7 +20,7 @@ use crate::naming::Naming;
 use crate::node::{Node, Pair};
 use crate::nodes::{Found, Nodes, Way};
 use crate::turn::{Turn, next_turn};
-use crate::witness::{Evidence, Witness, usual_codes, witness_at};
+use crate::witness::{Witness, usual_codes, witness_at};
 use pam_codes::{Code, CodeSet};
 use pam_dispatch::{Memory, Program};
 use pam_paths::Knowledge;
@@ -167,48 +168,39 @@ fn no_changes() -> Changes
     }
 }
 
-/// Whether there are answers for each change that was found.
-fn are_shown(found: &Found, changes: &Changes) -> bool
-    ensures admits { IsTrue result → changes.now.admits ≡ None → found.now.admits ≡ None }
-    ensures refuses { IsTrue result → changes.now.refuses ≡ None → found.now.refuses ≡ None }
-    ensures tells { IsTrue result → changes.now.tells ≡ None → found.now.tells ≡ None }
-{
-    changes.admits.is_some() == found.admits.is_some()
-        && changes.refuses.is_some() == found.refuses.is_some()
-        && changes.tells.is_some() == found.tells.is_some()
-}
-
 /// For each change, answers that make it.
-fn changes_of<K: Knowledge, L: Knowledge>(
+fn changes_of(
     alloc: Global,
-    evidence: &Evidence<'_, K, L>,
-    found: &Found,
-) -> Result<Option<Changes>, Memory>
-    ensures { (partners : List (Option ℕ))
-        → AreNames (K.allows evidence.now.old_known.now) (L.allows evidence.now.new_known.now) (modules_of evidence.now.pair.old.now)
-            (modules_of evidence.now.pair.new.now) partners evidence.now.pair.naming.now.names.items
-        → ((a : Assignment) → IsKnown (K.allows evidence.now.old_known.now) (L.allows evidence.now.new_known.now) (modules_of evidence.now.pair.old.now)
-            (modules_of evidence.now.pair.new.now) evidence.now.pair.naming.now.names.items a → IsPossible evidence.now.pair.naming.now.possible.items a)
-        → IsSearched evidence.now.pair.old.now evidence.now.pair.new.now evidence.now.pair.naming.now.names.items
-            evidence.now.pair.naming.now.possible.items found.now
-        → IfOk result (λ some. IfSome some (AreChanges (K.allows evidence.now.old_known.now) (L.allows evidence.now.new_known.now)
-            evidence.now.pair.old.now evidence.now.pair.new.now partners)) }
+    pair: &Pair<'_>,
+    usual: &[Code],
+    searched: &Searched,
+) -> Result<Changes, Memory>
+    requires usual { IsPossible pair.now.naming.now.possible.items (by_code usual.now) }
+    requires reached { AreReached pair.now.old.now pair.now.new.now pair.now.naming.now.names.items pair.now.naming.now.possible.items searched.now.nodes }
+    requires ends { AreEnds pair.now.old.now pair.now.new.now searched.now.nodes searched.now.found }
+    ensures { (old_allows new_allows : Allowance) (partners : List (Option ℕ))
+        → AreNames old_allows new_allows (modules_of pair.now.old.now) (modules_of pair.now.new.now) partners pair.now.naming.now.names.items
+        → ((a : Assignment)
+            → IsKnown old_allows new_allows (modules_of pair.now.old.now) (modules_of pair.now.new.now) pair.now.naming.now.names.items a
+            → IsPossible pair.now.naming.now.possible.items a)
+        → ((a : Assignment) → IsPossible pair.now.naming.now.possible.items a
+            → IsKnown old_allows new_allows (modules_of pair.now.old.now) (modules_of pair.now.new.now) pair.now.naming.now.names.items a)
+        → IsSearched pair.now.old.now pair.now.new.now pair.now.naming.now.names.items pair.now.naming.now.possible.items searched.now.found
+        → IfOk result (AreChanges old_allows new_allows pair.now.old.now pair.now.new.now partners) }
 {
     // A program says with the number of its modules that they are asked in order.
-    let _old_modules = evidence.pair.old.modules();
-    let _new_modules = evidence.pair.new.modules();
-    let admits = witness_at(alloc, evidence, Change::Admits, found.admits)?;
-    let refuses = witness_at(alloc, evidence, Change::Refuses, found.refuses)?;
-    let tells = witness_at(alloc, evidence, Change::Tells, found.tells)?;
-    let changes = Changes {
+    let _old_modules = pair.old.modules();
+    let _new_modules = pair.new.modules();
+    let nodes = &searched.nodes;
+    let found = &searched.found;
+    let admits = witness_at(alloc, pair, usual, nodes, found.admits)?;
+    let refuses = witness_at(alloc, pair, usual, nodes, found.refuses)?;
+    let tells = witness_at(alloc, pair, usual, nodes, found.tells)?;
+    Ok(Changes {
         admits,
         refuses,
         tells,
-    };
-    if !are_shown(found, &changes) {
-        return Ok(None);
-    }
-    Ok(Some(changes))
+    })
 }
 
 /// Compares the decisions of two stacks under all answers that are known to be possible. A module of one stack and one of the
@@ -232,19 +224,10 @@ pub fn compare<K: Knowledge, L: Knowledge>(
         new,
         naming: &naming,
     };
-    let search = search(alloc, &pair, MAX_SITUATIONS)?;
-    if search.nodes.len() > MAX_SITUATIONS {
+    let searched = search(alloc, &pair, MAX_SITUATIONS)?;
+    if searched.nodes.len() > MAX_SITUATIONS {
         return Ok(Comparison::NotKnown);
     }
-    let evidence = Evidence {
-        pair,
-        old_known,
-        new_known,
-        usual: &usual,
-        ways: &search.nodes.ways,
-    };
-    match changes_of(alloc, &evidence, &search.found)? {
-        Some(changes) => Ok(Comparison::Known(changes)),
-        None => Ok(Comparison::NotKnown),
-    }
+    let changes = changes_of(alloc, &pair, &usual, &searched)?;
+    Ok(Comparison::Known(changes))
 }

@@ -1,6 +1,6 @@
 //! The nodes found so far.
 
-ghost use Rattle.std.specs.Prelude.{◌≡◌, ◌⊎◌, ◌<◌, ◌∷◌, ◌++◌, [], List, ℕ, IfOk, OnOk, Option, Some, length, slice_get};
+ghost use Rattle.std.specs.Prelude.{◌≡◌, ◌⊎◌, ◌<◌, ◌∷◌, ◌++◌, [], List, ℕ, IfOk, None, OnOk, Option, Some, length, slice_get};
 ghost use Rattle.pam_dispatch.specs.declared.flat_item.FlatItem.{FlatItem};
 ghost use Rattle.pam_dispatch.specs.declared.place.Place.{Place};
 ghost use Rattle.pam_dispatch.specs.Flat.{IsPlaceOf, rest_of};
@@ -114,7 +114,9 @@ impl Places {
 
 impl Nodes {
     pub(crate) fn new(alloc: Global) -> Nodes
-        ensures { (old new : List FlatItem) → AreNodes old new result }
+        ensures nodes { (old new : List FlatItem) → AreNodes old new result }
+        ensures none { length result.situations.keys ≡ 0 }
+        ensures ways { length result.ways.items ≡ 0 }
     {
         Nodes {
             old_places: Places::new(alloc),
@@ -205,7 +207,9 @@ impl Nodes {
 
 impl Found {
     /// Nothing.
-    pub(crate) fn new() -> Found {
+    pub(crate) fn new() -> Found
+        ensures { (change : Change) → found_at result change ≡ None }
+    {
         Found {
             admits: None,
             refuses: None,

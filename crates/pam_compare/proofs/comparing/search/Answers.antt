@@ -1,9 +1,9 @@
-use Rattle.std.proofs.Common.{◌≡◌, ◌<◌, ℕ, Some, arith, inl, inr, length, subst}
+use Rattle.std.proofs.Common.{◌≡◌, ◌<◌, ◌∙◌, ℕ, Some, arith, inl, inr, length, subst, sym}
 use Rattle.std.specs.Prelude.{slice_get}
 use Rattle.std.proofs.lemmas.Bool.{cases_lt}
 use Rattle.std.proofs.lemmas.Option.{slice_get_within}
 use Rattle.pam_compare.specs.Ways.{AreEnds}
-use Rattle.pam_compare.proofs.Growing.{kept-back, met-kept, visited-kept}
+use Rattle.pam_compare.proofs.Growing.{kept-back, met-kept, nothing, visited-kept}
 use Rattle.pam_compare.proofs.Meeting.{all-searched}
 use Rattle.pam_compare.proofs.comparing.search.Goals as goal
 
@@ -12,7 +12,7 @@ unfolding AreEnds
 loop-index-init c = record {
   nodes = c.in_ok-nodes.ensures.nodes;
   reached = c.in_ok-nodes.ensures.reached;
-  ends = λ change k is. ?;
+  ends = λ change k is. absurd (nothing k (sym (c.new-found.ensures change) ∙ is));
   begun = c.in_ok-nodes.ensures.begun;
   visited = λ k s below. absurd (omega (arith, below));
 }
