@@ -18,7 +18,7 @@ use Rattle.pam_compare.specs.Naming.{AreNames, IsKnown, IsPossible, by_name, nam
 use Rattle.pam_compare.specs.Nodes.{IsNoted, IsSearched}
 
 -- a run looks at the answers of its modules alone
-same-final : (a b : Assignment) (low high : ℕ) (runs : Runs) → AsksRise low high runs →
+pub same-final : (a b : Assignment) (low high : ℕ) (runs : Runs) → AsksRise low high runs →
     ((number : ℕ) → low < number → number ≤ high → a number ≡ b number) → final_state runs a ≡ final_state runs b
 unfolding final_state AsksRise
 same-final a b low high (ends s) rise same = refl

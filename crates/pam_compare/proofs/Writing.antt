@@ -1,5 +1,5 @@
 -- The answers of a trail, name by name.
-use Rattle.std.proofs.Common.{◌≡◌, ◌≢◌, ◌<◌, ◌∙◌, ◌+◌, ℕ, suc, List, [], ◌∷◌, get_or, length, drop, ap, arith, sym}
+use Rattle.std.proofs.Common.{◌≡◌, ◌≢◌, ◌<◌, ◌≤◌, ◌∙◌, ◌+◌, ℕ, zero, suc, List, [], ◌∷◌, get_or, length, drop, ap, arith, refl, sym}
 use Rattle.std.proofs.Math.Seq.{drop-cons}
 use Rattle.pam_dispatch.specs.Runs.{Assignment}
 use Rattle.pam_compare.specs.declared.nodes.Way.{Way}
@@ -30,3 +30,9 @@ answer-later base trail i w name within is other =
 pub answer-end : (base : Assignment) (trail : List Way) (i name : ℕ) → drop i trail ≡ [] → answers_on base (drop i trail) name ≡ base name
 unfolding answers_on
 answer-end base trail i name e = ap (λ (l : List Way). answers_on base l name) e
+
+pub drop-past : {X : Type 0} (xs : List X) (i : ℕ) → length xs ≤ i → drop i xs ≡ []
+drop-past [] zero h = refl
+drop-past [] (suc i) h = refl
+drop-past (x ∷ xs) zero h = absurd (omega (arith, h))
+drop-past (x ∷ xs) (suc i) h = drop-past xs i (omega (arith, h))

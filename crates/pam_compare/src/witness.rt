@@ -52,8 +52,8 @@ fn trail_to(alloc: Global, ways: &[Way], index: usize) -> Result<Vec<Way>, Memor
     let mut at = index;
     while at > 0 {
         let way = ways[at];
-        trail.push(way)?;
         at = way.parent;
+        trail.push(way)?;
     }
     Ok(trail)
 }
