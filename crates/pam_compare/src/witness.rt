@@ -1,6 +1,6 @@
 //! Answers with which two stacks decide differently.
 
-ghost use Rattle.std.specs.Prelude.{◌≡◌, ◌≤◌, ◌<◌, ◌+◌, ℕ, IfNone, IfOk, IfSome, List, None, Option, Some, length};
+ghost use Rattle.std.specs.Prelude.{◌≡◌, ◌≤◌, ◌<◌, ◌+◌, ℕ, IfNone, IfOk, IfSome, List, None, Option, Some, length, slice_get};
 ghost use Rattle.pam_dispatch.specs.Flat.{modules_of, runs_of};
 ghost use Rattle.pam_dispatch.specs.Runs.{Assignment, answers_of};
 ghost use Rattle.pam_paths.specs.Listing.{Allowance};
@@ -43,6 +43,14 @@ pub(crate) fn usual_codes(alloc: Global, naming: &Naming) -> Result<Option<Vec<C
     Ok(Some(codes))
 }
 
+/// The last step of the way to the node at `index`.
+fn step_at(ways: &[Way], index: usize) -> Way
+    requires { index < length ways.now }
+    ensures { slice_get ways.now index ≡ Some result }
+{
+    ways[index]
+}
+
 /// The steps on the way to the node at `index`, the last one first.
 fn trail_to(alloc: Global, ways: &[Way], index: usize) -> Result<Vec<Way>, Memory>
     requires { (trail : List Way) × IsTrail ways.now index trail }
@@ -51,7 +59,7 @@ fn trail_to(alloc: Global, ways: &[Way], index: usize) -> Result<Vec<Way>, Memor
     let mut trail = Vec::new(alloc);
     let mut at = index;
     while at > 0 {
-        let way = ways[at];
+        let way = step_at(ways, at);
         at = way.parent;
         trail.push(way)?;
     }

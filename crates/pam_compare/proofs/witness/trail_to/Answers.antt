@@ -1,7 +1,6 @@
 use Rattle.std.proofs.Common.{◌≡◌, ◌<◌, ◌∙◌, ℕ, List, [], ◌∷◌, ◌++◌, Some, ap, append_assoc, arith, length, subst, sym}
-use Rattle.std.specs.Prelude.{slice_get}
 use Rattle.std.proofs.lemmas.List.{append-nil}
-use Rattle.std.proofs.lemmas.Option.{slice_get-get_or, slice_get_within}
+use Rattle.std.proofs.lemmas.Option.{slice_get_within}
 use Rattle.pam_compare.specs.declared.nodes.Way.{Way}
 use Rattle.pam_compare.specs.Trails.{IsTrail}
 use Rattle.pam_compare.proofs.Growing.{same-some}
@@ -15,32 +14,25 @@ loop-at-init c = record {
   whole = subst (λ (l : List Way). IsTrail c.args.ways.now c.args.index (l ++ c.requires.0)) (sym c.new-trail.ensures.items) c.requires.1;
 }
 
-pub bounds-ways-at : goal.bounds-ways-at
-bounds-ways-at c =
+pub step_at-way-requires : goal.step_at-way-requires
+step_at-way-requires c =
     let step = trail-step c.args.ways.now c.loop-at.at c.loop-at.invariant.rest c.loop-at-test.true c.loop-at.invariant.is_rest in
     slice_get_within c.args.ways.now c.loop-at.at step.0 step.2
 
 pub loop-at-smaller : goal.loop-at-smaller
 loop-at-smaller c =
-    let ways = c.args.ways.now in
     let at = c.loop-at.at in
-    let way = c.index-ways-at.result in
-    let step = trail-step ways at c.loop-at.invariant.rest c.loop-at-test.true c.loop-at.invariant.is_rest in
-    let within = slice_get_within ways at step.0 step.2 in
-    let same : way ≡ step.0 =
-    same-some way step.0 (ap (λ (x : Way). Some x) c.index-ways-at.is ∙ sym (slice_get-get_or ways at way within) ∙ step.2) in
+    let step = trail-step c.args.ways.now at c.loop-at.invariant.rest c.loop-at-test.true c.loop-at.invariant.is_rest in
+    let same : c.step_at-way.result ≡ step.0 = same-some _ step.0 (sym c.step_at-way.ensures ∙ step.2) in
     subst (λ (x : Way). x.parent < at) (sym same) step.3
 
 pub loop-at-preserved : goal.loop-at-preserved
 loop-at-preserved c =
     let inv = c.loop-at.invariant in
     let ways = c.args.ways.now in
-    let at = c.loop-at.at in
-    let way = c.index-ways-at.result in
-    let step = trail-step ways at inv.rest c.loop-at-test.true inv.is_rest in
-    let within = slice_get_within ways at step.0 step.2 in
-    let same : way ≡ step.0 =
-    same-some way step.0 (ap (λ (x : Way). Some x) c.index-ways-at.is ∙ sym (slice_get-get_or ways at way within) ∙ step.2) in
+    let way = c.step_at-way.result in
+    let step = trail-step ways c.loop-at.at inv.rest c.loop-at-test.true inv.is_rest in
+    let same : way ≡ step.0 = same-some way step.0 (sym c.step_at-way.ensures ∙ step.2) in
     let trail = c.loop-at.trail.items in
     let rest : inv.rest ≡ way ∷ step.1 = step.5 ∙ ap (λ (x : Way). x ∷ step.1) (sym same) in
     record {
