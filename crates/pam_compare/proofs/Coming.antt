@@ -1,6 +1,5 @@
 -- Runs that come to a rest.
-use Rattle.std.proofs.Common.{◌≡◌, ◌∙◌, ℕ, zero, suc, Option, Some, None, ap, refl, sym, subst}
-use Rattle.pam_dispatch.specs.declared.state.State.{State}
+use Rattle.std.proofs.Common.{◌≡◌, ◌∙◌, ℕ, zero, suc, Some, None, ap, refl, sym}
 use Rattle.pam_dispatch.specs.Runs.{Assignment, Runs, ends, asks, after_answer, asked_module, final_state, outcome_of}
 use Rattle.pam_compare.specs.Situations.{Comes, after_steps}
 

@@ -8,7 +8,7 @@ use Rattle.std.proofs.lemmas.Option.{slice_get-get_or, slice_get_within}
 use Rattle.pam_dispatch.specs.declared.flat_item.FlatItem.{FlatItem}
 use Rattle.pam_dispatch.specs.declared.key.PlaceKey.{PlaceKey}
 use Rattle.pam_dispatch.specs.declared.place.Place.{Place}
-use Rattle.pam_dispatch.specs.Flat.{IsPlaceOf, rest_of, runs_of}
+use Rattle.pam_dispatch.specs.Flat.{IsPlaceOf, rest_of}
 use Rattle.pam_dispatch.specs.Keys.{key_of, rest_at}
 use Rattle.pam_dispatch.specs.Runs.{Assignment, Runs}
 use Rattle.pam_compare.specs.declared.change.Change.{Change}

@@ -1,5 +1,5 @@
 -- Many situations, each of which is reached.
-use Rattle.std.proofs.Common.{◌≡◌, ◌<◌, ◌≤◌, ◌∙◌, ℕ, true, List, [], ◌∷◌, Option, Some, get_or, length, map, ap, arith, refl, subst, sym}
+use Rattle.std.proofs.Common.{◌≡◌, ◌<◌, ◌∙◌, ℕ, List, [], ◌∷◌, Option, Some, get_or, length, map, ap, arith, refl, subst, sym}
 use Rattle.std.specs.List.{AllByRecursion, IsDistinct}
 use Rattle.std.specs.Prelude.{slice_get}
 use Rattle.std.proofs.lemmas.List.{length-map}
@@ -9,9 +9,8 @@ use Rattle.pam_dispatch.specs.declared.key.PlaceKey.{PlaceKey}
 use Rattle.pam_dispatch.specs.declared.place.Place.{Place}
 use Rattle.pam_dispatch.specs.Flat.{modules_of, rest_of, runs_of}
 use Rattle.pam_dispatch.specs.Keys.{AreDifferent, key_of, rest_at}
-use Rattle.pam_dispatch.specs.Runs.{Assignment, Runs}
+use Rattle.pam_dispatch.specs.Runs.{Assignment}
 use Rattle.pam_paths.specs.Listing.{Allowance, IsAllowed}
-use Rattle.pam_compare.specs.declared.held.HeldAnswer.{HeldAnswer}
 use Rattle.pam_compare.specs.declared.nodes.Nodes.{Nodes}
 use Rattle.pam_compare.specs.declared.situation.Situation.{Situation}
 use Rattle.pam_compare.specs.Agreement.{Agree}
@@ -20,7 +19,7 @@ use Rattle.pam_compare.specs.Naming.{AreNames, IsKnown, IsPossible, by_name, nam
 use Rattle.pam_compare.specs.Nodes.{AreNodes, ArePlaces}
 use Rattle.pam_compare.specs.Situations.{Comes, HasMoreSituations, IsReached, Standing}
 use Rattle.pam_compare.specs.Trails.{answers_on}
-use Rattle.pam_compare.specs.Ways.{AreReached, IsReachedAt, IsWayTo}
+use Rattle.pam_compare.specs.Ways.{AreReached}
 use Rattle.pam_compare.proofs.Growing.{same-some}
 use Rattle.pam_compare.proofs.Reaching.{possible-on}
 use Rattle.pam_compare.proofs.Standing.{IsInside, all-at, all-map, are-apart, stand}

@@ -2,7 +2,6 @@
 use Rattle.std.proofs.Common.{◌≡◌, ◌<◌, ◌+◌, ◌∙◌, ℕ, zero, suc, List, Some, length, ap, subst, sym, refl, inl, inr, arith}
 use Rattle.std.specs.Prelude.{slice_get}
 use Rattle.pam_dispatch.specs.declared.flat_item.FlatItem.{FlatItem}
-use Rattle.pam_dispatch.specs.declared.place.Place.{Place}
 use Rattle.pam_dispatch.specs.declared.state.State.{State}
 use Rattle.pam_dispatch.specs.Decision.{decision_of}
 use Rattle.pam_dispatch.specs.Flat.{rest_of, runs_of}
@@ -16,7 +15,6 @@ use Rattle.pam_compare.specs.declared.turn.Turn.{Turn}
 use Rattle.pam_compare.specs.declared.turn.Turn.TheVariants.{Old, New, Both}
 use Rattle.pam_compare.specs.Changes.{change_of}
 use Rattle.pam_compare.specs.Comparison.{decision_in}
-use Rattle.pam_compare.specs.Held.{Holds}
 use Rattle.pam_compare.specs.Naming.{IsPossible, by_name, name_of}
 use Rattle.pam_compare.specs.Nodes.{IsAt, IsBegun, IsDecided, IsDone, IsMet, IsNoted, IsSearched, IsVisited}
 use Rattle.pam_compare.specs.Turn.{IsTurn, new_after, old_after, turn_name}

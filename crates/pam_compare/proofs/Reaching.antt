@@ -1,5 +1,5 @@
 -- Ways to nodes, one step longer.
-use Rattle.std.proofs.Common.{◌≡◌, ◌⊎◌, ◌≢◌, ◌<◌, ◌≤◌, ◌∙◌, ◌+◌, ℕ, Bool, true, cond, List, [], ◌∷◌, ◌++◌, Option, Some, None, ap, arith, inl, inr, length, refl, sym, subst}
+use Rattle.std.proofs.Common.{◌≡◌, ◌⊎◌, ◌<◌, ◌≤◌, ◌∙◌, ◌+◌, ℕ, true, List, [], ◌∷◌, Some, ap, arith, inl, inr, length, refl, sym, subst}
 use Rattle.std.specs.Prelude.{slice_get, slice_index_or}
 use Rattle.std.specs.List.{AllByRecursion}
 use Rattle.std.proofs.lemmas.Bool.{cases_eq}

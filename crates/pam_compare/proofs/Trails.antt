@@ -1,7 +1,7 @@
 -- Steps on the way to a node.
-use Rattle.std.proofs.Common.{◌≡◌, ◌⊎◌, ◌<◌, ◌≤◌, ◌∙◌, ◌≢◌, ℕ, zero, suc, Bool, true, false, cond, eqb, eq-eqb, List, [], ◌∷◌, Option, Some, None, ap, arith, inl, inr, refl, sym, subst}
-use Rattle.std.specs.Prelude.{slice_get, slice_index_or}
-use Rattle.std.proofs.lemmas.Bool.{eqb-true, eqb-false, cases_eq}
+use Rattle.std.proofs.Common.{◌≡◌, ◌⊎◌, ◌<◌, ◌∙◌, ◌≢◌, ℕ, true, false, cond, eqb, eq-eqb, List, [], ◌∷◌, Option, Some, ap, arith, inl, inr, refl, sym, subst}
+use Rattle.std.specs.Prelude.{slice_get}
+use Rattle.std.proofs.lemmas.Bool.{cases_eq}
 use Rattle.pam_codes.specs.Set.{is_in}
 use Rattle.pam_dispatch.specs.Runs.{Assignment}
 use Rattle.pam_compare.specs.declared.held.HeldAnswer.{HeldAnswer}

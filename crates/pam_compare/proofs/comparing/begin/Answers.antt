@@ -1,4 +1,4 @@
-use Rattle.std.proofs.Common.{◌≡◌, ◌∙◌, ℕ, List, [], arith, inl, inr, subst, sym}
+use Rattle.std.proofs.Common.{◌∙◌, ℕ, List, [], arith, inl, inr, subst, sym}
 use Rattle.std.proofs.lemmas.Option.{slice_get_within}
 use Rattle.pam_compare.specs.declared.held.HeldAnswer.{HeldAnswer}
 use Rattle.pam_compare.specs.Ways.{IsWayTo}

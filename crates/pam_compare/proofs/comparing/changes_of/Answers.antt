@@ -1,4 +1,3 @@
-use Rattle.std.proofs.Common.{◌≡◌, List, Option}
 use Rattle.pam_compare.specs.declared.change.Change.TheVariants.{Admits, Refuses, Tells}
 use Rattle.pam_compare.specs.Ways.{AreEnds}
 use Rattle.pam_compare.proofs.Agreeing.{shown}

@@ -1,4 +1,4 @@
-use Rattle.std.proofs.Common.{◌≡◌, Global, List, None, Option, Vec, arith, subst, sym}
+use Rattle.std.proofs.Common.{Global, Option, Vec, arith, subst, sym}
 use Rattle.std.specs.Prelude.{IfNone, IfSome}
 use Rattle.pam_codes.specs.declared.code.Code.{Code}
 use Rattle.pam_dispatch.specs.Runs.{Assignment}

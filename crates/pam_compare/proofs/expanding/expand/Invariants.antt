@@ -1,4 +1,4 @@
-use Rattle.std.proofs.Common.{◌≡◌, ◌<◌, ℕ, true, false, length}
+use Rattle.std.proofs.Common.{◌≡◌, ℕ, true, false, length}
 use Rattle.pam_codes.specs.Set.{codes_where, is_in}
 use Rattle.pam_dispatch.specs.Flat.{rest_of}
 use Rattle.pam_dispatch.specs.Runs.{Assignment}

@@ -1,4 +1,4 @@
-use Rattle.std.proofs.Common.{◌≡◌, ◌∙◌, ◌&&◌, ap, sym}
+use Rattle.std.proofs.Common.{◌∙◌, ◌&&◌, ap, sym}
 use Rattle.std.proofs.lemmas.Bool.{and_parts}
 use Rattle.pam_codes.specs.Set.{is_in}
 use Rattle.pam_compare.proofs.Holding.{where-passes}

@@ -1,4 +1,4 @@
-use Rattle.std.proofs.Common.{◌≡◌, ◌∙◌, List, ap, length, sym}
+use Rattle.std.proofs.Common.{◌∙◌, List, ap, length, sym}
 use Rattle.std.specs.Prelude.{slice_get}
 use Rattle.pam_compare.specs.declared.held.HeldAnswer.{HeldAnswer}
 use Rattle.pam_compare.proofs.Growing.{at-end, keeps-push, keeps-same}

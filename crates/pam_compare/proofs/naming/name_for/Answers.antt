@@ -1,4 +1,4 @@
-use Rattle.std.proofs.Common.{◌≡◌, ◌∙◌, ap, arith, sym}
+use Rattle.std.proofs.Common.{◌∙◌, arith, sym}
 use Rattle.std.proofs.lemmas.Bool.{false≢true}
 use Rattle.pam_compare.proofs.Names.{common-passes, name-apart, name-tied, passes-common}
 use Rattle.pam_compare.proofs.naming.name_for.Goals as goal

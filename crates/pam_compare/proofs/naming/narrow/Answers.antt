@@ -1,4 +1,4 @@
-use Rattle.std.proofs.Common.{◌≡◌, ◌∙◌, ◌&&◌, ℕ, List, ap, refl}
+use Rattle.std.proofs.Common.{◌∙◌, ◌&&◌, ℕ, List, ap, refl}
 use Rattle.std.proofs.lemmas.List.{get_or_default}
 use Rattle.pam_codes.specs.Code.{all_codes}
 use Rattle.pam_codes.specs.Set.{codes_where, is_in}

@@ -1,4 +1,4 @@
-use Rattle.std.proofs.Common.{◌≡◌, ◌+◌, ◌<◌, ◌∙◌, ℕ, ap, arith, inl, inr, length, subst, sym, true}
+use Rattle.std.proofs.Common.{◌≡◌, ◌+◌, ◌∙◌, ℕ, ap, arith, inl, inr, subst, sym, true}
 use Rattle.std.proofs.lemmas.Bool.{cases_lt}
 use Rattle.pam_codes.specs.Set.{is_in}
 use Rattle.pam_codes.specs.SetBits.{is_in-codes_where}

@@ -1,4 +1,4 @@
-use Rattle.std.proofs.Common.{◌≡◌, ◌+◌, ◌<◌, ℕ, arith, length, subst, true}
+use Rattle.std.proofs.Common.{◌≡◌, ℕ, arith, subst, true}
 use Rattle.pam_compare.proofs.Possible.{possible-low}
 use Rattle.pam_compare.proofs.naming.possible_codes.Goals as goal
 

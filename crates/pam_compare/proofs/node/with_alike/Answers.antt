@@ -1,4 +1,4 @@
-use Rattle.std.proofs.Common.{◌≡◌, ◌∙◌, ◌||◌, ℕ, Bool, true, ap, cond, eqb, refl}
+use Rattle.std.proofs.Common.{◌∙◌, ◌||◌, ℕ, ap, eqb}
 use Rattle.pam_codes.specs.Set.{is_in}
 use Rattle.pam_codes.specs.SetBits.{is_in-codes_where}
 use Rattle.pam_dispatch.specs.Flat.{rest_of}

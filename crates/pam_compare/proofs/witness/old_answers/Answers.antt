@@ -1,4 +1,4 @@
-use Rattle.std.proofs.Common.{◌≡◌, ◌∙◌, ℕ, List, ap, arith, length}
+use Rattle.std.proofs.Common.{◌∙◌, ℕ, List, ap, arith, length}
 use Rattle.std.proofs.lemmas.List.{length_push}
 use Rattle.pam_compare.specs.Naming.{by_code}
 use Rattle.pam_compare.specs.Trails.{answers_on}

@@ -1,4 +1,3 @@
-use Rattle.std.proofs.Common.{◌≡◌}
 use Rattle.pam_compare.proofs.witness.witness_at.Goals as goal
 
 pub witness_to-requires-clause-end : goal.witness_to-requires-clause-end

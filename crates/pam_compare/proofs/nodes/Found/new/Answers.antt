@@ -1,4 +1,4 @@
-use Rattle.std.proofs.Common.{◌≡◌, refl}
+use Rattle.std.proofs.Common.{refl}
 use Rattle.pam_compare.specs.declared.change.Change.TheVariants.{Admits, Refuses, Tells}
 use Rattle.pam_compare.proofs.nodes.Found.new.Goals as goal
 

@@ -1,4 +1,4 @@
-use Rattle.std.proofs.Common.{◌≡◌, inl, inr, refl}
+use Rattle.std.proofs.Common.{inl, inr, refl}
 use Rattle.pam_compare.proofs.Growing.{met-added, new-added, nodes-added}
 use Rattle.pam_compare.proofs.nodes.Nodes.add.Goals as goal
 

@@ -1,4 +1,4 @@
-use Rattle.std.proofs.Common.{◌≡◌, ◌∙◌, ◌+◌, List, ap, inl, length, sym}
+use Rattle.std.proofs.Common.{◌∙◌, ◌+◌, List, ap, inl, length, sym}
 use Rattle.std.specs.Prelude.{slice_get}
 use Rattle.std.proofs.lemmas.List.{length_push}
 use Rattle.pam_compare.specs.declared.nodes.Way.{Way}
