@@ -1,5 +1,6 @@
 -- From names to assignments that agree.
-use Rattle.std.proofs.Common.{◌≡◌, ◌<◌, ◌≤◌, ◌+◌, ◌-◌, ◌∙◌, ℕ, zero, suc, Bool, true, false, cond, List, Option, Some, None, ap, sym, refl, subst, inl, inr, arith, leb}
+use Rattle.std.proofs.Common.{◌≡◌, ◌<◌, ◌≤◌, ◌+◌, ◌-◌, ◌∙◌, ℕ, zero, suc, Bool, true, false, cond, List, Option, Some, None}
+use Rattle.std.proofs.Common.{ap, sym, refl, subst, inl, inr, arith, leb}
 use Rattle.std.specs.Prelude.{IfSome, IsSome}
 use Rattle.std.proofs.lemmas.Bool.{cases_lt, false≢true}
 use Rattle.pam_dispatch.specs.declared.flat_item.FlatItem.{FlatItem}
@@ -71,7 +72,6 @@ both-codes count a b at_a at_b x = by (leb x count)
     by true = at_a x
     by false = at_b (x - count)
 
-
 module _ (old_allows new_allows : Allowance) (old new : List FlatItem) (partners : List (Option ℕ)) (names : List ℕ)
     (named : AreNames old_allows new_allows (modules_of old) (modules_of new) partners names) where
   module _ (a b : Assignment) (old_codes : IsAllowed old_allows (modules_of old) a) (new_codes : IsAllowed new_allows (modules_of new) b)
@@ -102,13 +102,15 @@ module _ (old_allows new_allows : Allowance) (old new : List FlatItem) (partners
     unfolding one
     is-known = record {
       codes = both-codes (modules_of old) (within (modules_of old) a) (within (modules_of new) b)
-          (within-code (modules_of old) a (λ m first last. (old_codes m first last).0)) (within-code (modules_of new) b (λ m first last. (new_codes m first last).0));
+          (within-code (modules_of old) a (λ m first last. (old_codes m first last).0))
+          (within-code (modules_of new) b (λ m first last. (new_codes m first last).0));
       old = λ i positive most. subst (λ (code : ℕ). old_allows i code ≡ true) (sym (at-old i positive most)) (old_codes i positive most).1;
       own = λ j positive most. subst (λ (code : ℕ). new_allows j code ≡ true) (sym (at-own j positive most)) (new_codes j positive most).1;
       new = λ j positive most. subst (λ (code : ℕ). new_allows j code ≡ true) (sym (at-new j positive most)) (new_codes j positive most).1;
     }
 
-  module _ (possible : List (List ℕ)) (can : (a : Assignment) → IsKnown old_allows new_allows (modules_of old) (modules_of new) names a → IsPossible possible a) where
+  module _ (possible : List (List ℕ))
+      (can : (a : Assignment) → IsKnown old_allows new_allows (modules_of old) (modules_of new) names a → IsPossible possible a) where
     -- where no answers are possible, no change is made
     pub never-any : ((a : Assignment) → IsPossible possible a → ⊥) → (change : Change) → NeverChanges old_allows new_allows old new partners change
     unfolding NeverChanges

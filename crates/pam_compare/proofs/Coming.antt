@@ -20,9 +20,11 @@ one-more a (suc n) (asks ask next) i e = one-more a n (next (outcome_of ask (a a
 -- a run that comes to a rest comes to what is left after the next answer
 pub comes-on : (runs rest : Runs) (a : Assignment) (i code : ℕ) → Comes runs a rest → asked_module rest ≡ Some i → a i ≡ code →
     Comes runs a (after_answer rest code)
-comes-on runs rest a i code c e is =
-    (suc c.0, ap (λ (r : Runs). after_answer r code) c.1 ∙ ap (after_answer (after_steps c.0 runs a)) (sym is)
-    ∙ sym (one-more a c.0 runs i (sym (ap asked_module c.1) ∙ e)))
+comes-on runs rest a i code c e is = (
+  suc c.0,
+  ap (λ (r : Runs). after_answer r code) c.1 ∙ ap (after_answer (after_steps c.0 runs a)) (sym is)
+      ∙ sym (one-more a c.0 runs i (sym (ap asked_module c.1) ∙ e)),
+)
 
 same-end : (n : ℕ) (runs : Runs) (a : Assignment) → final_state (after_steps n runs a) a ≡ final_state runs a
 unfolding after_steps final_state

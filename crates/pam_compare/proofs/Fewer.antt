@@ -56,5 +56,6 @@ fewer-left left class after code low inside taken e =
     let same : codes_where (λ c. is_in c after) ≡ codes_where test =
     codes_where-same (λ c. is_in c after) test (λ c below. ap (is_in c) e ∙ is_in-codes_where test c below) in
     let out : test code ≡ false = ap (λ (b : Bool). b && not (is_in code class)) inside ∙ ap (λ (b : Bool). not b) taken in
-    let less = fewer (λ c. is_in c left) test (λ c h. and-both (is_in c left) (not (is_in c class)) h) code inside out all_codes (is_in-codes_where (λ c. true) code low) in
+    let less = fewer (λ c. is_in c left) test (λ c h. and-both (is_in c left) (not (is_in c class)) h) code inside out all_codes
+    (is_in-codes_where (λ c. true) code low) in
     subst (λ (l : List ℕ). length l < length (codes_where (λ c. is_in c left))) (sym same) less

@@ -1,5 +1,6 @@
 -- Lists of places and situations that grow.
-use Rattle.std.proofs.Common.{◌≡◌, ◌<◌, ◌+◌, ◌⊎◌, ◌∙◌, inl, inr, ℕ, zero, suc, Bool, true, false, cond, List, [], ◌∷◌, ◌++◌, Option, Some, None, get_or, length, ap, arith, refl, sym, subst}
+use Rattle.std.proofs.Common.{◌≡◌, ◌<◌, ◌+◌, ◌⊎◌, ◌∙◌, inl, inr, ℕ, zero, suc, Bool, true, false, cond, List, [], ◌∷◌, ◌++◌, Option, Some, None}
+use Rattle.std.proofs.Common.{get_or, length, ap, arith, refl, sym, subst}
 use Rattle.std.specs.List.{list_any}
 use Rattle.std.specs.Prelude.{not, slice_get}
 use Rattle.std.proofs.lemmas.Bool.{false≢true}
@@ -237,11 +238,11 @@ pub nodes-added : (old new : List FlatItem) (before after : Nodes) (op np : Plac
     slice_get op.places.items situation.old ≡ Some p → slice_get np.places.items situation.new ≡ Some q → AreNodes old new after
 nodes-added old new before after op np situation p q are is_old is_new keeps_old keeps_new e f only at_old at_new =
     let into : (k n : ℕ) → k < length op.places.items → n < length np.places.items →
-        (k < length after.old_places.places.items) × (n < length after.new_places.places.items) =
-        λ k n less fewer. (
-          subst (λ (x : Places). k < length x.places.items) (sym e) less,
-          subst (λ (x : Places). n < length x.places.items) (sym f) fewer,
-        ) in
+    (k < length after.old_places.places.items) × (n < length after.new_places.places.items) =
+    λ k n less fewer. (
+      subst (λ (x : Places). k < length x.places.items) (sym e) less,
+      subst (λ (x : Places). n < length x.places.items) (sym f) fewer,
+    ) in
     record {
       of_old = subst (λ (x : Places). ArePlaces old x.places.items x.keys) (sym e) is_old;
       of_new = subst (λ (x : Places). ArePlaces new x.places.items x.keys) (sym f) is_new;

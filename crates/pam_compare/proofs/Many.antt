@@ -82,14 +82,14 @@ module _ (old_allows new_allows : Allowance) (old new : List FlatItem) (partners
         let d : PlaceKey = key_of (reached.reached 0 first.0 first.1).node.old in
         let inside : AllByRecursion (IsInside olds news d) keys =
         all-at (IsInside olds news d) keys (λ k s at.
-            let within = are.within k s at in
-            let less = within.0 in
-            let fewer = within.1 in
-            (omega (arith, less, are.of_old.count), omega (arith, fewer, are.of_new.count))) in
+        let within = are.within k s at in
+        let less = within.0 in
+        let fewer = within.1 in
+        (omega (arith, less, are.of_old.count), omega (arith, fewer, are.of_new.count))) in
         let Reached : Standing → Type 0 = IsReached old_allows new_allows old new partners in (
           map (stand olds news d) keys,
           subst (λ (n : ℕ). limit < n) (sym (length-map keys (stand olds news d))) more,
           are-apart olds news d old_keys new_keys keys inside distinct,
           all-map (λ s. Reached (stand olds news d s)) Reached (stand olds news d) (λ s h. h) keys
-          (all-at (λ s. Reached (stand olds news d s)) keys (λ k s at. standing-reached d k s at)),
+              (all-at (λ s. Reached (stand olds news d s)) keys (λ k s at. standing-reached d k s at)),
         )

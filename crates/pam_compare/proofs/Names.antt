@@ -39,7 +39,7 @@ module _ (old new : Allowance) (count : ℕ) (partners : List (Option ℕ)) (j :
           let same = is-partner i h in
           let low = h.1 in
           let high = h.2 in
-          elim out [ | inl zero ↦ absurd (omega (arith, same, low, zero)) | inr past ↦ absurd (omega (arith, same, high, past)) ];
+          elim out [ inl zero ↦ absurd (omega (arith, same, low, zero)) | inr past ↦ absurd (omega (arith, same, high, past)) ];
     }
 
     pub name-apart : (HaveCommonCode old new p j → ⊥) → IsName old new count partners j (count + j)

@@ -114,7 +114,7 @@ allowed-push-back allows sets more after a at e is same h =
         ],
       ),
       sym (is_in-codes_where allows (a at) (h at).0)
-      ∙ subst (λ (s : List ℕ). is_in (a at) s ≡ true) is (subst (λ (s : List ℕ). is_in (a at) s ≡ true) (get_or_push sets more all_codes at same) here),
+          ∙ subst (λ (s : List ℕ). is_in (a at) s ≡ true) is (subst (λ (s : List ℕ). is_in (a at) s ≡ true) (get_or_push sets more all_codes at same) here),
     )
 
 pub narrowed-back : (sets : List (List ℕ)) (at : ℕ) (codes left : List ℕ) (after : List (List ℕ)) (a : Assignment) → at < length sets →

@@ -40,9 +40,9 @@ possible-on possible base (w ∷ trail) can fits name =
     let Can : ℕ → Type 0 = λ code. (code < 31) × (is_in code (slice_index_or possible name all_codes) ≡ true) in
     elim (cases_eq name w.name) [
       | inl same ↦ subst Can (sym (with-same (answers_on base trail) w.name w.code name same)) (
-          fits.0.code,
-          subst (λ (n : ℕ). is_in w.code (slice_index_or possible n all_codes) ≡ true) (sym same) fits.0.member,
-        )
+        fits.0.code,
+        subst (λ (n : ℕ). is_in w.code (slice_index_or possible n all_codes) ≡ true) (sym same) fits.0.member,
+      )
       | inr other ↦ subst Can (sym (with-other (answers_on base trail) w.name w.code name other)) (possible-on possible base trail can fits.1 name)
     ]
 
@@ -69,7 +69,8 @@ some-number : (i j : ℕ) → Some i ≡ Some j → i ≡ j
 some-number i j e = cc
 
 -- a run that rises asks a later module after an answer
-later : (low high : ℕ) (runs : Runs) (i code j : ℕ) → AsksRise low high runs → asked_module runs ≡ Some i → asked_module (after_answer runs code) ≡ Some j → i < j
+later : (low high : ℕ) (runs : Runs) (i code j : ℕ) → AsksRise low high runs → asked_module runs ≡ Some i →
+    asked_module (after_answer runs code) ≡ Some j → i < j
 later low high runs i code j rise asked next = (AsksRise-step i high (after_answer runs code) j ((AsksRise-step low high runs i rise asked).2 code) next).0
 
 module _ (old new : List FlatItem) (names : List ℕ) (left right : Runs) (old_low new_low : ℕ) (old_rise : AsksRise old_low (modules_of old) left)
@@ -80,7 +81,7 @@ module _ (old new : List FlatItem) (names : List ℕ) (left right : Runs) (old_l
   not-past (Old i) is past =
       let step = AsksRise-step old_low (modules_of old) left i old_rise is in
       let last = step.1 in
-      elim (past.of_old i is) [ | inl less ↦ omega (arith, less) | inr above ↦ omega (arith, above, last) ]
+      elim (past.of_old i is) [ inl less ↦ omega (arith, less) | inr above ↦ omega (arith, above, last) ]
   not-past (New j) is past =
       let step = AsksRise-step new_low (modules_of new) right j new_rise is in
       let first = step.0 in
@@ -89,14 +90,14 @@ module _ (old new : List FlatItem) (names : List ℕ) (left right : Runs) (old_l
   not-past (Both i j) is past =
       let step = AsksRise-step old_low (modules_of old) left i old_rise is.0 in
       let last = step.1 in
-      elim (past.of_old i is.0) [ | inl less ↦ omega (arith, less) | inr above ↦ omega (arith, above, last) ]
+      elim (past.of_old i is.0) [ inl less ↦ omega (arith, less) | inr above ↦ omega (arith, above, last) ]
 
   old-stays : (name code i : ℕ) → asked_module left ≡ Some i →
       ((m : ℕ) → asked_module left ≡ Some m → (name < m) ⊎ (modules_of old < name)) →
       (m : ℕ) → asked_module (after_answer left code) ≡ Some m → (name < m) ⊎ (modules_of old < name)
   old-stays name code i asked past m next =
       let less = later old_low (modules_of old) left i code m old_rise asked next in
-      elim (past i asked) [ | inl below ↦ inl (omega (arith, below, less)) | inr above ↦ inr above ]
+      elim (past i asked) [ inl below ↦ inl (omega (arith, below, less)) | inr above ↦ inr above ]
 
   new-stays : (name code j : ℕ) → asked_module right ≡ Some j →
       ((m k : ℕ) → asked_module right ≡ Some m → 0 < k → k ≤ modules_of new → name_of names k ≡ name → k < m) →
@@ -160,7 +161,7 @@ module _ (old new : List FlatItem) (names : List ℕ) (possible : List (List ℕ
     (keeps : Keeps ways more) (at : slice_get more k ≡ Some w) (before : w.parent < k)
     (answer_name : w.name ≡ answer.name) (answer_codes : w.class ≡ answer.codes)
     (held_after : IsHeldAfter names (modules_of old) (modules_of new) held after answer (asked_module (old_after turn left w.code))
-        (asked_module (new_after turn right w.code)))
+    (asked_module (new_after turn right w.code)))
     (holds_after : (a : Assignment) → Holds a held → is_in (a answer.name) answer.codes ≡ true → Holds a after) where
   way-trail : IsTrail more k (w ∷ way.trail)
   unfolding IsTrail Keeps

@@ -78,7 +78,7 @@ module _ (names : List ℕ) (count modules : ℕ) where
   -- steps stay covered after an answer of this class
   module _ (held after : List HeldAnswer) (old new old' new' : Option ℕ) (answer : HeldAnswer)
       (keeps : (i : ℕ) (h : HeldAnswer) → slice_get held i ≡ Some h → h.name ≢ answer.name →
-          ((k : ℕ) × (slice_get after k ≡ Some h)) ⊎ IsPast names count modules h.name old' new')
+      ((k : ℕ) × (slice_get after k ≡ Some h)) ⊎ IsPast names count modules h.name old' new')
       (adds : ((k : ℕ) × (slice_get after k ≡ Some answer)) ⊎ IsPast names count modules answer.name old' new')
       (narrows : (i : ℕ) (h : HeldAnswer) → slice_get held i ≡ Some h → h.name ≡ answer.name → (c : ℕ) → is_in c answer.codes ≡ true → is_in c h.codes ≡ true)
       (stays : (name : ℕ) → IsPast names count modules name old new → IsPast names count modules name old' new') where

@@ -56,7 +56,8 @@ pub record IsAt (nodes : Nodes) (s : Situation) (n : Node) : Type 0 where
   pub held : s.held.items ≡ n.held.items
 
 -- node k is a new one, to which the last way leads
-pub record IsNew (old new : List FlatItem) (before after : Nodes) (left right : Runs) (held : List HeldAnswer) (way : Way) (k : ℕ) (s : Situation) : Type 0 where
+pub record IsNew (old new : List FlatItem) (before after : Nodes) (left right : Runs) (held : List HeldAnswer) (way : Way) (k : ℕ)
+    (s : Situation) : Type 0 where
   pub node : Node
   pub is_at : IsAt after s node
   pub left_is : rest_of old node.old ≡ left

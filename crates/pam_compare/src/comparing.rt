@@ -63,7 +63,8 @@ fn change_at(pair: &Pair<'_>, node: &Node) -> Option<Change>
     requires new { IsPlaceOf pair.now.new.now node.now.new }
     requires old_end { asked_module (rest_of pair.now.old.now node.now.old) ≡ None }
     requires new_end { asked_module (rest_of pair.now.new.now node.now.new) ≡ None }
-    ensures { (a b : Assignment) → result ≡ change_of (decision_in (rest_of pair.now.old.now node.now.old) a) (decision_in (rest_of pair.now.new.now node.now.new) b) }
+    ensures { (a b : Assignment)
+        → result ≡ change_of (decision_in (rest_of pair.now.old.now node.now.old) a) (decision_in (rest_of pair.now.new.now node.now.new) b) }
 {
     Change::of(
         pair.old.decision(&node.old).code(),
@@ -116,7 +117,8 @@ struct Searched {
 /// The node at which both stacks begin.
 fn begin(alloc: Global, pair: &Pair<'_>) -> Result<Nodes, Memory>
     ensures nodes { IfOk result (λ nodes. AreNodes pair.now.old.now pair.now.new.now nodes) }
-    ensures reached { IfOk result (λ nodes. AreReached pair.now.old.now pair.now.new.now pair.now.naming.now.names.items pair.now.naming.now.possible.items nodes) }
+    ensures reached { IfOk result (λ nodes.
+        AreReached pair.now.old.now pair.now.new.now pair.now.naming.now.names.items pair.now.naming.now.possible.items nodes) }
     ensures begun { IfOk result (λ nodes. IsBegun pair.now.old.now pair.now.new.now nodes) }
 {
     let mut nodes = Nodes::new(alloc);
@@ -136,7 +138,8 @@ fn begin(alloc: Global, pair: &Pair<'_>) -> Result<Nodes, Memory>
 fn search(alloc: Global, pair: &Pair<'_>, limit: usize) -> Result<Searched, Memory>
     requires naming { IsNaming pair.now.old.now pair.now.new.now pair.now.naming.now }
     ensures nodes { IfOk result (λ s. AreNodes pair.now.old.now pair.now.new.now s.nodes) }
-    ensures reached { IfOk result (λ s. AreReached pair.now.old.now pair.now.new.now pair.now.naming.now.names.items pair.now.naming.now.possible.items s.nodes) }
+    ensures reached { IfOk result (λ s.
+        AreReached pair.now.old.now pair.now.new.now pair.now.naming.now.names.items pair.now.naming.now.possible.items s.nodes) }
     ensures ends { IfOk result (λ s. AreEnds pair.now.old.now pair.now.new.now s.nodes s.found) }
     ensures all { IfOk result (λ s. length s.nodes.situations.keys ≤ limit
         → IsSearched pair.now.old.now pair.now.new.now pair.now.naming.now.names.items pair.now.naming.now.possible.items s.found) }
@@ -181,10 +184,10 @@ fn changes_of(
     ensures { (old_allows new_allows : Allowance) (partners : List (Option ℕ))
         → AreNames old_allows new_allows (modules_of pair.now.old.now) (modules_of pair.now.new.now) partners pair.now.naming.now.names.items
         → ((a : Assignment)
-            → IsKnown old_allows new_allows (modules_of pair.now.old.now) (modules_of pair.now.new.now) pair.now.naming.now.names.items a
-            → IsPossible pair.now.naming.now.possible.items a)
+        → IsKnown old_allows new_allows (modules_of pair.now.old.now) (modules_of pair.now.new.now) pair.now.naming.now.names.items a
+        → IsPossible pair.now.naming.now.possible.items a)
         → ((a : Assignment) → IsPossible pair.now.naming.now.possible.items a
-            → IsKnown old_allows new_allows (modules_of pair.now.old.now) (modules_of pair.now.new.now) pair.now.naming.now.names.items a)
+        → IsKnown old_allows new_allows (modules_of pair.now.old.now) (modules_of pair.now.new.now) pair.now.naming.now.names.items a)
         → IsSearched pair.now.old.now pair.now.new.now pair.now.naming.now.names.items pair.now.naming.now.possible.items searched.now.found
         → IfOk result (AreChanges old_allows new_allows pair.now.old.now pair.now.new.now partners) }
 {

@@ -55,8 +55,8 @@ fn follow(
     ensures met { (a : Assignment) → ((name : ℕ) → a name < 31) → Holds a fork.now.node.now.held.items
         → IsTrue (is_in (a (turn_name pair.now.naming.now.names.items fork.now.turn)) way.class)
         → OnOk result (IsMet pair.now.old.now pair.now.new.now nodes.new a
-            (old_after fork.now.turn (rest_of pair.now.old.now fork.now.node.now.old) (a (turn_name pair.now.naming.now.names.items fork.now.turn)))
-            (new_after fork.now.turn (rest_of pair.now.new.now fork.now.node.now.new) (a (turn_name pair.now.naming.now.names.items fork.now.turn)))) }
+        (old_after fork.now.turn (rest_of pair.now.old.now fork.now.node.now.old) (a (turn_name pair.now.naming.now.names.items fork.now.turn)))
+        (new_after fork.now.turn (rest_of pair.now.new.now fork.now.node.now.new) (a (turn_name pair.now.naming.now.names.items fork.now.turn)))) }
 {
     let (old, new) = places_after(pair, fork.node, fork.turn, way.code);
     let answer = HeldAnswer {
@@ -85,7 +85,11 @@ fn codes_at(pair: &Pair<'_>, fork: &Fork<'_>) -> CodeSet
         → h.name ≡ turn_name pair.now.naming.now.names.items fork.now.turn → (c : ℕ) → IsTrue (is_in c result) → IsTrue (is_in c h.codes) }
 {
     let name = turn_name(pair.naming, fork.turn);
-    held_codes(&fork.node.held, name, possible_at(&pair.naming.possible, name))
+    held_codes(
+        &fork.node.held,
+        name,
+        possible_at(&pair.naming.possible, name),
+    )
 }
 
 /// Adds the nodes that follow, in the usual order of the answers.
@@ -110,7 +114,7 @@ pub(crate) fn expand(
     ensures reached { OnOk result (AreReached pair.now.old.now pair.now.new.now pair.now.naming.now.names.items pair.now.naming.now.possible.items nodes.new) }
     ensures done { (a : Assignment) → IsPossible pair.now.naming.now.possible.items a → Holds a fork.now.node.now.held.items
         → OnOk result (IsFollowed pair.now.old.now pair.now.new.now pair.now.naming.now.names.items nodes.new a
-            (rest_of pair.now.old.now fork.now.node.now.old) (rest_of pair.now.new.now fork.now.node.now.new)) }
+        (rest_of pair.now.old.now fork.now.node.now.old) (rest_of pair.now.new.now fork.now.node.now.new)) }
 {
     let name = turn_name(pair.naming, fork.turn);
     let mut left = codes_at(pair, fork);

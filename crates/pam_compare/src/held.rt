@@ -100,11 +100,7 @@ fn is_wanted(
 }
 
 /// Appends an answer, if it is wanted.
-fn push_if(
-    is_wanted: bool,
-    answer: HeldAnswer,
-    held: &mut Vec<HeldAnswer>,
-) -> Result<(), Memory>
+fn push_if(is_wanted: bool, answer: HeldAnswer, held: &mut Vec<HeldAnswer>) -> Result<(), Memory>
     ensures holds { (a : Assignment) → Holds a held.old.items → IsTrue (is_in (a answer.name) answer.codes) → OnOk result (Holds a held.new.items) }
     ensures keeps { OnOk result (Keeps held.old.items held.new.items) }
     ensures pushed { is_wanted ≡ true → OnOk result ((k : ℕ) × (slice_get held.new.items k ≡ Some answer)) }

@@ -12,10 +12,10 @@ mod node;
 mod nodes;
 mod ranks;
 mod situation;
-mod turn;
-mod usual;
 #[cfg(test)]
 mod tests;
+mod turn;
+mod usual;
 mod witness;
 
 pub use change::Change;

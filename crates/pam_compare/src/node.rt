@@ -48,9 +48,8 @@ fn are_alike(pair: &Pair<'_>, node: &Node, turn: Turn, code: Code, other: Code) 
     match turn {
         Turn::Old(_) => lead_alike(pair.old, &node.old, code, other),
         Turn::New(_) => lead_alike(pair.new, &node.new, code, other),
-        Turn::Both(_, _) =>
-            lead_alike(pair.old, &node.old, code, other)
-                && lead_alike(pair.new, &node.new, code, other),
+        Turn::Both(_, _) => lead_alike(pair.old, &node.old, code, other)
+            && lead_alike(pair.new, &node.new, code, other),
     }
 }
 
@@ -67,7 +66,8 @@ fn with_alike(
     requires new { IsPlaceOf pair.now.new.now node.now.new }
     requires turn { IsTurn pair.now.naming.now.names.items (asked_module (rest_of pair.now.old.now node.now.old))
         (asked_module (rest_of pair.now.new.now node.now.new)) turn }
-    ensures alike { ((d : ℕ) → d < 31 → IsTrue (is_in d class) → AreAlike turn (rest_of pair.now.old.now node.now.old) (rest_of pair.now.new.now node.now.new) code d)
+    ensures alike { ((d : ℕ) → d < 31 → IsTrue (is_in d class)
+        → AreAlike turn (rest_of pair.now.old.now node.now.old) (rest_of pair.now.new.now node.now.new) code d)
         → (d : ℕ) → d < 31 → IsTrue (is_in d result) → AreAlike turn (rest_of pair.now.old.now node.now.old) (rest_of pair.now.new.now node.now.new) code d }
     ensures more { (d : ℕ) → d < 31 → IsTrue (is_in d class) → IsTrue (is_in d result) }
 {

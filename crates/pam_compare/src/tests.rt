@@ -7,10 +7,16 @@ use pam_paths::Free;
 use std::alloc::Global;
 
 fn stack_of(alloc: Global, text: &[u8]) -> Option<Stack> {
-    let Ok(name) = b"s".to_vec(alloc) else { return None; };
-    let Ok(bytes) = text.to_vec(alloc) else { return None; };
+    let Ok(name) = b"s".to_vec(alloc) else {
+        return None;
+    };
+    let Ok(bytes) = text.to_vec(alloc) else {
+        return None;
+    };
     let mut files = Files::new(alloc, Form::Dir);
-    if files.put(name, bytes).is_err() { return None; }
+    if files.put(name, bytes).is_err() {
+        return None;
+    }
     match resolve(alloc, &files, b"s", Kind::Auth) {
         Ok(stack) => Some(stack),
         Err(_) => None,
@@ -21,11 +27,21 @@ fn stack_of(alloc: Global, text: &[u8]) -> Option<Stack> {
 fn changes(alloc: Global, old: &[u8], new: &[u8]) -> Option<(bool, bool, bool)> {
     let old = stack_of(alloc, old)?;
     let new = stack_of(alloc, new)?;
-    let Ok(matching) = Matching::of(alloc, &old, &new) else { return None; };
-    let Ok(old) = Program::of(alloc, &old) else { return None; };
-    let Ok(new) = Program::of(alloc, &new) else { return None; };
+    let Ok(matching) = Matching::of(alloc, &old, &new) else {
+        return None;
+    };
+    let Ok(old) = Program::of(alloc, &old) else {
+        return None;
+    };
+    let Ok(new) = Program::of(alloc, &new) else {
+        return None;
+    };
     match compare(alloc, &old, &new, &matching, &Free, &Free) {
-        Ok(Comparison::Known(changes)) => Some((changes.admits.is_some(), changes.refuses.is_some(), changes.tells.is_some())),
+        Ok(Comparison::Known(changes)) => Some((
+            changes.admits.is_some(),
+            changes.refuses.is_some(),
+            changes.tells.is_some(),
+        )),
         Ok(Comparison::NotKnown) => None,
         Err(_) => None,
     }
@@ -43,15 +59,19 @@ fn a_sufficient_module_admits(rt: HostRuntime) {
     let new = b"auth sufficient pam_unix.so\n";
     assert!(rt; changes(rt.alloc(), UNIX, new) == Some((false, false, true)));
 }
+
 #[test]
-fn moved(rt: HostRuntime) {
+fn a_module_moved_to_the_front(rt: HostRuntime) {
     let old = b"auth required a.so\nauth required b.so\nauth required c.so\n";
     let new = b"auth required c.so\nauth required a.so\nauth required b.so\n";
     assert!(rt; changes(rt.alloc(), old, new) == Some((false, false, true)));
 }
+
 #[test]
-fn reversed(rt: HostRuntime) {
-    let old = b"auth required a.so\nauth requisite b.so\nauth required c.so\nauth sufficient d.so\nauth optional e.so\n";
-    let new = b"auth optional e.so\nauth sufficient d.so\nauth required c.so\nauth requisite b.so\nauth required a.so\n";
+fn modules_in_the_other_order(rt: HostRuntime) {
+    let old =
+        b"auth required a.so\nauth requisite b.so\nauth required c.so\nauth sufficient d.so\nauth optional e.so\n";
+    let new =
+        b"auth optional e.so\nauth sufficient d.so\nauth required c.so\nauth requisite b.so\nauth required a.so\n";
     assert!(rt; changes(rt.alloc(), old, new) == Some((true, true, true)));
 }

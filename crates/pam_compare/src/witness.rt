@@ -146,19 +146,13 @@ fn witness_to(
     ensures { (old_allows new_allows : Allowance) (partners : List (Option ℕ)) (change : Change)
         → AreNames old_allows new_allows (modules_of pair.now.old.now) (modules_of pair.now.new.now) partners pair.now.naming.now.names.items
         → ((a : Assignment) → IsPossible pair.now.naming.now.possible.items a
-            → IsKnown old_allows new_allows (modules_of pair.now.old.now) (modules_of pair.now.new.now) pair.now.naming.now.names.items a)
+        → IsKnown old_allows new_allows (modules_of pair.now.old.now) (modules_of pair.now.new.now) pair.now.naming.now.names.items a)
         → IsEnd pair.now.old.now pair.now.new.now nodes.now index change
         → IfOk result (IsWitness old_allows new_allows pair.now.old.now pair.now.new.now partners change) }
 {
     let trail = trail_to(alloc, &nodes.ways, index)?;
     let old_codes = old_answers(alloc, pair.old.modules(), usual, &trail)?;
-    let new_codes = new_answers(
-        alloc,
-        pair.new.modules(),
-        &pair.naming.names,
-        usual,
-        &trail,
-    )?;
+    let new_codes = new_answers(alloc, pair.new.modules(), &pair.naming.names, usual, &trail)?;
     let old = decided(pair.old, &old_codes);
     let new = decided(pair.new, &new_codes);
     Ok(Witness {
@@ -184,7 +178,7 @@ pub(crate) fn witness_at(
     ensures witness { (old_allows new_allows : Allowance) (partners : List (Option ℕ)) (change : Change)
         → AreNames old_allows new_allows (modules_of pair.now.old.now) (modules_of pair.now.new.now) partners pair.now.naming.now.names.items
         → ((a : Assignment) → IsPossible pair.now.naming.now.possible.items a
-            → IsKnown old_allows new_allows (modules_of pair.now.old.now) (modules_of pair.now.new.now) pair.now.naming.now.names.items a)
+        → IsKnown old_allows new_allows (modules_of pair.now.old.now) (modules_of pair.now.new.now) pair.now.naming.now.names.items a)
         → ((k : ℕ) → index ≡ Some k → IsEnd pair.now.old.now pair.now.new.now nodes.now k change)
         → IfOk result (λ some. IfSome some (IsWitness old_allows new_allows pair.now.old.now pair.now.new.now partners change)) }
 {

@@ -30,7 +30,8 @@ returns c old_allows new_allows partners named can exact searched =
           (c.in_ok-admits.ensures.witness old_allows new_allows partners Admits named exact (λ k is. c.requires.ends Admits k is)) c.in_ok-admits.ensures.none;
       refuses = shown old_allows new_allows old new partners naming.names.items named naming.possible.items can found searched rise_old rise_new
           Refuses found.refuses (λ noted. noted) c.in_ok-refuses.refuses
-          (c.in_ok-refuses.ensures.witness old_allows new_allows partners Refuses named exact (λ k is. c.requires.ends Refuses k is)) c.in_ok-refuses.ensures.none;
+          (c.in_ok-refuses.ensures.witness old_allows new_allows partners Refuses named exact (λ k is. c.requires.ends Refuses k is))
+          c.in_ok-refuses.ensures.none;
       tells = shown old_allows new_allows old new partners naming.names.items named naming.possible.items can found searched rise_old rise_new
           Tells found.tells (λ noted. noted) c.in_ok-tells.tells
           (c.in_ok-tells.ensures.witness old_allows new_allows partners Tells named exact (λ k is. c.requires.ends Tells k is)) c.in_ok-tells.ensures.none;

@@ -36,7 +36,8 @@ returns-then-len-gt-MAX_SITUATIONS g c =
     let naming = c.in_ok-naming.naming in
     let told = c.in_ok-naming.ensures in
     let found = c.in_ok-searched.ensures in
-    let can = subst (λ o. IfSome o (λ (codes : Vec Code Global). IsPossible naming.possible.items (by_code codes.items))) c.in-Some.is c.in_ok-usual.ensures.some in
+    let can = subst (λ o. IfSome o (λ (codes : Vec Code Global). IsPossible naming.possible.items (by_code codes.items))) c.in-Some.is
+    c.in_ok-usual.ensures.some in
     many (g.K.Knowledge.allows c.args.old_known.now) (g.L.Knowledge.allows c.args.new_known.now) c.args.old.now c.args.new.now c.args.matching.now
     naming.names.items naming.possible.items told.names told.exact c.in_ok-searched.searched.nodes (by_code c.in-Some.usual.items) can found.nodes found.reached
     MAX_SITUATIONS (omega (arith, c.len.ensures.count, c.if-len-gt-MAX_SITUATIONS.true)) c.len.ensures.different c.len.ensures.old_places

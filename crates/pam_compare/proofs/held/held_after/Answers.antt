@@ -32,7 +32,8 @@ loop-index-preserved c =
       holds = λ a h. step.holds a (inv.holds a h)
           (subst (λ (y : HeldAnswer). is_in (a y.name) y.codes ≡ true) (sym c.index-held-index.is) (holds-at a held k earlier within h));
       keeps = λ modules names_count last i h below at other.
-          let Kept : HeldAnswer → Type 0 = λ x. ((m : ℕ) × (slice_get c.push_if.new.held.items m ≡ Some x)) ⊎ IsPast names count modules x.name c.args.old c.args.new in
+          let Kept : HeldAnswer → Type 0 = λ x.
+          ((m : ℕ) × (slice_get c.push_if.new.held.items m ≡ Some x)) ⊎ IsPast names count modules x.name c.args.old c.args.new in
           elim (cases_lt i k) [
             | inl before ↦ elim (inv.keeps modules names_count last i h before at other) [
               | inl m ↦ inl (m.0, kept _ _ m.0 h step.keeps m.1)
@@ -68,9 +69,9 @@ returns-clause-told c modules count last =
             | inr past ↦ inr past
           ];
       adds = elim c.is_ahead.result as (λ (b : Bool).
-      c.is_ahead.result ≡ b →
-      ((m : ℕ) × (slice_get c.push_if-2.new.held.items m ≡ Some c.args.answer)) ⊎ IsPast names old_count modules c.args.answer.name c.args.old c.args.new) [
-        | true ↦ λ yes. inl (step.pushed yes)
-        | false ↦ λ out. inr (c.is_ahead.ensures modules count last out)
-      ] refl;
+          c.is_ahead.result ≡ b →
+          ((m : ℕ) × (slice_get c.push_if-2.new.held.items m ≡ Some c.args.answer)) ⊎ IsPast names old_count modules c.args.answer.name c.args.old c.args.new) [
+            | true ↦ λ yes. inl (step.pushed yes)
+            | false ↦ λ out. inr (c.is_ahead.ensures modules count last out)
+          ] refl;
     }

@@ -11,9 +11,12 @@ loop-index-preserved c =
     let codes = c.loop-index.codes.items in
     let pushed = c.in_ok-push.ensures.items in
     let longer = ap (λ (l : List ℕ). length l) pushed ∙ length_push codes c.answer_on.result in
+    let base = by_code c.args.usual.now in
+    let trail = c.args.trail.now in
     record {
       count = omega (arith, longer, inv.count);
-      answers = answers-push codes c.answer_on.result c.loop-index.index _ (λ (j : ℕ). answers_on (by_code c.args.usual.now) c.args.trail.now (name_of c.args.names.now j)) inv.count pushed inv.answers (c.answer_on.ensures ∙ ap (answers_on (by_code c.args.usual.now) c.args.trail.now) c.value_at.ensures);
+      answers = answers-push codes c.answer_on.result c.loop-index.index _ (λ (j : ℕ). answers_on base trail (name_of c.args.names.now j)) inv.count
+          pushed inv.answers (c.answer_on.ensures ∙ ap (answers_on base trail) c.value_at.ensures);
     }
 
 pub returns-clause-answers : goal.returns-clause-answers

@@ -13,7 +13,8 @@ loop-index-preserved c =
     let longer = ap (λ (l : List ℕ). length l) pushed ∙ length_push codes c.answer_on.result in
     record {
       count = omega (arith, longer, inv.count);
-      answers = answers-push codes c.answer_on.result c.loop-index.index _ (answers_on (by_code c.args.usual.now) c.args.trail.now) inv.count pushed inv.answers (c.answer_on.ensures);
+      answers = answers-push codes c.answer_on.result c.loop-index.index _ (answers_on (by_code c.args.usual.now) c.args.trail.now) inv.count
+          pushed inv.answers c.answer_on.ensures;
     }
 
 pub returns-clause-answers : goal.returns-clause-answers

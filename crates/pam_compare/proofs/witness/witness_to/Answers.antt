@@ -31,13 +31,13 @@ returns c old_allows new_allows partners change named exact end =
     let new = pair.new.now in
     let of_old : (i : ℕ) → 0 < i → i ≤ modules_of old → answers_of c.in_ok-old_codes.old_codes.items i ≡ a i =
     λ i positive most.
-        c.in_ok-old_codes.ensures.answers i positive (subst (λ (n : ℕ). i ≤ n) (sym c.modules.ensures.count) most)
-        ∙ ap (λ (l : List Way). answers_on base l i) (c.deref-2.ensures.value ∙ trail) in
+    c.in_ok-old_codes.ensures.answers i positive (subst (λ (n : ℕ). i ≤ n) (sym c.modules.ensures.count) most)
+    ∙ ap (λ (l : List Way). answers_on base l i) (c.deref-2.ensures.value ∙ trail) in
     let of_new : (j : ℕ) → 0 < j → j ≤ modules_of new → answers_of c.in_ok-new_codes.new_codes.items j ≡ a (name_of naming.names.items j) =
     λ j positive most.
-        c.in_ok-new_codes.ensures.answers j positive (subst (λ (n : ℕ). j ≤ n) (sym c.modules-2.ensures.count) most)
-        ∙ ap (λ (l : List Way). answers_on base l (name_of c.deref-3.result.now j)) (c.deref-4.ensures.value ∙ trail)
-        ∙ ap (λ (l : List ℕ). a (name_of l j)) c.deref-3.ensures.value in
+    c.in_ok-new_codes.ensures.answers j positive (subst (λ (n : ℕ). j ≤ n) (sym c.modules-2.ensures.count) most)
+    ∙ ap (λ (l : List Way). answers_on base l (name_of c.deref-3.result.now j)) (c.deref-4.ensures.value ∙ trail)
+    ∙ ap (λ (l : List ℕ). a (name_of l j)) c.deref-3.ensures.value in
     is-witness old_allows new_allows old new partners naming.names.items naming.possible.items named exact c.modules.ensures.rise c.modules-2.ensures.rise
     (rest_of old end.node.old) (rest_of new end.node.new) change end.change_is a (possible-on naming.possible.items base way.trail c.requires.usual way.fits)
     (way.old_comes a (way.follows base)) (way.new_comes a (way.follows base)) _ (c.in_ok-old_codes.ensures.count ∙ c.modules.ensures.count)

@@ -10,7 +10,7 @@ returns-clause-nodes c old new are here there =
     let p = first.found old are.of_old in
     let q = second.found new are.of_new in
     nodes-added old new c.args.self.now _ _ _ _ p.0 q.0 are (first.places old are.of_old here) (second.places new are.of_new there)
-    first.keeps second.keeps added.places.0 added.places.1 (λ k s at. elim (added.added k s at) [ | inl was ↦ inl was | inr n ↦ inr n.0 ]) p.1 q.1
+    first.keeps second.keeps added.places.0 added.places.1 (λ k s at. elim (added.added k s at) [ inl was ↦ inl was | inr n ↦ inr n.0 ]) p.1 q.1
 
 pub returns-clause-added : goal.returns-clause-added
 returns-clause-added c old new are k s at =

@@ -5,5 +5,5 @@ pub returns : goal.returns
 returns c = (
   c.in-Some.situation.now,
   sym c.in-Some.ensures.key,
-  record { old = c.at.ensures; new = c.at-2.ensures; held = sym (c.in_ok-held.ensures ∙ c.deref.ensures.value); },
+  record { old = c.at.ensures; new = c.at-2.ensures; held = sym (c.in_ok-held.ensures ∙ c.deref.ensures.value) },
 )
