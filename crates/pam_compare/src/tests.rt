@@ -1,6 +1,6 @@
 //! Comparisons of small stacks.
 
-use crate::{Change, Comparison, Matching, compare};
+use crate::{Comparison, Matching, compare};
 use pam_conf::{Files, Form, Kind, Stack, resolve};
 use pam_dispatch::Program;
 use pam_paths::Free;
@@ -47,28 +47,35 @@ fn changes(alloc: Global, old: &[u8], new: &[u8]) -> Option<(bool, bool, bool)> 
     }
 }
 
-const UNIX: &[u8] = b"auth required pam_unix.so\n";
+const REQUIRED: &[u8] = b"auth required pam_unix.so\n";
 
 #[test]
 fn equal_stacks_do_not_differ(rt: HostRuntime) {
-    assert!(rt; changes(rt.alloc(), UNIX, UNIX) == Some((false, false, false)));
+    assert!(rt; changes(rt.alloc(), REQUIRED, REQUIRED) == Some((false, false, false)));
 }
 
 #[test]
-fn a_sufficient_module_admits(rt: HostRuntime) {
+fn a_sufficient_module_fails_otherwise(rt: HostRuntime) {
     let new = b"auth sufficient pam_unix.so\n";
-    assert!(rt; changes(rt.alloc(), UNIX, new) == Some((false, false, true)));
+    assert!(rt; changes(rt.alloc(), REQUIRED, new) == Some((false, false, true)));
 }
 
 #[test]
-fn a_module_moved_to_the_front(rt: HostRuntime) {
+fn an_optional_module_admits(rt: HostRuntime) {
+    let old = b"auth required pam_unix.so\nauth required pam_permit.so\n";
+    let new = b"auth optional pam_unix.so\nauth required pam_permit.so\n";
+    assert!(rt; changes(rt.alloc(), old, new) == Some((true, false, true)));
+}
+
+#[test]
+fn a_module_that_moves_to_the_front_fails_first(rt: HostRuntime) {
     let old = b"auth required a.so\nauth required b.so\nauth required c.so\n";
     let new = b"auth required c.so\nauth required a.so\nauth required b.so\n";
     assert!(rt; changes(rt.alloc(), old, new) == Some((false, false, true)));
 }
 
 #[test]
-fn modules_in_the_other_order(rt: HostRuntime) {
+fn five_modules_in_the_other_order(rt: HostRuntime) {
     let old =
         b"auth required a.so\nauth requisite b.so\nauth required c.so\nauth sufficient d.so\nauth optional e.so\n";
     let new =
