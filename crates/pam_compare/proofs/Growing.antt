@@ -1,0 +1,276 @@
+-- Lists of places and situations that grow.
+use Rattle.std.proofs.Common.{◌≡◌, ◌<◌, ◌+◌, ◌⊎◌, ◌∙◌, inl, inr, ℕ, zero, suc, Bool, true, false, cond, List, [], ◌∷◌, ◌++◌, Option, Some, None}
+use Rattle.std.proofs.Common.{get_or, length, ap, arith, refl, sym, subst}
+use Rattle.std.specs.List.{list_any}
+use Rattle.std.specs.Prelude.{not, slice_get}
+use Rattle.std.proofs.lemmas.Bool.{false≢true}
+use Rattle.std.proofs.lemmas.List.{length_push}
+use Rattle.std.proofs.lemmas.Option.{slice_get-get_or, slice_get_within}
+use Rattle.pam_dispatch.specs.declared.flat_item.FlatItem.{FlatItem}
+use Rattle.pam_dispatch.specs.declared.key.PlaceKey.{PlaceKey}
+use Rattle.pam_dispatch.specs.declared.place.Place.{Place}
+use Rattle.pam_dispatch.specs.Flat.{IsPlaceOf, rest_of}
+use Rattle.pam_dispatch.specs.Keys.{key_of, rest_at}
+use Rattle.pam_dispatch.specs.Runs.{Assignment, Runs}
+use Rattle.pam_compare.specs.declared.change.Change.{Change}
+use Rattle.pam_compare.specs.declared.node.Node.{Node}
+use Rattle.pam_compare.specs.declared.nodes.Found.{Found}
+use Rattle.pam_compare.specs.declared.nodes.Nodes.{Nodes}
+use Rattle.pam_compare.specs.declared.nodes.Places.{Places}
+use Rattle.pam_compare.specs.declared.nodes.Way.{Way}
+use Rattle.pam_compare.specs.declared.held.HeldAnswer.{HeldAnswer}
+use Rattle.pam_compare.specs.declared.situation.Situation.{Situation}
+use Rattle.pam_compare.specs.Held.{Holds, IsSame}
+use Rattle.pam_compare.specs.Nodes.{AreNodes, ArePlaces, IsAt, IsDone, IsMet, IsNew, IsNoted, IsStored, IsVisited, Keeps, KeepsNodes}
+
+pub nothing : {X : Type 0} (x : X) → None ≡ Some x → ⊥
+nothing x e = cc
+
+pub same-some : {X : Type 0} (x y : X) → Some x ≡ Some y → x ≡ y
+same-some x y e = cc
+
+append-left : {X : Type 0} (xs ys : List X) (k : ℕ) (x : X) → slice_get xs k ≡ Some x → slice_get (xs ++ ys) k ≡ Some x
+append-left [] ys k x at = absurd (nothing x at)
+append-left (y ∷ xs) ys zero x at = at
+append-left (y ∷ xs) ys (suc k) x at = append-left xs ys k x at
+
+pub at-end : {X : Type 0} (xs : List X) (y : X) → slice_get (xs ++ y ∷ []) (length xs) ≡ Some y
+at-end [] y = refl
+at-end (x ∷ xs) y = at-end xs y
+
+pub append-cases : {X : Type 0} (xs : List X) (y : X) (k : ℕ) (x : X) → slice_get (xs ++ y ∷ []) k ≡ Some x →
+    (slice_get xs k ≡ Some x) ⊎ ((y ≡ x) × (k ≡ length xs))
+append-cases [] y zero x at = inr (same-some y x at, refl)
+append-cases [] y (suc k) x at = absurd (nothing x at)
+append-cases (z ∷ xs) y zero x at = inl at
+append-cases (z ∷ xs) y (suc k) x at =
+    elim (append-cases xs y k x at) [
+      | inl was ↦ inl was
+      | inr new ↦ inr (new.0, omega (arith, new.1))
+    ]
+
+pub keeps-same : {X : Type 0} (xs : List X) → Keeps xs xs
+unfolding Keeps
+keeps-same xs k x at = at
+
+pub keeps-equal : {X : Type 0} (xs ys : List X) → ys ≡ xs → Keeps xs ys
+unfolding Keeps
+keeps-equal xs ys e k x at = ap (λ l. slice_get l k) e ∙ at
+
+pub keeps-push : {X : Type 0} (xs : List X) (y : X) (ys : List X) → ys ≡ xs ++ y ∷ [] → Keeps xs ys
+unfolding Keeps
+keeps-push xs y ys e k x at = ap (λ l. slice_get l k) e ∙ append-left xs (y ∷ []) k x at
+
+pub keeps-both : {X : Type 0} (xs ys zs : List X) → Keeps xs ys → Keeps ys zs → Keeps xs zs
+unfolding Keeps
+keeps-both xs ys zs f g k x at = g k x (f k x at)
+
+pub kept : {X : Type 0} (xs ys : List X) (k : ℕ) (x : X) → Keeps xs ys → slice_get xs k ≡ Some x → slice_get ys k ≡ Some x
+unfolding Keeps
+kept xs ys k x keeps at = keeps k x at
+
+-- what is there after, at an index that was there before, was there
+pub kept-back : {X : Type 0} (xs ys : List X) (k : ℕ) (x : X) → Keeps xs ys → k < length xs → slice_get ys k ≡ Some x → slice_get xs k ≡ Some x
+unfolding Keeps
+kept-back xs ys k x keeps within at =
+    let was = slice_get-get_or xs k x within in
+    was ∙ sym (keeps k (get_or xs k x) was) ∙ at
+
+pub longer : {X : Type 0} (xs ys : List X) (k : ℕ) → Keeps xs ys → k < length xs → k < length ys
+longer {X} xs ys k keeps within = go xs within (λ x at. kept xs ys k x keeps at)
+  where
+    go : (l : List X) → k < length l → ((x : X) → slice_get l k ≡ Some x → slice_get ys k ≡ Some x) → k < length ys
+    go [] below f = absurd (omega arith)
+    go (z ∷ zs) below f = slice_get_within ys k (get_or (z ∷ zs) k z) (f _ (slice_get-get_or (z ∷ zs) k z below))
+
+-- PLACES
+
+pub places-none : (program : List FlatItem) (places : List Place) (keys : List PlaceKey) → places ≡ [] → keys ≡ [] → ArePlaces program places keys
+places-none program places keys e f = record {
+  count = ap (λ (l : List Place). length l) e ∙ sym (ap (λ (l : List PlaceKey). length l) f);
+  stored = λ k p at. absurd (nothing p (sym (ap (λ (l : List Place). slice_get l k) e) ∙ at));
+}
+
+pub places-push : (program : List FlatItem) (places : List Place) (keys : List PlaceKey) (place : Place) (places' : List Place) (keys' : List PlaceKey) →
+    places' ≡ places ++ place ∷ [] → keys' ≡ keys ++ key_of place ∷ [] → ArePlaces program places keys → IsPlaceOf program place →
+    rest_at program (key_of place) ≡ rest_of program place → ArePlaces program places' keys'
+places-push program places keys place places' keys' e f are here rest =
+    let short = are.count in record {
+      count = ap (λ (l : List Place). length l) e ∙ length_push places place ∙ ap (λ (n : ℕ). n + 1) short ∙ sym (length_push keys (key_of place))
+          ∙ sym (ap (λ (l : List PlaceKey). length l) f);
+      stored = λ k p at. elim (append-cases places place k p (sym (ap (λ (l : List Place). slice_get l k) e) ∙ at)) [
+        | inl was ↦ let old = are.stored k p was in record {
+          place = old.place;
+          key = ap (λ (l : List PlaceKey). slice_get l k) f ∙ append-left keys (key_of place ∷ []) k (key_of p) old.key;
+          rest = old.rest;
+        }
+        | inr new ↦ subst (λ (q : Place). IsStored program keys' k q) new.0 (record {
+          place = here;
+          key = ap (λ (l : List PlaceKey). slice_get l k) f
+              ∙ ap (λ (n : ℕ). slice_get (keys ++ key_of place ∷ []) n) (new.1 ∙ short) ∙ at-end keys (key_of place);
+          rest = rest;
+        })
+      ];
+    }
+
+-- a place that has a key is found
+pub place-found : (program : List FlatItem) (places : List Place) (keys : List PlaceKey) (place : Place) (k : ℕ) → ArePlaces program places keys →
+    slice_get keys k ≡ Some (key_of place) → rest_at program (key_of place) ≡ rest_of program place →
+    (p : Place) × (slice_get places k ≡ Some p) × (rest_of program p ≡ rest_of program place)
+place-found program places keys place k are at rest =
+    let inside = slice_get_within keys k (key_of place) at in
+    let within : k < length places = omega (arith, inside, are.count) in
+    let p : Place = get_or places k place in
+    let there = slice_get-get_or places k place within in
+    let stored = are.stored k p there in
+    let same : key_of p ≡ key_of place = same-some (key_of p) (key_of place) (sym stored.key ∙ at) in
+    (p, there, sym stored.rest ∙ ap (rest_at program) same ∙ rest)
+
+pub place-added : (program : List FlatItem) (places : List Place) (place : Place) (places' : List Place) (k : ℕ) → places' ≡ places ++ place ∷ [] →
+    k ≡ length places → (p : Place) × (slice_get places' k ≡ Some p) × (rest_of program p ≡ rest_of program place)
+place-added program places place places' k e is =
+    (place, ap (λ (l : List Place). slice_get l k) e ∙ ap (λ (n : ℕ). slice_get (places ++ place ∷ []) n) is ∙ at-end places place, refl)
+
+-- WHAT STAYS
+
+pub nodes-both : (a b c : Nodes) → KeepsNodes a b → KeepsNodes b c → KeepsNodes a c
+nodes-both a b c f g = record {
+  of_old = keeps-both _ _ _ f.of_old g.of_old;
+  of_new = keeps-both _ _ _ f.of_new g.of_new;
+  situations = keeps-both _ _ _ f.situations g.situations;
+  ways = keeps-both _ _ _ f.ways g.ways;
+}
+
+pub nodes-same : (a : Nodes) → KeepsNodes a a
+nodes-same a = record { of_old = keeps-same _; of_new = keeps-same _; situations = keeps-same _; ways = keeps-same _ }
+
+pub at-kept : (before after : Nodes) (s : Situation) (n : Node) → KeepsNodes before after → IsAt before s n → IsAt after s n
+at-kept before after s n keeps is = record {
+  old = kept _ _ _ _ keeps.of_old is.old;
+  new = kept _ _ _ _ keeps.of_new is.new;
+  held = is.held;
+}
+
+pub met-kept : (old new : List FlatItem) (before after : Nodes) (a : Assignment) (left right : Runs) → KeepsNodes before after →
+    IsMet old new before a left right → IsMet old new after a left right
+met-kept old new before after a left right keeps m = record {
+  index = m.index;
+  situation = m.situation;
+  node = m.node;
+  is_there = kept _ _ _ _ keeps.situations m.is_there;
+  is_at = at-kept before after m.situation m.node keeps m.is_at;
+  left_is = m.left_is;
+  right_is = m.right_is;
+  holds = m.holds;
+}
+
+-- what is visited stays visited
+pub visited-kept : (old new : List FlatItem) (names : List ℕ) (possible : List (List ℕ)) (before after : Nodes) (found more : Found) (s : Situation) →
+    KeepsNodes before after → ((c : Option Change) → IsNoted found c → IsNoted more c) →
+    IsVisited old new names possible before found s → IsVisited old new names possible after more s
+unfolding IsDone
+visited-kept old new names possible before after found more s keeps noted v = record {
+  node = v.node;
+  is_at = at-kept before after s v.node keeps v.is_at;
+  done = λ a can holds. elim (v.done a can holds) [
+    | inl d ↦ inl (noted _ d)
+    | inr w ↦ inr (w.0, w.1, met-kept old new before after a _ _ keeps w.2)
+  ];
+}
+
+-- SITUATIONS
+
+module _ (test : Situation → Bool) (keys after : List Situation) (value : Situation)
+    (is : after ≡ cond (list_any test keys) keys (keys ++ value ∷ [])) where
+  by-keeps : (t : Bool) → after ≡ cond t keys (keys ++ value ∷ []) → Keeps keys after
+  by-keeps true e = keeps-equal keys after e
+  by-keeps false e = keeps-push keys value after e
+
+  pub insert-keeps : Keeps keys after
+  insert-keeps = by-keeps (list_any test keys) is
+
+  by-new : (t : Bool) → true ≡ not t → after ≡ cond t keys (keys ++ value ∷ []) → after ≡ keys ++ value ∷ []
+  by-new true out e = absurd (false≢true (sym out))
+  by-new false out e = e
+
+  pub insert-new : true ≡ not (list_any test keys) → after ≡ keys ++ value ∷ []
+  insert-new out = by-new (list_any test keys) out is
+
+  by-old : (t : Bool) → false ≡ not t → after ≡ cond t keys (keys ++ value ∷ []) → after ≡ keys
+  by-old true out e = e
+  by-old false out e = absurd (false≢true out)
+
+  pub insert-old : false ≡ not (list_any test keys) → after ≡ keys
+  insert-old out = by-old (list_any test keys) out is
+
+pub pushed-cases : {P : Type 0} (keys after : List Situation) (value : Situation) → after ≡ keys ++ value ∷ [] → P → (k : ℕ) (s : Situation) →
+    slice_get after k ≡ Some s → (slice_get keys k ≡ Some s) ⊎ ((s ≡ value) × (k ≡ length keys) × P)
+pushed-cases keys after value e p k s at =
+    elim (append-cases keys value k s (sym (ap (λ (l : List Situation). slice_get l k) e) ∙ at)) [
+      | inl was ↦ inl was
+      | inr new ↦ inr (sym new.0, new.1, p)
+    ]
+
+pub new-added : (old new : List FlatItem) (before after : Nodes) (op np : Places) (situation s : Situation) (p q : Place) (k : ℕ) (left right : Runs)
+    (held : List HeldAnswer) (way : Way) → after.old_places ≡ op → after.new_places ≡ np → s ≡ situation → situation.held.items ≡ held →
+    slice_get op.places.items situation.old ≡ Some p → slice_get np.places.items situation.new ≡ Some q → rest_of old p ≡ left → rest_of new q ≡ right →
+    k ≡ length before.situations.keys → after.ways.items ≡ before.ways.items ++ way ∷ [] → IsNew old new before after left right held way k s
+new-added old new before after op np situation s p q k left right held way e f same h at_old at_new l r index ways = record {
+  node = record { old = p; new = q; held = s.held };
+  is_at = record {
+    old = ap (λ (x : Places). slice_get x.places.items s.old) e ∙ ap (λ (x : Situation). slice_get op.places.items x.old) same ∙ at_old;
+    new = ap (λ (x : Places). slice_get x.places.items s.new) f ∙ ap (λ (x : Situation). slice_get np.places.items x.new) same ∙ at_new;
+    held = refl;
+  };
+  left_is = l;
+  right_is = r;
+  held_is = ap (λ (x : Situation). x.held.items) same ∙ h;
+  index = index;
+  ways = ways;
+}
+
+pub nodes-added : (old new : List FlatItem) (before after : Nodes) (op np : Places) (situation : Situation) (p q : Place) →
+    AreNodes old new before →
+    ArePlaces old op.places.items op.keys → ArePlaces new np.places.items np.keys →
+    Keeps before.old_places.places.items op.places.items → Keeps before.new_places.places.items np.places.items →
+    after.old_places ≡ op → after.new_places ≡ np →
+    ((k : ℕ) (s : Situation) → slice_get after.situations.keys k ≡ Some s → (slice_get before.situations.keys k ≡ Some s) ⊎ (s ≡ situation)) →
+    slice_get op.places.items situation.old ≡ Some p → slice_get np.places.items situation.new ≡ Some q → AreNodes old new after
+nodes-added old new before after op np situation p q are is_old is_new keeps_old keeps_new e f only at_old at_new =
+    let into : (k n : ℕ) → k < length op.places.items → n < length np.places.items →
+    (k < length after.old_places.places.items) × (n < length after.new_places.places.items) =
+    λ k n less fewer. (
+      subst (λ (x : Places). k < length x.places.items) (sym e) less,
+      subst (λ (x : Places). n < length x.places.items) (sym f) fewer,
+    ) in
+    record {
+      of_old = subst (λ (x : Places). ArePlaces old x.places.items x.keys) (sym e) is_old;
+      of_new = subst (λ (x : Places). ArePlaces new x.places.items x.keys) (sym f) is_new;
+      within = λ k s at. elim (only k s at) [
+        | inl was ↦ let w = are.within k s was in
+            into s.old s.new (longer _ _ s.old keeps_old w.0) (longer _ _ s.new keeps_new w.1)
+        | inr same ↦ into s.old s.new
+            (subst (λ (x : Situation). x.old < length op.places.items) (sym same) (slice_get_within op.places.items situation.old p at_old))
+            (subst (λ (x : Situation). x.new < length np.places.items) (sym same) (slice_get_within np.places.items situation.new q at_new))
+      ];
+    }
+
+pub met-added : (old new : List FlatItem) (after : Nodes) (op np : Places) (situation s : Situation) (p q : Place) (k : ℕ) (a : Assignment)
+    (left right : Runs) → after.old_places ≡ op → after.new_places ≡ np →
+    slice_get after.situations.keys k ≡ Some s → IsSame s situation →
+    slice_get op.places.items situation.old ≡ Some p → slice_get np.places.items situation.new ≡ Some q → rest_of old p ≡ left → rest_of new q ≡ right →
+    ((name : ℕ) → a name < 31) → Holds a situation.held.items → IsMet old new after a left right
+met-added old new after op np situation s p q k a left right e f at same at_old at_new l r low h = record {
+  index = k;
+  situation = s;
+  node = record { old = p; new = q; held = s.held };
+  is_there = at;
+  is_at = record {
+    old = ap (λ (x : Places). slice_get x.places.items s.old) e ∙ ap (λ (n : ℕ). slice_get op.places.items n) same.old ∙ at_old;
+    new = ap (λ (x : Places). slice_get x.places.items s.new) f ∙ ap (λ (n : ℕ). slice_get np.places.items n) same.new ∙ at_new;
+    held = refl;
+  };
+  left_is = l;
+  right_is = r;
+  holds = same.held a low h;
+}

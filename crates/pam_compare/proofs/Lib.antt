@@ -1,0 +1,15 @@
+pub mod Agreeing
+pub mod Coming
+pub mod Fewer
+pub mod Growing
+pub mod Holding
+pub mod Many
+pub mod Meeting
+pub mod Names
+pub mod Possible
+pub mod Reaching
+pub mod Sameness
+pub mod Standing
+pub mod Trails
+pub mod Witnessing
+pub mod Writing

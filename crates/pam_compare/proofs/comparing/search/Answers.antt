@@ -1,0 +1,54 @@
+use Rattle.std.proofs.Common.{◌≡◌, ◌<◌, ◌∙◌, ℕ, Some, arith, inl, inr, length, subst, sym}
+use Rattle.std.specs.Prelude.{slice_get}
+use Rattle.std.proofs.lemmas.Bool.{cases_lt}
+use Rattle.std.proofs.lemmas.Option.{slice_get_within}
+use Rattle.pam_compare.specs.Ways.{AreEnds}
+use Rattle.pam_compare.proofs.Growing.{kept-back, met-kept, nothing, visited-kept}
+use Rattle.pam_compare.proofs.Meeting.{all-searched}
+use Rattle.pam_compare.proofs.comparing.search.Goals as goal
+
+pub loop-index-init : goal.loop-index-init
+unfolding AreEnds
+loop-index-init c = record {
+  nodes = c.in_ok-nodes.ensures.nodes;
+  reached = c.in_ok-nodes.ensures.reached;
+  ends = λ change k is. absurd (nothing k (sym (c.new-found.ensures change) ∙ is));
+  begun = c.in_ok-nodes.ensures.begun;
+  visited = λ k s below. absurd (omega (arith, below));
+}
+
+pub returns-then-index-len-clause-all : goal.returns-then-index-len-clause-all
+returns-then-index-len-clause-all c few =
+    let inv = c.loop-index.invariant in
+    all-searched _ _ _ _ c.loop-index.nodes c.loop-index.found
+    (λ k s at. let inside = slice_get_within _ k s at in inv.visited k s (omega (arith, inside, c.len.ensures.len, c.if-index-len.true)) at) inv.begun
+
+pub loop-index-preserved : goal.loop-index-preserved
+loop-index-preserved c =
+    let inv = c.loop-index.invariant in
+    let step = c.in_ok-visit.ensures in
+    let old = c.args.pair.now.old.now in
+    let new = c.args.pair.now.new.now in
+    let before = c.loop-index.nodes.situations.keys in
+    record {
+      nodes = step.nodes;
+      reached = step.reached;
+      ends = step.ends;
+      begun = λ a low. met-kept old new _ _ a _ _ step.keeps (inv.begun a low);
+      visited = λ k s below at.
+          let inside : k < length before = omega (arith, c.len.ensures.len, c.if-index-len.false, below) in
+          let was = kept-back before c.visit.new.nodes.situations.keys k s step.keeps.situations inside at in
+          elim (cases_lt k c.loop-index.index) [
+            | inl earlier ↦ visited-kept old new _ _ _ _ _ _ s step.keeps step.found (inv.visited k s earlier was)
+            | inr most ↦ let same : k ≡ c.loop-index.index = omega arith in step.visited s (subst (λ (n : ℕ). slice_get before n ≡ Some s) same was)
+          ];
+    }
+
+pub returns-then-len-limit-clause-all : goal.returns-then-len-limit-clause-all
+returns-then-len-limit-clause-all c few = absurd (omega (arith, few, c.len-in-loop-index.ensures.len, c.if-len-limit.true))
+
+pub returns-clause-all : goal.returns-clause-all
+returns-clause-all c few =
+    let inv = c.loop-index.invariant in
+    all-searched _ _ _ _ c.loop-index.nodes c.loop-index.found
+    (λ k s at. let inside = slice_get_within _ k s at in inv.visited k s (omega (arith, inside, few, c.loop-index-test.false)) at) inv.begun

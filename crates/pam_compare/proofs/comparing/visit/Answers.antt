@@ -1,0 +1,78 @@
+use Rattle.std.proofs.Common.{◌∙◌, ℕ, Option, ap, inl, inr, subst, sym}
+use Rattle.std.specs.Prelude.{slice_get}
+use Rattle.pam_compare.specs.declared.change.Change.{Change}
+use Rattle.pam_compare.specs.declared.situation.Situation.{Situation}
+use Rattle.pam_compare.specs.Naming.{by_name}
+use Rattle.pam_compare.specs.Nodes.{IsAt, IsDone, IsNoted}
+use Rattle.pam_compare.proofs.Growing.{at-kept, nodes-same, same-some}
+use Rattle.pam_compare.specs.Ways.{AreEnds}
+use Rattle.pam_compare.proofs.Reaching.{ends-kept, way-at}
+use Rattle.pam_compare.proofs.comparing.visit.Goals as goal
+
+pub turn_at-requires-clause-old : goal.turn_at-requires-clause-old
+turn_at-requires-clause-old c = let n = c.in_ok-node.ensures in (c.requires.nodes.of_old.stored _ _ n.2.old).place
+
+pub turn_at-requires-clause-new : goal.turn_at-requires-clause-new
+turn_at-requires-clause-new c = let n = c.in_ok-node.ensures in (c.requires.nodes.of_new.stored _ _ n.2.new).place
+
+pub change_at-requires-clause-old : goal.change_at-requires-clause-old
+change_at-requires-clause-old c = let n = c.in_ok-node.ensures in (c.requires.nodes.of_old.stored _ _ n.2.old).place
+
+pub change_at-requires-clause-new : goal.change_at-requires-clause-new
+change_at-requires-clause-new c = let n = c.in_ok-node.ensures in (c.requires.nodes.of_new.stored _ _ n.2.new).place
+
+pub expand-requires-clause-old : goal.expand-requires-clause-old
+expand-requires-clause-old c = let n = c.in_ok-node.ensures in (c.requires.nodes.of_old.stored _ _ n.2.old).place
+
+pub expand-requires-clause-new : goal.expand-requires-clause-new
+expand-requires-clause-new c = let n = c.in_ok-node.ensures in (c.requires.nodes.of_new.stored _ _ n.2.new).place
+
+pub returns-in_default-clause-keeps : goal.returns-in_default-clause-keeps
+returns-in_default-clause-keeps c = nodes-same _
+
+pub returns-in_default-clause-visited : goal.returns-in_default-clause-visited
+unfolding IsDone
+returns-in_default-clause-visited c s at =
+    let n = c.in_ok-node.ensures in
+    let names = c.args.pair.now.naming.now.names.items in
+    record {
+      node = c.in_ok-node.node;
+      is_at = subst (λ (x : Situation). IsAt c.args.nodes.now x c.in_ok-node.node) (same-some n.0 s (sym n.1 ∙ at)) n.2;
+      done = λ a can holds. inl (subst (λ (o : Option Change). IsNoted c.note.new.self o) (c.change_at.ensures a (by_name names a)) c.note.ensures.noted);
+    }
+
+pub returns-clause-visited : goal.returns-clause-visited
+unfolding IsDone
+returns-clause-visited c s at =
+    let n = c.in_ok-node.ensures in
+    let step = c.in_ok-expand.ensures in
+    record {
+      node = c.in_ok-node.node;
+      is_at = at-kept _ _ s _ step.keeps (subst (λ (x : Situation). IsAt c.args.nodes.now x c.in_ok-node.node) (same-some n.0 s (sym n.1 ∙ at)) n.2);
+      done = λ a can holds. inr (step.done a can holds);
+    }
+
+pub returns-in_default-clause-ends : goal.returns-in_default-clause-ends
+unfolding AreEnds
+returns-in_default-clause-ends c change k is =
+    let n = c.in_ok-node.ensures in
+    elim (c.note.ensures.ends change k is) [
+      | inl was ↦ c.requires.ends change k was
+      | inr noted ↦ record {
+        situation = n.0;
+        node = c.in_ok-node.node;
+        is_there = ap (λ (m : ℕ). slice_get c.args.nodes.now.situations.keys m) noted.1 ∙ n.1;
+        is_at = n.2;
+        change_is = λ a b. sym (c.change_at.ensures a b) ∙ noted.0;
+      }
+    ]
+
+pub expand-requires-clause-way : goal.expand-requires-clause-way
+expand-requires-clause-way c =
+    let n = c.in_ok-node.ensures in
+    let naming = c.args.pair.now.naming.now in
+    way-at c.args.pair.now.old.now c.args.pair.now.new.now naming.names.items naming.possible.items c.args.nodes.now c.args.index n.0 c.in_ok-node.node
+    (c.requires.reached.reached c.args.index n.0 n.1) n.2
+
+pub returns-clause-ends : goal.returns-clause-ends
+returns-clause-ends c = ends-kept c.args.pair.now.old.now c.args.pair.now.new.now _ _ c.args.found.now c.in_ok-expand.ensures.keeps c.requires.ends

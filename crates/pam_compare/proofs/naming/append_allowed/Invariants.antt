@@ -1,0 +1,14 @@
+use Rattle.std.proofs.Common.{◌≡◌, ◌+◌, ◌<◌, ◌≤◌, ℕ, length, true}
+use Rattle.pam_dispatch.specs.Runs.{Assignment}
+use Rattle.pam_compare.specs.Naming.{IsPossible}
+use Rattle.pam_compare.proofs.naming.append_allowed.Given as goal
+
+abbrev pub invariant-loop-index : goal.invariant-loop-index
+invariant-loop-index g l = record {
+  count : length l.sets.items ≡ length l.fn.sets.items + l.index;
+  possible : (a : Assignment) (base : ℕ) → length l.fn.sets.items ≡ base + 1 → ((name : ℕ) → a name < 31) →
+      ((j : ℕ) → 0 < j → j ≤ l.modules → g.K.Knowledge.allows l.known j (a (base + j)) ≡ true) →
+      IsPossible l.fn.sets.items a → IsPossible l.sets.items a;
+  exact : (a : Assignment) (base : ℕ) → length l.fn.sets.items ≡ base + 1 → IsPossible l.sets.items a →
+      IsPossible l.fn.sets.items a × ((j : ℕ) → 0 < j → j ≤ l.index → g.K.Knowledge.allows l.known j (a (base + j)) ≡ true);
+}

@@ -1,0 +1,12 @@
+use Rattle.std.proofs.Common.{◌≡◌, ◌<◌, ◌≤◌, ℕ, length}
+use Rattle.pam_compare.specs.Naming.{name_of}
+use Rattle.pam_compare.proofs.naming.last_of.Given as goal
+
+abbrev pub invariant-loop : goal.invariant-loop
+invariant-loop l = length l.last.items ≡ l.counter
+
+abbrev pub invariant-loop-number : goal.invariant-loop-number
+invariant-loop-number l = record {
+  count : length l.last.items ≡ l.count;
+  rising : (k : ℕ) → 0 < k → k < l.number → k < length l.names → k ≤ name_of l.last.items (name_of l.names k);
+}

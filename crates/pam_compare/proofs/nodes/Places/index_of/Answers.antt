@@ -1,0 +1,23 @@
+use Rattle.std.proofs.Common.{◌∙◌, sym}
+use Rattle.pam_compare.proofs.Growing.{keeps-push, keeps-same, place-added, place-found, places-push}
+use Rattle.pam_compare.proofs.nodes.Places.index_of.Goals as goal
+
+pub returns-in-Some-clause-keeps : goal.returns-in-Some-clause-keeps
+returns-in-Some-clause-keeps c = keeps-same _
+
+pub returns-in-Some-clause-found : goal.returns-in-Some-clause-found
+returns-in-Some-clause-found c program are =
+    place-found program c.args.self.now.places.items c.args.self.now.keys c.args.place.now c.in-Some.index are c.in-Some.ensures.found
+    (c.in-Some.ensures.rest program)
+
+pub returns-clause-keeps : goal.returns-clause-keeps
+returns-clause-keeps c = keeps-push c.args.self.now.places.items c.args.place.now _ c.in_ok-push_place.ensures
+
+pub returns-clause-places : goal.returns-clause-places
+returns-clause-places c program are here =
+    places-push program c.args.self.now.places.items c.args.self.now.keys c.args.place.now _ _ c.in_ok-push_place.ensures c.in_ok-push.ensures.added are here
+    (c.find.ensures.rest program)
+
+pub returns-clause-found : goal.returns-clause-found
+returns-clause-found c program are =
+    place-added program c.args.self.now.places.items c.args.place.now _ _ c.in_ok-push_place.ensures (c.len-index.ensures.count ∙ sym are.count)

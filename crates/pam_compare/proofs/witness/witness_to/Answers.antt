@@ -1,0 +1,46 @@
+use Rattle.std.proofs.Common.{◌≡◌, ◌<◌, ◌≤◌, ◌∙◌, ℕ, List, ap, subst, sym}
+use Rattle.pam_dispatch.specs.Flat.{modules_of, rest_of, runs_of}
+use Rattle.pam_dispatch.specs.Runs.{Assignment, answers_of}
+use Rattle.pam_compare.specs.declared.nodes.Way.{Way}
+use Rattle.pam_compare.specs.Comparison.{decision_in}
+use Rattle.pam_compare.specs.Naming.{by_code, name_of}
+use Rattle.pam_compare.specs.Trails.{IsTrail, answers_on}
+use Rattle.pam_compare.proofs.Reaching.{possible-on, way-at}
+use Rattle.pam_compare.proofs.Trails.{one-trail}
+use Rattle.pam_compare.proofs.Witnessing.{is-witness}
+use Rattle.pam_compare.proofs.witness.witness_to.Goals as goal
+
+pub trail_to-requires : goal.trail_to-requires
+trail_to-requires c =
+    let end = c.requires.end.1 in
+    let r = c.requires.reached.reached c.args.index end.situation end.is_there in
+    (r.way.trail, subst (λ (l : List Way). IsTrail l c.args.index r.way.trail) (sym c.deref.ensures.value) r.way.is_trail)
+
+pub returns : goal.returns
+returns c old_allows new_allows partners change named exact end =
+    let pair = c.args.pair.now in
+    let naming = pair.naming.now in
+    let r = c.requires.reached.reached c.args.index end.situation end.is_there in
+    let way = way-at pair.old.now pair.new.now naming.names.items naming.possible.items c.args.nodes.now c.args.index end.situation end.node r end.is_at in
+    let base : Assignment = by_code c.args.usual.now in
+    let trail : c.in_ok-trail.trail.items ≡ way.trail =
+    one-trail c.args.nodes.now.ways.items c.args.index c.in_ok-trail.trail.items way.trail
+    (subst (λ (l : List Way). IsTrail l c.args.index c.in_ok-trail.trail.items) c.deref.ensures.value c.in_ok-trail.ensures) way.is_trail in
+    let a : Assignment = answers_on base way.trail in
+    let old = pair.old.now in
+    let new = pair.new.now in
+    let of_old : (i : ℕ) → 0 < i → i ≤ modules_of old → answers_of c.in_ok-old_codes.old_codes.items i ≡ a i =
+    λ i positive most.
+    c.in_ok-old_codes.ensures.answers i positive (subst (λ (n : ℕ). i ≤ n) (sym c.modules.ensures.count) most)
+    ∙ ap (λ (l : List Way). answers_on base l i) (c.deref-2.ensures.value ∙ trail) in
+    let of_new : (j : ℕ) → 0 < j → j ≤ modules_of new → answers_of c.in_ok-new_codes.new_codes.items j ≡ a (name_of naming.names.items j) =
+    λ j positive most.
+    c.in_ok-new_codes.ensures.answers j positive (subst (λ (n : ℕ). j ≤ n) (sym c.modules-2.ensures.count) most)
+    ∙ ap (λ (l : List Way). answers_on base l (name_of c.deref-3.result.now j)) (c.deref-4.ensures.value ∙ trail)
+    ∙ ap (λ (l : List ℕ). a (name_of l j)) c.deref-3.ensures.value in
+    is-witness old_allows new_allows old new partners naming.names.items naming.possible.items named exact c.modules.ensures.rise c.modules-2.ensures.rise
+    (rest_of old end.node.old) (rest_of new end.node.new) change end.change_is a (possible-on naming.possible.items base way.trail c.requires.usual way.fits)
+    (way.old_comes a (way.follows base)) (way.new_comes a (way.follows base)) _ (c.in_ok-old_codes.ensures.count ∙ c.modules.ensures.count)
+    (c.in_ok-new_codes.ensures.count ∙ c.modules-2.ensures.count) of_old of_new
+    (c.decided-old.ensures ∙ ap (λ (l : List ℕ). decision_in (runs_of old) (answers_of l)) c.deref-5.ensures.value)
+    (c.decided-new.ensures ∙ ap (λ (l : List ℕ). decision_in (runs_of new) (answers_of l)) c.deref-6.ensures.value)

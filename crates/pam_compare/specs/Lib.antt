@@ -1,0 +1,11 @@
+pub mod Agreement
+pub mod Changes
+pub mod Comparison
+pub mod Held
+pub mod Matching
+pub mod Naming
+pub mod Nodes
+pub mod Situations
+pub mod Trails
+pub mod Turn
+pub mod Ways

@@ -1,0 +1,139 @@
+//! Answers that one stack has had from modules which the other stack has still ahead.
+
+ghost use Rattle.std.specs.Prelude.{◌≡◌, ◌⊎◌, ◌+◌, ◌<◌, ℕ, false, true, IfOk, IsTrue, OnOk, Some, length, slice_get};
+ghost use Rattle.pam_codes.specs.Set.{is_in};
+ghost use Rattle.pam_dispatch.specs.Runs.{Assignment};
+ghost use Rattle.pam_compare.specs.declared.held.HeldAnswer.{HeldAnswer};
+ghost use Rattle.pam_compare.specs.Held.{Holds};
+ghost use Rattle.pam_compare.specs.Naming.{AreLast};
+ghost use Rattle.pam_compare.specs.Nodes.{Keeps};
+ghost use Rattle.pam_compare.specs.Trails.{IsHeldAfter, IsPast};
+
+use crate::naming::{Naming, common, value_at};
+use pam_codes::CodeSet;
+use pam_dispatch::Memory;
+use std::alloc::Global;
+use std::hash::{Hash, Hasher};
+
+/// The answer of the module with this name was one of these codes.
+#[derive(Clone, Copy, Debug, PartialEq, Eq)]
+pub(crate) struct HeldAnswer {
+    pub(crate) name: usize,
+    pub(crate) codes: CodeSet,
+}
+
+impl Hash for HeldAnswer {
+    ghost use Rattle.std.specs.Prelude.{◌++◌, slice_index_or};
+    ghost use Rattle.std.specs.Hash as fed;
+    ghost use Rattle.std.proofs.Common.{rules};
+
+    ghost hash_input = { λ h. fed.usize h.name };
+
+    ghost respects_eq = { Prim.search rules };
+
+    fn hash<H: Hasher>(&self, state: &mut H) {
+        state.write_usize(self.name);
+    }
+}
+
+/// Of these codes, those that an answer leaves to the module with this name.
+fn codes_left(answer: HeldAnswer, name: usize, codes: CodeSet) -> CodeSet
+    ensures kept { (c : ℕ) → c < 31 → IsTrue (is_in c codes) → (answer.name ≡ name → IsTrue (is_in c answer.codes)) → IsTrue (is_in c result) }
+    ensures within { (c : ℕ) → IsTrue (is_in c result) → IsTrue (is_in c codes) }
+    ensures left { answer.name ≡ name → (c : ℕ) → IsTrue (is_in c result) → IsTrue (is_in c answer.codes) }
+{
+    if answer.name != name {
+        return codes;
+    }
+    common(codes, answer.codes)
+}
+
+/// Of these codes, those that what is held leaves to the module with this name.
+pub(crate) fn held_codes(held: &[HeldAnswer], name: usize, codes: CodeSet) -> CodeSet
+    ensures kept { (a : Assignment) → a name < 31 → Holds a held.now → IsTrue (is_in (a name) codes) → IsTrue (is_in (a name) result) }
+    ensures within { (c : ℕ) → IsTrue (is_in c result) → IsTrue (is_in c codes) }
+    ensures left { (i : ℕ) (h : HeldAnswer) → slice_get held.now i ≡ Some h → h.name ≡ name → (c : ℕ) → IsTrue (is_in c result) → IsTrue (is_in c h.codes) }
+{
+    let mut left = codes;
+    for index in 0..held.len() {
+        left = codes_left(held[index], name, left);
+    }
+    left
+}
+
+/// Whether a stack that asks the module `next` can still ask the module with this number.
+fn may_ask(next: Option<usize>, number: usize) -> bool
+    ensures { result ≡ false → (i : ℕ) → next ≡ Some i → number < i }
+{
+    match next {
+        Some(next) => next <= number,
+        None => false,
+    }
+}
+
+/// Whether one of the stacks, which ask these modules next, has the module with this name still ahead.
+fn is_ahead(naming: &Naming, name: usize, old: Option<usize>, new: Option<usize>) -> bool
+    ensures { (modules : ℕ) → length naming.now.names.items ≡ modules + 1 → AreLast naming.now.names.items naming.now.last.items
+        → result ≡ false → IsPast naming.now.names.items naming.now.old_modules modules name old new }
+{
+    if name <= naming.old_modules && may_ask(old, name) {
+        return true;
+    }
+    may_ask(new, value_at(&naming.last, name))
+}
+
+/// Whether an answer of the module with this name is still held after that of `answered`.
+fn is_wanted(
+    naming: &Naming,
+    name: usize,
+    answered: usize,
+    old: Option<usize>,
+    new: Option<usize>,
+) -> bool
+    ensures { (modules : ℕ) → length naming.now.names.items ≡ modules + 1 → AreLast naming.now.names.items naming.now.last.items
+        → result ≡ false → (name ≡ answered) ⊎ IsPast naming.now.names.items naming.now.old_modules modules name old new }
+{
+    if name == answered {
+        return false;
+    }
+    is_ahead(naming, name, old, new)
+}
+
+/// Appends an answer, if it is wanted.
+fn push_if(is_wanted: bool, answer: HeldAnswer, held: &mut Vec<HeldAnswer>) -> Result<(), Memory>
+    ensures holds { (a : Assignment) → Holds a held.old.items → IsTrue (is_in (a answer.name) answer.codes) → OnOk result (Holds a held.new.items) }
+    ensures keeps { OnOk result (Keeps held.old.items held.new.items) }
+    ensures pushed { is_wanted ≡ true → OnOk result ((k : ℕ) × (slice_get held.new.items k ≡ Some answer)) }
+{
+    if !is_wanted {
+        return Ok(());
+    }
+    held.push(answer)?;
+    Ok(())
+}
+
+/// What is held after an answer of this class, where the stacks then ask these modules next.
+pub(crate) fn held_after(
+    alloc: Global,
+    naming: &Naming,
+    held: &[HeldAnswer],
+    answer: HeldAnswer,
+    old: Option<usize>,
+    new: Option<usize>,
+) -> Result<Vec<HeldAnswer>, Memory>
+    ensures holds { IfOk result (λ after. (a : Assignment) → Holds a held.now → IsTrue (is_in (a answer.name) answer.codes) → Holds a after.items) }
+    ensures told { (modules : ℕ) → length naming.now.names.items ≡ modules + 1 → AreLast naming.now.names.items naming.now.last.items
+        → IfOk result (λ after. IsHeldAfter naming.now.names.items naming.now.old_modules modules held.now after.items answer old new) }
+{
+    let mut after = Vec::new(alloc);
+    for index in 0..held.len() {
+        let earlier = held[index];
+        push_if(
+            is_wanted(naming, earlier.name, answer.name, old, new),
+            earlier,
+            &mut after,
+        )?;
+    }
+    push_if(is_ahead(naming, answer.name, old, new), answer, &mut after)?;
+    Ok(after)
+}

@@ -1,0 +1,245 @@
+//! The nodes found so far.
+
+ghost use Rattle.std.specs.Prelude.{◌≡◌, ◌⊎◌, ◌<◌, ◌∷◌, ◌++◌, [], List, ℕ, IfOk, None, OnOk, Option, Some, length, slice_get};
+ghost use Rattle.pam_dispatch.specs.declared.flat_item.FlatItem.{FlatItem};
+ghost use Rattle.pam_dispatch.specs.declared.place.Place.{Place};
+ghost use Rattle.pam_dispatch.specs.Flat.{IsPlaceOf, rest_of};
+ghost use Rattle.pam_dispatch.specs.Runs.{Assignment};
+ghost use Rattle.pam_compare.specs.declared.situation.Situation.{Situation};
+ghost use Rattle.pam_compare.specs.declared.change.Change.{Change};
+ghost use Rattle.pam_compare.specs.Held.{Holds, IsSame, same_situation};
+ghost use Rattle.pam_compare.specs.Ways.{found_at};
+ghost use Rattle.pam_dispatch.specs.Keys.{AreDifferent};
+ghost use Rattle.std.specs.List.{IsDistinct};
+ghost use Rattle.pam_compare.specs.Nodes.{AreAdded, AreNodes, ArePlaces, IsAt, IsMet, IsNoted, Keeps, KeepsNodes};
+
+use crate::change::Change;
+use crate::held::HeldAnswer;
+use crate::node::Node;
+use crate::situation::Situation;
+use indexmap::IndexSet;
+use pam_codes::{Code, CodeSet};
+use pam_dispatch::{Memory, Place, PlaceTable};
+use std::alloc::Global;
+
+/// The last step of the way to a node: the index of the node before it, and the answer, which is one of a class of codes after
+/// which both stacks go on alike.
+#[derive(Clone, Copy, Debug)]
+pub(crate) struct Way {
+    pub(crate) parent: usize,
+    pub(crate) name: usize,
+    pub(crate) code: Code,
+    pub(crate) class: CodeSet,
+}
+
+/// Places of one program, each found again by its key.
+#[derive(Drop)]
+pub(crate) struct Places {
+    pub(crate) places: Vec<Place>,
+    pub(crate) keys: PlaceTable,
+}
+
+/// The situations found so far, and the way on which each was found first.
+#[derive(Drop)]
+pub(crate) struct Nodes {
+    pub(crate) old_places: Places,
+    pub(crate) new_places: Places,
+    pub(crate) situations: IndexSet<Situation>,
+    pub(crate) ways: Vec<Way>,
+}
+
+/// For each change, the index of the first node at which both runs end with it.
+#[derive(Clone, Copy, Debug)]
+pub(crate) struct Found {
+    pub(crate) admits: Option<usize>,
+    pub(crate) refuses: Option<usize>,
+    pub(crate) tells: Option<usize>,
+}
+
+/// Adds a place at the end.
+fn push_place(places: &mut Vec<Place>, place: &Place) -> Result<(), Memory>
+    ensures { OnOk result (places.new.items ≡ places.old.items ++ place.now ∷ []) }
+{
+    match places.extend_from_slice(&[*place]) {
+        Ok(()) => Ok(()),
+        Err(_) => Err(Memory),
+    }
+}
+
+fn copied(alloc: Global, held: &[HeldAnswer]) -> Result<Vec<HeldAnswer>, Memory>
+    ensures { IfOk result (λ copy. copy.items ≡ held.now) }
+{
+    let mut copy = Vec::new(alloc);
+    match copy.extend_from_slice(held) {
+        Ok(()) => Ok(copy),
+        Err(_) => Err(Memory),
+    }
+}
+
+impl Places {
+    fn new(alloc: Global) -> Places
+        ensures { (program : List FlatItem) → ArePlaces program result.places.items result.keys }
+    {
+        Places {
+            places: Vec::new(alloc),
+            keys: PlaceTable::new(alloc),
+        }
+    }
+
+    /// The index of a place from which the run goes on as from `place`, which is added if there is none.
+    pub(crate) fn index_of(&mut self, place: &Place) -> Result<usize, Memory>
+        ensures keeps { OnOk result (Keeps self.old.places.items self.new.places.items) }
+        ensures places { (program : List FlatItem) → ArePlaces program self.old.places.items self.old.keys → IsPlaceOf program place.now
+            → OnOk result (ArePlaces program self.new.places.items self.new.keys) }
+        ensures found { (program : List FlatItem) → ArePlaces program self.old.places.items self.old.keys
+            → IfOk result (λ k. (p : Place) × (slice_get self.new.places.items k ≡ Some p) × (rest_of program p ≡ rest_of program place.now)) }
+    {
+        if let Some(index) = self.keys.find(place) {
+            return Ok(index);
+        }
+        let index = self.keys.len();
+        self.keys.push(place)?;
+        push_place(&mut self.places, place)?;
+        Ok(index)
+    }
+
+    /// The place with this index.
+    fn at(&self, index: usize) -> Place
+        requires { index < length self.now.places.items }
+        ensures { slice_get self.now.places.items index ≡ Some result }
+    {
+        self.places[index]
+    }
+}
+
+impl Nodes {
+    pub(crate) fn new(alloc: Global) -> Nodes
+        ensures nodes { (old new : List FlatItem) → AreNodes old new result }
+        ensures none { length result.situations.keys ≡ 0 }
+        ensures ways { length result.ways.items ≡ 0 }
+    {
+        Nodes {
+            old_places: Places::new(alloc),
+            new_places: Places::new(alloc),
+            situations: IndexSet::new(alloc),
+            ways: Vec::new(alloc),
+        }
+    }
+
+    /// The number of situations, which are all different.
+    pub(crate) fn len(&self) -> usize
+        ensures count { result ≡ length self.now.situations.keys }
+        ensures different { IsDistinct same_situation self.now.situations.keys }
+        ensures old_places { AreDifferent self.now.old_places.keys }
+        ensures new_places { AreDifferent self.now.new_places.keys }
+    {
+        // A table says with its length that its places differ.
+        let _old = self.old_places.keys.len();
+        let _new = self.new_places.keys.len();
+        self.situations.len()
+    }
+
+    /// Adds a situation, unless it is there. Returns its index.
+    fn add_situation(&mut self, situation: Situation, way: Way) -> Result<usize, Memory>
+        ensures places { OnOk result ((self.new.old_places ≡ self.old.old_places) × (self.new.new_places ≡ self.old.new_places)) }
+        ensures keeps { OnOk result (Keeps self.old.situations.keys self.new.situations.keys) }
+        ensures ways { OnOk result (Keeps self.old.ways.items self.new.ways.items) }
+        ensures count { length self.old.ways.items ≡ length self.old.situations.keys
+            → OnOk result (length self.new.ways.items ≡ length self.new.situations.keys) }
+        ensures added { OnOk result ((k : ℕ) (s : Situation) → slice_get self.new.situations.keys k ≡ Some s
+            → (slice_get self.old.situations.keys k ≡ Some s)
+            ⊎ (s ≡ situation) × (k ≡ length self.old.situations.keys) × (self.new.ways.items ≡ self.old.ways.items ++ way ∷ [])) }
+        ensures found { IfOk result (λ k. (s : Situation) × (slice_get self.new.situations.keys k ≡ Some s) × IsSame s situation) }
+    {
+        let (index, is_new) = self.situations.insert_full(situation)?;
+        if is_new {
+            self.ways.push(way)?;
+        }
+        Ok(index)
+    }
+
+    /// Adds the situation with these places and held answers, unless it is there.
+    pub(crate) fn add(
+        &mut self,
+        old_place: &Place,
+        new_place: &Place,
+        held: Vec<HeldAnswer>,
+        way: Way,
+    ) -> Result<(), Memory>
+        ensures keeps { OnOk result (KeepsNodes self.old self.new) }
+        ensures nodes { (old new : List FlatItem) → AreNodes old new self.old → IsPlaceOf old old_place.now → IsPlaceOf new new_place.now
+            → OnOk result (AreNodes old new self.new) }
+        ensures count { length self.old.ways.items ≡ length self.old.situations.keys
+            → OnOk result (length self.new.ways.items ≡ length self.new.situations.keys) }
+        ensures added { (old new : List FlatItem) → AreNodes old new self.old
+            → OnOk result (AreAdded old new self.old self.new (rest_of old old_place.now) (rest_of new new_place.now) held.items way) }
+        ensures met { (old new : List FlatItem) (a : Assignment) → AreNodes old new self.old → ((name : ℕ) → a name < 31) → Holds a held.items
+            → OnOk result (IsMet old new self.new a (rest_of old old_place.now) (rest_of new new_place.now)) }
+    {
+        let old_index = self.old_places.index_of(old_place)?;
+        let new_index = self.new_places.index_of(new_place)?;
+        let situation = Situation {
+            old: old_index,
+            new: new_index,
+            held,
+        };
+        self.add_situation(situation, way)?;
+        Ok(())
+    }
+
+    /// The node at `index`.
+    pub(crate) fn node_at(&self, alloc: Global, index: usize) -> Result<Node, Memory>
+        requires within { index < length self.now.situations.keys }
+        requires nodes { (old new : List FlatItem) × AreNodes old new self.now }
+        ensures { IfOk result (λ n. (s : Situation) × (slice_get self.now.situations.keys index ≡ Some s) × IsAt self.now s n) }
+    {
+        let Some(situation) = self.situations.get_index(index) else {
+            unreachable!()
+        };
+        let held = copied(alloc, &situation.held)?;
+        Ok(Node {
+            old: self.old_places.at(situation.old),
+            new: self.new_places.at(situation.new),
+            held,
+        })
+    }
+}
+
+impl Found {
+    /// Nothing.
+    pub(crate) fn new() -> Found
+        ensures { (change : Change) → found_at result change ≡ None }
+    {
+        Found {
+            admits: None,
+            refuses: None,
+            tells: None,
+        }
+    }
+
+    /// Notes the node at `index` for a change, unless one is noted or there is no change.
+    pub(crate) fn note(&mut self, change: Option<Change>, index: usize)
+        ensures noted { IsNoted self.new change }
+        ensures keeps { (c : Option Change) → IsNoted self.old c → IsNoted self.new c }
+        ensures ends { (c : Change) (k : ℕ) → found_at self.new c ≡ Some k → (found_at self.old c ≡ Some k) ⊎ ((change ≡ Some c) × (k ≡ index)) }
+    {
+        match change {
+            None => {}
+            Some(Change::Admits) => {
+                if self.admits.is_none() {
+                    self.admits = Some(index);
+                }
+            }
+            Some(Change::Refuses) => {
+                if self.refuses.is_none() {
+                    self.refuses = Some(index);
+                }
+            }
+            Some(Change::Tells) => {
+                if self.tells.is_none() {
+                    self.tells = Some(index);
+                }
+            }
+        }
+    }
+}
