@@ -257,8 +257,8 @@ numbers_and_candidates =
       name = codes "CandidateForm";
       level = Error;
       meaning =
-          codes "A value of --with is not a name, = and a file; or --with stands beside --conf,\n"
-          ++ codes "whose one file is for all services, so that there is no file of a name.";
+          codes "A value of --with does not have the form NAME=FILE, or --with is given beside\n"
+          ++ codes "--conf, whose one file is for all services and has no NAME.";
       example =
           codes "$ pamcheck show login auth --dir . --with login"
           ∷ [];

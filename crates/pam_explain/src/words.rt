@@ -232,8 +232,8 @@ static NUMBERS_AND_CANDIDATES: [Explanation; 2] = [
         name: "CandidateForm",
         level: Level::Error,
         meaning: concat!(
-            "A value of --with is not a name, = and a file; or --with stands beside --conf,\n",
-            "whose one file is for all services, so that there is no file of a name."
+            "A value of --with does not have the form NAME=FILE, or --with is given beside\n",
+            "--conf, whose one file is for all services and has no NAME."
         ),
         example: &["$ pamcheck show login auth --dir . --with login"],
         linux_pam: "this is a fault of the words that pamcheck was given.",
