@@ -10,7 +10,7 @@ def questions(items, allowed):
     while waiting:
         lists, state = waiting.pop()
         module, lists = stacks.next_module(lists, state)
-        place = module and (module.number, state, tuple(entered for _, entered in lists))
+        place = module and stacks.place(module, lists, state)
         if module is None or place in seen:
             continue
         seen.add(place)

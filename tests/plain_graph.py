@@ -44,7 +44,7 @@ class Graph:
         module, lists = stacks.next_module(lists, state)
         if module is None:
             return b"d%d" % stacks.CODES.index(lists)
-        place = module.number, state, tuple(entered for _, entered in lists)
+        place = stacks.place(module, lists, state)
         if place not in self.found:
             edges = [(codes, self.target(*after)) for codes, after in stacks.classes(module, lists, state)
                      if any(code in self.allowed[module.number - 1] for code in codes)]

@@ -54,8 +54,7 @@ def listed(paths):
 class Places:
     """The places that were looked at, each with the outcomes from there on; steps are linked, the first with the rest.
 
-    A place is the module that is asked, the state, and the entry state of each open list: the rest of a run depends on
-    nothing else."""
+    The rest of a run depends on its place alone."""
 
     def __init__(self, allowed):
         self.allowed = allowed
@@ -70,7 +69,7 @@ class Places:
             return lists in decisions
         if module.number == number:
             return True
-        place = module.number, state, tuple(entered for _, entered in lists)
+        place = stacks.place(module, lists, state)
         if place not in self.meets:
             self.meets[place] = any(
                 self.can_meet(after, decisions, number) for codes, after in stacks.classes(module, lists, state)
@@ -82,7 +81,7 @@ class Places:
         module, lists = stacks.next_module(lists, state)
         if module is None:
             return {lists: (1, None)}
-        place = module.number, state, tuple(entered for _, entered in lists)
+        place = stacks.place(module, lists, state)
         if place not in self.known:
             found = self.found(module, lists, state)
             if len(self.known) == MOST_PLACES:

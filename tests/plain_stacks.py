@@ -287,6 +287,19 @@ def answered(module, lists, state, code):
     return lists[:-1] + [(rest[len(rest) - left:], entry)], state
 
 
+def place(module, lists, state):
+    """What the rest of a run depends on where a module is asked: the module, the state, and the state in which each open list
+    was entered, if a module that is still to come in it, the one that is asked or a later one, has the action `reset`."""
+    coming = [items for items, _ in lists]
+    coming[-1] = [module] + coming[-1]
+    return module.number, state, tuple(entry if any(map(resets, reversed(items))) else None for items, (_, entry) in zip(coming, lists))
+
+
+def resets(item):
+    """Whether an item is a module that has the action `reset` for some code; the items of a substack are in another list."""
+    return isinstance(item, Module) and b"reset" in item.control
+
+
 def run(items, codes):
     """The modules that are asked, each with its code and the state after it, and the decision."""
     asked = []

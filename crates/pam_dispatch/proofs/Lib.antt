@@ -1,5 +1,6 @@
 pub mod Asking
 pub mod Controls
+pub mod EqualRests
 pub mod FlatLists
 pub mod Flattening
 pub mod Keys
@@ -8,6 +9,7 @@ pub mod Numbering
 pub mod OpenRuns
 pub mod Places
 pub mod Positions
+pub mod ReadTables
 pub mod Resume
 pub mod Retelling
 pub mod SettledRuns

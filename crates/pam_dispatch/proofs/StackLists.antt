@@ -1,5 +1,5 @@
 -- The flat list of a stack is a program's, with the stack's modules and controls.
-use Rattle.std.proofs.Common.{◌≡◌, ℕ, ◌+◌, ◌-◌, ◌≤◌, List, [], ◌∷◌, ◌++◌, Option, Some, None, IsSome, IfSome, All, eqb, suc, refl, ◌∙◌, ap, subst}
+use Rattle.std.proofs.Common.{◌≡◌, ℕ, ◌+◌, ◌-◌, ◌≤◌, Bool, List, [], ◌∷◌, ◌++◌, Option, Some, None, IsSome, IfSome, All, eqb, suc, refl, ◌∙◌, ap, subst}
 use Rattle.std.proofs.Common.{arith, drop, length, get_or}
 use Rattle.std.proofs.lemmas.Bool.{cond_both, eqb-true}
 use Rattle.std.proofs.lemmas.List.{length-append, get_or-append_right, get_or_append_left}
@@ -16,6 +16,7 @@ use Rattle.pam_dispatch.specs.declared.flat_item.FlatItem.TheVariants.{Module, S
 use Rattle.pam_dispatch.specs.Tree.{count, controls_of}
 use Rattle.pam_dispatch.specs.Flat.{AreOutermost, flat_list, controls_in, control_at, modules_of, positions_from, IsBounded, IsNumbered}
 use Rattle.pam_dispatch.specs.Program.{IsProgram}
+use Rattle.pam_dispatch.specs.ReadLevels.{IsReadTable}
 use Rattle.pam_dispatch.specs.Settled.{KeepFailure}
 
 -- LEVELS AND NUMBERS
@@ -144,11 +145,12 @@ control_at-flat_list items number h =
 
 -- A STACK'S PROGRAM
 
-pub program-flat_list : (items : Items) (positions : List ℕ) (parts : List (List Part)) (flat tail : ℕ) → module_count items ≤ MAX_MODULES → depth items ≤ 16
-    → IsNumberedFrom 1 items →
+pub program-flat_list : (items : Items) (positions : List ℕ) (parts : List (List Part)) (flat tail : ℕ) (table : List (List Bool)) →
+    module_count items ≤ MAX_MODULES → depth items ≤ 16 → IsNumberedFrom 1 items →
     positions ≡ positions_from 0 (flat_list 0 items) → AllZip IsParts (controls_in (flat_list 0 items)) parts →
-    AreOutermost (drop flat (flat_list 0 items)) → KeepFailure (drop tail (flat_list 0 items)) → IsProgram (flat_list 0 items) positions parts flat tail
-program-flat_list items positions parts flat tail few shallow numbered found divided outermost settled =
+    AreOutermost (drop flat (flat_list 0 items)) → KeepFailure (drop tail (flat_list 0 items)) → IsReadTable (flat_list 0 items) table →
+    IsProgram (flat_list 0 items) positions parts flat tail table
+program-flat_list items positions parts flat tail table few shallow numbered found divided outermost settled read =
     let levels : 0 + depth items ≤ 16 = omega (arith, shallow) in
     let first : 1 ≡ 0 + 1 = omega arith in
     record {
@@ -159,6 +161,7 @@ program-flat_list items positions parts flat tail few shallow numbered found div
       divided = divided;
       outermost = outermost;
       settled = settled;
+      read = read;
     }
 
 -- the flat list, appended to an empty list

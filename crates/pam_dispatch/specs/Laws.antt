@@ -8,6 +8,7 @@ use Rattle.pam_dispatch.specs.Runs.{Ask, AsksRise, Assignment, Runs, outcome_of,
 use Rattle.pam_dispatch.specs.Decision.{decision_of}
 use Rattle.pam_dispatch.specs.State.{action_of, start_state}
 use Rattle.pam_dispatch.specs.Alike.{IsDenial, looks_at_code, retold}
+use Rattle.pam_dispatch.specs.Representatives.{AreEqualRests}
 use Rattle.pam_dispatch.specs.Settled.{IsSettled}
 use Rattle.pam_dispatch.specs.Tree.{count, ask_of, last_items, run, asked, decided, runs_of_stack}
 
@@ -105,3 +106,12 @@ abbrev pub SettledEnds : Type 0
 SettledEnds =
     (first count : ℕ) (s : State) (runs : Runs) (answers : Assignment) → IsSettled first count s runs → AnswerCodes first count answers →
     final_state runs answers ≡ s
+
+-- whatever the modules answer, equal rests of a run end in one state, and ask the same modules
+abbrev pub EqualRestsEnd : Type 0
+EqualRestsEnd = (one other : Runs) (answers : Assignment) → AreEqualRests one other → final_state one answers ≡ final_state other answers
+
+abbrev pub EqualRestsAsk : Type 0
+EqualRestsAsk =
+    (one other : Runs) (answers : Assignment) → AreEqualRests one other →
+    map (λ ask. ask.module_number) (asked_by one answers) ≡ map (λ ask. ask.module_number) (asked_by other answers)

@@ -4,6 +4,8 @@ pub mod Flat
 pub mod Keys
 pub mod Laws
 pub mod Program
+pub mod ReadLevels
+pub mod Representatives
 pub mod Runs
 pub mod Settled
 pub mod Situations

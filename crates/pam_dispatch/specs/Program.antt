@@ -1,16 +1,19 @@
 -- What a program stores of a stack, in the order of pam.conf(5), DESCRIPTION.
-use Rattle.std.specs.Prelude.{◌≡◌, ℕ, ◌≤◌, List, All, drop}
+use Rattle.std.specs.Prelude.{◌≡◌, ℕ, ◌≤◌, Bool, List, All, drop}
 use Rattle.pam_conf.specs.declared.stack.TheConstants.{MAX_MODULES}
 use Rattle.std.specs.List.{AllZip}
 use Rattle.pam_codes.specs.declared.parts.Part.{Part}
 use Rattle.pam_codes.specs.Parts.{IsParts}
 use Rattle.pam_dispatch.specs.declared.flat_item.FlatItem.{FlatItem}
 use Rattle.pam_dispatch.specs.Flat.{AreOutermost, IsNumbered, IsBounded, controls_in, modules_of, positions_from}
+use Rattle.pam_dispatch.specs.ReadLevels.{IsReadTable}
 use Rattle.pam_dispatch.specs.Settled.{KeepFailure}
 
 -- a flat list of a stack's items, with the positions of its modules and the parts of their controls; from `outermost_from` on the
--- items are items of the outermost list, and from `harmless_from` on no item changes a failed stack
-pub record IsProgram (flat_items : List FlatItem) (positions : List ℕ) (parts : List (List Part)) (outermost_from harmless_from : ℕ) : Type 0 where
+-- items are items of the outermost list, and from `harmless_from` on no item changes a failed stack; of each position, the levels of
+-- the lists whose entry states a reset can still read
+pub record IsProgram (flat_items : List FlatItem) (positions : List ℕ) (parts : List (List Part)) (outermost_from harmless_from : ℕ)
+    (read_levels : List (List Bool)) : Type 0 where
   pub bounded : All IsBounded flat_items
   pub numbered : IsNumbered 0 flat_items
   pub few : modules_of flat_items ≤ MAX_MODULES
@@ -18,3 +21,4 @@ pub record IsProgram (flat_items : List FlatItem) (positions : List ℕ) (parts 
   pub divided : AllZip IsParts (controls_in flat_items) parts
   pub outermost : AreOutermost (drop outermost_from flat_items)
   pub settled : KeepFailure (drop harmless_from flat_items)
+  pub read : IsReadTable flat_items read_levels

@@ -1,8 +1,12 @@
 //! The states in which the open lists were entered.
 
-ghost use Rattle.std.specs.Prelude.{◌≡◌, ◌<◌, ◌≤◌, slice_index_or, slice_set, take};
+ghost use Rattle.std.specs.Prelude.{◌≡◌, ◌<◌, ◌≤◌, List, slice_index_or, slice_set, take};
+ghost use Rattle.pam_dispatch.specs.declared.flat_item.FlatItem.{FlatItem};
 ghost use Rattle.pam_dispatch.specs.Keys.{first_states};
+ghost use Rattle.pam_dispatch.specs.ReadLevels.{AreReadLevels};
+ghost use Rattle.pam_dispatch.specs.Representatives.{read_states};
 
+use crate::read_levels::ReadLevels;
 use crate::state::State;
 
 /// The maximum number of lists open at once.
@@ -25,6 +29,17 @@ fn clear_from(states: &mut [State; LISTS], depth: usize)
     }
 }
 
+/// Keeps the states of the lists at some levels; the others become the state in which a run begins.
+fn keep_levels(states: &mut [State; LISTS], levels: &ReadLevels)
+    ensures { (rest : List FlatItem) → AreReadLevels rest levels.now → states.new ≡ read_states 0 rest states.old }
+{
+    for level in 0..LISTS {
+        if !levels[level] {
+            states[level] = State::start();
+        }
+    }
+}
+
 impl Entered {
     ghost use Rattle.pam_dispatch.specs.State.{start_state};
 
@@ -44,6 +59,15 @@ impl Entered {
     {
         let mut kept = *self;
         clear_from(&mut kept.states, depth);
+        kept
+    }
+
+    /// The states of the lists at some levels; for each other list the state in which a run begins.
+    pub(crate) fn at_levels(&self, levels: &ReadLevels) -> Entered
+        ensures { (rest : List FlatItem) → AreReadLevels rest levels.now → result.states ≡ read_states 0 rest self.now.states }
+    {
+        let mut kept = *self;
+        keep_levels(&mut kept.states, levels);
         kept
     }
 

@@ -1,7 +1,7 @@
 //! Laws of the definitions that the contracts cite: each is the contract of an empty function.
 
 ghost use Rattle.pam_dispatch.specs.Laws.{RunOfModule, RunOfNothing, RunOfSubstack, AskedOfModule, AskedOfNothing, AskedOfSubstack};
-ghost use Rattle.pam_dispatch.specs.Laws.{LastItemsCount, LeftFits, OpenRunAsks, OpenRunDecides, OpenRunEnds};
+ghost use Rattle.pam_dispatch.specs.Laws.{EqualRestsAsk, EqualRestsEnd, LastItemsCount, LeftFits, OpenRunAsks, OpenRunDecides, OpenRunEnds};
 ghost use Rattle.pam_dispatch.specs.Laws.{OutcomeIsRetold, OutcomeIsShared, OutcomesDiffer, SettledAsks, SettledEnds, StackAsksRise};
 
 /// The run of a list of items: empty, or beginning with a substack or a module.
@@ -51,4 +51,10 @@ pub fn outcomes_that_differ()
 pub fn settled_run()
     ensures asks { SettledAsks }
     ensures ends { SettledEnds }
+{}
+
+/// Equal rests of a run ask the same modules and end in one state, whatever these answer.
+pub fn equal_rests()
+    ensures asks { EqualRestsAsk }
+    ensures ends { EqualRestsEnd }
 {}

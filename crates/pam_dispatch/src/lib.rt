@@ -13,6 +13,7 @@ pub mod laws;
 mod place;
 mod place_table;
 mod program;
+mod read_levels;
 mod seek;
 mod settled;
 mod state;

@@ -8,6 +8,7 @@ ghost use Rattle.pam_conf.specs.Stack.{Items, module_at, module_count};
 ghost use Rattle.pam_conf.specs.declared.stack.TheConstants.{MAX_MODULES};
 ghost use Rattle.pam_dispatch.specs.Decision.{decision_of};
 ghost use Rattle.pam_dispatch.specs.Flat.{AreOutermost, IsBounded, IsPlaceOf, control_at, controls_in, modules_of, positions_from, resume, rest_of, runs_of};
+ghost use Rattle.pam_dispatch.specs.Representatives.{AreEqualRests, representative_of};
 ghost use Rattle.pam_dispatch.specs.Runs.{AsksRise, Assignment, after_answer, answers_of, asked_by, asked_module, final_state, next_ask, outcome_in, state_in};
 ghost use Rattle.pam_dispatch.specs.Settled.{IsSettled};
 ghost use Rattle.pam_dispatch.specs.Tree.{decided, runs_of_stack};
@@ -19,6 +20,7 @@ use crate::error::{Memory, WrongCount};
 use crate::flat_item::FlatItem;
 use crate::flatten::flatten;
 use crate::place::Place;
+use crate::read_levels::{ReadLevels, read_table};
 use crate::seek::seek;
 use crate::settled::{SettledRun, first_harmless, first_outermost};
 use crate::state::State;
@@ -41,6 +43,8 @@ pub struct Program {
     outermost_from: usize,
     /// The index in `items` from which on no answer changes a failed stack.
     harmless_from: usize,
+    /// The levels of the lists whose entry states a reset can still read, from each index in `items` on, the last index first.
+    read_levels: Vec<ReadLevels>,
 }
 
 impl Model for Program {
@@ -53,7 +57,7 @@ impl Model for Program {
 
     ghost view = { λ p. p.flat_items.items };
 
-    ghost invariant = { λ p. IsProgram p.flat_items.items p.positions.items p.parts.items p.outermost_from p.harmless_from };
+    ghost invariant = { λ p. IsProgram p.flat_items.items p.positions.items p.parts.items p.outermost_from p.harmless_from p.read_levels.items };
 }
 
 /// The indices of the modules in a flat list.
@@ -190,12 +194,14 @@ impl Program {
         let parts = module_parts(alloc, &flat_items)?;
         let outermost_from = first_outermost(&flat_items);
         let harmless_from = first_harmless(&flat_items);
+        let read_levels = read_table(alloc, &flat_items)?;
         Ok(Program {
             flat_items,
             positions,
             parts,
             outermost_from,
             harmless_from,
+            read_levels,
         })
     }
 
@@ -258,6 +264,20 @@ impl Program {
         };
         seek(&self.flat_items, self.outermost_from, &mut place, 0, 0);
         place
+    }
+
+    /// The place that represents all those which differ from `place` only in entry states that no reset can still read. The rest
+    /// of a run from it on is equal.
+    pub fn representative(&self, place: &Place) -> Place
+        requires { IsPlaceOf self.now place.now }
+        ensures representative { result ≡ representative_of self.now place.now }
+        ensures place { IsPlaceOf self.now result }
+        ensures rests { AreEqualRests (rest_of self.now result) (rest_of self.now place.now) }
+    {
+        let left = self.flat_items.len().saturating_sub(place.position);
+        let mut representative = *place;
+        representative.entered = place.entered.at_levels(&self.read_levels[left]);
+        representative
     }
 
     /// The module asked at `place`.

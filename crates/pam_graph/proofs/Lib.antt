@@ -7,6 +7,7 @@ pub mod Growing
 pub mod Paging
 pub mod Placing
 pub mod Reaching
+pub mod Rests
 pub mod Sides
 pub mod Tables
 pub mod Turning

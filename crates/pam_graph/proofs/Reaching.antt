@@ -7,7 +7,7 @@ use Rattle.pam_dispatch.specs.declared.flat_item.FlatItem.{FlatItem}
 use Rattle.pam_dispatch.specs.declared.key.PlaceKey.{PlaceKey}
 use Rattle.pam_dispatch.specs.declared.place.Place.{Place}
 use Rattle.pam_dispatch.specs.Flat.{rest_of, runs_of}
-use Rattle.pam_dispatch.specs.Keys.{AreDifferent, DiffersFrom, key_of, rest_at}
+use Rattle.pam_dispatch.specs.Keys.{AreDifferent, DiffersFrom, rest_at}
 use Rattle.pam_dispatch.specs.Runs.{AsksRise, Runs, after_answer, asked_module, asks, ends, outcome_of}
 use Rattle.pam_graph.specs.declared.error.GraphError.{GraphError}
 use Rattle.pam_graph.specs.declared.error.GraphError.TheVariants.{Memory, TooManyNodes}
@@ -37,11 +37,9 @@ before-self (ends s) h = h
 before-self (asks ask next) h = omega (arith, h)
 
 -- the key of an earlier place is another one
-pub key-apart : (program : List FlatItem) (key : PlaceKey) (place : Place) → rest_at program (key_of place) ≡ rest_of program place →
-    IsBefore (rest_at program key) (rest_of program place) → key ≢ key_of place
-key-apart program key place rest before same =
-    before-self (rest_of program place)
-    (subst (λ (r : Runs). IsBefore r (rest_of program place)) (ap (rest_at program) same ∙ rest) before)
+pub key-apart : (program : List FlatItem) (key other : PlaceKey) → IsBefore (rest_at program key) (rest_at program other) → key ≢ other
+key-apart program key other before same =
+    before-self (rest_at program other) (subst (λ (k : PlaceKey). IsBefore (rest_at program k) (rest_at program other)) same before)
 
 pub DiffersFrom-push : (key other : PlaceKey) (keys : List PlaceKey) → DiffersFrom key keys → key ≢ other → DiffersFrom key (keys ++ other ∷ [])
 unfolding DiffersFrom
@@ -110,8 +108,7 @@ get-at [] i key h = absurd (let k : ⊥ = cc in k)
 get-at (x ∷ keys) zero key h = (omega arith, let is : x ≡ key = cc in is)
 get-at (x ∷ keys) (suc i) key h = let k = get-at keys i key h in (omega (arith, k.0), k.1)
 
-pub added-rests : (program : List FlatItem) (old new : List PlaceKey) (key : PlaceKey) (r : Runs) (result : Result Target GraphError) →
-    rest_at program key ≡ r → OnOk result (new ≡ old ++ key ∷ []) → OnOk result (map (rest_at program) new ≡ map (rest_at program) old ++ r ∷ [])
-added-rests program old new key r (Ok target) is at =
-    ap (map (rest_at program)) at ∙ map-append (rest_at program) old (key ∷ []) ∙ ap (λ (x : Runs). map (rest_at program) old ++ x ∷ []) is
-added-rests program old new key r (Err e) is at = tt
+pub added-rests : (program : List FlatItem) (old new : List PlaceKey) (key : PlaceKey) (result : Result Target GraphError) →
+    OnOk result (new ≡ old ++ key ∷ []) → OnOk result (map (rest_at program) new ≡ map (rest_at program) old ++ rest_at program key ∷ [])
+added-rests program old new key (Ok target) at = ap (map (rest_at program)) at ∙ map-append (rest_at program) old (key ∷ [])
+added-rests program old new key (Err e) at = tt

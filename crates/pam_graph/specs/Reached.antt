@@ -5,6 +5,7 @@ use Rattle.pam_dispatch.specs.declared.key.PlaceKey.{PlaceKey}
 use Rattle.pam_dispatch.specs.declared.place.Place.{Place}
 use Rattle.pam_dispatch.specs.Flat.{IsPlaceOf, rest_of, runs_of}
 use Rattle.pam_dispatch.specs.Keys.{AreDifferent, key_of}
+use Rattle.pam_dispatch.specs.Representatives.{representative_of}
 use Rattle.pam_dispatch.specs.Runs.{Runs, after_answer, asked_module, ends, asks, outcome_of}
 use Rattle.pam_graph.specs.declared.error.GraphError.{GraphError}
 use Rattle.pam_graph.specs.declared.error.GraphError.TheVariants.{Memory, TooManyNodes}
@@ -28,19 +29,24 @@ IsReached allows program place =
     (answers : List ℕ) × AreAllowed allows (runs_of program) answers
     × (rest_of program place ≡ after_answers (runs_of program) answers)
 
--- a key is that of a place of the program at which a module is asked, to which allowed answers lead
+-- the key of the node for a place: that of its representative, so places that differ only in entry states which no reset can still
+-- read have one node
+abbrev pub node_key : List FlatItem → Place → PlaceKey
+node_key program place = key_of (representative_of program place)
+
+-- a key is that of the node for a place of the program at which a module is asked, to which allowed answers lead
 pub record IsReachedKey (allows : Allowance) (program : List FlatItem) (key : PlaceKey) : Type 0 where
   pub place : Place
   pub is_place : IsPlaceOf program place
   pub asks : IsSome (asked_module (rest_of program place))
   pub reached : IsReached allows program place
-  pub is_key : key ≡ key_of place
+  pub is_key : key ≡ node_key program place
 
 unfoldable pub AreReachedKeys : Allowance → List FlatItem → List PlaceKey → Type 0
 AreReachedKeys allows program [] = Unit {0}
 AreReachedKeys allows program (key ∷ keys) = IsReachedKey allows program key × AreReachedKeys allows program keys
 
--- THERE ARE MORE PLACES THAN A LIMIT: more different keys of places to which allowed answers lead
+-- THERE ARE MORE PLACES THAN A LIMIT: more different keys of nodes for places to which allowed answers lead
 abbrev pub HasMorePlaces : ℕ → Allowance → List FlatItem → Type 0
 HasMorePlaces limit allows program =
     (keys : List PlaceKey) × (limit < length keys) × AreDifferent keys × AreReachedKeys allows program keys

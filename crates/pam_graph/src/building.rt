@@ -1,11 +1,12 @@
 //! Builds the graph of the runs of a program.
 
-ghost use Rattle.std.specs.Prelude.{◌≡◌, ◌∷◌, ◌++◌, ◌≤◌, ◌<◌, [], IfErr, IfOk, List, OnOk, ℕ, length};
+ghost use Rattle.std.specs.Prelude.{◌≡◌, ◌∷◌, ◌++◌, ◌≤◌, ◌<◌, [], IfErr, IfNone, IfOk, IfSome, List, OnOk, Some, ℕ, length, slice_get};
 ghost use Rattle.pam_conf.specs.Stack.{Items};
 ghost use Rattle.pam_conf.specs.declared.stack.TheConstants.{MAX_MODULES};
 ghost use Rattle.pam_dispatch.specs.declared.key.PlaceKey.{PlaceKey};
 ghost use Rattle.pam_dispatch.specs.Flat.{IsPlaceOf, modules_of, rest_of, runs_of};
-ghost use Rattle.pam_dispatch.specs.Keys.{AreDifferent, DiffersFrom, key_of, rest_at};
+ghost use Rattle.pam_dispatch.specs.Keys.{AreDifferent, DiffersFrom, rest_at};
+ghost use Rattle.pam_dispatch.specs.Representatives.{AreEqualRests};
 ghost use Rattle.pam_dispatch.specs.Runs.{AsksRise};
 ghost use Rattle.pam_dispatch.specs.Tree.{runs_of_stack};
 ghost use Rattle.pam_graph.specs.declared.node.Target.TheVariants.{At};
@@ -14,7 +15,7 @@ ghost use Rattle.pam_graph.specs.declared.graph.TheConstants.{MAX_NODES};
 ghost use Rattle.pam_graph.specs.Building.{IsBefore, IsBuilt, IsExtended};
 ghost use Rattle.pam_graph.specs.Order.{IsAbove, numbers_of};
 ghost use Rattle.pam_graph.specs.Places.{AreNodesOf};
-ghost use Rattle.pam_graph.specs.Reached.{AreReachedKeys, IsReached, IsReason};
+ghost use Rattle.pam_graph.specs.Reached.{AreReachedKeys, IsReached, IsReason, node_key};
 ghost use Rattle.pam_graph.specs.Walks.{walks, walks_of, walks_to};
 ghost use Rattle.pam_paths.specs.Computed.{listing};
 ghost use Rattle.pam_paths.specs.Listing.{IsListing};
@@ -31,22 +32,42 @@ use std::alloc::Global;
 #[derive(Drop)]
 pub(crate) struct Draft {
     pub(crate) nodes: Vec<Node>,
-    /// The place of each node.
+    /// The place of each node, by its representative.
     pub(crate) places: PlaceTable,
 }
 
-/// Adds a node at `place`, if there are fewer than `limit`.
+/// The index of the node for `place`.
 #[inline(never)]
-fn add(limit: usize, draft: &mut Draft, place: &Place, node: Node) -> Result<Target, GraphError>
+fn find(program: &Program, places: &PlaceTable, place: &Place) -> Option<usize>
+    requires { IsPlaceOf program.now place.now }
+    ensures found { IfSome result (λ index. slice_get places.now index ≡ Some (node_key program.now place.now)) }
+    ensures none { IfNone result (DiffersFrom (node_key program.now place.now) places.now) }
+    ensures rests { AreEqualRests (rest_at program.now (node_key program.now place.now)) (rest_of program.now place.now) }
+{
+    let representative = program.representative(place);
+    places.find(&representative)
+}
+
+/// Adds a node for `place`, if there are fewer than `limit`.
+#[inline(never)]
+fn add(
+    limit: usize,
+    program: &Program,
+    draft: &mut Draft,
+    place: &Place,
+    node: Node,
+) -> Result<Target, GraphError>
+    requires place { IsPlaceOf program.now place.now }
     requires same { length draft.old.nodes.items ≡ length draft.old.places }
-    requires new { DiffersFrom (key_of place.now) draft.old.places }
+    requires new { DiffersFrom (node_key program.now place.now) draft.old.places }
     ensures target { IfOk result (λ target. target ≡ At (length draft.old.nodes.items)) }
     ensures node { OnOk result (draft.new.nodes.items ≡ draft.old.nodes.items ++ node ∷ []) }
-    ensures place { OnOk result (draft.new.places ≡ draft.old.places ++ key_of place.now ∷ []) }
-    ensures many { IfErr result (λ e. e ≡ TooManyNodes → (keys : List PlaceKey) × (keys ≡ draft.old.places ++ key_of place.now ∷ [])
+    ensures place { OnOk result (draft.new.places ≡ draft.old.places ++ node_key program.now place.now ∷ []) }
+    ensures many { IfErr result (λ e. e ≡ TooManyNodes → (keys : List PlaceKey) × (keys ≡ draft.old.places ++ node_key program.now place.now ∷ [])
         × (limit < length keys) × AreDifferent keys) }
 {
-    draft.places.push(place)?;
+    let representative = program.representative(place);
+    draft.places.push(&representative)?;
     if draft.places.len() > limit {
         return Err(GraphError::TooManyNodes);
     }
@@ -88,7 +109,7 @@ pub(crate) fn target_of<K: Knowledge>(
     let Some(module_number) = place.module() else {
         return Ok(Target::End(program.decision(place).code()));
     };
-    if let Some(index) = draft.places.find(place) {
+    if let Some(index) = find(program, &draft.places, place) {
         return Ok(Target::At(index));
     }
     let fork = Fork::at(program, knowledge, place, module_number);
@@ -108,7 +129,7 @@ pub(crate) fn target_of<K: Knowledge>(
         state,
         edges,
     };
-    add(limit, draft, place, node)
+    add(limit, program, draft, place, node)
 }
 
 impl Graph {

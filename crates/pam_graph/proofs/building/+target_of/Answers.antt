@@ -3,17 +3,19 @@ use Rattle.std.specs.List.{flat_map}
 use Rattle.std.specs.Prelude.{IsSome}
 use Rattle.pam_dispatch.specs.declared.place.Place.{Place}
 use Rattle.pam_dispatch.specs.Flat.{modules_of, rest_of}
-use Rattle.pam_dispatch.specs.Keys.{key_of, rest_at}
+use Rattle.pam_dispatch.specs.Keys.{rest_at}
 use Rattle.pam_dispatch.specs.Runs.{AsksRise, after_answer, asked_module}
 use Rattle.pam_graph.specs.declared.node.Edge.{Edge}
 use Rattle.pam_graph.specs.declared.node.Node.{Node}
 use Rattle.pam_graph.specs.Building.{modules_left}
 use Rattle.pam_graph.specs.Order.{AreAbove, IsNode, LeastRise, numbers_of}
+use Rattle.pam_graph.specs.Reached.{node_key}
 use Rattle.pam_graph.specs.Walks.{walks_by, walks_of}
 use Rattle.pam_graph.proofs.Growing.{AreAbove-push, LeastRise-more, LeastRise-push, above-extended}
 use Rattle.pam_graph.proofs.Growing.{added-above, added-built, added-extended, added-walks, built-found}
 use Rattle.pam_graph.proofs.Growing.{built-length, extended-trans, found-above, left-at, left-fewer, listing-end, node-for, walks-all, walks-choice}
 use Rattle.pam_graph.proofs.Reaching.{added-apart, added-keys, added-reason, added-rests, before-later, before-trans, get-at, key-apart, reached-on}
+use Rattle.pam_graph.proofs.Rests.{asked-equal, before-equal, listing-equal, rise-equal, state-equal}
 use Rattle.pam_paths.specs.Forks.{paths_from}
 use Rattle.pam_paths.proofs.FrameLists.{AsksRise-lower, rise_after}
 use Rattle.pam_graph.proofs.building.+target_of.Goals as goal
@@ -29,17 +31,21 @@ returns-in-Some-find-clause-above g t c low rise =
     let program = c.args.program.now in
     let at = c.args.place.now in
     let asked = sym (c.module.ensures program c.requires.place) ∙ c.in-Some.is in
-    let k = get-at c.args.draft.now.places c.in-Some-find.index (key_of at) c.in-Some-find.ensures.found in
+    let key = node_key program at in
+    let k = get-at c.args.draft.now.places c.in-Some-find.index key c.in-Some-find.ensures.found in
+    let same = c.in-Some-find.ensures.rests in
     found-above _ program c.args.draft.now.nodes.items c.args.draft.now.places c.in-Some-find.index low (modules_of program) c.in-Some.module_number
-    (key_of at) (rest_of program at) c.requires.built k.0 (ap (rest_at program) k.1 ∙ c.in-Some-find.ensures.rest program) asked rise
+    key (rest_at program key) c.requires.built k.0 (ap (rest_at program) k.1) (asked-equal _ _ same ∙ asked) (rise-equal low (modules_of program) _ _ same rise)
 
 pub returns-in-Some-find-clause-walks : goal.returns-in-Some-find-clause-walks
 returns-in-Some-find-clause-walks g t c =
     let program = c.args.program.now in
     let at = c.args.place.now in
-    let k = get-at c.args.draft.now.places c.in-Some-find.index (key_of at) c.in-Some-find.ensures.found in
-    built-found _ program c.args.draft.now.nodes.items c.args.draft.now.places c.in-Some-find.index (key_of at) (rest_of program at) c.requires.built
-    k.0 (ap (rest_at program) k.1 ∙ c.in-Some-find.ensures.rest program)
+    let key = node_key program at in
+    let k = get-at c.args.draft.now.places c.in-Some-find.index key c.in-Some-find.ensures.found in
+    built-found _ program c.args.draft.now.nodes.items c.args.draft.now.places c.in-Some-find.index key (rest_at program key) c.requires.built
+    k.0 (ap (rest_at program) k.1)
+    ∙ listing-equal _ _ _ c.in-Some-find.ensures.rests
 
 pub loop-choice-init : goal.loop-choice-init
 unfolding AreAbove LeastRise
@@ -110,8 +116,8 @@ loop-choice-preserved g t c =
       rise = subst (LeastRise 0 choice.next) (sym pushed)
           (subst (λ (h : ℕ). LeastRise 0 h (edges ++ edge ∷ [])) (sym low.1) (LeastRise-push 0 c.loop-choice.bound edges edge i.rise low.0));
       keys = e.keys;
-      new = e.apart (key_of c.args.place.now) i.new
-          (before-later m n _ _ (ap asked_module (c.in_default-find.ensures.rest program) ∙ asked) later);
+      new = e.apart (node_key program c.args.place.now) i.new
+          (before-later m n _ _ (asked-equal _ _ c.in_default-find.ensures.rests ∙ asked) later);
       apart = λ key h before. e.apart key (i.apart key h before) (before-trans m n _ _ _ before asked later);
       walks = ap (λ (x : List Edge). flat_map (walks_by (walks_of new) m) x ++ paths_from allows program c.at-fork.result choice.next) pushed
           ∙ walks-choice allows program c.at-fork.result c.loop-choice.bound m old new edges choice c.in_ok-target.target _
@@ -134,13 +140,14 @@ returns-clause-built g t c =
       later = i.later;
       rise = LeastRise-more 0 c.loop-choice.bound 31 c.loop-choice.edges.items i.rise i.bound;
     } in
-    added-built allows program nodes c.add.new.draft.nodes.items c.loop-choice.draft.places c.add.new.draft.places node (rest_of program c.args.place.now)
+    let same = c.in_default-find.ensures.rests in
+    let key = node_key program c.args.place.now in
+    added-built allows program nodes c.add.new.draft.nodes.items c.loop-choice.draft.places c.add.new.draft.places node (rest_at program key)
     c.add.result i.built valid
-    (node-for (modules_of program) c.in-Some.module_number (rest_of program c.args.place.now) node asked c.requires.rise refl
-    (c.state-state.ensures program c.requires.place))
-    (walks-all allows program c.at-fork.result c.loop-choice.bound node nodes _ none i.walks) c.add.ensures.node
-    (added-rests program c.loop-choice.draft.places c.add.new.draft.places (key_of c.args.place.now) (rest_of program c.args.place.now) c.add.result
-    (c.in_default-find.ensures.rest program) c.add.ensures.place)
+    (node-for (modules_of program) c.in-Some.module_number (rest_at program key) node (asked-equal _ _ same ∙ asked)
+    (rise-equal 0 (modules_of program) _ _ same c.requires.rise) refl (c.state-state.ensures program c.requires.place ∙ sym (state-equal _ _ same)))
+    (walks-all allows program c.at-fork.result c.loop-choice.bound node nodes _ none i.walks ∙ sym (listing-equal allows _ _ same)) c.add.ensures.node
+    (added-rests program c.loop-choice.draft.places c.add.new.draft.places key c.add.result c.add.ensures.place)
 
 pub returns-clause-extended : goal.returns-clause-extended
 returns-clause-extended g t c =
@@ -174,8 +181,8 @@ pub returns-clause-keys : goal.returns-clause-keys
 returns-clause-keys g t c =
     let program = c.args.program.now in
     let asked = sym (c.in-Some.ensures program c.requires.place) in
-    added-keys c.args.limit (g.K.Knowledge.allows c.args.knowledge.now) program c.loop-choice.draft.places c.add.new.draft.places (key_of c.args.place.now)
-    c.add.result c.loop-choice.invariant.keys
+    added-keys c.args.limit (g.K.Knowledge.allows c.args.knowledge.now) program c.loop-choice.draft.places c.add.new.draft.places
+    (node_key program c.args.place.now) c.add.result c.loop-choice.invariant.keys
     (record {
       place = c.args.place.now;
       is_place = c.requires.place;
@@ -189,14 +196,14 @@ pub returns-clause-apart : goal.returns-clause-apart
 returns-clause-apart g t c key h before =
     let program = c.args.program.now in
     added-apart c.args.limit (g.K.Knowledge.allows c.args.knowledge.now) program c.loop-choice.draft.places c.add.new.draft.places key
-    (key_of c.args.place.now) c.add.result (c.loop-choice.invariant.apart key h before)
-    (key-apart program key c.args.place.now (c.in_default-find.ensures.rest program) before) c.add.ensures.place
+    (node_key program c.args.place.now) c.add.result (c.loop-choice.invariant.apart key h before)
+    (key-apart program key (node_key program c.args.place.now) (before-equal _ _ _ c.in_default-find.ensures.rests before)) c.add.ensures.place
 
 pub returns-clause-reason : goal.returns-clause-reason
 returns-clause-reason g t c =
     let program = c.args.program.now in
     let asked = sym (c.in-Some.ensures program c.requires.place) in
-    added-reason c.args.limit (g.K.Knowledge.allows c.args.knowledge.now) program c.loop-choice.draft.places (key_of c.args.place.now)
+    added-reason c.args.limit (g.K.Knowledge.allows c.args.knowledge.now) program c.loop-choice.draft.places (node_key program c.args.place.now)
     c.add.result c.loop-choice.invariant.keys
     (record {
       place = c.args.place.now;
