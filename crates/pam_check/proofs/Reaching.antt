@@ -8,13 +8,14 @@ use Rattle.pam_dispatch.specs.declared.key.PlaceKey.{PlaceKey}
 use Rattle.pam_dispatch.specs.declared.place.Place.{Place}
 use Rattle.pam_dispatch.specs.Flat.{IsPlaceOf, modules_of, rest_of, runs_of}
 use Rattle.pam_dispatch.specs.Keys.{first_states, key_of, rest_at}
+use Rattle.pam_dispatch.specs.Representatives.{representative_of}
 use Rattle.pam_dispatch.specs.Runs.{Ask, Assignment, AsksRise, Runs, asked_by, asked_module, asks, ends, outcome_of}
 use Rattle.pam_dispatch.specs.Tree.{asked}
 use Rattle.pam_dispatch.proofs.OpenRuns.{asked_by-runs_of_stack}
 use Rattle.pam_dispatch.proofs.Places.{place_module}
 use Rattle.pam_graph.specs.declared.node.Node.{Node}
 use Rattle.pam_graph.specs.Places.{AreNodesAt}
-use Rattle.pam_graph.specs.Reached.{AreAllowed, IsReachedKey, after_answers}
+use Rattle.pam_graph.specs.Reached.{AreAllowed, IsReachedKey, after_answers, node_key}
 use Rattle.pam_paths.specs.Classes.{Member}
 use Rattle.pam_paths.specs.Listing.{Allowance, IsAllowed}
 use Rattle.pam_paths.specs.Paths.{PathValue}
@@ -95,14 +96,14 @@ reach allows low n (asks ask next) (c ∷ codes) number code b h ok all asked sm
       answer = with_answer-other deeper.answers m c number (λ e. omega (arith, above, e)) ∙ deeper.answer;
     }
 
--- the key of a place is one at which the same module is asked
+-- the key of the node for a place is one at which the same module is asked
 same-module : (program : List FlatItem) (place : Place) → IsPlaceOf program place →
-    asked_module (rest_of program place) ≡ asked_module (rest_at program (key_of place))
-unfolding IsPlaceOf rest_of rest_at key_of
+    asked_module (rest_of program place) ≡ asked_module (rest_at program (node_key program place))
+unfolding IsPlaceOf rest_of rest_at key_of representative_of
 same-module program place valid = sym (place_module program place valid) ∙ place_module program padded valid
   where
     padded : Place
-    padded = record place { entered = record { states = first_states place.depth place.entered.states } }
+    padded = record place { entered = record { states = first_states place.depth (representative_of program place).entered.states } }
 
 module _ (allows : Allowance) (program : List FlatItem) (items : Items) (of : IsProgramOf program items)
     (rise : AsksRise 0 (modules_of program) (runs_of program)) (b : Assignment) (ok : IsAllowed allows (modules_of program) b) where
