@@ -15,5 +15,6 @@ pub mod Splits
 pub mod StackTree
 pub mod SurveyLemmas
 pub mod TableLemmas
+pub mod TargetLemmas
 pub mod WalkLemmas
 pub mod WordSteps

@@ -18,6 +18,7 @@ pub mod StartOf
 pub mod SubFalls
 pub mod Survey
 pub mod SurveyText
+pub mod Targets
 pub mod Tells
 pub mod Walk
 pub mod Wanted
