@@ -4,6 +4,8 @@ pub mod DepthLemmas
 pub mod FileFaults
 pub mod FileLemmas
 pub mod LineSteps
+pub mod ListLemmas
+pub mod ListedWalks
 pub mod ResolutionLemmas
 pub mod ResolvedStacks
 pub mod RoomLemmas

@@ -7,6 +7,8 @@ pub mod ItemsOf
 pub mod Kept
 pub mod Laws
 pub mod Lines
+pub mod Listed
+pub mod ListedText
 pub mod Owned
 pub mod Progress
 pub mod Remaining
