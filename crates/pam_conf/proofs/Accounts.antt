@@ -84,12 +84,12 @@ account-told n (Failed fault ∷ events) =
     ∙ ap (λ faults. record (surveyed_on n events) { faults = faults }) (append_assoc n.noted (fault ∷ []) (told n.modules n.follows events))
 
 abbrev with_items : Option Items → Account → SurveyText
-with_items items a = record { items = items; faults = a.faults; reached = a.reached }
+with_items items a = record { items = items; faults = a.faults; reached = a.reached; other_answers = false }
 
 -- the survey of a walk that nothing ends
 pub told-all : (file : ℕ) (w : Walk) (n n' : Count) (i : Items) → n ≡ record { modules = 0; follows = 0; noted = []; reached = file ∷ [] } →
     account true n w.events ≡ account true n' [] → i ≡ numbered 1 w.items →
-    record { items = Some i; faults = n'.noted; reached = n'.reached } ≡ survey_of file w
+    record { items = Some i; faults = n'.noted; reached = n'.reached; other_answers = false } ≡ survey_of file w
 unfolding account
 told-all file w n n' i begins all is =
     let same : surveyed_on (record { modules = 0; follows = 0; noted = []; reached = file ∷ [] }) w.events
@@ -100,7 +100,7 @@ told-all file w n n' i begins all is =
 -- the survey of a walk that a limit ends
 pub told-ended : (file : ℕ) (w : Walk) (n n' : Count) (e : ConfError) → n ≡ record { modules = 0; follows = 0; noted = []; reached = file ∷ [] } →
     account true n (w.events ++ []) ≡ ended_by n' e →
-    record { items = None; faults = n'.noted ++ e ∷ []; reached = n'.reached } ≡ survey_of file w
+    record { items = None; faults = n'.noted ++ e ∷ []; reached = n'.reached; other_answers = false } ≡ survey_of file w
 told-ended file w n n' e begins all =
     let same : surveyed_on (record { modules = 0; follows = 0; noted = []; reached = file ∷ [] }) w.events ≡ ended_by n' e =
     ap (λ (m : Count). surveyed_on m w.events) (sym begins) ∙ sym (account-told n w.events) ∙ ap (account true n) (sym (append-nil w.events)) ∙ all in

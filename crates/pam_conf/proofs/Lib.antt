@@ -4,6 +4,8 @@ pub mod DepthLemmas
 pub mod FileFaults
 pub mod FileLemmas
 pub mod LineSteps
+pub mod ListLemmas
+pub mod ListedWalks
 pub mod ResolutionLemmas
 pub mod ResolvedStacks
 pub mod RoomLemmas
@@ -15,5 +17,6 @@ pub mod Splits
 pub mod StackTree
 pub mod SurveyLemmas
 pub mod TableLemmas
+pub mod TargetLemmas
 pub mod WalkLemmas
 pub mod WordSteps

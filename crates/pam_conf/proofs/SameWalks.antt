@@ -138,7 +138,7 @@ Unfailed (Met file line ∷ events) = Unfailed events
 Unfailed (Followed file line target ∷ events) = Unfailed events
 Unfailed (Failed fault ∷ events) = ⊥
 
-unfailed_parts : (xs ys : List Event) → Unfailed (xs ++ ys) → Unfailed xs × Unfailed ys
+pub unfailed_parts : (xs ys : List Event) → Unfailed (xs ++ ys) → Unfailed xs × Unfailed ys
 unfailed_parts [] ys h = (tt, h)
 unfailed_parts (Met file line ∷ xs) ys h = unfailed_parts xs ys h
 unfailed_parts (Followed file line target ∷ xs) ys h = unfailed_parts xs ys h

@@ -29,10 +29,10 @@ use Rattle.pam_conf.proofs.SameWalks.{Sound, Unfailed, each_both, each_map, each
 
 -- EVENTS WITHOUT A FAULT
 
-abbrev AreFine : ℕ → ℕ → List Event → Type 0
+abbrev pub AreFine : ℕ → ℕ → List Event → Type 0
 AreFine m f events = Unfailed events × (told m f events ≡ []) × (is_over m f events ≡ false) × (targets m f events ≡ targets_of events)
 
-none-fine : (m f : ℕ) (events : List Event) → refusal m f events ≡ None → AreFine m f events
+pub none-fine : (m f : ℕ) (events : List Event) → refusal m f events ≡ None → AreFine m f events
 unfolding refusal told is_over targets
 none-fine m f [] none = (tt, refl, refl, refl)
 none-fine m f (Met file line ∷ events) none =
@@ -49,7 +49,7 @@ none-fine m f (Followed file line target ∷ events) none =
     ] none
 none-fine m f (Failed fault ∷ events) none = absurd (cc)
 
-told-none : (m f : ℕ) (events : List Event) → told m f events ≡ [] → refusal m f events ≡ None
+pub told-none : (m f : ℕ) (events : List Event) → told m f events ≡ [] → refusal m f events ≡ None
 unfolding refusal told
 told-none m f [] none = refl
 told-none m f (Met file line ∷ events) none =

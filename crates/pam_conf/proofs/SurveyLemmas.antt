@@ -1,6 +1,6 @@
 -- The survey of a service, as the code makes it.
 use Rattle.std.proofs.Common.{◌≡◌, ◌-◌, ℕ, List, [], ◌∷◌, ◌++◌, length, eqb, true, codes, option_and_then, Option, Some, None, Result, Ok, Err, IfOk}
-use Rattle.std.proofs.Common.{OnOk, IsFalse, ap, refl, sym, subst, ◌∙◌}
+use Rattle.std.proofs.Common.{OnOk, IsFalse, false, ap, refl, sym, subst, ◌∙◌}
 use Rattle.std.specs.List.{list_any}
 use Rattle.std.specs.declared.alloc.AllocError.{AllocError}
 use Rattle.pam_conf.specs.Files.{Folder, position_of}
@@ -37,7 +37,7 @@ first_count file = record { modules = 0; follows = 0; noted = []; reached = file
 module _ (folder seen : Folder) (kind : Kind) (start : StartText) (trail : List ℕ) (is : trail ≡ start.file ∷ []) (same : folder ≡ seen) (n n' : Count)
     (begins : n ≡ first_count start.file) where
   pub survey-done : (i0 i : Items) → i0 ≡ End → Passes true n i0 (begun folder (good_at folder) kind start trail) n' i →
-      record { items = Some i; faults = n'.noted; reached = n'.reached } ≡ survey_from seen kind start
+      record { items = Some i; faults = n'.noted; reached = n'.reached; other_answers = false } ≡ survey_from seen kind start
   unfolding survey_from
   survey-done i0 i none p =
       let w = walk folder (good_at folder) kind start.service (MAX_OPEN_FILES - 1) (start.file ∷ []) start.file in
@@ -46,7 +46,7 @@ module _ (folder seen : Folder) (kind : Kind) (start : StartText) (trail : List 
 
   pub survey-ended : (e : ConfError) (result : Result Survey AllocError) → Refuses true n (begun folder (good_at folder) kind start trail) n' e →
       OnOk result (e.kind ≡ Memory → ⊥) →
-      IfOk result (λ s. survey_text s ≡ record { items = None; faults = n'.noted ++ e ∷ []; reached = n'.reached }) →
+      IfOk result (λ s. survey_text s ≡ record { items = None; faults = n'.noted ++ e ∷ []; reached = n'.reached; other_answers = false }) →
       IfOk result (λ s. survey_text s ≡ survey_from seen kind start)
   unfolding survey_from
   survey-ended e (Ok s) r limit text =
@@ -74,4 +74,4 @@ not_end (SubItem s ∷ xs) stack items some same more none = absurd (cc)
 
 -- a survey with these items
 abbrev pub with_stack : Count → Items → SurveyText
-with_stack n items = record { items = Some items; faults = n.noted; reached = n.reached }
+with_stack n items = record { items = Some items; faults = n.noted; reached = n.reached; other_answers = false }

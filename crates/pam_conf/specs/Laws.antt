@@ -1,12 +1,14 @@
 -- Laws of the definitions, in the words of pam.conf(5).
-use Rattle.std.specs.Prelude.{All, IsSome, ◌≡◌, ◌↔◌, ◌-◌, ◌==◌, ◌≤◌, ℕ, nat_lt, false, List, [], ◌∷◌, length, if◌then◌else◌, Option, Some, None, Ok, Err}
+use Rattle.std.specs.Prelude.{All, IsSome, ◌≡◌, ◌↔◌, ◌-◌, ◌==◌, ◌≤◌, ℕ, nat_lt, false, List, [], ◌∷◌, length, map, if◌then◌else◌, Option, Some, None, Ok, Err}
 use Rattle.std.specs.List.{list_any}
+use Rattle.pam_codes.specs.declared.action.Action.{Action}
 use Rattle.pam_conf.specs.FileRules.{good_rules, own_faults, unless_faulty}
 use Rattle.pam_conf.specs.Files.{Folder}
 use Rattle.pam_conf.specs.Lines.{rules_of}
 use Rattle.pam_conf.specs.Resolution.{items_or_fault, resolved, stack_from}
-use Rattle.pam_conf.specs.Stack.{IsNumbered, Items, depth, module_count}
-use Rattle.pam_conf.specs.Survey.{SurveyText, faults_at, surveyed}
+use Rattle.pam_conf.specs.Listed.{ListedText, listed}
+use Rattle.pam_conf.specs.Stack.{IsNumbered, Items, End, ThenModule, ThenSub, depth, module_count}
+use Rattle.pam_conf.specs.Survey.{SurveyText, faults_at, survey_from, surveyed}
 use Rattle.pam_conf.specs.Walk.{Deeper, Reads, Walk, file_walk, rules_at, target_walk, walk}
 use Rattle.pam_conf.specs.Words.{IsSplit, words_of}
 use Rattle.pam_conf.specs.declared.error.FaultKind.TheVariants.{TooDeep}
@@ -79,3 +81,27 @@ StackIsSoundSurvey = (folder : Folder) (service : List ℕ) (kind : Kind) (items
 abbrev pub FaultlessHasStack : Type 0
 FaultlessHasStack = (folder : Folder) (service : List ℕ) (kind : Kind) → (surveyed folder service kind).faults ≡ [] →
     IsSome (surveyed folder service kind).items
+
+-- THE LIST OF A FILE
+
+-- an item, whatever includes it came in by; a substack has no control
+pub record ListedItem : Type 0 where
+  pub file : ℕ
+  pub line : ℕ
+  pub control : Option (List Action)
+
+abbrev pub listed_item : ListedText → ListedItem
+listed_item item = record { file = item.file; line = item.line; control = item.control }
+
+-- the items of a list, without those of its substacks
+abbrev pub items_listed : Items → List ListedItem
+items_listed End = []
+items_listed (ThenModule m rest) = record { file = m.file; line = m.line; control = Some m.control } ∷ items_listed rest
+items_listed (ThenSub s inner rest) = record { file = s.file; line = s.line; control = None } ∷ items_listed rest
+
+-- where the walk from a file has no fault, the list of the file has its items, in order
+abbrev pub ListIsOfWalk : Type 0
+ListIsOfWalk = (folder : Folder) (kind : Kind) (file : ℕ) (items : Items) →
+    (survey_from folder kind record { file = file; service = None }).faults ≡ [] →
+    (survey_from folder kind record { file = file; service = None }).items ≡ Some items →
+    items_listed items ≡ map listed_item (listed folder kind file)

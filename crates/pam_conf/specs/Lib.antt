@@ -7,6 +7,8 @@ pub mod ItemsOf
 pub mod Kept
 pub mod Laws
 pub mod Lines
+pub mod Listed
+pub mod ListedText
 pub mod Owned
 pub mod Progress
 pub mod Remaining
@@ -18,6 +20,7 @@ pub mod StartOf
 pub mod SubFalls
 pub mod Survey
 pub mod SurveyText
+pub mod Targets
 pub mod Tells
 pub mod Walk
 pub mod Wanted

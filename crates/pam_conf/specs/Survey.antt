@@ -50,11 +50,12 @@ is_over modules follows (Failed fault ∷ events) = is_over modules follows even
 abbrev pub with_file : List ℕ → ℕ → List ℕ
 with_file files file = if list_any (λ p. p == file) files then files else files ++ file ∷ []
 
--- the items, unless a limit ends the walk; all faults; and the files that were reached, each once
+-- the items, unless a limit ends the walk; all faults; the files that were reached, each once; and whether `other` answers
 pub record SurveyText : Type 0 where
   pub items : Option Items
   pub faults : List ConfError
   pub reached : List ℕ
+  pub other_answers : Bool
 
 -- the survey of the walk of a file
 abbrev pub survey_of : ℕ → Walk → SurveyText
@@ -62,6 +63,7 @@ survey_of file w = record {
   items = if is_over 0 0 w.events then None else Some (numbered 1 w.items);
   faults = told 0 0 w.events;
   reached = fold with_file (file ∷ []) (targets 0 0 w.events);
+  other_answers = false;
 }
 
 unfoldable pub survey_from : Folder → Kind → StartText → SurveyText
@@ -69,15 +71,17 @@ survey_from folder kind start = survey_of start.file (walk folder (good_at folde
 
 -- the survey of a service without rules is that of `other`
 abbrev pub survey_without_own : Folder → Kind → Option StartText → SurveyText
-survey_without_own folder kind None = record { items = None; faults = record { kind = NoService; at = None; line = 0 } ∷ []; reached = [] }
-survey_without_own folder kind (Some other) = survey_from folder kind other
+survey_without_own folder kind None =
+    record { items = None; faults = record { kind = NoService; at = None; line = 0 } ∷ []; reached = []; other_answers = false }
+survey_without_own folder kind (Some other) = record (survey_from folder kind other) { other_answers = true }
 
--- one survey and then another: the items of the second, the faults and files of both
+-- the survey of a service and then that of `other`: the items of the second, the faults and files of both
 abbrev pub both_surveys : SurveyText → SurveyText → SurveyText
-both_surveys first second = record {
-  items = second.items;
-  faults = first.faults ++ second.faults;
-  reached = fold with_file first.reached second.reached;
+both_surveys own other = record {
+  items = other.items;
+  faults = own.faults ++ other.faults;
+  reached = fold with_file own.reached other.reached;
+  other_answers = true;
 }
 
 -- after an empty stack comes that of `other`, if there is one

@@ -26,6 +26,19 @@ impl Call {
         Ok(Call { words })
     }
 
+    /// The control.
+    pub(crate) fn control(&self) -> Control
+        ensures { result ≡ control_in (owned_words self.now.words) }
+    {
+        let Some((control, _)) = self.words.words().split_first() else {
+            unreachable!()
+        };
+        let Ok(control) = Control::read(control) else {
+            unreachable!()
+        };
+        control
+    }
+
     /// The control, the path and the arguments.
     pub(crate) fn parts(&self, alloc: Global) -> Result<(Control, Vec<u8>, Texts), AllocError>
         ensures control { IfOk result (λ p. p.0 ≡ control_in (owned_words self.now.words)) }

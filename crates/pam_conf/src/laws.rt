@@ -1,6 +1,6 @@
 //! Laws of the definitions that the contracts cite: each is the contract of an empty function.
 
-ghost use Rattle.pam_conf.specs.Laws.{DeepWhereAllAreOpen, FaultlessHasStack, FirstFaultOrRules, ResolvedIsStack, StackBeginsATrail};
+ghost use Rattle.pam_conf.specs.Laws.{DeepWhereAllAreOpen, FaultlessHasStack, FirstFaultOrRules, ListIsOfWalk, ResolvedIsStack, StackBeginsATrail};
 ghost use Rattle.pam_conf.specs.Laws.{StackIsSoundSurvey, WalkFollowsItsTrail, WordsAreOneSplit};
 
 /// A line has words if and only if it can be written as blanks and spellings of words, and then in only one way.
@@ -32,4 +32,10 @@ pub fn resolved_stack()
 pub fn stack_is_sound_survey()
     ensures sound { StackIsSoundSurvey }
     ensures stack { FaultlessHasStack }
+{}
+
+/// Where the walk from a file has no fault, the list of the file has the walk's items, in order: `RuleFiles::list` only adds by
+/// which includes they came in.
+pub fn list_of_a_walk()
+    ensures { ListIsOfWalk }
 {}

@@ -1,18 +1,20 @@
 //! The rules and faults of all files, each file read once for all services and kinds.
 ghost use Rattle.std.specs.Prelude.{◌≡◌, ◌∷◌, ◌++◌, [], Err, IfOk, OnOk, length, map, slice_get};
-ghost use Rattle.std.specs.List.{cons_option};
+ghost use Rattle.std.specs.List.{cons_option, list_any};
 ghost use Rattle.std.specs.Option.{option_map};
 ghost use Rattle.std.specs.Result.{result_transpose};
 ghost use Rattle.pam_text.specs.Text.{text_of, lines_of};
 ghost use Rattle.pam_conf.specs.FileRules.{faults_among, file_results, good_rules, line_results, own_faults, rules_among};
 ghost use Rattle.pam_conf.specs.Files.{bytes_at};
+ghost use Rattle.pam_conf.specs.FilesRead.{file_view};
 ghost use Rattle.pam_conf.specs.Kept.{kept_view};
 ghost use Rattle.pam_conf.specs.Lines.{at_line, line_rule_of};
 ghost use Rattle.pam_conf.specs.Rule.{rule_view};
+ghost use Rattle.pam_conf.specs.Targets.{is_target, names_target};
 
 use crate::error::{FaultKind, RuleFault};
 use crate::files::Files;
-use crate::kept::{KeptRule, whole_rules};
+use crate::kept::{KeptBody, KeptRule, whole_rules};
 use crate::lines::{is_blank_line, next_filled_line, numbered_rule, source_fault};
 use crate::rule::{Form, Rule};
 use pam_text::{Line, Source, Text};
@@ -104,6 +106,37 @@ fn read_file(alloc: Global, form: Form, bytes: &[u8]) -> Result<FileRules, Alloc
     }
 }
 
+/// Whether a rule names the file of this name as its target.
+fn names_target(rule: &KeptRule, name: &[u8]) -> bool
+    ensures { result ≡ names_target name.now (kept_view rule.now) }
+{
+    match &rule.body {
+        KeptBody::Module(_) => false,
+        KeptBody::Include(target) | KeptBody::Sub(target) => name == target.as_slice(),
+    }
+}
+
+/// Whether one of these rules names the file of this name as its target.
+fn rules_name(rules: &[KeptRule], name: &[u8]) -> bool
+    ensures { result ≡ list_any (λ rule. names_target name.now (kept_view rule)) rules.now }
+{
+    rules.iter().any(|rule| names_target(rule, name))
+}
+
+/// Whether a rule of this file names the file of this name as its target.
+fn file_names(file: &FileRules, name: &[u8]) -> bool
+    ensures { result ≡ list_any (names_target name.now) (file_view file.now).rules }
+{
+    rules_name(file.rules.as_slice(), name)
+}
+
+/// Whether a rule of one of these files names the file of this name as its target.
+fn files_name(files: &[FileRules], name: &[u8]) -> bool
+    ensures { result ≡ list_any (λ f. list_any (names_target name.now) (file_view f).rules) files.now }
+{
+    files.iter().any(|file| file_names(file, name))
+}
+
 /// The rules and faults of `Files`. As a value of a contract it is these files.
 #[derive(Drop)]
 pub struct RuleFiles<'a> {
@@ -158,6 +191,13 @@ impl<'a> RuleFiles<'a> {
     {
         let file = self.read.get(position)?;
         Some(file.faults.as_slice())
+    }
+
+    /// Whether a rule without a fault includes the file of this name, or has it as a substack. Takes time linear in the rules.
+    pub fn is_target(&self, name: &[u8]) -> bool
+        ensures { result ≡ is_target self.now name.now }
+    {
+        files_name(self.read.as_slice(), name)
     }
 
     /// The rules of the lines of the file at `position` that have no fault, in order.

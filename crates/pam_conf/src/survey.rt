@@ -1,5 +1,5 @@
 //! Surveys a service: its stack, and every fault of the walk over its files.
-ghost use Rattle.std.specs.Prelude.{◌≡◌, ◌<◌, ◌∷◌, ◌++◌, [], IfOk, IfSome, IsFalse, IsTrue, None, OnOk, Some, length};
+ghost use Rattle.std.specs.Prelude.{◌≡◌, ◌<◌, ◌∷◌, ◌++◌, [], IfOk, IfSome, IsFalse, IsTrue, None, OnOk, Some, false, length};
 ghost use Rattle.std.specs.Option.{option_map};
 ghost use Rattle.pam_conf.specs.Resolution.{start_of};
 ghost use Rattle.pam_conf.specs.StartOf.{start_text};
@@ -31,11 +31,13 @@ pub struct Survey {
     pub faults: Vec<ConfError>,
     /// The positions of the files that the walk reached, in the order in which it came to them, each once.
     pub reached: Vec<usize>,
+    /// Whether `other` answers: there is one, and the service has no rules, or those of its own give an empty stack.
+    pub other_answers: bool,
 }
 
 impl Survey {
-    /// Whether the stack has no items.
-    fn is_empty(&self) -> bool
+    /// Whether the stack is there and has no items.
+    pub fn is_empty(&self) -> bool
         ensures empty { IsTrue result → self.now.stack ≡ Some End }
         ensures other { IsFalse result → self.now.stack ≡ Some End → ⊥ }
     {
@@ -45,18 +47,19 @@ impl Survey {
         }
     }
 
-    /// This survey and then another, whose stack it has.
-    fn then(self, second: Survey) -> Result<Survey, AllocError>
-        ensures { IfOk result (λ s. survey_text s ≡ both_surveys (survey_text self) (survey_text second)) }
+    /// This survey and then that of `other`, whose stack it has.
+    fn then(self, other: Survey) -> Result<Survey, AllocError>
+        ensures { IfOk result (λ s. survey_text s ≡ both_surveys (survey_text self) (survey_text other)) }
     {
         let mut faults = self.faults;
-        faults.extend_from_slice(second.faults.as_slice())?;
+        faults.extend_from_slice(other.faults.as_slice())?;
         let mut reached = self.reached;
-        reach_all(&mut reached, second.reached.as_slice())?;
+        reach_all(&mut reached, other.reached.as_slice())?;
         Ok(Survey {
-            stack: second.stack,
+            stack: other.stack,
             faults,
             reached,
+            other_answers: true,
         })
     }
 }
@@ -65,7 +68,7 @@ impl Survey {
 fn ended_survey(progress: Progress, error: ConfError) -> Result<Survey, AllocError>
     ensures limit { OnOk result (error.kind ≡ FaultKind.Memory → ⊥) }
     ensures survey { IfOk result (λ s. survey_text s
-        ≡ record { items = None; faults = progress.noted.items ++ error ∷ []; reached = progress.reached.items }) }
+        ≡ record { items = None; faults = progress.noted.items ++ error ∷ []; reached = progress.reached.items; other_answers = false }) }
 {
     if error.kind == FaultKind::Memory {
         return Err(AllocError);
@@ -76,6 +79,7 @@ fn ended_survey(progress: Progress, error: ConfError) -> Result<Survey, AllocErr
         stack: None,
         faults,
         reached: progress.reached,
+        other_answers: false,
     })
 }
 
@@ -120,6 +124,7 @@ impl<'a> RuleFiles<'a> {
                 stack: Some(Stack::of(items, progress.modules)),
                 faults: progress.noted,
                 reached: progress.reached,
+                other_answers: false,
             }),
             Err(error) => ended_survey(progress, error),
         }
@@ -136,7 +141,9 @@ impl<'a> RuleFiles<'a> {
         ensures { IfOk result (λ s. survey_text s ≡ survey_without_own self.now kind (option_map start_text other.entry)) }
     {
         if let Some(other) = other {
-            return self.survey_from(alloc, kind, other);
+            let mut survey = self.survey_from(alloc, kind, other)?;
+            survey.other_answers = true;
+            return Ok(survey);
         }
         let mut faults = Vec::new(alloc);
         faults.push(no_service())?;
@@ -144,6 +151,7 @@ impl<'a> RuleFiles<'a> {
             stack: None,
             faults,
             reached: Vec::new(alloc),
+            other_answers: false,
         })
     }
 

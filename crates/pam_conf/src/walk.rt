@@ -35,8 +35,9 @@ use std::alloc::{AllocError, AllocFailed, Global};
 pub const MAX_FOLLOWS: usize = 256;
 
 /// Where a rule is.
-#[derive(Clone, Copy, Debug)]
-pub(crate) struct Location {
+#[derive(Clone, Copy, Debug, PartialEq, Eq)]
+pub struct Location {
+    /// The position of the file in `Files`.
     pub file: usize,
     pub line: usize,
 }
