@@ -10,14 +10,14 @@ use Rattle.std.specs.List.{flat_map, list_any}
 use Rattle.std.specs.Option.{SomeIff}
 use Rattle.std.specs.Prelude.{nat_lt}
 use Rattle.pam_graph.specs.declared.goal.Goal.{Goal}
-use Rattle.pam_graph.specs.declared.goal.Goal.TheVariants.{Any, Decides, Asks}
+use Rattle.pam_graph.specs.declared.goal.Goal.TheVariants.{Any, Decides, Asks, PastEnd}
 use Rattle.pam_graph.specs.declared.node.Edge.{Edge}
 use Rattle.pam_graph.specs.declared.node.Node.{Node}
 use Rattle.pam_graph.specs.declared.node.Target.{Target}
 use Rattle.pam_graph.specs.declared.node.Target.TheVariants.{At, End}
 use Rattle.pam_graph.specs.declared.tally.Tally.{Tally}
 use Rattle.pam_graph.specs.Goals.{fit, meets}
-use Rattle.pam_graph.specs.Tallies.{count_to, has_walks, met_at_end, met_by, number, plus}
+use Rattle.pam_graph.specs.Tallies.{count_to, has_walks, met_at_end, met_by, number, plus, step_by}
 use Rattle.pam_graph.specs.Tallies.{sum_from, tallies_of, tally_at, tally_by, tally_of, wanted, wanted_of}
 use Rattle.pam_graph.specs.Walks.{table, walks_at, walks_by, walks_of, walks_to}
 use Rattle.pam_graph.specs.Within.{IsWithin}
@@ -81,32 +81,34 @@ filter-map p q f h (x ∷ xs) =
 module _ (goal : Goal) where
   -- a walk is wanted if it is wanted after its first step
   wanted-step : (g : Goal) (is_met : Bool) (step : StepValue) (walk : PathValue) →
-      wanted g is_met (after_step step walk) ≡ wanted g (is_met || met_by g step.module_number) walk
+      wanted g is_met (after_step step walk) ≡ wanted g (is_met || met_by g step) walk
   wanted-step g true step walk = refl
   wanted-step Any false step walk = refl
   wanted-step (Decides codes) false step walk = refl
   wanted-step (Asks number) false step walk = refl
+  wanted-step (PastEnd codes) false step walk = refl
 
   pub wanted-stepped : (is_met : Bool) (step : StepValue) (walks : List PathValue) →
       wanted_of goal is_met (map (after_step step) walks)
-      ≡ map (after_step step) (wanted_of goal (is_met || met_by goal step.module_number) walks)
+      ≡ map (after_step step) (wanted_of goal (is_met || met_by goal step) walks)
   wanted-stepped is_met step walks =
-      filter-map (wanted goal is_met) (wanted goal (is_met || met_by goal step.module_number)) (after_step step) (wanted-step goal is_met step) walks
+      filter-map (wanted goal is_met) (wanted goal (is_met || met_by goal step)) (after_step step) (wanted-step goal is_met step) walks
 
   -- the end of a run
   pub meets-end : (g : Goal) (decision : ℕ) → meets g (ended decision) ≡ met_at_end g decision
   meets-end Any decision = refl
   meets-end (Decides codes) decision = refl
   meets-end (Asks number) decision = refl
+  meets-end (PastEnd codes) decision = refl
 
   -- THE NUMBERS OF WALKS
 
   number-stepped : (is_met : Bool) (step : StepValue) (walks : List PathValue) →
-      number goal is_met (map (after_step step) walks) ≡ number goal (is_met || met_by goal step.module_number) walks
+      number goal is_met (map (after_step step) walks) ≡ number goal (is_met || met_by goal step) walks
   unfolding number
   number-stepped is_met step walks =
       ap (λ (x : List PathValue). fit (length x)) (wanted-stepped is_met step walks)
-      ∙ ap fit (length_mapped (wanted_of goal (is_met || met_by goal step.module_number) walks))
+      ∙ ap fit (length_mapped (wanted_of goal (is_met || met_by goal step) walks))
     where
       length_mapped : (xs : List PathValue) → length (map (after_step step) xs) ≡ length xs
       length_mapped [] = refl
@@ -138,18 +140,18 @@ module _ (goal : Goal) where
 
   sum-walks : (is_met : Bool) (known : List (List PathValue)) (m : ℕ) (sofar : List PathValue) (edges : List Edge) →
       number goal is_met (sofar ++ flat_map (walks_by known m) edges)
-      ≡ sum_from goal (is_met || met_by goal m) (map (tally_of goal) known) (number goal is_met sofar) edges
+      ≡ sum_from goal is_met m (map (tally_of goal) known) (number goal is_met sofar) edges
   unfolding sum_from
   sum-walks is_met known m sofar [] = ap (number goal is_met) (append-nil sofar)
   sum-walks is_met known m sofar (edge ∷ edges) =
       let here : List PathValue = walks_by known m edge in
-      let after : Bool = is_met || met_by goal m in
+      let after : Bool = is_met || met_by goal (step_by m edge) in
       let tallies : List Tally = map (tally_of goal) known in
       let one : number goal is_met here ≡ count_to goal after tallies edge.target =
-      number-stepped is_met (record { module_number = m; class = edge.class }) (walks_to known edge.target) ∙ number-to after known edge.target in
+      number-stepped is_met (step_by m edge) (walks_to known edge.target) ∙ number-to after known edge.target in
       ap (number goal is_met) (sym (append_assoc sofar here (flat_map (walks_by known m) edges)))
       ∙ sum-walks is_met known m (sofar ++ here) edges
-      ∙ ap (λ (x : Option ℕ). sum_from goal after tallies x edges) (number-append is_met sofar here ∙ ap (plus (number goal is_met sofar)) one)
+      ∙ ap (λ (x : Option ℕ). sum_from goal is_met m tallies x edges) (number-append is_met sofar here ∙ ap (plus (number goal is_met sofar)) one)
 
   abbrev both : Option ℕ → Option ℕ → Tally
   both all met = record { all = all; met = met }
@@ -161,7 +163,7 @@ module _ (goal : Goal) where
       let edges = node.edges.items in
       let tallies : List Tally = map (tally_of goal) known in
       ap (λ (x : Option ℕ). both x (number goal false (walks_at known node))) (sum-walks true known m [] edges)
-      ∙ ap (λ (x : Option ℕ). both (sum_from goal true tallies (Some 0) edges) x) (sum-walks false known m [] edges)
+      ∙ ap (λ (x : Option ℕ). both (sum_from goal true m tallies (Some 0) edges) x) (sum-walks false known m [] edges)
 
   pub tallies-table : (nodes : List Node) → tallies_of goal nodes ≡ table (tally_by goal) [] nodes
   tallies-table nodes = table-map (tally_of goal) walks_at (tally_by goal) tally-at [] nodes

@@ -5,6 +5,7 @@ pub mod Following
 pub mod FrameLists
 pub mod Growing
 pub mod Paging
+pub mod Passing
 pub mod Placing
 pub mod Reaching
 pub mod Rests

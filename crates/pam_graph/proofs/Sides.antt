@@ -18,7 +18,7 @@ use Rattle.pam_graph.specs.declared.tally.Tally.{Tally}
 use Rattle.pam_graph.specs.Frames.{edges_in, known_in, ordered, wanted_by}
 use Rattle.pam_graph.specs.Goals.{fit}
 use Rattle.pam_graph.specs.Order.{AreAbove, AreNodes, IsAbove, IsNode, number_of, numbers_of}
-use Rattle.pam_graph.specs.Tallies.{met_by, number, tallies_of, tally_of, wanted, wanted_of}
+use Rattle.pam_graph.specs.Tallies.{met_by, number, step_by, tallies_of, tally_of, wanted, wanted_of}
 use Rattle.pam_graph.specs.Walks.{table, walks_at, walks_by, walks_of, walks_to}
 use Rattle.pam_graph.specs.Within.{AreWithin, IsWithin, height}
 use Rattle.pam_graph.proofs.Counting.{wanted-stepped}
@@ -204,7 +204,7 @@ module _ (nodes : List Node) (order : AreNodes [] nodes) (i : ℕ) (node : Node)
 
 -- the first of some edges, and the others
 pub wanted-first : (goal : Goal) (before is_met : Bool) (known : List (List PathValue)) (m : ℕ) (e : Edge) (es : List Edge) → is_met ≡
-    (before || met_by goal m) →
+    (before || met_by goal (step_by m e)) →
     wanted_by goal before known m (e ∷ es)
     ≡ map (after_step (record { module_number = m; class = e.class })) (wanted_of goal is_met (walks_to known e.target)) ++ wanted_by goal before known m es
 wanted-first goal before is_met known m e es same =

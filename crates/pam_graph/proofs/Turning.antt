@@ -123,7 +123,7 @@ module _ (d : Direction) (goal : Goal) (is_met : Bool) (known : List (List PathV
 
   -- the wanted walks after the edge
   abbrev onward : List PathValue
-  onward = wanted_of goal (is_met || met_by goal m) (walks_to known e.target)
+  onward = wanted_of goal (is_met || met_by goal step) (walks_to known e.target)
 
   stepped : wanted_of goal is_met (walks_by known m e) ≡ map (after_step step) onward
   stepped = wanted-stepped goal is_met step (walks_to known e.target)
@@ -279,8 +279,8 @@ module _ (d : Direction) (goal : Goal) where
   at-edges is_met false known m h [] = refl
   at-edges is_met true known m h (e ∷ es) =
       let step : StepValue = record { module_number = m; class = e.class } in
-      let first = wanted-first goal is_met (is_met || met_by goal m) known m e es refl in
-      let below = wanted_of goal (is_met || met_by goal m) (walks_to known e.target) in
+      let first = wanted-first goal is_met (is_met || met_by goal step) known m e es refl in
+      let below = wanted_of goal (is_met || met_by goal step) (walks_to known e.target) in
       ap (part d []) first
       ∙ filter-append (is_past d []) (map (after_step step) below) (wanted_by goal is_met known m es)
       ∙ ap (λ (x : List PathValue). x ++ part d [] (wanted_by goal is_met known m es)) (filter-all (is_past d []) (after_step step) (h step) below)
@@ -288,8 +288,8 @@ module _ (d : Direction) (goal : Goal) where
       ∙ sym first
   at-edges is_met false known m h (e ∷ es) =
       let step : StepValue = record { module_number = m; class = e.class } in
-      let below = wanted_of goal (is_met || met_by goal m) (walks_to known e.target) in
-      ap (part d []) (wanted-first goal is_met (is_met || met_by goal m) known m e es refl)
+      let below = wanted_of goal (is_met || met_by goal step) (walks_to known e.target) in
+      ap (part d []) (wanted-first goal is_met (is_met || met_by goal step) known m e es refl)
       ∙ filter-append (is_past d []) (map (after_step step) below) (wanted_by goal is_met known m es)
       ∙ ap (λ (x : List PathValue). x ++ part d [] (wanted_by goal is_met known m es)) (filter-none (is_past d []) (after_step step) (h step) below)
       ∙ at-edges is_met false known m h es

@@ -6,6 +6,7 @@ pub mod Goals
 pub mod Laws
 pub mod Order
 pub mod Parts
+pub mod PastEnds
 pub mod Places
 pub mod Reached
 pub mod Tallies

@@ -11,7 +11,7 @@ use Rattle.pam_graph.specs.declared.node.Target.{Target}
 use Rattle.pam_graph.specs.declared.node.Target.TheVariants.{At, End}
 use Rattle.pam_graph.specs.declared.retrace.Turn.{Turn}
 use Rattle.pam_graph.specs.Frames.{along, edges_in, wanted_by}
-use Rattle.pam_graph.specs.Tallies.{met_by, wanted_of}
+use Rattle.pam_graph.specs.Tallies.{met_by, step_by, wanted_of}
 use Rattle.pam_graph.specs.Walks.{walks_to}
 use Rattle.pam_paths.specs.Computed.{after_step}
 use Rattle.pam_paths.specs.Paths.{PathValue, key, precedes}
@@ -46,8 +46,8 @@ part_along direction goal nodes codes (Some way) = part direction codes (along d
 abbrev pub part_by : Direction → Goal → Bool → List (List PathValue) → ℕ → List ℕ → Option Edge → List PathValue
 part_by direction goal is_met known number codes None = []
 part_by direction goal is_met known number codes (Some edge) =
-    map (after_step (record { module_number = number; class = edge.class }))
-    (part direction codes (wanted_of goal (is_met || met_by goal number) (walks_to known edge.target)))
+    map (after_step (step_by number edge))
+    (part direction codes (wanted_of goal (is_met || met_by goal (step_by number edge)) (walks_to known edge.target)))
 
 -- where a key turns off among the edges of a node, by its first code: the walks after it are those by the edge of the code that
 -- come after the other codes, and all by later edges

@@ -1,29 +1,35 @@
 -- For private contracts and proofs alone: the numbers of the walks from each node on.
-use Rattle.std.specs.Prelude.{ℕ, ◌+◌, ◌==◌, nat_lt, Bool, true, false, ◌||◌, if◌then◌else◌, List, [], ◌∷◌, filter, length, map, slice_index_or}
+use Rattle.std.specs.Prelude.{ℕ, ◌+◌, nat_lt, Bool, true, false, ◌||◌, if◌then◌else◌, List, [], ◌∷◌, filter, length, map, slice_index_or}
 use Rattle.std.specs.Prelude.{Option, None, Some}
 use Rattle.pam_codes.specs.Set.{is_in}
 use Rattle.pam_graph.specs.declared.goal.Goal.{Goal}
-use Rattle.pam_graph.specs.declared.goal.Goal.TheVariants.{Any, Decides, Asks}
+use Rattle.pam_graph.specs.declared.goal.Goal.TheVariants.{Any, Decides, Asks, PastEnd}
 use Rattle.pam_graph.specs.declared.node.Edge.{Edge}
 use Rattle.pam_graph.specs.declared.node.Node.{Node}
 use Rattle.pam_graph.specs.declared.node.Target.{Target}
 use Rattle.pam_graph.specs.declared.node.Target.TheVariants.{At, End}
 use Rattle.pam_graph.specs.declared.tally.Tally.{Tally}
-use Rattle.pam_graph.specs.Goals.{fit, meets}
+use Rattle.pam_graph.specs.Goals.{asks_module, fit, gives_one, meets}
 use Rattle.pam_graph.specs.Walks.{walks_of}
-use Rattle.pam_paths.specs.Paths.{PathValue}
+use Rattle.pam_paths.specs.Paths.{PathValue, StepValue}
 
--- whether the goal is met when a module is asked
-abbrev pub met_by : Goal → ℕ → Bool
-met_by Any number = false
-met_by (Decides codes) number = false
-met_by (Asks wanted) number = number == wanted
+-- the step by an edge of a node whose module has this number
+abbrev pub step_by : ℕ → Edge → StepValue
+step_by number edge = record { module_number = number; class = edge.class }
+
+-- whether a step meets the goal
+abbrev pub met_by : Goal → StepValue → Bool
+met_by Any step = false
+met_by (Decides codes) step = false
+met_by (Asks number) step = asks_module number step
+met_by (PastEnd codes) step = gives_one codes step
 
 -- whether it is met at the end of a run with this decision, if it was not met before
 abbrev pub met_at_end : Goal → ℕ → Bool
 met_at_end Any decision = true
 met_at_end (Decides codes) decision = is_in decision codes
-met_at_end (Asks wanted) decision = false
+met_at_end (Asks number) decision = false
+met_at_end (PastEnd codes) decision = false
 
 -- a walk is wanted if the goal was met before it, or it meets the goal
 abbrev pub wanted : Goal → Bool → PathValue → Bool
@@ -67,15 +73,15 @@ abbrev pub count_to : Goal → Bool → List Tally → Target → Option ℕ
 count_to goal is_met tallies (At index) = if is_met then (tally_at tallies index).all else (tally_at tallies index).met
 count_to goal is_met tallies (End decision) = if is_met || met_at_end goal decision then Some 1 else Some 0
 
--- a number, and those of the wanted walks that begin with these edges
-unfoldable pub sum_from : Goal → Bool → List Tally → Option ℕ → List Edge → Option ℕ
-sum_from goal is_met tallies sum [] = sum
-sum_from goal is_met tallies sum (edge ∷ edges) =
-    sum_from goal is_met tallies (plus sum (count_to goal is_met tallies edge.target)) edges
+-- a number, and those of the wanted walks that begin with these edges of a node whose module has a number
+unfoldable pub sum_from : Goal → Bool → ℕ → List Tally → Option ℕ → List Edge → Option ℕ
+sum_from goal is_met number tallies sum [] = sum
+sum_from goal is_met number tallies sum (edge ∷ edges) =
+    sum_from goal is_met number tallies (plus sum (count_to goal (is_met || met_by goal (step_by number edge)) tallies edge.target)) edges
 
 -- the numbers of the walks from a node on
 abbrev pub tally_by : Goal → List Tally → Node → Tally
 tally_by goal tallies node = record {
-  all = sum_from goal true tallies (Some 0) node.edges.items;
-  met = sum_from goal (met_by goal node.module_number) tallies (Some 0) node.edges.items;
+  all = sum_from goal true node.module_number tallies (Some 0) node.edges.items;
+  met = sum_from goal false node.module_number tallies (Some 0) node.edges.items;
 }

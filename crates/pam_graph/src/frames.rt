@@ -4,7 +4,7 @@ ghost use Rattle.std.specs.Prelude.{◌≡◌, ◌≢◌, ◌-◌, ◌<◌, ◌�
 ghost use Rattle.pam_conf.specs.declared.stack.TheConstants.{MAX_MODULES};
 ghost use Rattle.pam_graph.specs.Frames.{AreFrames, IsSearch, ahead, along, edges_in, under, walk_to, wanted_by};
 ghost use Rattle.pam_graph.specs.Order.{AreAbove, IsAbove, numbers_of};
-ghost use Rattle.pam_graph.specs.Tallies.{met_by, tally_of, wanted_of};
+ghost use Rattle.pam_graph.specs.Tallies.{tally_of, wanted_of};
 ghost use Rattle.pam_graph.specs.Walks.{walks_to};
 ghost use Rattle.pam_graph.specs.Within.{AreWithin, IsWithin, height};
 ghost use Rattle.pam_graph.specs.declared.node.Target.TheVariants.{At};
@@ -82,32 +82,34 @@ pub(crate) struct Search<'a> {
 pub(crate) struct Found {
     pub(crate) class: CodeSet,
     pub(crate) target: Target,
+    /// Whether the goal was met before, or by the step along the edge.
+    pub(crate) is_met: bool,
     pub(crate) next: usize,
 }
 
 impl Search<'_> {
-    /// The first of `edges`, from the edge at `next` on, by which a wanted walk begins. The goal was met before, or when the
-    /// module of the edges was asked, if `is_met`.
-    fn edge_from(&self, is_met: bool, edges: &[Edge], next: usize) -> Option<Found>
+    /// The first of `edges`, from the edge at `next` on, by which a wanted walk begins. They are edges of a node of the module with
+    /// this number, before which the goal was met if `is_met`.
+    fn edge_from(&self, is_met: bool, number: usize, edges: &[Edge], next: usize) -> Option<Found>
         requires { AreWithin (length self.now.tallies.now) edges.now }
-        ensures none { (known : List (List PathValue)) (number : ℕ) (before : Bool) → self.now.tallies.now ≡ map (tally_of self.now.goal.now) known
-            → is_met ≡ (before || met_by self.now.goal.now number)
-            → IfNone result (wanted_by self.now.goal.now before known number (drop next (edges_in self.now.direction edges.now)) ≡ []) }
-        ensures some { (known : List (List PathValue)) (number : ℕ) (before : Bool) → self.now.tallies.now ≡ map (tally_of self.now.goal.now) known
-            → is_met ≡ (before || met_by self.now.goal.now number)
-            → IfSome result (λ f. wanted_by self.now.goal.now before known number (drop next (edges_in self.now.direction edges.now))
-            ≡ map (after_step (record { module_number = number; class = f.class })) (wanted_of self.now.goal.now is_met (walks_to known f.target))
-            ++ wanted_by self.now.goal.now before known number (drop f.next (edges_in self.now.direction edges.now))) }
+        ensures none { (known : List (List PathValue)) → self.now.tallies.now ≡ map (tally_of self.now.goal.now) known
+            → IfNone result (wanted_by self.now.goal.now is_met known number (drop next (edges_in self.now.direction edges.now)) ≡ []) }
+        ensures some { (known : List (List PathValue)) → self.now.tallies.now ≡ map (tally_of self.now.goal.now) known
+            → IfSome result (λ f. wanted_by self.now.goal.now is_met known number (drop next (edges_in self.now.direction edges.now))
+            ≡ map (after_step (record { module_number = number; class = f.class })) (wanted_of self.now.goal.now f.is_met (walks_to known f.target))
+            ++ wanted_by self.now.goal.now is_met known number (drop f.next (edges_in self.now.direction edges.now))) }
         ensures wanted { (known : List (List PathValue)) → self.now.tallies.now ≡ map (tally_of self.now.goal.now) known
-            → IfSome result (λ f. wanted_of self.now.goal.now is_met (walks_to known f.target) ≢ []) }
+            → IfSome result (λ f. wanted_of self.now.goal.now f.is_met (walks_to known f.target) ≢ []) }
         ensures above { (numbers : List ℕ) (low : ℕ) → AreAbove numbers low edges.now → IfSome result (λ f. IsAbove numbers low f.target) }
     {
         for index in next..edges.len() {
             let edge = self.direction.edge(edges, index);
-            if has_walks(count_to(self.goal, is_met, self.tallies, &edge.target)) {
+            let is_met_after = met_after(self.goal, is_met, number, &edge);
+            if has_walks(count_to(self.goal, is_met_after, self.tallies, &edge.target)) {
                 return Some(Found {
                     class: edge.class,
                     target: edge.target,
+                    is_met: is_met_after,
                     next: index + 1,
                 });
             }
@@ -149,13 +151,14 @@ impl Search<'_> {
         ensures earlier { take (length frames.new.items - 1) frames.new.items ≡ take (length frames.new.items - 1) frames.old.items }
     {
         while let Some(frame) = frames.pop() {
-            let is_met = met_after(self.goal, frame.is_met, frame.module_number);
             let node = &self.nodes[frame.node];
-            if let Some(found) = self.edge_from(is_met, &node.edges, frame.next) {
+            if let Some(found) =
+                self.edge_from(frame.is_met, frame.module_number, &node.edges, frame.next)
+            {
                 frames.push(frame.following(&found));
                 return Some(Way {
                     target: found.target,
-                    is_met,
+                    is_met: found.is_met,
                 });
             }
         }
@@ -179,8 +182,7 @@ impl Search<'_> {
         ensures earlier { take (length frames.old.items) frames.new.items ≡ frames.old.items }
     {
         let node = &self.nodes[index];
-        let is_met_after = met_after(self.goal, is_met, node.module_number);
-        let Some(found) = self.edge_from(is_met_after, &node.edges, 0) else {
+        let Some(found) = self.edge_from(is_met, node.module_number, &node.edges, 0) else {
             unreachable!()
         };
         frames.push(Frame {
@@ -192,7 +194,7 @@ impl Search<'_> {
         });
         Way {
             target: found.target,
-            is_met: is_met_after,
+            is_met: found.is_met,
         }
     }
 

@@ -1,5 +1,6 @@
 //! What is wanted of a run.
 
+use crate::past_ends::PastEnds;
 use pam_codes::CodeSet;
 
 /// What is wanted of a run, and so of a walk through a graph.
@@ -11,4 +12,6 @@ pub enum Goal {
     Decides(CodeSet),
     /// The module with this number is asked.
     Asks(usize),
+    /// Some answer jumps past the end of its list.
+    PastEnd(PastEnds),
 }

@@ -89,7 +89,7 @@ impl Search<'_> {
                 });
                 Some(Way {
                     target: edge.target,
-                    is_met: met_after(self.goal, is_met, node.module_number),
+                    is_met: met_after(self.goal, is_met, node.module_number, &edge),
                 })
             }
         }

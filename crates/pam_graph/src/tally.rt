@@ -4,7 +4,7 @@ ghost use Rattle.std.specs.Prelude.{◌≡◌, ◌||◌, [], IfOk, Some, length}
 ghost use Rattle.std.specs.List.{list_any};
 ghost use Rattle.pam_graph.specs.Goals.{fit, meeting, meets};
 ghost use Rattle.pam_graph.specs.Order.{AreNodes};
-ghost use Rattle.pam_graph.specs.Tallies.{count_to, has_walks, met_at_end, met_by, plus, sum_from, tallies_of, tally_by};
+ghost use Rattle.pam_graph.specs.Tallies.{count_to, has_walks, met_at_end, met_by, plus, step_by, sum_from, tallies_of, tally_by};
 ghost use Rattle.pam_graph.specs.Walks.{walks};
 ghost use Rattle.pam_graph.specs.Within.{AreWithin, IsWithin};
 
@@ -35,22 +35,23 @@ pub(crate) fn plus(one: Option<u128>, other: Option<u128>) -> Option<u128>
     }
 }
 
-/// Whether the goal is met when a module is asked.
-fn met_by(goal: &Goal, module_number: usize) -> bool
-    ensures { result ≡ met_by goal.now module_number }
+/// Whether the goal is met by a step along `edge`, from a node of the module with this number.
+fn met_by(goal: &Goal, module_number: usize, edge: &Edge) -> bool
+    ensures { result ≡ met_by goal.now (step_by module_number edge.now) }
 {
     match goal {
         Goal::Any => false,
         Goal::Decides(_) => false,
         Goal::Asks(wanted) => module_number == *wanted,
+        Goal::PastEnd(past_ends) => past_ends.have_one(module_number, edge.class),
     }
 }
 
-/// Whether the goal is met once a module is asked, if it was met before where `is_met`.
-pub(crate) fn met_after(goal: &Goal, is_met: bool, module_number: usize) -> bool
-    ensures { result ≡ (is_met || met_by goal.now module_number) }
+/// Whether the goal is met after that step, if it was met before where `is_met`.
+pub(crate) fn met_after(goal: &Goal, is_met: bool, module_number: usize, edge: &Edge) -> bool
+    ensures { result ≡ (is_met || met_by goal.now (step_by module_number edge.now)) }
 {
-    is_met || met_by(goal, module_number)
+    is_met || met_by(goal, module_number, edge)
 }
 
 /// Whether it is met at the end of a run with this decision, if it was not met before.
@@ -61,6 +62,7 @@ fn met_at_end(goal: &Goal, decision: Code) -> bool
         Goal::Any => true,
         Goal::Decides(codes) => codes.contains(decision),
         Goal::Asks(_) => false,
+        Goal::PastEnd(_) => false,
     }
 }
 
@@ -98,14 +100,21 @@ pub(crate) fn has_walks(number: Option<u128>) -> bool
     }
 }
 
-/// The number of the wanted walks that begin with one of `edges`.
-fn count_by(goal: &Goal, is_met: bool, tallies: &[Tally], edges: &[Edge]) -> Option<u128>
+/// The number of the wanted walks that begin with one of `edges`, of a node of the module with this number.
+fn count_by(
+    goal: &Goal,
+    is_met: bool,
+    number: usize,
+    tallies: &[Tally],
+    edges: &[Edge],
+) -> Option<u128>
     requires { AreWithin (length tallies.now) edges.now }
-    ensures { result ≡ sum_from goal.now is_met tallies.now (Some 0) edges.now }
+    ensures { result ≡ sum_from goal.now is_met number tallies.now (Some 0) edges.now }
 {
     let mut count = Some(0);
     for edge in edges {
-        count = plus(count, count_to(goal, is_met, tallies, &edge.target));
+        let is_met_after = met_after(goal, is_met, number, edge);
+        count = plus(count, count_to(goal, is_met_after, tallies, &edge.target));
     }
     count
 }
@@ -115,10 +124,10 @@ fn tally_by(goal: &Goal, tallies: &[Tally], node: &Node) -> Tally
     requires { AreWithin (length tallies.now) node.now.edges.items }
     ensures { result ≡ tally_by goal.now tallies.now node.now }
 {
-    let is_met = met_by(goal, node.module_number);
+    let number = node.module_number;
     Tally {
-        all: count_by(goal, true, tallies, &node.edges),
-        met: count_by(goal, is_met, tallies, &node.edges),
+        all: count_by(goal, true, number, tallies, &node.edges),
+        met: count_by(goal, false, number, tallies, &node.edges),
     }
 }
 

@@ -2,7 +2,7 @@
 
 use anyhow::Error;
 use pam_codes::{Code, CodeSet};
-use pam_conf::{Files, Form, Kind, resolve};
+use pam_conf::{Files, Form, Kind, Stack, resolve};
 use pam_dispatch::{MAX_MODULES, Program};
 use pam_paths::Known;
 use std::alloc::Global;
@@ -15,15 +15,20 @@ fn put(rt: &HostRuntime, alloc: Global, files: &mut Files, name: &str) -> Result
     Ok(())
 }
 
-/// The program of a service for the kind `auth`. Its rules may include the files `inner` and `empty`.
-pub(crate) fn program_of(rt: &HostRuntime, service: &str) -> Result<Program, Error> {
+/// The stack of a service for the kind `auth`. Its rules may include the files `inner` and `empty`.
+pub(crate) fn stack_of(rt: &HostRuntime, service: &str) -> Result<Stack, Error> {
     let alloc = rt.alloc();
     let mut files = Files::new(alloc, Form::Dir);
     for name in [service, "inner", "empty"] {
         put(rt, alloc, &mut files, name)?;
     }
-    let stack = resolve(alloc, &files, service.as_bytes(), Kind::Auth)?;
-    Ok(Program::of(alloc, &stack)?)
+    Ok(resolve(alloc, &files, service.as_bytes(), Kind::Auth)?)
+}
+
+/// The program of that stack.
+pub(crate) fn program_of(rt: &HostRuntime, service: &str) -> Result<Program, Error> {
+    let stack = stack_of(rt, service)?;
+    Ok(Program::of(rt.alloc(), &stack)?)
 }
 
 /// The codes of names separated by commas. Skips unknown names.

@@ -1,10 +1,10 @@
 //! Compares the walks of a graph after a cursor, and those before it, with the paths of an explorer, for each goal.
 
-use crate::graphs::{goals_of, is_wanted};
+use crate::graphs::{goals_of, is_wanted, push_jumps};
 use crate::lines::line_of;
-use crate::stacks::program_of;
+use crate::stacks::stack_of;
 use anyhow::Error;
-use pam_codes::Out;
+use pam_codes::{CodeSet, Out};
 use pam_dispatch::Program;
 use pam_graph::{Goal, Graph};
 use pam_page::{LineTexts, Listing, put_page};
@@ -23,6 +23,7 @@ fn parts_of(
     alloc: Global,
     program: &Program,
     goal: &Goal,
+    jumps: &[CodeSet],
     cursor: &Cursor,
 ) -> Result<Parts, Error> {
     let mut parts = Parts {
@@ -34,7 +35,7 @@ fn parts_of(
         let Some(path) = explorer.next() else {
             break;
         };
-        if !is_wanted(goal, &path) {
+        if !is_wanted(goal, jumps, &path) {
             continue;
         }
         let own = path.cursor();
@@ -80,9 +81,10 @@ fn agrees(
     program: &Program,
     graph: &Graph,
     goal: Goal,
+    jumps: &[CodeSet],
     cursor: &Cursor,
 ) -> Result<bool, Error> {
-    let parts = parts_of(alloc, program, &goal, cursor)?;
+    let parts = parts_of(alloc, program, &goal, jumps, cursor)?;
     let after = graph.walks_after(alloc, goal, cursor)?;
     let after = page_of(alloc, &mut Listing::WalksForward(after))?;
     let before = graph.walks_before(alloc, goal, cursor)?;
@@ -95,13 +97,16 @@ fn agrees(
 /// Prints how many goals have the same walks after a cursor, and before it, as paths in the listing.
 pub(crate) fn walks(rt: &HostRuntime, service: &str, text: &str) -> Result<(), Error> {
     let alloc = rt.alloc();
-    let program = program_of(rt, service)?;
+    let stack = stack_of(rt, service)?;
+    let program = Program::of(alloc, &stack)?;
     let graph = Graph::of(alloc, &program, &Free)?;
     let cursor = Cursor::read(text.as_bytes())?;
-    let goals = goals_of(alloc, &program)?;
+    let goals = goals_of(alloc, &stack)?;
+    let mut jumps = Vec::new(alloc);
+    push_jumps(stack.items(), &mut jumps)?;
     let mut same: usize = 0;
     for goal in &goals {
-        if agrees(alloc, &program, &graph, *goal, &cursor)? {
+        if agrees(alloc, &program, &graph, *goal, &jumps, &cursor)? {
             same = same.saturating_add(1);
         }
     }

@@ -1,7 +1,7 @@
-use Rattle.std.proofs.Common.{◌+◌, ◌∙◌, ◌∷◌, Option, ℕ, ap, drop, length, subst, sym}
+use Rattle.std.proofs.Common.{◌+◌, ◌∙◌, ◌∷◌, Bool, Option, ℕ, ap, drop, length, subst, sym}
 use Rattle.std.proofs.lemmas.List.{drop_all, drop_more}
 use Rattle.pam_graph.specs.declared.node.Edge.{Edge}
-use Rattle.pam_graph.specs.Tallies.{plus, sum_from}
+use Rattle.pam_graph.specs.Tallies.{count_to, plus, sum_from}
 use Rattle.pam_graph.specs.Within.{AreWithin}
 use Rattle.pam_graph.proofs.tally.count_by.Goals as goal
 
@@ -24,14 +24,15 @@ loop-edge-preserved c =
     let count = c.loop-edge.count in
     let left = drop_more edges i c.edge-item.result c.loop-edge-test.true ∙ ap (λ (x : Edge). x ∷ drop (i + 1) edges) (sym c.edge-item.is) in
     record {
-      sum = ap (λ (x : Option ℕ). sum_from goal is_met tallies x (drop (i + 1) edges)) (c.plus-count.ensures ∙ ap (plus count) c.count_to.ensures)
-          ∙ sym (ap (sum_from goal is_met tallies count) left) ∙ c.loop-edge.invariant.sum;
+      sum = ap (λ (x : Option ℕ). sum_from goal is_met c.args.number tallies x (drop (i + 1) edges)) (c.plus-count.ensures ∙ ap (plus count) (c.count_to.ensures
+          ∙ ap (λ (t : Bool). count_to goal t tallies c.edge-item.result.target) c.met_after-is_met_after.ensures))
+          ∙ sym (ap (sum_from goal is_met c.args.number tallies count) left) ∙ c.loop-edge.invariant.sum;
       within = (subst (AreWithin (length tallies)) left c.loop-edge.invariant.within).1;
     }
 
 pub returns : goal.returns
 unfolding sum_from
 returns c =
-    sym (ap (sum_from c.args.goal.now c.args.is_met c.args.tallies.now c.loop-edge.count)
+    sym (ap (sum_from c.args.goal.now c.args.is_met c.args.number c.args.tallies.now c.loop-edge.count)
     (drop_all c.loop-edge.edge-index c.args.edges.now c.loop-edge-test.false))
     ∙ c.loop-edge.invariant.sum

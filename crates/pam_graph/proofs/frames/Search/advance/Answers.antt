@@ -75,15 +75,15 @@ returns-in-Some-edge_from-clause-walks c =
     let node = c.index-self-frame.result in
     let order = c.requires.search.order in
     let follows = c.following.ensures in
-    let below = wanted_of s.goal.now c.met_after-is_met.result (walks_to known found.target) in
+    let below = wanted_of s.goal.now found.is_met (walks_to known found.target) in
     let own = frame-follows s.direction s.goal.now s.nodes.now order _ f node k.1 c.index-self-frame.is g (ap (λ (x : Frame). x.node) follows)
     (ap (λ (x : Frame). x.module_number) follows) in
     let same : wanted_by s.goal.now f.is_met known f.module_number (drop f.next (edges_in s.direction node.edges.items))
     ≡ map (after_step (step_in g)) below ++ left_at s.direction s.goal.now s.nodes.now g =
     ap (λ (es : List Edge). wanted_by s.goal.now f.is_met known f.module_number (drop f.next (edges_in s.direction es))) (sym
     (c.deref.ensures.value ∙ ap edges_of (sym c.index-self-frame.is)))
-    ∙ c.in-Some-edge_from.ensures.some known f.module_number f.is_met
-    (tallies-in s.direction s.goal.now s.nodes.now s.tallies.now c.requires.search.tallies) c.met_after-is_met.ensures
+    ∙ c.in-Some-edge_from.ensures.some known
+    (tallies-in s.direction s.goal.now s.nodes.now s.tallies.now c.requires.search.tallies)
     ∙ ap (λ (es : List Edge). map (after_step (record { module_number = f.module_number; class = found.class })) below
     ++ wanted_by s.goal.now f.is_met known f.module_number (drop found.next (edges_in s.direction es))) (c.deref.ensures.value ∙ ap edges_of
     (sym c.index-self-frame.is))
@@ -114,8 +114,8 @@ loop-frame-preserved c =
     frame-left s.direction s.goal.now s.nodes.now c.requires.search.order _ f node k.1 c.index-self-frame.is
     ∙ ap (λ (es : List Edge). wanted_by s.goal.now f.is_met known f.module_number (drop f.next (edges_in s.direction es))) (sym
     (c.deref.ensures.value ∙ ap edges_of (sym c.index-self-frame.is)))
-    ∙ c.in_default-edge_from.ensures.none known f.module_number f.is_met
-    (tallies-in s.direction s.goal.now s.nodes.now s.tallies.now c.requires.search.tallies) c.met_after-is_met.ensures in
+    ∙ c.in_default-edge_from.ensures.none known
+    (tallies-in s.direction s.goal.now s.nodes.now s.tallies.now c.requires.search.tallies) in
     record {
       frames = k.0;
       earlier = front_popped c.args.frames.now.items c.loop-frame.frames.items c.pop.new.self.items c.loop-frame.invariant.earlier c.in-Some.ensures.rest;

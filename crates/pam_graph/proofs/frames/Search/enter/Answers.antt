@@ -46,8 +46,8 @@ pub unreachable-requires : goal.unreachable-requires
 unreachable-requires c =
     let s = c.args.self.now in
     let k = (goal.at.unreachable-requires c).After-deref in
-    c.requires.wanted (onward k ∙ c.in_default.ensures.none (known_in s.direction s.nodes.now) (node k).module_number c.args.is_met
-    (tallies-in s.direction s.goal.now s.nodes.now s.tallies.now c.requires.search.tallies) c.met_after-is_met_after.ensures)
+    c.requires.wanted (onward k ∙ c.in_default.ensures.none (known_in s.direction s.nodes.now)
+    (tallies-in s.direction s.goal.now s.nodes.now s.tallies.now c.requires.search.tallies))
 
 -- the frame of the node
 framed : (c : After-deref) (f : Frame) → f.node ≡ c.args.index → f.module_number ≡ (node c).module_number →
@@ -75,11 +75,11 @@ returns-clause-walks c =
     let known = known_in s.direction s.nodes.now in
     let found = c.in-Some.found in
     let g : Frame = record { node = c.args.index; module_number = (node k).module_number; next = found.next; is_met = c.args.is_met; class = found.class } in
-    let below = wanted_of s.goal.now c.met_after-is_met_after.result (walks_to known found.target) in
+    let below = wanted_of s.goal.now found.is_met (walks_to known found.target) in
     ahead-enter s.direction s.goal.now s.nodes.now c.args.frames.now.items g below _
     (onward k
-    ∙ c.in-Some.ensures.some known (node k).module_number c.args.is_met
-    (tallies-in s.direction s.goal.now s.nodes.now s.tallies.now c.requires.search.tallies) c.met_after-is_met_after.ensures
+    ∙ c.in-Some.ensures.some known
+    (tallies-in s.direction s.goal.now s.nodes.now s.tallies.now c.requires.search.tallies)
     ∙ ap (λ (es : List Edge). map (after_step (step_in g)) below
     ++ wanted_by s.goal.now c.args.is_met known (node k).module_number (drop found.next (edges_in s.direction es)))
     (c.deref.ensures.value ∙ sym (edges-are s.nodes.now c.args.index (node k) (low k) (at k))))
