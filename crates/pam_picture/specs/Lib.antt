@@ -1,0 +1,6 @@
+pub mod Escaped
+pub mod Labels
+pub mod Laws
+pub mod Marks
+pub mod Picture
+pub mod Places
