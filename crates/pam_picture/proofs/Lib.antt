@@ -1,2 +1,3 @@
+mod Controls
 mod Loops
 mod Texts

@@ -19,9 +19,9 @@ use Rattle.pam_graph.specs.declared.node.Node.{Node}
 use Rattle.pam_graph.specs.declared.node.Target.{Target}
 use Rattle.pam_graph.specs.declared.node.Target.TheVariants.{At, End}
 use Rattle.pam_known.specs.Answers.{name_of_path}
-use Rattle.pam_picture.specs.Escaped.{escaped}
+use Rattle.pam_picture.specs.Escaped.{escaped, rows}
 use Rattle.pam_picture.specs.Labels.{label_text}
-use Rattle.pam_picture.specs.Places.{column_at, end_at, point_at, point_of, route_at}
+use Rattle.pam_picture.specs.Places.{column_at, control_at, end_at, point_at, point_of, route_at}
 use Rattle.pam_picture.specs.declared.heading.TheConstants.{CUT_NAME, MAX_NAME}
 use Rattle.pam_picture.specs.declared.layout.Layout.{Layout}
 use Rattle.pam_picture.specs.declared.layout.shapes.Bend.{Bend}
@@ -98,7 +98,7 @@ asks number node = node.module_number == number
 abbrev pub asked_row : List Node → ℕ → List ℕ
 asked_row nodes number =
     if list_any (asks number) nodes then []
-    else codes "<text class=\"weak\" x=\"-6\" y=\"45\">never asked</text>"
+    else codes "</tspan><tspan x=\"-6\" dy=\"15\">never asked"
 
 -- the number, name and control of a module over its column, and the whole path where it is pointed at
 unfoldable pub column_heading : List Node → Layout → ℕ → ℕ → List Action → List ℕ → List ℕ
@@ -108,8 +108,8 @@ column_heading nodes layout index number control path =
     ∷ codes ")\"><title>" ∷ decimal number ∷ codes " " ∷ control_text control ∷ codes " " ∷ escaped path
     ∷ codes "</title><text class=\"strong\" x=\"-6\">" ∷ decimal number
     ∷ codes "</text><text class=\"strong\" x=\"-6\" y=\"15\">" ∷ escaped (name_front (name_of_path path)) ∷ name_ending (name_of_path path)
-    ∷ codes "</text><text class=\"weak\" x=\"-6\" y=\"30\">" ∷ control_text control
-    ∷ codes "</text>" ∷ asked_row nodes number ∷ codes "<path class=\"guide\" d=\"M0 53v" ∷ decimal layout.guide ∷ codes "\"/></g>\n" ∷ [])
+    ∷ codes "</text><text class=\"weak\" y=\"30\"><tspan x=\"-6\">" ∷ rows (control_at layout index) ∷ asked_row nodes number
+    ∷ codes "</tspan></text><path class=\"guide\" d=\"M0 " ∷ decimal layout.rows ∷ codes "v" ∷ decimal layout.guide ∷ codes "\"/></g>\n" ∷ [])
 
 abbrev pub rule_heading : List Node → Layout → ℕ → ModuleText → List ℕ
 rule_heading nodes layout index rule = column_heading nodes layout index rule.number rule.control rule.path

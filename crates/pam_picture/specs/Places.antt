@@ -1,5 +1,6 @@
 -- Where the shapes of a picture are, by what they show. What a layout leaves out is at the upper left corner.
-use Rattle.std.specs.Prelude.{ℕ, Option, None, Some, slice_get, slice_index_or}
+use Rattle.std.specs.Prelude.{ℕ, List, [], Vec, slice_get, slice_index_or}
+use Rattle.std.specs.Global.{Global}
 use Rattle.std.specs.Option.{option_map_or}
 use Rattle.pam_graph.specs.declared.node.Target.{Target}
 use Rattle.pam_graph.specs.declared.node.Target.TheVariants.{At, End}
@@ -9,6 +10,10 @@ use Rattle.pam_picture.specs.declared.layout.shapes.EndPlace.{EndPlace}
 use Rattle.pam_picture.specs.declared.layout.shapes.Place.{Place}
 use Rattle.pam_picture.specs.declared.layout.shapes.Point.{Point}
 use Rattle.pam_picture.specs.declared.layout.shapes.Route.{Route}
+
+-- the bytes of a text that is kept
+abbrev pub bytes_of : Vec ℕ Global → List ℕ
+bytes_of text = text.items
 
 abbrev pub origin : Point
 origin = record { x = 0; y = 0 }
@@ -22,6 +27,10 @@ no_route = record { fan = no_bend; turn = no_bend; landing = no_bend; note = 0 }
 -- the column after this many columns
 abbrev pub column_at : Layout → ℕ → ℕ
 column_at layout index = slice_index_or layout.columns.items index 0
+
+-- the control of the module after this many modules
+abbrev pub control_at : Layout → ℕ → List ℕ
+control_at layout index = option_map_or bytes_of (slice_get layout.controls.items index) []
 
 -- the way of an edge, by its node's index and its own
 abbrev pub route_at : Layout → ℕ → ℕ → Route

@@ -2,7 +2,7 @@
 
 ghost use Rattle.std.specs.List.{flat_map};
 ghost use Rattle.pam_codes.specs.Out.{Writes};
-ghost use Rattle.pam_picture.specs.Escaped.{escaped, escaped_byte, named};
+ghost use Rattle.pam_picture.specs.Escaped.{escaped, escaped_byte, named, row_byte, rows};
 
 use pam_codes::{Device, Out};
 use pam_drawing::ascii_byte;
@@ -45,6 +45,26 @@ pub(crate) fn put_escaped<W: Write>(text: &[u8], out: &mut Out<W>) -> Result<(),
 {
     for byte in text {
         put_byte(*byte, out)?;
+    }
+    Ok(())
+}
+
+#[tactic(auto, unfolding(crate::specs::Escaped::row_byte))]
+fn put_row_byte<W: Write>(byte: u8, out: &mut Out<W>) -> Result<(), Device>
+    ensures { Writes W.contents out.old out.new result (row_byte byte) }
+{
+    if byte == b' ' {
+        return out.put(b"</tspan><tspan x=\"-6\" dy=\"15\">");
+    }
+    put_byte(byte, out)
+}
+
+/// Writes a text with a row for each of its words.
+pub(crate) fn put_rows<W: Write>(text: &[u8], out: &mut Out<W>) -> Result<(), Device>
+    ensures { Writes W.contents out.old out.new result (rows text.now) }
+{
+    for byte in text {
+        put_row_byte(*byte, out)?;
     }
     Ok(())
 }

@@ -10,7 +10,7 @@ use crate::edge::Sheet;
 use crate::layout::Layout;
 use crate::layout::shapes::Lane;
 use crate::mark::{Mark, put_marks};
-use crate::place::column_at;
+use crate::place::{column_at, control_at};
 use pam_codes::{Control, Device, Out};
 use pam_dispatch::State;
 use pam_drawing::{impression_name, name_of};
@@ -43,7 +43,7 @@ fn name_ending(name: &[u8]) -> &'static [u8]
 }
 
 /// Whether some node asks a module.
-fn is_asked(nodes: &[Node], number: usize) -> bool
+pub(crate) fn is_asked(nodes: &[Node], number: usize) -> bool
     ensures { result ≡ list_any (asks number) nodes.now }
 {
     for node in nodes {
@@ -61,17 +61,17 @@ fn asked_row(nodes: &[Node], number: usize) -> &'static [u8]
     if is_asked(nodes, number) {
         b""
     } else {
-        b"<text class=\"weak\" x=\"-6\" y=\"45\">never asked</text>"
+        b"</tspan><tspan x=\"-6\" dy=\"15\">never asked"
     }
 }
 
 #[tactic(auto, unfolding(crate::specs::Picture::column_heading))]
-fn put_heading<W: Write>(
-    sheet: &Sheet<'_>,
+fn put_heading<'a, W: Write>(
+    sheet: &Sheet<'a>,
     index: usize,
     number: usize,
     control: Control,
-    path: &[u8],
+    path: &'a [u8],
     out: &mut Out<W>,
 ) -> Result<(), Device>
     ensures { Writes W.contents out.old out.new result
@@ -95,11 +95,12 @@ fn put_heading<W: Write>(
             Mark::Plain(b"</text><text class=\"strong\" x=\"-6\" y=\"15\">"),
             Mark::Escaped(name_front(name)),
             Mark::Plain(name_ending(name)),
-            Mark::Plain(b"</text><text class=\"weak\" x=\"-6\" y=\"30\">"),
-            Mark::Control(control),
-            Mark::Plain(b"</text>"),
+            Mark::Plain(b"</text><text class=\"weak\" y=\"30\"><tspan x=\"-6\">"),
+            Mark::Rows(control_at(sheet.layout, index)),
             Mark::Plain(asked_row(sheet.nodes, number)),
-            Mark::Plain(b"<path class=\"guide\" d=\"M0 53v"),
+            Mark::Plain(b"</tspan></text><path class=\"guide\" d=\"M0 "),
+            Mark::Number(sheet.layout.rows),
+            Mark::Plain(b"v"),
             Mark::Number(sheet.layout.guide),
             Mark::Plain(b"\"/></g>\n"),
         ],

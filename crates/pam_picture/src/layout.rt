@@ -1,6 +1,11 @@
 //! Where the shapes of a picture are.
 
+ghost use Rattle.std.specs.Prelude.{◌≡◌, ◌<◌, IfOk, length};
+ghost use Rattle.pam_codes.specs.declared.code.TheConstants.{CODES};
+ghost use Rattle.pam_picture.specs.Layouts.{HasPlaces};
+
 mod aims;
+mod controls;
 mod heights;
 mod lanes;
 mod notes;
@@ -12,11 +17,11 @@ mod turns;
 mod widths;
 
 use aims::Grid;
+use controls::{ROW_OF_HEADING, controls_of, most_rows};
 use heights::{Heights, all_heights, middle_of};
 use notes::{LINE, all_notes, noted_classes};
 use pam_codes::{CODES, Code};
 use pam_conf::Stack;
-use pam_drawing::name_of;
 use pam_graph::Graph;
 use ports::all_ports;
 use routes::Measures;
@@ -24,16 +29,16 @@ use shapes::{EndPlace, Lane, Note, Place, Point};
 use std::alloc::{AllocError, Global};
 use table::number_at;
 use turns::all_turns;
-use widths::{all_gutters, lanes_width};
+use widths::{Columns, all_gutters, lanes_width, letters};
 
 /// The height of the first row over the columns.
 const HEADINGS: usize = 54;
 
-/// The height of the rows over the columns.
-const NAMES: usize = 53;
+/// The height of the number, the name and one row over a column.
+const NAMES: usize = 34;
 
-/// The height at which the lanes begin.
-const LANES: usize = 118;
+/// The space before the lanes.
+const ABOVE: usize = 11;
 
 /// The space at the edges of a picture.
 const MARGIN: usize = 16;
@@ -59,12 +64,14 @@ pub struct Layout {
     pub height: usize,
     /// The height of the first row over the columns.
     pub headings: usize,
-    /// The length of the line of a column, from below its name to the last lane.
+    /// The height of the rows over the columns.
+    pub rows: usize,
+    /// The length of the line of a column, from below its rows on.
     pub guide: usize,
-    /// The lines that lanes begin with end here, and the last lane too.
-    pub bottom: usize,
     /// Where the column of each module is, in order.
     pub columns: Vec<usize>,
+    /// The control of each module, in order, as it is written.
+    pub controls: Vec<Vec<u8>>,
     pub lanes: Vec<Lane>,
     /// Of the nodes, in their order.
     pub places: Vec<Place>,
@@ -83,35 +90,42 @@ fn lanes_of(alloc: Global, heights: &[Heights]) -> Result<Vec<Lane>, AllocError>
     Ok(lanes)
 }
 
-fn columns_of(alloc: Global, measures: &Measures<'_>) -> Result<Vec<usize>, AllocError> {
+fn columns_of(
+    alloc: Global,
+    measures: &Measures<'_>,
+    count: usize,
+) -> Result<Vec<usize>, AllocError>
+    ensures { IfOk result (λ v. length v.items ≡ count) }
+{
     let mut columns = Vec::new(alloc);
-    for number in 1..measures.grid.last {
-        columns.push(measures.at(number))?;
+    for index in 0..count {
+        columns.push(measures.at(index.saturating_add(1)))?;
     }
     Ok(columns)
 }
 
-/// Returns the place of the end with a decision.
-fn end_place(measures: &Measures<'_>, decision: Code) -> EndPlace {
-    let lane = number_at(&measures.grid.lanes.of_ends, usize::from(decision.number()));
+/// Returns the place of the end with a decision, by its number.
+fn end_place(measures: &Measures<'_>, number: usize) -> EndPlace
+    requires { number < CODES }
+{
+    let lane = number_at(&measures.grid.lanes.of_ends, number);
     EndPlace {
         point: Point {
             x: measures.at(measures.grid.last),
             y: middle_of(measures.heights, lane),
         },
-        width: name_of(decision)
-            .len()
+        width: letters(Code::new(number as u8))
             .saturating_mul(LETTER)
             .saturating_add(BOX),
     }
 }
 
-fn ends_of(alloc: Global, measures: &Measures<'_>) -> Result<Vec<EndPlace>, AllocError> {
+fn ends_of(alloc: Global, measures: &Measures<'_>) -> Result<Vec<EndPlace>, AllocError>
+    ensures { IfOk result (λ v. length v.items ≡ CODES) }
+{
     let mut ends = Vec::new(alloc);
-    for number in 0..CODES as u8 {
-        if let Some(decision) = Code::new(number) {
-            ends.push(end_place(measures, decision))?;
-        }
+    for number in 0..CODES {
+        ends.push(end_place(measures, number))?;
     }
     Ok(ends)
 }
@@ -125,26 +139,39 @@ fn right_of(ends: &[EndPlace]) -> usize {
     right.saturating_add(ARROW)
 }
 
+/// Where the lanes begin and end, and how many columns there are.
+#[derive(Clone, Copy)]
+struct Area {
+    top: usize,
+    bottom: usize,
+    columns: usize,
+}
+
 fn layout_by(
     alloc: Global,
     graph: &Graph,
     measures: &Measures<'_>,
-    bottom: usize,
-) -> Result<Layout, AllocError> {
-    let columns = columns_of(alloc, measures)?;
+    area: Area,
+    controls: Vec<Vec<u8>>,
+) -> Result<Layout, AllocError>
+    ensures { IfOk result (λ layout. (layout.controls ≡ controls) × (length layout.columns.items ≡ area.columns) × HasPlaces graph.now layout) }
+{
+    let columns = columns_of(alloc, measures, area.columns)?;
     let lanes = lanes_of(alloc, measures.heights)?;
     let places = measures.places(alloc, graph.nodes())?;
     let ends = ends_of(alloc, measures)?;
-    let foot = bottom.saturating_add(LINE);
+    let foot = area.bottom.saturating_add(LINE);
+    let rows = area.top.saturating_sub(HEADINGS).saturating_sub(ABOVE);
     let notes = all_notes(alloc, measures.noted, foot.saturating_add(LINE))?;
     let lines = notes.len().saturating_add(1).saturating_mul(LINE);
     Ok(Layout {
         width: right_of(&ends).saturating_add(MARGIN).max(LEAST),
         height: foot.saturating_add(lines),
         headings: HEADINGS,
-        guide: bottom.saturating_sub(HEADINGS).saturating_sub(NAMES),
-        bottom,
+        rows,
+        guide: area.bottom.saturating_sub(HEADINGS).saturating_sub(rows),
         columns,
+        controls,
         lanes,
         places,
         ends,
@@ -154,34 +181,33 @@ fn layout_by(
 }
 
 impl Layout {
-    /// Returns a layout without shapes.
-    pub fn empty(alloc: Global) -> Layout {
-        Layout {
-            width: 0,
-            height: 0,
-            headings: 0,
-            guide: 0,
-            bottom: 0,
-            columns: Vec::new(alloc),
-            lanes: Vec::new(alloc),
-            places: Vec::new(alloc),
-            ends: Vec::new(alloc),
-            foot: 0,
-            notes: Vec::new(alloc),
-        }
-    }
+    ghost use Rattle.std.specs.Prelude.{IfOk};
+    ghost use Rattle.pam_picture.specs.Layouts.{IsLayoutOf};
 
-    /// Returns the layout of the picture of a graph of the runs of a stack.
-    pub fn of(alloc: Global, stack: &Stack, graph: &Graph) -> Result<Layout, AllocError> {
+    /// Returns the layout of the picture of a graph of the runs of a stack, with a place for each module, node, edge and decision.
+    pub fn of(alloc: Global, stack: &Stack, graph: &Graph) -> Result<Layout, AllocError>
+        ensures { IfOk result (IsLayoutOf stack.now graph.now) }
+    {
+        let controls = controls_of(alloc, stack)?;
         let grid = Grid::of(alloc, graph, stack.modules())?;
         let nodes = graph.nodes();
         let all = all_ports(alloc, &grid, nodes)?;
-        let (heights, bottom) = all_heights(alloc, &grid, &all, LANES)?;
+        let rows = most_rows(&controls, nodes);
+        let top = HEADINGS
+            .saturating_add(NAMES)
+            .saturating_add(rows.saturating_mul(ROW_OF_HEADING))
+            .saturating_add(ABOVE);
+        let (heights, bottom) = all_heights(alloc, &grid, &all, top)?;
         let turns = all_turns(alloc, &heights, nodes, &all, grid.last)?;
         let first = MARGIN
             .saturating_add(lanes_width(&grid))
             .saturating_add(BEFORE);
-        let gutters = all_gutters(alloc, &grid, &turns, nodes, stack, first)?;
+        let columns = Columns {
+            grid: &grid,
+            turns: &turns,
+            nodes,
+        };
+        let gutters = all_gutters(alloc, &columns, stack, &controls, first)?;
         let noted = noted_classes(alloc, nodes)?;
         let measures = Measures {
             grid: &grid,
@@ -192,6 +218,11 @@ impl Layout {
             first,
             noted: &noted,
         };
-        layout_by(alloc, graph, &measures, bottom)
+        let area = Area {
+            top,
+            bottom,
+            columns: stack.modules(),
+        };
+        layout_by(alloc, graph, &measures, area, controls)
     }
 }

@@ -5,7 +5,7 @@ ghost use Rattle.pam_codes.specs.Out.{Writes};
 ghost use Rattle.pam_picture.specs.Marks.{mark_text, marks_text};
 ghost use Rattle.pam_picture.specs.Picture.{bend_text, target_id};
 
-use crate::escaped::put_escaped;
+use crate::escaped::{put_escaped, put_rows};
 use crate::label::put_label;
 use crate::layout::shapes::Bend;
 use crate::stop::{Stop, put_stop};
@@ -23,6 +23,8 @@ pub(crate) enum Mark<'a> {
     Number(usize),
     Class(CodeSet),
     Control(Control),
+    /// A text of a file, with a row for each of its words.
+    Rows(&'a [u8]),
     /// Where a run is.
     Stop(Stop<'a>),
     /// The id of a shape.
@@ -79,6 +81,7 @@ fn put_mark<W: Write>(mark: &Mark<'_>, out: &mut Out<W>) -> Result<(), Device>
         Mark::Number(number) => out.put_number(*number as u64),
         Mark::Class(class) => class.write_text(out),
         Mark::Control(control) => control.write_text(out),
+        Mark::Rows(text) => put_rows(text, out),
         Mark::Stop(stop) => put_stop(stop, out),
         Mark::Id(target) => put_id(*target, out),
         Mark::Bend(height, bend) => put_bend(*height, *bend, out),

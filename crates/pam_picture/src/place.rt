@@ -1,7 +1,7 @@
 //! Where the shapes are, by what they show.
 
 ghost use Rattle.std.specs.Prelude.{◌≡◌};
-ghost use Rattle.pam_picture.specs.Places.{column_at, end_at, no_end, no_route, origin, point_at, point_of, route_at};
+ghost use Rattle.pam_picture.specs.Places.{column_at, control_at, end_at, no_end, no_route, origin, point_at, point_of, route_at};
 
 use crate::layout::Layout;
 use crate::layout::shapes::{Bend, EndPlace, Point, Route};
@@ -84,5 +84,15 @@ pub(crate) fn column_at(layout: &Layout, index: usize) -> usize
     match layout.columns.get(index) {
         Some(column) => *column,
         None => 0,
+    }
+}
+
+/// Returns the control of the module after this many modules.
+pub(crate) fn control_at(layout: &Layout, index: usize) -> &[u8]
+    ensures { result.now ≡ control_at layout.now index }
+{
+    match layout.controls.get(index) {
+        Some(control) => control.as_slice(),
+        None => b"",
     }
 }

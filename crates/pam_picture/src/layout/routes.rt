@@ -36,6 +36,9 @@ fn bend(from: usize, to: usize, height: usize) -> Bend {
 }
 
 impl Measures<'_> {
+    ghost use Rattle.std.specs.Prelude.{◌≡◌, IfOk, map};
+    ghost use Rattle.pam_picture.specs.Layouts.{edges_of, routes_of};
+
     fn gutter(&self, column: usize) -> Gutter {
         gutter_after(self.gutters, column, self.first)
     }
@@ -74,7 +77,9 @@ impl Measures<'_> {
         self.route(node.module_number, row, aim, before, note)
     }
 
-    fn place(&self, alloc: Global, index: usize, node: &Node) -> Result<Place, AllocError> {
+    fn place(&self, alloc: Global, index: usize, node: &Node) -> Result<Place, AllocError>
+        ensures { IfOk result (λ place. routes_of place ≡ edges_of node.now) }
+    {
         let mut routes = Vec::new(alloc);
         for (position, edge) in node.edges.iter().enumerate() {
             routes.push(self.route_of(index, node, position, edge))?;
@@ -87,7 +92,9 @@ impl Measures<'_> {
     }
 
     /// Returns where the nodes are, with the ways of their edges.
-    pub fn places(&self, alloc: Global, nodes: &[Node]) -> Result<Vec<Place>, AllocError> {
+    pub fn places(&self, alloc: Global, nodes: &[Node]) -> Result<Vec<Place>, AllocError>
+        ensures { IfOk result (λ places. map routes_of places.items ≡ map edges_of nodes.now) }
+    {
         let mut places = Vec::new(alloc);
         for (index, node) in nodes.iter().enumerate() {
             places.push(self.place(alloc, index, node)?)?;

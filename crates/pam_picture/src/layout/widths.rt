@@ -1,11 +1,12 @@
 //! The columns of a picture: where they are, and what is between them.
 
 use super::aims::Grid;
+use super::controls::longest_row;
 use super::table::number_at;
 use super::turns::Turns;
 use crate::heading::name_front;
 use crate::label::{is_else, is_told};
-use pam_codes::{CODES, Code, CodeSet, Control, Out};
+use pam_codes::{CODES, Code, CodeSet, Out};
 use pam_conf::Stack;
 use pam_drawing::{ascii_byte, name_at, name_of};
 use pam_graph::Node;
@@ -43,7 +44,7 @@ pub(super) struct Gutter {
 }
 
 /// Returns the number of characters of a code's name.
-fn letters(code: Option<Code>) -> usize {
+pub(super) fn letters(code: Option<Code>) -> usize {
     match code {
         Some(code) => name_of(code).len(),
         None => 0,
@@ -83,14 +84,6 @@ fn labels_of_column(nodes: &[Node], column: usize) -> usize {
     most
 }
 
-fn control_width(control: &Control) -> usize {
-    let mut out = Out::new(sink());
-    match control.write_text(&mut out) {
-        Ok(()) => (out.taken() as usize).saturating_mul(CHARACTER),
-        Err(_) => 0,
-    }
-}
-
 /// Returns the width of the name of a module.
 fn name_width(name: &[u8]) -> usize {
     let mut width: usize = 0;
@@ -101,58 +94,64 @@ fn name_width(name: &[u8]) -> usize {
 }
 
 /// Returns the width of what is written over a column.
-fn heading_width(stack: &Stack, number: usize) -> usize {
+fn heading_width(stack: &Stack, controls: &[Vec<u8>], number: usize) -> usize {
     let name = name_width(name_at(stack, number));
-    match stack.module(number) {
-        Some(module) => control_width(&module.control).max(name),
+    match controls.get(number.saturating_sub(1)) {
+        Some(control) => longest_row(control).saturating_mul(CHARACTER).max(name),
         None => name,
     }
 }
 
-/// Returns the space after a column that is at `at`.
-fn make_gutter(
-    grid: &Grid,
-    turns: &Turns,
-    nodes: &[Node],
-    stack: &Stack,
-    number: usize,
-    at: usize,
-) -> Gutter {
-    let labels = labels_of_column(nodes, number);
-    let staggered = number_at(&turns.most, number);
-    let curves = if staggered > 0 || grid.has_landing(number.saturating_add(1)) {
+/// What is between the columns.
+#[derive(Clone, Copy)]
+pub(super) struct Columns<'a> {
+    pub grid: &'a Grid,
+    pub turns: &'a Turns,
+    pub nodes: &'a [Node],
+}
+
+impl Columns<'_> {
+    /// Returns the width in which edges turn after a column, and come down to the next one.
+    fn curves_after(&self, number: usize) -> usize {
+        let staggered = number_at(&self.turns.most, number);
+        if staggered == 0 && !self.grid.has_landing(number.saturating_add(1)) {
+            return SPACE;
+        }
         staggered
             .saturating_sub(1)
             .saturating_mul(STEP)
             .saturating_add(CURVE)
             .saturating_add(SPACE)
-    } else {
-        SPACE
-    };
-    let edges = FAN.saturating_add(labels).saturating_add(curves);
-    let heading = heading_width(stack, number).saturating_add(SPACE);
-    let next = at.saturating_add(edges.max(heading));
-    Gutter {
-        at,
-        rows: at.saturating_add(FAN),
-        turns: next.saturating_sub(curves),
-        next,
+    }
+
+    /// Returns the space after a column that is at `at`, under a heading of this width.
+    fn gutter_after(&self, number: usize, at: usize, heading: usize) -> Gutter {
+        let labels = labels_of_column(self.nodes, number);
+        let curves = self.curves_after(number);
+        let edges = FAN.saturating_add(labels).saturating_add(curves);
+        let next = at.saturating_add(edges.max(heading.saturating_add(SPACE)));
+        Gutter {
+            at,
+            rows: at.saturating_add(FAN),
+            turns: next.saturating_sub(curves),
+            next,
+        }
     }
 }
 
 /// Returns the columns, from a point on, with the space after each.
 pub(super) fn all_gutters(
     alloc: Global,
-    grid: &Grid,
-    turns: &Turns,
-    nodes: &[Node],
+    columns: &Columns<'_>,
     stack: &Stack,
+    controls: &[Vec<u8>],
     first: usize,
 ) -> Result<Vec<Gutter>, AllocError> {
     let mut gutters = Vec::new(alloc);
     let mut at = first;
-    for number in 1..grid.last {
-        let gutter = make_gutter(grid, turns, nodes, stack, number, at);
+    for number in 1..columns.grid.last {
+        let heading = heading_width(stack, controls, number);
+        let gutter = columns.gutter_after(number, at, heading);
         gutters.push(gutter)?;
         at = gutter.next;
     }
