@@ -98,7 +98,7 @@ _pamcheck() {
         --conf | --facts | --accept | --access | --time | --group | --returns) _filedir ;;
         --with) _pamcheck_candidate ;;
         --fail-on) COMPREPLY=($(compgen -W 'error warning note' -- "$cur")) ;;
-        --format) COMPREPLY=($(compgen -W 'dot mermaid' -- "$cur")) ;;
+        --format) COMPREPLY=($(compgen -W 'dot mermaid svg' -- "$cur")) ;;
         --decision) _pamcheck_set "$cur" ;;
         --user) COMPREPLY=($(compgen -u -- "$cur")) ;;
         --rhost) _known_hosts_real -- "$cur" ;;

@@ -130,7 +130,7 @@ complete -c pamcheck -n '__pamcheck_in paths' -l after -x -d 'Lists the paths af
 complete -c pamcheck -n '__pamcheck_in paths' -l before -x -d 'Lists the paths before this cursor'
 complete -c pamcheck -n '__pamcheck_in paths' -l decision -xa '(__pamcheck_set)' -d 'Lists the paths that end in one of these codes'
 complete -c pamcheck -n '__pamcheck_in paths' -l asks -x -d 'Lists the paths that ask this module'
-complete -c pamcheck -n '__pamcheck_in graph' -l format -xa 'dot mermaid' -d 'The language of the drawing'
+complete -c pamcheck -n '__pamcheck_in graph' -l format -xa 'dot mermaid svg' -d 'The language of the drawing'
 complete -c pamcheck -n '__pamcheck_in paths outcomes graph access time' -l user -xa '(__fish_complete_users)' -d 'The user'
 complete -c pamcheck -n '__pamcheck_in paths outcomes graph access' -l rhost -xa '(__fish_print_hostnames)' -d 'The remote host'
 complete -c pamcheck -n '__pamcheck_in paths outcomes graph access time' -l tty -x -d 'The terminal'

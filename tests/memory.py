@@ -38,7 +38,7 @@ TABLES = LOGINS + [TE11]
 # The flat program, and the texts of a page or a graph and what is counted over it; a cursor takes no memory.
 PAGES = LOGINS + [E17]
 TABLE_PAGES = TABLES + [E17]
-# The title of a drawing, which has the service in lower case once more.
+# The title of a drawing, which has the service in lower case once more, and the layout of a picture.
 DRAWINGS = PAGES + [KEPT, E17]
 TABLE_DRAWINGS = TABLE_PAGES + [KEPT, E17]
 
@@ -83,6 +83,7 @@ ASKED = [
     (["graph", "login", "auth", "--dir", "stack"], DRAWINGS),
     (["graph", "login", "account", "--dir", "stack", "--format", "mermaid", *ACCESS_TABLE, *TIME_TABLE, *RETURNS_FILE],
      TABLE_DRAWINGS),
+    (["graph", "login", "account", "--dir", "stack", "--format", "svg", *ACCESS_TABLE, *RETURNS_FILE], TABLE_DRAWINGS),
     (["check", "--dir", "d"], LONG_CHECKS),
     (["check", "LOGIN", "--dir", "d", "--vendor-dir", "stack"], LONG_CHECKS),
     (["check", "--conf", "pam.conf", "--fail-on", "note"], CHECKS),

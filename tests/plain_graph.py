@@ -3,6 +3,7 @@
 Its nodes are found by a search of their own: depth first, in the order of the classes, a node after all that it leads to."""
 import re
 
+import plain_picture as pictures
 import plain_stacks as stacks
 from plain_faults import Fault
 
@@ -121,10 +122,13 @@ def mermaid(graph, title, names):
             yield b"  n%d -->%s %s\n" % (index, b'|"%s"|' % told if told else b"", target)
 
 
-FORMATS = {b"dot": dot, b"mermaid": mermaid}
+FORMATS = {b"dot": dot, b"mermaid": mermaid, b"svg": None}
 
 
 def drawing(language, service, kind, items, modules, allowed):
-    """The text of `graph`."""
+    """The text of `graph`; of a picture, what it shows."""
     names = [module.path.rpartition(b"/")[2] for module in modules]
-    return b"".join(FORMATS[language](Graph(items, allowed), b"%s %s" % (service, kind), names))
+    graph, title = Graph(items, allowed), b"%s %s" % (service, kind)
+    if language == b"svg":
+        return b"".join(pictures.picture(graph, title, names, modules))
+    return b"".join(FORMATS[language](graph, title, names))

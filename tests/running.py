@@ -6,6 +6,7 @@ import signal
 from collections import namedtuple
 
 import plain
+import plain_picture
 
 Answer = namedtuple("Answer", "stdout stderr status")
 
@@ -37,13 +38,18 @@ def told(title, answer):
     return "%s: status %d, standard output %s, standard error %s" % (title, answer.status, shown(answer.stdout), stderr)
 
 
+def shown_by(text):
+    """What is compared of standard output: the text, but of a picture what it shows."""
+    return plain_picture.told(text) if text.startswith(b"<svg ") else text
+
+
 def agrees(expected, got):
     """Whether an answer is the expected one, where the text of the parser may be any text."""
     if expected.stderr is None:
         same = bool(got.stderr) and not got.stderr.startswith(b"pamcheck: ")
     else:
         same = expected.stderr == got.stderr
-    return same and expected.stdout == got.stdout and expected.status == got.status
+    return same and expected.stdout == shown_by(got.stdout) and expected.status == got.status
 
 
 def flat(tree):

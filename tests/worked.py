@@ -70,7 +70,7 @@ PATHS = ["paths", "login", "auth", "--limit", "6"]
 OUTCOMES = ["outcomes", "login", "auth"]
 GRAPH = ["graph", "login", "auth"]
 MERMAID = [*GRAPH, "--format", "mermaid"]
-FORMATS = [b"dot", b"mermaid"]
+FORMATS = [b"dot", b"mermaid", b"svg"]
 # Words of `paths`, and too few words for what they begin with, and too many.
 OTHER_WORDS = [["--limit", "3"], ["--after", "0"], ["--before", "0"], ["more"], ["--access", "access"], ["--returns"],
                ["--time", "time", "--user", "alice"], ["--zone", "UTC0"], ["--at-unix", "x"], ["--conf", "pam.conf"]]
@@ -171,6 +171,7 @@ def words():
     for template in (["show", "{}", "auth", "--dir", "d"], ["show", "login", "{}", "--dir", "d"],
                      ["outcomes", "login", "{}", "--dir", "d"],
                      ["graph", "{}", "auth", "--dir", "o"], ["graph", "{}", "auth", "--dir", "o", "--format", "mermaid"],
+                     ["graph", "{}", "auth", "--dir", "o", "--format", "svg"],
                      ["decide", "login", "account", "success", "{}", "--dir", "d"],
                      ["access", "login", "{}", "--access", "access", "--user", "bob"],
                      ["access", "login", "--access", "access", "--user", "bob", "--rhost", "{}"],

@@ -1,3 +1,3 @@
 mod Ends
-mod Indices
+pub mod Indices
 mod Quotes

@@ -63,7 +63,7 @@ fn ends_of_nodes(nodes: &[Node]) -> CodeSet
 }
 
 /// Returns the ends to which runs come.
-fn drawn_ends(graph: &Graph) -> CodeSet
+pub fn drawn_ends(graph: &Graph) -> CodeSet
     ensures { result ≡ drawn_ends graph.now }
 {
     end_of(graph.start()).union(ends_of_nodes(graph.nodes()))

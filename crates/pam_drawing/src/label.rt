@@ -3,9 +3,10 @@
 ghost use Rattle.std.specs.Prelude.{◌≡◌, ◌<◌};
 ghost use Rattle.std.specs.List.{flat_map};
 ghost use Rattle.pam_codes.specs.Out.{Writes};
-ghost use Rattle.pam_drawing.specs.Labels.{hex_digit, is_plain, label, quoted, quoted_byte};
+ghost use Rattle.pam_drawing.specs.Labels.{ascii_byte, hex_digit, is_plain, label, quoted, quoted_byte};
 
 use crate::format::Format;
+use arrayvec::ArrayVec;
 use pam_codes::{Device, Out, Piece};
 use std::io::Write;
 
@@ -61,19 +62,32 @@ fn put_characters<W: Write>(
     Ok(())
 }
 
-/// Writes a byte in quotes.
+/// Returns the characters of printable ASCII that show a byte: itself, `\\\\` for a backslash, or `\xNN`.
 #[tactic(auto, unfolding(crate::specs::Labels::ascii_byte))]
+pub fn ascii_byte(byte: u8) -> ArrayVec<u8, 4>
+    ensures { result.items ≡ ascii_byte byte }
+{
+    let mut characters = ArrayVec::new();
+    if byte == b'\\' {
+        characters.push(b'\\');
+        characters.push(b'\\');
+    } else if 32 <= byte && byte <= 126 {
+        characters.push(byte);
+    } else {
+        characters.push(b'\\');
+        characters.push(b'x');
+        characters.push(hex_digit(byte / 16));
+        characters.push(hex_digit(byte % 16));
+    }
+    characters
+}
+
+/// Writes a byte in quotes.
 fn put_byte<W: Write>(format: Format, byte: u8, out: &mut Out<W>) -> Result<(), Device>
     ensures { Writes W.contents out.old out.new result (quoted_byte format byte) }
 {
-    if byte == b'\\' {
-        return put_characters(format, b"\\\\", out);
-    }
-    if 32 <= byte && byte <= 126 {
-        return put_characters(format, &[byte], out);
-    }
-    let digits = [hex_digit(byte / 16), hex_digit(byte % 16)];
-    put_characters(format, &[b'\\', b'x', digits[0], digits[1]], out)
+    let characters = ascii_byte(byte);
+    put_characters(format, characters.as_slice(), out)
 }
 
 /// Writes a text in quotes, without them.

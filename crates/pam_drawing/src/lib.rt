@@ -9,3 +9,6 @@ pub mod laws;
 mod node;
 
 pub use drawing::{write_dot, write_mermaid};
+pub use edge::drawn_ends;
+pub use label::ascii_byte;
+pub use node::{impression_name, name_at, name_of};

@@ -18,7 +18,8 @@ use pam_graph::Node;
 use pam_known::name_of_path;
 use std::io::Write;
 
-fn impression_name(impression: Impression) -> &'static [u8]
+/// Returns the name of an impression.
+pub fn impression_name(impression: Impression) -> &'static [u8]
     ensures { result.now ≡ impression_name impression }
 {
     match impression {
@@ -29,7 +30,7 @@ fn impression_name(impression: Impression) -> &'static [u8]
 }
 
 /// Returns the name of a code.
-pub(crate) fn name_of(code: Code) -> &'static [u8]
+pub fn name_of(code: Code) -> &'static [u8]
     ensures { result.now ≡ name_of code }
 {
     code.name().as_bytes()
@@ -49,7 +50,7 @@ fn put_state<W: Write>(state: State, out: &mut Out<W>) -> Result<(), Device>
 
 /// Returns the name of the file of a module, by number.
 #[tactic(auto, unfolding(crate::specs::Drawing::name_at))]
-fn name_at(stack: &Stack, number: usize) -> &[u8]
+pub fn name_at(stack: &Stack, number: usize) -> &[u8]
     ensures { result.now ≡ name_at stack.now number }
 {
     match stack.module(number) {

@@ -189,7 +189,7 @@ limits =
           codes "A run of the stack can be at more than 65,536 places: a module, the state\n"
           ++ codes "there, and the states in which the open substacks began. outcomes, graph, and\n"
           ++ codes "paths with --decision or --asks look at each of them. paths without these has\n"
-          ++ codes "no such limit.";
+          ++ codes "no such limit. A picture, graph --format svg, has 400 places at most.";
       example =
           codes "$ for n in $(seq 1 15); do"
           ∷ codes "> printf 'auth required pam_unix.so\\nauth substack f%d\\n' $((n+1)) >f$n"

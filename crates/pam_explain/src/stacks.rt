@@ -180,7 +180,7 @@ static LIMITS: [Explanation; 4] = [
             "A run of the stack can be at more than 65,536 places: a module, the state\n",
             "there, and the states in which the open substacks began. outcomes, graph, and\n",
             "paths with --decision or --asks look at each of them. paths without these has\n",
-            "no such limit."
+            "no such limit. A picture, graph --format svg, has 400 places at most."
         ),
         example: &[
             "$ for n in $(seq 1 15); do",

@@ -1,5 +1,6 @@
 pub mod About
 pub mod Answer
+pub mod Canvas
 pub mod Check
 pub mod CheckNames
 pub mod Decide

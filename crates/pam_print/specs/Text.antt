@@ -6,7 +6,7 @@ use Rattle.pam_facts.specs.Table.{table_text}
 use Rattle.pam_print.specs.About.{version_text}
 use Rattle.pam_print.specs.Check.{check_text}
 use Rattle.pam_print.specs.Decide.{run_text}
-use Rattle.pam_print.specs.Drawing.{drawing_text}
+use Rattle.pam_print.specs.Drawing.{IsDrawingText}
 use Rattle.pam_print.specs.Explain.{explanation_text, explanations_text}
 use Rattle.pam_print.specs.Outcomes.{outcomes_text}
 use Rattle.pam_print.specs.Page.{IsPageText}
@@ -20,7 +20,7 @@ IsText (Run run) text = text ≡ Ok (run_text run)
 IsText (Access found) text = text ≡ Ok (access_text found)
 IsText (Time found) text = text ≡ Ok (time_text found)
 IsText (Outcomes outcomes) text = text ≡ Ok (outcomes_text outcomes)
-IsText (Drawing drawing) text = text ≡ Ok (drawing_text drawing)
+IsText (Drawing drawing) text = IsDrawingText drawing text
 IsText (Page page) text = IsPageText page text
 IsText (Check found) text = text ≡ Ok (check_text found)
 IsText (Explained explanation) text = text ≡ Ok (explanation_text explanation)

@@ -5,12 +5,14 @@ ghost use Rattle.std.specs.Char.{to_ascii_lowercase};
 ghost use Rattle.pam_codes.specs.Out.{Writes, WritesAndFlushes};
 ghost use Rattle.pam_report.specs.Reply.{Drawing};
 ghost use Rattle.pam_report.specs.ReplyViews.{drawing_view};
-ghost use Rattle.pam_print.specs.Drawing.{drawing_in, title_of};
+ghost use Rattle.pam_print.specs.Canvas.{IsCanvasOf, canvas_text};
+ghost use Rattle.pam_print.specs.Drawing.{title_of};
 ghost use Rattle.pam_print.specs.Leaves.{Prints};
 
 use pam_codes::{Device, Out};
 use pam_conf::Kind;
 use pam_drawing::{write_dot, write_mermaid};
+use pam_picture::{Layout, write_svg};
 use pam_report::{Fault, GraphReply, kind_name};
 use pam_words::GraphFormat;
 use std::alloc::{AllocError, Global};
@@ -37,28 +39,58 @@ fn title_of(alloc: Global, service: &str, kind: Kind) -> Result<Vec<u8>, AllocEr
     Ok(title)
 }
 
-/// Writes the graph in its language.
-fn put_graph<W: Write>(reply: &GraphReply<'_>, title: &[u8], out: &mut Out<W>) -> Result<(), Device>
-    ensures { Writes W.contents out.old out.new result (drawing_in reply.now.format title.now reply.now.stack reply.now.graph) }
+/// A format, with what has to be allocated for it.
+#[derive(Drop)]
+enum Canvas {
+    Dot,
+    Mermaid,
+    Svg(Layout),
+}
+
+/// Returns the format that is asked for; for a picture, with its layout.
+fn canvas_of(alloc: Global, reply: &GraphReply<'_>) -> Result<Canvas, AllocError>
+    ensures { IfOk result (IsCanvasOf reply.now.format reply.now.stack reply.now.graph) }
 {
     match reply.format {
-        GraphFormat::Dot => write_dot(&reply.graph, &reply.stack, title, out),
-        GraphFormat::Mermaid => write_mermaid(&reply.graph, &reply.stack, title, out),
+        GraphFormat::Dot => Ok(Canvas::Dot),
+        GraphFormat::Mermaid => Ok(Canvas::Mermaid),
+        GraphFormat::Svg => match Layout::of(alloc, &reply.stack, &reply.graph) {
+            Ok(layout) => Ok(Canvas::Svg(layout)),
+            Err(error) => Err(error),
+        },
+    }
+}
+
+/// Writes the graph in a format.
+fn put_graph<W: Write>(
+    reply: &GraphReply<'_>,
+    canvas: &Canvas,
+    title: &[u8],
+    out: &mut Out<W>,
+) -> Result<(), Device>
+    ensures { Writes W.contents out.old out.new result (canvas_text canvas.now title.now reply.now.stack reply.now.graph) }
+{
+    match canvas {
+        Canvas::Dot => write_dot(&reply.graph, &reply.stack, title, out),
+        Canvas::Mermaid => write_mermaid(&reply.graph, &reply.stack, title, out),
+        Canvas::Svg(layout) => write_svg(&reply.graph, &reply.stack, layout, title, out),
     }
 }
 
 fn write_graph<W: Write>(
     reply: &GraphReply<'_>,
+    canvas: &Canvas,
     title: &[u8],
     out: &mut Out<W>,
 ) -> Result<(), Device>
-    ensures { WritesAndFlushes W.contents out.old out.new result (drawing_in reply.now.format title.now reply.now.stack reply.now.graph) }
+    ensures { WritesAndFlushes W.contents out.old out.new result
+        (canvas_text canvas.now title.now reply.now.stack reply.now.graph) }
 {
-    put_graph(reply, title, out)?;
+    put_graph(reply, canvas, title, out)?;
     out.finish()
 }
 
-/// Writes a drawing. Allocates its title before the first byte.
+/// Writes a drawing. Allocates its title and its layout before the first byte.
 pub(crate) fn write_drawing<W: Write>(
     alloc: Global,
     reply: &GraphReply<'_>,
@@ -70,7 +102,11 @@ pub(crate) fn write_drawing<W: Write>(
         Ok(title) => title,
         Err(_) => return Err(Fault::Memory),
     };
-    match write_graph(reply, &title, out) {
+    let canvas = match canvas_of(alloc, reply) {
+        Ok(canvas) => canvas,
+        Err(_) => return Err(Fault::Memory),
+    };
+    match write_graph(reply, &canvas, &title, out) {
         Ok(()) => Ok(()),
         Err(Device) => Err(Fault::Device),
     }

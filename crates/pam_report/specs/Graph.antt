@@ -1,5 +1,5 @@
 -- The answer to `graph`: the graph of all runs of a stack (pam.conf(5), DESCRIPTION).
-use Rattle.std.specs.Prelude.{◌≡◌, ◌⊎◌, ℕ, List, Result, Ok, Err}
+use Rattle.std.specs.Prelude.{◌≡◌, ◌⊎◌, ℕ, nat_lt, Bool, false, if◌then◌else◌, length, List, Result, Ok, Err}
 use Rattle.pam_conf.specs.Stack.{Items, module_count}
 use Rattle.pam_conf.specs.declared.rule.Kind.{Kind}
 use Rattle.pam_dispatch.specs.Flat.{runs_of}
@@ -11,10 +11,12 @@ use Rattle.pam_known.specs.Knowledge.{Agree}
 use Rattle.pam_paths.specs.Listing.{Allowance, IsListing}
 use Rattle.pam_paths.specs.Paths.{path_through}
 use Rattle.pam_words.specs.declared.wanted.GraphFormat.{GraphFormat}
+use Rattle.pam_words.specs.declared.wanted.GraphFormat.TheVariants.{Dot, Mermaid, Svg}
 use Rattle.pam_report.specs.KnownStack.{IsAnswerFrom, KnownItems}
 use Rattle.pam_report.specs.Reply.{Answer, Drawing}
 use Rattle.pam_report.specs.TooLarge.{IsTooLarge}
 use Rattle.pam_report.specs.declared.fault.Fault.{Fault}
+use Rattle.pam_report.specs.declared.report.graph.TheConstants.{MAX_PICTURE_NODES}
 use Rattle.pam_report.specs.declared.fault.Fault.TheVariants as faults
 
 -- the nodes of a graph are at places of their own, to which runs of a stack come if modules return codes that are allowed,
@@ -29,13 +31,25 @@ pub record IsGraphOf (items : Items) (allows : Allowance) (graph : GraphValue) :
   pub listing : IsListing allows (module_count items) (path_through items) (walks graph)
   pub nodes : AreNodesOfStack items allows graph
 
--- the answer, if these codes are allowed: the graph, and the language in which it is to be drawn; or that the run comes to too
+-- a picture of so many nodes could not be read
+abbrev pub has_too_many : GraphFormat → GraphValue → Bool
+has_too_many Dot graph = false
+has_too_many Mermaid graph = false
+has_too_many Svg graph = nat_lt MAX_PICTURE_NODES (length graph.nodes)
+
+-- the graph in a format, or that it has too many nodes for it
+abbrev pub drawn_in : GraphFormat → List ℕ → Kind → Items → GraphValue → Answer
+drawn_in format service kind items graph =
+    if has_too_many format graph then Err faults.TooManyStates
+    else Ok (Drawing record { service = service; kind = kind; items = items; format = format; graph = graph })
+
+-- the answer, if these codes are allowed: the graph, and the format in which it is to be drawn; or that the run comes to too
 -- many places
 abbrev pub IsGraphReplyOf : GraphFormat → List ℕ → Kind → Items → Allowance → Answer → Type 0
 IsGraphReplyOf format service kind items allows answer =
     (IsTooLarge items allows × (answer ≡ Err faults.TooManyStates))
     ⊎ ((graph : GraphValue) × IsGraphOf items allows graph
-    × (answer ≡ Ok (Drawing record { service = service; kind = kind; items = items; format = format; graph = graph })))
+    × (answer ≡ drawn_in format service kind items graph))
 
 -- THE ANSWER to `graph`: of the known stack, the graph, or the first fault
 abbrev pub IsGraphReply : GraphFormat → List ℕ → Kind → Result KnownItems Fault → Answer → Type 0

@@ -32,7 +32,7 @@ use check::{CheckRequest, checked};
 pub use decide::RunReply;
 use decide::decided;
 use explain::explained;
-pub use graph::GraphReply;
+pub use graph::{GraphReply, MAX_PICTURE_NODES};
 use graph::{DrawingRequest, answer_graph};
 use known_stack::StackRequest;
 use outcomes::answer_outcomes;

@@ -14,7 +14,7 @@ use Rattle.pam_words.specs.Candidates.{candidates_beside}
 use Rattle.pam_words.specs.Decisions.{codes_named, decisions_of}
 use Rattle.pam_words.specs.Words.{number_parser}
 use Rattle.pam_words.specs.declared.wanted.GraphFormat.{GraphFormat}
-use Rattle.pam_words.specs.declared.wanted.GraphFormat.TheVariants.{Dot, Mermaid}
+use Rattle.pam_words.specs.declared.wanted.GraphFormat.TheVariants.{Dot, Mermaid, Svg}
 use Rattle.pam_words.specs.declared.wanted.LevelName.{LevelName}
 use Rattle.pam_words.specs.declared.wanted.LevelName.TheVariants.{Error, Warning, Note}
 use Rattle.pam_words.specs.declared.wanted.PathFilter.{PathFilter}
@@ -231,6 +231,7 @@ abbrev pub format_named : Text → Option GraphFormat
 format_named name =
     if bytes_eq name (codes "dot") then Some Dot
     else if bytes_eq name (codes "mermaid") then Some Mermaid
+    else if bytes_eq name (codes "svg") then Some Svg
     else None
 
 abbrev pub format_or_default : Option Text → Option GraphFormat

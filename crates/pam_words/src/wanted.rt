@@ -72,6 +72,8 @@ pub enum GraphFormat {
     Dot,
     /// A flowchart of Mermaid.
     Mermaid,
+    /// A picture in SVG.
+    Svg,
 }
 
 /// What says which codes modules may return: a returns file, and the tables in which they look up a login at a moment.

@@ -7,7 +7,7 @@ ghost use Rattle.pam_paths.specs.Known.{may_answer};
 ghost use Rattle.pam_paths.specs.Listing.{Allowance};
 ghost use Rattle.pam_report.specs.Answer.{stack_at};
 ghost use Rattle.pam_report.specs.Finds.{Finds};
-ghost use Rattle.pam_report.specs.Graph.{IsGraphReply, IsGraphReplyOf};
+ghost use Rattle.pam_report.specs.Graph.{IsGraphReply, IsGraphReplyOf, has_too_many};
 ghost use Rattle.pam_report.specs.GraphViews.{FindsGraph};
 ghost use Rattle.pam_report.specs.Memory.{WantsOnly, WantsWork, of_paths, paths_tables};
 
@@ -41,6 +41,19 @@ pub(super) struct DrawingRequest<'a> {
     pub format: GraphFormat,
 }
 
+/// The most nodes of a graph that is drawn as a picture.
+pub const MAX_PICTURE_NODES: usize = 400;
+
+/// Whether a graph has too many nodes to be drawn in a format.
+fn is_too_large(format: GraphFormat, graph: &Graph) -> bool
+    ensures { result ≡ has_too_many format graph.now }
+{
+    match format {
+        GraphFormat::Dot | GraphFormat::Mermaid => false,
+        GraphFormat::Svg => graph.nodes().len() > MAX_PICTURE_NODES,
+    }
+}
+
 /// Returns the graph of the runs of a stack, if its modules return the codes that are known. Returns `TooManyStates` if it
 /// would have too many nodes.
 fn graph_of(alloc: Global, stack: &Stack, known: &Known) -> Result<Graph, Fault>
@@ -57,7 +70,7 @@ fn graph_of(alloc: Global, stack: &Stack, known: &Known) -> Result<Graph, Fault>
     }
 }
 
-/// Returns the reply of `graph` for a known stack.
+/// Returns the reply of `graph` for a known stack, unless its graph is too large to be drawn in the format.
 fn answer_known<'a>(
     alloc: Global,
     request: &DrawingRequest<'a>,
@@ -67,16 +80,20 @@ fn answer_known<'a>(
         → Finds result (IsGraphReplyOf request.now.format request.now.stack.service.now request.now.stack.kind found.stack allows) }
     ensures wants { WantsWork result }
 {
-    match graph_of(alloc, &found.stack, &found.known) {
-        Ok(graph) => Ok(Reply::Graph(GraphReply {
-            service: request.stack.service,
-            kind: request.stack.kind,
-            stack: found.stack,
-            format: request.format,
-            graph,
-        })),
-        Err(fault) => Err(fault),
+    let graph = match graph_of(alloc, &found.stack, &found.known) {
+        Ok(graph) => graph,
+        Err(fault) => return Err(fault),
+    };
+    if is_too_large(request.format, &graph) {
+        return Err(Fault::TooManyStates);
     }
+    Ok(Reply::Graph(GraphReply {
+        service: request.stack.service,
+        kind: request.stack.kind,
+        stack: found.stack,
+        format: request.format,
+        graph,
+    }))
 }
 
 /// Returns the graph of the stack that is asked for.

@@ -17,6 +17,8 @@ fn format_named(name: &str) -> Option<GraphFormat>
         Some(GraphFormat::Dot)
     } else if name == "mermaid" {
         Some(GraphFormat::Mermaid)
+    } else if name == "svg" {
+        Some(GraphFormat::Svg)
     } else {
         None
     }

@@ -1,0 +1,3 @@
+mod Controls
+mod Loops
+mod Texts

@@ -1,0 +1,22 @@
+use Rattle.pam_codes.proofs.Writing.{all-is, all-then, err-front}
+use Rattle.pam_drawing.proofs.Indices.{range-all, range-push}
+use Rattle.pam_picture.proofs.Loops.{failed-number}
+use Rattle.pam_picture.proofs.heading.put_each_column.Goals as goal
+use Rattle.pam_picture.specs.Picture.{column_text}
+use Rattle.std.proofs.Common.{◌+◌, ◌≡◌, arith, sym}
+
+pub returns-in_err-put_column : goal.returns-in_err-put_column
+returns-in_err-put_column g c =
+    let number = c.loop-index.index in
+    let first : 0 + number ≡ number = omega arith in
+    err-front _ c.from_residual.ensures.0
+    (failed-number g.W.Write.contents (column_text c.args.sheet.now.stack.now c.args.sheet.now.nodes.now c.args.sheet.now.layout.now) c.args.count number _ c.loop-index-test.true first c.loop-index.invariant c.in_err-put_column.ensures)
+
+pub loop-index-preserved : goal.loop-index-preserved
+loop-index-preserved g c =
+    let number = c.loop-index.index in
+    let first : 0 + number ≡ number = omega arith in
+    all-is (all-then c.loop-index.invariant c.in_ok-put_column.ensures) (sym (range-push (column_text c.args.sheet.now.stack.now c.args.sheet.now.nodes.now c.args.sheet.now.layout.now) 0 c.args.count number _ c.loop-index-test.true first))
+
+pub returns : goal.returns
+returns g c = all-is c.loop-index.invariant (range-all (column_text c.args.sheet.now.stack.now c.args.sheet.now.nodes.now c.args.sheet.now.layout.now) 0 c.args.count c.loop-index.index c.loop-index-test.false)

@@ -1,0 +1,104 @@
+//! The ways of edges.
+
+use super::aims::{Aim, Grid};
+use super::heights::{Heights, height_of, leaving, middle_of};
+use super::notes::number_of;
+use super::ports::Ports;
+use super::shapes::{Bend, Place, Point, Route};
+use super::table::number_at;
+use super::turns::Turns;
+use super::widths::{CURVE, Gutter, STEP, gutter_after};
+use pam_codes::CodeSet;
+use pam_graph::{Edge, Node};
+use std::alloc::{AllocError, Global};
+
+/// What the routes are made from.
+#[derive(Clone, Copy)]
+pub(super) struct Measures<'a> {
+    pub grid: &'a Grid,
+    pub all: &'a [Ports],
+    pub heights: &'a [Heights],
+    pub turns: &'a Turns,
+    pub gutters: &'a [Gutter],
+    /// Where the first column is.
+    pub first: usize,
+    /// The classes that have notes.
+    pub noted: &'a [CodeSet],
+}
+
+fn bend(from: usize, to: usize, height: usize) -> Bend {
+    Bend {
+        from,
+        middle: from.saturating_add(to) / 2,
+        to,
+        height,
+    }
+}
+
+impl Measures<'_> {
+    ghost use Rattle.std.specs.Prelude.{◌≡◌, IfOk, map};
+    ghost use Rattle.pam_picture.specs.Layouts.{edges_of, routes_of};
+
+    fn gutter(&self, column: usize) -> Gutter {
+        gutter_after(self.gutters, column, self.first)
+    }
+
+    /// Returns where a column is; that of the ends is where the last gutter ends.
+    pub fn at(&self, column: usize) -> usize {
+        if column >= self.grid.last {
+            self.gutter(self.grid.last.saturating_sub(1)).next
+        } else {
+            self.gutter(column).at
+        }
+    }
+
+    /// Returns the way of an edge from a column, which turns after as many others.
+    fn route(&self, column: usize, row: usize, aim: Aim, before: usize, note: usize) -> Route {
+        let gutter = self.gutter(column);
+        let end = self.at(aim.column);
+        let turns = gutter.turns.saturating_add(before.saturating_mul(STEP));
+        let turned = turns.saturating_add(CURVE).min(end);
+        let last = self.gutter(aim.column.saturating_sub(1));
+        let landing = last.turns.max(turned).min(end);
+        let landed = landing.saturating_add(CURVE).min(end);
+        Route {
+            fan: bend(gutter.at, gutter.rows, row),
+            turn: bend(turns, turned, height_of(self.heights, aim)),
+            landing: bend(landing, landed, middle_of(self.heights, aim.lane)),
+            note,
+        }
+    }
+
+    /// Returns the way of the edge of a node at a position.
+    fn route_of(&self, index: usize, node: &Node, position: usize, edge: &Edge) -> Route {
+        let before = self.turns.before.get(index, position);
+        let note = number_of(self.noted, edge.class);
+        let (row, aim) = leaving(self.all, self.heights, index, position);
+        self.route(node.module_number, row, aim, before, note)
+    }
+
+    fn place(&self, alloc: Global, index: usize, node: &Node) -> Result<Place, AllocError>
+        ensures { IfOk result (λ place. routes_of place ≡ edges_of node.now) }
+    {
+        let mut routes = Vec::new(alloc);
+        for (position, edge) in node.edges.iter().enumerate() {
+            routes.push(self.route_of(index, node, position, edge))?;
+        }
+        let point = Point {
+            x: self.at(node.module_number),
+            y: middle_of(self.heights, number_at(&self.grid.lanes.of_nodes, index)),
+        };
+        Ok(Place { point, routes })
+    }
+
+    /// Returns where the nodes are, with the ways of their edges.
+    pub fn places(&self, alloc: Global, nodes: &[Node]) -> Result<Vec<Place>, AllocError>
+        ensures { IfOk result (λ places. map routes_of places.items ≡ map edges_of nodes.now) }
+    {
+        let mut places = Vec::new(alloc);
+        for (index, node) in nodes.iter().enumerate() {
+            places.push(self.place(alloc, index, node)?)?;
+        }
+        Ok(places)
+    }
+}
