@@ -1,14 +1,15 @@
 #!/usr/bin/env python3
 """Measures the built program:
 
-    python3 benches/run.py PROGRAM [--pages] [--outcomes] [--decisions PROGRAM] [--paths PROGRAM] [--only WORD] [--runs N]
+    python3 benches/run.py PROGRAM [--pages] [--outcomes] [--decisions PROGRAM] [--paths PROGRAM] [--graphs PROGRAM] [--only WORD]
+        [--runs N]
 
 For each case the inputs are made anew in a temporary folder, in three sizes, the program is run once to warm up and then
 N times over each, and the least processor time and the peak memory are printed, the start of the process included. It
 needs Python's standard library and, for peak memory, /usr/bin/time. With --pages it also lists the paths of stacks in one
 page, of three lengths; with --outcomes it counts the outcomes of these stacks and of the largest graphs; with --decisions
 it also runs that program, which decides one stack many times by the library alone; with --paths that one, which explores
-stacks by the library alone.
+stacks by the library alone; with --graphs that one, which follows the walks of their graphs.
 """
 import argparse
 import os
@@ -299,6 +300,26 @@ def measure_paths(program):
         print("| %s | %.2f | %.2f | %.1f | %.1f MB |" % (name, paths / min(times) / 1e6, steps / paths, modules / paths, peak / 1000))
 
 
+def measure_graphs(program):
+    """Walks to a decision other than success, without the time in which the graph is made and its walks are counted."""
+    print("| Stack | nodes | million walks a second | modules a walk | peak memory |")
+    print("|---|---|---|---|---|")
+    for name, limit, text in STACKS:
+        with tempfile.TemporaryDirectory() as folder:
+            put(folder, "login", text.encode())
+
+            def least(count):
+                return min(run([program, str(count), "login"], folder)[1] for _ in range(6))
+
+            done = subprocess.run([program, str(limit), "login"], cwd=folder, stdout=subprocess.PIPE, check=True)
+            nodes, _, walks, steps = (int(word) for word in done.stdout.decode().split() if word.isdigit())
+            peak = int(run(["/usr/bin/time", "-q", "-f", "%M", program, str(limit), "login"], folder)[0].split()[-1])
+            seconds = least(limit) - least(0)
+        speed = "%.2f" % (walks / seconds / 1e6) if seconds > 0.001 else "-"
+        each = "%.1f" % (steps / walks) if walks else "-"
+        print("| %s | %d | %s | %s | %.1f MB |" % (name, nodes, speed, each, peak / 1000))
+
+
 def measure_pages(program, runs):
     print("| Stack | lines | a quarter | half | whole | million lines a second | memory: a quarter | whole |")
     print("|---|---|---|---|---|---|---|---|")
@@ -321,6 +342,7 @@ def main():
     parser.add_argument("--outcomes", action="store_true")
     parser.add_argument("--decisions")
     parser.add_argument("--paths")
+    parser.add_argument("--graphs")
     parser.add_argument("--only", default="")
     parser.add_argument("--runs", type=int, default=20)
     args = parser.parse_args()
@@ -334,6 +356,8 @@ def main():
         measure_decisions(os.path.abspath(args.decisions))
     if args.paths:
         measure_paths(os.path.abspath(args.paths))
+    if args.graphs:
+        measure_graphs(os.path.abspath(args.graphs))
 
 
 if __name__ == "__main__":

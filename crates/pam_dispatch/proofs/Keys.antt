@@ -1,66 +1,28 @@
 -- The keys of places.
-use Rattle.std.proofs.Common.{◌≡◌, ◌≢◌, ℕ, ◌+◌, ◌<◌, Bool, true, false, ◌&&◌, ◌||◌, eqb, List, [], ◌∷◌, refl, sym, ◌∙◌, ap, arith}
+use Rattle.std.proofs.Common.{◌≡◌, ◌≢◌, ℕ, ◌+◌, ◌<◌, Bool, true, false, ◌||◌, eqb, List, [], ◌∷◌, refl, sym, ◌∙◌, ap, arith}
 use Rattle.std.proofs.Common.{None, Some, Option, cond, inl, inr, length, slice_get, suc}
-use Rattle.std.proofs.lemmas.Bool.{and_from, and_parts, cases_lt, cond-false, cond-true, eq-eqb, eqb-true, false≢true, le-ltb, lt-ltb}
+use Rattle.std.proofs.lemmas.Bool.{and_from, cases_lt, cond-false, cond-true, eq-eqb, false≢true, le-ltb, lt-ltb}
 use Rattle.std.specs.List.{AllByRecursion, IsDistinct, list_any, position, position_or_len}
 use Rattle.std.specs.Option.{is_some}
 use Rattle.std.specs.Prelude.{IfNone, IfSome, nat_lt, not}
-use denote.Enum.Bare.{sameb, same_true, true_same}
+use denote.Enum.Bare.{sameb, true_same}
 use lib.Pointwise.{pointwise}
 use Rattle.pam_dispatch.specs.contracts.state.Impression.{the_type}
 use Rattle.pam_dispatch.specs.declared.key.PlaceKey.{PlaceKey}
-use Rattle.pam_dispatch.specs.declared.state.Impression.{Impression}
 use Rattle.pam_dispatch.specs.declared.state.State.{State}
+use Rattle.pam_dispatch.specs.Hashing.{same_key, same_key-true, same_state}
 use Rattle.pam_dispatch.specs.Keys.{AreDifferent, DiffersFrom}
 
 -- KEYS WITH THE SAME PARTS
-
--- the tests that are derived
-abbrev same_state : State → State → Bool
-same_state a b = sameb the_type a.impression b.impression && eqb a.status b.status
-
-abbrev pub same_key : PlaceKey → PlaceKey → Bool
-same_key a b =
-    eqb a.position b.position
-    && (eqb a.depth b.depth && (same_state a.state b.state && pointwise same_state a.entered.states b.entered.states))
-
-state_of : (i : Impression) (s : ℕ) → State
-state_of i s = record { impression = i; status = s }
-
-same_state-true : (a b : State) → same_state a b ≡ true → a ≡ b
-unfolding state_of
-same_state-true a b t =
-    let parts = and_parts (sameb the_type a.impression b.impression) (eqb a.status b.status) t in
-    ap (λ (i : Impression). state_of i a.status) (same_true the_type tt a.impression b.impression parts.0)
-    ∙ ap (state_of b.impression) (eqb-true a.status b.status parts.1)
 
 same_state-self : (a : State) → same_state a a ≡ true
 same_state-self a =
     and_from (sameb the_type a.impression a.impression) (eqb a.status a.status) (true_same the_type a.impression a.impression refl)
     (eq-eqb a.status a.status refl)
 
-states-true : (xs ys : List State) → pointwise same_state xs ys ≡ true → xs ≡ ys
-states-true [] [] t = refl
-states-true [] (y ∷ ys) t = absurd (false≢true t)
-states-true (x ∷ xs) [] t = absurd (false≢true t)
-states-true (x ∷ xs) (y ∷ ys) t =
-    let parts = and_parts (same_state x y) (pointwise same_state xs ys) t in
-    ap (λ (z : State). z ∷ xs) (same_state-true x y parts.0) ∙ ap (λ (zs : List State). y ∷ zs) (states-true xs ys parts.1)
-
 states-self : (xs : List State) → pointwise same_state xs xs ≡ true
 states-self [] = refl
 states-self (x ∷ xs) = and_from (same_state x x) (pointwise same_state xs xs) (same_state-self x) (states-self xs)
-
-pub same_key-true : (a b : PlaceKey) → same_key a b ≡ true → a ≡ b
-same_key-true a b t =
-    let one = and_parts (eqb a.position b.position) _ t in
-    let two = and_parts (eqb a.depth b.depth) _ one.1 in
-    let three = and_parts (same_state a.state b.state) (pointwise same_state a.entered.states b.entered.states) two.1 in
-    ap (λ (n : ℕ). record { position = n; depth = a.depth; state = a.state; entered = a.entered }) (eqb-true _ _ one.0)
-    ∙ ap (λ (n : ℕ). record { position = b.position; depth = n; state = a.state; entered = a.entered }) (eqb-true _ _ two.0)
-    ∙ ap (λ (s : State). record { position = b.position; depth = b.depth; state = s; entered = a.entered }) (same_state-true a.state b.state three.0)
-    ∙ ap (λ (s : List State). record { position = b.position; depth = b.depth; state = b.state; entered = record { states = s } })
-    (states-true a.entered.states b.entered.states three.1)
 
 same_key-self : (a : PlaceKey) → same_key a a ≡ true
 same_key-self a =

@@ -1,6 +1,7 @@
 pub mod Alike
 pub mod Decision
 pub mod Flat
+pub mod Hashing
 pub mod Keys
 pub mod Laws
 pub mod Program

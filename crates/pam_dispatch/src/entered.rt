@@ -13,7 +13,7 @@ use crate::state::State;
 pub(crate) const LISTS: usize = 16;
 
 /// The states in which the open lists were entered, outermost first.
-#[derive(Clone, Copy, Debug, PartialEq, Eq, Hash)]
+#[derive(Clone, Copy, Debug, PartialEq, Eq)]
 pub struct Entered {
     pub(crate) states: [State; LISTS],
 }

@@ -6,9 +6,10 @@ ghost use Rattle.pam_dispatch.specs.State.{start_state, accepted, refused};
 ghost use Rattle.pam_dispatch.specs.declared.state.Impression.TheVariants.{Negative};
 
 use pam_codes::{Action, Code};
+use std::hash::{Hash, Hasher};
 
 /// The impression that the modules so far have made.
-#[derive(Clone, Copy, Debug, PartialEq, Eq, Hash)]
+#[derive(Clone, Copy, Debug, PartialEq, Eq)]
 pub enum Impression {
     Undef,
     Positive,
@@ -16,7 +17,7 @@ pub enum Impression {
 }
 
 /// The state of a run through a stack: pam.conf(5).
-#[derive(Clone, Copy, Debug, PartialEq, Eq, Hash)]
+#[derive(Clone, Copy, Debug, PartialEq, Eq)]
 pub struct State {
     pub impression: Impression,
     pub status: Code,
@@ -101,6 +102,26 @@ impl State {
                 code
             },
         }
+    }
+}
+
+/// A state is one number: places are looked up often.
+impl Hash for State {
+    ghost use Rattle.pam_dispatch.specs.Hashing.{state_input};
+    ghost use Rattle.pam_dispatch.specs.Hashing.{same-state_input};
+
+    ghost hash_input = { state_input };
+
+    ghost respects_eq = { same-state_input };
+
+    fn hash<H: Hasher>(&self, state: &mut H) {
+        let status = u16::from(self.status.number());
+        let impression = match self.impression {
+            Impression::Undef => 0,
+            Impression::Positive => 1,
+            Impression::Negative => 2,
+        };
+        state.write_u16(status * 4 + impression);
     }
 }
 

@@ -113,7 +113,7 @@ pub(crate) fn target_of<K: Knowledge>(
         return Ok(Target::At(index));
     }
     let fork = Fork::at(program, knowledge, place, module_number);
-    let mut edges = Vec::new(alloc);
+    let mut edges = Vec::with_capacity(alloc, fork.choices())?;
     let mut bound = 0;
     while let Some(choice) = fork.choice(program, bound) {
         let target = target_of(alloc, program, knowledge, limit, &choice.place, draft)?;

@@ -1,6 +1,6 @@
 //! The forks of a run, at which a module is asked, and the choices there.
 
-ghost use Rattle.std.specs.Prelude.{◌≡◌, ◌+◌, ◌<◌, ◌≤◌, ◌++◌, [], IfNone, IfSome, Some};
+ghost use Rattle.std.specs.Prelude.{◌≡◌, ◌+◌, ◌<◌, ◌≤◌, ◌++◌, [], IfNone, IfSome, Some, length};
 ghost use Rattle.pam_conf.specs.declared.stack.TheConstants.{MAX_MODULES};
 ghost use Rattle.pam_dispatch.specs.Flat.{IsPlaceOf, modules_of, rest_of};
 ghost use Rattle.pam_dispatch.specs.Runs.{AsksRise, asked_module};
@@ -56,6 +56,13 @@ impl Fork {
             module_number,
             classes,
         }
+    }
+
+    /// The number of choices.
+    pub fn choices(&self) -> usize
+        ensures { result ≡ length self.now.classes.offered }
+    {
+        self.classes.offered.len()
     }
 
     /// The first choice whose least code is at or after `bound`.

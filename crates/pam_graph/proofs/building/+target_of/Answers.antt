@@ -56,13 +56,13 @@ loop-choice-init g t c =
       bound = omega arith;
       built = c.requires.built;
       extended = ([], sym (append-nil _));
-      later = subst (AreAbove (numbers_of nodes) c.in-Some.module_number) (sym c.new-edges.ensures.items) tt;
-      rise = subst (LeastRise 0 0) (sym c.new-edges.ensures.items) (omega arith);
+      later = subst (AreAbove (numbers_of nodes) c.in-Some.module_number) (sym c.in_ok-edges.ensures.items) tt;
+      rise = subst (LeastRise 0 0) (sym c.in_ok-edges.ensures.items) (omega arith);
       keys = c.requires.keys;
       new = c.in_default-find.ensures.none;
       apart = λ key h before. h;
       walks = ap (λ (x : List Edge). flat_map (walks_by (walks_of nodes) c.in-Some.module_number) x
-          ++ paths_from allows c.args.program.now c.at-fork.result 0) c.new-edges.ensures.items ∙ c.at-fork.ensures.paths;
+          ++ paths_from allows c.args.program.now c.at-fork.result 0) c.in_ok-edges.ensures.items ∙ c.at-fork.ensures.paths;
     }
 
 pub target_of-requires : goal.target_of-requires

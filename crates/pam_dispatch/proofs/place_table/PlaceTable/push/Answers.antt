@@ -3,7 +3,8 @@ use Rattle.std.proofs.lemmas.Bool.{cond-false}
 use Rattle.std.specs.List.{list_any}
 use Rattle.pam_dispatch.specs.declared.key.PlaceKey.{PlaceKey}
 use Rattle.pam_dispatch.specs.Keys.{DiffersFrom, key_of}
-use Rattle.pam_dispatch.proofs.Keys.{differs-any, same_key}
+use Rattle.pam_dispatch.specs.Hashing.{same_key}
+use Rattle.pam_dispatch.proofs.Keys.{differs-any}
 use Rattle.pam_dispatch.proofs.place_table.PlaceTable.push.Goals as goal
 
 pub returns-clause-added : goal.returns-clause-added
