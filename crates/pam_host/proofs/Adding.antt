@@ -82,7 +82,9 @@ walk-to faults file line (problems.NoModule is_dashed) h = absurd h
 walk-to faults file line problems.NoOther h = absurd h
 walk-to faults file line problems.UnreachableName h = absurd h
 walk-to faults file line (problems.TooLarge service kind) h = absurd h
+walk-to faults file line (problems.OtherAnswers service kind) h = absurd h
 walk-to faults file line problems.LeftOver h = absurd h
+walk-to faults file line problems.JumpIntoInclude h = absurd h
 walk-to faults file line problems.NoFunction h = absurd h
 walk-to faults file line problems.CallerIsRoot h = absurd h
 

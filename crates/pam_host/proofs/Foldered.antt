@@ -137,6 +137,8 @@ module _ (folder : Folder) where
   from-folder file line problems.NeverAsked first h = absurd (false≢true h)
   from-folder file line (problems.NoModule is_dashed) first h = absurd (false≢true h)
   from-folder file line (problems.TooLarge service kind) first h = absurd (false≢true h)
+  from-folder file line (problems.OtherAnswers service kind) first h = absurd (false≢true h)
+  from-folder file line problems.JumpIntoInclude first h = absurd (false≢true h)
   from-folder file line problems.NoFunction first h = absurd (false≢true h)
   from-folder file line problems.CallerIsRoot first h = absurd (false≢true h)
 

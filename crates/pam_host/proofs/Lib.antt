@@ -2,9 +2,11 @@ pub mod Adding
 pub mod Asking
 pub mod FileNames
 pub mod Foldered
+pub mod Jumping
 pub mod Listed
 pub mod Meeting
 pub mod OneService
+pub mod Others
 pub mod Owned
 pub mod Passes
 pub mod Places

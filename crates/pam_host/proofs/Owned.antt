@@ -58,7 +58,9 @@ module _ (form : Form) (file : ℕ) (bytes : List ℕ) where
   to_spot line problems.NoOther h = absurd h
   to_spot line problems.UnreachableName h = absurd h
   to_spot line (problems.TooLarge service kind) h = absurd h
+  to_spot line (problems.OtherAnswers service kind) h = absurd h
   to_spot line problems.LeftOver h = absurd h
+  to_spot line problems.JumpIntoInclude h = absurd h
   to_spot line problems.NoFunction h = absurd h
   to_spot line problems.CallerIsRoot h = absurd h
 

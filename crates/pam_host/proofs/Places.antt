@@ -52,7 +52,9 @@ other_numbered n service kind =
     else if nat_lt n 7 then problems.NoOther
     else if nat_lt n 8 then problems.UnreachableName
     else if nat_lt n 10 then problems.TooLarge service (kind_numbered kind)
+    else if nat_lt n 11 then problems.OtherAnswers service (kind_numbered kind)
     else if nat_lt n 12 then problems.LeftOver
+    else if nat_lt n 13 then problems.JumpIntoInclude
     else if nat_lt n 14 then problems.NoFunction
     else problems.CallerIsRoot
 
@@ -132,6 +134,13 @@ of_large service Account = refl
 of_large service Password = refl
 of_large service Session = refl
 
+of_other : (service : ℕ) (kind : Kind) → problem_of 60 service (number_of_kind kind) ≡ problems.OtherAnswers service kind
+unfolding problem_of
+of_other service Auth = refl
+of_other service Account = refl
+of_other service Password = refl
+of_other service Session = refl
+
 of_missing : (is_dashed : Bool) → problem_of 55 0 (if is_dashed then 1 else 0) ≡ problems.NoModule is_dashed
 unfolding problem_of
 of_missing true = refl
@@ -150,7 +159,9 @@ of_problem (problems.NoModule is_dashed) = of_missing is_dashed
 of_problem problems.NoOther = refl
 of_problem problems.UnreachableName = refl
 of_problem (problems.TooLarge service kind) = of_large service kind
+of_problem (problems.OtherAnswers service kind) = of_other service kind
 of_problem problems.LeftOver = refl
+of_problem problems.JumpIntoInclude = refl
 of_problem problems.NoFunction = refl
 of_problem problems.CallerIsRoot = refl
 

@@ -61,7 +61,9 @@ not-in-stack modules service name kind faults items home verdict spot form bytes
 not-in-stack modules service name kind faults items home verdict spot form bytes problems.NoOther h k = h
 not-in-stack modules service name kind faults items home verdict spot form bytes problems.UnreachableName h k = h
 not-in-stack modules service name kind faults items home verdict spot form bytes (problems.TooLarge of_service of_kind) h k = h
+not-in-stack modules service name kind faults items home verdict spot form bytes (problems.OtherAnswers of_service of_kind) h k = h
 not-in-stack modules service name kind faults items home verdict spot form bytes problems.LeftOver h k = h
+not-in-stack modules service name kind faults items home verdict spot form bytes problems.JumpIntoInclude h k = h
 not-in-stack modules service name kind faults items home verdict spot form bytes problems.NoFunction h k = h
 not-in-stack modules service name kind faults items home verdict spot form bytes problems.CallerIsRoot h k = h
 
@@ -108,9 +110,16 @@ module _ (host : Host) (named : List (List ℕ)) (found : Found) (ways : List (O
           (m.0, subst (λ f. Member f (reads_at host s k)) same i.2)
       | inr stack ↦
           let b = has-bytes (λ bytes. BytesHave host.folder.form bytes spot.line spot.problem) (bytes_at file host.folder.entries) own.1 in
-          absurd (not-in-stack host.modules s (service_at host s) k (survey_at host s k).faults (survey_at host s k).items
-          (slice_get (survey_at host s k).reached 0) (V s k) spot
-          host.folder.form b.0 spot.problem b.1 stack)
+          absurd (elim stack [
+            | inl own ↦
+                not-in-stack host.modules s (service_at host s) k (survey_at host s k).faults (survey_at host s k).items
+                (slice_get (survey_at host s k).reached 0) (V s k) spot
+                host.folder.form b.0 spot.problem b.1 own
+            | inr beside ↦ elim beside [
+              | inl other ↦ subst (BytesHave host.folder.form b.0 spot.line) other.problem b.1
+              | inr jump ↦ subst (BytesHave host.folder.form b.0 spot.line) jump.problem b.1
+            ]
+          ])
     ],
   )
 

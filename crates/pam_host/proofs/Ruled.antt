@@ -47,6 +47,7 @@ module _ (modules : Modules) (name : List ℕ) (kind : Kind) (rule : ModuleText)
   from-rule file line (problems.LetsNobodyIn service of_kind) h = absurd h.has
   from-rule file line (problems.LetsAnybodyIn service) h = absurd h.has
   from-rule file line (problems.TooLarge service of_kind) h = absurd h.has
+  from-rule file line (problems.OtherAnswers service of_kind) h = absurd h.has
   from-rule file line problems.JumpPastEnd h = absurd h.has
   from-rule file line (problems.Fault fault) h = absurd h.has
   from-rule file line (problems.Walk fault) h = absurd h.has
@@ -54,6 +55,7 @@ module _ (modules : Modules) (name : List ℕ) (kind : Kind) (rule : ModuleText)
   from-rule file line problems.NoOther h = absurd h.has
   from-rule file line problems.UnreachableName h = absurd h.has
   from-rule file line problems.LeftOver h = absurd h.has
+  from-rule file line problems.JumpIntoInclude h = absurd h.has
 
   pub adds-of-rule : (old zero first second new : List Spot) (other missing functionless root : Bool) →
       other ≡ is_other rule → missing ≡ is_missing modules rule → functionless ≡ has_no_function modules.facts kind rule →

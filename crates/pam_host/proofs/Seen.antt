@@ -14,10 +14,13 @@ use Rattle.pam_conf.specs.declared.rule.Form.{Form}
 use Rattle.pam_paths.specs.Classes.{Member}
 use Rattle.pam_host.specs.Checking.{AddsStack}
 use Rattle.pam_host.specs.FileProblems.{files_read}
+use Rattle.pam_host.specs.Host.{InStackOf}
+use Rattle.pam_host.specs.Inside.{HasJumpInside}
+use Rattle.pam_host.specs.OtherAnswers.{HasOtherAnswer}
 use Rattle.pam_host.specs.Looked.{Asks, Judges, Looks, OfModules}
 use Rattle.pam_host.specs.Modules.{Modules}
 use Rattle.pam_host.specs.StackProblems.{ByVerdict, InItems, InStack, InWalk}
-use Rattle.pam_host.specs.Table.{Adds, Notes, Puts, with_stack}
+use Rattle.pam_host.specs.Table.{Adds, Notes, Puts, Table, with_stack}
 use Rattle.pam_host.specs.Verdicts.{IsVerdict, Refused, Verdict, never_asked_in}
 use Rattle.pam_host.specs.declared.judging.Stacked.{Stacked}
 use Rattle.pam_host.specs.declared.problem.Problem.{Problem}
@@ -26,7 +29,7 @@ use Rattle.pam_host.specs.declared.problem.Spot.{Spot}
 use Rattle.pam_host.specs.declared.stacks.Found.{Found}
 use Rattle.pam_host.specs.declared.way_in.WayIn.{WayIn}
 use Rattle.pam_host.proofs.Adding.{adds-both, adds-iff, adds-none}
-use Rattle.pam_host.proofs.Passes.{puts-iff}
+use Rattle.pam_host.proofs.Passes.{puts-both, puts-iff, settles-stack}
 
 -- A SOUND SURVEY
 
@@ -43,6 +46,7 @@ pub none-by-refused : (service : ℕ) (kind : Kind) (home : Option ℕ) (spot : 
 none-by-refused service kind home spot (problems.LetsNobodyIn of_service of_kind) h = h.3
 none-by-refused service kind home spot (problems.LetsAnybodyIn of_service) h = false≢true h.3
 none-by-refused service kind home spot (problems.TooLarge of_service of_kind) h = absurd cc
+none-by-refused service kind home spot (problems.OtherAnswers of_service of_kind) h = h
 none-by-refused service kind home spot problems.JumpPastEnd h = h
 none-by-refused service kind home spot (problems.Fault fault) h = h
 none-by-refused service kind home spot (problems.Walk fault) h = h
@@ -52,6 +56,7 @@ none-by-refused service kind home spot (problems.NoModule is_dashed) h = h
 none-by-refused service kind home spot problems.NoOther h = h
 none-by-refused service kind home spot problems.UnreachableName h = h
 none-by-refused service kind home spot problems.LeftOver h = h
+none-by-refused service kind home spot problems.JumpIntoInclude h = h
 none-by-refused service kind home spot problems.NoFunction h = h
 none-by-refused service kind home spot problems.CallerIsRoot h = h
 
@@ -176,26 +181,35 @@ module _ (folder : Folder) (modules : Modules) (name : List ℕ) (service : ℕ)
 -- WHAT A STACK ADDS
 
 pub adds-stack : (files rules : Folder) (modules : Modules) (service : ℕ) (name : List ℕ) (kind : Kind) (survey : SurveyText) (spots : List Spot)
-    (way : Option WayIn)
+    (middle : Table) (way : Option WayIn)
     (old new : Found) (form : Form) (reached : List ℕ) → rules ≡ files → survey ≡ surveyed rules name kind → form ≡ files.form → reached ≡ survey.reached →
     length old.readers.items ≡ length files.entries → Looks rules modules name service kind survey spots old.asked.items new.asked.items way →
-    Puts (λ spot. Member spot spots) (with_stack service kind) old.table new.table →
+    Puts (λ spot. HasOtherAnswer rules service name kind spot ⊎ HasJumpInside rules name kind spot) (with_stack service kind) old.table middle →
+    Puts (λ spot. Member spot spots) (with_stack service kind) middle new.table →
     Notes (λ file. Member file (files_read form (length old.readers.items) reached)) service kind old.readers.items new.readers.items →
     AddsStack files modules service name kind old new way
 unfolding Member
-adds-stack files rules modules service name kind survey spots way old new form reached same is is_form is_reached count looks puts notes =
+adds-stack files rules modules service name kind survey spots middle way old new form reached same is is_form is_reached count looks beside puts notes =
     let here : survey ≡ surveyed files name kind = subst (λ (r : Folder). survey ≡ surveyed r name kind) same is in
     record {
       verdict = looks.verdict;
       is_verdict = subst (λ (r : Folder). IsVerdict r modules name kind looks.verdict) same looks.is_verdict;
-      puts = puts-iff (λ spot. Member spot spots) (InStack modules service name kind (surveyed files name kind) looks.verdict) (with_stack service kind)
+      puts =
+          let S : SurveyText → Spot → Type 0 = λ s spot. InStack modules service name kind s looks.verdict spot in
+          let A : Folder → Spot → Type 0 = λ f spot. HasOtherAnswer f service name kind spot ⊎ HasJumpInside f name kind spot in
+          puts-iff (λ spot. A rules spot ⊎ Member spot spots) (InStackOf files modules service name kind looks.verdict) (with_stack service kind)
           old.table new.table
           (λ spot. (
-            λ m. subst (λ (s : SurveyText). InStack modules service name kind s looks.verdict spot) here
-                (elim ((looks.adds.each spot).1 m) [ inl n ↦ absurd n | inr k ↦ k ]),
-            λ k. (looks.adds.each spot).0 (inr (subst (λ (s : SurveyText). InStack modules service name kind s looks.verdict spot) (sym here) k)),
+            λ w. elim w [
+              | inl a ↦ inr (subst (λ f. A f spot) same a)
+              | inr m ↦ inl (subst (λ s. S s spot) here (elim ((looks.adds.each spot).1 m) [ inl n ↦ absurd n | inr k ↦ k ]))
+            ],
+            λ k. elim k [
+              | inl s ↦ inr ((looks.adds.each spot).0 (inr (subst (λ s. S s spot) (sym here) s)))
+              | inr a ↦ inl (subst (λ f. A f spot) (sym same) a)
+            ],
           ))
-          puts;
+          (puts-both (A rules) (λ spot. Member spot spots) (with_stack service kind) old.table middle new.table (settles-stack service kind) beside puts);
       notes = subst (λ (l : List ℕ). Notes (λ file. Member file l) service kind old.readers.items new.readers.items)
           (ap (λ (f : Form). files_read f (length old.readers.items) reached) is_form
           ∙ ap (λ (n : ℕ). files_read files.form n reached) count

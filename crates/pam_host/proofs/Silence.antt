@@ -108,7 +108,7 @@ module _ (host : Host) (named : List (List ℕ)) (found : Table) (ways : List (O
     no-walk-fault (fault ∷ rest) is =
         let spot : Spot = record { file = fault.at; line = fault.line; problem = problems.Walk fault.kind } in
         let walked : InWalk survey.faults spot spot.problem = first-in fault rest survey.faults is in
-        absurd (grave fault.kind (met-note spot service kind (within, inr (inl walked), λ e. absurd cc)))
+        absurd (grave fault.kind (met-note spot service kind (within, inr (inl (inl walked)), λ e. absurd cc)))
 
     -- a file that it reaches has none
     no-line-fault : (file : ℕ) (bytes : List ℕ) → Member file survey.reached → bytes_at file host.folder.entries ≡ Some bytes →
@@ -152,19 +152,19 @@ module _ (host : Host) (named : List (List ℕ)) (found : Table) (ways : List (O
     not-large : report.verdicts service kind ≡ TooLarge → ⊥
     not-large is =
         let spot : Spot = record { file = home; line = 0; problem = problems.TooLarge service kind } in
-        let note : Warning ≡ Note = met-note spot service kind (within, inr (inr (inr (refl, refl, (refl, refl), is))), λ e. absurd cc) in
+        let note : Warning ≡ Note = met-note spot service kind (within, inr (inl (inr (inr (refl, refl, (refl, refl), is)))), λ e. absurd cc) in
         cc
 
     not-nobody : LetsNobody (report.verdicts service kind) → ⊥
     not-nobody h =
         let spot : Spot = record { file = home; line = 0; problem = problems.LetsNobodyIn service kind } in
-        let note : Warning ≡ Note = met-note spot service kind (within, inr (inr (inr (refl, refl, (refl, refl), h))), λ e. absurd cc) in
+        let note : Warning ≡ Note = met-note spot service kind (within, inr (inl (inr (inr (refl, refl, (refl, refl), h)))), λ e. absurd cc) in
         cc
 
     not-anybody : kind ≡ Auth → IsSome (way_in_of (report.verdicts service kind)) → ⊥
     not-anybody auth h =
         let spot : Spot = record { file = home; line = 0; problem = problems.LetsAnybodyIn service } in
-        let note : Warning ≡ Note = met-note spot service kind (within, inr (inr (inr (refl, auth, (refl, refl), h))), λ e. absurd cc) in
+        let note : Warning ≡ Note = met-note spot service kind (within, inr (inl (inr (inr (refl, auth, (refl, refl), h)))), λ e. absurd cc) in
         cc
 
     sound-judged : (j : Judgement) → report.verdicts service kind ≡ Judged j → IsJudgement host.folder host.modules (service_at host service) kind j →

@@ -7,14 +7,14 @@ use Rattle.pam_conf.specs.declared.rule.Kind.{Kind}
 use Rattle.pam_conf.specs.declared.rule.Kind.TheVariants.{Auth, Account, Password, Session}
 use Rattle.pam_paths.specs.Classes.{Member}
 use Rattle.pam_host.specs.Checking.{AddsStack}
-use Rattle.pam_host.specs.Host.{Host, Verdicts, reads_at, service_at, survey_at}
+use Rattle.pam_host.specs.Host.{Host, InStackOf, Verdicts, reads_at, service_at, survey_at}
 use Rattle.pam_host.specs.Looked.{Asks}
 use Rattle.pam_host.specs.Meeting.{MetSoFar}
 use Rattle.pam_host.specs.Met.{AreMet}
 use Rattle.pam_host.specs.Problems.{number_of_kind}
 use Rattle.pam_host.specs.Report.{IsMetFinding}
 use Rattle.pam_host.specs.SoFar.{AsksAt, InStackAt, Shows, Taken, with_verdict}
-use Rattle.pam_host.specs.StackProblems.{HasWayIn, InStack}
+use Rattle.pam_host.specs.StackProblems.{HasWayIn}
 use Rattle.pam_host.specs.Table.{finding_at, met_of, with_stack}
 use Rattle.pam_host.specs.Verdicts.{IsVerdict, Verdict}
 use Rattle.pam_host.specs.declared.met.Met.{Met}
@@ -148,7 +148,7 @@ module _ (host : Host) (T : ℕ → Kind → Type 0) (service : ℕ) (kind : Kin
 
   in-stack : (spot : Spot) (s : ℕ) (k : Kind) → T s k → InStackAt host t.verdicts spot s k ↔ InStackAt host now spot s k
   in-stack spot s k h =
-      let P : Verdict → Type 0 = λ v. InStack host.modules s (service_at host s) k (survey_at host s k) v spot in
+      let P : Verdict → Type 0 = λ v. InStackOf host.folder host.modules s (service_at host s) k v spot in
       (λ i. subst P (sym (as-before s k h)) i, λ i. subst P (as-before s k h) i)
 
   shows-more : (spot : Spot) → Shows (λ s k. More s k × InStackAt host now spot s k) spot (finding_at new.table spot)
@@ -156,7 +156,7 @@ module _ (host : Host) (T : ℕ → Kind → Type 0) (service : ℕ) (kind : Kin
       let P : ℕ → Kind → Type 0 = InStackAt host t.verdicts spot in
       let Q : ℕ → Kind → Type 0 = InStackAt host now spot in
       let before : Option Finding = finding_at old.table spot in
-      let V : Verdict → Type 0 = λ v. InStack host.modules service (service_at host service) kind (survey_at host service kind) v spot in
+      let V : Verdict → Type 0 = λ v. InStackOf host.folder host.modules service (service_at host service) kind v spot in
       elim (adds.puts.each spot) [
         | inl h ↦
             let finding : IsMetFinding (λ s k. More s k × Q s k) spot (with_stack service kind spot before) = record {

@@ -63,6 +63,7 @@ module _ (at : Stacked) (j : Judgement) (nobody anybody : Bool) (says_nobody : (
   from-verdict file line problems.JumpPastEnd h =
       inr record { number = h.0; one = h.3; of = record { problem_is = refl; rule = h.1; at = h.2 } }
   from-verdict file line (problems.TooLarge service kind) h = absurd cc
+  from-verdict file line (problems.OtherAnswers service kind) h = absurd h
   from-verdict file line (problems.Fault fault) h = absurd h
   from-verdict file line (problems.Walk fault) h = absurd h
   from-verdict file line (problems.Released difference) h = absurd h
@@ -71,6 +72,7 @@ module _ (at : Stacked) (j : Judgement) (nobody anybody : Bool) (says_nobody : (
   from-verdict file line problems.NoOther h = absurd h
   from-verdict file line problems.UnreachableName h = absurd h
   from-verdict file line problems.LeftOver h = absurd h
+  from-verdict file line problems.JumpIntoInclude h = absurd h
   from-verdict file line problems.NoFunction h = absurd h
   from-verdict file line problems.CallerIsRoot h = absurd h
 

@@ -6,9 +6,10 @@ use Rattle.pam_conf.specs.declared.rule.Kind.{Kind}
 use Rattle.pam_conf.specs.declared.rule.Kind.TheVariants.{Auth, Account, Password, Session}
 use Rattle.pam_paths.specs.Classes.{Member}
 use Rattle.pam_host.specs.FileProblems.{files_read}
+use Rattle.pam_host.specs.Host.{InStackOf}
 use Rattle.pam_host.specs.Looked.{Asks}
 use Rattle.pam_host.specs.Modules.{Modules}
-use Rattle.pam_host.specs.StackProblems.{HasWayIn, InStack}
+use Rattle.pam_host.specs.StackProblems.{HasWayIn}
 use Rattle.pam_host.specs.Table.{Adds, Notes, Puts, with_stack}
 use Rattle.pam_host.specs.Verdicts.{IsVerdict, Verdict}
 use Rattle.pam_host.specs.declared.stacks.Found.{Found}
@@ -22,7 +23,7 @@ reads_of folder name kind = files_read folder.form (length folder.entries) (surv
 pub record AddsStack (folder : Folder) (modules : Modules) (service : ℕ) (name : List ℕ) (kind : Kind) (old new : Found) (way : Option WayIn) : Type 0 where
   pub verdict : Verdict
   pub is_verdict : IsVerdict folder modules name kind verdict
-  pub puts : Puts (InStack modules service name kind (surveyed folder name kind) verdict) (with_stack service kind) old.table new.table
+  pub puts : Puts (InStackOf folder modules service name kind verdict) (with_stack service kind) old.table new.table
   pub asks : Adds (Asks (surveyed folder name kind).items verdict) old.asked.items new.asked.items
   pub notes : Notes (λ file. Member file (reads_of folder name kind)) service kind old.readers.items new.readers.items
   pub way_in : kind ≡ Auth → HasWayIn verdict way

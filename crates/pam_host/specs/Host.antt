@@ -5,7 +5,9 @@ use Rattle.pam_conf.specs.Survey.{SurveyText, surveyed}
 use Rattle.pam_conf.specs.declared.rule.Kind.{Kind}
 use Rattle.pam_paths.specs.Classes.{Member}
 use Rattle.pam_host.specs.FileProblems.{FileHas, files_read}
+use Rattle.pam_host.specs.Inside.{HasJumpInside}
 use Rattle.pam_host.specs.Modules.{Modules}
+use Rattle.pam_host.specs.OtherAnswers.{HasOtherAnswer}
 use Rattle.pam_host.specs.StackProblems.{InStack, MayAsk}
 use Rattle.pam_host.specs.Verdicts.{Verdict}
 use Rattle.pam_host.specs.declared.problem.Problem.TheVariants as problems
@@ -29,6 +31,11 @@ survey_at host service kind = surveyed host.folder (service_at host service) kin
 abbrev pub reads_at : Host → ℕ → Kind → List ℕ
 reads_at host service kind = files_read host.folder.form (length host.folder.entries) (survey_at host service kind).reached
 
+-- a problem of a stack itself, of what the service's own rules leave to `other`, or of its jumps into includes
+abbrev pub InStackOf : Folder → Modules → ℕ → List ℕ → Kind → Verdict → Spot → Type 0
+InStackOf folder modules service name kind verdict spot =
+    InStack modules service name kind (surveyed folder name kind) verdict spot ⊎ (HasOtherAnswer folder service name kind spot ⊎ HasJumpInside folder name kind spot)
+
 -- a problem of a file that is read for a stack
 abbrev pub InFile : Host → Spot → ℕ → Kind → Type 0
 InFile host spot service kind =
@@ -49,5 +56,5 @@ pub record IsAsked (host : Host) (verdicts : Verdicts) (spot : Spot) : Type 0 wh
 abbrev pub Meets : Host → Verdicts → Spot → ℕ → Kind → Type 0
 Meets host verdicts spot service kind =
     (service < length host.services)
-    × (InFile host spot service kind ⊎ InStack host.modules service (service_at host service) kind (survey_at host service kind) (verdicts service kind) spot)
+    × (InFile host spot service kind ⊎ InStackOf host.folder host.modules service (service_at host service) kind (verdicts service kind) spot)
     × (spot.problem ≡ problems.NeverAsked → IsAsked host verdicts spot → ⊥)

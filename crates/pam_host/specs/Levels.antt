@@ -28,6 +28,7 @@ level_of (problems.Released difference) = level_of_difference difference
 level_of problems.NeverAsked = Note
 level_of (problems.NoModule is_dashed) = if is_dashed then Note else Warning
 level_of problems.NoOther = Note
+level_of (problems.OtherAnswers service kind) = Note
 level_of problems.LeftOver = Note
 level_of problems.CallerIsRoot = Note
 level_of problem = Warning

@@ -3,6 +3,8 @@ pub mod Checking
 pub mod FileProblems
 pub mod FolderProblems
 pub mod Host
+pub mod Inside
+pub mod Insides
 pub mod Laws
 pub mod Levels
 pub mod Looked
@@ -10,6 +12,7 @@ pub mod Meeting
 pub mod Met
 pub mod Modules
 pub mod OfFolder
+pub mod OtherAnswers
 pub mod Own
 pub mod Problems
 pub mod Report

@@ -65,7 +65,9 @@ rank_of (problems.NoModule is_dashed) = 55
 rank_of problems.NoOther = 56
 rank_of problems.UnreachableName = 57
 rank_of (problems.TooLarge service kind) = 59
+rank_of (problems.OtherAnswers service kind) = 60
 rank_of problems.LeftOver = 61
+rank_of problems.JumpIntoInclude = 62
 rank_of problems.NoFunction = 63
 rank_of problems.CallerIsRoot = 64
 
@@ -80,12 +82,14 @@ abbrev pub service_of : Problem → ℕ
 service_of (problems.LetsNobodyIn service kind) = service
 service_of (problems.LetsAnybodyIn service) = service
 service_of (problems.TooLarge service kind) = service
+service_of (problems.OtherAnswers service kind) = service
 service_of problem = 0
 
 -- the number of its kind; S5 of a dashed rule has another one than that of a rule without a dash
 abbrev pub kind_of : Problem → ℕ
 kind_of (problems.LetsNobodyIn service kind) = number_of_kind kind
 kind_of (problems.TooLarge service kind) = number_of_kind kind
+kind_of (problems.OtherAnswers service kind) = number_of_kind kind
 kind_of (problems.NoModule is_dashed) = if is_dashed then 1 else 0
 kind_of problem = 0
 

@@ -4,14 +4,14 @@ use Rattle.pam_conf.specs.Files.{Folder}
 use Rattle.pam_conf.specs.declared.rule.Kind.{Kind}
 use Rattle.pam_conf.specs.declared.rule.Kind.TheVariants.{Auth}
 use Rattle.pam_paths.specs.Classes.{Member}
-use Rattle.pam_host.specs.Host.{Host, Verdicts, reads_at, service_at, survey_at}
+use Rattle.pam_host.specs.Host.{Host, InStackOf, Verdicts, reads_at, service_at, survey_at}
 use Rattle.pam_host.specs.Looked.{Asks}
 use Rattle.pam_host.specs.Meeting.{MetSoFar}
 use Rattle.pam_host.specs.Met.{IsMetByNone}
 use Rattle.pam_host.specs.Modules.{Modules}
 use Rattle.pam_host.specs.Problems.{number_of_kind}
 use Rattle.pam_host.specs.Report.{IsMetFinding}
-use Rattle.pam_host.specs.StackProblems.{HasWayIn, InStack}
+use Rattle.pam_host.specs.StackProblems.{HasWayIn}
 use Rattle.pam_host.specs.Table.{ArePlaced, finding_at}
 use Rattle.pam_host.specs.Verdicts.{IsVerdict, Verdict}
 use Rattle.pam_host.specs.declared.problem.Spot.{Spot}
@@ -30,7 +30,7 @@ Shows MeetsIt spot (Some finding) = IsMetFinding MeetsIt spot finding
 -- a stack has a problem itself
 abbrev pub InStackAt : Host → Verdicts → Spot → ℕ → Kind → Type 0
 InStackAt host verdicts spot service kind =
-    InStack host.modules service (service_at host service) kind (survey_at host service kind) (verdicts service kind) spot
+    InStackOf host.folder host.modules service (service_at host service) kind (verdicts service kind) spot
 
 -- a stack may ask a module with its rule here
 abbrev pub AsksAt : Host → Verdicts → Spot → ℕ → Kind → Type 0

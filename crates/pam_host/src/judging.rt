@@ -28,7 +28,7 @@ pub(crate) struct Stacked {
 }
 
 /// Appends a problem of the whole stack, if it has it.
-fn push_whole(
+pub(crate) fn push_whole(
     spots: &mut Vec<Spot>,
     at: Stacked,
     has: bool,

@@ -43,12 +43,14 @@ impl Problem {
             Problem::Released(difference) => level_of_difference(difference),
             Problem::NeverAsked
             | Problem::NoOther
+            | Problem::OtherAnswers { .. }
             | Problem::LeftOver
             | Problem::CallerIsRoot
             | Problem::NoModule { is_dashed: true } => Level::Note,
             Problem::LetsNobodyIn { .. }
             | Problem::LetsAnybodyIn { .. }
             | Problem::JumpPastEnd
+            | Problem::JumpIntoInclude
             | Problem::NoModule { is_dashed: false }
             | Problem::UnreachableName
             | Problem::TooLarge { .. }

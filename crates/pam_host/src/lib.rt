@@ -4,6 +4,7 @@
 
 mod callers;
 mod folder;
+mod inside;
 mod judging;
 mod known_modules;
 pub mod laws;

@@ -46,8 +46,17 @@ pub enum Problem {
         service: usize,
         kind: Kind,
     },
+    /// S10: `other` answers for one of auth and account, though the service has rules for the other one.
+    OtherAnswers {
+        /// The position of the service in `HostReport::services`.
+        service: usize,
+        /// The kind for which `other` answers.
+        kind: Kind,
+    },
     /// S11: the name of a file is that of a copy which an editor or a package left.
     LeftOver,
+    /// S12: a jump lands inside what an include brought in.
+    JumpIntoInclude,
     /// S13: a module has no function in the kind of its rule.
     NoFunction,
     /// S14: a module of an `auth` stack looks at the user of the calling process, which is always root in this service.
@@ -160,7 +169,9 @@ impl Problem {
             Problem::NoOther => 56,
             Problem::UnreachableName => 57,
             Problem::TooLarge { .. } => 59,
+            Problem::OtherAnswers { .. } => 60,
             Problem::LeftOver => 61,
+            Problem::JumpIntoInclude => 62,
             Problem::NoFunction => 63,
             Problem::CallerIsRoot => 64,
         }
@@ -173,7 +184,8 @@ impl Problem {
         match self {
             Problem::LetsNobodyIn { service, .. }
             | Problem::LetsAnybodyIn { service }
-            | Problem::TooLarge { service, .. } => service,
+            | Problem::TooLarge { service, .. }
+            | Problem::OtherAnswers { service, .. } => service,
             Problem::Fault(_)
             | Problem::Walk(_)
             | Problem::Released(_)
@@ -183,6 +195,7 @@ impl Problem {
             | Problem::NoOther
             | Problem::UnreachableName
             | Problem::LeftOver
+            | Problem::JumpIntoInclude
             | Problem::NoFunction
             | Problem::CallerIsRoot => 0,
         }
@@ -193,9 +206,9 @@ impl Problem {
         ensures { result ≡ kind_of self }
     {
         match self {
-            Problem::LetsNobodyIn { kind, .. } | Problem::TooLarge { kind, .. } => number_of_kind(
-                kind,
-            ),
+            Problem::LetsNobodyIn { kind, .. }
+            | Problem::TooLarge { kind, .. }
+            | Problem::OtherAnswers { kind, .. } => number_of_kind(kind),
             Problem::NoModule { is_dashed } => u8::from(is_dashed),
             Problem::Fault(_)
             | Problem::Walk(_)
@@ -206,6 +219,7 @@ impl Problem {
             | Problem::NoOther
             | Problem::UnreachableName
             | Problem::LeftOver
+            | Problem::JumpIntoInclude
             | Problem::NoFunction
             | Problem::CallerIsRoot => 0,
         }

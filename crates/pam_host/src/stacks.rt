@@ -1,27 +1,30 @@
 //! What is found of a stack.
 
-ghost use Rattle.std.specs.Prelude.{◌≡◌, ◌↔◌, IfOk, IsTrue, None, [], length, slice_get};
+ghost use Rattle.std.specs.Prelude.{◌≡◌, ◌⊎◌, ◌↔◌, ℕ, IfOk, IsTrue, List, OnOk, None, [], length, slice_get, true};
 ghost use Rattle.std.proofs.Common.{replicate};
 ghost use Rattle.pam_conf.specs.Laws.{IsSound};
 ghost use Rattle.pam_conf.specs.Survey.{faults_at, surveyed};
 ghost use Rattle.pam_conf.specs.SurveyText.{survey_text};
 ghost use Rattle.pam_host.specs.declared.problem.Spot.{Spot as SpotText};
-ghost use Rattle.pam_host.specs.Table.{ArePlaced, finding_at};
+ghost use Rattle.pam_host.specs.Table.{Adds, ArePlaced, Puts, finding_at, with_stack};
 ghost use Rattle.pam_host.specs.SoFar.{SoFar, host_with};
 ghost use Rattle.pam_host.specs.Checking.{AddsService, AddsStack};
+ghost use Rattle.pam_host.specs.Inside.{HasJumpInside};
 ghost use Rattle.pam_host.specs.Looked.{Looks};
+ghost use Rattle.pam_host.specs.OtherAnswers.{HasOtherAnswer, OtherAnswers, partner};
 
-use crate::judging::{Stacked, judge};
+use crate::inside::jumps_inside;
+use crate::judging::{Stacked, judge, push_whole};
 use crate::known_modules::Modules;
 use crate::met::Met;
 use crate::modules::{push_asked, push_modules};
-use crate::problem::Spot;
+use crate::problem::{Problem, Spot};
 use crate::readers::note_read;
 use crate::table::{Table, put_stack_at_all};
 use crate::walk::push_walk;
 use crate::way_in::WayIn;
 use pam_conf::laws::stack_is_sound_survey;
-use pam_conf::{Files, Kind, RuleFiles, Survey};
+use pam_conf::{Files, Form, Kind, RuleFiles, Survey};
 use pam_text::Texts;
 use std::alloc::{AllocError, Global};
 use std::collections::BTreeMap;
@@ -86,7 +89,74 @@ fn is_sound(rules: &RuleFiles<'_>, survey: &Survey) -> bool
     true
 }
 
+/// Of auth and account the other one.
+fn partner(kind: Kind) -> Option<Kind>
+    ensures { result ≡ partner kind }
+{
+    match kind {
+        Kind::Auth => Some(Kind::Account),
+        Kind::Account => Some(Kind::Auth),
+        Kind::Password | Kind::Session => None,
+    }
+}
+
 impl Checker<'_, '_> {
+    /// Whether `other` answers for one of auth and account, though the service has rules for the other one.
+    fn other_answers(&self, name: &[u8], kind: Kind, survey: &Survey) -> Result<bool, AllocError>
+        ensures { survey_text survey.now ≡ surveyed self.now.rules.now name.now kind →
+            IfOk result (λ answers. (answers ≡ true) ↔ OtherAnswers self.now.rules.now name.now kind) }
+    {
+        if !survey.other_answers || survey.is_empty() || !is_sound(self.rules, survey) {
+            return Ok(false);
+        }
+        let Some(partner) = partner(kind) else {
+            return Ok(false);
+        };
+        let own = self.rules.survey(self.alloc, name, partner)?;
+        Ok(!own.other_answers && !self.rules.is_target(name))
+    }
+
+    /// S12 of a stack.
+    fn jumps(&self, kind: Kind, survey: &Survey) -> Result<Vec<Spot>, AllocError>
+        ensures { (name : List ℕ) → survey_text survey.now ≡ surveyed self.now.rules.now name kind →
+            IfOk result (λ spots. Adds (HasJumpInside self.now.rules.now name kind) [] spots.items) }
+    {
+        match self.files.form() {
+            Form::Dir if is_sound(self.rules, survey) => {
+                jumps_inside(self.alloc, self.rules, kind, &survey.reached)
+            }
+            Form::Dir | Form::Single => Ok(Vec::new(self.alloc)),
+        }
+    }
+
+    /// Adds S10 and S12 of a stack.
+    fn add_beside(
+        &self,
+        table: &mut Table,
+        at: Stacked,
+        name: &[u8],
+        survey: &Survey,
+    ) -> Result<(), AllocError>
+        requires survey { survey_text survey.now ≡ surveyed self.now.rules.now name.now at.kind }
+        requires home { at.home ≡ slice_get (survey_text survey.now).reached 0 }
+        ensures { OnOk result (Puts (λ spot. HasOtherAnswer self.now.rules.now at.service name.now at.kind spot
+            ⊎ HasJumpInside self.now.rules.now name.now at.kind spot) (with_stack at.service at.kind) table.old table.new) }
+    {
+        let other_answers = self.other_answers(name, at.kind, survey)?;
+        let mut spots = self.jumps(at.kind, survey)?;
+        push_whole(
+            &mut spots,
+            at,
+            other_answers,
+            Problem::OtherAnswers {
+                service: at.service,
+                kind: at.kind,
+            },
+        )?;
+        put_stack_at_all(table, &spots, at.service, at.kind)?;
+        Ok(())
+    }
+
     /// The problems of a stack itself, the rules that it may ask, and the first way in, if it is one of `auth`.
     fn look(
         &self,
@@ -109,6 +179,7 @@ impl Checker<'_, '_> {
             stack,
             faults: _,
             reached: _,
+            other_answers: _,
         } = survey;
         let stack = match stack {
             Some(stack) => stack,
@@ -141,12 +212,13 @@ impl Checker<'_, '_> {
             service,
             kind,
         )?;
-        let mut spots = Vec::new(self.alloc);
         let at = Stacked {
             service,
             kind,
             home: survey.reached.first().copied(),
         };
+        self.add_beside(&mut found.table, at, name, &survey)?;
+        let mut spots = Vec::new(self.alloc);
         let way = self.look(&mut spots, &mut found.asked, at, name, survey)?;
         put_stack_at_all(&mut found.table, &spots, service, kind)?;
         Ok(way)
