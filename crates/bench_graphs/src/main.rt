@@ -69,7 +69,10 @@ fn main(rt: HostRuntime) -> Result<(), Error> {
     let followed = follow(alloc, &graph, words[1].as_str().parse()?)?;
     println!(rt;
         "{} nodes, {} decisions, {} walks followed, {} steps",
-        graph.nodes().len(), decisions, followed.walks, followed.steps
+        graph.nodes().len(),
+        decisions,
+        followed.walks,
+        followed.steps
     )?;
     Ok(())
 }

@@ -151,7 +151,9 @@ read-agree rest level d states l low read =
       | inl k ↦
           get_or-take d (read_states 0 rest states) l start_state k
           ∙ elim (cases_lt l (length states)) [
-            | inl m ↦ read_states-at 0 rest states l m ∙ ap (λ (b : Bool). cond b (get_or states l start_state) start_state) (ap (λ n. is_read n rest) (omega arith) ∙ read)
+            | inl m ↦
+                read_states-at 0 rest states l m
+                ∙ ap (λ (b : Bool). cond b (get_or states l start_state) start_state) (ap (λ n. is_read n rest) (omega arith) ∙ read)
             | inr m ↦ get_or_past (read_states 0 rest states) l start_state (omega (arith, long, m)) ∙ sym (get_or_past states l start_state m)
           ]
           ∙ sym (get_or-take d states l start_state k)
@@ -178,7 +180,8 @@ pub read_states-by : (rest : List FlatItem) (states kept : List State) → lengt
     ((l : ℕ) → l < length states → get_or kept l start_state ≡ cond (is_read l rest) (get_or states l start_state) start_state) →
     kept ≡ read_states 0 rest states
 unfolding read_states
-read_states-by rest states kept long h = from 0 states kept long (λ l k. h l k ∙ ap (λ (n : ℕ). cond (is_read n rest) (get_or states l start_state) start_state) (omega arith))
+read_states-by rest states kept long h =
+    from 0 states kept long (λ l k. h l k ∙ ap (λ (n : ℕ). cond (is_read n rest) (get_or states l start_state) start_state) (omega arith))
   where
     from : (level : ℕ) (states kept : List State) → length kept ≡ length states →
         ((l : ℕ) → l < length states → get_or kept l start_state ≡ cond (is_read (level + l) rest) (get_or states l start_state) start_state) →

@@ -38,7 +38,10 @@ level-bounded (Substack here) h = omega (arith, h)
 -- nothing is read after the end
 pub levels-end : (levels : List Bool) → levels ≡ replicate 16 false → AreReadLevels [] levels
 unfolding is_read
-levels-end levels is = record { long = ap (λ (l : List Bool). length l) is; each = λ level low. ap (λ (l : List Bool). get_or l level false) is ∙ none level 16 }
+levels-end levels is = record {
+  long = ap (λ (l : List Bool). length l) is;
+  each = λ level low. ap (λ (l : List Bool). get_or l level false) is ∙ none level 16;
+}
   where
     none : (level n : ℕ) → get_or (replicate n false) level false ≡ false
     none level zero = refl
@@ -54,25 +57,25 @@ unfolding is_read
 levels-item item rest after levels own read bounded long low high is = record {
   long = length-set levels here own ∙ long ∙ read.long;
   each = λ n small. elim (cases_lt here n) [
-      | inl above ↦
-          get_or-set_other levels here n own false (λ e. omega (arith, above, e)) ∙ high n above small
-          ∙ sym (cond-true (ltb here n) false _ (lt-ltb here n above))
-      | inr below ↦ elim (cases_lt n here) [
-          | inl under ↦
-              get_or-set_other levels here n own false (λ e. omega (arith, under, e)) ∙ low n below ∙ read.each n small
-              ∙ ap (λ (b : Bool). b || is_read n rest) (sym (and_left (eqb here n) (resets item) (ne_eqb here n (λ e. omega (arith, under, e)))))
-              ∙ sym (cond-false (ltb here n) false _ (le-ltb here n below))
-          | inr over ↦
-              let same : n ≡ here = omega (arith, below, over) in
-              let fits : here < length levels = omega (arith, long, read.long, bounded) in
-              ap (λ (k : ℕ). get_or (slice_set levels here own) k false) same
-              ∙ get_or-set_same levels here own false fits
-              ∙ is ∙ ap (λ (b : Bool). resets item || b) (low here (omega arith) ∙ read.each here bounded)
-              ∙ ap (λ (b : Bool). (b && resets item) || is_read here rest) (sym (eq-eqb here here refl))
-              ∙ sym (cond-false (ltb here here) false _ (le-ltb here here (omega arith)))
-              ∙ ap (λ (k : ℕ). is_read k (item ∷ rest)) (sym same)
-        ]
-    ];
+    | inl above ↦
+        get_or-set_other levels here n own false (λ e. omega (arith, above, e)) ∙ high n above small
+        ∙ sym (cond-true (ltb here n) false _ (lt-ltb here n above))
+    | inr below ↦ elim (cases_lt n here) [
+      | inl under ↦
+          get_or-set_other levels here n own false (λ e. omega (arith, under, e)) ∙ low n below ∙ read.each n small
+          ∙ ap (λ (b : Bool). b || is_read n rest) (sym (and_left (eqb here n) (resets item) (ne_eqb here n (λ e. omega (arith, under, e)))))
+          ∙ sym (cond-false (ltb here n) false _ (le-ltb here n below))
+      | inr over ↦
+          let same : n ≡ here = omega (arith, below, over) in
+          let fits : here < length levels = omega (arith, long, read.long, bounded) in
+          ap (λ (k : ℕ). get_or (slice_set levels here own) k false) same
+          ∙ get_or-set_same levels here own false fits
+          ∙ is ∙ ap (λ (b : Bool). resets item || b) (low here (omega arith) ∙ read.each here bounded)
+          ∙ ap (λ (b : Bool). (b && resets item) || is_read here rest) (sym (eq-eqb here here refl))
+          ∙ sym (cond-false (ltb here here) false _ (le-ltb here here (omega arith)))
+          ∙ ap (λ (k : ℕ). is_read k (item ∷ rest)) (sym same)
+    ]
+  ];
 }
   where
     here : ℕ

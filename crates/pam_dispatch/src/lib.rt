@@ -14,6 +14,7 @@ mod place;
 mod place_table;
 mod program;
 mod read_levels;
+mod representative;
 mod seek;
 mod settled;
 mod state;

@@ -8,7 +8,6 @@ ghost use Rattle.pam_conf.specs.Stack.{Items, module_at, module_count};
 ghost use Rattle.pam_conf.specs.declared.stack.TheConstants.{MAX_MODULES};
 ghost use Rattle.pam_dispatch.specs.Decision.{decision_of};
 ghost use Rattle.pam_dispatch.specs.Flat.{AreOutermost, IsBounded, IsPlaceOf, control_at, controls_in, modules_of, positions_from, resume, rest_of, runs_of};
-ghost use Rattle.pam_dispatch.specs.Representatives.{AreEqualRests, representative_of};
 ghost use Rattle.pam_dispatch.specs.Runs.{AsksRise, Assignment, after_answer, answers_of, asked_by, asked_module, final_state, next_ask, outcome_in, state_in};
 ghost use Rattle.pam_dispatch.specs.Settled.{IsSettled};
 ghost use Rattle.pam_dispatch.specs.Tree.{decided, runs_of_stack};
@@ -34,7 +33,7 @@ use std::marker::Model;
 /// The program of a stack: its items as a flat list.
 #[derive(Debug, Drop)]
 pub struct Program {
-    flat_items: Vec<FlatItem>,
+    pub(crate) flat_items: Vec<FlatItem>,
     /// The indices of the modules in `items`, in the order of their numbers.
     positions: Vec<usize>,
     /// The parts of the modules' controls, in the same order.
@@ -44,7 +43,7 @@ pub struct Program {
     /// The index in `items` from which on no answer changes a failed stack.
     harmless_from: usize,
     /// The levels of the lists whose entry states a reset can still read, from each index in `items` on, the last index first.
-    read_levels: Vec<ReadLevels>,
+    pub(crate) read_levels: Vec<ReadLevels>,
 }
 
 impl Model for Program {
@@ -264,20 +263,6 @@ impl Program {
         };
         seek(&self.flat_items, self.outermost_from, &mut place, 0, 0);
         place
-    }
-
-    /// The place that represents all those which differ from `place` only in entry states that no reset can still read. The rest
-    /// of a run from it on is equal.
-    pub fn representative(&self, place: &Place) -> Place
-        requires { IsPlaceOf self.now place.now }
-        ensures representative { result ≡ representative_of self.now place.now }
-        ensures place { IsPlaceOf self.now result }
-        ensures rests { AreEqualRests (rest_of self.now result) (rest_of self.now place.now) }
-    {
-        let left = self.flat_items.len().saturating_sub(place.position);
-        let mut representative = *place;
-        representative.entered = place.entered.at_levels(&self.read_levels[left]);
-        representative
     }
 
     /// The module asked at `place`.

@@ -22,12 +22,8 @@ fn is_reset(action: Action) -> bool
 {
     match action {
         Action::Reset => true,
-        Action::Ignore
-        | Action::Ok
-        | Action::Done
-        | Action::Bad
-        | Action::Die
-        | Action::Jump(_) => false,
+        Action::Ignore | Action::Ok | Action::Done | Action::Bad | Action::Die | Action::Jump(_) =>
+            false,
     }
 }
 
@@ -73,10 +69,7 @@ fn levels_from(flat_item: &FlatItem, after: &ReadLevels) -> ReadLevels
 }
 
 /// The levels from each position on, the last position first, which is the end.
-pub(crate) fn read_table(
-    alloc: Global,
-    flat_items: &[FlatItem],
-) -> Result<Vec<ReadLevels>, Memory>
+pub(crate) fn read_table(alloc: Global, flat_items: &[FlatItem]) -> Result<Vec<ReadLevels>, Memory>
     requires { All IsBounded flat_items.now }
     ensures { IfOk result (λ table. IsReadTable flat_items.now table.items) }
 {

@@ -152,9 +152,12 @@ impl Search<'_> {
     {
         while let Some(frame) = frames.pop() {
             let node = &self.nodes[frame.node];
-            if let Some(found) =
-                self.edge_from(frame.is_met, frame.module_number, &node.edges, frame.next)
-            {
+            if let Some(found) = self.edge_from(
+                frame.is_met,
+                frame.module_number,
+                &node.edges,
+                frame.next,
+            ) {
                 frames.push(frame.following(&found));
                 return Some(Way {
                     target: found.target,

@@ -12,7 +12,9 @@ returns c rest read =
     let levels = c.loop-level.levels in
     let at : c.level-here.result ≡ level_of item = c.level-here.ensures in
     let own : c.if-resets.is_read ≡ (resets item || get_or levels (level_of item) false) = elim c.if-resets.branch [
-      | then-resets w ↦ w.is_read-is ∙ w.if-resets.true ∙ ap (λ (b : Bool). b || get_or levels (level_of item) false) (sym (sym c.resets.ensures ∙ w.if-resets.true))
+      | then-resets w ↦
+          w.is_read-is ∙ w.if-resets.true
+          ∙ ap (λ (b : Bool). b || get_or levels (level_of item) false) (sym (sym c.resets.ensures ∙ w.if-resets.true))
       | else-resets w ↦
           w.is_read-is ∙ ap (λ (h : ℕ). get_or levels h false) at
           ∙ ap (λ (b : Bool). b || get_or levels (level_of item) false) (sym (sym c.resets.ensures ∙ w.if-resets.false))

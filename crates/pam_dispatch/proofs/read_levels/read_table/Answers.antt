@@ -35,7 +35,8 @@ loop-position-preserved c =
     let here : drop at ts ≡ e ∷ drop c.loop-position.position ts =
     at_index ts at e e (omega (arith, i.within, within)) (sym c.index-flat_items-position.is) ∙ ap (λ (n : ℕ). e ∷ drop n ts) within in
     let last : AreReadLevels (drop at ts) c.levels_from-levels.result =
-    subst (λ (x : List FlatItem). AreReadLevels x c.levels_from-levels.result) (sym here) (c.levels_from-levels.ensures (drop c.loop-position.position ts) i.last) in
+    subst (λ (x : List FlatItem). AreReadLevels x c.levels_from-levels.result) (sym here)
+    (c.levels_from-levels.ensures (drop c.loop-position.position ts) i.last) in
     let table = c.in_ok-push-2.ensures.items in
     record {
       within = omega (arith, i.within, within);

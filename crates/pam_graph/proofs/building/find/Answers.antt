@@ -9,8 +9,8 @@ use Rattle.pam_graph.proofs.building.find.Goals as goal
 
 pub returns-clause-found : goal.returns-clause-found
 returns-clause-found c =
-    subst (λ (k : PlaceKey). IfSome c.find.result (λ index. slice_get c.args.places.now index ≡ Some k)) (ap key_of c.representative-representative.ensures.representative)
-    c.find.ensures.found
+    subst (λ (k : PlaceKey). IfSome c.find.result (λ index. slice_get c.args.places.now index ≡ Some k))
+    (ap key_of c.representative-representative.ensures.representative) c.find.ensures.found
 
 pub returns-clause-none : goal.returns-clause-none
 returns-clause-none c =

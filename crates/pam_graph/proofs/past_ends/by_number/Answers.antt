@@ -30,14 +30,14 @@ loop-index-preserved c =
     let x = c.index-found-index.result in
     record {
       before = λ n k. elim (cases_lt n i) [
-          | inl m ↦ get_or-set_other c.loop-index.codes i n x [] (λ e. omega (arith, m, e)) ∙ inv.before n m
-          | inr m ↦
-              let same : n ≡ i = omega (arith, k, m) in
-              ap (λ (j : ℕ). get_or (slice_set c.loop-index.codes i x) j []) same
-              ∙ get_or-set_same c.loop-index.codes i x [] low
-              ∙ (c.index-found-index.is ∙ get_or_default found i x [] l)
-              ∙ ap (λ (j : ℕ). get_or found j []) (sym same)
-        ];
+        | inl m ↦ get_or-set_other c.loop-index.codes i n x [] (λ e. omega (arith, m, e)) ∙ inv.before n m
+        | inr m ↦
+            let same : n ≡ i = omega (arith, k, m) in
+            ap (λ (j : ℕ). get_or (slice_set c.loop-index.codes i x) j []) same
+            ∙ get_or-set_same c.loop-index.codes i x [] low
+            ∙ (c.index-found-index.is ∙ get_or_default found i x [] l)
+            ∙ ap (λ (j : ℕ). get_or found j []) (sym same)
+      ];
       after = λ n k. get_or-set_other c.loop-index.codes i n x [] (λ e. omega (arith, k, e)) ∙ inv.after n (omega (arith, k));
       long = length-set c.loop-index.codes i x ∙ inv.long;
     }

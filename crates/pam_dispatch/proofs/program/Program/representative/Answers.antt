@@ -31,7 +31,8 @@ returns-clause-representative c =
     (states ∙ ap (λ (ts : List FlatItem). read_states 0 (drop place.position ts) place.entered.states) c.self.view_is)
 
 pub returns-clause-place : goal.returns-clause-place
-returns-clause-place c = subst (IsPlaceOf c.args.self.now) (sym (returns-clause-representative c)) (representative-place c.args.self.now c.args.place.now c.requires)
+returns-clause-place c =
+    subst (IsPlaceOf c.args.self.now) (sym (returns-clause-representative c)) (representative-place c.args.self.now c.args.place.now c.requires)
 
 pub returns-clause-rests : goal.returns-clause-rests
 returns-clause-rests c =
