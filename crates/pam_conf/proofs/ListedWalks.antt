@@ -73,7 +73,8 @@ module _ (folder : Folder) (kind : Kind) where
     rule-same : (rule : RuleText) → Unfailed (rule_walk folder (good_at folder) kind None d trail file rule).events →
         items_listed (rule_walk folder (good_at folder) kind None d trail file rule).items ≡ map listed_item (rule_listed folder kind l includes file rule)
     rule-same rule h =
-        ap (λ (t : Bool). items_listed (cond t (body_walk folder (good_at folder) kind None d trail file rule rule.body) nothing).items) (and-true (is_of_kind kind rule))
+        ap (λ (t : Bool). items_listed (cond t (body_walk folder (good_at folder) kind None d trail file rule rule.body) nothing).items)
+        (and-true (is_of_kind kind rule))
         ∙ by (is_of_kind kind rule) (counted h)
       where
         body : Walk

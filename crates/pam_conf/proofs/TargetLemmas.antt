@@ -18,6 +18,6 @@ text_names name text = list_any (names_target name) text.rules
 pub target-read : (folder : Folder) (name : List ℕ) (files : List FileRules) → map file_view files ≡ files_read folder →
     list_any (λ f. text_names name (file_view f)) files ≡ is_target folder name
 target-read folder name files read =
-    (let back : list_any (λ f. text_names name (file_view f)) files ≡ list_any (text_names name) (map file_view files) = sym (any-map (text_names name) file_view files) in back)
+    sym (any-map (text_names name) file_view files)
     ∙ ap (list_any (text_names name)) read
     ∙ any-map (text_names name) (file_text folder.form) folder.entries

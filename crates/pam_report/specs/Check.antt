@@ -1,17 +1,21 @@
 -- The reply of `check`: what is wrong with the host.
-use Rattle.std.specs.Prelude.{◌≡◌, ◌≢◌, ⊤, ℕ, List, [], Result, Ok, Err, unwrap_or}
+use Rattle.std.specs.Prelude.{◌≡◌, ◌≢◌, ◌<◌, ⊤, ℕ, All, List, [], length, Result, Ok, Err, unwrap_or}
 use Rattle.std.specs.BTreeMap.{BTreeMap}
 use Rattle.std.specs.Option.{option_copied}
 use Rattle.pam_accept.specs.Lines.{Accepted, accepted_lines}
 use Rattle.pam_accept.specs.declared.error.AcceptError.{AcceptError}
 use Rattle.pam_accept.specs.declared.error.AcceptFault.TheVariants as accept_faults
 use Rattle.pam_conf.specs.Files.{Folder}
+use Rattle.pam_conf.specs.declared.rule.Kind.{Kind}
 use Rattle.pam_facts.specs.Reading.{known_rows}
 use Rattle.pam_facts.specs.Rows.{Row}
 use Rattle.pam_facts.specs.declared.error.FactsError.{FactsError}
 use Rattle.pam_facts.specs.declared.error.FactsFault.TheVariants as facts_faults
-use Rattle.pam_host.specs.Report.{IsReport}
+use Rattle.pam_host.specs.Laws.{IsSoundStack}
+use Rattle.pam_host.specs.Levels.{level_of}
+use Rattle.pam_host.specs.Report.{IsReport, host_of}
 use Rattle.pam_host.specs.Services.{checked_services}
+use Rattle.pam_host.specs.declared.level.Level.TheVariants.{Note}
 use Rattle.pam_host.specs.declared.problem.Place.{Place}
 use Rattle.pam_host.specs.declared.report.Finding.{Finding}
 use Rattle.pam_host.specs.declared.report.HostReport.{HostReport}
@@ -38,6 +42,9 @@ module _ (services : List (List ℕ)) (fail_on : LevelName) (named : CheckFiles)
     pub report : IsReport files services facts (there_given inputs) all value.ways_in
     pub not_accepted : value.found ≡ not_accepted lines files value.services all.entries
     pub unused : value.unused ≡ unused_lines lines files value.services all.entries
+    -- where no line accepts a finding, and all that are listed are notes, each stack that is checked is sound
+    pub silence : lines ≡ [] → All (λ entry. level_of entry.1.problem ≡ Note) value.found → (service : ℕ) (kind : Kind) → service < length value.services →
+        IsSoundStack (host_of files services facts (there_given inputs)) service kind
 
   -- a fault of the facts file comes before one of the accept file
   abbrev pub IsChecked : Result (List Row) FactsError → Result (List Accepted) AcceptError → Answer → Type 0

@@ -35,7 +35,9 @@ pub fn problem_name(problem: Problem) -> &'static str
         Problem::NoOther => "S6 NoOther",
         Problem::UnreachableName => "S7 UnreachableName",
         Problem::TooLarge { .. } => "S9 TooLarge",
+        Problem::OtherAnswers { .. } => "S10 OtherAnswers",
         Problem::LeftOver => "S11 LeftOver",
+        Problem::JumpIntoInclude => "S12 JumpIntoInclude",
         Problem::NoFunction => "S13 NoFunction",
         Problem::CallerIsRoot => "S14 CallerIsRoot",
     }
@@ -46,9 +48,9 @@ pub fn stack_of(problem: Problem) -> Option<(usize, Kind)>
     ensures { result ≡ spec.stack_of problem }
 {
     match problem {
-        Problem::LetsNobodyIn { service, kind } | Problem::TooLarge { service, kind } => Some((
-            service, kind,
-        )),
+        Problem::LetsNobodyIn { service, kind }
+        | Problem::TooLarge { service, kind }
+        | Problem::OtherAnswers { service, kind } => Some((service, kind)),
         Problem::LetsAnybodyIn { service } => Some((service, Kind::Auth)),
         _ => None,
     }

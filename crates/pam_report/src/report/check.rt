@@ -18,6 +18,7 @@ use crate::inputs::Inputs;
 use pam_accept::AcceptFile;
 use pam_conf::{Files, Form};
 use pam_facts::Facts;
+use pam_host::laws::a_silent_host_is_sound;
 use pam_host::{Finding, HostReport, Level, Place};
 use pam_text::Texts;
 use pam_words::{CheckFiles, LevelName};
@@ -130,6 +131,7 @@ pub(super) fn checked<'a>(
     ensures answer { Finds result (IsCheck asked.entry.services.now asked.entry.fail_on asked.entry.given.now files.now inputs.now) }
     ensures wants { WantsOnly (of_stack true) result }
 {
+    a_silent_host_is_sound();
     let report = report(alloc, asked.services, files, inputs)?;
     let accept = accepted(alloc, inputs)?;
     let Ok(listed) = list_findings(alloc, files, &report, &accept) else {

@@ -1,5 +1,6 @@
 use Rattle.std.proofs.Common.{refl}
 use Rattle.pam_report.proofs.CheckAnswers.{check-of}
+use Rattle.pam_report.proofs.SilentChecks.{silent-check}
 use Rattle.pam_report.proofs.report.check.checked.Goals as goal
 
 pub returns-clause-answer : goal.returns-clause-answer
@@ -18,4 +19,6 @@ returns-clause-answer c =
       report = reported.is_report;
       not_accepted = listed.found;
       unused = listed.unused;
+      silence = silent-check c.a_silent_host_is_sound.ensures c.args.files.now c.args.asked.services.now reported.facts _ c.in_ok-report.report.found
+          c.in_ok-report.report.ways_in.items reported.is_report c.in_ok-report.report.services reported.are_services _ _ listed.found;
     }
