@@ -81,15 +81,6 @@ def item_lines(items, indentation):
             yield indentation + b" ".join(words) + b"\n"
 
 
-def class_text(codes):
-    """A class of codes as it is printed."""
-    if len(codes) == 31:
-        return b"any"
-    if len(codes) >= 16:
-        return b"but:" + b",".join(code for code in stacks.CODES if code not in codes)
-    return b",".join(codes)
-
-
 def cursor_text(key):
     """The text of a cursor."""
     return b".".join(b"%d" % number for number in key) or b"-"
@@ -104,7 +95,7 @@ def outcome_line(decision, count, steps, modules):
     """The line of a decision, with the first of its paths."""
     text = b"%s %s ways, first %s" % (decision, count_text(count), cursor_text(stacks.key_of(steps)))
     names = [word_text(modules[number - 1].path.rpartition(b"/")[2]) for number, _ in steps]
-    answers = [b" %s %s" % (name, class_text(codes)) for name, (_, codes) in zip(names, steps)]
+    answers = [b" %s %s" % (name, stacks.class_text(codes)) for name, (_, codes) in zip(names, steps)]
     return text + b":" * bool(steps) + b",".join(answers) + b"\n"
 
 
@@ -305,7 +296,7 @@ class Request:
         text = b""
         for steps, decision in printed[:limit]:
             text += b"%s %s" % (cursor_text(stacks.key_of(steps)), decision)
-            text += b"".join(b" %d=%s" % (number, class_text(codes)) for number, codes in steps) + b"\n"
+            text += b"".join(b" %d=%s" % (number, stacks.class_text(codes)) for number, codes in steps) + b"\n"
         if not more:
             return text + b"end %d paths\n" % len(printed)
         last = cursor_text(stacks.key_of(printed[limit - 1][0]))

@@ -61,26 +61,17 @@ class Graph:
         return [code for number, code in enumerate(stacks.CODES) if b"d%d" % number in targets]
 
 
-def plain(text):
-    """A text in printable ASCII."""
-    return b"".join(b"\\\\" if byte == 92 else bytes([byte]) if 32 <= byte <= 126 else b"\\x%02x" % byte for byte in text)
-
-
 def dot_label(text):
-    return re.sub(rb'["\\]', lambda found: b"\\" + found[0], plain(text).replace(b"&", b"&amp;"))
+    return re.sub(rb'["\\]', lambda found: b"\\" + found[0], pictures.plain(text).replace(b"&", b"&amp;"))
 
 
 def mermaid_label(text):
-    return re.sub(rb"[^A-Za-z0-9 _\-+=,.:]", lambda found: b"#%d;" % ord(found[0]), plain(text))
+    return re.sub(rb"[^A-Za-z0-9 _\-+=,.:]", lambda found: b"#%d;" % ord(found[0]), pictures.plain(text))
 
 
 def class_text(codes):
     """A class of codes; empty for all."""
-    if len(codes) == 31:
-        return b""
-    if len(codes) >= 16:
-        return b"but:" + b",".join(code for code in stacks.CODES if code not in codes)
-    return b",".join(codes)
+    return b"" if len(codes) == 31 else stacks.class_text(codes)
 
 
 def dot(graph, title, names):
@@ -130,5 +121,5 @@ def drawing(language, service, kind, items, modules, allowed):
     names = [module.path.rpartition(b"/")[2] for module in modules]
     graph, title = Graph(items, allowed), b"%s %s" % (service, kind)
     if language == b"svg":
-        return b"".join(pictures.picture(graph, title, names, modules))
+        return b"".join(pictures.picture(graph, title, names, modules, items))
     return b"".join(FORMATS[language](graph, title, names))

@@ -21,15 +21,6 @@ def plain(text):
     return b"".join(b"\\\\" if byte == 92 else bytes([byte]) if 32 <= byte <= 126 else b"\\x%02x" % byte for byte in text)
 
 
-def class_text(codes):
-    """A class of codes."""
-    if len(codes) == 31:
-        return b"any"
-    if len(codes) >= 16:
-        return b"but:" + b",".join(code for code in stacks.CODES if code not in codes)
-    return b",".join(codes)
-
-
 def label(codes, edges, notes):
     """The label of a class of a node with these edges; `notes` gets each class that needs a note."""
     if len(codes) == 31:
@@ -37,7 +28,7 @@ def label(codes, edges, notes):
     if len(codes) >= 16:
         return b"else" if len(edges) > 1 else b""
     if len(codes) <= 2:
-        return class_text(codes)
+        return stacks.class_text(codes)
     if codes not in notes:
         notes.append(codes)
     return b"%s +%d (%d)" % (codes[0], len(codes) - 1, notes.index(codes) + 1)
@@ -64,11 +55,27 @@ def drawn_edges(graph, names, notes):
     for index, (_, _, edges) in enumerate(graph.nodes):
         start = b"n%d" % index
         for codes, target in edges:
-            told = b"%s: %s to %s" % (words_of(graph, names, start), class_text(codes), words_of(graph, names, target))
+            told = b"%s: %s to %s" % (words_of(graph, names, start), stacks.class_text(codes), words_of(graph, names, target))
             yield start, target, told, label(codes, edges, notes)
 
 
-def picture(graph, title, names, modules):
+def numbers_of(items):
+    """The numbers of the modules of a list of items, and of its substacks."""
+    for item in items:
+        yield from numbers_of(item.items) if isinstance(item, stacks.Substack) else [item.number]
+
+
+def spans(items):
+    """The numbers of the first and last module of each substack that has one, those within it before it."""
+    for item in items:
+        if isinstance(item, stacks.Substack):
+            yield from spans(item.items)
+            numbers = list(numbers_of(item.items))
+            if numbers:
+                yield numbers[0], numbers[-1]
+
+
+def picture(graph, title, names, modules, items):
     """The lines of what a picture shows."""
     if len(graph.nodes) > MOST_NODES:
         raise Fault("E19")
@@ -78,6 +85,7 @@ def picture(graph, title, names, modules):
     yield from (b"told %s.\n" % told for _, _, told, _ in edges)
     asked = {number for number, _, _ in graph.nodes}
     yield from (heading(module, name, module.number in asked) for module, name in zip(modules, names))
+    yield from (b"substack %d %d\n" % span for span in spans(items))
     yield from (b"edge %s %s | %s | %s\n" % edge for edge in edges)
     for index, (_, state, edges) in enumerate(graph.nodes):
         target = b"n%d" % index
@@ -86,7 +94,7 @@ def picture(graph, title, names, modules):
     for code in graph.ends():
         yield b"end d%d %s %s\n" % (stacks.CODES.index(code), b"round" if code == b"success" else b"square", code)
     yield b"start %s\n%s\n" % (graph.start, FOOT.encode())
-    yield from (b"(%d) %s\n" % (number + 1, class_text(codes)) for number, codes in enumerate(notes))
+    yield from (b"(%d) %s\n" % (number + 1, stacks.class_text(codes)) for number, codes in enumerate(notes))
 
 
 class Broken(Exception):
@@ -164,6 +172,13 @@ class Reader:
         self.columns.append(x)
         return "column %s | %s" % (shape.find(SPACE + "title").text, " | ".join(rows))
 
+    def bracket(self):
+        """Takes a bracket, and says which columns are below it."""
+        found = re.fullmatch(r"M(\d+) \d+v-6H(\d+)v6", self.next("path").get("d"))
+        expect(found, "no bracket")
+        below = [number + 1 for number, x in enumerate(self.columns) if int(found[1]) <= x <= int(found[2])]
+        return "substack %d %d" % (below[0], below[-1])
+
     def edge(self):
         shape = self.next("g")
         self.lines.append((shape.get("data-from"), shape.get("data-to"), ends_of_line(shape.find(SPACE + "path").get("d"))))
@@ -206,6 +221,8 @@ class Reader:
             self.lane()
         while self.comes("g") and self.shapes[0].get("class") is None and self.shapes[0].get("id") is None:
             yield self.column()
+        while self.comes("path", **{"class": "bracket"}):
+            yield self.bracket()
         while self.comes("g", **{"class": "edge"}):
             yield self.edge()
         while self.comes("g") and self.shapes[0].get("class"):

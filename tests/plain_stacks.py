@@ -148,6 +148,15 @@ def action_text(action):
     return action if isinstance(action, bytes) else b"%d" % action
 
 
+def class_text(codes):
+    """A class of codes as it is printed."""
+    if len(codes) == 31:
+        return b"any"
+    if len(codes) >= 16:
+        return b"but:" + b",".join(code for code in CODES if code not in codes)
+    return b",".join(codes)
+
+
 @lru_cache(None)
 def control_text(control):
     """The written text of a control."""

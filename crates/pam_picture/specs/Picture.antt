@@ -25,6 +25,7 @@ use Rattle.pam_picture.specs.Places.{column_at, control_at, end_at, point_at, po
 use Rattle.pam_picture.specs.declared.heading.TheConstants.{CUT_NAME, MAX_NAME}
 use Rattle.pam_picture.specs.declared.layout.Layout.{Layout}
 use Rattle.pam_picture.specs.declared.layout.shapes.Bend.{Bend}
+use Rattle.pam_picture.specs.declared.layout.shapes.Bracket.{Bracket}
 use Rattle.pam_picture.specs.declared.layout.shapes.Lane.{Lane}
 use Rattle.pam_picture.specs.declared.layout.shapes.Note.{Note}
 
@@ -121,6 +122,16 @@ column_text items nodes layout index = option_map_or (rule_heading nodes layout 
 -- a column for each module
 abbrev pub columns_text : Items → List Node → Layout → List ℕ
 columns_text items nodes layout = flat_map (column_text items nodes layout) (range_with_len 0 (module_count items))
+
+-- a bracket over the columns of a substack
+unfoldable pub bracket_text : Bracket → List ℕ
+bracket_text bracket =
+    concat
+    (codes "<path class=\"bracket\" d=\"M" ∷ decimal bracket.left ∷ codes " " ∷ decimal bracket.height ∷ codes "v-6H" ∷ decimal bracket.right
+    ∷ codes "v6\"/>\n" ∷ [])
+
+abbrev pub brackets_text : Layout → List ℕ
+brackets_text layout = flat_map bracket_text layout.brackets.items
 
 -- ---- edges
 
@@ -221,11 +232,11 @@ abbrev pub style_text : List ℕ
 style_text =
     codes "</desc>\n<style>\n"
     ++ codes "text{font-family:sans-serif;font-size:12px;fill:#111}.strong{font-weight:bold}.weak{fill:#444}.edge text{font-size:11px}"
-    ++ codes ".paper{fill:#fff}.lane{stroke:#bbb}.guide{stroke:#ccc;stroke-dasharray:2 3}\n"
+    ++ codes ".paper{fill:#fff}.lane{stroke:#bbb}.guide{stroke:#ccc;stroke-dasharray:2 3}.bracket{fill:none;stroke:#444}\n"
     ++ codes ".edge path{fill:none;stroke:#111;stroke-width:1.5}.undef,.negative,.success,.failure{fill:#fff;stroke:#111;stroke-width:2}"
     ++ codes ".positive,.arrow{fill:#111}.success{stroke-width:4}\n"
     ++ codes ".edge:hover path{stroke-width:3}@media (prefers-color-scheme:dark){text{fill:#eee}.weak{fill:#bbb}"
-    ++ codes ".paper{fill:#161616}.lane{stroke:#555}.guide{stroke:#444}.edge path{stroke:#eee}\n"
+    ++ codes ".paper{fill:#161616}.lane{stroke:#555}.guide{stroke:#444}.bracket{stroke:#bbb}.edge path{stroke:#eee}\n"
     ++ codes ".undef,.negative,.success,.failure{fill:#161616;stroke:#eee}.positive,.arrow{fill:#eee}}\n</style>\n"
 
 unfoldable pub heading_text : List ℕ → Layout → List ℕ
@@ -256,6 +267,6 @@ notes_text layout = flat_map note_text layout.notes.items
 unfoldable pub svg_text : List ℕ → Items → GraphValue → Layout → List ℕ
 svg_text title items graph layout =
     opening_text title layout ++ sentences_text items graph.nodes ++ style_text ++ heading_text title layout
-    ++ lanes_text layout ++ columns_text items graph.nodes layout ++ edges_text items graph.nodes layout
+    ++ lanes_text layout ++ columns_text items graph.nodes layout ++ brackets_text layout ++ edges_text items graph.nodes layout
     ++ nodes_text items graph.nodes layout ++ ends_text layout graph ++ start_text layout graph.start ++ foot_text layout.foot
     ++ notes_text layout ++ codes "</svg>\n"

@@ -4,11 +4,11 @@ ghost use Rattle.std.specs.Prelude.{◌≡◌, ◌<◌, ◌≤◌};
 ghost use Rattle.std.specs.List.{flat_map, list_any, range_with_len};
 ghost use Rattle.pam_codes.specs.Out.{Writes};
 ghost use Rattle.pam_conf.specs.declared.stack.TheConstants.{MAX_MODULES};
-ghost use Rattle.pam_picture.specs.Picture.{asked_row, asks, column_heading, column_text, columns_text, lane_impression, lane_status, lane_text, lanes_text, name_ending, name_front};
+ghost use Rattle.pam_picture.specs.Picture.{asked_row, asks, bracket_text, brackets_text, column_heading, column_text, columns_text, lane_impression, lane_status, lane_text, lanes_text, name_ending, name_front};
 
 use crate::edge::Sheet;
 use crate::layout::Layout;
-use crate::layout::shapes::Lane;
+use crate::layout::shapes::{Bracket, Lane};
 use crate::mark::{Mark, put_marks};
 use crate::place::{column_at, control_at};
 use pam_codes::{Control, Device, Out};
@@ -148,6 +148,40 @@ pub(crate) fn put_columns<W: Write>(sheet: &Sheet<'_>, out: &mut Out<W>) -> Resu
     ensures { Writes W.contents out.old out.new result (columns_text sheet.now.stack.now sheet.now.nodes.now sheet.now.layout.now) }
 {
     put_each_column(sheet, sheet.stack.modules(), out)
+}
+
+#[tactic(auto, unfolding(crate::specs::Picture::bracket_text))]
+fn put_bracket<W: Write>(bracket: Bracket, out: &mut Out<W>) -> Result<(), Device>
+    ensures { Writes W.contents out.old out.new result (bracket_text bracket) }
+{
+    put_marks(
+        &[
+            Mark::Plain(b"<path class=\"bracket\" d=\"M"),
+            Mark::Number(bracket.left),
+            Mark::Plain(b" "),
+            Mark::Number(bracket.height),
+            Mark::Plain(b"v-6H"),
+            Mark::Number(bracket.right),
+            Mark::Plain(b"v6\"/>\n"),
+        ],
+        out,
+    )
+}
+
+fn put_each_bracket<W: Write>(brackets: &[Bracket], out: &mut Out<W>) -> Result<(), Device>
+    ensures { Writes W.contents out.old out.new result (flat_map bracket_text brackets.now) }
+{
+    for bracket in brackets {
+        put_bracket(*bracket, out)?;
+    }
+    Ok(())
+}
+
+/// Writes the brackets over substacks.
+pub(crate) fn put_brackets<W: Write>(layout: &Layout, out: &mut Out<W>) -> Result<(), Device>
+    ensures { Writes W.contents out.old out.new result (brackets_text layout.now) }
+{
+    put_each_bracket(&layout.brackets, out)
 }
 
 /// Returns the impression of the nodes in a lane.

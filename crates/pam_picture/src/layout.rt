@@ -5,6 +5,7 @@ ghost use Rattle.pam_codes.specs.declared.code.TheConstants.{CODES};
 ghost use Rattle.pam_picture.specs.Layouts.{HasPlaces};
 
 mod aims;
+mod brackets;
 mod controls;
 mod heights;
 mod lanes;
@@ -17,21 +18,26 @@ mod turns;
 mod widths;
 
 use aims::Grid;
+use brackets::{BRACKET, Span, brackets_of, depth_of, spans_of};
 use controls::{ROW_OF_HEADING, controls_of, most_rows};
 use heights::{Heights, all_heights, middle_of};
 use notes::{LINE, all_notes, noted_classes};
-use pam_codes::{CODES, Code};
+use pam_codes::{CODES, Code, CodeSet};
 use pam_conf::Stack;
+use pam_drawing::drawn_ends;
 use pam_graph::Graph;
 use ports::all_ports;
 use routes::Measures;
-use shapes::{EndPlace, Lane, Note, Place, Point};
+use shapes::{Bracket, EndPlace, Lane, Note, Place, Point};
 use std::alloc::{AllocError, Global};
 use table::number_at;
 use turns::all_turns;
-use widths::{Columns, all_gutters, lanes_width, letters};
+use widths::{CHARACTER, Columns, all_gutters, lanes_width, letters, letters_of_class};
 
-/// The height of the first row over the columns.
+/// The height of the outermost brackets.
+const BRACKETS: usize = 42;
+
+/// The height of the first row over the columns, where there are no brackets.
 const HEADINGS: usize = 54;
 
 /// The height of the number, the name and one row over a column.
@@ -54,6 +60,9 @@ const BOX: usize = 24;
 /// The space before the box of an end.
 const ARROW: usize = 12;
 
+/// The characters before the codes of a note: a number of up to three digits, brackets and a blank.
+const NUMBER: usize = 6;
+
 /// The least width of a picture, for the line below it.
 const LEAST: usize = 620;
 
@@ -72,6 +81,7 @@ pub struct Layout {
     pub columns: Vec<usize>,
     /// The control of each module, in order, as it is written.
     pub controls: Vec<Vec<u8>>,
+    pub brackets: Vec<Bracket>,
     pub lanes: Vec<Lane>,
     /// Of the nodes, in their order.
     pub places: Vec<Place>,
@@ -130,21 +140,48 @@ fn ends_of(alloc: Global, measures: &Measures<'_>) -> Result<Vec<EndPlace>, Allo
     Ok(ends)
 }
 
-/// Returns where the widest end has its right edge.
-fn right_of(ends: &[EndPlace]) -> usize {
+/// Returns where the widest of the drawn ends has its right edge.
+fn right_of(ends: &[EndPlace], drawn: CodeSet) -> usize {
     let mut right = 0;
-    for end in ends {
-        right = end.point.x.saturating_add(end.width).max(right);
+    for number in 0..CODES as u8 {
+        if let (Some(decision), Some(end)) = (Code::new(number), ends.get(usize::from(number))) {
+            if drawn.contains(decision) {
+                right = end.point.x.saturating_add(end.width).max(right);
+            }
+        }
     }
     right.saturating_add(ARROW)
 }
 
-/// Where the lanes begin and end, and how many columns there are.
+/// Returns the width of the longest note.
+fn notes_width(classes: &[CodeSet]) -> usize {
+    let mut most = 0;
+    for class in classes {
+        most = letters_of_class(*class).saturating_add(NUMBER).max(most);
+    }
+    most.saturating_mul(CHARACTER)
+}
+
+/// Where the headings begin, where the lanes begin and end, and how many columns there are.
 #[derive(Clone, Copy)]
 struct Area {
+    headings: usize,
     top: usize,
     bottom: usize,
     columns: usize,
+}
+
+/// Returns where the headings are, below brackets as many as are over one another.
+fn headings_below(spans: &[Span]) -> usize {
+    HEADINGS.saturating_add(depth_of(spans).saturating_mul(BRACKET))
+}
+
+/// Returns where the lanes begin, below headings with this many rows.
+fn lanes_below(headings: usize, rows: usize) -> usize {
+    headings
+        .saturating_add(NAMES)
+        .saturating_add(rows.saturating_mul(ROW_OF_HEADING))
+        .saturating_add(ABOVE)
 }
 
 fn layout_by(
@@ -152,26 +189,35 @@ fn layout_by(
     graph: &Graph,
     measures: &Measures<'_>,
     area: Area,
+    spans: &[Span],
     controls: Vec<Vec<u8>>,
 ) -> Result<Layout, AllocError>
     ensures { IfOk result (λ layout. (layout.controls ≡ controls) × (length layout.columns.items ≡ area.columns) × HasPlaces graph.now layout) }
 {
     let columns = columns_of(alloc, measures, area.columns)?;
+    let brackets = brackets_of(alloc, measures, spans, BRACKETS)?;
     let lanes = lanes_of(alloc, measures.heights)?;
     let places = measures.places(alloc, graph.nodes())?;
     let ends = ends_of(alloc, measures)?;
     let foot = area.bottom.saturating_add(LINE);
-    let rows = area.top.saturating_sub(HEADINGS).saturating_sub(ABOVE);
+    let rows = area.top.saturating_sub(area.headings).saturating_sub(ABOVE);
     let notes = all_notes(alloc, measures.noted, foot.saturating_add(LINE))?;
     let lines = notes.len().saturating_add(1).saturating_mul(LINE);
     Ok(Layout {
-        width: right_of(&ends).saturating_add(MARGIN).max(LEAST),
+        width: right_of(&ends, drawn_ends(graph))
+            .max(notes_width(measures.noted).saturating_add(MARGIN))
+            .saturating_add(MARGIN)
+            .max(LEAST),
         height: foot.saturating_add(lines),
-        headings: HEADINGS,
+        headings: area.headings,
         rows,
-        guide: area.bottom.saturating_sub(HEADINGS).saturating_sub(rows),
+        guide: area
+            .bottom
+            .saturating_sub(area.headings)
+            .saturating_sub(rows),
         columns,
         controls,
+        brackets,
         lanes,
         places,
         ends,
@@ -189,14 +235,12 @@ impl Layout {
         ensures { IfOk result (IsLayoutOf stack.now graph.now) }
     {
         let controls = controls_of(alloc, stack)?;
+        let spans = spans_of(alloc, stack.items())?;
         let grid = Grid::of(alloc, graph, stack.modules())?;
         let nodes = graph.nodes();
         let all = all_ports(alloc, &grid, nodes)?;
-        let rows = most_rows(&controls, nodes);
-        let top = HEADINGS
-            .saturating_add(NAMES)
-            .saturating_add(rows.saturating_mul(ROW_OF_HEADING))
-            .saturating_add(ABOVE);
+        let headings = headings_below(&spans);
+        let top = lanes_below(headings, most_rows(&controls, nodes));
         let (heights, bottom) = all_heights(alloc, &grid, &all, top)?;
         let turns = all_turns(alloc, &heights, nodes, &all, grid.last)?;
         let first = MARGIN
@@ -219,10 +263,11 @@ impl Layout {
             noted: &noted,
         };
         let area = Area {
+            headings,
             top,
             bottom,
             columns: stack.modules(),
         };
-        layout_by(alloc, graph, &measures, area, controls)
+        layout_by(alloc, graph, &measures, area, &spans, controls)
     }
 }

@@ -16,5 +16,5 @@ mod place;
 mod stop;
 
 pub use layout::Layout;
-pub use layout::shapes::{Bend, EndPlace, Lane, Note, Place, Point, Route};
+pub use layout::shapes::{Bend, Bracket, EndPlace, Lane, Note, Place, Point, Route};
 pub use picture::write_svg;

@@ -6,7 +6,7 @@ ghost use Rattle.pam_codes.specs.Out.{Writes};
 ghost use Rattle.pam_picture.specs.Picture.{foot_text, heading_text, note_text, notes_text, opening_text, style_text, svg_text};
 
 use crate::edge::{Sheet, put_edges, put_sentences};
-use crate::heading::{put_columns, put_lanes};
+use crate::heading::{put_brackets, put_columns, put_lanes};
 use crate::layout::Layout;
 use crate::layout::shapes::Note;
 use crate::mark::{Mark, put_marks};
@@ -49,13 +49,13 @@ fn put_style<W: Write>(out: &mut Out<W>) -> Result<(), Device>
         b"</desc>\n<style>\n\
         text{font-family:sans-serif;font-size:12px;fill:#111}\
         .strong{font-weight:bold}.weak{fill:#444}.edge text{font-size:11px}\
-        .paper{fill:#fff}.lane{stroke:#bbb}.guide{stroke:#ccc;stroke-dasharray:2 3}\n\
+        .paper{fill:#fff}.lane{stroke:#bbb}.guide{stroke:#ccc;stroke-dasharray:2 3}.bracket{fill:none;stroke:#444}\n\
         .edge path{fill:none;stroke:#111;stroke-width:1.5}\
         .undef,.negative,.success,.failure{fill:#fff;stroke:#111;stroke-width:2}\
         .positive,.arrow{fill:#111}.success{stroke-width:4}\n\
         .edge:hover path{stroke-width:3}\
         @media (prefers-color-scheme:dark){text{fill:#eee}.weak{fill:#bbb}\
-        .paper{fill:#161616}.lane{stroke:#555}.guide{stroke:#444}.edge path{stroke:#eee}\n\
+        .paper{fill:#161616}.lane{stroke:#555}.guide{stroke:#444}.bracket{stroke:#bbb}.edge path{stroke:#eee}\n\
         .undef,.negative,.success,.failure{fill:#161616;stroke:#eee}.positive,.arrow{fill:#eee}}\n\
         </style>\n",
     )
@@ -154,6 +154,7 @@ pub fn write_svg<W: Write>(
     put_heading(title, layout, out)?;
     put_lanes(layout, out)?;
     put_columns(&sheet, out)?;
+    put_brackets(layout, out)?;
     put_edges(&sheet, out)?;
     put_nodes(&sheet, out)?;
     put_ends(layout, graph, out)?;

@@ -7,6 +7,7 @@ mod files;
 mod halting;
 mod json;
 mod known;
+mod picture;
 mod returns;
 mod rules;
 mod runs;

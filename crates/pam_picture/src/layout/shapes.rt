@@ -49,6 +49,14 @@ pub struct Lane {
     pub middle: usize,
 }
 
+/// A bracket over the columns of a substack.
+#[derive(Clone, Copy, Debug, PartialEq, Eq)]
+pub struct Bracket {
+    pub left: usize,
+    pub right: usize,
+    pub height: usize,
+}
+
 /// Where an end is, and the width of its box.
 #[derive(Clone, Copy, Debug, PartialEq, Eq)]
 pub struct EndPlace {

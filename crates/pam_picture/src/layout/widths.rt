@@ -28,6 +28,12 @@ pub(super) const CURVE: usize = 32;
 /// How far a turn is after the one before it.
 pub(super) const STEP: usize = 6;
 
+/// The characters of `else`, and one.
+const ELSE: usize = 5;
+
+/// The characters of ` +K (M)`, with four digits, and some more.
+const NOTED: usize = 12;
+
 /// The space after a curve, and after a column's name.
 const SPACE: usize = 14;
 
@@ -51,23 +57,27 @@ pub(super) fn letters(code: Option<Code>) -> usize {
     }
 }
 
+/// Returns the number of characters of the text of a class.
+pub(super) fn letters_of_class(class: CodeSet) -> usize {
+    let mut out = Out::new(sink());
+    match class.write_text(&mut out) {
+        Ok(()) => out.taken() as usize,
+        Err(_) => 0,
+    }
+}
+
 /// Returns the width of the label of an edge.
 fn label_width(class: CodeSet) -> usize {
     if class.len() == CODES {
         return 0;
     }
-    let mut characters: usize = 12;
-    if is_else(class) {
-        characters = 5;
+    let characters = if is_else(class) {
+        ELSE
     } else if is_told(class) {
-        let mut out = Out::new(sink());
-        characters = match class.write_text(&mut out) {
-            Ok(()) => out.taken() as usize,
-            Err(_) => 0,
-        };
+        letters_of_class(class)
     } else {
-        characters = characters.saturating_add(letters(class.least()));
-    }
+        letters(class.least()).saturating_add(NOTED)
+    };
     characters.saturating_mul(CHARACTER)
 }
 

@@ -4,6 +4,7 @@ ghost use Rattle.std.specs.Prelude.{◌<◌, ◌-◌, ◌^◌};
 
 use crate::tests::files::put;
 use crate::tests::halting::{End, FULL, FailingOnce, Halting, INTERRUPTED, NOTHING};
+use crate::tests::picture::PICTURE;
 use crate::tests::same::same;
 use pam_codes::Out;
 use pam_conf::{Files, Form};
@@ -103,6 +104,17 @@ flowchart LR
     status: 0,
 };
 
+static DRAWN: Command = Command {
+    words: &[
+        "pamcheck", "graph", "login", "auth", "--dir", "d", "--format", "svg",
+    ],
+    login: b"auth [success=ok default=5] a.so\n",
+    access: None,
+    time: None,
+    text: PICTURE,
+    status: 0,
+};
+
 static ACCESS: Command = Command {
     words: &[
         "pamcheck", "access", "login", "--access", "t", "--user", "bob",
@@ -133,8 +145,10 @@ static TIME: Command = Command {
     status: 1,
 };
 
-fn commands() -> [&'static Command; 7] {
-    [&SHOW, &DECIDE, &PATHS, &OUTCOMES, &GRAPH, &ACCESS, &TIME]
+fn commands() -> [&'static Command; 8] {
+    [
+        &SHOW, &DECIDE, &PATHS, &OUTCOMES, &GRAPH, &DRAWN, &ACCESS, &TIME,
+    ]
 }
 
 pub(crate) fn inputs(alloc: Global, command: &Command) -> Result<Inputs, Fail> {

@@ -6,4 +6,6 @@ use Rattle.std.proofs.Common.{take}
 use Rattle.std.specs.List.{enumerate_from, flat_map}
 
 abbrev pub invariant-loop-index : goal.invariant-loop-index
-invariant-loop-index g l = TookAll g.W.Write.contents l.initial.out l.out (flat_map (node_edges l.sheet.stack.now l.sheet.nodes.now l.sheet.layout.now) (take l.index (enumerate_from 0 l.nodes)))
+invariant-loop-index g l =
+    TookAll g.W.Write.contents l.initial.out l.out (flat_map (node_edges l.sheet.stack.now l.sheet.nodes.now l.sheet.layout.now) (take l.index
+    (enumerate_from 0 l.nodes)))

@@ -6,4 +6,5 @@ use Rattle.std.proofs.Common.{take}
 use Rattle.std.specs.List.{flat_map}
 
 abbrev pub invariant-loop-node : goal.invariant-loop-node
-invariant-loop-node g l = TookAll g.W.Write.contents l.initial.out l.out (flat_map (node_sentences l.sheet.stack.now l.sheet.nodes.now) (take l.node-index l.nodes))
+invariant-loop-node g l =
+    TookAll g.W.Write.contents l.initial.out l.out (flat_map (node_sentences l.sheet.stack.now l.sheet.nodes.now) (take l.node-index l.nodes))

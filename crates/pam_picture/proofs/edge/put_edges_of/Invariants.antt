@@ -6,4 +6,6 @@ use Rattle.std.proofs.Common.{take}
 use Rattle.std.specs.List.{enumerate_from, flat_map}
 
 abbrev pub invariant-loop-position : goal.invariant-loop-position
-invariant-loop-position g l = TookAll g.W.Write.contents l.initial.out l.out (flat_map (edge_text l.sheet.stack.now l.sheet.nodes.now l.sheet.layout.now (l.index, l.node)) (take l.position (enumerate_from 0 l.edges)))
+invariant-loop-position g l =
+    TookAll g.W.Write.contents l.initial.out l.out (flat_map (edge_text l.sheet.stack.now l.sheet.nodes.now l.sheet.layout.now (l.index, l.node))
+    (take l.position (enumerate_from 0 l.edges)))

@@ -6,4 +6,5 @@ use Rattle.std.proofs.Common.{take}
 use Rattle.std.specs.List.{flat_map}
 
 abbrev pub invariant-loop-edge : goal.invariant-loop-edge
-invariant-loop-edge g l = TookAll g.W.Write.contents l.initial.out l.out (flat_map (sentence_text l.sheet.stack.now l.sheet.nodes.now l.node) (take l.edge-index l.edges))
+invariant-loop-edge g l =
+    TookAll g.W.Write.contents l.initial.out l.out (flat_map (sentence_text l.sheet.stack.now l.sheet.nodes.now l.node) (take l.edge-index l.edges))

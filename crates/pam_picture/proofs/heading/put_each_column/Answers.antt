@@ -7,16 +7,20 @@ use Rattle.std.proofs.Common.{◌+◌, ◌≡◌, arith, sym}
 
 pub returns-in_err-put_column : goal.returns-in_err-put_column
 returns-in_err-put_column g c =
-    let number = c.loop-index.index in
-    let first : 0 + number ≡ number = omega arith in
+    let text = column_text c.args.sheet.now.stack.now c.args.sheet.now.nodes.now c.args.sheet.now.layout.now in
+    let index = c.loop-index.index in
+    let first : 0 + index ≡ index = omega arith in
     err-front _ c.from_residual.ensures.0
-    (failed-number g.W.Write.contents (column_text c.args.sheet.now.stack.now c.args.sheet.now.nodes.now c.args.sheet.now.layout.now) c.args.count number _ c.loop-index-test.true first c.loop-index.invariant c.in_err-put_column.ensures)
+    (failed-number g.W.Write.contents text c.args.count index _ c.loop-index-test.true first c.loop-index.invariant c.in_err-put_column.ensures)
 
 pub loop-index-preserved : goal.loop-index-preserved
 loop-index-preserved g c =
-    let number = c.loop-index.index in
-    let first : 0 + number ≡ number = omega arith in
-    all-is (all-then c.loop-index.invariant c.in_ok-put_column.ensures) (sym (range-push (column_text c.args.sheet.now.stack.now c.args.sheet.now.nodes.now c.args.sheet.now.layout.now) 0 c.args.count number _ c.loop-index-test.true first))
+    let text = column_text c.args.sheet.now.stack.now c.args.sheet.now.nodes.now c.args.sheet.now.layout.now in
+    let index = c.loop-index.index in
+    let first : 0 + index ≡ index = omega arith in
+    all-is (all-then c.loop-index.invariant c.in_ok-put_column.ensures) (sym (range-push text 0 c.args.count index _ c.loop-index-test.true first))
 
 pub returns : goal.returns
-returns g c = all-is c.loop-index.invariant (range-all (column_text c.args.sheet.now.stack.now c.args.sheet.now.nodes.now c.args.sheet.now.layout.now) 0 c.args.count c.loop-index.index c.loop-index-test.false)
+returns g c =
+    let text = column_text c.args.sheet.now.stack.now c.args.sheet.now.nodes.now c.args.sheet.now.layout.now in
+    all-is c.loop-index.invariant (range-all text 0 c.args.count c.loop-index.index c.loop-index-test.false)

@@ -6,4 +6,6 @@ use Rattle.std.proofs.Common.{take}
 use Rattle.std.specs.List.{flat_map, range_with_len}
 
 abbrev pub invariant-loop-index : goal.invariant-loop-index
-invariant-loop-index g l = TookAll g.W.Write.contents l.initial.out l.out (flat_map (column_text l.sheet.stack.now l.sheet.nodes.now l.sheet.layout.now) (take l.index (range_with_len 0 l.count)))
+invariant-loop-index g l =
+    TookAll g.W.Write.contents l.initial.out l.out (flat_map (column_text l.sheet.stack.now l.sheet.nodes.now l.sheet.layout.now) (take l.index
+    (range_with_len 0 l.count)))

@@ -5,4 +5,6 @@ use Rattle.std.proofs.Common.{refl}
 
 pub returns : goal.returns
 unfolding column_heading
-returns g c = writes-is _ _ _ _ _ _ c.put_marks.ensures (rw (c.asked_row.ensures, c.control_at.ensures, c.name_ending.ensures, c.name_front.ensures, c.name_of_path-name.ensures, c.column_at.ensures) refl)
+returns g c =
+    writes-is _ _ _ _ _ _ c.put_marks.ensures (rw
+    (c.asked_row.ensures, c.control_at.ensures, c.name_ending.ensures, c.name_front.ensures, c.name_of_path-name.ensures, c.column_at.ensures) refl)

@@ -13,14 +13,17 @@ returns-in_err-put_end_if_drawn g c =
     let number = c.loop-number.number in
     let first : 0 + number ≡ number = omega arith in
     err-front _ c.from_residual.ensures.0
-    (failed-number g.W.Write.contents (end_if_drawn c.args.layout.now c.args.drawn) CODES number _ c.loop-number-test.true (first ∙ sym c.code_numbered.ensures) c.loop-number.invariant c.in_err-put_end_if_drawn.ensures)
+    (failed-number g.W.Write.contents (end_if_drawn c.args.layout.now c.args.drawn) CODES number _ c.loop-number-test.true
+    (first ∙ sym c.code_numbered.ensures) c.loop-number.invariant c.in_err-put_end_if_drawn.ensures)
 
 pub loop-number-preserved : goal.loop-number-preserved
 loop-number-preserved g c =
     let number = c.loop-number.number in
     let first : 0 + number ≡ number = omega arith in
-    all-is (all-then c.loop-number.invariant c.in_ok-put_end_if_drawn.ensures) (sym (range-push (end_if_drawn c.args.layout.now c.args.drawn) 0 CODES number _ c.loop-number-test.true (first ∙ sym c.code_numbered.ensures)))
+    all-is (all-then c.loop-number.invariant c.in_ok-put_end_if_drawn.ensures) (sym (range-push
+    (end_if_drawn c.args.layout.now c.args.drawn) 0 CODES number _ c.loop-number-test.true (first ∙ sym c.code_numbered.ensures)))
 
 pub returns : goal.returns
 unfolding all_codes
-returns g c = all-is c.loop-number.invariant (range-all (end_if_drawn c.args.layout.now c.args.drawn) 0 CODES c.loop-number.number c.loop-number-test.false)
+returns g c =
+    all-is c.loop-number.invariant (range-all (end_if_drawn c.args.layout.now c.args.drawn) 0 CODES c.loop-number.number c.loop-number-test.false)

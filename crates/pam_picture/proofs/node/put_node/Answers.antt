@@ -5,4 +5,6 @@ use Rattle.std.proofs.Common.{refl}
 
 pub returns : goal.returns
 unfolding node_text
-returns g c = writes-is _ _ _ _ _ _ c.put_marks.ensures (rw (c.point_at-point.ensures, c.impression_name.ensures, c.stop_at.ensures, c.node_shape.ensures, c.is_forked.ensures) refl)
+returns g c =
+    writes-is _ _ _ _ _ _ c.put_marks.ensures (rw
+    (c.point_at-point.ensures, c.impression_name.ensures, c.stop_at.ensures, c.node_shape.ensures, c.is_forked.ensures) refl)
