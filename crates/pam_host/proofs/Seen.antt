@@ -54,6 +54,7 @@ none-by-refused service kind home spot problems.UnreachableName h = h
 none-by-refused service kind home spot problems.LeftOver h = h
 none-by-refused service kind home spot problems.NoFunction h = h
 none-by-refused service kind home spot problems.CallerIsRoot h = h
+none-by-refused service kind home spot problems.EmptySeparator h = h
 
 -- WHAT A STACK MAY ASK
 

@@ -13,6 +13,7 @@ pub mod OfFolder
 pub mod Own
 pub mod Problems
 pub mod Report
+pub mod Separators
 pub mod Services
 pub mod SoFar
 pub mod StackProblems
