@@ -16,6 +16,10 @@ returns-clause-answer c =
       same_accept = c.accept_name.ensures;
       all = c.in_ok-report.report.found;
       report = reported.is_report;
+      same_table_paths = c.table_paths-paths.ensures;
+      all_tables = c.in_ok-tables.tables.found;
+      table_report = c.in_ok-tables.ensures.ok;
       not_accepted = listed.found;
+      tables_not_accepted = listed.tables_found;
       unused = listed.unused;
     }
