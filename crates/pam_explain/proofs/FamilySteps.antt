@@ -7,6 +7,7 @@ use Rattle.pam_explain.specs.Views.{explanation_view}
 use Rattle.pam_explain.specs.declared.explanation.Explanation.{Explanation as Declared}
 use Rattle.pam_explain.specs.Explanations.{families, rows_of}
 use Rattle.pam_explain.specs.Hosts.{limits_and_rules, modules_and_files, whole_stacks}
+use Rattle.pam_explain.specs.OldTables.{access_lines, access_masks, time_lines}
 use Rattle.pam_explain.specs.Paths.{cursors, moments}
 use Rattle.pam_explain.specs.Released.{continued_lines, controls_and_lengths, names_and_blanks}
 use Rattle.pam_explain.specs.Rules.{broken_controls, broken_rules}
@@ -21,10 +22,10 @@ has_rows (row ∷ rows) = true
 pub all_have_rows : list_all has_rows families ≡ true
 unfolding families broken_controls broken_rules broken_includes limits missing_and_long_files lists_and_groups returns_files table_lines table_words
     cursors moments filters_and_forms questions reads_and_writes sources_and_names continued_lines controls_and_lengths names_and_blanks
-    limits_and_rules modules_and_files whole_stacks accept_and_facts_files numbers_and_candidates
+    limits_and_rules modules_and_files whole_stacks accept_and_facts_files numbers_and_candidates access_lines access_masks time_lines
 all_have_rows = refl
 
-pub are_few : length families ≡ 23
+pub are_few : length families ≡ 26
 unfolding families
 are_few = refl
 

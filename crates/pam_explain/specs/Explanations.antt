@@ -3,6 +3,7 @@ use Rattle.std.specs.Prelude.{ℕ, Bool, List, [], ◌∷◌, ◌++◌, bytes_eq
 use Rattle.std.specs.Char.{to_ascii_lowercase}
 use Rattle.pam_explain.specs.Explanation.{Explanation}
 use Rattle.pam_explain.specs.Hosts.{limits_and_rules, modules_and_files, whole_stacks}
+use Rattle.pam_explain.specs.OldTables.{access_lines, access_masks, time_lines}
 use Rattle.pam_explain.specs.Paths.{cursors, moments}
 use Rattle.pam_explain.specs.Released.{continued_lines, controls_and_lengths, names_and_blanks}
 use Rattle.pam_explain.specs.Rules.{broken_controls, broken_rules}
@@ -19,6 +20,7 @@ families =
     ∷ cursors ∷ moments
     ∷ sources_and_names ∷ questions ∷ filters_and_forms ∷ numbers_and_candidates ∷ reads_and_writes
     ∷ continued_lines ∷ controls_and_lengths ∷ names_and_blanks
+    ∷ access_lines ∷ access_masks ∷ time_lines
     ∷ whole_stacks ∷ modules_and_files ∷ limits_and_rules
     ∷ []
 

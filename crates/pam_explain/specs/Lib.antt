@@ -2,6 +2,7 @@ pub mod Explanation
 pub mod Explanations
 pub mod Hosts
 pub mod Laws
+pub mod OldTables
 pub mod Paths
 pub mod Released
 pub mod Rules

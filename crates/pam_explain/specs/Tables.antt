@@ -1,7 +1,7 @@
 -- Faults of tables.
 use Rattle.std.specs.Prelude.{List, [], ◌∷◌, ◌++◌, codes}
 use Rattle.pam_explain.specs.Explanation.{Explanation}
-use Rattle.pam_explain.specs.declared.explanation.Level.TheVariants.{Error}
+use Rattle.pam_explain.specs.declared.explanation.Level.TheVariants.{Error, Note}
 
 -- lines of a table
 unfoldable pub table_lines : List Explanation
@@ -46,7 +46,7 @@ table_lines =
     ∷ record {
       number = codes "TE3";
       name = codes "Netgroup";
-      level = Error;
+      level = Note;
       meaning =
           codes "A table names a netgroup, a word that begins with @. Who is in it stands in no\n"
           ++ codes "file of the tables, so pamcheck does not judge such a line.";
@@ -70,7 +70,7 @@ table_words =
     record {
       number = codes "TE4";
       name = codes "UserAtHost";
-      level = Error;
+      level = Note;
       meaning =
           codes "An access table has a user of the form user@host, which pamcheck does not\n"
           ++ codes "judge.";

@@ -4,6 +4,7 @@
 mod explanation;
 mod hosts;
 pub mod laws;
+mod old_tables;
 mod paths;
 mod released;
 mod rules;

@@ -49,7 +49,7 @@ static TABLE_LINES: [Explanation; 3] = [
     Explanation {
         number: "TE3",
         name: "Netgroup",
-        level: Level::Error,
+        level: Level::Note,
         meaning: concat!(
             "A table names a netgroup, a word that begins with @. Who is in it stands in no\n",
             "file of the tables, so pamcheck does not judge such a line."
@@ -79,7 +79,7 @@ static TABLE_WORDS: [Explanation; 4] = [
     Explanation {
         number: "TE4",
         name: "UserAtHost",
-        level: Level::Error,
+        level: Level::Note,
         meaning: concat!(
             "An access table has a user of the form user@host, which pamcheck does not\n",
             "judge."

@@ -63,6 +63,7 @@ module _ (form : Form) (file : ℕ) (bytes : List ℕ) where
   to_spot line problems.JumpIntoInclude h = absurd h
   to_spot line problems.NoFunction h = absurd h
   to_spot line problems.CallerIsRoot h = absurd h
+  to_spot line problems.EmptySeparator h = absurd h
 
   from_spot : (spot : Spot) → Member spot (faults ++ founds) → (spot.file ≡ Some file) × BytesHave form bytes spot.line spot.problem
   unfolding faults founds

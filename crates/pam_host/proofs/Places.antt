@@ -44,7 +44,8 @@ difference_numbered n = slice_index_or (CarriageReturn ∷ CarriageReturn ∷ Co
 
 abbrev other_numbered : ℕ → ℕ → ℕ → Problem
 other_numbered n service kind =
-    if nat_lt n 2 then problems.LetsNobodyIn service (kind_numbered kind)
+    if nat_lt n 1 then problems.EmptySeparator
+    else if nat_lt n 2 then problems.LetsNobodyIn service (kind_numbered kind)
     else if nat_lt n 3 then problems.LetsAnybodyIn service
     else if nat_lt n 4 then problems.NeverAsked
     else if nat_lt n 5 then problems.JumpPastEnd
@@ -164,6 +165,7 @@ of_problem problems.LeftOver = refl
 of_problem problems.JumpIntoInclude = refl
 of_problem problems.NoFunction = refl
 of_problem problems.CallerIsRoot = refl
+of_problem problems.EmptySeparator = refl
 
 -- TWO PROBLEMS HAVE TWO PLACES
 pub spot-from_place : (one other : Spot) → place_of one ≡ place_of other → one ≡ other

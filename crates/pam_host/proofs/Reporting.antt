@@ -66,6 +66,7 @@ not-in-stack modules service name kind faults items home verdict spot form bytes
 not-in-stack modules service name kind faults items home verdict spot form bytes problems.JumpIntoInclude h k = h
 not-in-stack modules service name kind faults items home verdict spot form bytes problems.NoFunction h k = h
 not-in-stack modules service name kind faults items home verdict spot form bytes problems.CallerIsRoot h k = h
+not-in-stack modules service name kind faults items home verdict spot form bytes problems.EmptySeparator h k = h
 
 -- the bytes of a file that has a problem
 has-bytes : (P : List ℕ → Type 0) (o : Option (List ℕ)) → MatchOption o ⊥ P → (bytes : List ℕ) × P bytes

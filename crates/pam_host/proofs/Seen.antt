@@ -59,6 +59,7 @@ none-by-refused service kind home spot problems.LeftOver h = h
 none-by-refused service kind home spot problems.JumpIntoInclude h = h
 none-by-refused service kind home spot problems.NoFunction h = h
 none-by-refused service kind home spot problems.CallerIsRoot h = h
+none-by-refused service kind home spot problems.EmptySeparator h = h
 
 -- WHAT A STACK MAY ASK
 

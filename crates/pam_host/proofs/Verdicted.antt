@@ -75,6 +75,7 @@ module _ (at : Stacked) (j : Judgement) (nobody anybody : Bool) (says_nobody : (
   from-verdict file line problems.JumpIntoInclude h = absurd h
   from-verdict file line problems.NoFunction h = absurd h
   from-verdict file line problems.CallerIsRoot h = absurd h
+  from-verdict file line problems.EmptySeparator h = absurd h
 
   pub adds-judged : (old first second new : List Spot) →
       Adds (λ spot. (nobody ≡ true) × (spot ≡ spot_of at (problems.LetsNobodyIn at.service at.kind))) old first →

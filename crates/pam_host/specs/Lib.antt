@@ -16,6 +16,7 @@ pub mod OtherAnswers
 pub mod Own
 pub mod Problems
 pub mod Report
+pub mod Separators
 pub mod Services
 pub mod SoFar
 pub mod StackProblems

@@ -52,11 +52,12 @@ rank_of_difference LongLine = 7
 rank_of_difference EmptyModuleName = 8
 rank_of_difference DroppedBlank = 9
 
--- E1 to E18 of lines come first, then those of walks, then L1 to L9, then S1 to S14
+-- E1 to E18 of lines come first, then those of walks, then L1 to L9, A5, and S1 to S14
 abbrev pub rank_of : Problem → ℕ
 rank_of (problems.Fault fault) = rank_of_fault fault
 rank_of (problems.Walk fault) = 20 + rank_of_fault fault
 rank_of (problems.Released difference) = 40 + rank_of_difference difference
+rank_of problems.EmptySeparator = 50
 rank_of (problems.LetsNobodyIn service kind) = 51
 rank_of (problems.LetsAnybodyIn service) = 52
 rank_of problems.NeverAsked = 53

@@ -10,6 +10,7 @@ use Rattle.pam_paths.specs.Known.{may_answer}
 use Rattle.pam_paths.specs.Paths.{PathValue}
 use Rattle.pam_host.specs.Callers.{caller_is_root}
 use Rattle.pam_host.specs.Modules.{Modules}
+use Rattle.pam_host.specs.Separators.{lacks_separator}
 use Rattle.pam_host.specs.Verdicts.{Judged, Judgement, LetsNobody, Refused, TooLarge, Verdict}
 use Rattle.pam_host.specs.Verdicts.{answers_on, has_no_function, is_missing, is_other, never_asked_in, way_in_of}
 use Rattle.pam_host.specs.declared.problem.Problem.{Problem}
@@ -35,9 +36,10 @@ pub record IsAt (items : Items) (number : ℕ) (spot : Spot) (rule : ModuleText)
 abbrev pub HasModule : Items → Spot → (ℕ → ModuleText → Type 0) → Type 0
 HasModule items spot Passes = (number : ℕ) × (rule : ModuleText) × IsAt items number spot rule × Passes number rule
 
--- S5, S13 and S14, in a stack of a service for a kind; and S3, if no stack may ask it
+-- A5, S5, S13 and S14, in a stack of a service for a kind; and S3, if no stack may ask it
 abbrev pub ModuleHas : Modules → List ℕ → Kind → ModuleText → Problem → Type 0
 ModuleHas modules name kind rule problems.NeverAsked = is_other rule ≡ true
+ModuleHas modules name kind rule problems.EmptySeparator = lacks_separator rule ≡ true
 ModuleHas modules name kind rule (problems.NoModule is_dashed) = (is_missing modules rule ≡ true) × (is_dashed ≡ rule.dashed)
 ModuleHas modules name kind rule problems.NoFunction = has_no_function modules.facts kind rule ≡ true
 ModuleHas modules name kind rule problems.CallerIsRoot = caller_is_root kind name rule ≡ true

@@ -47,7 +47,8 @@ impl Problem {
             | Problem::LeftOver
             | Problem::CallerIsRoot
             | Problem::NoModule { is_dashed: true } => Level::Note,
-            Problem::LetsNobodyIn { .. }
+            Problem::EmptySeparator
+            | Problem::LetsNobodyIn { .. }
             | Problem::LetsAnybodyIn { .. }
             | Problem::JumpPastEnd
             | Problem::JumpIntoInclude

@@ -16,6 +16,7 @@ mod own;
 mod problem;
 mod readers;
 mod report;
+mod separators;
 mod services;
 mod stacks;
 mod table;

@@ -14,6 +14,7 @@ ghost use Rattle.pam_host.specs.Verdicts.{HasOther, denies_or_warns, is_other};
 use crate::callers::caller_is_root;
 use crate::known_modules::Modules;
 use crate::problem::{Problem, Spot};
+use crate::separators::lacks_separator;
 use pam_conf::{Kind, Module, Stack};
 use pam_facts::module_name;
 use std::alloc::AllocError;
@@ -57,7 +58,7 @@ fn push_if(
     Ok(())
 }
 
-/// Appends the problems that a module of a stack has by itself: S5, S13, S14, and S3 if no stack may ask it.
+/// Appends the problems that a module of a stack has by itself: A5, S5, S13, S14, and S3 if no stack may ask it.
 fn push_of_rule(
     spots: &mut Vec<Spot>,
     modules: &Modules<'_, '_>,
@@ -76,6 +77,8 @@ fn push_of_rule(
     push_if(spots, module, lacks_function, Problem::NoFunction)?;
     let caller_is_root = caller_is_root(kind, service, module);
     push_if(spots, module, caller_is_root, Problem::CallerIsRoot)?;
+    let lacks_separator = lacks_separator(module);
+    push_if(spots, module, lacks_separator, Problem::EmptySeparator)?;
     Ok(())
 }
 

@@ -16,6 +16,8 @@ pub enum Problem {
     Walk(FaultKind),
     /// L1 to L9: released Linux-PAM reads the line otherwise.
     Released(Difference),
+    /// A5: an argument `fieldsep=` or `listsep=` of pam_access has no value, which released Linux-PAM reads otherwise.
+    EmptySeparator,
     /// S1: a stack with another module than `pam_deny.so` and `pam_warn.so` never decides success.
     LetsNobodyIn {
         /// The position of the service in `HostReport::services`.
@@ -161,6 +163,7 @@ impl Problem {
             Problem::Fault(fault) => rank_of_fault(fault),
             Problem::Walk(fault) => 20 + rank_of_fault(fault),
             Problem::Released(difference) => 40 + rank_of_difference(difference),
+            Problem::EmptySeparator => 50,
             Problem::LetsNobodyIn { .. } => 51,
             Problem::LetsAnybodyIn { .. } => 52,
             Problem::NeverAsked => 53,
@@ -189,6 +192,7 @@ impl Problem {
             Problem::Fault(_)
             | Problem::Walk(_)
             | Problem::Released(_)
+            | Problem::EmptySeparator
             | Problem::NeverAsked
             | Problem::JumpPastEnd
             | Problem::NoModule { .. }
@@ -213,6 +217,7 @@ impl Problem {
             Problem::Fault(_)
             | Problem::Walk(_)
             | Problem::Released(_)
+            | Problem::EmptySeparator
             | Problem::LetsAnybodyIn { .. }
             | Problem::NeverAsked
             | Problem::JumpPastEnd

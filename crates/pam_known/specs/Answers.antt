@@ -72,14 +72,21 @@ has_key key arguments = list_any (λ a. starts_with nat_eq a key) arguments
 unfoldable pub is_reader : List ℕ → List ℕ → ModuleText → Bool
 is_reader name key m = bytes_eq (name_of_path m.path) name && not (has_key key m.arguments)
 
+-- a module that reads the access table of the system
+abbrev pub is_access_reader : ModuleText → Bool
+is_access_reader m = is_reader (codes "pam_access.so") (codes "accessfile=") m
+
+-- a module of a kind that reads the time table of the system. Only `account` modules do
+abbrev pub is_time_reader : Kind → ModuleText → Bool
+is_time_reader kind m = same_kind kind Account && is_reader (codes "pam_time.so") (codes "conffile=") m
+
 -- the access table, if it is given and the module reads it
 unfoldable pub access_read : TablesText → ModuleText → Option (List ℕ)
-access_read tables m = if is_reader (codes "pam_access.so") (codes "accessfile=") m then tables.access else None
+access_read tables m = if is_access_reader m then tables.access else None
 
--- the time table, if it is given and the module reads it. Only `account` modules do
+-- the time table, if it is given and the module reads it
 unfoldable pub time_read : Kind → TablesText → ModuleText → Option TimedText
-time_read kind tables m =
-    if same_kind kind Account && is_reader (codes "pam_time.so") (codes "conffile=") m then tables.time else None
+time_read kind tables m = if is_time_reader kind m then tables.time else None
 
 -- ---- the code that the table tells
 

@@ -4,7 +4,7 @@ ghost use Rattle.std.specs.Prelude.{◌≡◌, ◌≤◌, ◌==◌, IfErr, false
 ghost use Rattle.std.specs.List.{list_any, starts_with, suffix_len};
 ghost use Rattle.std.specs.Option.{option_map};
 ghost use Rattle.pam_conf.specs.ItemsOf.{module_text};
-ghost use Rattle.pam_known.specs.Answers.{TellsError, access_code, access_read, is_reader};
+ghost use Rattle.pam_known.specs.Answers.{TellsError, access_code, access_read, is_access_reader, is_reader, is_time_reader};
 ghost use Rattle.pam_known.specs.Answers.{name_of_path, time_code, time_read, time_told};
 ghost use Rattle.pam_known.specs.Reads.{IsOfRead};
 ghost use Rattle.pam_known.specs.Sets.{of_module, told_under};
@@ -51,19 +51,33 @@ fn is_reader(name: &[u8], key: &[u8], module: &Module) -> bool
     name_of_path(&module.path) == name && !has_key(key, &module.arguments)
 }
 
-/// Returns the access table, if it is given and the module reads it, as in pam_access(8).
+/// Whether a module reads the access table of the system, as in pam_access(8).
+pub fn is_access_reader(module: &Module) -> bool
+    ensures { result ≡ is_access_reader (module_text «module».now) }
+{
+    is_reader(b"pam_access.so", b"accessfile=", module)
+}
+
+/// Whether a module of a stack of this kind reads the time table of the system, as in pam_time(8). Only `account` modules do.
+pub fn is_time_reader(kind: Kind, module: &Module) -> bool
+    ensures { result ≡ is_time_reader kind (module_text «module».now) }
+{
+    kind == Kind::Account && is_reader(b"pam_time.so", b"conffile=", module)
+}
+
+/// Returns the access table, if it is given and the module reads it.
 #[tactic(auto, unfolding(crate::specs::Answers::access_read))]
 pub(crate) fn access_read<'a>(tables: &Tables<'a>, module: &Module) -> Option<&'a [u8]>
     ensures { option_map (λ b. b.now) result ≡ access_read (tables_view tables.now) (module_text «module».now) }
 {
-    if is_reader(b"pam_access.so", b"accessfile=", module) {
+    if is_access_reader(module) {
         tables.access
     } else {
         None
     }
 }
 
-/// Returns the time table, if it is given and the module reads it, as in pam_time(8). Only `account` modules do.
+/// Returns the time table, if it is given and the module reads it.
 #[tactic(auto, unfolding(crate::specs::Answers::time_read))]
 pub(crate) fn time_read<'x, 't>(
     kind: Kind,
@@ -72,7 +86,7 @@ pub(crate) fn time_read<'x, 't>(
 ) -> Option<&'x TimedTable<'t>>
     ensures { option_map (λ t. timed_view t.now) result ≡ time_read kind (tables_view tables.now) (module_text «module».now) }
 {
-    if kind == Kind::Account && is_reader(b"pam_time.so", b"conffile=", module) {
+    if is_time_reader(kind, module) {
         tables.time.as_ref()
     } else {
         None

@@ -8,7 +8,7 @@ mod known;
 pub mod laws;
 mod tables;
 
-pub use answers::name_of_path;
+pub use answers::{is_access_reader, is_time_reader, name_of_path};
 pub use error::KnownError;
 pub use known::known_answers;
 pub use tables::{Tables, TimedTable};

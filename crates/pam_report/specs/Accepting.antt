@@ -1,6 +1,7 @@
 -- The findings that are meant to be: a line of an accept file has the number and the place of each that it accepts.
 use Rattle.std.specs.Prelude.{◌≡◌, ℕ, ◌==◌, Bool, not, List, [], ◌∷◌, ◌++◌, codes, decimal, filter, map, if◌then◌else◌}
 use Rattle.std.specs.Prelude.{Option, Some, None, slice_get, unwrap_or}
+use Rattle.std.specs.BTreeMap.{BTreeMap}
 use Rattle.std.specs.List.{list_any}
 use Rattle.std.specs.Option.{option_map_or}
 use Rattle.std.specs.Str.{bytes_eq}
@@ -9,10 +10,14 @@ use Rattle.pam_conf.specs.Files.{Folder}
 use Rattle.pam_conf.specs.declared.rule.Kind.{Kind}
 use Rattle.pam_host.specs.declared.problem.Place.{Place}
 use Rattle.pam_host.specs.declared.report.Finding.{Finding}
+use Rattle.pam_known.specs.Answers.{name_of_path}
+use Rattle.pam_table_check.specs.declared.problem.TableFinding.{TableFinding}
+use Rattle.pam_table_check.specs.declared.problem.TablePlace.{TablePlace}
 use Rattle.pam_text.specs.Cut.{cut_at, is_among}
 use Rattle.pam_report.specs.Fault.{file_at}
 use Rattle.pam_report.specs.declared.report.accepting.Listed.{Listed}
 use Rattle.pam_report.specs.Names.{kind_name, problem_name, stack_of}
+use Rattle.pam_report.specs.TablePaths.{TablePathsText, path_of, table_problem_name}
 
 -- a number is what is before the blank of a number and a name
 abbrev pub number_in : List ℕ → List ℕ
@@ -41,6 +46,11 @@ place_key files services place None = file_key (file_at files place.file) place.
 unfoldable pub key_of : Folder → List (List ℕ) → Place × Finding → List ℕ
 key_of files services entry = number_in (problem_name entry.1.problem) ++ place_key files services entry.0 (stack_of entry.1.problem)
 
+-- THE KEY of a problem of a table: its number, and the name of the table's file with the line
+unfoldable pub table_key_of : TablePathsText → TableFinding → List ℕ
+table_key_of paths finding =
+    number_in (table_problem_name finding.problem) ++ file_key (Some (name_of_path (path_of paths finding.table))) finding.line
+
 -- some line has this key
 abbrev pub accepts : List Accepted → List ℕ → Bool
 accepts lines key = list_any (λ line. bytes_eq key line.1) lines
@@ -49,15 +59,25 @@ accepts lines key = list_any (λ line. bytes_eq key line.1) lines
 abbrev pub not_accepted : List Accepted → Folder → List (List ℕ) → List (Place × Finding) → List (Place × Finding)
 not_accepted lines files services found = filter (λ entry. not (accepts lines (key_of files services entry))) found
 
+-- the problems of tables that no line accepts
+abbrev pub tables_not_accepted : List Accepted → TablePathsText → List TableFinding → List TableFinding
+tables_not_accepted lines paths found = filter (λ finding. not (accepts lines (table_key_of paths finding))) found
+
 -- the numbers of the lines that have none of these keys
 abbrev pub lines_without : List (List ℕ) → List Accepted → List ℕ
 lines_without keys lines = map (λ line. line.0) (filter (λ line. not (list_any (bytes_eq line.1) keys)) lines)
 
--- the numbers of the lines that accept nothing
-abbrev pub unused_lines : List Accepted → Folder → List (List ℕ) → List (Place × Finding) → List ℕ
-unused_lines lines files services found = lines_without (map (key_of files services) found) lines
+-- the keys of all findings
+abbrev pub all_keys : Folder → List (List ℕ) → List (Place × Finding) → TablePathsText → List TableFinding → List (List ℕ)
+all_keys files services found paths tables = map (key_of files services) found ++ map (table_key_of paths) tables
 
--- for private contracts and proofs alone: what is listed of these findings
-pub record IsListed (lines : List Accepted) (files : Folder) (services : List (List ℕ)) (all : List (Place × Finding)) (listed : Listed) : Type 0 where
+-- the problems of a report on tables, in its order
+abbrev pub table_findings : BTreeMap TablePlace TableFinding → List TableFinding
+table_findings found = map (λ entry. entry.1) found.entries
+
+-- for private contracts and proofs alone: what is listed of these findings, and of these problems of tables
+pub record IsListed (lines : List Accepted) (files : Folder) (services : List (List ℕ)) (all : List (Place × Finding)) (paths : TablePathsText)
+    (tables : List TableFinding) (listed : Listed) : Type 0 where
   pub found : listed.found.items ≡ not_accepted lines files services all
-  pub unused : listed.unused.items ≡ unused_lines lines files services all
+  pub tables_found : listed.tables.items ≡ tables_not_accepted lines paths tables
+  pub unused : listed.unused.items ≡ lines_without (all_keys files services all paths tables) lines

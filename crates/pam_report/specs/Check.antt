@@ -19,11 +19,14 @@ use Rattle.pam_host.specs.declared.level.Level.TheVariants.{Note}
 use Rattle.pam_host.specs.declared.problem.Place.{Place}
 use Rattle.pam_host.specs.declared.report.Finding.{Finding}
 use Rattle.pam_host.specs.declared.report.HostReport.{HostReport}
+use Rattle.pam_table_check.specs.Report.{IsTableReport}
+use Rattle.pam_table_check.specs.declared.problem.TableFinding.{TableFinding}
+use Rattle.pam_table_check.specs.declared.problem.TablePlace.{TablePlace}
 use Rattle.pam_words.specs.declared.wanted.CheckFiles.{CheckFiles}
 use Rattle.pam_words.specs.declared.wanted.LevelName.{LevelName}
-use Rattle.pam_report.specs.Accepting.{not_accepted, unused_lines}
+use Rattle.pam_report.specs.Accepting.{all_keys, lines_without, not_accepted, table_findings, tables_not_accepted}
 use Rattle.pam_report.specs.Fault.{accept_fault, facts_fault}
-use Rattle.pam_report.specs.Inputs.{accept_given, facts_given, paths_given, there_given}
+use Rattle.pam_report.specs.Inputs.{accept_given, facts_given, host_tables_given, paths_given, table_paths_given, there_given}
 use Rattle.pam_report.specs.Reply.{Answer, Check, CheckValue}
 use Rattle.pam_report.specs.declared.fault.Fault.{Fault}
 use Rattle.pam_report.specs.declared.fault.Fault.TheVariants as faults
@@ -31,7 +34,7 @@ use Rattle.pam_report.specs.declared.inputs.Inputs.{Inputs}
 
 -- what is checked: the services that are named, or all, and the files of the configuration
 module _ (services : List (List ℕ)) (fail_on : LevelName) (named : CheckFiles) (files : Folder) (inputs : Inputs) where
-  -- the findings by these facts that no line accepts, and the lines that accept none
+  -- the findings by these facts that no line accepts, also those of tables, and the lines that accept none
   pub record IsCheckOf (facts : List Row) (lines : List Accepted) (value : CheckValue) : Type 0 where
     pub same_form : value.form ≡ files.form
     pub same_paths : value.paths ≡ paths_given inputs
@@ -40,8 +43,12 @@ module _ (services : List (List ℕ)) (fail_on : LevelName) (named : CheckFiles)
     pub same_accept : value.accept ≡ unwrap_or (option_copied named.accept) []
     pub all : BTreeMap Place Finding
     pub report : IsReport files services facts (there_given inputs) all value.ways_in
+    pub same_table_paths : value.table_paths ≡ table_paths_given inputs
+    pub all_tables : BTreeMap TablePlace TableFinding
+    pub table_report : IsTableReport files value.services (host_tables_given inputs) all_tables
     pub not_accepted : value.found ≡ not_accepted lines files value.services all.entries
-    pub unused : value.unused ≡ unused_lines lines files value.services all.entries
+    pub tables_not_accepted : value.tables ≡ tables_not_accepted lines value.table_paths (table_findings all_tables)
+    pub unused : value.unused ≡ lines_without (all_keys files value.services all.entries value.table_paths (table_findings all_tables)) lines
     -- where no line accepts a finding, and all that are listed are notes, each stack that is checked is sound
     pub silence : lines ≡ [] → All (λ entry. level_of entry.1.problem ≡ Note) value.found → (service : ℕ) (kind : Kind) → service < length value.services →
         IsSoundStack (host_of files services facts (there_given inputs)) service kind

@@ -1,5 +1,5 @@
 -- The tables that a request is answered from: access.conf(5), group(5), time.conf(5).
-use Rattle.std.specs.Prelude.{ℕ, suc, ◌==◌, List, [], length, Option, Some, None, Result, Ok, Vec, Bool, true, false, is_some, option_map, ◌&&◌}
+use Rattle.std.specs.Prelude.{ℕ, suc, ◌==◌, List, [], length, Option, Some, None, Result, Ok, Vec, Bool, true, false, is_none, is_some, option_map, ◌&&◌, ◌||◌}
 use Rattle.std.specs.Bool.{beq}
 use Rattle.std.specs.Option.{option_map_or}
 use Rattle.std.specs.Global.{Global}
@@ -7,6 +7,7 @@ use Rattle.jiff.specs.Types.{DateTime}
 use Rattle.pam_conf.specs.Files.{Folder}
 use Rattle.pam_conf.specs.declared.rule.Form.TheVariants.{Dir}
 use Rattle.pam_known.specs.Tables.{TablesText, TimedText}
+use Rattle.pam_table_check.specs.Tables.{TablesText as HostTablesText}
 use Rattle.pam_tables.specs.Groups.{Group, groups_of}
 use Rattle.pam_tables.specs.declared.error.TableFault.{TableFault}
 use Rattle.pam_words.specs.declared.wanted.Task.{Task}
@@ -14,7 +15,10 @@ use Rattle.pam_words.specs.declared.wanted.KnowledgeSource.{KnowledgeSource}
 use Rattle.pam_words.specs.declared.wanted.Task.TheVariants.{Check, Show, Decide, Access, Time, Paths, Outcomes, Graph, Explain, Facts, Version}
 use Rattle.pam_words.specs.declared.wanted.CheckFiles.{CheckFiles}
 use Rattle.pam_report.specs.declared.inputs.CheckInputs.{CheckInputs}
+use Rattle.pam_report.specs.TablePaths.{TablePathsText}
 use Rattle.pam_report.specs.declared.inputs.Inputs.{Inputs}
+use Rattle.pam_report.specs.declared.inputs.TableFile.{TableFile}
+use Rattle.pam_report.specs.declared.inputs.TableFiles.{TableFiles}
 use Rattle.pam_report.specs.declared.inputs.Inputs.TheVariants as inputs
 
 -- the configuration, if there is one
@@ -44,6 +48,29 @@ facts_given _ = []
 abbrev pub accept_given : Inputs → List ℕ
 accept_given (inputs.Host files paths given) = option_map_or (λ b. b.items) given.accept []
 accept_given _ = []
+
+-- the tables of `check`, as far as they are given, and the paths under which they were read
+abbrev pub bytes_of_table : Option TableFile → Option (List ℕ)
+bytes_of_table table = option_map (λ t. t.bytes.items) table
+
+abbrev pub path_of_table : Option TableFile → List ℕ
+path_of_table table = option_map_or (λ t. t.path.items) table []
+
+abbrev pub host_tables_given : Inputs → HostTablesText
+host_tables_given (inputs.Host files paths given) = record {
+  groups = bytes_of_table given.tables.groups;
+  access = bytes_of_table given.tables.access;
+  time = bytes_of_table given.tables.time;
+}
+host_tables_given _ = record { groups = None; access = None; time = None }
+
+abbrev pub table_paths_given : Inputs → TablePathsText
+table_paths_given (inputs.Host files paths given) = record {
+  groups = path_of_table given.tables.groups;
+  access = path_of_table given.tables.access;
+  time = path_of_table given.tables.time;
+}
+table_paths_given _ = record { groups = []; access = []; time = [] }
 
 -- no files
 abbrev pub no_files : Folder
@@ -83,9 +110,17 @@ fits_knowledge named _ = false
 abbrev pub has_paths : Folder → List (List ℕ) → Bool
 has_paths files paths = length paths == suc (length files.entries)
 
--- the contents of exactly the facts file and the accept file that are named
+-- each table that is named is given
+abbrev pub has_named_tables : CheckFiles → TableFiles → Bool
+has_named_tables named given =
+    (is_none named.groups || is_some given.groups)
+    && ((is_none named.access || is_some given.access) && (is_none named.time || is_some given.time))
+
+-- the contents of exactly the facts file and the accept file that are named, and of each table that is named
 abbrev pub fits_check : CheckFiles → CheckInputs → Bool
-fits_check named given = beq (is_some given.facts) (is_some named.facts) && beq (is_some given.accept) (is_some named.accept)
+fits_check named given =
+    beq (is_some given.facts) (is_some named.facts)
+    && (beq (is_some given.accept) (is_some named.accept) && has_named_tables named given.tables)
 
 -- the contents of exactly the files that a task names are given
 abbrev pub fits_task : Task → Inputs → Bool

@@ -20,4 +20,5 @@ pub mod PageView
 pub mod Paths
 pub mod Reply
 pub mod ReplyViews
+pub mod TablePaths
 pub mod TooLarge

@@ -18,6 +18,7 @@ unfoldable pub problem_name : Problem → List ℕ
 problem_name (problems.Fault fault) = (conf_row fault).name
 problem_name (problems.Walk fault) = (conf_row fault).name
 problem_name (problems.Released difference) = name_of difference
+problem_name problems.EmptySeparator = codes "A5 EmptySeparator"
 problem_name (problems.LetsNobodyIn service kind) = codes "S1 LetsNobodyIn"
 problem_name (problems.LetsAnybodyIn service) = codes "S2 LetsAnybodyIn"
 problem_name problems.NeverAsked = codes "S3 NeverAsked"

@@ -19,6 +19,7 @@ use Rattle.pam_paths.specs.Listing.{Allowance}
 use Rattle.pam_paths.specs.Paths.{PathValue}
 use Rattle.pam_tables.specs.declared.access.AccessAnswer.{AccessAnswer}
 use Rattle.pam_tables.specs.declared.access.AccessAnswer.TheVariants as access
+use Rattle.pam_table_check.specs.declared.problem.TableFinding.{TableFinding}
 use Rattle.pam_times.specs.declared.times.TimeAnswer.{TimeAnswer}
 use Rattle.pam_times.specs.declared.times.TimeAnswer.TheVariants as times
 use Rattle.pam_words.specs.declared.wanted.GraphFormat.{GraphFormat}
@@ -26,6 +27,7 @@ use Rattle.pam_words.specs.declared.wanted.LevelName.{LevelName}
 use Rattle.pam_words.specs.declared.wanted.LevelName.TheVariants as names
 use Rattle.pam_words.specs.declared.wanted.PagePart.{PagePart}
 use Rattle.pam_report.specs.Decide.{AskedModule}
+use Rattle.pam_report.specs.TablePaths.{TablePathsText, level_of_table_problem}
 use Rattle.pam_report.specs.declared.fault.Fault.{Fault}
 use Rattle.pam_report.specs.declared.report.Status.{Status}
 use Rattle.pam_report.specs.declared.report.Status.TheVariants.{Success, Refusal}
@@ -80,15 +82,17 @@ pub record PageValue : Type 0 where
   pub limit : ℕ
   pub part : PagePart
 
--- the findings of a host that are not accepted: the path of its configuration and of each file, the services that were checked,
--- the first way in of each, the name of the accept file and its lines that accept nothing, and the least level that makes the
--- status a refusal
+-- the findings of a host and the problems of its tables that are not accepted: the path of its configuration and of each file, and
+-- of each table, the services that were checked, the first way in of each, the name of the accept file and its lines that accept
+-- nothing, and the least level that makes the status a refusal
 pub record CheckValue : Type 0 where
   pub form : Form
   pub paths : List (List ℕ)
   pub services : List (List ℕ)
   pub found : List (Place × Finding)
   pub ways_in : List (Option WayIn)
+  pub table_paths : TablePathsText
+  pub tables : List TableFinding
   pub accept : List ℕ
   pub unused : List ℕ
   pub fail_on : LevelName
@@ -135,6 +139,10 @@ counts names.Error level = false
 abbrev pub has_counting : LevelName → List (Place × Finding) → Bool
 has_counting fail_on found = list_any (λ entry. counts fail_on (level_of entry.1.problem)) found
 
+-- some problem of a table counts
+abbrev pub has_counting_table : LevelName → List TableFinding → Bool
+has_counting_table fail_on tables = list_any (λ finding. counts fail_on (level_of_table_problem finding.problem)) tables
+
 abbrev pub is_empty : {A : Type 0} → List A → Bool
 is_empty [] = true
 is_empty (x ∷ xs) = false
@@ -142,7 +150,9 @@ is_empty (x ∷ xs) = false
 -- a line of the accept file that accepts nothing counts as a warning does
 abbrev pub check_status : CheckValue → Status
 check_status value =
-    if has_counting value.fail_on value.found || (counts value.fail_on levels.Warning && not (is_empty value.unused)) then Refusal else Success
+    if has_counting value.fail_on value.found
+        || (has_counting_table value.fail_on value.tables || (counts value.fail_on levels.Warning && not (is_empty value.unused)))
+    then Refusal else Success
 
 -- THE STATUS of a reply
 abbrev pub status_of : Reply → Status

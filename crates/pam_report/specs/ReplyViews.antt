@@ -6,6 +6,7 @@ use Rattle.pam_report.specs.Decide.{AskedModule}
 use Rattle.pam_report.specs.Inputs.{no_files}
 use Rattle.pam_report.specs.PageView.{page_value}
 use Rattle.pam_report.specs.Reply as spec
+use Rattle.pam_report.specs.TablePaths.{table_paths_view}
 use Rattle.pam_report.specs.declared.report.check.CheckReply.{CheckReply}
 use Rattle.pam_report.specs.declared.report.graph.GraphReply.{GraphReply}
 use Rattle.pam_report.specs.declared.report.outcomes.Outcome.{Outcome}
@@ -58,6 +59,8 @@ check_view c = record {
   services = c.report.services;
   found = c.found.items;
   ways_in = c.report.ways_in.items;
+  table_paths = table_paths_view c.table_paths;
+  tables = c.tables.items;
   accept = c.accept.now;
   unused = c.unused.items;
   fail_on = c.fail_on;

@@ -4,7 +4,7 @@ ghost use Rattle.std.specs.Prelude.{◌≡◌, ◌++◌, ◌≤◌, IfOk, OnOk, 
 ghost use Rattle.pam_codes.specs.Line.{line_text, piece_text};
 ghost use Rattle.pam_report.specs.Fault as spec;
 ghost use Rattle.pam_report.specs.Fault.{IsNumbered};
-ghost use Rattle.pam_report.specs.FaultTable.{conf_row as conf_fault_row};
+ghost use Rattle.pam_report.specs.FaultTable.{conf_row as conf_fault_row, table_row as table_fault_row, time_row as time_fault_row};
 ghost use Rattle.pam_report.specs.FaultViews.{row_view};
 
 mod row;
@@ -256,6 +256,20 @@ pub fn conf_name(kind: FaultKind) -> &'static str
     ensures { result.now ≡ (conf_fault_row kind).name }
 {
     conf_row(kind).name
+}
+
+/// Returns the number and the name of a fault of a group file or an access table, as `TE2 BadPermission`.
+pub(crate) fn table_fault_name(fault: TableFault) -> &'static str
+    ensures { result.now ≡ (table_fault_row fault).name }
+{
+    table_row(fault).name
+}
+
+/// Returns the number and the name of a fault of a time table, as `TE6 BadTimes`.
+pub(crate) fn time_fault_name(fault: TimeFault) -> &'static str
+    ensures { result.now ≡ (time_fault_row fault).name }
+{
+    time_row(fault).name
 }
 
 /// Returns the exit status of a fault.

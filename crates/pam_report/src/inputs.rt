@@ -1,13 +1,17 @@
 //! The contents of the files that a request names.
 
-ghost use Rattle.std.specs.Prelude.{◌≡◌, None, option_map};
+ghost use Rattle.std.specs.Prelude.{◌≡◌, [], None, option_map};
+ghost use Rattle.std.specs.Option.{option_map_or};
 ghost use Rattle.pam_report.specs.Inputs.{fits_check as fits_check_in, has_paths as has_paths_in, tables_given as tables_in, timed as timed_text};
+ghost use Rattle.pam_report.specs.Inputs.{has_named_tables};
 ghost use Rattle.pam_report.specs.Known.{with_time};
 ghost use Rattle.pam_known.specs.Tables.{tables_view, timed_view};
 
 use jiff::civil::DateTime;
 use pam_conf::Files;
+use crate::tables::TablePaths;
 use pam_known::{Tables, TimedTable};
+use pam_table_check::HostTables;
 use pam_text::Texts;
 use pam_words::{CheckFiles, KnowledgeSource, Request, Task};
 use std::alloc::{AllocError, AllocFailed};
@@ -43,11 +47,28 @@ impl<T: Drop> From<AllocFailed<T>> for InputError {
     }
 }
 
+/// A table, and the path under which it was read.
+#[derive(Drop)]
+pub struct TableFile {
+    pub path: Vec<u8>,
+    pub bytes: Vec<u8>,
+}
+
+/// The tables that modules read, as far as they are given.
+#[derive(Drop)]
+pub struct TableFiles {
+    pub groups: Option<TableFile>,
+    pub access: Option<TableFile>,
+    pub time: Option<TableFile>,
+}
+
 /// What a check is given besides the configuration.
 #[derive(Drop)]
 pub struct CheckInputs {
     /// The paths at which a module is there, as rules write them; `None` if that is not known.
     pub there: Option<Texts>,
+    /// The tables that are named, and those of a root that are there.
+    pub tables: TableFiles,
     /// The contents of the facts file, if one is named.
     pub facts: Option<Vec<u8>>,
     /// The contents of the accept file, if one is named.
@@ -89,9 +110,12 @@ impl Inputs {
     ghost use Rattle.std.specs.Prelude.{◌≡◌, [], option_map};
     ghost use Rattle.std.specs.Option.{option_map_or};
     ghost use Rattle.pam_report.specs.Inputs.{accept_given, access_given, facts_given, files_given, fits_knowledge, fits_task};
-    ghost use Rattle.pam_report.specs.Inputs.{group_file, paths_given, there_given, time_given};
+    ghost use Rattle.pam_report.specs.Inputs.{group_file, host_tables_given, paths_given, table_paths_given, there_given, time_given};
+    ghost use Rattle.pam_report.specs.TablePaths.{table_paths_view};
+    ghost use Rattle.pam_table_check.specs.Tables.{tables_view as host_tables_view};
 
-    /// Whether these are the contents of exactly the files that the request names, each with its path for `check`.
+    /// Whether these are the contents of exactly the files that the request names, each with its path for `check`. A check may
+    /// be given tables that it does not name: those of a root.
     pub fn fits(&self, request: &Request<'_>) -> bool
         ensures { result ≡ fits_task request.now.task self.now }
     {
@@ -185,6 +209,42 @@ impl Inputs {
         }
     }
 
+    /// Returns the tables of `check`, as far as they are given.
+    pub(crate) fn host_tables(&self) -> HostTables<'_>
+        ensures { host_tables_view result ≡ host_tables_given self.now }
+    {
+        match self {
+            Inputs::Host { given, .. } => HostTables {
+                groups: table_bytes(&given.tables.groups),
+                access: table_bytes(&given.tables.access),
+                time: table_bytes(&given.tables.time),
+            },
+            _ => HostTables {
+                groups: None,
+                access: None,
+                time: None,
+            },
+        }
+    }
+
+    /// Returns the paths of the tables of `check`, each empty if it is not given.
+    pub(crate) fn table_paths(&self) -> TablePaths<'_>
+        ensures { table_paths_view result ≡ table_paths_given self.now }
+    {
+        match self {
+            Inputs::Host { given, .. } => TablePaths {
+                groups: table_path(&given.tables.groups),
+                access: table_path(&given.tables.access),
+                time: table_path(&given.tables.time),
+            },
+            _ => TablePaths {
+                groups: b"",
+                access: b"",
+                time: b"",
+            },
+        }
+    }
+
     /// Returns the paths of a configuration and of its files, for `check`.
     pub(crate) fn paths(&self) -> Option<&Texts>
         ensures { option_map_or (λ paths. paths.now) result [] ≡ paths_given self.now }
@@ -233,12 +293,40 @@ fn has_paths(files: &Files, paths: &Texts) -> bool
     paths.len() > files.len() && paths.len() - files.len() == 1
 }
 
-/// Whether these are the contents of exactly the facts file and the accept file that are named.
+/// Whether each table that is named is given.
+fn has_named_tables(named: &CheckFiles<'_>, given: &TableFiles) -> bool
+    ensures { result ≡ has_named_tables named.now given.now }
+{
+    (named.groups.is_none() || given.groups.is_some())
+        && (named.access.is_none() || given.access.is_some())
+        && (named.time.is_none() || given.time.is_some())
+}
+
+/// Whether these are the contents of exactly the facts file and the accept file that are named, and of each table that is named.
 fn fits_check(named: &CheckFiles<'_>, given: &CheckInputs) -> bool
     ensures { result ≡ fits_check_in named.now given.now }
 {
     given.facts.is_some() == named.facts.is_some()
         && given.accept.is_some() == named.accept.is_some()
+        && has_named_tables(named, &given.tables)
+}
+
+fn table_bytes(table: &Option<TableFile>) -> Option<&[u8]>
+    ensures { option_map (λ b. b.now) result ≡ option_map (λ t. t.bytes.items) table.now }
+{
+    match table {
+        Some(table) => Some(table.bytes.as_slice()),
+        None => None,
+    }
+}
+
+fn table_path(table: &Option<TableFile>) -> &[u8]
+    ensures { result.now ≡ option_map_or (λ t. t.path.items) table.now [] }
+{
+    match table {
+        Some(table) => table.path.as_slice(),
+        None => b"",
+    }
 }
 
 fn slice_given(bytes: &Option<Vec<u8>>) -> Option<&[u8]>

@@ -27,6 +27,7 @@ pub fn problem_name(problem: Problem) -> &'static str
     match problem {
         Problem::Fault(fault) | Problem::Walk(fault) => conf_name(fault),
         Problem::Released(difference) => difference.name(),
+        Problem::EmptySeparator => "A5 EmptySeparator",
         Problem::LetsNobodyIn { .. } => "S1 LetsNobodyIn",
         Problem::LetsAnybodyIn { .. } => "S2 LetsAnybodyIn",
         Problem::NeverAsked => "S3 NeverAsked",

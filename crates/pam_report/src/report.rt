@@ -21,6 +21,7 @@ mod paths;
 mod renderer;
 mod replies;
 mod show;
+mod table_keys;
 mod time;
 mod trace;
 

@@ -4,6 +4,7 @@ pub mod BitSteps
 pub mod CleanSteps
 pub mod Cutting
 pub mod Digits
+pub mod FaultSteps
 pub mod FlagSteps
 pub mod GroupSteps
 pub mod LineSteps

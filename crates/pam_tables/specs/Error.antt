@@ -29,7 +29,7 @@ FailsAt fault line read = read ≡ Err (fault, line)
 abbrev pub Gives : {X Y : Type 0} → Table → (X → Y) → Result X TableError → Result Y (TableFault × ℕ) → Type 0
 Gives table view result read = GivesAs (λ e r. (e.table ≡ table) × FailsAt e.fault e.line r) view result read
 
--- for private contracts and proofs alone: whether a reading succeeds, or else its fault
+-- whether a reading succeeds, or else its fault
 abbrev pub verdict : {X E : Type 0} → Result X E → Result (Unit {0}) E
 verdict (Ok x) = Ok tt
 verdict (Err e) = Err e

@@ -1,6 +1,8 @@
 pub mod Access
 pub mod Address
 pub mod Error
+pub mod FaultLaws
+pub mod Faults
 pub mod Flags
 pub mod Groups
 pub mod Lines

@@ -111,13 +111,13 @@ pub fn cut_fields<'a>(line: &'a [u8], separators: &ByteSet<'_>) -> Option<Access
 
 /// The bytes that separate fields, and those that separate tokens.
 #[derive(Drop)]
-struct Separators<'s> {
+pub(crate) struct Separators<'s> {
     fields: ByteSet<'s>,
     tokens: ByteSet<'s>,
 }
 
 impl<'s> Separators<'s> {
-    fn of(fields: &'s [u8], tokens: &'s [u8]) -> Self
+    pub(crate) fn of(fields: &'s [u8], tokens: &'s [u8]) -> Self
         ensures fields { result.fields.bytes.now ≡ fields.now }
         ensures tokens { result.tokens.bytes.now ≡ tokens.now }
     {
@@ -144,7 +144,8 @@ fn check_fields(fields: AccessFields<'_>, separators: &ByteSet<'_>) -> Result<()
     check_origins(fields.origins, separators)
 }
 
-fn check_line(line: &[u8], separators: &Separators<'_>) -> Result<(), TableFault>
+/// Checks a line, unless it is a comment or blank.
+pub(crate) fn check_line(line: &[u8], separators: &Separators<'_>) -> Result<(), TableFault>
     ensures { (number : ℕ) → result ≡ verdict (access_line separators.now.fields.bytes.now separators.now.tokens.bytes.now number line.now) }
 {
     if is_passed_over(line) {

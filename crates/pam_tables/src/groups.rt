@@ -4,7 +4,7 @@ ghost use Rattle.std.specs.Prelude.{◌≡◌, ◌==◌, ℕ, [], codes, false, 
 ghost use Rattle.std.specs.List.{list_any};
 ghost use Rattle.std.specs.Option.{option_map_or};
 ghost use Rattle.std.specs.Str.{bytes_eq};
-ghost use Rattle.pam_tables.specs.Error.{Gives, GivesPart};
+ghost use Rattle.pam_tables.specs.Error.{Gives, GivesPart, verdict};
 ghost use Rattle.pam_tables.specs.Groups.{lists_at, lists_user, members_of, group_of_fields, group_at, groups_of};
 ghost use Rattle.pam_tables.specs.Lines.{is_among};
 ghost use Rattle.pam_tables.specs.Named.{with_line};
@@ -54,6 +54,19 @@ fn group_line(line: &[u8]) -> Option<GroupLine<'_>>
     match cut(members, b':') {
         Some(_) => None,
         None => Some(GroupLine { name, members }),
+    }
+}
+
+/// Checks a line, unless it is blank.
+pub(crate) fn check_line(line: &[u8]) -> Result<(), TableFault>
+    ensures { result ≡ verdict (group_at line.now) }
+{
+    if is_blank_text(line) {
+        return Ok(());
+    }
+    match group_line(line) {
+        Some(_) => Ok(()),
+        None => Err(TableFault::BadGroup),
     }
 }
 

@@ -5,8 +5,10 @@
 mod access;
 mod address;
 mod error;
+mod faults;
 mod flags;
 mod groups;
+pub mod laws;
 mod lines;
 mod lists;
 mod login;
@@ -23,6 +25,7 @@ mod users;
 
 pub use access::{AccessAnswer, AccessTable};
 pub use error::{Table, TableError, TableFault};
+pub use faults::{access_faults, group_faults};
 pub use groups::Groups;
 pub use lines::MAX_TABLE_BYTES;
 pub use options::AccessOptions;

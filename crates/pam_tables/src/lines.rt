@@ -15,7 +15,8 @@ use pam_text::{MAX_FILE_BYTES, Source, SourceFault, is_table_blank};
 /// The maximum length of a table, in bytes. A longer one is `TableTooLong`.
 pub const MAX_TABLE_BYTES: usize = MAX_FILE_BYTES;
 
-fn source_error(table: Table, fault: SourceFault) -> TableError
+/// Returns the fault of a table as a whole.
+pub(crate) fn source_error(table: Table, fault: SourceFault) -> TableError
     ensures { result ≡ record { table = table; fault = (fault_at_line fault).0; line = (fault_at_line fault).1 } }
 {
     match fault {

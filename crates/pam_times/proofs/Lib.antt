@@ -1,5 +1,6 @@
 pub mod CheckSteps
 pub mod EntrySteps
+pub mod FaultSteps
 pub mod LawSteps
 pub mod LogicSteps
 pub mod OnePassSteps

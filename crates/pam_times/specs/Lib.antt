@@ -2,6 +2,7 @@ pub mod Checks
 pub mod Entry
 pub mod Error
 pub mod Fact
+pub mod Faults
 pub mod Items
 pub mod Laws
 pub mod Logic

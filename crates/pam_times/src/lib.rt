@@ -5,6 +5,7 @@
 mod entry;
 mod error;
 mod fact;
+mod faults;
 pub mod laws;
 mod logic;
 mod login;
@@ -18,6 +19,7 @@ mod times;
 mod week_time;
 
 pub use error::{TimeError, TimeFault};
+pub use faults::time_faults;
 pub use login::{Login, drop_dev};
 pub use moments::{MomentError, civil, moment};
 pub use times::{TimeAnswer, TimeTable};

@@ -80,12 +80,15 @@ pub record GraphTask : Type 0 where
   pub format : GraphFormat
   pub knowledge : KnowledgeText
 
--- the services are all if none is named. The folders of modules, a facts file and an accept file may be named
+-- the services are all if none is named. The folders of modules, two tables, a group file, a facts file and an accept file may be named
 pub record CheckTask : Type 0 where
   pub source : SourceText
   pub services : List Text
   pub fail_on : LevelName
   pub modules : List Text
+  pub access : Option Text
+  pub time : Option Text
+  pub groups : Option Text
   pub facts : Option Text
   pub accept : Option Text
 
@@ -294,6 +297,9 @@ check_task rows =
       services = texts_of (codes "name") rows;
       fail_on = level;
       modules = texts_of (codes "modules") rows;
+      access = first_of (codes "access") rows;
+      time = first_of (codes "time") rows;
+      groups = first_of (codes "group") rows;
       facts = first_of (codes "facts") rows;
       accept = first_of (codes "accept") rows;
     }))))

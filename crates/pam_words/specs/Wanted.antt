@@ -60,6 +60,9 @@ task_view (Check source services fail_on given) = spec.check (record {
   services = services;
   fail_on = fail_on;
   modules = map (λ s. s.now) given.modules.items;
+  access = option_copied given.access;
+  time = option_copied given.time;
+  groups = option_copied given.groups;
   facts = option_copied given.facts;
   accept = option_copied given.accept;
 })
@@ -180,5 +183,8 @@ RefusesBy kinds _ = kinds ≡ []
 -- for private contracts alone: what a check reads besides the configuration
 pub record IsGiven (rows : List Row) (given : CheckFiles) : Type 0 where
   pub modules : map (λ s. s.now) given.modules.items ≡ texts_of (codes "modules") rows
+  pub access : option_copied given.access ≡ first_of (codes "access") rows
+  pub time : option_copied given.time ≡ first_of (codes "time") rows
+  pub groups : option_copied given.groups ≡ first_of (codes "group") rows
   pub facts : option_copied given.facts ≡ first_of (codes "facts") rows
   pub accept : option_copied given.accept ≡ first_of (codes "accept") rows

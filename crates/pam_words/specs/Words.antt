@@ -57,10 +57,11 @@ abbrev pub with_source : App → App
 with_source app =
     with_rule (with_options app (codes "dir" ∷ codes "vendor-dir" ∷ codes "conf" ∷ codes "root" ∷ [])) (repeated_option_rule (codes "with"))
 
--- the options of a check: the folders of modules, a facts file, an accept file and the level that fails
+-- the options of a check: the folders of modules, two tables and a group file, a facts file, an accept file and the level that fails
 abbrev pub with_check : App → App
 with_check app =
-    with_options (with_rule app (repeated_option_rule (codes "modules"))) (codes "facts" ∷ codes "accept" ∷ codes "fail-on" ∷ [])
+    with_options (with_rule app (repeated_option_rule (codes "modules")))
+    (codes "access" ∷ codes "time" ∷ codes "group" ∷ codes "facts" ∷ codes "accept" ∷ codes "fail-on" ∷ [])
 
 -- `check [SERVICE]...`
 unfoldable pub check_app : App

@@ -85,6 +85,20 @@ pub(crate) const MODULES: ArgRow = ArgRow {
     help: "A folder of modules, in which each module is looked for; may be repeated",
 };
 
+pub(crate) const HOST_ACCESS: ArgRow = ArgRow {
+    form: ArgForm::Optional,
+    id: "access",
+    name: "FILE",
+    help: "The access table of pam_access.so, in place of that of the root",
+};
+
+pub(crate) const HOST_TIME: ArgRow = ArgRow {
+    form: ArgForm::Optional,
+    id: "time",
+    name: "FILE",
+    help: "The time table of pam_time.so, in place of that of the root",
+};
+
 pub(crate) const FACTS: ArgRow = ArgRow {
     form: ArgForm::Optional,
     id: "facts",

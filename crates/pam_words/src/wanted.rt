@@ -92,6 +92,10 @@ pub struct KnowledgeSource<'a> {
 pub struct CheckFiles<'a> {
     /// The folders of modules. With `ConfSource::Root`, those of the system are read too.
     pub modules: Vec<&'a str>,
+    /// The tables and the group file that modules read. With `ConfSource::Root`, those of the system are read where none is named.
+    pub access: Option<&'a str>,
+    pub time: Option<&'a str>,
+    pub groups: Option<&'a str>,
     /// What is known of modules, after the program's own table.
     pub facts: Option<&'a str>,
     /// The findings that are meant to be.

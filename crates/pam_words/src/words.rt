@@ -8,9 +8,9 @@ ghost use Rattle.pam_words.specs.Words.{bare_app, pamcheck_app, version};
 
 use crate::arguments::{
     ACCEPT, ACCESS, ACCESS_TABLE, AFTER, ARGUMENTS, ASKS, AT, AT_UNIX, ArgForm, ArgRow, BEFORE,
-    CODES, CONF, DECISION, DIR, FACTS, FAIL_ON, FORMAT, GROUP, KIND, LIMIT, MODULES, NUMBER,
-    RETURNS, RHOST, ROOT, SERVICE, SERVICES, TABLE_USER, TIME, TIME_TABLE, TTY, USER, VENDOR_DIR,
-    WITH, ZONE,
+    CODES, CONF, DECISION, DIR, FACTS, FAIL_ON, FORMAT, GROUP, HOST_ACCESS, HOST_TIME, KIND, LIMIT,
+    MODULES, NUMBER, RETURNS, RHOST, ROOT, SERVICE, SERVICES, TABLE_USER, TIME, TIME_TABLE, TTY,
+    USER, VENDOR_DIR, WITH, ZONE,
 };
 use crate::number::number_parser;
 use clap::{Arg, ArgAction, Command};
@@ -36,7 +36,8 @@ static COMMANDS: [CommandRow; 11] = [
         name: "check",
         about: "Checks all services for faults, and for stacks that let nobody or anybody in",
         args: &[
-            DIR, VENDOR_DIR, CONF, ROOT, WITH, MODULES, FACTS, ACCEPT, FAIL_ON, SERVICES,
+            DIR, VENDOR_DIR, CONF, ROOT, WITH, MODULES, HOST_ACCESS, HOST_TIME, GROUP, FACTS,
+            ACCEPT, FAIL_ON, SERVICES,
         ],
     },
     CommandRow {

@@ -1,11 +1,12 @@
 //! The findings that are meant to be, by an accept file.
 
-ghost use Rattle.std.specs.Prelude.{◌≡◌, ◌++◌, IfOk, OnOk, map};
+ghost use Rattle.std.specs.Prelude.{◌≡◌, ◌++◌, IfOk, OnOk, Some, map};
 ghost use Rattle.std.specs.List.{list_any};
 ghost use Rattle.std.specs.Option.{option_map};
 ghost use Rattle.std.specs.Str.{bytes_eq};
 ghost use Rattle.pam_report.specs.Accepting as spec;
 ghost use Rattle.pam_report.specs.Fault.{file_at};
+ghost use Rattle.pam_report.specs.TablePaths.{table_paths_view};
 
 use crate::fault::push_pieces;
 use crate::names::{kind_name, problem_name, stack_of};
@@ -13,25 +14,40 @@ use pam_accept::AcceptFile;
 use pam_codes::Piece;
 use pam_conf::{Files, Kind};
 use pam_host::{Finding, HostReport, Place};
+use super::table_keys::{problems_of, push_keys, tables_not_accepted};
+use crate::tables::TablePaths;
+use pam_table_check::{TableFinding, TableReport};
 use pam_text::{Texts, cut};
 use std::alloc::{AllocError, Global};
 use std::collections::BTreeMap;
 
-/// The findings that no line of the accept file accepts, and the numbers of its lines that accept none.
+/// The findings and the problems of tables that no line of the accept file accepts, and the numbers of its lines that accept none.
 #[derive(Drop)]
 pub(super) struct Listed {
     pub(super) found: Vec<(Place, Finding)>,
+    pub(super) tables: Vec<TableFinding>,
     pub(super) unused: Vec<u32>,
 }
 
 /// Returns what is before the blank of a number and a name.
-fn number_in(name: &[u8]) -> &[u8]
+pub(super) fn number_in(name: &[u8]) -> &[u8]
     ensures { result.now ≡ spec.number_in name.now }
 {
     match cut(name, b' ') {
         Some((number, _)) => number,
         None => name,
     }
+}
+
+/// Appends ` FILE:LINE`, or ` FILE` for line 0.
+pub(super) fn push_line(key: &mut Vec<u8>, name: &[u8], line: usize) -> Result<(), AllocError>
+    ensures { OnOk result (key.new.items ≡ key.old.items ++ spec.file_key (Some name.now) line) }
+{
+    push_pieces(key, &[Piece::Bytes(b" "), Piece::Bytes(name)])?;
+    if line == 0 {
+        return Ok(());
+    }
+    push_pieces(key, &[Piece::Bytes(b":"), Piece::Number(line as u64)])
 }
 
 /// The names of files and services.
@@ -90,14 +106,10 @@ impl Names<'_> {
     fn push_file(&self, key: &mut Vec<u8>, place: &Place) -> Result<(), AllocError>
         ensures { OnOk result (key.new.items ≡ key.old.items ++ spec.file_key (file_at self.now.files.now place.now.file) place.now.line) }
     {
-        let Some(name) = self.file(place.file) else {
-            return Ok(());
-        };
-        push_pieces(key, &[Piece::Bytes(b" "), Piece::Bytes(name)])?;
-        if place.line == 0 {
-            return Ok(());
+        match self.file(place.file) {
+            Some(name) => push_line(key, name, place.line),
+            None => Ok(()),
         }
-        push_pieces(key, &[Piece::Bytes(b":"), Piece::Number(place.line as u64)])
     }
 
     /// Returns the key of a finding: its number and its place.
@@ -165,20 +177,36 @@ fn unused(alloc: Global, keys: &Texts, accept: &AcceptFile) -> Result<Vec<u32>, 
     Ok(unused)
 }
 
-/// Returns which of these findings are not accepted, and the lines that accept none.
-fn list_entries(
+/// What may be accepted: the findings of a host, and the problems of its tables.
+#[derive(Clone, Copy)]
+struct Reported<'x> {
+    services: &'x Texts,
+    found: &'x [(Place, Finding)],
+    tables: &'x [TableFinding],
+    paths: TablePaths<'x>,
+}
+
+/// Returns which of these findings and problems are not accepted, and the lines that accept none.
+fn list_reported(
     alloc: Global,
     files: &Files,
-    services: &Texts,
-    found: &[(Place, Finding)],
+    reported: Reported<'_>,
     accept: &AcceptFile,
 ) -> Result<Listed, AllocError>
-    ensures { IfOk result (spec.IsListed accept.now files.now services.now found.now) }
+    ensures { IfOk result (spec.IsListed accept.now files.now reported.entry.services.now reported.entry.found.now
+        (table_paths_view reported.entry.paths) reported.entry.tables.now) }
 {
-    let names = names_of(alloc, files, services)?;
-    let unused = unused(alloc, &names.keys(alloc, found)?, accept)?;
-    let found = not_accepted(alloc, &names, found, accept)?;
-    Ok(Listed { found, unused })
+    let names = names_of(alloc, files, reported.services)?;
+    let mut keys = names.keys(alloc, reported.found)?;
+    push_keys(alloc, &mut keys, &reported.paths, reported.tables)?;
+    let unused = unused(alloc, &keys, accept)?;
+    let found = not_accepted(alloc, &names, reported.found, accept)?;
+    let tables = tables_not_accepted(alloc, &reported.paths, reported.tables, accept)?;
+    Ok(Listed {
+        found,
+        tables,
+        unused,
+    })
 }
 
 /// Returns the findings of a report, in order.
@@ -195,15 +223,25 @@ fn entries(
     Ok(entries)
 }
 
-/// Returns the findings of a report that are not accepted, and the lines that accept none.
+/// Returns the findings of two reports that are not accepted, and the lines that accept none.
 pub(super) fn list_findings(
     alloc: Global,
     files: &Files,
     report: &HostReport,
+    tables: &TableReport,
+    paths: TablePaths<'_>,
     accept: &AcceptFile,
 ) -> Result<Listed, AllocError>
-    ensures { IfOk result (spec.IsListed accept.now files.now report.now.services report.now.found.entries) }
+    ensures { IfOk result (spec.IsListed accept.now files.now report.now.services report.now.found.entries (table_paths_view paths.entry)
+        (spec.table_findings tables.now.found)) }
 {
     let found = entries(alloc, &report.found)?;
-    list_entries(alloc, files, &report.services, &found, accept)
+    let problems = problems_of(alloc, &tables.found)?;
+    let reported = Reported {
+        services: &report.services,
+        found: &found,
+        tables: &problems,
+        paths,
+    };
+    list_reported(alloc, files, reported, accept)
 }

@@ -5,9 +5,10 @@ ghost use Rattle.std.specs.Option.{option_copied, option_map_or};
 ghost use Rattle.pam_host.specs.Levels.{level_of};
 ghost use Rattle.pam_report.specs.Check.{IsAccepted, IsCheck, IsReported, IsUnaccepted, IsUnreported};
 ghost use Rattle.pam_report.specs.Finds.{Finds};
-ghost use Rattle.pam_report.specs.Inputs.{paths_given};
+ghost use Rattle.pam_report.specs.Inputs.{host_tables_given};
+ghost use Rattle.pam_table_check.specs.Report.{IsTableReport};
 ghost use Rattle.pam_report.specs.Memory.{WantsOnly, of_stack};
-ghost use Rattle.pam_report.specs.Reply.{check_status, counts, has_counting};
+ghost use Rattle.pam_report.specs.Reply.{check_status, counts, has_counting, has_counting_table};
 ghost use Rattle.pam_report.specs.ReplyViews.{check_view};
 
 use super::Status;
@@ -20,6 +21,8 @@ use pam_conf::{Files, Form};
 use pam_facts::Facts;
 use pam_host::laws::a_silent_host_is_sound;
 use pam_host::{Finding, HostReport, Level, Place};
+use crate::tables::{TablePaths, table_problem_level};
+use pam_table_check::{TableFinding, TableReport};
 use pam_text::Texts;
 use pam_words::{CheckFiles, LevelName};
 use std::alloc::Global;
@@ -33,6 +36,10 @@ pub struct CheckReply<'a> {
     pub report: HostReport,
     /// The findings of the report that are not accepted, in its order.
     pub found: Vec<(Place, Finding)>,
+    /// The path of each table.
+    pub table_paths: TablePaths<'a>,
+    /// The problems of tables that are not accepted, in order.
+    pub tables: Vec<TableFinding>,
     /// The name of the accept file, empty if there is none.
     pub accept: &'a str,
     /// The numbers of its lines that accept nothing (S8), from 1.
@@ -69,13 +76,25 @@ fn has_counting(found: &[(Place, Finding)], fail_on: LevelName) -> bool
         .any(|entry| counts(fail_on, entry.1.problem.level()))
 }
 
+/// Whether some problem of a table counts.
+fn has_counting_table(tables: &[TableFinding], fail_on: LevelName) -> bool
+    ensures { result ≡ has_counting_table fail_on tables.now }
+{
+    tables
+        .iter()
+        .any(|finding| counts(fail_on, table_problem_level(finding.problem)))
+}
+
 impl CheckReply<'_> {
-    /// Returns a refusal if a finding counts.
+    /// Returns a refusal if a finding or a problem of a table counts.
     pub(super) fn status(&self) -> Status
         ensures { result ≡ check_status (check_view self.now) }
     {
         let has_unused = counts(self.fail_on, Level::Warning) && !self.unused.is_empty();
-        if has_counting(&self.found, self.fail_on) || has_unused {
+        if has_counting(&self.found, self.fail_on)
+            || has_counting_table(&self.tables, self.fail_on)
+            || has_unused
+        {
             Status::Refusal
         } else {
             Status::Success
@@ -98,6 +117,22 @@ fn report(
     };
     match HostReport::of(alloc, files, services, &facts, inputs.there()) {
         Ok(report) => Ok(report),
+        Err(_) => Err(Fault::Memory),
+    }
+}
+
+/// Reports on the tables that the services of a host need.
+fn table_report(
+    alloc: Global,
+    files: &Files,
+    report: &HostReport,
+    inputs: &Inputs,
+) -> Result<TableReport, Fault>
+    ensures ok { IfOk result (λ r. IsTableReport files.now report.now.services (host_tables_given inputs.now) r.found) }
+    ensures err { IfErr result (λ fault. fault ≡ Fault.Memory) }
+{
+    match TableReport::of(alloc, files, &report.services, &inputs.host_tables()) {
+        Ok(tables) => Ok(tables),
         Err(_) => Err(Fault::Memory),
     }
 }
@@ -134,7 +169,9 @@ pub(super) fn checked<'a>(
     a_silent_host_is_sound();
     let report = report(alloc, asked.services, files, inputs)?;
     let accept = accepted(alloc, inputs)?;
-    let Ok(listed) = list_findings(alloc, files, &report, &accept) else {
+    let tables = table_report(alloc, files, &report, inputs)?;
+    let paths = inputs.table_paths();
+    let Ok(listed) = list_findings(alloc, files, &report, &tables, paths, &accept) else {
         return Err(Fault::Memory);
     };
     Ok(Reply::Check(CheckReply {
@@ -142,6 +179,8 @@ pub(super) fn checked<'a>(
         paths: inputs.paths(),
         report,
         found: listed.found,
+        table_paths: paths,
+        tables: listed.tables,
         accept: accept_name(asked.given),
         unused: listed.unused,
         fail_on: asked.fail_on,

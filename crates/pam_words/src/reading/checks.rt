@@ -73,6 +73,9 @@ fn given<'a>(alloc: Global, matches: &ArgMatches<'a>) -> Result<CheckFiles<'a>, 
 {
     Ok(CheckFiles {
         modules: folders(alloc, matches)?,
+        access: value(matches, "access"),
+        time: value(matches, "time"),
+        groups: value(matches, "group"),
         facts: value(matches, "facts"),
         accept: value(matches, "accept"),
     })

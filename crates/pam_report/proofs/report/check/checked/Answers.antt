@@ -17,7 +17,11 @@ returns-clause-answer c =
       same_accept = c.accept_name.ensures;
       all = c.in_ok-report.report.found;
       report = reported.is_report;
+      same_table_paths = c.table_paths-paths.ensures;
+      all_tables = c.in_ok-tables.tables.found;
+      table_report = c.in_ok-tables.ensures.ok;
       not_accepted = listed.found;
+      tables_not_accepted = listed.tables_found;
       unused = listed.unused;
       silence = silent-check c.a_silent_host_is_sound.ensures c.args.files.now c.args.asked.services.now reported.facts _ c.in_ok-report.report.found
           c.in_ok-report.report.ways_in.items reported.is_report c.in_ok-report.report.services reported.are_services _ _ listed.found;
