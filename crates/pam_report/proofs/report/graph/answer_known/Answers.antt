@@ -12,7 +12,7 @@ returns-then-is_too_large-clause-answer c allows agree =
       refused-is c.args.request.now.format stack.service.now stack.kind c.args.found.stack graph (sym c.is_too_large.ensures ∙ c.if-is_too_large.true),
     )
 
-pub returns-clause-answer : goal.returns-else-is_too_large-clause-answer
+pub returns-clause-answer : goal.returns-clause-answer
 returns-clause-answer c allows agree =
     let stack = c.args.request.now.stack in
     let graph = c.in-Ok.graph in
