@@ -2,6 +2,8 @@ pub mod About
 pub mod Answer
 pub mod Check
 pub mod CheckNames
+pub mod Compare
+pub mod CompareParts
 pub mod Decide
 pub mod Drawing
 pub mod Explain

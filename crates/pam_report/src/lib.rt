@@ -10,9 +10,9 @@ mod report;
 pub use fault::{
     Fault, conf_name, fault_status, fault_text, input_status, input_text, usage_status, usage_text,
 };
-pub use inputs::{CheckInputs, InputError, Inputs};
+pub use inputs::{CheckInputs, InputError, Inputs, SideInputs};
 pub use names::{kind_name, problem_name, stack_of};
 pub use report::{
-    AskedModule, CheckReply, GraphReply, Outcome, Outcomes, OutcomesReply, PageRenderer, PathsPage,
+    AskedModule, CheckReply, CompareReply, GraphReply, Outcome, Outcomes, OutcomesReply, PageRenderer, PathsPage,
     Reply, RunReply, StackReply, Status, Trace, path_at, reply_to,
 };
