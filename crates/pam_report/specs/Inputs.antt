@@ -13,6 +13,7 @@ use Rattle.pam_words.specs.declared.wanted.Task.{Task}
 use Rattle.pam_words.specs.declared.wanted.KnowledgeSource.{KnowledgeSource}
 use Rattle.pam_words.specs.declared.wanted.Task.TheVariants.{Check, Compare, Show, Decide, Access, Time, Paths, Outcomes, Graph, Explain, Facts, Version}
 use Rattle.pam_words.specs.declared.wanted.CheckFiles.{CheckFiles}
+use Rattle.pam_words.specs.declared.wanted.CompareFiles.{CompareFiles}
 use Rattle.pam_report.specs.declared.inputs.CheckInputs.{CheckInputs}
 use Rattle.pam_report.specs.declared.inputs.SideInputs.{SideInputs}
 use Rattle.pam_report.specs.declared.inputs.Inputs.{Inputs}
@@ -104,11 +105,14 @@ has_paths files paths = length paths == suc (length files.entries)
 abbrev pub fits_check : CheckFiles → CheckInputs → Bool
 fits_check named given = beq (is_some given.facts) (is_some named.facts) && beq (is_some given.accept) (is_some named.accept)
 
+-- the contents of exactly the facts file and the returns file that are named
+abbrev pub fits_compare : CompareFiles → Option (Vec ℕ Global) → Option (Vec ℕ Global) → Bool
+fits_compare named facts returns = beq (is_some facts) (is_some named.facts) && beq (is_some returns) (is_some named.returns)
+
 -- the contents of exactly the files that a task names are given
 abbrev pub fits_task : Task → Inputs → Bool
 fits_task (Check source services fail_on named) (inputs.Host files paths given) = has_paths files paths && fits_check named given
-fits_task (Compare old new service kind named) (inputs.Sides old_side new_side facts returns) =
-    beq (is_some facts) (is_some named.facts) && beq (is_some returns) (is_some named.returns)
+fits_task (Compare old new service kind named) (inputs.Sides old_side new_side facts returns) = fits_compare named facts returns
 fits_task (Show source kind) (inputs.Stack files) = true
 fits_task (Decide source kind answered) (inputs.Stack files) = true
 fits_task (Access name groups_named login arguments) (inputs.Access table groups) = beq (is_some groups) (is_some groups_named)

@@ -1,7 +1,7 @@
 //! The contents of the files that a request names.
 
 ghost use Rattle.std.specs.Prelude.{◌≡◌, None, option_map};
-ghost use Rattle.pam_report.specs.Inputs.{fits_check as fits_check_in, has_paths as has_paths_in, tables_given as tables_in, timed as timed_text};
+ghost use Rattle.pam_report.specs.Inputs.{fits_check as fits_check_in, fits_compare as fits_compare_in, has_paths as has_paths_in, tables_given as tables_in, timed as timed_text};
 ghost use Rattle.pam_report.specs.Known.{with_time};
 ghost use Rattle.pam_known.specs.Tables.{tables_view, timed_view};
 
@@ -9,7 +9,7 @@ use jiff::civil::DateTime;
 use pam_conf::Files;
 use pam_known::{Tables, TimedTable};
 use pam_text::Texts;
-use pam_words::{CheckFiles, KnowledgeSource, Request, Task};
+use pam_words::{CheckFiles, CompareFiles, KnowledgeSource, Request, Task};
 use std::alloc::{AllocError, AllocFailed};
 use thiserror::Error;
 
@@ -120,8 +120,7 @@ impl Inputs {
                 Task::Check { given: named, .. },
             ) => { has_paths(files, paths) && fits_check(named, given) }
             (Inputs::Sides { facts, returns, .. }, Task::Compare { given: named, .. }) => {
-                facts.is_some() == named.facts.is_some()
-                    && returns.is_some() == named.returns.is_some()
+                fits_compare(named, facts, returns)
             }
             (Inputs::Stack(_), Task::Show { .. }) => true,
             (Inputs::Stack(_), Task::Decide { .. }) => true,
@@ -290,6 +289,17 @@ fn fits_check(named: &CheckFiles<'_>, given: &CheckInputs) -> bool
 {
     given.facts.is_some() == named.facts.is_some()
         && given.accept.is_some() == named.accept.is_some()
+}
+
+/// Whether these are the contents of exactly the facts file and the returns file that are named.
+fn fits_compare(
+    named: &CompareFiles<'_>,
+    facts: &Option<Vec<u8>>,
+    returns: &Option<Vec<u8>>,
+) -> bool
+    ensures { result ≡ fits_compare_in named.now facts.now returns.now }
+{
+    facts.is_some() == named.facts.is_some() && returns.is_some() == named.returns.is_some()
 }
 
 fn slice_given(bytes: &Option<Vec<u8>>) -> Option<&[u8]>

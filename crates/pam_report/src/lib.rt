@@ -13,6 +13,6 @@ pub use fault::{
 pub use inputs::{CheckInputs, InputError, Inputs, SideInputs};
 pub use names::{kind_name, problem_name, stack_of};
 pub use report::{
-    AskedModule, CheckReply, CompareReply, GraphReply, Outcome, Outcomes, OutcomesReply, PageRenderer, PathsPage,
-    Reply, RunReply, StackReply, Status, Trace, path_at, reply_to,
+    AskedModule, CheckReply, CompareReply, GraphReply, Outcome, Outcomes, OutcomesReply,
+    PageRenderer, PathsPage, Reply, RunReply, StackReply, Status, Trace, path_at, reply_to,
 };
