@@ -184,6 +184,8 @@ class Request:
             return b"".join(b" ".join(row) + b"\n" for row in plain_host.FACTS), 0
         if self.command == b"version":
             return VERSION, 0
+        if self.command == b"compare":
+            return self.comparison(tree).whole()
         source = plain_sources.Source(self.options, tree) if self.command in WITH_SOURCE else None
         self.tables = {}
         for option in (b"--group", b"--access", b"--time", b"--returns"):
@@ -197,8 +199,6 @@ class Request:
             return (b"granted\n", 0) if granted else (b"denied line %d\n" % line, 1)
         if self.command == b"check":
             return self.check(source, tree)
-        if self.command == b"compare":
-            return self.compare(tree)
         items, modules = stacks.resolve(source.files, self.service, self.kind)
         header = b"%s %s %d modules\n" % (self.service, self.kind, len(modules))
         if self.command == b"show":
@@ -244,11 +244,6 @@ class Request:
         old, new = [plain_compare.Side(files, there, facts, returns) for files, there in sides]
         return plain_compare.Comparison(old, new, self.arguments[2] if len(self.arguments) > 2 else None, self.kind_named())
 
-    def compare(self, tree):
-        """The lines of a comparison that shows no answers."""
-        lines, status = self.comparison(tree).text()
-        assert all(isinstance(line, bytes) for line in lines), "which answers are shown is not said here"
-        return b"".join(lines), status
 
     def login(self):
         """The login that the words tell."""

@@ -1,5 +1,5 @@
 -- The text of `compare`: a line for each change, and a last line with their numbers.
-use Rattle.std.specs.Prelude.{ℕ, suc, ◌+◌, ◌==◌, ◌||◌, nat_lt, Bool, true, false, not, List, [], ◌∷◌, ◌++◌, codes, count_by, decimal, if◌then◌else◌}
+use Rattle.std.specs.Prelude.{ℕ, zero, suc, ◌+◌, ◌==◌, ◌||◌, nat_lt, Bool, true, false, not, List, [], ◌∷◌, ◌++◌, codes, count_by, decimal, if◌then◌else◌}
 use Rattle.std.specs.Prelude.{is_some, Option, None, Some, slice_get}
 use Rattle.std.specs.List.{flat_map}
 use Rattle.std.specs.Option.{option_map_or}
@@ -34,7 +34,7 @@ use Rattle.pam_print.specs.Header.{code_name, kind_name}
 
 -- how many of the modules up to a number have a path
 abbrev pub with_path : Items → List ℕ → ℕ → ℕ
-with_path items path 0 = 0
+with_path items path zero = 0
 with_path items path (suc number) = with_path items path number + (if bytes_eq (path_at (suc number) items) path then 1 else 0)
 
 -- which of the modules with its path a module is, from 1
@@ -94,9 +94,13 @@ change_line head pair change shown =
 abbrev pub change_if_any : Head → StackPair → List ℕ → Option Shown → List ℕ
 change_if_any head pair change shown = option_map_or (change_line head pair change) shown []
 
--- a module, and what changes in it, after a colon if it is the first
+-- a colon before the first, a comma before each other
+abbrev pub separator : Bool → List ℕ
+separator more = if more then codes ", " else codes ": "
+
+-- a module, and what changes in it
 unfoldable pub numbered_text : Items → List ℕ → Bool → ℕ → List ℕ
-numbered_text items change more number = (if more then codes ", " else codes ": ") ++ module_text items number ++ codes " " ++ change
+numbered_text items change more number = separator more ++ module_text items number ++ codes " " ++ change
 
 abbrev pub numbered : Items → List ℕ → Bool → List ℕ → List ℕ
 numbered items change more [] = []
@@ -106,17 +110,24 @@ abbrev pub has_any : List ℕ → Bool
 has_any [] = false
 has_any (n ∷ ns) = true
 
+-- the modules that were moved, or got another control
+abbrev pub moved_text : StackPair → Bool → List ℕ
+moved_text pair more =
+    let m = pair.modules in
+    numbered pair.new (codes "moved") more m.moved.items
+    ++ numbered pair.new (codes "with another control") (more || has_any m.moved.items) m.controls.items
+
+-- those that were added, before them
+abbrev pub added_text : StackPair → Bool → List ℕ
+added_text pair more =
+    let m = pair.modules in
+    numbered pair.new (codes "added") more m.added.items ++ moved_text pair (more || has_any m.added.items)
+
 -- the modules that were removed, added or moved, or got another control
 abbrev pub module_changes : StackPair → List ℕ
 module_changes pair =
     let m = pair.modules in
-    let removed = has_any m.removed.items in
-    let added = removed || has_any m.added.items in
-    let moved = added || has_any m.moved.items in
-    numbered pair.old (codes "removed") false m.removed.items
-    ++ numbered pair.new (codes "added") removed m.added.items
-    ++ numbered pair.new (codes "moved") added m.moved.items
-    ++ numbered pair.new (codes "with another control") moved m.controls.items
+    numbered pair.old (codes "removed") false m.removed.items ++ added_text pair (has_any m.removed.items)
 
 -- `SERVICE KIND same decisions: MODULE removed, MODULE moved`
 unfoldable pub same_line : Head → StackPair → List ℕ
@@ -126,16 +137,25 @@ abbrev pub tells_text : Head → StackPair → Option Shown → List ℕ
 tells_text head pair None = same_line head pair
 tells_text head pair (Some shown) = change_line head pair (codes "tells") shown
 
--- who is let in now, and who no longer; another failure only where nobody is
+-- who is let in now, and who no longer
+abbrev pub grave_text : Head → StackPair → ShownChanges → List ℕ
+grave_text head pair changes =
+    change_if_any head pair (codes "admits") changes.admits ++ change_if_any head pair (codes "refuses") changes.refuses
+
+abbrev pub is_grave : ShownChanges → Bool
+is_grave changes = is_some changes.admits || is_some changes.refuses
+
+-- another failure only where nobody is let in and nobody no longer
 abbrev pub changes_text : Head → StackPair → ShownChanges → List ℕ
-changes_text head pair changes =
-    if is_some changes.admits || is_some changes.refuses
-    then change_if_any head pair (codes "admits") changes.admits ++ change_if_any head pair (codes "refuses") changes.refuses
-    else tells_text head pair changes.tells
+changes_text head pair changes = if is_grave changes then grave_text head pair changes else tells_text head pair changes.tells
+
+-- `SERVICE KIND not known: more than N situations`
+unfoldable pub not_known_line : Head → List ℕ
+not_known_line head = head_text head ++ codes " not known: more than " ++ decimal MAX_SITUATIONS ++ codes " situations\n"
 
 abbrev pub decisions_in : Head → StackPair → Decisions → List ℕ
 decisions_in head pair (Known changes) = changes_text head pair changes
-decisions_in head pair NotKnown = head_text head ++ codes " not known: more than " ++ decimal MAX_SITUATIONS ++ codes " situations\n"
+decisions_in head pair NotKnown = not_known_line head
 
 unfoldable pub decisions_text : Head → StackPair → List ℕ
 decisions_text head pair = decisions_in head pair pair.decisions
@@ -169,12 +189,10 @@ abbrev pub side_text : Folder → Option ConfError → List ℕ
 side_text files None = codes "accepted"
 side_text files (Some fault) = fault_text files fault
 
-abbrev pub sides_text : CompareValue → Option ConfError → Option ConfError → List ℕ
-sides_text value old new = side_text value.old old ++ codes ", new " ++ side_text value.new new
-
 -- `SERVICE KIND refused: old FAULT, new FAULT`
 unfoldable pub refused_line : CompareValue → Head → Option ConfError → Option ConfError → List ℕ
-refused_line value head old new = head_text head ++ codes " refused: old " ++ sides_text value old new ++ codes "\n"
+refused_line value head old new =
+    head_text head ++ codes " refused: old " ++ side_text value.old old ++ codes ", new " ++ side_text value.new new ++ codes "\n"
 
 -- `SERVICE KIND as SERVICE KIND`
 unfoldable pub as_line : Head → Head → List ℕ
@@ -184,9 +202,9 @@ as_line head first = head_text head ++ codes " as " ++ head_text first ++ codes 
 abbrev pub pair_at : CompareValue → ComparedStack → StackPair → List ℕ
 pair_at value stack pair =
     let services = value.changes.services.items in
-    let head = record { service = service_at services stack.service; kind = stack.kind } in
-    if stack.service == pair.service then pair_text head pair
-    else as_line head (record { service = service_at services pair.service; kind = pair.kind })
+    let head : Head = record { service = service_at services stack.service; kind = stack.kind } in
+    let first : Head = record { service = service_at services pair.service; kind = pair.kind } in
+    if stack.service == pair.service then pair_text head pair else as_line head first
 
 abbrev pub stack_in : CompareValue → ComparedStack → StackChange → List ℕ
 stack_in value stack changes.NoStack = []
@@ -217,11 +235,14 @@ presence services position = option_map_or only_text (slice_get services positio
 abbrev pub if_first : List ComparedService → Option ℕ → ℕ → List ℕ
 if_first services before position = if option_map_or (λ b. b == position) before false then [] else presence services position
 
+-- the lines of a stack, after that of its service
+abbrev pub next_stack : CompareValue → Option ℕ → ComparedStack → List ℕ
+next_stack value before stack = if_first value.changes.services.items before stack.service ++ stack_text value stack
+
 -- the lines of stacks, before the first of which came one of this service
 abbrev pub lines_after : CompareValue → Option ℕ → List ComparedStack → List ℕ
 lines_after value before [] = []
-lines_after value before (stack ∷ stacks) =
-    if_first value.changes.services.items before stack.service ++ stack_text value stack ++ lines_after value (Some stack.service) stacks
+lines_after value before (stack ∷ stacks) = next_stack value before stack ++ lines_after value (Some stack.service) stacks
 
 -- THE LAST LINE
 
@@ -233,24 +254,17 @@ is_stack _ = true
 abbrev pub compared_count : List ComparedStack → ℕ
 compared_count stacks = count_by (λ s. is_stack s.change) stacks
 
--- the numbers of stacks of each verdict
-unfoldable pub counts_text : Counts → List ℕ
-counts_text counts =
-    decimal counts.equal ++ codes " equal, " ++ decimal counts.same_decisions ++ codes " with the same decisions, "
-    ++ decimal counts.changed ++ codes " changed, " ++ decimal counts.refused ++ codes " refused, " ++ decimal counts.not_known ++ codes " not known"
-
 -- `; N services WHERE`, but nothing for none
 abbrev pub only_count : ℕ → List ℕ → List ℕ
 only_count count place = if count == 0 then [] else codes "; " ++ counted count (codes "service") ++ place
 
--- the numbers of services that only one configuration has
-abbrev pub only_counts : Counts → List ℕ
-only_counts counts = only_count counts.only_in_old (codes " only in old") ++ only_count counts.only_in_new (codes " only in new")
-
--- `compared STACKS: COUNTS; SERVICES`
+-- `compared STACKS: N equal, N with the same decisions, N changed, N refused, N not known; N services only in old`
 unfoldable pub last_line : ℕ → Counts → List ℕ
 last_line stacks counts =
-    codes "compared " ++ counted stacks (codes "stack") ++ codes ": " ++ counts_text counts ++ only_counts counts ++ codes "\n"
+    codes "compared " ++ counted stacks (codes "stack") ++ codes ": " ++ decimal counts.equal ++ codes " equal, " ++ decimal counts.same_decisions
+    ++ codes " with the same decisions, " ++ decimal counts.changed ++ codes " changed, " ++ decimal counts.refused ++ codes " refused, "
+    ++ decimal counts.not_known ++ codes " not known" ++ only_count counts.only_in_old (codes " only in old")
+    ++ only_count counts.only_in_new (codes " only in new") ++ codes "\n"
 
 -- THE TEXT of `compare`
 abbrev pub compare_text : CompareValue → List ℕ

@@ -1,16 +1,19 @@
 //! The text of `compare`: a line for each change, and a last line with their numbers.
 
-ghost use Rattle.std.specs.Prelude.{◌≡◌, None};
+ghost use Rattle.std.specs.Prelude.{◌≡◌, ◌++◌, None};
 ghost use Rattle.pam_codes.specs.Out.{Writes, WritesAndFlushes};
 ghost use Rattle.pam_report.specs.ReplyViews.{compare_view};
-ghost use Rattle.pam_print.specs.Compare.{compare_text, compared_count, counts_text, if_first, is_stack, last_line, lines_after};
-ghost use Rattle.pam_print.specs.Compare.{only_count, only_counts, only_text, presence};
+ghost use Rattle.pam_print.specs.Check.{shown_name};
+ghost use Rattle.pam_print.specs.Compare.{compare_text, compared_count, if_first, is_stack, last_line, lines_after, next_stack};
+ghost use Rattle.pam_print.specs.Compare.{only_text, presence};
 
+mod asked;
+mod modules;
 mod pair;
 mod parts;
 mod stack;
 
-use crate::check::put_counted;
+use crate::check::put_name;
 use pam_changes::{ComparedService, ComparedStack, Counts, StackChange};
 use pam_codes::{Device, Out};
 use pam_report::CompareReply;
@@ -18,19 +21,21 @@ use parts::{Part, put_parts};
 use stack::put_stack;
 use std::io::Write;
 
+/// Writes `SERVICE` and where alone it is.
+fn put_only_line<W: Write>(name: &[u8], place: &[u8], out: &mut Out<W>) -> Result<(), Device>
+    ensures { Writes W.contents out.old out.new result (shown_name name.now ++ place.now) }
+{
+    put_name(name, out)?;
+    out.put(place)
+}
+
 /// Writes `SERVICE only in old` or `SERVICE only in new`, but nothing for a service that both or neither has.
 fn put_only<W: Write>(service: &ComparedService, out: &mut Out<W>) -> Result<(), Device>
     ensures { Writes W.contents out.old out.new result (only_text service.now) }
 {
     match (service.in_old, service.in_new) {
-        (true, false) => put_parts(
-            &[Part::Name(&service.name), Part::Text(b" only in old\n")],
-            out,
-        ),
-        (false, true) => put_parts(
-            &[Part::Name(&service.name), Part::Text(b" only in new\n")],
-            out,
-        ),
+        (true, false) => put_only_line(&service.name, b" only in old\n", out),
+        (false, true) => put_only_line(&service.name, b" only in new\n", out),
         _ => Ok(()),
     }
 }
@@ -64,14 +69,30 @@ fn put_if_first<W: Write>(
     put_presence(services, position, out)
 }
 
+/// Writes what changes in a stack, after a line for a service that only one configuration has.
+fn put_next_stack<W: Write>(
+    reply: &CompareReply<'_>,
+    before: Option<usize>,
+    stack: &ComparedStack,
+    out: &mut Out<W>,
+) -> Result<(), Device>
+    ensures { Writes W.contents out.old out.new result (next_stack (compare_view reply.now) before stack.now) }
+{
+    put_if_first(&reply.changes.services, before, stack.service, out)?;
+    put_stack(reply, stack, out)
+}
+
 /// Writes what changes in each stack.
-fn put_stacks<W: Write>(reply: &CompareReply<'_>, out: &mut Out<W>) -> Result<(), Device>
-    ensures { Writes W.contents out.old out.new result (lines_after (compare_view reply.now) None reply.now.changes.stacks.items) }
+fn put_stacks<W: Write>(
+    reply: &CompareReply<'_>,
+    stacks: &[ComparedStack],
+    out: &mut Out<W>,
+) -> Result<(), Device>
+    ensures { Writes W.contents out.old out.new result (lines_after (compare_view reply.now) None stacks.now) }
 {
     let mut before = None;
-    for stack in &reply.changes.stacks {
-        put_if_first(&reply.changes.services, before, stack.service, out)?;
-        put_stack(reply, stack, out)?;
+    for stack in stacks {
+        put_next_stack(reply, before, stack, out)?;
         before = Some(stack.service);
     }
     Ok(())
@@ -97,25 +118,19 @@ fn compared_count(stacks: &[ComparedStack]) -> usize
         .count()
 }
 
-/// Writes `; N services WHERE`, but nothing for none.
-fn put_only_count<W: Write>(count: usize, place: &[u8], out: &mut Out<W>) -> Result<(), Device>
-    ensures { Writes W.contents out.old out.new result (only_count count place.now) }
-{
-    if count == 0 {
-        return Ok(());
-    }
-    out.put(b"; ")?;
-    put_counted(count, "service", out)?;
-    out.put(place)
-}
-
-/// Writes the numbers of stacks of each verdict.
-#[tactic(auto, unfolding(crate::specs::Compare::counts_text))]
-fn put_counts<W: Write>(counts: Counts, out: &mut Out<W>) -> Result<(), Device>
-    ensures { Writes W.contents out.old out.new result (counts_text counts) }
+/// Writes the last line.
+#[tactic(auto, unfolding(crate::specs::Compare::last_line))]
+fn put_last_line<W: Write>(stacks: usize, counts: Counts, out: &mut Out<W>) -> Result<(), Device>
+    ensures { Writes W.contents out.old out.new result (last_line stacks counts) }
 {
     put_parts(
         &[
+            Part::Text(b"compared "),
+            Part::Counted {
+                count: stacks,
+                name: "stack",
+            },
+            Part::Text(b": "),
             Part::Number(counts.equal),
             Part::Text(b" equal, "),
             Part::Number(counts.same_decisions),
@@ -126,30 +141,18 @@ fn put_counts<W: Write>(counts: Counts, out: &mut Out<W>) -> Result<(), Device>
             Part::Text(b" refused, "),
             Part::Number(counts.not_known),
             Part::Text(b" not known"),
+            Part::Only {
+                count: counts.only_in_old,
+                place: b" only in old",
+            },
+            Part::Only {
+                count: counts.only_in_new,
+                place: b" only in new",
+            },
+            Part::Text(b"\n"),
         ],
         out,
     )
-}
-
-/// Writes the numbers of services that only one configuration has.
-fn put_only_counts<W: Write>(counts: Counts, out: &mut Out<W>) -> Result<(), Device>
-    ensures { Writes W.contents out.old out.new result (only_counts counts) }
-{
-    put_only_count(counts.only_in_old, b" only in old", out)?;
-    put_only_count(counts.only_in_new, b" only in new", out)
-}
-
-/// Writes the last line.
-#[tactic(auto, unfolding(crate::specs::Compare::last_line))]
-fn put_last_line<W: Write>(stacks: usize, counts: Counts, out: &mut Out<W>) -> Result<(), Device>
-    ensures { Writes W.contents out.old out.new result (last_line stacks counts) }
-{
-    out.put(b"compared ")?;
-    put_counted(stacks, "stack", out)?;
-    out.put(b": ")?;
-    put_counts(counts, out)?;
-    put_only_counts(counts, out)?;
-    out.put(b"\n")
 }
 
 /// Writes what changes, and flushes.
@@ -159,7 +162,7 @@ pub(crate) fn write_compared<W: Write>(
 ) -> Result<(), Device>
     ensures { WritesAndFlushes W.contents out.old out.new result (compare_text (compare_view reply.now)) }
 {
-    put_stacks(reply, out)?;
+    put_stacks(reply, &reply.changes.stacks, out)?;
     put_last_line(
         compared_count(&reply.changes.stacks),
         reply.changes.counts(),
