@@ -1,5 +1,5 @@
 -- What changes from one configuration to another: pam.conf(5).
-use Rattle.std.specs.Prelude.{◌≡◌, ◌≢◌, ℕ, zero, suc, ◌+◌, ◌++◌, List, [], ◌∷◌, All, length, map, slice_get, unwrap_or, Option, Some, None, Result, Ok, Err}
+use Rattle.std.specs.Prelude.{◌≡◌, ℕ, zero, suc, ◌+◌, ◌++◌, List, [], ◌∷◌, All, length, map, slice_get, unwrap_or, Option, Some, None, Result, Ok, Err}
 use Rattle.std.specs.Option.{option_map_or}
 use Rattle.pam_conf.specs.Resolution.{resolved}
 use Rattle.pam_conf.specs.Stack.{Items}
@@ -54,7 +54,7 @@ IsOfPair sides kind (Some pair) old new = (AreEqual sides old new → ⊥) × Ha
 abbrev pub IsChange : SidesText → List StackPair → Kind → Result Items ConfError → Result Items ConfError → StackChange → Type 0
 IsChange sides pairs kind old new changes.NoStack = (old ≡ Err no_service) × (new ≡ Err no_service)
 IsChange sides pairs kind old new (changes.Refused one other) =
-    (one ≡ fault_in old) × (other ≡ fault_in new) × ((one, other) ≢ (None, None)) × ((one, other) ≢ (Some no_service, Some no_service))
+    (one ≡ fault_in old) × (other ≡ fault_in new) × (one ≡ None → other ≡ None → ⊥) × (one ≡ Some no_service → other ≡ Some no_service → ⊥)
 IsChange sides pairs kind old new changes.Same = AreAccepted old new (AreEqual sides)
 IsChange sides pairs kind old new (changes.Differs position) = AreAccepted old new (IsOfPair sides kind (slice_get pairs position))
 

@@ -53,7 +53,7 @@ module _ (old_allows new_allows : Allowance) (old new : List FlatItem) (partners
   AreDecisions decisions.NotKnown = HasMoreSituations old_allows new_allows old new partners MAX_SITUATIONS
 
 -- HOW THE DECISIONS OF TWO STACKS DIFFER, for all answers that are known to be possible
-pub record IsCompared (sides : SidesText) (kind : Kind) (old new : Items) (partners : List (Option ℕ)) (decisions : Decisions) : Type 0 where
+pub record IsCompared (sides : SidesText) (kind : Kind) (old new : Items) (partners : List (Option ℕ)) (told : Decisions) : Type 0 where
   pub old_known : Known
   pub new_known : Known
   pub old_allows : Allows (module_count old) old_known (known_codes sides sides.old kind old)
@@ -62,7 +62,7 @@ pub record IsCompared (sides : SidesText) (kind : Kind) (old new : Items) (partn
   pub new_program : List FlatItem
   pub of_old : IsProgramOf old old_program
   pub of_new : IsProgramOf new new_program
-  pub decisions : AreDecisions (may_answer old_known) (may_answer new_known) old_program new_program partners decisions
+  pub decisions : AreDecisions (may_answer old_known) (may_answer new_known) old_program new_program partners told
 
 -- A PAIR OF STACKS
 pub record IsPair (sides : SidesText) (pair : StackPair) : Type 0 where

@@ -7,8 +7,7 @@ ghost use Rattle.pam_compare.specs.Matching.{is_taken, partner_of};
 ghost use Rattle.pam_changes.specs.Modules.{AreModuleChanges, added as added_in, comes_later, comes_sooner, differ, moved as moved_in, new_where};
 ghost use Rattle.pam_changes.specs.Modules.{pairs_of, removed as removed_in, same_arguments, same_controls};
 
-use crate::same::are_equal;
-use pam_compare::Matching;
+use pam_compare::{Matching, are_same_texts};
 use pam_conf::Stack;
 use std::alloc::{AllocError, Global};
 
@@ -146,7 +145,7 @@ fn have_other_arguments(old: &Stack, new: &Stack, pair: &MatchedPair) -> bool
     let Some(other) = new.module(pair.new) else {
         return false;
     };
-    !are_equal(&one.arguments, &other.arguments)
+    !are_same_texts(&one.arguments, &other.arguments)
 }
 
 fn have_other_controls(old: &Stack, new: &Stack, pair: &MatchedPair) -> bool

@@ -1,12 +1,9 @@
 //! The stacks that are compared.
 
 ghost use Rattle.std.specs.Prelude.{◌≡◌, ◌↔◌, ◌∷◌, ◌++◌, [], IfOk, IfSome, IsTrue, List, None, OnOk, Ok, Result, Some, map, slice_get, ℕ};
-ghost use Rattle.pam_conf.specs.Laws.{IsSound};
 ghost use Rattle.pam_conf.specs.Resolution.{resolved};
 ghost use Rattle.pam_conf.specs.Stack.{Items};
-ghost use Rattle.pam_conf.specs.Survey.{faults_at};
 ghost use Rattle.pam_conf.specs.declared.conf_error.ConfError.{ConfError as ConfErrorText};
-ghost use Rattle.pam_conf.specs.SurveyText.{survey_text};
 ghost use Rattle.pam_changes.specs.Changes.{HasItems, IsChange, fault_in, kinds_asked, no_service};
 ghost use Rattle.pam_changes.specs.Finding.{AddsPairs, IsFound};
 ghost use Rattle.pam_changes.specs.Sides.{SidesText, sides_view};
@@ -21,6 +18,7 @@ use crate::sides::{Side, Sides};
 use indexmap::IndexMap;
 use pam_conf::laws::stack_is_sound_survey;
 use pam_conf::{ConfError, FaultKind, Kind, RuleFiles, Stack, Survey, resolve};
+use pam_host::is_sound;
 use std::alloc::{AllocError, Global};
 
 /// What changes in the stack of a service for a kind.
@@ -70,31 +68,6 @@ pub(crate) struct Found {
     by_digest: IndexMap<u64, usize>,
 }
 
-/// Whether a file has no fault of its own.
-fn is_faultless(rules: &RuleFiles<'_>, file: usize) -> bool
-    ensures { IsTrue result ↔ (faults_at rules.now file ≡ []) }
-{
-    match rules.faults(file) {
-        Some(faults) => faults.is_empty(),
-        None => true,
-    }
-}
-
-/// Whether a survey has no fault, of the walk and of each file that it reached.
-fn is_sound(rules: &RuleFiles<'_>, survey: &Survey) -> bool
-    ensures { IsTrue result ↔ IsSound rules.now (survey_text survey.now) }
-{
-    if !survey.faults.is_empty() {
-        return false;
-    }
-    for file in &survey.reached {
-        if !is_faultless(rules, *file) {
-            return false;
-        }
-    }
-    true
-}
-
 /// The stack that a walk from the first rule on gives, or its first fault.
 fn walked(alloc: Global, side: &Side<'_>, name: &[u8], kind: Kind) -> Result<Resolved, AllocError>
     ensures { IfOk result (λ stack. stack ≡ resolved side.now.files.now name.now kind) }
@@ -124,10 +97,17 @@ fn stack_of(
 {
     stack_is_sound_survey();
     let survey = rules.survey(alloc, name, kind)?;
-    let is_sound = is_sound(rules, &survey);
-    match survey.stack {
-        Some(stack) if is_sound => Ok(Ok(stack)),
-        _ => walked(alloc, side, name, kind),
+    if !is_sound(rules, &survey) {
+        return walked(alloc, side, name, kind);
+    }
+    let Survey {
+        stack,
+        faults: _,
+        reached: _,
+    } = survey;
+    match stack {
+        Some(stack) => Ok(Ok(stack)),
+        None => walked(alloc, side, name, kind),
     }
 }
 
