@@ -1,0 +1,4 @@
+pub mod Listing
+pub mod Merging
+pub mod Returns
+pub mod Sameness

@@ -52,6 +52,8 @@ fn add_returns(there: Option<&Texts>, returns: &ReturnTable<'_>, stack: &Stack, 
 {
     for index in 0..stack.modules() {
         if let Some(codes) = codes_at(there, returns, stack, index + 1) {
+            // A set says with its length that its codes are in order.
+            let _count = codes.len();
             known.set(index + 1, codes);
         }
     }

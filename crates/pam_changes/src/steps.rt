@@ -2,7 +2,7 @@
 
 ghost use Rattle.std.specs.Prelude.{◌≡◌, ◌≤◌, ◌++◌, IfOk, OnOk, drop, length, map};
 ghost use Rattle.std.specs.List.{list_any};
-ghost use Rattle.pam_dispatch.specs.Flat.{modules_of, runs_of};
+ghost use Rattle.pam_dispatch.specs.Flat.{runs_of};
 ghost use Rattle.pam_dispatch.specs.Runs.{answers_of};
 ghost use Rattle.pam_changes.specs.Steps.{as_old, asked_modules, asked_numbers, before, from, is_listed, is_number, left_after, merged, old_alone, one_with, step_of};
 
@@ -30,22 +30,6 @@ pub(crate) struct Answered<'x> {
     pub new_codes: &'x [Code],
 }
 
-/// The numbers of the modules that a program asks, in order.
-fn asked_numbers(alloc: Global, program: &Program, codes: &[Code]) -> Result<Vec<usize>, AllocError>
-    requires { length codes.now ≡ modules_of program.now }
-    ensures { IfOk result (λ numbers. numbers.items ≡ asked_numbers (runs_of program.now) (answers_of codes.now)) }
-{
-    let mut numbers = Vec::new(alloc);
-    let mut work = Work::new();
-    let mut place = program.first();
-    while let Some(number) = place.module() {
-        numbers.push(number)?;
-        let step = program.step(&place, codes[number - 1], &mut work);
-        place = step.place();
-    }
-    Ok(numbers)
-}
-
 /// The answer of a module, by its number.
 fn answer_of(codes: &[Code], number: usize) -> Code
     ensures { result ≡ answers_of codes.now number }
@@ -56,6 +40,20 @@ fn answer_of(codes: &[Code], number: usize) -> Code
     } else {
         Code::SUCCESS
     }
+}
+
+/// The numbers of the modules that a program asks, in order.
+fn asked_numbers(alloc: Global, program: &Program, codes: &[Code]) -> Result<Vec<usize>, AllocError>
+    ensures { IfOk result (λ numbers. numbers.items ≡ asked_numbers (runs_of program.now) (answers_of codes.now)) }
+{
+    let mut numbers = Vec::new(alloc);
+    let mut work = Work::new();
+    let mut place = program.first();
+    while let Some(number) = place.module() {
+        numbers.push(number)?;
+        program.step_on(&mut place, answer_of(codes, number), &mut work);
+    }
+    Ok(numbers)
 }
 
 fn is_listed(number: usize, numbers: &[usize]) -> bool
@@ -248,8 +246,6 @@ pub(crate) fn asked_modules(
     matching: &Matching,
     witness: &Witness,
 ) -> Result<Vec<AskedModule>, AllocError>
-    requires old { length witness.now.old_codes.items ≡ modules_of old.now }
-    requires new { length witness.now.new_codes.items ≡ modules_of new.now }
     ensures { IfOk result (λ asked. asked.items ≡ asked_modules matching.now (answers_of witness.now.old_codes.items)
         (answers_of witness.now.new_codes.items) (asked_numbers (runs_of old.now) (answers_of witness.now.old_codes.items))
         (asked_numbers (runs_of new.now) (answers_of witness.now.new_codes.items))) }

@@ -1,14 +1,13 @@
 -- the place is one of the program; the modules so far with those of the rest of the run are all modules
-use Rattle.std.proofs.Common.{◌≡◌, ◌++◌, length, map}
-use Rattle.pam_dispatch.specs.Flat.{IsPlaceOf, modules_of, rest_of, runs_of}
-use Rattle.pam_dispatch.specs.Runs.{AsksRise, answers_of, asked_by}
+use Rattle.std.proofs.Common.{◌≡◌, ◌++◌, length}
+use Rattle.pam_dispatch.specs.Flat.{IsPlaceOf, rest_of, runs_of}
+use Rattle.pam_dispatch.specs.Runs.{answers_of, asked_by}
 use Rattle.pam_changes.specs.Steps.{asked_numbers}
 use Rattle.pam_changes.proofs.steps.asked_numbers.Given as goal
 
 abbrev pub invariant-loop-number : goal.invariant-loop-number
 invariant-loop-number l = record {
   place : IsPlaceOf l.program l.place;
-  rise : AsksRise 0 (modules_of l.program) (rest_of l.program l.place);
   numbers : l.numbers.items ++ asked_numbers (rest_of l.program l.place) (answers_of l.codes) ≡ asked_numbers (runs_of l.program) (answers_of l.codes);
 }
 
