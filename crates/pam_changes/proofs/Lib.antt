@@ -2,3 +2,4 @@ pub mod Listing
 pub mod Merging
 pub mod Returns
 pub mod Sameness
+pub mod Stacked

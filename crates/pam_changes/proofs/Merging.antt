@@ -103,8 +103,8 @@ module _ (partners : List (Option ℕ)) (old_answers new_answers : Assignment) (
       let step : Option ℕ → List AskedModule = λ o. step_of old_answers new_answers number o (drop first alone) in
       ap (λ (l : List AskedModule). l ++ rest (drop place alone) (drop (i + 1) news)) pushed
       ∙ append_assoc xs (step one) (rest (drop place alone) (drop (i + 1) news))
-      ∙ ap (λ (l : List ℕ). xs ++ step one ++ rest l (drop (i + 1) news)) after
-      ∙ ap (λ (o : Option ℕ). xs ++ step o ++ rest (left_after o (drop first alone)) (drop (i + 1) news)) is
+      ∙ ap (λ (l : List ℕ). xs ++ (step one ++ rest l (drop (i + 1) news))) after
+      ∙ ap (λ (o : Option ℕ). xs ++ (step o ++ rest (left_after o (drop first alone)) (drop (i + 1) news))) is
       ∙ ap (λ (l : List AskedModule). xs ++ l) (sym (merged-step (drop first alone) number (drop (i + 1) news)))
       ∙ ap (λ (l : List ℕ). xs ++ rest (drop first alone) l) (sym (drop_more news i 0 within))
       ∙ so_far

@@ -1,8 +1,17 @@
 -- Items that are the same, one by one.
-use Rattle.std.proofs.Common.{◌≡◌, ◌∙◌, ℕ, ◌+◌, ◌&&◌, Bool, true, false, List, [], ◌∷◌, length, ap, sym, refl, inl, inr, arith}
-use Rattle.std.proofs.lemmas.Bool.{and_parts, cases_Bool, false≢true}
+use Rattle.std.proofs.Common.{◌≡◌, ◌∙◌, ℕ, ◌+◌, ◌<◌, ◌&&◌, suc, zero, drop, get_or, Option, Some, None, slice_get, Bool, true, false, List, [], ◌∷◌, length, ap, sym, refl, inl, inr, arith}
+use Rattle.std.proofs.Common.{◌≤◌, eqb, eq-eqb}
+use Rattle.std.proofs.lemmas.Bool.{and_from, and_parts, cases_Bool, false≢true}
+use Rattle.std.proofs.lemmas.List.{drop_all, drop_more}
+use Rattle.std.proofs.lemmas.Slice.Eq.{bytes_eq-Decides}
+use Rattle.std.specs.Str.{bytes_eq}
+use Rattle.pam_codes.specs.Action.{same_action}
+use Rattle.pam_codes.specs.ControlText.{same_actions}
+use Rattle.pam_codes.specs.declared.action.Action.{Action}
+use Rattle.pam_codes.specs.declared.action.Action.TheVariants as actions
+use Rattle.pam_compare.specs.Matching.{same_texts}
 use Rattle.pam_conf.specs.ItemsOf.{items_of, module_text}
-use Rattle.pam_conf.specs.Stack.{SubList}
+use Rattle.pam_conf.specs.Stack.{End, Items, ModuleText, SubList, ThenModule, ThenSub}
 use Rattle.pam_conf.specs.declared.stack.Item.{Item}
 use Rattle.pam_conf.specs.declared.stack.Item.TheVariants.{Module as ModuleItem, Sub as SubItem}
 use Rattle.pam_conf.specs.declared.stack.Module.{Module}
@@ -42,14 +51,84 @@ as-long [] (SubItem s ∷ ys) t = absurd (false≢true t)
 as-long (ModuleItem m ∷ xs) [] t = absurd (false≢true t)
 as-long (SubItem s ∷ xs) [] t = absurd (false≢true t)
 as-long (ModuleItem m ∷ xs) (ModuleItem n ∷ ys) t =
-    ap (λ (k : ℕ). k + 1) (as-long xs ys (and_parts (same_module (module_text m) (module_text n)) (same_items (items_of xs) (items_of ys)) t).1)
+    ap (λ (k : ℕ). suc k) (as-long xs ys (and_parts (same_module (module_text m) (module_text n)) (same_items (items_of xs) (items_of ys)) t).1)
 as-long (ModuleItem m ∷ xs) (SubItem s ∷ ys) t = absurd (false≢true t)
 as-long (SubItem s ∷ xs) (ModuleItem n ∷ ys) t = absurd (false≢true t)
 as-long (SubItem s ∷ xs) (SubItem u ∷ ys) t =
-    ap (λ (k : ℕ). k + 1) (as-long xs ys (and_parts (same_items s.inner u.inner) (same_items (items_of xs) (items_of ys)) t).1)
+    ap (λ (k : ℕ). suc k) (as-long xs ys (and_parts (same_items s.inner u.inner) (same_items (items_of xs) (items_of ys)) t).1)
 
 pub other-length : (xs ys : List Item) → (length xs ≡ length ys → ⊥) → false ≡ same_items (items_of xs) (items_of ys)
 other-length xs ys h = elim (cases_Bool (same_items (items_of xs) (items_of ys))) [
   | inl t ↦ absurd (h (as-long xs ys t))
   | inr f ↦ sym f
 ]
+
+-- TWO LISTS, item by item
+
+module-and-rest : (one other rest : Bool) → (one && rest) ≡ ((one && true) && rest)
+module-and-rest true other rest = refl
+module-and-rest false other rest = refl
+
+heads : (x y : Item) (xs ys : List Item) →
+    same_items (items_of (x ∷ xs)) (items_of (y ∷ ys)) ≡ (same_items (items_of (x ∷ [])) (items_of (y ∷ [])) && same_items (items_of xs) (items_of ys))
+unfolding same_items
+heads (ModuleItem m) (ModuleItem n) xs ys = module-and-rest (same_module (module_text m) (module_text n)) true (same_items (items_of xs) (items_of ys))
+heads (ModuleItem m) (SubItem t) xs ys = refl
+heads (SubItem s) (ModuleItem n) xs ys = refl
+heads (SubItem s) (SubItem t) xs ys = module-and-rest (same_items s.inner t.inner) true (same_items (items_of xs) (items_of ys))
+
+module _ (xs ys : List Item) (i : ℕ) (x y : Item) (first : i < length xs) (second : i < length ys) (x_is : x ≡ get_or xs i x) (y_is : y ≡ get_or ys i y) where
+  split : same_items (items_of (drop i xs)) (items_of (drop i ys))
+      ≡ (same_items (items_of (x ∷ [])) (items_of (y ∷ [])) && same_items (items_of (drop (i + 1) xs)) (items_of (drop (i + 1) ys)))
+  split =
+      ap (λ (l : List Item). same_items (items_of l) (items_of (drop i ys))) (drop_more xs i x first ∙ ap (λ (z : Item). z ∷ drop (i + 1) xs) (sym x_is))
+      ∙ ap (λ (l : List Item). same_items (items_of (x ∷ drop (i + 1) xs)) (items_of l)) (drop_more ys i y second ∙ ap (λ (z : Item). z ∷ drop (i + 1) ys) (sym y_is))
+      ∙ heads x y (drop (i + 1) xs) (drop (i + 1) ys)
+
+  pub same-more : same_items (items_of (x ∷ [])) (items_of (y ∷ [])) ≡ true →
+      same_items (items_of (drop (i + 1) xs)) (items_of (drop (i + 1) ys)) ≡ same_items (items_of (drop i xs)) (items_of (drop i ys))
+  same-more t = sym (split ∙ ap (λ (b : Bool). b && same_items (items_of (drop (i + 1) xs)) (items_of (drop (i + 1) ys))) t)
+
+  pub same-not : same_items (items_of (x ∷ [])) (items_of (y ∷ [])) ≡ false → same_items (items_of (drop i xs)) (items_of (drop i ys)) ≡ false
+  same-not t = split ∙ ap (λ (b : Bool). b && same_items (items_of (drop (i + 1) xs)) (items_of (drop (i + 1) ys))) t
+
+pub same-end : (xs ys : List Item) (i : ℕ) → length xs ≤ i → length xs ≡ length ys → same_items (items_of (drop i xs)) (items_of (drop i ys)) ≡ true
+unfolding same_items
+same-end xs ys i h e =
+    ap (λ (l : List Item). same_items (items_of l) (items_of (drop i ys))) (drop_all xs i h)
+    ∙ ap (λ (l : List Item). same_items (items_of []) (items_of l)) (drop_all ys i (omega (arith, h, e)))
+
+-- A STACK IS THE SAME AS ITSELF
+
+action-self : (a : Action) → same_action a a ≡ true
+action-self actions.Ignore = refl
+action-self actions.Ok = refl
+action-self actions.Done = refl
+action-self actions.Bad = refl
+action-self actions.Die = refl
+action-self actions.Reset = refl
+action-self (actions.Jump n) = eq-eqb n n refl
+
+actions-self : (xs : List Action) → same_actions xs xs ≡ true
+actions-self [] = refl
+actions-self (x ∷ xs) = and_from (same_action x x) (same_actions xs xs) (action-self x) (actions-self xs)
+
+bytes-self : (xs : List ℕ) → bytes_eq xs xs ≡ true
+bytes-self xs = (bytes_eq-Decides xs xs).1 refl
+
+texts-self : (xs : List (List ℕ)) → same_texts xs xs ≡ true
+texts-self [] = refl
+texts-self (x ∷ xs) = and_from (bytes_eq x x) (same_texts xs xs) (bytes-self x) (texts-self xs)
+
+module-self : (m : ModuleText) → same_module m m ≡ true
+module-self m =
+    and_from (eqb m.number m.number) (same_actions m.control m.control && (bytes_eq m.path m.path && same_texts m.arguments m.arguments))
+    (eq-eqb m.number m.number refl)
+    (and_from (same_actions m.control m.control) (bytes_eq m.path m.path && same_texts m.arguments m.arguments) (actions-self m.control)
+    (and_from (bytes_eq m.path m.path) (same_texts m.arguments m.arguments) (bytes-self m.path) (texts-self m.arguments)))
+
+pub same-self : (items : Items) → same_items items items ≡ true
+unfolding same_items
+same-self End = refl
+same-self (ThenModule m rest) = and_from (same_module m m) (same_items rest rest) (module-self m) (same-self rest)
+same-self (ThenSub s inner rest) = and_from (same_items inner inner) (same_items rest rest) (same-self inner) (same-self rest)

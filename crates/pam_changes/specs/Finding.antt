@@ -1,7 +1,8 @@
 -- For private contracts and proofs alone: what is found of stacks, one after another.
-use Rattle.std.specs.Prelude.{◌≡◌, ℕ, ◌++◌, ◌∷◌, [], All, List, map, slice_get, Option, Some}
+use Rattle.std.specs.Prelude.{◌≡◌, ℕ, ◌++◌, ◌∷◌, [], All, List, map, slice_get, Option, Some, None}
+use Rattle.pam_conf.specs.Stack.{Items}
 use Rattle.pam_conf.specs.declared.rule.Kind.{Kind}
-use Rattle.pam_changes.specs.Changes.{IsStack}
+use Rattle.pam_changes.specs.Changes.{HasItems, IsStack}
 use Rattle.pam_changes.specs.Pairs.{IsPair}
 use Rattle.pam_changes.specs.Sides.{SidesText}
 use Rattle.pam_changes.specs.declared.pair.StackPair.{StackPair}
@@ -17,6 +18,11 @@ pub record IsFound (sides : SidesText) (names : List (List ℕ)) (asked : List (
   pub order : map asked_of found.stacks.items ≡ asked
   pub stacks : All (IsStack sides names found.pairs.items) found.stacks.items
   pub pairs : All (IsPair sides) found.pairs.items
+
+-- the pair at a position has the items of these stacks
+abbrev pub HasItemsAt : Kind → Items → Items → Option StackPair → Type 0
+HasItemsAt kind old new None = ⊥
+HasItemsAt kind old new (Some pair) = HasItems kind old new pair
 
 -- pairs stay where they are
 unfoldable pub KeepsPairs : List StackPair → List StackPair → Type 0

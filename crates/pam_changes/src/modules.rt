@@ -48,13 +48,20 @@ fn removed(alloc: Global, matching: &Matching, old: &Stack) -> Result<Vec<usize>
     Ok(numbers)
 }
 
+/// Whether a module of the new stack is not matched.
+fn is_unmatched(matching: &Matching, number: usize) -> bool
+    ensures { result ≡ is_none (partner_of matching.now number) }
+{
+    matching.partner(number).is_none()
+}
+
 /// The modules of the new stack that are not matched.
 fn added(alloc: Global, matching: &Matching, new: &Stack) -> Result<Vec<usize>, AllocError>
     ensures { IfOk result (λ numbers. numbers.items ≡ added_in matching.now new.now) }
 {
     let mut numbers = Vec::new(alloc);
     for index in 0..new.modules() {
-        if matching.partner(index + 1).is_none() {
+        if is_unmatched(matching, index + 1) {
             numbers.push(index + 1)?;
         }
     }

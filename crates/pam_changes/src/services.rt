@@ -29,14 +29,22 @@ struct Present {
     new: Texts,
 }
 
-/// All services, or `other` if there is none.
-fn all_names(alloc: Global, present: &Present) -> Result<Texts, AllocError>
-    ensures { IfOk result (λ names. names ≡ or_other (fold with_name present.now.old present.now.new)) }
+/// The services of the old configuration, and then those that only the new one has.
+fn both_names(alloc: Global, present: &Present) -> Result<Texts, AllocError>
+    ensures { IfOk result (λ names. names ≡ fold with_name present.now.old present.now.new) }
 {
     let mut names = copied(alloc, &present.old)?;
     for name in present.new.iter() {
         add_name(&mut names, name)?;
     }
+    Ok(names)
+}
+
+/// All services, or `other` if there is none.
+fn all_names(alloc: Global, present: &Present) -> Result<Texts, AllocError>
+    ensures { IfOk result (λ names. names ≡ or_other (fold with_name present.now.old present.now.new)) }
+{
+    let mut names = both_names(alloc, present)?;
     if names.len() == 0 {
         names.push(b"other")?;
     }

@@ -5,7 +5,7 @@ ghost use Rattle.pam_conf.specs.Resolution.{resolved};
 ghost use Rattle.pam_conf.specs.Stack.{Items};
 ghost use Rattle.pam_conf.specs.declared.conf_error.ConfError.{ConfError as ConfErrorText};
 ghost use Rattle.pam_changes.specs.Changes.{HasItems, IsChange, fault_in, kinds_asked, no_service};
-ghost use Rattle.pam_changes.specs.Finding.{AddsPairs, IsFound};
+ghost use Rattle.pam_changes.specs.Finding.{AddsPairs, HasItemsAt, IsFound};
 ghost use Rattle.pam_changes.specs.Sides.{SidesText, sides_view};
 ghost use Rattle.pam_changes.specs.declared.pair.StackPair.{StackPair as PairText};
 ghost use Rattle.pam_conf.specs.declared.rule.Kind.{Kind as KindText};
@@ -149,13 +149,16 @@ impl Found {
 
     /// The position of a pair of these stacks, if it is found.
     fn find(&self, kind: Kind, old: &Stack, new: &Stack, digest: u64) -> Option<usize>
-        ensures { IfSome result (λ k. (pair : PairText) × (slice_get self.now.pairs.items k ≡ Some pair) × HasItems kind old.now new.now pair) }
+        ensures { IfSome result (λ k. HasItemsAt kind old.now new.now (slice_get self.now.pairs.items k)) }
     {
         let Some(position) = self.by_digest.get(&digest) else {
             return None;
         };
         let position = *position;
-        if position < self.pairs.len() && has_items(kind, old, new, &self.pairs[position]) {
+        let Some(pair) = self.pairs.get(position) else {
+            return None;
+        };
+        if has_items(kind, old, new, pair) {
             return Some(position);
         }
         None
@@ -192,14 +195,15 @@ impl Comparer<'_, '_> {
         new: Stack,
     ) -> Result<usize, AllocError>
         ensures adds { OnOk result (AddsPairs (sides_view self.now.sides.now) found.old found.new) }
-        ensures pair { IfOk result (λ k. (pair : PairText) × (slice_get found.new.pairs.items k ≡ Some pair) × HasItems kind old new pair) }
+        ensures pair { IfOk result (λ k. HasItemsAt kind old new (slice_get found.new.pairs.items k)) }
     {
         let digest = digest_of(kind, &old, &new);
         if let Some(position) = found.find(kind, &old, &new, digest) {
             return Ok(position);
         }
         let pair = StackPair::of(self.alloc, self.sides, service, kind, old, new)?;
-        found.push(pair, digest)
+        let position = found.push(pair, digest)?;
+        Ok(position)
     }
 
     /// What changes from one stack to another.
