@@ -63,41 +63,6 @@ other-length xs ys h = elim (cases_Bool (same_items (items_of xs) (items_of ys))
   | inr f ↦ sym f
 ]
 
--- TWO LISTS, item by item
-
-module-and-rest : (one other rest : Bool) → (one && rest) ≡ ((one && true) && rest)
-module-and-rest true other rest = refl
-module-and-rest false other rest = refl
-
-heads : (x y : Item) (xs ys : List Item) →
-    same_items (items_of (x ∷ xs)) (items_of (y ∷ ys)) ≡ (same_items (items_of (x ∷ [])) (items_of (y ∷ [])) && same_items (items_of xs) (items_of ys))
-unfolding same_items
-heads (ModuleItem m) (ModuleItem n) xs ys = module-and-rest (same_module (module_text m) (module_text n)) true (same_items (items_of xs) (items_of ys))
-heads (ModuleItem m) (SubItem t) xs ys = refl
-heads (SubItem s) (ModuleItem n) xs ys = refl
-heads (SubItem s) (SubItem t) xs ys = module-and-rest (same_items s.inner t.inner) true (same_items (items_of xs) (items_of ys))
-
-module _ (xs ys : List Item) (i : ℕ) (x y : Item) (first : i < length xs) (second : i < length ys) (x_is : x ≡ get_or xs i x) (y_is : y ≡ get_or ys i y) where
-  split : same_items (items_of (drop i xs)) (items_of (drop i ys))
-      ≡ (same_items (items_of (x ∷ [])) (items_of (y ∷ [])) && same_items (items_of (drop (i + 1) xs)) (items_of (drop (i + 1) ys)))
-  split =
-      ap (λ (l : List Item). same_items (items_of l) (items_of (drop i ys))) (drop_more xs i x first ∙ ap (λ (z : Item). z ∷ drop (i + 1) xs) (sym x_is))
-      ∙ ap (λ (l : List Item). same_items (items_of (x ∷ drop (i + 1) xs)) (items_of l)) (drop_more ys i y second ∙ ap (λ (z : Item). z ∷ drop (i + 1) ys) (sym y_is))
-      ∙ heads x y (drop (i + 1) xs) (drop (i + 1) ys)
-
-  pub same-more : same_items (items_of (x ∷ [])) (items_of (y ∷ [])) ≡ true →
-      same_items (items_of (drop (i + 1) xs)) (items_of (drop (i + 1) ys)) ≡ same_items (items_of (drop i xs)) (items_of (drop i ys))
-  same-more t = sym (split ∙ ap (λ (b : Bool). b && same_items (items_of (drop (i + 1) xs)) (items_of (drop (i + 1) ys))) t)
-
-  pub same-not : same_items (items_of (x ∷ [])) (items_of (y ∷ [])) ≡ false → same_items (items_of (drop i xs)) (items_of (drop i ys)) ≡ false
-  same-not t = split ∙ ap (λ (b : Bool). b && same_items (items_of (drop (i + 1) xs)) (items_of (drop (i + 1) ys))) t
-
-pub same-end : (xs ys : List Item) (i : ℕ) → length xs ≤ i → length xs ≡ length ys → same_items (items_of (drop i xs)) (items_of (drop i ys)) ≡ true
-unfolding same_items
-same-end xs ys i h e =
-    ap (λ (l : List Item). same_items (items_of l) (items_of (drop i ys))) (drop_all xs i h)
-    ∙ ap (λ (l : List Item). same_items (items_of []) (items_of l)) (drop_all ys i (omega (arith, h, e)))
-
 -- A STACK IS THE SAME AS ITSELF
 
 action-self : (a : Action) → same_action a a ≡ true

@@ -1,8 +1,9 @@
 -- Stacks that are compared, one after another.
 use Rattle.std.proofs.Common.{◌≡◌, ◌∙◌, ℕ, ◌+◌, List, [], ◌∷◌, ◌++◌, length, map, subst, true, sym, ap, refl, suc, zero}
 use Rattle.std.proofs.Common.{Option, Some, None, slice_get}
-use Rattle.std.proofs.lemmas.List.{map-append}
-use Rattle.std.proofs.lemmas.List.Elements.{All-append, All-from_recursion, All-weaker}
+use Rattle.std.proofs.Common.{append-nil, append_assoc, arith}
+use Rattle.std.proofs.lemmas.List.{length-map, map-append}
+use Rattle.std.proofs.lemmas.List.Elements.{All-append, All-from_recursion, All-nil, All-weaker}
 use Rattle.std.specs.List.{All}
 use Rattle.std.specs.Prelude.{Result, Ok, Err, unwrap_or}
 use Rattle.pam_conf.specs.Files.{Folder}
@@ -12,11 +13,14 @@ use Rattle.pam_conf.specs.Stack.{Items}
 use Rattle.pam_conf.specs.Survey.{SurveyText, surveyed}
 use Rattle.pam_conf.specs.declared.conf_error.ConfError.{ConfError}
 use Rattle.pam_conf.specs.declared.rule.Kind.{Kind}
-use Rattle.pam_changes.specs.Changes.{AreAccepted, AreEqual, HasItems, IsChange, IsOfPair, IsStack, fault_in, no_service}
+use Rattle.pam_changes.specs.Changes.{AreAccepted, AreChanges, AreEqual, HasItems, IsChange, IsOfPair, IsStack, fault_in, kinds_asked, no_service, stacks_asked}
 use Rattle.pam_changes.specs.Finding.{AddsPairs, HasItemsAt, IsFound, KeepsPairs, asked_of}
 use Rattle.pam_changes.specs.Pairs.{IsPair}
 use Rattle.pam_changes.specs.Same.{same_items}
+use Rattle.pam_changes.specs.Services.{ServiceText, compared_names, compared_services, presence_in, service_text, services_of}
 use Rattle.pam_changes.specs.Sides.{SidesText}
+use Rattle.pam_changes.specs.declared.changes.HostChanges.{HostChanges}
+use Rattle.pam_changes.specs.declared.services.ComparedService.{ComparedService}
 use Rattle.pam_changes.specs.declared.pair.StackPair.{StackPair}
 use Rattle.pam_changes.specs.declared.stacks.ComparedStack.{ComparedStack}
 use Rattle.pam_changes.specs.declared.stacks.Found.{Found}
@@ -132,4 +136,72 @@ found-more sides names asked before middle after s name there adds is pairs push
       order = ap (map asked_of) stacks ∙ map-append asked_of before.stacks.items (s ∷ []) ∙ ap (λ (l : List (ℕ × Kind)). l ++ asked_of s ∷ []) found.order;
       stacks = subst (λ (l : List StackPair). All (IsStack sides names l) after.stacks.items) (sym pairs) (subst (All P) (sym stacks) all);
       pairs = subst (All (IsPair sides)) (sym pairs) (adds.pairs found.pairs);
+    }
+
+pub four-more : (xs : List (ℕ × Kind)) (a b c d : ℕ × Kind) → (((xs ++ a ∷ []) ++ b ∷ []) ++ c ∷ []) ++ d ∷ [] ≡ xs ++ a ∷ b ∷ c ∷ d ∷ []
+four-more [] a b c d = refl
+four-more (x ∷ xs) a b c d = ap (λ (l : List (ℕ × Kind)). x ∷ l) (four-more xs a b c d)
+
+pub found-none : (sides : SidesText) (names : List (List ℕ)) (kind : Option Kind) (found : Found) → found.stacks.items ≡ [] → found.pairs.items ≡ [] →
+    IsFound sides names (stacks_asked 0 0 kind) found
+unfolding stacks_asked
+found-none sides names kind found none no-pairs = record {
+  order = ap (map asked_of) none;
+  stacks = subst (All (IsStack sides names found.pairs.items)) (sym none) (All-nil (IsStack sides names found.pairs.items));
+  pairs = subst (All (IsPair sides)) (sym no-pairs) (All-nil (IsPair sides));
+}
+
+asked-more : (kind : Option Kind) (first n : ℕ) →
+    stacks_asked first n kind ++ map (λ k. (first + n, k)) (kinds_asked kind) ≡ stacks_asked first (suc n) kind
+unfolding stacks_asked
+asked-more kind first zero =
+    let same : first + 0 ≡ first = omega arith in
+    ap (λ (m : ℕ). map (λ k. (m, k)) (kinds_asked kind)) same ∙ sym (append-nil (map (λ k. (first, k)) (kinds_asked kind)))
+asked-more kind first (suc n) =
+    let here : List (ℕ × Kind) = map (λ k. (first, k)) (kinds_asked kind) in
+    let same : first + suc n ≡ (first + 1) + n = omega arith in
+    append_assoc here (stacks_asked (first + 1) n kind) (map (λ k. (first + suc n, k)) (kinds_asked kind))
+    ∙ ap (λ (m : ℕ). here ++ (stacks_asked (first + 1) n kind ++ map (λ k. (m, k)) (kinds_asked kind))) same
+    ∙ ap (λ (l : List (ℕ × Kind)). here ++ l) (asked-more kind (first + 1) n)
+
+-- the services so far, and one more
+pub stacks-more : (kind : Option Kind) (n : ℕ) → stacks_asked 0 n kind ++ map (λ k. (n, k)) (kinds_asked kind) ≡ stacks_asked 0 (n + 1) kind
+stacks-more kind n =
+    let same : n ≡ 0 + n = omega arith in
+    let next : suc n ≡ n + 1 = omega arith in
+    ap (λ (m : ℕ). stacks_asked 0 n kind ++ map (λ k. (m, k)) (kinds_asked kind)) same
+    ∙ asked-more kind 0 n
+    ∙ ap (λ (m : ℕ). stacks_asked 0 m kind) next
+
+-- ALL CHANGES
+
+names-of : (services : List ComparedService) → map (λ (t : ServiceText). t.name) (map service_text services) ≡ map (λ s. (service_text s).name) services
+names-of [] = refl
+names-of (s ∷ services) = ap (λ (l : List (List ℕ)). s.name.items ∷ l) (names-of services)
+
+names-in : (olds news names : List (List ℕ)) → map (λ (t : ServiceText). t.name) (map (presence_in olds news) names) ≡ names
+names-in olds news [] = refl
+names-in olds news (n ∷ names) = ap (λ (l : List (List ℕ)). n ∷ l) (names-in olds news names)
+
+pub names-are : (olds news names : List (List ℕ)) (services : List ComparedService) → map service_text services ≡ map (presence_in olds news) names →
+    map (λ s. (service_text s).name) services ≡ names
+names-are olds news names services e = sym (names-of services) ∙ ap (map (λ (t : ServiceText). t.name)) e ∙ names-in olds news names
+
+pub are-changes : (sides : SidesText) (named : List (List ℕ)) (kind : Option Kind) (services : List ComparedService) (found : Found) (changes : HostChanges) →
+    map service_text services ≡ compared_services sides named →
+    IsFound sides (map (λ s. (service_text s).name) services) (stacks_asked 0 (length services) kind) found →
+    changes.services.items ≡ services → changes.stacks.items ≡ found.stacks.items → changes.pairs.items ≡ found.pairs.items →
+    AreChanges sides named kind changes
+are-changes sides named kind services found changes e is s t p =
+    let names : map (λ (x : ComparedService). (service_text x).name) services ≡ compared_names sides named =
+    names-are (services_of sides.old) (services_of sides.new) (compared_names sides named) services e in
+    let count : length services ≡ length (compared_names sides named) =
+    sym (length-map services (λ (x : ComparedService). (service_text x).name)) ∙ ap (λ (l : List (List ℕ)). length l) names in
+    record {
+      services = ap (map service_text) s ∙ e;
+      order = ap (map asked_of) t ∙ is.order ∙ ap (λ (n : ℕ). stacks_asked 0 n kind) count;
+      stacks = subst (λ (l : List ComparedStack). All (IsStack sides (compared_names sides named) changes.pairs.items) l) (sym t)
+          (subst (λ (l : List StackPair). All (IsStack sides (compared_names sides named) l) found.stacks.items) (sym p)
+          (subst (λ (l : List (List ℕ)). All (IsStack sides l found.pairs.items) found.stacks.items) names is.stacks));
+      pairs = subst (All (IsPair sides)) (sym p) is.pairs;
     }

@@ -1,6 +1,6 @@
 //! What changes from one configuration to another.
 
-ghost use Rattle.std.specs.Prelude.{◌≡◌, IfOk, length, map};
+ghost use Rattle.std.specs.Prelude.{◌≡◌, ◌<◌, IfOk, Some, length, map, slice_get};
 ghost use Rattle.pam_changes.specs.Changes.{AreChanges, stacks_asked};
 ghost use Rattle.pam_changes.specs.Finding.{IsFound};
 ghost use Rattle.pam_changes.specs.Services.{service_text};
@@ -50,6 +50,13 @@ impl HostChanges {
     }
 }
 
+fn service_at(services: &[ComparedService], position: usize) -> &ComparedService
+    requires { position < length services.now }
+    ensures { slice_get services.now position ≡ Some result.now }
+{
+    &services[position]
+}
+
 impl Comparer<'_, '_> {
     /// What changes for these services.
     fn found(&self, services: &[ComparedService], kind: Option<Kind>) -> Result<Found, AllocError>
@@ -58,7 +65,8 @@ impl Comparer<'_, '_> {
     {
         let mut found = Found::nothing(self.alloc);
         for position in 0..services.len() {
-            self.add_service(&mut found, position, &services[position].name, kind)?;
+            let service = service_at(services, position);
+            self.add_service(&mut found, position, &service.name, kind)?;
         }
         Ok(found)
     }

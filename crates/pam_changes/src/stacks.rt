@@ -123,6 +123,16 @@ fn is_absent(fault: Option<ConfError>) -> bool
     }
 }
 
+/// The fault of a service, if it is refused.
+fn fault_of(resolved: Resolved) -> Option<ConfError>
+    ensures { result ≡ fault_in resolved }
+{
+    match resolved {
+        Ok(_) => None,
+        Err(fault) => Some(fault),
+    }
+}
+
 /// What changes where at least one configuration refuses the service.
 fn refused(old: Option<ConfError>, new: Option<ConfError>) -> StackChange
     requires { old ≡ None → new ≡ None → ⊥ }
@@ -242,10 +252,7 @@ impl Comparer<'_, '_> {
                 Ok(new) => self.change(found, service, kind, old, new),
                 Err(new) => Ok(refused(None, Some(new))),
             },
-            Err(old) => match new {
-                Ok(_) => Ok(refused(Some(old), None)),
-                Err(new) => Ok(refused(Some(old), Some(new))),
-            },
+            Err(old) => Ok(refused(Some(old), fault_of(new))),
         }
     }
 
