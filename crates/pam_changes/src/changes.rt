@@ -1,5 +1,11 @@
 //! What changes from one configuration to another.
 
+ghost use Rattle.std.specs.Prelude.{◌≡◌, ◌<◌, IfOk, Some, length, map, slice_get};
+ghost use Rattle.pam_changes.specs.Changes.{AreChanges, stacks_asked};
+ghost use Rattle.pam_changes.specs.Finding.{IsFound};
+ghost use Rattle.pam_changes.specs.Services.{service_text};
+ghost use Rattle.pam_changes.specs.Sides.{sides_view};
+
 use crate::pair::StackPair;
 use crate::services::{ComparedService, compared_services};
 use crate::sides::Sides;
@@ -22,14 +28,16 @@ impl HostChanges {
     /// Compares these services, each for this kind, or for all four; if none is named, every service of either configuration:
     /// first those of the old one, then those that only the new one has.
     ///
-    /// A service that one configuration lacks is compared as `other` decides it there. Each file is read once. Stacks with the
-    /// same items are not compared again.
+    /// A service that one configuration lacks is compared as `other` decides it there. Each file is read once, and stacks with
+    /// the same items are not searched again.
     pub fn of(
         alloc: Global,
         sides: &Sides<'_, '_>,
         named: &Texts,
         kind: Option<Kind>,
-    ) -> Result<HostChanges, AllocError> {
+    ) -> Result<HostChanges, AllocError>
+        ensures { IfOk result (AreChanges (sides_view sides.now) named.now kind) }
+    {
         let old_rules = RuleFiles::read(alloc, sides.old.files)?;
         let new_rules = RuleFiles::read(alloc, sides.new.files)?;
         let comparer = Comparer {
@@ -42,18 +50,31 @@ impl HostChanges {
     }
 }
 
+fn service_at(services: &[ComparedService], position: usize) -> &ComparedService
+    requires { position < length services.now }
+    ensures { slice_get services.now position ≡ Some result.now }
+{
+    &services[position]
+}
+
 impl Comparer<'_, '_> {
-    /// Adds what changes for these services.
-    fn found(&self, services: &[ComparedService], kind: Option<Kind>) -> Result<Found, AllocError> {
+    /// What changes for these services.
+    fn found(&self, services: &[ComparedService], kind: Option<Kind>) -> Result<Found, AllocError>
+        ensures { IfOk result (IsFound (sides_view self.now.sides.now) (map (λ s. (service_text s).name) services.now)
+            (stacks_asked 0 (length services.now) kind)) }
+    {
         let mut found = Found::nothing(self.alloc);
-        for (position, service) in services.iter().enumerate() {
+        for position in 0..services.len() {
+            let service = service_at(services, position);
             self.add_service(&mut found, position, &service.name, kind)?;
         }
         Ok(found)
     }
 
     /// What changes for these services, or for all.
-    fn changes(&self, named: &Texts, kind: Option<Kind>) -> Result<HostChanges, AllocError> {
+    fn changes(&self, named: &Texts, kind: Option<Kind>) -> Result<HostChanges, AllocError>
+        ensures { IfOk result (AreChanges (sides_view self.now.sides.now) named.now kind) }
+    {
         let services = compared_services(
             self.alloc,
             self.sides,

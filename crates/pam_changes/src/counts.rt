@@ -1,5 +1,9 @@
 //! How many stacks change.
 
+ghost use Rattle.std.specs.Prelude.{◌≡◌};
+ghost use Rattle.std.specs.List.{count_by};
+ghost use Rattle.pam_changes.specs.Counts.{count_of, counts_of, only_in_one, same_verdict, verdict_of, verdict_of_decisions};
+
 use crate::changes::HostChanges;
 use crate::pair::{Decisions, StackPair};
 use crate::services::ComparedService;
@@ -33,7 +37,9 @@ pub struct Counts {
 
 impl StackPair {
     /// What is said of two stacks that are not the same.
-    pub fn verdict(&self) -> Verdict {
+    pub fn verdict(&self) -> Verdict
+        ensures { result ≡ verdict_of_decisions self.now.decisions }
+    {
         match &self.decisions {
             Decisions::NotKnown => Verdict::NotKnown,
             Decisions::Known(changes) => {
@@ -50,25 +56,70 @@ impl StackPair {
     }
 }
 
+/// Whether two verdicts are equal.
+fn is_same(one: Verdict, other: Verdict) -> bool
+    ensures { result ≡ same_verdict one other }
+{
+    match (one, other) {
+        (Verdict::NoStack, Verdict::NoStack) => true,
+        (Verdict::Equal, Verdict::Equal) => true,
+        (Verdict::SameDecisions, Verdict::SameDecisions) => true,
+        (Verdict::Changed, Verdict::Changed) => true,
+        (Verdict::NotKnown, Verdict::NotKnown) => true,
+        (Verdict::Refused, Verdict::Refused) => true,
+        _ => false,
+    }
+}
+
+/// How many services pass: those that only the old configuration has, or only the new one.
+fn only_in(services: &[ComparedService], in_old: bool) -> usize
+    ensures { result ≡ count_by (only_in_one in_old) services.now }
+{
+    let mut count = 0;
+    for service in services {
+        if is_only_in(service, in_old) {
+            count += 1;
+        }
+    }
+    count
+}
+
+fn is_only_in(service: &ComparedService, in_old: bool) -> bool
+    ensures { result ≡ only_in_one in_old service.now }
+{
+    if in_old {
+        service.in_old && !service.in_new
+    } else {
+        service.in_new && !service.in_old
+    }
+}
+
 impl HostChanges {
     /// What is said of a stack.
-    pub fn verdict(&self, stack: &ComparedStack) -> Verdict {
+    pub fn verdict(&self, stack: &ComparedStack) -> Verdict
+        ensures { result ≡ verdict_of self.now.pairs.items stack.now.change }
+    {
         match stack.change {
             StackChange::NoStack => Verdict::NoStack,
             StackChange::Refused { .. } => Verdict::Refused,
             StackChange::Same => Verdict::Equal,
-            StackChange::Differs(position) => match self.pairs.get(position) {
-                Some(pair) => pair.verdict(),
-                None => Verdict::NotKnown,
-            },
+            StackChange::Differs(position) => {
+                if position < self.pairs.len() {
+                    self.pairs[position].verdict()
+                } else {
+                    Verdict::NotKnown
+                }
+            }
         }
     }
 
     /// The number of stacks of which this is said.
-    fn count(&self, verdict: Verdict) -> usize {
+    fn count(&self, verdict: Verdict) -> usize
+        ensures { result ≡ count_of self.now.pairs.items self.now.stacks.items verdict }
+    {
         let mut count = 0;
         for stack in &self.stacks {
-            if self.verdict(stack) == verdict {
+            if is_same(self.verdict(stack), verdict) {
                 count += 1;
             }
         }
@@ -76,23 +127,17 @@ impl HostChanges {
     }
 
     /// How many stacks change, and how many services only one configuration has.
-    pub fn counts(&self) -> Counts {
+    pub fn counts(&self) -> Counts
+        ensures { result ≡ counts_of self.now }
+    {
         Counts {
             equal: self.count(Verdict::Equal),
             same_decisions: self.count(Verdict::SameDecisions),
             changed: self.count(Verdict::Changed),
             not_known: self.count(Verdict::NotKnown),
             refused: self.count(Verdict::Refused),
-            only_in_old: self
-                .services
-                .iter()
-                .filter(|service| service.in_old && !service.in_new)
-                .count(),
-            only_in_new: self
-                .services
-                .iter()
-                .filter(|service| service.in_new && !service.in_old)
-                .count(),
+            only_in_old: only_in(&self.services, true),
+            only_in_new: only_in(&self.services, false),
         }
     }
 }

@@ -8,7 +8,7 @@ mod digest;
 mod known;
 mod modules;
 mod pair;
-mod plain;
+mod same;
 mod services;
 mod sides;
 mod stacks;

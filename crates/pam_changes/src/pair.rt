@@ -1,10 +1,17 @@
 //! Two stacks that are not the same.
 
+ghost use Rattle.std.specs.Prelude.{◌≡◌, IfOk, List, Option, ℕ};
+ghost use Rattle.pam_compare.specs.Comparison.{AreChanges as AreCompared, IsComparison, IsShown as IsWitnessed};
+ghost use Rattle.pam_compare.specs.Matching.{matching_of};
+ghost use Rattle.pam_compare.specs.declared.change.Change.{Change};
+ghost use Rattle.pam_paths.specs.Listing.{Allowance};
+ghost use Rattle.pam_changes.specs.Pairs.{AreDecisions, AreShown, IsCompared, IsPair, IsProgramOf, IsShown};
+ghost use Rattle.pam_changes.specs.Sides.{sides_view};
+
 use crate::known::known_answers;
 use crate::modules::ModuleChanges;
 use crate::sides::Sides;
-use crate::stacks::Asked;
-use crate::steps::{Answered, AskedModule};
+use crate::steps::{AskedModule, asked_modules};
 use pam_compare::{Changes, Comparison, Matching, Witness, compare};
 use pam_conf::{Kind, Stack};
 use pam_dispatch::Program;
@@ -57,21 +64,25 @@ struct Programs<'x> {
 
 impl Programs<'_> {
     /// Answers, with the modules that are then asked.
-    fn shown(&self, alloc: Global, witness: Option<Witness>) -> Result<Option<Shown>, AllocError> {
-        let Some(witness) = witness else {
-            return Ok(None);
-        };
-        let answered = Answered {
-            old: self.old,
-            new: self.new,
-            matching: self.matching,
-            witness: &witness,
-        };
-        let asked = answered.asked(alloc)?;
-        Ok(Some(Shown { witness, asked }))
+    fn shown(&self, alloc: Global, witness: Option<Witness>) -> Result<Option<Shown>, AllocError>
+        ensures { (old_allows new_allows : Allowance) (change : Change)
+            → IsWitnessed old_allows new_allows self.now.old.now self.now.new.now self.now.matching.now change witness
+            → IfOk result (IsShown old_allows new_allows self.now.old.now self.now.new.now self.now.matching.now change) }
+    {
+        match witness {
+            Some(witness) => {
+                let asked = asked_modules(alloc, self.old, self.new, self.matching, &witness)?;
+                Ok(Some(Shown { witness, asked }))
+            }
+            None => Ok(None),
+        }
     }
 
-    fn shown_changes(&self, alloc: Global, changes: Changes) -> Result<ShownChanges, AllocError> {
+    fn shown_changes(&self, alloc: Global, changes: Changes) -> Result<ShownChanges, AllocError>
+        ensures { (old_allows new_allows : Allowance)
+            → AreCompared old_allows new_allows self.now.old.now self.now.new.now self.now.matching.now changes
+            → IfOk result (AreShown old_allows new_allows self.now.old.now self.now.new.now self.now.matching.now) }
+    {
         let admits = self.shown(alloc, changes.admits)?;
         let refuses = self.shown(alloc, changes.refuses)?;
         let tells = self.shown(alloc, changes.tells)?;
@@ -82,10 +93,15 @@ impl Programs<'_> {
         })
     }
 
-    fn decisions(&self, alloc: Global, comparison: Comparison) -> Result<Decisions, AllocError> {
+    fn decisions(&self, alloc: Global, comparison: Comparison) -> Result<Decisions, AllocError>
+        ensures { (old_allows new_allows : Allowance)
+            → IsComparison old_allows new_allows self.now.old.now self.now.new.now self.now.matching.now comparison
+            → IfOk result (AreDecisions old_allows new_allows self.now.old.now self.now.new.now self.now.matching.now) }
+    {
         match comparison {
             Comparison::Known(changes) => {
-                Ok(Decisions::Known(self.shown_changes(alloc, changes)?))
+                let shown = self.shown_changes(alloc, changes)?;
+                Ok(Decisions::Known(shown))
             }
             Comparison::NotKnown => Ok(Decisions::NotKnown),
         }
@@ -93,7 +109,9 @@ impl Programs<'_> {
 }
 
 /// The program of a stack.
-fn program_of(alloc: Global, stack: &Stack) -> Result<Program, AllocError> {
+fn program_of(alloc: Global, stack: &Stack) -> Result<Program, AllocError>
+    ensures { IfOk result (IsProgramOf stack.now) }
+{
     match Program::of(alloc, stack) {
         Ok(program) => Ok(program),
         Err(_) => Err(AllocError),
@@ -101,59 +119,88 @@ fn program_of(alloc: Global, stack: &Stack) -> Result<Program, AllocError> {
 }
 
 /// The matching of two stacks.
-fn matching_of(alloc: Global, old: &Stack, new: &Stack) -> Result<Matching, AllocError> {
+fn matching_of(alloc: Global, old: &Stack, new: &Stack) -> Result<Matching, AllocError>
+    ensures { IfOk result (λ m. m ≡ matching_of old.now new.now) }
+{
     match Matching::of(alloc, old, new) {
         Ok(matching) => Ok(matching),
         Err(_) => Err(AllocError),
     }
 }
 
-/// How the decisions of two stacks differ under what is known of their modules.
-fn decisions_of(
-    alloc: Global,
-    sides: &Sides<'_, '_>,
+/// Two stacks of a kind, whose modules are matched.
+#[derive(Clone, Copy)]
+struct Matched<'x> {
     kind: Kind,
-    old: &Stack,
-    new: &Stack,
-    matching: &Matching,
-) -> Result<Decisions, AllocError> {
-    let old_program = program_of(alloc, old)?;
-    let new_program = program_of(alloc, new)?;
-    let old_known = known_answers(sides, &sides.old, kind, old);
-    let new_known = known_answers(sides, &sides.new, kind, new);
-    let Ok(comparison) = compare(
-        alloc,
-        &old_program,
-        &new_program,
-        matching,
-        &old_known,
-        &new_known,
-    ) else {
-        return Err(AllocError);
-    };
-    let programs = Programs {
-        old: &old_program,
-        new: &new_program,
-        matching,
-    };
-    programs.decisions(alloc, comparison)
+    old: &'x Stack,
+    new: &'x Stack,
+    matching: &'x Matching,
+}
+
+impl Matched<'_> {
+    /// How the decisions of two stacks, with these programs, differ under what is known of their modules.
+    fn decisions_of(
+        &self,
+        alloc: Global,
+        sides: &Sides<'_, '_>,
+        old: &Program,
+        new: &Program,
+    ) -> Result<Decisions, AllocError>
+        requires old { IsProgramOf self.now.old.now old.now }
+        requires new { IsProgramOf self.now.new.now new.now }
+        ensures { IfOk result (IsCompared (sides_view sides.now) self.now.kind self.now.old.now self.now.new.now self.now.matching.now) }
+    {
+        let old_known = known_answers(sides, &sides.old, self.kind, self.old);
+        let new_known = known_answers(sides, &sides.new, self.kind, self.new);
+        let programs = Programs {
+            old,
+            new,
+            matching: self.matching,
+        };
+        match compare(alloc, old, new, self.matching, &old_known, &new_known) {
+            Ok(comparison) => programs.decisions(alloc, comparison),
+            Err(_) => Err(AllocError),
+        }
+    }
+
+    /// How the decisions of two stacks differ under what is known of their modules.
+    fn decisions(&self, alloc: Global, sides: &Sides<'_, '_>) -> Result<Decisions, AllocError>
+        ensures { IfOk result (IsCompared (sides_view sides.now) self.now.kind self.now.old.now self.now.new.now self.now.matching.now) }
+    {
+        let old = program_of(alloc, self.old)?;
+        let new = program_of(alloc, self.new)?;
+        self.decisions_of(alloc, sides, &old, &new)
+    }
 }
 
 impl StackPair {
-    /// Compares two stacks.
+    /// Compares two stacks, which are met first at this service.
     pub(crate) fn of(
         alloc: Global,
         sides: &Sides<'_, '_>,
-        asked: Asked<'_>,
+        service: usize,
+        kind: Kind,
         old: Stack,
         new: Stack,
-    ) -> Result<StackPair, AllocError> {
+    ) -> Result<StackPair, AllocError>
+        ensures pair { IfOk result (IsPair (sides_view sides.now)) }
+        ensures service { IfOk result (λ pair. pair.service ≡ service) }
+        ensures kind { IfOk result (λ pair. pair.kind ≡ kind) }
+        ensures old { IfOk result (λ pair. pair.old ≡ old) }
+        ensures new { IfOk result (λ pair. pair.new ≡ new) }
+    {
         let matching = matching_of(alloc, &old, &new)?;
         let modules = ModuleChanges::of(alloc, &old, &new, &matching)?;
-        let decisions = decisions_of(alloc, sides, asked.kind, &old, &new, &matching)?;
+        let matched = Matched {
+            kind,
+            old: &old,
+            new: &new,
+            matching: &matching,
+        };
+        let decisions = matched.decisions(alloc, sides)?;
         Ok(StackPair {
-            service: asked.service,
-            kind: asked.kind,
+            service,
+            kind,
             old,
             new,
             matching,
