@@ -152,6 +152,27 @@ def host(count):
     return make
 
 
+def changed_host(count):
+    """Two folders of a number of services, one line of whose common file differs."""
+    def make(folder):
+        host(count)(folder)
+        os.rename(os.path.join(folder, "d"), os.path.join(folder, "old"))
+        host(count)(folder)
+        common = HOST_COMMON["common-auth"].replace(b"auth requisite pam_deny.so\n", b"")
+        put(folder, "d/common-auth", common)
+    return make
+
+
+def reversed_stacks(count):
+    """Two folders, whose stacks have the same modules in reverse orders."""
+    def make(folder):
+        rules_of = [b"auth required m%d.so\n" % n for n in range(count)]
+        pam_d(login=b"".join(rules_of))(folder)
+        os.rename(os.path.join(folder, "d"), os.path.join(folder, "old"))
+        pam_d(login=b"".join(reversed(rules_of)))(folder)
+    return make
+
+
 READERS = ["paths", "login", "account", "--dir", "d", "--access", "access", "--user", "alice", "--limit", "1"]
 
 CASES = [
@@ -180,6 +201,9 @@ CASES = [
     ("a time table of 1 MiB", ["time", "login", "--time", "time", "--user", "alice", "--tty", "tty1", "--at", "2024-05-06T10:00"],
      time_tables, SIZES, 1),
     ("check of a host of 40 files", ["check", "--dir", "d"], host, (10, 20, 40), 0),
+    ("comparison of a host of 30 files with itself", ["compare", "d", "d"], host, (8, 15, 30), 0),
+    ("comparison of hosts of 40 files, one line of them changed", ["compare", "old", "d"], changed_host, (10, 20, 40), 0),
+    ("comparison of stacks of 12 modules in reverse orders", ["compare", "old", "d", "login", "auth"], reversed_stacks, (3, 6, 12), 0),
     ("check of a host of 10,000 files", ["check", "--dir", "d"], host, (2500, 5000, 10000), 0),
 ]
 

@@ -1,6 +1,6 @@
 # Completion of pamcheck for bash, by the package bash-completion. It never runs pamcheck itself, whose launcher may build.
 
-_pamcheck_commands='check show decide paths outcomes graph access time explain facts version help'
+_pamcheck_commands='check compare show decide paths outcomes graph access time explain facts version help'
 _pamcheck_kinds='auth account password session'
 _pamcheck_codes='success open_err symbol_err service_err system_err buf_err perm_denied auth_err cred_insufficient
     authinfo_unavail user_unknown maxtries new_authtok_reqd acct_expired session_err cred_unavail cred_expired cred_err
@@ -17,6 +17,7 @@ _pamcheck_options() {
     local known="--user --rhost --tty --access --time --group --returns $moment"
     case $1 in
         check) echo "$source --modules --facts --accept --fail-on --help" ;;
+        compare) echo '--conf --root --modules --facts --returns --help' ;;
         show | decide) echo "$source --help" ;;
         paths) echo "$source --limit --after --before --decision --asks $known --help" ;;
         outcomes) echo "$source $known --help" ;;
@@ -93,6 +94,10 @@ _pamcheck() {
         COMPREPLY=($(compgen -W "$_pamcheck_commands" -- "$cur"))
         return
     fi
+    # The two sources of a comparison, whose form is said by options without a value.
+    if [[ $command == compare && ($prev == --conf || $prev == --root) ]]; then
+        prev=''
+    fi
     case $prev in
         --dir | --vendor-dir | --root | --modules) _filedir -d ;;
         --conf | --facts | --accept | --access | --time | --group | --returns) _filedir ;;
@@ -113,6 +118,7 @@ _pamcheck() {
     for ((at = 2; at < cword; at++)); do
         case ${words[at]} in
             --*=*) ;;
+            --conf | --root) [[ $command == compare ]] || at=$((at + 1)) ;;
             --*) at=$((at + 1)) ;;
             *) place=$((place + 1)) ;;
         esac
@@ -120,7 +126,9 @@ _pamcheck() {
     case $command:$place in
         check:* | show:0 | decide:0 | paths:0 | outcomes:0 | graph:0 | access:0 | time:0)
             COMPREPLY=($(compgen -W "$(_pamcheck_services "${words[@]:2}")" -- "$cur")) ;;
-        show:1 | decide:1 | paths:1 | outcomes:1 | graph:1) COMPREPLY=($(compgen -W "$_pamcheck_kinds" -- "$cur")) ;;
+        compare:0 | compare:1) _filedir ;;
+        compare:2) COMPREPLY=($(compgen -W "$(_pamcheck_services --dir "${words[2]}")" -- "$cur")) ;;
+        compare:3 | show:1 | decide:1 | paths:1 | outcomes:1 | graph:1) COMPREPLY=($(compgen -W "$_pamcheck_kinds" -- "$cur")) ;;
         explain:0) COMPREPLY=($(compgen -W "$_pamcheck_numbers" -- "${cur^^}")) ;;
         decide:*) COMPREPLY=($(compgen -W "$_pamcheck_codes" -- "$cur")) ;;
         access:*)

@@ -31,6 +31,7 @@ function __pamcheck_at
         if test $value = yes
             set value no
         else if string match -q -- '--*=*' $word
+        else if test "$words[2]" = compare; and contains -- $word --conf --root
         else if string match -q -- '--*' $word
             set value yes
         else
@@ -94,6 +95,7 @@ complete -c pamcheck -s h -l help -d 'Print help'
 complete -c pamcheck -n __pamcheck_no_command -s V -l version -d 'Print version'
 
 complete -c pamcheck -n __pamcheck_no_command -a check -d 'Checks all services'
+complete -c pamcheck -n __pamcheck_no_command -a compare -d 'Compares what two configurations decide'
 complete -c pamcheck -n __pamcheck_no_command -a show -d 'Shows the modules of a stack'
 complete -c pamcheck -n __pamcheck_no_command -a decide -d 'Runs a stack with given return codes'
 complete -c pamcheck -n __pamcheck_no_command -a paths -d 'Lists the paths through a stack'
@@ -107,8 +109,10 @@ complete -c pamcheck -n __pamcheck_no_command -a version -d 'Shows the version o
 complete -c pamcheck -n __pamcheck_no_command -a help -d 'Prints the help of a command'
 
 # The words that are no options.
-complete -c pamcheck -n '__pamcheck_at 1 1 help' -a 'check show decide paths outcomes graph access time explain facts version help'
+complete -c pamcheck -n '__pamcheck_at 1 1 help' -a 'check compare show decide paths outcomes graph access time explain facts version help'
 complete -c pamcheck -n '__pamcheck_at 1 999 check' -a '(__pamcheck_services)' -d Service
+complete -c pamcheck -n '__pamcheck_at 1 2 compare' -F
+complete -c pamcheck -n '__pamcheck_at 4 4 compare' -a 'auth account password session' -d Kind
 complete -c pamcheck -n '__pamcheck_at 1 1 show decide paths outcomes graph access time' -a '(__pamcheck_services)' -d Service
 complete -c pamcheck -n '__pamcheck_at 2 2 show decide paths outcomes graph' -a 'auth account password session' -d Kind
 complete -c pamcheck -n '__pamcheck_at 3 999 decide' -a '$__pamcheck_codes' -d Code
@@ -121,8 +125,10 @@ complete -c pamcheck -n '__pamcheck_in check show decide paths outcomes graph' -
 complete -c pamcheck -n '__pamcheck_in check show decide paths outcomes graph' -l conf -rF -d 'The file for all services'
 complete -c pamcheck -n '__pamcheck_in check show decide paths outcomes graph' -l root -xa '(__fish_complete_directories)' -d 'The root folder of a system'
 complete -c pamcheck -n '__pamcheck_in check show decide paths outcomes graph' -l with -xa '(__pamcheck_candidates)' -d 'A file to read in place of NAME, as NAME=FILE'
-complete -c pamcheck -n '__pamcheck_in check' -l modules -xa '(__fish_complete_directories)' -d 'A folder of modules'
-complete -c pamcheck -n '__pamcheck_in check' -l facts -rF -d 'What is known of more modules'
+complete -c pamcheck -n '__pamcheck_in compare' -l conf -d 'OLD and NEW are files for all services'
+complete -c pamcheck -n '__pamcheck_in compare' -l root -d 'OLD and NEW are root folders of systems'
+complete -c pamcheck -n '__pamcheck_in check compare' -l modules -xa '(__fish_complete_directories)' -d 'A folder of modules'
+complete -c pamcheck -n '__pamcheck_in check compare' -l facts -rF -d 'What is known of more modules'
 complete -c pamcheck -n '__pamcheck_in check' -l accept -rF -d 'The findings that are meant to be'
 complete -c pamcheck -n '__pamcheck_in check' -l fail-on -xa 'error warning note' -d 'The least level that fails'
 complete -c pamcheck -n '__pamcheck_in paths' -l limit -x -d 'The most paths to list'
@@ -137,7 +143,7 @@ complete -c pamcheck -n '__pamcheck_in paths outcomes graph access time' -l tty 
 complete -c pamcheck -n '__pamcheck_in paths outcomes graph access' -l access -rF -d 'The access table of pam_access.so'
 complete -c pamcheck -n '__pamcheck_in paths outcomes graph time' -l time -rF -d 'The time table of pam_time.so'
 complete -c pamcheck -n '__pamcheck_in paths outcomes graph access' -l group -rF -d 'The file of groups'
-complete -c pamcheck -n '__pamcheck_in paths outcomes graph' -l returns -rF -d 'The codes that other modules can return'
+complete -c pamcheck -n '__pamcheck_in compare paths outcomes graph' -l returns -rF -d 'The codes that other modules can return'
 complete -c pamcheck -n '__pamcheck_in paths outcomes graph time' -l at -x -d 'The moment, as 2024-05-06T10:00'
 complete -c pamcheck -n '__pamcheck_in paths outcomes graph time' -l at-unix -x -d 'The moment, in seconds since 1970'
 complete -c pamcheck -n '__pamcheck_in paths outcomes graph time' -l zone -x -d 'The POSIX zone rule of --at-unix'

@@ -7,6 +7,7 @@ words that it does not take is its own, so standard error is `None` then. Help a
 import re
 from itertools import islice
 
+import plain_compare
 import plain_given
 import plain_graph
 import plain_host
@@ -22,6 +23,7 @@ KNOWING = b" --access --time --group --returns --user --rhost --tty --at --at-un
 SOURCES = b"--dir --vendor-dir --conf --root --with"
 OPTIONS = {
     b"check": SOURCES + b" --modules --facts --accept --fail-on",
+    b"compare": b"--conf --root --modules --facts --returns",
     b"show": SOURCES,
     b"decide": SOURCES,
     b"paths": SOURCES + b" --limit --after --before --decision --asks" + KNOWING,
@@ -33,12 +35,13 @@ OPTIONS = {
     b"version": b"",
 }
 REPEATED = (b"--modules", b"--with")
+FLAGS = {b"compare": [b"--conf", b"--root"]}
 WITH_SOURCE = [name for name, options in OPTIONS.items() if options.startswith(SOURCES)]
 ABOUT = (b"facts", b"version")
 VERSION = b"pamcheck 1.0.0 (proved with rattle, logic dac8208d650f15bf)\n"
 REQUIRED = {b"access": [b"--access", b"--user"], b"time": [b"--time", b"--user"]}
-MOST_ARGUMENTS = {b"facts": 0, b"version": 0, b"show": 2, b"paths": 2, b"outcomes": 2, b"graph": 2, b"time": 1}
-LEAST_ARGUMENTS = {b"check": 0, b"facts": 0, b"version": 0, b"show": 2, b"decide": 2, b"paths": 2, b"outcomes": 2, b"graph": 2,
+MOST_ARGUMENTS = {b"compare": 4, b"facts": 0, b"version": 0, b"show": 2, b"paths": 2, b"outcomes": 2, b"graph": 2, b"time": 1}
+LEAST_ARGUMENTS = {b"check": 0, b"compare": 2, b"facts": 0, b"version": 0, b"show": 2, b"decide": 2, b"paths": 2, b"outcomes": 2, b"graph": 2,
                    b"access": 1, b"time": 1}
 MOST_COUNTED = 2 ** 128
 
@@ -120,7 +123,9 @@ class Request:
             plain_sources.judge(self.options, self.command == b"check")
         if self.options.get(b"--fail-on", b"warning") not in plain_host.LEVELS:
             raise Fault("U13")
-        if self.command == b"check" or self.command in ABOUT:
+        if self.command == b"compare":
+            self.judge_sides()
+        if self.command in (b"check", b"compare", *ABOUT):
             return
         self.service = self.arguments[0].lower()
         if self.command in (b"show", b"decide", b"paths", b"outcomes", b"graph"):
@@ -137,6 +142,17 @@ class Request:
         self.decisions = decisions_of(self.options[b"--decision"]) if b"--decision" in self.options else set()
         if self.command in (b"paths", b"outcomes", b"graph", b"time"):
             self.judge_login_and_moment()
+
+    def judge_sides(self):
+        """Refuses both forms of the sides of a comparison, and a word that is no kind."""
+        if b"--conf" in self.options and b"--root" in self.options:
+            raise Fault("U2")
+        if self.kind_named() not in (None, *stacks.KINDS):
+            raise Fault("U3")
+
+    def kind_named(self):
+        """The kind that is compared, if one is named."""
+        return self.arguments[3].lower() if len(self.arguments) > 3 else None
 
     def judge_login_and_moment(self):
         given = self.options
@@ -159,6 +175,8 @@ class Request:
             return b"".join(b" ".join(row) + b"\n" for row in plain_host.FACTS), 0
         if self.command == b"version":
             return VERSION, 0
+        if self.command == b"compare":
+            return self.comparison(tree).whole()
         source = plain_sources.Source(self.options, tree) if self.command in WITH_SOURCE else None
         self.tables = {}
         for option in (b"--group", b"--access", b"--time", b"--returns"):
@@ -198,6 +216,25 @@ class Request:
         host = plain_host.Host(form, files, self.arguments, there, facts)
         accept = self.options.get(b"--accept", b""), accepted
         return plain_host.text(host, source.paths, self.options.get(b"--fail-on", b"warning"), accept)
+
+    def side(self, name, tree):
+        """The files of a side of a comparison, and the paths at which a module is there."""
+        form = b"--conf" if b"--conf" in self.options else b"--root" if b"--root" in self.options else b"--dir"
+        files = plain_sources.Source({form: name}, tree).files
+        folders = self.options.get(b"--modules", [])
+        for folder in folders:
+            listed(tree, folder)
+        return files, plain_given.there(name if form == b"--root" else None, folders, files.files.values(), lambda path: found(tree, path))
+
+    def comparison(self, tree):
+        """What changes from one configuration to another."""
+        sides = [self.side(name, tree) for name in self.arguments[:2]]
+        data = {name: read(tree, self.options[name]) if name in self.options else b"" for name in (b"--facts", b"--returns")}
+        facts = plain_given.facts(data[b"--facts"])
+        returns = tables.returns_of(data[b"--returns"])
+        old, new = [plain_compare.Side(files, there, facts, returns) for files, there in sides]
+        return plain_compare.Comparison(old, new, self.arguments[2] if len(self.arguments) > 2 else None, self.kind_named())
+
 
     def login(self):
         """The login that the words tell."""
@@ -327,9 +364,12 @@ def parsed(words):
             arguments.append(word)
             continue
         name, sign, value = word.partition(b"=")
-        if name not in OPTIONS[command].split() or name in options and name not in REPEATED or not (sign or words):
+        is_flag = name in FLAGS.get(command, [])
+        if name not in OPTIONS[command].split() or name in options and name not in REPEATED:
             raise WrongWords
-        value = value if sign else words.pop(0)
+        if is_flag == bool(sign) and (is_flag or not words and not sign):
+            raise WrongWords
+        value = value if sign or is_flag else words.pop(0)
         options[name] = options.get(name, []) + [value] if name in REPEATED else value
     least = LEAST_ARGUMENTS[command]
     if not least <= len(arguments) <= MOST_ARGUMENTS.get(command, len(arguments)):

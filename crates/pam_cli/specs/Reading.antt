@@ -1,21 +1,24 @@
 -- What is read for a task: the inputs that fit it, or the input that cannot be read.
-use Rattle.std.specs.Prelude.{◌≡◌, ◌⊎◌, ⊤, true, ℕ, List, Option, Some, Result, Ok, Err, is_some, map}
+use Rattle.std.specs.Prelude.{◌≡◌, ◌⊎◌, ⊤, true, ℕ, List, [], Option, Some, Result, Ok, Err, is_some, map}
 use Rattle.std.specs.Borrow.{Bor}
 use Rattle.std.specs.Bool.{beq}
 use Rattle.std.specs.Option.{option_copied}
 use Rattle.clap.specs.Words.{Text}
+use Rattle.pam_conf.specs.declared.rule.Kind.{Kind}
 use Rattle.pam_paths.specs.Classes.{Member}
 use Rattle.pam_report.specs.Inputs.{fits_check, fits_knowledge, fits_task}
 use Rattle.pam_report.specs.declared.inputs.CheckInputs.{CheckInputs}
+use Rattle.pam_report.specs.declared.inputs.SideInputs.{SideInputs}
 use Rattle.pam_report.specs.declared.inputs.InputError.{InputError}
 use Rattle.pam_report.specs.declared.inputs.Inputs.{Inputs}
 use Rattle.pam_report.specs.declared.inputs.Inputs.TheVariants as inputs
+use Rattle.pam_words.specs.declared.wanted.CompareFiles.{CompareFiles}
 use Rattle.pam_words.specs.declared.wanted.ConfSource.{ConfSource}
 use Rattle.pam_words.specs.declared.wanted.KnowledgeSource.{KnowledgeSource}
 use Rattle.pam_words.specs.declared.wanted.LevelName.{LevelName}
 use Rattle.pam_words.specs.declared.wanted.Login.{Login}
 use Rattle.pam_words.specs.declared.wanted.Task.{Task}
-use Rattle.pam_words.specs.declared.wanted.Task.TheVariants.{Check, Show, Decide, Access, Time, Paths, Outcomes, Graph}
+use Rattle.pam_words.specs.declared.wanted.Task.TheVariants.{Check, Compare, Show, Decide, Access, Time, Paths, Outcomes, Graph}
 use Rattle.pam_words.specs.declared.wanted.CheckFiles.{CheckFiles}
 use Rattle.pam_cli.specs.Sources.{IsFrom, IsInSource, IsRead, IsUnread}
 
@@ -28,8 +31,18 @@ HasFiles candidates source (inputs.Stack files) = IsFrom candidates source files
 HasFiles candidates source (inputs.Paths files groups access time returns) = IsFrom candidates source files
 HasFiles candidates source given = ⊤
 
+-- a side of a comparison is read from its source
+abbrev pub IsSide : ConfSource → SideInputs → Type 0
+IsSide source side = IsFrom [] source side.files
+
+-- the old configuration is read from the first source, and the new one from the second
+abbrev pub HasSides : ConfSource → ConfSource → Inputs → Type 0
+HasSides old new (inputs.Sides old_side new_side facts returns) = IsSide old old_side × IsSide new new_side
+HasSides old new given = ⊤
+
 abbrev pub HasSource : List (Text × Text) → Task → Inputs → Type 0
 HasSource candidates (Check source services fail_on named) given = HasFiles candidates source given
+HasSource candidates (Compare old new service kind named) given = HasSides old new given
 HasSource candidates (Show source kind) given = HasFiles candidates source given
 HasSource candidates (Decide source kind answered) given = HasFiles candidates source given
 HasSource candidates (Paths source kind limit part filter knowledge) given = HasFiles candidates source given
@@ -59,9 +72,20 @@ IsOfCheck named name =
     Member name (map (λ folder. folder.now) named.modules.items)
     ⊎ IsNamed (option_copied named.facts) name ⊎ IsNamed (option_copied named.accept) name
 
+-- a name of the source of a side, or one of the folders of modules
+abbrev pub IsOfSide : ConfSource → List (List ℕ) → List ℕ → Type 0
+IsOfSide source folders name = IsInSource source name ⊎ Member name folders
+
+-- a name of either source, one of the folders of modules, or the facts file or the returns file
+abbrev pub IsOfCompare : ConfSource → ConfSource → CompareFiles → List ℕ → Type 0
+IsOfCompare old new named name =
+    IsInSource old name ⊎ IsInSource new name ⊎ Member name (map (λ folder. folder.now) named.modules.items)
+    ⊎ IsNamed (option_copied named.facts) name ⊎ IsNamed (option_copied named.returns) name
+
 -- a name of the task's source or of a file that it names
 abbrev pub IsOfTask : Task → List ℕ → Type 0
 IsOfTask (Check source services fail_on named) name = IsInSource source name ⊎ IsOfCheck named name
+IsOfTask (Compare old new service kind named) name = IsOfCompare old new named name
 IsOfTask (Show source kind) name = IsInSource source name
 IsOfTask (Decide source kind answered) name = IsInSource source name
 IsOfTask (Access table groups login arguments) name = IsNamed (option_copied groups) name ⊎ (name ≡ table.now)
@@ -86,6 +110,11 @@ IsGiven given named = beq (is_some given) (is_some named) ≡ true
 abbrev pub IsCheckReading : List (Text × Text) → ConfSource → CheckFiles → Result Inputs InputError → Type 0
 IsCheckReading candidates source named result =
     (services : List Text) (fail_on : LevelName) → IsReading candidates (Check source services fail_on named) result
+
+-- what is read for each `compare` of these sources and these files
+abbrev pub IsCompareReading : ConfSource → ConfSource → CompareFiles → Result Inputs InputError → Type 0
+IsCompareReading old new named result =
+    (candidates : List (Text × Text)) (service : Option (Bor Text)) (kind : Option Kind) → IsReading candidates (Compare old new service kind named) result
 
 -- what a check is given besides the configuration
 abbrev pub IsGivenReading : ConfSource → CheckFiles → Result CheckInputs InputError → Type 0

@@ -3,7 +3,7 @@
 ghost use Rattle.std.specs.Prelude.{◌⊎◌, IfErr, IfOk, MatchResult, map};
 ghost use Rattle.std.specs.Option.{option_copied};
 ghost use Rattle.pam_cli.specs.Reading.{IsAccessReading, IsCheckReading, IsGiven, IsGivenReading, IsKnowledgeReading, IsNamed};
-ghost use Rattle.pam_cli.specs.Reading.{IsReading};
+ghost use Rattle.pam_cli.specs.Reading.{IsCompareReading, IsOfSide, IsReading, IsSide};
 ghost use Rattle.pam_cli.specs.Sources.{IsUnread};
 ghost use Rattle.pam_words.specs.Wanted.{candidate_view};
 
@@ -14,8 +14,10 @@ mod sources;
 use files::named_file;
 use modules::modules_there;
 use pam_conf::Files;
-use pam_report::{CheckInputs, InputError, Inputs};
-use pam_words::{Candidate, CheckFiles, ConfSource, KnowledgeSource, Request, Task};
+use pam_report::{CheckInputs, InputError, Inputs, SideInputs};
+use pam_words::{
+    Candidate, CheckFiles, CompareFiles, ConfSource, KnowledgeSource, Request, Task,
+};
 use sources::source_files;
 use std::alloc::Global;
 
@@ -86,6 +88,41 @@ fn check_inputs<R: std::rt::Files + AllocGlobal + Clone + Drop>(
     })
 }
 
+/// Reads a side of a comparison, and looks for its modules.
+fn side_inputs<R: std::rt::Files + AllocGlobal + Clone + Drop>(
+    rt: &R,
+    alloc: Global,
+    source: ConfSource<'_>,
+    modules: &[&str],
+) -> Result<SideInputs, InputError>
+    ensures { MatchResult result (IsSide source.entry) (IsUnread (IsOfSide source.entry (map (λ m. m.now) modules.now))) }
+{
+    let files = source_files(rt, alloc, source, &[])?.files;
+    let there = modules_there(rt, alloc, source, modules, &files)?;
+    Ok(SideInputs { files, there })
+}
+
+/// Reads the old configuration and the new one, and what else a comparison is given.
+fn compare_inputs<R: std::rt::Files + AllocGlobal + Clone + Drop>(
+    rt: &R,
+    alloc: Global,
+    old: ConfSource<'_>,
+    new: ConfSource<'_>,
+    named: &CompareFiles<'_>,
+) -> Result<Inputs, InputError>
+    ensures { IsCompareReading old.entry new.entry named.now result }
+{
+    let old = side_inputs(rt, alloc, old, &named.modules)?;
+    let new = side_inputs(rt, alloc, new, &named.modules)?;
+    let others = optional_files(rt, alloc, named.facts, named.returns)?;
+    Ok(Inputs::Sides {
+        old,
+        new,
+        facts: others.0,
+        returns: others.1,
+    })
+}
+
 /// Reads the group file, if one is named, then the access table.
 fn access_inputs<R: std::rt::Files>(
     rt: &R,
@@ -135,6 +172,12 @@ pub(crate) fn inputs_of<R: std::rt::Files + AllocGlobal + Clone + Drop>(
     let candidates = &request.candidates;
     match &request.task {
         Task::Check { source, given, .. } => check_inputs(rt, alloc, *source, candidates, given),
+        Task::Compare {
+            old,
+            new,
+            given,
+            ..
+        } => compare_inputs(rt, alloc, *old, *new, given),
         Task::Show { source, .. } | Task::Decide { source, .. } => Ok(Inputs::Stack(
             source_files(rt, alloc, *source, candidates)?.files,
         )),

@@ -4,9 +4,11 @@ pub mod Fewer
 pub mod Growing
 pub mod Holding
 pub mod Many
+pub mod Matched
 pub mod Meeting
 pub mod Names
 pub mod Possible
+pub mod Ranges
 pub mod Reaching
 pub mod Sameness
 pub mod Standing

@@ -2,6 +2,7 @@ pub mod Agreement
 pub mod Changes
 pub mod Comparison
 pub mod Held
+pub mod Likeness
 pub mod Matching
 pub mod Naming
 pub mod Nodes

@@ -20,5 +20,5 @@ mod witness;
 
 pub use change::Change;
 pub use comparing::{Changes, Comparison, MAX_SITUATIONS, compare};
-pub use matching::Matching;
+pub use matching::{Matching, are_same_texts};
 pub use witness::Witness;

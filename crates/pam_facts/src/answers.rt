@@ -97,8 +97,9 @@ fn has_path(paths: &Texts, path: &[u8]) -> bool
     paths.iter().any(|known| known == path)
 }
 
-/// Whether a module is there, as far as it is known which are.
-fn is_there(there: Option<&Texts>, path: &[u8]) -> bool
+/// Whether there is a module at a path, as rules write it, among these; `None` if it is not known where modules are, and then each
+/// is taken to be there.
+pub fn is_there(there: Option<&Texts>, path: &[u8]) -> bool
     ensures { result ≡ is_there (option_map (λ t. t.now) there.entry) path.now }
 {
     match there {

@@ -15,6 +15,7 @@ mod row;
 mod table;
 mod words;
 
+pub use answers::is_there;
 pub use error::{FactsError, FactsFault};
 pub use facts::Facts;
 pub use paths::module_name;

@@ -27,4 +27,6 @@ pub use level::Level;
 pub use met::{Kinds, Met};
 pub use problem::{Place, Problem, Spot};
 pub use report::{Finding, HostReport};
+pub use services::{add_name, has_name, named_services, services_in};
+pub use stacks::is_sound;
 pub use way_in::{Answered, WayIn};

@@ -12,14 +12,15 @@ use pam_conf::{Files, Form, Rule, RuleFiles};
 use pam_text::Texts;
 use std::alloc::{AllocError, Global};
 
-fn has_name(names: &Texts, name: &[u8]) -> bool
+/// Whether a name is among these.
+pub fn has_name(names: &Texts, name: &[u8]) -> bool
     ensures { result ≡ list_any (bytes_eq name.now) names.now }
 {
     names.iter().any(|known| name == known)
 }
 
 /// Adds a name, if it is not there yet.
-fn add_name(names: &mut Texts, name: &[u8]) -> Result<(), AllocError>
+pub fn add_name(names: &mut Texts, name: &[u8]) -> Result<(), AllocError>
     ensures { OnOk result (names.new ≡ with_name names.old name.now) }
 {
     if has_name(names, name) {
@@ -74,8 +75,9 @@ fn services_of_single(alloc: Global, rules: &RuleFiles<'_>) -> Result<Texts, All
     }
 }
 
-/// The services of the configuration.
-fn services_in(alloc: Global, files: &Files, rules: &RuleFiles<'_>) -> Result<Texts, AllocError>
+/// The services of a configuration: the files of a folder, but for those whose names have a capital letter or are left over; or
+/// the services that the rules of pam.conf name, each once.
+pub fn services_in(alloc: Global, files: &Files, rules: &RuleFiles<'_>) -> Result<Texts, AllocError>
     requires { rules.now ≡ files.now }
     ensures { IfOk result (λ names. names ≡ services_in files.now.form files.now.entries) }
 {
@@ -109,7 +111,7 @@ fn lower_case(alloc: Global, name: &[u8]) -> Result<Vec<u8>, AllocError>
 }
 
 /// These services in lowercase, each once.
-fn named_services(alloc: Global, named: &Texts) -> Result<Texts, AllocError>
+pub fn named_services(alloc: Global, named: &Texts) -> Result<Texts, AllocError>
     ensures { IfOk result (λ names. names ≡ each_once (map (λ n. map to_ascii_lowercase n) named.now)) }
 {
     let mut names = Texts::new(alloc);

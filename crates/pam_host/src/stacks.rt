@@ -75,7 +75,7 @@ fn is_faultless(rules: &RuleFiles<'_>, file: usize) -> bool
 }
 
 /// Whether a survey has no fault, of the walk and of each file that it reached.
-fn is_sound(rules: &RuleFiles<'_>, survey: &Survey) -> bool
+pub fn is_sound(rules: &RuleFiles<'_>, survey: &Survey) -> bool
     ensures { IsTrue result ↔ IsSound rules.now (survey_text survey.now) }
 {
     if !survey.faults.is_empty() {

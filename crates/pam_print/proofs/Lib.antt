@@ -1,6 +1,7 @@
 pub mod CheckFindings
 pub mod CheckMet
 pub mod CheckTexts
+pub mod CompareTexts
 pub mod Drawings
 pub mod ExplainTexts
 pub mod FlatTexts

@@ -3,6 +3,8 @@ pub mod Answer
 pub mod Canvas
 pub mod Check
 pub mod CheckNames
+pub mod Compare
+pub mod CompareParts
 pub mod Decide
 pub mod Drawing
 pub mod Explain

@@ -1,10 +1,11 @@
 -- The text of a reply.
 use Rattle.std.specs.Prelude.{◌≡◌, ℕ, List, Result, Ok}
 use Rattle.pam_paths.specs.declared.cursor.CursorError.{CursorError}
-use Rattle.pam_report.specs.Reply.{Reply, Stack, Run, Access, Time, Outcomes, Drawing, Page, Check, Explained, Explanations, Facts, Version}
+use Rattle.pam_report.specs.Reply.{Reply, Stack, Run, Access, Time, Outcomes, Drawing, Page, Check, Compared, Explained, Explanations, Facts, Version}
 use Rattle.pam_facts.specs.Table.{table_text}
 use Rattle.pam_print.specs.About.{version_text}
 use Rattle.pam_print.specs.Check.{check_text}
+use Rattle.pam_print.specs.Compare.{compare_text}
 use Rattle.pam_print.specs.Decide.{run_text}
 use Rattle.pam_print.specs.Drawing.{IsDrawingText}
 use Rattle.pam_print.specs.Explain.{explanation_text, explanations_text}
@@ -23,6 +24,7 @@ IsText (Outcomes outcomes) text = text ≡ Ok (outcomes_text outcomes)
 IsText (Drawing drawing) text = IsDrawingText drawing text
 IsText (Page page) text = IsPageText page text
 IsText (Check found) text = text ≡ Ok (check_text found)
+IsText (Compared changes) text = text ≡ Ok (compare_text changes)
 IsText (Explained explanation) text = text ≡ Ok (explanation_text explanation)
 IsText Explanations text = text ≡ Ok explanations_text
 IsText Facts text = text ≡ Ok table_text

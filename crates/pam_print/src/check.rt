@@ -16,7 +16,7 @@ mod finding;
 mod met;
 mod sentences;
 
-use escaped::put_name;
+pub(crate) use escaped::put_name;
 use finding::{Names, put_finding};
 use pam_codes::{Device, Out, Piece};
 use pam_host::{Finding, Level, Place};
@@ -71,7 +71,11 @@ fn warnings_in(found: &[(Place, Finding)], unused: &[u32]) -> usize
 
 /// Writes a number and what is counted, as `1 error` or `2 errors`.
 #[tactic(auto, unfolding(crate::specs::Check::counted))]
-fn put_counted<W: Write>(count: usize, name: &str, out: &mut Out<W>) -> Result<(), Device>
+pub(crate) fn put_counted<W: Write>(
+    count: usize,
+    name: &str,
+    out: &mut Out<W>,
+) -> Result<(), Device>
     ensures { Writes W.contents out.old out.new result (counted count name.now) }
 {
     out.put_line(&[

@@ -3,6 +3,7 @@
 
 mod about;
 mod check;
+mod compare;
 mod decide;
 mod drawing;
 mod explain;

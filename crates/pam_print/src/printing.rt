@@ -8,6 +8,7 @@ ghost use Rattle.pam_print.specs.Leaves.{Prints};
 
 use crate::about::{write_known, write_version};
 use crate::check::write_check;
+use crate::compare::write_compared;
 use crate::decide::write_run;
 use crate::drawing::write_drawing;
 use crate::explain::{write_explanation, write_explanations};
@@ -35,6 +36,7 @@ pub fn print<W: Write>(alloc: Global, reply: &Reply<'_>, out: &mut Out<W>) -> Re
         Reply::Time(answer) => told(write_time(*answer, out)),
         Reply::Outcomes(outcomes) => told(write_outcomes(outcomes, out)),
         Reply::Check(check) => write_check(alloc, check, out),
+        Reply::Compared(compared) => told(write_compared(compared, out)),
         Reply::Explained(explanation) => told(write_explanation(explanation, out)),
         Reply::Explanations => told(write_explanations(out)),
         Reply::Facts => told(write_known(out)),

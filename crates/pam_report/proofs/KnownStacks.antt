@@ -74,6 +74,7 @@ finds-ok items told found h = record {
 with_its : (given : Inputs) (moment : Option DateTime) → with_time (tables_given given None) (tables_given given moment).time ≡ tables_given given moment
 with_its (inputs.Paths files groups access time returns) moment = refl
 with_its (inputs.Host files paths given) moment = refl
+with_its (inputs.Sides old new facts returns) moment = refl
 with_its inputs.Nothing moment = refl
 with_its (inputs.Stack files) moment = refl
 with_its (inputs.Access table groups) moment = refl

@@ -41,6 +41,7 @@ given_are : (inputs : Inputs) (moment : Option DateTime) → all_given (tables_g
 given_are (inputs.Paths files groups access time returns) moment =
     rw (map_is (λ b. b.items) groups, map_is (λ b. b.items) access, map_is (λ b. b.items) returns, time_is time moment) refl
 given_are (inputs.Host files paths given) moment = refl
+given_are (inputs.Sides old new facts returns) moment = refl
 given_are inputs.Nothing moment = refl
 given_are (inputs.Stack files) moment = refl
 given_are (inputs.Access table groups) moment = refl

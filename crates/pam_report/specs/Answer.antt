@@ -28,8 +28,9 @@ use Rattle.pam_times.specs.declared.moments.MomentError.{MomentError}
 use Rattle.pam_times.specs.declared.times.TimeAnswer.{TimeAnswer}
 use Rattle.pam_words.specs.declared.wanted.Login.{Login}
 use Rattle.pam_words.specs.declared.wanted.Task.{Task}
-use Rattle.pam_words.specs.declared.wanted.Task.TheVariants.{Show, Decide, Access, Time, Paths, Outcomes, Graph, Check, Explain, Facts, Version}
+use Rattle.pam_words.specs.declared.wanted.Task.TheVariants.{Show, Decide, Access, Time, Paths, Outcomes, Graph, Check, Compare, Explain, Facts, Version}
 use Rattle.pam_report.specs.Check.{IsCheck}
+use Rattle.pam_report.specs.Compare.{IsCompare}
 use Rattle.pam_report.specs.Decide.{asked_modules}
 use Rattle.pam_report.specs.Graph.{IsGraphReply}
 use Rattle.pam_report.specs.Inputs.{access_given, files_given, group_file, groups_in, no_files, time_given}
@@ -144,6 +145,7 @@ module _ (Gives : (Answer → Type 0) → Type 0) where
       (at : Option (Result DateTime MomentError)) × IsGivenMoment knowledge.moment at
       × Gives (IsOutcomes service kind (stack_at service kind knowledge.login inputs at files))
   AnswersBy service (Check source services fail_on named) files inputs = Gives (IsCheck services fail_on named files inputs)
+  AnswersBy service (Compare old new named kind given) files inputs = Gives (IsCompare (option_copied named) kind inputs)
   AnswersBy service (Explain number) files inputs = Gives (λ answer. explained (option_copied number) ≡ answer)
   AnswersBy service Facts files inputs = Gives (λ answer. Ok FactsReply ≡ answer)
   AnswersBy service Version files inputs = Gives (λ answer. Ok VersionReply ≡ answer)

@@ -12,18 +12,21 @@ use Rattle.pam_tables.specs.Groups.{Group, groups_of}
 use Rattle.pam_tables.specs.declared.error.TableFault.{TableFault}
 use Rattle.pam_words.specs.declared.wanted.Task.{Task}
 use Rattle.pam_words.specs.declared.wanted.KnowledgeSource.{KnowledgeSource}
-use Rattle.pam_words.specs.declared.wanted.Task.TheVariants.{Check, Show, Decide, Access, Time, Paths, Outcomes, Graph, Explain, Facts, Version}
+use Rattle.pam_words.specs.declared.wanted.Task.TheVariants.{Check, Compare, Show, Decide, Access, Time, Paths, Outcomes, Graph, Explain, Facts, Version}
 use Rattle.pam_words.specs.declared.wanted.CheckFiles.{CheckFiles}
+use Rattle.pam_words.specs.declared.wanted.CompareFiles.{CompareFiles}
 use Rattle.pam_report.specs.declared.inputs.CheckInputs.{CheckInputs}
+use Rattle.pam_report.specs.declared.inputs.SideInputs.{SideInputs}
 use Rattle.pam_report.specs.TablePaths.{TablePathsText}
 use Rattle.pam_report.specs.declared.inputs.Inputs.{Inputs}
 use Rattle.pam_report.specs.declared.inputs.TableFile.{TableFile}
 use Rattle.pam_report.specs.declared.inputs.TableFiles.{TableFiles}
 use Rattle.pam_report.specs.declared.inputs.Inputs.TheVariants as inputs
 
--- the configuration, if there is one
+-- the configuration, if there is exactly one
 abbrev pub files_given : Inputs → Option Folder
 files_given (inputs.Host files paths given) = Some files
+files_given (inputs.Sides old new facts returns) = None
 files_given (inputs.Stack files) = Some files
 files_given (inputs.Paths files groups access time returns) = Some files
 files_given (inputs.Access table groups) = None
@@ -40,9 +43,24 @@ abbrev pub there_given : Inputs → Option (List (List ℕ))
 there_given (inputs.Host files paths given) = given.there
 there_given _ = None
 
--- the facts file and the accept file of `check`, which are empty where none is named
+-- the two configurations of a comparison, with their modules
+abbrev pub old_given : Inputs → Option SideInputs
+old_given (inputs.Sides old new facts returns) = Some old
+old_given _ = None
+
+abbrev pub new_given : Inputs → Option SideInputs
+new_given (inputs.Sides old new facts returns) = Some new
+new_given _ = None
+
+-- the returns file of a comparison
+abbrev pub returns_given : Inputs → Option (List ℕ)
+returns_given (inputs.Sides old new facts returns) = option_map (λ b. b.items) returns
+returns_given _ = None
+
+-- the facts file of `check` and `compare` and the accept file of `check`, which are empty where none is named
 abbrev pub facts_given : Inputs → List ℕ
 facts_given (inputs.Host files paths given) = option_map_or (λ b. b.items) given.facts []
+facts_given (inputs.Sides old new facts returns) = option_map_or (λ b. b.items) facts []
 facts_given _ = []
 
 abbrev pub accept_given : Inputs → List ℕ
@@ -122,9 +140,14 @@ fits_check named given =
     beq (is_some given.facts) (is_some named.facts)
     && (beq (is_some given.accept) (is_some named.accept) && has_named_tables named given.tables)
 
+-- the contents of exactly the facts file and the returns file that are named
+abbrev pub fits_compare : CompareFiles → Option (Vec ℕ Global) → Option (Vec ℕ Global) → Bool
+fits_compare named facts returns = beq (is_some facts) (is_some named.facts) && beq (is_some returns) (is_some named.returns)
+
 -- the contents of exactly the files that a task names are given
 abbrev pub fits_task : Task → Inputs → Bool
 fits_task (Check source services fail_on named) (inputs.Host files paths given) = has_paths files paths && fits_check named given
+fits_task (Compare old new service kind named) (inputs.Sides old_side new_side facts returns) = fits_compare named facts returns
 fits_task (Show source kind) (inputs.Stack files) = true
 fits_task (Decide source kind answered) (inputs.Stack files) = true
 fits_task (Access name groups_named login arguments) (inputs.Access table groups) = beq (is_some groups) (is_some groups_named)

@@ -1,6 +1,7 @@
 pub mod Accepting
 pub mod Answer
 pub mod Check
+pub mod Compare
 pub mod Decide
 pub mod Fault
 pub mod FaultTable

@@ -9,8 +9,8 @@ use Rattle.pam_tables.specs.declared.error.Table.TheVariants.{Access as AccessTa
 use Rattle.pam_tables.specs.declared.error.TableFault.TheVariants as reasons
 use Rattle.pam_times.specs.declared.error.TimeFault.TheVariants as times
 use Rattle.pam_words.specs.declared.wanted.Task.{Task}
-use Rattle.pam_words.specs.declared.wanted.Task.TheVariants.{Check, Show, Decide, Access, Time, Paths, Outcomes, Graph, Explain, Facts, Version}
-use Rattle.pam_report.specs.Inputs.{group_file}
+use Rattle.pam_words.specs.declared.wanted.Task.TheVariants.{Check, Compare, Show, Decide, Access, Time, Paths, Outcomes, Graph, Explain, Facts, Version}
+use Rattle.pam_report.specs.Inputs.{group_file, returns_given}
 use Rattle.pam_report.specs.declared.fault.Fault.{Fault}
 use Rattle.pam_report.specs.declared.fault.Fault.TheVariants as faults
 use Rattle.pam_report.specs.declared.inputs.Inputs.{Inputs}
@@ -31,6 +31,10 @@ pub record Wants : Type 0 where
 -- a stack is read, and no table
 abbrev pub of_stack : Bool → Wants
 of_stack work = record { configuration = true; access = false; groups = false; returns = false; time = false; work = work }
+
+-- two configurations are read, and the returns file, if there is one
+abbrev pub of_compare : Bool → Wants
+of_compare returns = record { configuration = true; access = false; groups = false; returns = returns; time = false; work = true }
 
 -- nothing is read
 abbrev pub of_nothing : Wants
@@ -60,6 +64,7 @@ of_paths given = record {
 -- THE WANTS of a task with these inputs
 abbrev pub wants : Task → Inputs → Wants
 wants (Check source services fail_on named) inputs = of_stack true
+wants (Compare old new service kind named) inputs = of_compare (is_some (returns_given inputs))
 wants (Explain number) inputs = of_nothing
 wants Facts inputs = of_nothing
 wants Version inputs = of_nothing

@@ -1,6 +1,9 @@
 -- A reply: the value that answers a request.
 use Rattle.std.specs.List.{list_any}
-use Rattle.std.specs.Prelude.{ℕ, List, [], ◌∷◌, Option, Result, Bool, true, false, not, ◌==◌, ◌&&◌, ◌||◌, if◌then◌else◌}
+use Rattle.std.specs.Prelude.{ℕ, nat_lt, List, [], ◌∷◌, Option, Result, Bool, true, false, not, ◌==◌, ◌&&◌, ◌||◌, if◌then◌else◌}
+use Rattle.pam_changes.specs.Counts.{counts_of}
+use Rattle.pam_changes.specs.declared.changes.HostChanges.{HostChanges}
+use Rattle.pam_changes.specs.declared.counts.Counts.{Counts}
 use Rattle.pam_conf.specs.Files.{Folder}
 use Rattle.pam_conf.specs.Stack.{Items}
 use Rattle.pam_conf.specs.declared.rule.Form.{Form}
@@ -30,7 +33,7 @@ use Rattle.pam_report.specs.Decide.{AskedModule}
 use Rattle.pam_report.specs.TablePaths.{TablePathsText, level_of_table_problem}
 use Rattle.pam_report.specs.declared.fault.Fault.{Fault}
 use Rattle.pam_report.specs.declared.report.Status.{Status}
-use Rattle.pam_report.specs.declared.report.Status.TheVariants.{Success, Refusal}
+use Rattle.pam_report.specs.declared.report.Status.TheVariants.{Success, Refusal, Faulty}
 
 -- the stack of a service for a kind
 pub record StackValue : Type 0 where
@@ -97,6 +100,12 @@ pub record CheckValue : Type 0 where
   pub unused : List ℕ
   pub fail_on : LevelName
 
+-- what changes from one configuration to another. One that is not given has no files
+pub record CompareValue : Type 0 where
+  pub old : Folder
+  pub new : Folder
+  pub changes : HostChanges
+
 pub data Reply : Type 0 where
   Stack : StackValue → Reply
   Run : RunValue → Reply
@@ -106,6 +115,7 @@ pub data Reply : Type 0 where
   Drawing : DrawingValue → Reply
   Page : PageValue → Reply
   Check : CheckValue → Reply
+  Compared : CompareValue → Reply
   Explained : Explanation → Reply
   Explanations : Reply
   Facts : Reply
@@ -154,12 +164,22 @@ check_status value =
         || (has_counting_table value.fail_on value.tables || (counts value.fail_on levels.Warning && not (is_empty value.unused)))
     then Refusal else Success
 
+-- a stack that is refused comes before a decision that changes, or of which that is not known
+abbrev pub status_of_counts : Counts → Status
+status_of_counts counts =
+    if nat_lt 0 counts.refused then Faulty
+    else if nat_lt 0 counts.changed || nat_lt 0 counts.not_known then Refusal else Success
+
+abbrev pub compare_status : CompareValue → Status
+compare_status value = status_of_counts (counts_of value.changes)
+
 -- THE STATUS of a reply
 abbrev pub status_of : Reply → Status
 status_of (Run run) = status_of_decision run.decision
 status_of (Access found) = access_status found
 status_of (Time found) = time_status found
 status_of (Check found) = check_status found
+status_of (Compared changes) = compare_status changes
 status_of _ = Success
 
 -- memory is wanted to print a reply: for the lines of a page, for the title of a drawing, and for the names of a check
@@ -172,3 +192,4 @@ wants_memory _ = false
 abbrev pub status_number : Status → ℕ
 status_number Success = 0
 status_number Refusal = 1
+status_number Faulty = 3

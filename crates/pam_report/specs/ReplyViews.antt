@@ -1,6 +1,8 @@
 -- The values of replies.
 use Rattle.std.specs.Option.{option_map_or}
-use Rattle.std.specs.Prelude.{[], map, option_map, unwrap_or}
+use Rattle.std.specs.Borrow.{Bor}
+use Rattle.std.specs.Prelude.{[], Option, map, option_map, unwrap_or}
+use Rattle.pam_conf.specs.Files.{Folder}
 use Rattle.pam_explain.specs.Views.{explanation_view}
 use Rattle.pam_report.specs.Decide.{AskedModule}
 use Rattle.pam_report.specs.Inputs.{no_files}
@@ -8,6 +10,7 @@ use Rattle.pam_report.specs.PageView.{page_value}
 use Rattle.pam_report.specs.Reply as spec
 use Rattle.pam_report.specs.TablePaths.{table_paths_view}
 use Rattle.pam_report.specs.declared.report.check.CheckReply.{CheckReply}
+use Rattle.pam_report.specs.declared.report.compare.CompareReply.{CompareReply}
 use Rattle.pam_report.specs.declared.report.graph.GraphReply.{GraphReply}
 use Rattle.pam_report.specs.declared.report.outcomes.Outcome.{Outcome}
 use Rattle.pam_report.specs.declared.report.outcomes.OutcomesReply.{OutcomesReply}
@@ -66,6 +69,13 @@ check_view c = record {
   fail_on = c.fail_on;
 }
 
+-- the files of a side of a comparison, none if it is not given
+abbrev pub side_files : Option (Bor Folder) → Folder
+side_files files = unwrap_or (option_map (λ f. f.now) files) no_files
+
+abbrev pub compare_view : CompareReply → spec.CompareValue
+compare_view c = record { old = side_files c.old; new = side_files c.new; changes = c.changes }
+
 -- THE VALUE of a reply
 abbrev pub reply_view : Reply → spec.Reply
 reply_view (replies.Stack stack) = spec.Stack (stack_view stack)
@@ -75,6 +85,7 @@ reply_view (replies.Time found) = spec.Time found
 reply_view (replies.Outcomes outcomes) = spec.Outcomes (outcomes_view outcomes)
 reply_view (replies.Graph drawing) = spec.Drawing (drawing_view drawing)
 reply_view (replies.Check check) = spec.Check (check_view check)
+reply_view (replies.Compared changes) = spec.Compared (compare_view changes)
 reply_view (replies.Explained explanation) = spec.Explained (explanation_view explanation.now)
 reply_view replies.Explanations = spec.Explanations
 reply_view replies.Facts = spec.Facts

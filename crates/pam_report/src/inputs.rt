@@ -2,7 +2,7 @@
 
 ghost use Rattle.std.specs.Prelude.{◌≡◌, [], None, option_map};
 ghost use Rattle.std.specs.Option.{option_map_or};
-ghost use Rattle.pam_report.specs.Inputs.{fits_check as fits_check_in, has_paths as has_paths_in, tables_given as tables_in, timed as timed_text};
+ghost use Rattle.pam_report.specs.Inputs.{fits_check as fits_check_in, fits_compare as fits_compare_in, has_paths as has_paths_in, tables_given as tables_in, timed as timed_text};
 ghost use Rattle.pam_report.specs.Inputs.{has_named_tables};
 ghost use Rattle.pam_report.specs.Known.{with_time};
 ghost use Rattle.pam_known.specs.Tables.{tables_view, timed_view};
@@ -13,7 +13,7 @@ use crate::tables::TablePaths;
 use pam_known::{Tables, TimedTable};
 use pam_table_check::HostTables;
 use pam_text::Texts;
-use pam_words::{CheckFiles, KnowledgeSource, Request, Task};
+use pam_words::{CheckFiles, CompareFiles, KnowledgeSource, Request, Task};
 use std::alloc::{AllocError, AllocFailed};
 use thiserror::Error;
 
@@ -75,6 +75,14 @@ pub struct CheckInputs {
     pub accept: Option<Vec<u8>>,
 }
 
+/// One of the two configurations of a comparison.
+#[derive(Drop)]
+pub struct SideInputs {
+    pub files: Files,
+    /// The paths at which a module is there, as rules write them; `None` if that is not known.
+    pub there: Option<Texts>,
+}
+
 /// The contents of the files that a request names. A group file, or a table of `paths`, that is not named is `None`.
 #[derive(Drop)]
 pub enum Inputs {
@@ -84,6 +92,13 @@ pub enum Inputs {
         files: Files,
         paths: Texts,
         given: CheckInputs,
+    },
+    /// For `compare`: the two configurations, and the contents of the facts file and the returns file, if they are named.
+    Sides {
+        old: SideInputs,
+        new: SideInputs,
+        facts: Option<Vec<u8>>,
+        returns: Option<Vec<u8>>,
     },
     /// For `show` and `decide`.
     Stack(Files),
@@ -110,7 +125,7 @@ impl Inputs {
     ghost use Rattle.std.specs.Prelude.{◌≡◌, [], option_map};
     ghost use Rattle.std.specs.Option.{option_map_or};
     ghost use Rattle.pam_report.specs.Inputs.{accept_given, access_given, facts_given, files_given, fits_knowledge, fits_task};
-    ghost use Rattle.pam_report.specs.Inputs.{group_file, host_tables_given, paths_given, table_paths_given, there_given, time_given};
+    ghost use Rattle.pam_report.specs.Inputs.{group_file, host_tables_given, new_given, old_given, paths_given, returns_given, table_paths_given, there_given, time_given};
     ghost use Rattle.pam_report.specs.TablePaths.{table_paths_view};
     ghost use Rattle.pam_table_check.specs.Tables.{tables_view as host_tables_view};
 
@@ -128,6 +143,9 @@ impl Inputs {
                 },
                 Task::Check { given: named, .. },
             ) => { has_paths(files, paths) && fits_check(named, given) }
+            (Inputs::Sides { facts, returns, .. }, Task::Compare { given: named, .. }) => {
+                fits_compare(named, facts, returns)
+            }
             (Inputs::Stack(_), Task::Show { .. }) => true,
             (Inputs::Stack(_), Task::Decide { .. }) => true,
             (Inputs::Access { groups, .. }, Task::Access { groups: named, .. }) => {
@@ -165,12 +183,13 @@ impl Inputs {
         }
     }
 
-    /// Returns the configuration, if there is one.
+    /// Returns the configuration, if there is exactly one.
     pub fn files(&self) -> Option<&Files>
         ensures { option_map (λ f. f.now) result ≡ files_given self.now }
     {
         match self {
             Inputs::Host { files, .. } => Some(files),
+            Inputs::Sides { .. } => None,
             Inputs::Stack(files) => Some(files),
             Inputs::Paths { files, .. } => Some(files),
             Inputs::Access { .. } => None,
@@ -195,7 +214,38 @@ impl Inputs {
     {
         match self {
             Inputs::Host { given, .. } => slice_given(&given.facts).unwrap_or(b""),
+            Inputs::Sides { facts, .. } => slice_given(facts).unwrap_or(b""),
             _ => b"",
+        }
+    }
+
+    /// Returns the old configuration of a comparison, with its modules.
+    pub(crate) fn old_side(&self) -> Option<&SideInputs>
+        ensures { option_map (λ s. s.now) result ≡ old_given self.now }
+    {
+        match self {
+            Inputs::Sides { old, .. } => Some(old),
+            _ => None,
+        }
+    }
+
+    /// Returns the new configuration of a comparison, with its modules.
+    pub(crate) fn new_side(&self) -> Option<&SideInputs>
+        ensures { option_map (λ s. s.now) result ≡ new_given self.now }
+    {
+        match self {
+            Inputs::Sides { new, .. } => Some(new),
+            _ => None,
+        }
+    }
+
+    /// Returns the returns file of a comparison, if one is named.
+    pub(crate) fn returns_file(&self) -> Option<&[u8]>
+        ensures { option_map (λ b. b.now) result ≡ returns_given self.now }
+    {
+        match self {
+            Inputs::Sides { returns, .. } => slice_given(returns),
+            _ => None,
         }
     }
 
@@ -327,6 +377,17 @@ fn table_path(table: &Option<TableFile>) -> &[u8]
         Some(table) => table.path.as_slice(),
         None => b"",
     }
+}
+
+/// Whether these are the contents of exactly the facts file and the returns file that are named.
+fn fits_compare(
+    named: &CompareFiles<'_>,
+    facts: &Option<Vec<u8>>,
+    returns: &Option<Vec<u8>>,
+) -> bool
+    ensures { result ≡ fits_compare_in named.now facts.now returns.now }
+{
+    facts.is_some() == named.facts.is_some() && returns.is_some() == named.returns.is_some()
 }
 
 fn slice_given(bytes: &Option<Vec<u8>>) -> Option<&[u8]>

@@ -11,10 +11,10 @@ mod tables;
 pub use fault::{
     Fault, conf_name, fault_status, fault_text, input_status, input_text, usage_status, usage_text,
 };
-pub use inputs::{CheckInputs, InputError, Inputs, TableFile, TableFiles};
+pub use inputs::{CheckInputs, InputError, Inputs, SideInputs, TableFile, TableFiles};
 pub use names::{kind_name, problem_name, stack_of};
 pub use report::{
-    AskedModule, CheckReply, GraphReply, Outcome, Outcomes, OutcomesReply, PageRenderer, PathsPage,
-    Reply, RunReply, StackReply, Status, Trace, path_at, reply_to,
+    AskedModule, CheckReply, CompareReply, GraphReply, Outcome, Outcomes, OutcomesReply,
+    PageRenderer, PathsPage, Reply, RunReply, StackReply, Status, Trace, path_at, reply_to,
 };
 pub use tables::{TablePaths, table_problem_level, table_problem_name};

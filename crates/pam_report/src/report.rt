@@ -10,6 +10,7 @@ ghost use Rattle.pam_report.specs.Reply.{status_number};
 mod accepting;
 mod access;
 mod check;
+mod compare;
 mod decide;
 mod explain;
 mod goal_pages;
@@ -30,6 +31,8 @@ use crate::inputs::Inputs;
 use access::answer_access;
 pub use check::CheckReply;
 use check::{CheckRequest, checked};
+pub use compare::CompareReply;
+use compare::{CompareRequest, compared};
 pub use decide::RunReply;
 use decide::decided;
 use explain::explained;
@@ -55,12 +58,14 @@ pub use trace::{AskedModule, Trace, path_at};
 pub enum Status {
     /// Answered. A decision is `success` or granted.
     Success,
-    /// Answered with another decision, or denied.
+    /// Answered with another decision, denied, or with something that is found.
     Refusal,
+    /// Answered, but a stack of it has a fault.
+    Faulty,
 }
 
 impl Status {
-    /// Returns the exit status: 0 or 1.
+    /// Returns the exit status: 0, 1 or 3.
     pub fn number(self) -> u8
         ensures status { result ≡ status_number self }
         ensures bound { result ≤ 6 }
@@ -68,6 +73,7 @@ impl Status {
         match self {
             Status::Success => 0,
             Status::Refusal => 1,
+            Status::Faulty => 3,
         }
     }
 }
@@ -129,6 +135,13 @@ fn reply_from<'a>(
                 given,
             };
             checked(alloc, asked, files, inputs)
+        }
+        Task::Compare { service, kind, .. } => {
+            let asked = CompareRequest {
+                service: *service,
+                kind: *kind,
+            };
+            compared(alloc, asked, inputs)
         }
         Task::Show { kind, .. } => shown(alloc, service, *kind, files, inputs.files()),
         Task::Decide { kind, codes, .. } => decided(alloc, service, *kind, codes, files),

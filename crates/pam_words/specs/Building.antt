@@ -4,9 +4,9 @@ use Rattle.std.specs.declared.alloc.AllocError.{AllocError}
 use Rattle.clap.specs.Words.{App, Rule, Text, app_of, new_app, with_rule, with_subcommand}
 use Rattle.clap.specs.declared.builder.Command.{Command}
 use Rattle.clap.specs.declared.builder.Command.TheViews.{out-Command as fields_of}
-use Rattle.pam_words.specs.Words.{number_rule, option_rule, optional_rule, repeated_option_rule, repeated_rule, required_option_rule, required_rule}
+use Rattle.pam_words.specs.Words.{flag_rule, number_rule, option_rule, optional_rule, repeated_option_rule, repeated_rule, required_option_rule, required_rule}
 use Rattle.pam_words.specs.declared.arguments.ArgForm.{ArgForm}
-use Rattle.pam_words.specs.declared.arguments.ArgForm.TheVariants.{Positional, OptionalPositional, Repeated, Optional, RepeatedOption, Required, Number}
+use Rattle.pam_words.specs.declared.arguments.ArgForm.TheVariants.{Positional, OptionalPositional, Repeated, Optional, RepeatedOption, Required, Number, Flag}
 use Rattle.pam_words.specs.declared.arguments.ArgRow.{ArgRow}
 use Rattle.pam_words.specs.declared.words.CommandRow.{CommandRow}
 
@@ -22,6 +22,7 @@ rule_in_form Optional id = option_rule id
 rule_in_form RepeatedOption id = repeated_option_rule id
 rule_in_form Required id = required_option_rule id
 rule_in_form Number id = number_rule id
+rule_in_form Flag id = flag_rule id
 
 abbrev pub rule_of_row : ArgRow → Rule
 rule_of_row row = rule_in_form row.form row.id.now

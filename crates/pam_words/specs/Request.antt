@@ -1,9 +1,9 @@
 -- The command line: the request that the values found by `clap` spell.
-use Rattle.std.specs.Prelude.{Bool, ◌&&◌, ◌||◌, false, not, ℕ, ℤ, pos, nat_le, nat_lt, List, [], codes, length}
+use Rattle.std.specs.Prelude.{Bool, ◌&&◌, ◌||◌, true, false, not, ℕ, ℤ, pos, nat_le, nat_lt, List, [], codes, length}
 use Rattle.std.specs.Prelude.{Option, Some, None, is_some, option_map, unwrap_or, Result, Ok, Err, if◌then◌else◌}
 use Rattle.std.specs.Char.{is_ascii_digit}
 use Rattle.std.specs.List.{list_all}
-use Rattle.std.specs.Option.{option_and_then}
+use Rattle.std.specs.Option.{option_and_then, option_map_or}
 use Rattle.std.specs.Str.{bytes_eq}
 use Rattle.std.specs.Str.Parse.{digits_value, without_leading_plus}
 use Rattle.pam_conf.specs.Rule.{kind_named}
@@ -92,8 +92,19 @@ pub record CheckTask : Type 0 where
   pub facts : Option Text
   pub accept : Option Text
 
+-- the service and the kind are all if none is named. The folders of modules, a facts file and a returns file may be named
+pub record CompareTask : Type 0 where
+  pub old : SourceText
+  pub new : SourceText
+  pub service : Option Text
+  pub kind : Option Kind
+  pub modules : List Text
+  pub facts : Option Text
+  pub returns : Option Text
+
 pub data TaskText : Type 0 where
   check : CheckTask → TaskText
+  compare : CompareTask → TaskText
   show : SourceText → Kind → TaskText
   decide : SourceText → Kind → List ℕ → TaskText
   access : AccessTask → TaskText
@@ -159,12 +170,35 @@ names_source rows = has (codes "dir") rows || has (codes "vendor-dir") rows || h
 abbrev pub source_or_root : List Row → Option SourceText
 source_or_root rows = if names_source rows then source_of rows else Some (root (codes "/"))
 
+-- an option without a value is given
+abbrev pub is_on : Text → List Row → Bool
+is_on id rows = option_map_or (λ value. bytes_eq value (codes "true")) (first_of id rows) false
+
+-- a side of `compare`: a folder, one file with `--conf`, or a root with `--root`. The columns are whether `--conf` is given, whether
+-- `--root` is given, and the name
+abbrev pub side_of : Bool → Bool → Text → Option SourceText
+side_of false false name = Some (dir name)
+side_of true false name = Some (conf name)
+side_of false true name = Some (root name)
+side_of true true name = None
+
+abbrev pub side_in : Text → List Row → Option SourceText
+side_in id rows = side_of (is_on (codes "conf") rows) (is_on (codes "root") rows) (text_of id rows)
+
 -- the candidates for files of the source
 abbrev pub candidates_of : List Row → Option (List (Text × Text))
 candidates_of rows = candidates_beside (has (codes "conf") rows) (all_of (codes "with") rows)
 
 abbrev pub kind_of_rows : List Row → Option Kind
 kind_of_rows rows = kind_named (text_of (codes "kind") rows)
+
+-- the kind of a name, if there is one
+abbrev pub kind_or_all : Option Text → Option (Option Kind)
+kind_or_all None = Some None
+kind_or_all (Some name) = option_map (λ kind. Some kind) (kind_named name)
+
+abbrev pub kind_if_named : List Row → Option (Option Kind)
+kind_if_named rows = kind_or_all (first_of (codes "kind") rows)
 
 abbrev pub codes_of_rows : List Row → Option (List ℕ)
 codes_of_rows rows = codes_named (texts_of (codes "code") rows)
@@ -304,6 +338,22 @@ check_task rows =
       accept = first_of (codes "accept") rows;
     }))))
 
+-- `compare OLD NEW [SERVICE [KIND]]`
+abbrev pub compare_task : List Row → Result TaskText Refusal
+compare_task rows =
+    or_refuse (side_in (codes "old") rows) source (λ old.
+    or_refuse (side_in (codes "new") rows) source (λ new.
+    or_refuse (kind_if_named rows) kind_name (λ kind.
+    Ok (compare (record {
+      old = old;
+      new = new;
+      service = first_of (codes "service") rows;
+      kind = kind;
+      modules = texts_of (codes "modules") rows;
+      facts = first_of (codes "facts") rows;
+      returns = first_of (codes "returns") rows;
+    })))))
+
 -- `show SERVICE KIND`
 abbrev pub show_task : List Row → Result TaskText Refusal
 show_task rows = stack_of rows >>= λ stack. Ok (show stack.0 stack.1)
@@ -392,6 +442,7 @@ explain_task rows = Ok (explain (first_of (codes "number") rows))
 abbrev pub task_of : Text → List Row → Result TaskText Refusal
 task_of command rows =
     if bytes_eq command (codes "check") then check_task rows
+    else if bytes_eq command (codes "compare") then compare_task rows
     else if bytes_eq command (codes "show") then show_task rows
     else if bytes_eq command (codes "decide") then decide_task rows
     else if bytes_eq command (codes "paths") then paths_task rows

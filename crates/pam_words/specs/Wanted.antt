@@ -10,6 +10,7 @@ use Rattle.pam_words.specs.Request as spec
 use Rattle.pam_words.specs.Request.{texts_of}
 use Rattle.pam_words.specs.declared.wanted.Candidate.{Candidate}
 use Rattle.pam_words.specs.declared.wanted.CheckFiles.{CheckFiles}
+use Rattle.pam_words.specs.declared.wanted.CompareFiles.{CompareFiles}
 use Rattle.pam_words.specs.declared.wanted.ConfSource.{ConfSource}
 use Rattle.pam_words.specs.declared.wanted.ConfSource.TheVariants.{Dir, Over, Conf, Root}
 use Rattle.pam_words.specs.declared.wanted.KnowledgeSource.{KnowledgeSource}
@@ -19,7 +20,7 @@ use Rattle.pam_words.specs.declared.wanted.Moment.TheVariants.{Civil, Instant}
 use Rattle.pam_words.specs.declared.wanted.PagePart.{PagePart}
 use Rattle.pam_words.specs.declared.wanted.PagePart.TheVariants.{Whole, After, Before}
 use Rattle.pam_words.specs.declared.wanted.Task.{Task}
-use Rattle.pam_words.specs.declared.wanted.Task.TheVariants.{Check, Show, Decide, Access, Time, Paths, Outcomes, Graph, Explain, Facts, Version}
+use Rattle.pam_words.specs.declared.wanted.Task.TheVariants.{Check, Compare, Show, Decide, Access, Time, Paths, Outcomes, Graph, Explain, Facts, Version}
 use Rattle.pam_words.specs.declared.wanted.Request.{Request}
 use Rattle.pam_words.specs.declared.wanted.Usage.{Usage}
 use Rattle.pam_words.specs.declared.wanted.Usage.TheVariants as usage
@@ -65,6 +66,15 @@ task_view (Check source services fail_on given) = spec.check (record {
   groups = option_copied given.groups;
   facts = option_copied given.facts;
   accept = option_copied given.accept;
+})
+task_view (Compare old new service kind given) = spec.compare (record {
+  old = source_view old;
+  new = source_view new;
+  service = option_copied service;
+  kind = kind;
+  modules = map (λ s. s.now) given.modules.items;
+  facts = option_copied given.facts;
+  returns = option_copied given.returns;
 })
 task_view (Show source kind) = spec.show (source_view source) kind
 task_view (Decide source kind codes) = spec.decide (source_view source) kind codes.items
@@ -188,3 +198,9 @@ pub record IsGiven (rows : List Row) (given : CheckFiles) : Type 0 where
   pub groups : option_copied given.groups ≡ first_of (codes "group") rows
   pub facts : option_copied given.facts ≡ first_of (codes "facts") rows
   pub accept : option_copied given.accept ≡ first_of (codes "accept") rows
+
+-- the same, for a comparison
+pub record IsCompareGiven (rows : List Row) (given : CompareFiles) : Type 0 where
+  pub modules : map (λ s. s.now) given.modules.items ≡ texts_of (codes "modules") rows
+  pub facts : option_copied given.facts ≡ first_of (codes "facts") rows
+  pub returns : option_copied given.returns ≡ first_of (codes "returns") rows

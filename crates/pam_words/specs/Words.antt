@@ -1,7 +1,7 @@
 -- The command line: the words that each command accepts.
 use Rattle.std.specs.Prelude.{ℕ, List, [], ◌∷◌, Some, codes, true}
 use Rattle.clap.specs.Words.{App, Rule, Text, new_app, new_rule, with_rule, with_subcommand}
-use Rattle.clap.specs.declared.builder.ArgAction.TheVariants.{Append}
+use Rattle.clap.specs.declared.builder.ArgAction.TheVariants.{Append, SetTrue}
 use Rattle.clap.specs.declared.builder.value_parser.ValueParser.{ValueParser}
 use Rattle.clap.specs.declared.builder.value_parser.ValueParser.TheVariants.{Unsigned}
 
@@ -28,6 +28,10 @@ repeated_rule id = record (optional_rule id) { action = Some Append }
 -- `--ID VALUE`, any number of times
 abbrev pub repeated_option_rule : Text → Rule
 repeated_option_rule id = record (option_rule id) { action = Some Append }
+
+-- `--ID`, without a value
+abbrev pub flag_rule : Text → Rule
+flag_rule id = record (option_rule id) { action = Some SetTrue }
 
 -- the range of `--limit` and `--asks`
 abbrev pub least_number : ℕ
@@ -66,6 +70,18 @@ with_check app =
 -- `check [SERVICE]...`
 unfoldable pub check_app : App
 check_app = with_rule (with_check (with_source (new_app (codes "check")))) (repeated_rule (codes "name"))
+
+-- `compare OLD NEW [SERVICE [KIND]]`
+abbrev pub sides_app : App
+sides_app =
+    with_rule (with_rule (with_rule (with_rule (new_app (codes "compare"))
+    (required_rule (codes "old"))) (required_rule (codes "new"))) (optional_rule (codes "service"))) (optional_rule (codes "kind"))
+
+-- the same, with the form of OLD and NEW, the folders of modules, a facts file and a returns file
+unfoldable pub compare_app : App
+compare_app =
+    with_options (with_rule (with_rule (with_rule sides_app (flag_rule (codes "conf"))) (flag_rule (codes "root")))
+    (repeated_option_rule (codes "modules"))) (codes "facts" ∷ codes "returns" ∷ [])
 
 -- `explain [NUMBER]`
 unfoldable pub explain_app : App
@@ -164,4 +180,4 @@ abbrev pub with_pages : App → App
 with_pages app = with_subcommand (with_subcommand (with_subcommand app explain_app.top) facts_app.top) version_app.top
 
 unfoldable pub pamcheck_app : App
-pamcheck_app = with_pages (with_lookups (with_stacks (with_subcommand bare_app check_app.top)))
+pamcheck_app = with_pages (with_lookups (with_stacks (with_subcommand (with_subcommand bare_app check_app.top) compare_app.top)))

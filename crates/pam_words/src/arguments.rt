@@ -17,6 +17,8 @@ pub(crate) enum ArgForm {
     Required,
     /// An option `--ID NAME` for a number.
     Number,
+    /// An option `--ID` without a value.
+    Flag,
 }
 
 /// An argument of a command.
@@ -41,6 +43,48 @@ pub(crate) const KIND: ArgRow = ArgRow {
     id: "kind",
     name: "KIND",
     help: "auth, account, password or session",
+};
+
+pub(crate) const OLD: ArgRow = ArgRow {
+    form: ArgForm::Positional,
+    id: "old",
+    name: "OLD",
+    help: "The old folder, file or root",
+};
+
+pub(crate) const NEW: ArgRow = ArgRow {
+    form: ArgForm::Positional,
+    id: "new",
+    name: "NEW",
+    help: "The new folder, file or root",
+};
+
+pub(crate) const SERVICE_IF_NAMED: ArgRow = ArgRow {
+    form: ArgForm::OptionalPositional,
+    id: "service",
+    name: "SERVICE",
+    help: "The service; all if left out",
+};
+
+pub(crate) const KIND_IF_NAMED: ArgRow = ArgRow {
+    form: ArgForm::OptionalPositional,
+    id: "kind",
+    name: "KIND",
+    help: "auth, account, password or session; all if left out",
+};
+
+pub(crate) const ARE_FILES: ArgRow = ArgRow {
+    form: ArgForm::Flag,
+    id: "conf",
+    name: "",
+    help: "OLD and NEW are files for all services",
+};
+
+pub(crate) const ARE_ROOTS: ArgRow = ArgRow {
+    form: ArgForm::Flag,
+    id: "root",
+    name: "",
+    help: "OLD and NEW are root folders of systems",
 };
 
 pub(crate) const DIR: ArgRow = ArgRow {

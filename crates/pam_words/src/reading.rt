@@ -15,6 +15,7 @@ ghost use Rattle.pam_words.specs.Words.{pamcheck_app};
 
 mod candidates;
 mod checks;
+mod compare;
 mod decisions;
 mod graph;
 mod knowledge;
@@ -250,6 +251,8 @@ fn task<'a>(alloc: Global, command: &str, matches: &ArgMatches<'a>) -> Result<Ta
 {
     if command == "check" {
         checks::check(alloc, matches)
+    } else if command == "compare" {
+        compare::compare(alloc, matches)
     } else if command == "show" {
         show(matches)
     } else if command == "decide" {

@@ -102,6 +102,17 @@ pub struct CheckFiles<'a> {
     pub accept: Option<&'a str>,
 }
 
+/// What a comparison reads besides the two configurations.
+#[derive(Drop)]
+pub struct CompareFiles<'a> {
+    /// The folders of modules. With `ConfSource::Root`, those of each system are read too.
+    pub modules: Vec<&'a str>,
+    /// What is known of modules, after the program's own table.
+    pub facts: Option<&'a str>,
+    /// The codes that modules may return, in both configurations.
+    pub returns: Option<&'a str>,
+}
+
 /// A command for a service or for all services, or about the program itself.
 #[derive(Drop)]
 pub enum Task<'a> {
@@ -111,6 +122,14 @@ pub enum Task<'a> {
         services: Texts,
         fail_on: LevelName,
         given: CheckFiles<'a>,
+    },
+    /// Compares what two configurations decide, for this service and kind, or for all that are not named.
+    Compare {
+        old: ConfSource<'a>,
+        new: ConfSource<'a>,
+        service: Option<&'a str>,
+        kind: Option<Kind>,
+        given: CompareFiles<'a>,
     },
     /// Lists the stack.
     Show {
@@ -194,7 +213,8 @@ pub enum Usage {
     /// U1 too: a word is not UTF-8. `request` never returns it; its caller does, while collecting the words.
     #[error("a word is not UTF-8")]
     NotUtf8,
-    /// U2: not exactly one source is given, or `--vendor-dir` without `--dir`. `check` needs none.
+    /// U2: not exactly one source is given, or `--vendor-dir` without `--dir`. `check` and `compare` need none, and
+    /// `compare` takes one form of its sources.
     #[error("not exactly one of --dir, --conf and --root, or --vendor-dir without --dir")]
     Source,
     /// U3: KIND is not the name of a kind.

@@ -7,10 +7,7 @@ ghost use Rattle.pam_words.specs.Building.{IsBuilt, app_of_row, rule_of_row, wit
 ghost use Rattle.pam_words.specs.Words.{bare_app, pamcheck_app, version};
 
 use crate::arguments::{
-    ACCEPT, ACCESS, ACCESS_TABLE, AFTER, ARGUMENTS, ASKS, AT, AT_UNIX, ArgForm, ArgRow, BEFORE,
-    CODES, CONF, DECISION, DIR, FACTS, FAIL_ON, FORMAT, GROUP, HOST_ACCESS, HOST_TIME, KIND, LIMIT,
-    MODULES, NUMBER, RETURNS, RHOST, ROOT, SERVICE, SERVICES, TABLE_USER, TIME, TIME_TABLE, TTY,
-    USER, VENDOR_DIR, WITH, ZONE,
+    ACCEPT, ACCESS, ACCESS_TABLE, AFTER, ARE_FILES, ARE_ROOTS, ARGUMENTS, ASKS, AT, AT_UNIX, ArgForm, ArgRow, BEFORE, CODES, CONF, DECISION, DIR, FACTS, FAIL_ON, FORMAT, GROUP, HOST_ACCESS, HOST_TIME, KIND, KIND_IF_NAMED, LIMIT, MODULES, NEW, NUMBER, OLD, RETURNS, RHOST, ROOT, SERVICE, SERVICES, SERVICE_IF_NAMED, TABLE_USER, TIME, TIME_TABLE, TTY, USER, VENDOR_DIR, WITH, ZONE,
 };
 use crate::number::number_parser;
 use clap::{Arg, ArgAction, Command};
@@ -31,13 +28,28 @@ struct CommandRow {
     args: &'static [ArgRow],
 }
 
-static COMMANDS: [CommandRow; 11] = [
+static COMMANDS: [CommandRow; 12] = [
     CommandRow {
         name: "check",
         about: "Checks all services for faults, and for stacks that let nobody or anybody in",
         args: &[
             DIR, VENDOR_DIR, CONF, ROOT, WITH, MODULES, HOST_ACCESS, HOST_TIME, GROUP, FACTS,
             ACCEPT, FAIL_ON, SERVICES,
+        ],
+    },
+    CommandRow {
+        name: "compare",
+        about: "Compares what two configurations decide",
+        args: &[
+            OLD,
+            NEW,
+            SERVICE_IF_NAMED,
+            KIND_IF_NAMED,
+            ARE_FILES,
+            ARE_ROOTS,
+            MODULES,
+            FACTS,
+            RETURNS,
         ],
     },
     CommandRow {
@@ -122,6 +134,7 @@ fn arg<'a>(alloc: Global, row: &ArgRow) -> Arg<'a>
         ArgForm::RepeatedOption => arg.long(row.id).action(ArgAction::Append),
         ArgForm::Required => arg.long(row.id).required(true),
         ArgForm::Number => arg.long(row.id).value_parser(number_parser()),
+        ArgForm::Flag => arg.long(row.id).action(ArgAction::SetTrue),
     }
 }
 

@@ -37,7 +37,7 @@ fn put_byte<W: Write>(byte: u8, out: &mut Out<W>) -> Result<(), Device>
     put_hex_digit(byte % 16, out)
 }
 
-pub(super) fn put_name<W: Write>(name: &[u8], out: &mut Out<W>) -> Result<(), Device>
+pub(crate) fn put_name<W: Write>(name: &[u8], out: &mut Out<W>) -> Result<(), Device>
     ensures { Writes W.contents out.old out.new result (shown_name name.now) }
 {
     for byte in name {

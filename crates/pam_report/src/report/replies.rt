@@ -6,6 +6,7 @@ ghost use Rattle.pam_report.specs.ReplyViews.{reply_view};
 
 use super::Status;
 use super::check::CheckReply;
+use super::compare::CompareReply;
 use super::decide::RunReply;
 use super::graph::GraphReply;
 use super::outcomes::OutcomesReply;
@@ -35,6 +36,8 @@ pub enum Reply<'a> {
     Graph(GraphReply<'a>),
     /// Of `check`.
     Check(CheckReply<'a>),
+    /// Of `compare`.
+    Compared(CompareReply<'a>),
     /// Of `explain` with a number.
     Explained(&'static Explanation),
     /// Of `explain` without one: a list of all explanations.
@@ -46,7 +49,8 @@ pub enum Reply<'a> {
 }
 
 impl Reply<'_> {
-    /// Returns whether this is a success: a decision of `success`, a login that is granted, or any answer of the other commands.
+    /// Returns whether this is a success: a decision of `success`, a login that is granted, a check that finds nothing that
+    /// counts, a comparison without a change, or any answer of the other commands.
     pub fn status(&self) -> Status
         ensures { result ≡ status_of (reply_view self.now) }
     {
@@ -55,6 +59,7 @@ impl Reply<'_> {
             Reply::Access(answer) => status_of_access(*answer),
             Reply::Time(answer) => status_of_time(*answer),
             Reply::Check(check) => check.status(),
+            Reply::Compared(compared) => compared.status(),
             Reply::Stack(_) | Reply::Paths(_) | Reply::Outcomes(_) | Reply::Graph(_) =>
                 Status::Success,
             Reply::Explained(_) | Reply::Explanations | Reply::Facts | Reply::Version =>

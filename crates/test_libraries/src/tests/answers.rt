@@ -9,7 +9,7 @@ use crate::tests::same::same;
 use pam_codes::Out;
 use pam_conf::{Files, Form};
 use pam_print::answer;
-use pam_report::{Fault, Inputs, fault_status};
+use pam_report::{Fault, Inputs, SideInputs, fault_status};
 use pam_words::{Request, request};
 use std::alloc::Global;
 use std::io::Write;
@@ -126,6 +126,20 @@ static ACCESS: Command = Command {
     status: 1,
 };
 
+/// Compares the stack of `NEW_LOGIN` with this one.
+static COMPARE: Command = Command {
+    words: &["pamcheck", "compare", "old", "new", "login", "auth"],
+    login: b"auth required a.so\n",
+    access: None,
+    time: None,
+    text: b"login auth tells: auth_err becomes perm_denied where a.so auth_err
+compared 1 stack: 0 equal, 0 with the same decisions, 1 changed, 0 refused, 0 not known
+",
+    status: 1,
+};
+
+const NEW_LOGIN: &[u8] = b"auth optional a.so\n";
+
 static TIME: Command = Command {
     words: &[
         "pamcheck",
@@ -145,10 +159,37 @@ static TIME: Command = Command {
     status: 1,
 };
 
-fn commands() -> [&'static Command; 8] {
+fn commands() -> [&'static Command; 9] {
     [
-        &SHOW, &DECIDE, &PATHS, &OUTCOMES, &GRAPH, &DRAWN, &ACCESS, &TIME,
+        &SHOW, &DECIDE, &PATHS, &OUTCOMES, &GRAPH, &DRAWN, &ACCESS, &TIME, &COMPARE,
     ]
+}
+
+/// A configuration with this one file.
+fn folder_of(alloc: Global, login: &[u8]) -> Result<Files, Fail> {
+    let mut files = Files::new(alloc, Form::Dir);
+    put(alloc, &mut files, b"login", login)?;
+    Ok(files)
+}
+
+/// A side of a comparison, of whose modules it is not known which are there.
+fn side_of(alloc: Global, login: &[u8]) -> Result<SideInputs, Fail> {
+    Ok(SideInputs {
+        files: folder_of(alloc, login)?,
+        there: None,
+    })
+}
+
+/// The two sides of a comparison.
+fn sides_of(alloc: Global, login: &[u8]) -> Result<Inputs, Fail> {
+    let old = side_of(alloc, login)?;
+    let new = side_of(alloc, NEW_LOGIN)?;
+    Ok(Inputs::Sides {
+        old,
+        new,
+        facts: None,
+        returns: None,
+    })
 }
 
 pub(crate) fn inputs(alloc: Global, command: &Command) -> Result<Inputs, Fail> {
@@ -163,8 +204,10 @@ pub(crate) fn inputs(alloc: Global, command: &Command) -> Result<Inputs, Fail> {
         let table = table.to_vec(alloc)?;
         return Ok(Inputs::Time { table });
     }
-    let mut files = Files::new(alloc, Form::Dir);
-    put(alloc, &mut files, b"login", command.login)?;
+    if command.words.get(1) == Some(&"compare") {
+        return sides_of(alloc, command.login);
+    }
+    let files = folder_of(alloc, command.login)?;
     match command.words.get(1) {
         Some(&"paths") | Some(&"outcomes") | Some(&"graph") => Ok(Inputs::Paths {
             files,

@@ -41,6 +41,12 @@ pub returns-in-Check : goal.returns-in-Check
 returns-in-Check g c =
     read-as _ _ _ _ c.check_inputs.result c.in-Check.is c.deref.ensures.value (c.check_inputs.ensures c.in-Check.services c.in-Check.fail_on)
 
+pub returns-in-Compare : goal.returns-in-Compare
+returns-in-Compare g c =
+    let candidates = map candidate_view c.args.request.now.candidates.items in
+    subst (λ t. IsReading candidates t c.compare_inputs.result) (sym c.in-Compare.is)
+    (c.compare_inputs.ensures candidates c.in-Compare.service c.in-Compare.kind)
+
 pub returns-in-Access : goal.returns-in-Access
 returns-in-Access g c =
     let candidates = map candidate_view c.args.request.now.candidates.items in

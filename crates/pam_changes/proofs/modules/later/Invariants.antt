@@ -1,0 +1,6 @@
+use Rattle.std.proofs.Common.{◌≡◌, filter, take}
+use Rattle.pam_changes.specs.Modules.{comes_later, comes_sooner, differ, new_where, same_arguments, same_controls}
+use Rattle.pam_changes.proofs.modules.later.Given as goal
+
+abbrev pub invariant-loop-pair : goal.invariant-loop-pair
+invariant-loop-pair l = l.moved.items ≡ new_where (comes_later l.pairs) (take l.pair-index l.pairs)

@@ -1,0 +1,6 @@
+use Rattle.std.proofs.Common.{◌≡◌, filter, take}
+use Rattle.pam_changes.specs.Modules.{comes_later, comes_sooner, differ, new_where, same_arguments, same_controls}
+use Rattle.pam_changes.proofs.modules.with_other_controls.Given as goal
+
+abbrev pub invariant-loop-pair : goal.invariant-loop-pair
+invariant-loop-pair l = l.changed.items ≡ new_where (differ same_controls l.old l.new) (take l.pair-index l.pairs)

@@ -1,0 +1,17 @@
+use Rattle.std.proofs.Common.{◌∙◌}
+use Rattle.pam_changes.specs.Sides.{sides_view}
+use Rattle.pam_changes.proofs.Stacked.{adds-none, adds-one, has-items}
+use Rattle.pam_changes.proofs.stacks.Comparer.position.Goals as goal
+
+pub returns-in-Some-clause-adds : goal.returns-in-Some-clause-adds
+returns-in-Some-clause-adds c = adds-none (sides_view c.args.self.now.sides.now) c.args.found.now
+
+pub returns-clause-adds : goal.returns-clause-adds
+returns-clause-adds c =
+    adds-one (sides_view c.args.self.now.sides.now) c.args.found.now _ c.in_ok-pair.pair c.in_ok-position.ensures.pairs c.in_ok-position.ensures.stacks
+    c.in_ok-pair.ensures.pair
+
+pub returns-clause-pair : goal.returns-clause-pair
+returns-clause-pair c =
+    has-items c.args.kind c.args.old c.args.new c.in_ok-pair.pair _ c.in_ok-position.ensures.position c.in_ok-pair.ensures.kind c.in_ok-pair.ensures.old
+    c.in_ok-pair.ensures.new

@@ -1,0 +1,10 @@
+pub mod Changes
+pub mod Counts
+pub mod Finding
+pub mod Known
+pub mod Modules
+pub mod Pairs
+pub mod Same
+pub mod Services
+pub mod Sides
+pub mod Steps

@@ -1,0 +1,114 @@
+//! What is known of the answers of the modules of a stack.
+
+ghost use Rattle.std.specs.Prelude.{◌≡◌, ◌≢◌, ℕ, [], IfSome, IsFalse, IsTrue, List, Some, true, unwrap_or};
+ghost use Rattle.std.specs.Option.{option_map, option_map_or};
+ghost use Rattle.pam_conf.specs.ItemsOf.{module_text};
+ghost use Rattle.pam_conf.specs.Stack.{module_at, module_count};
+ghost use Rattle.pam_facts.specs.Answers.{Allows};
+ghost use Rattle.pam_changes.specs.Known.{AreThereAlike, is_alike, known_codes, line_at, line_of};
+ghost use Rattle.pam_changes.specs.Sides.{side_view, sides_view};
+
+use crate::sides::{Side, Sides};
+use pam_codes::CodeSet;
+use pam_conf::{Kind, Module, Stack};
+use pam_facts::is_there;
+use pam_known::name_of_path;
+use pam_paths::Known;
+use pam_tables::ReturnTable;
+use pam_text::Texts;
+
+/// The codes of a module's line in the returns file, if it has one and is there.
+fn codes_of(there: Option<&Texts>, returns: &ReturnTable<'_>, module: &Module) -> Option<CodeSet>
+    ensures codes { result ≡ line_of (Some returns.now) (option_map (λ t. t.now) there.entry) (module_text «module».now) }
+    ensures some { IfSome result (λ codes. codes ≢ []) }
+{
+    if !is_there(there, &module.path) {
+        return None;
+    }
+    returns.codes(name_of_path(&module.path))
+}
+
+/// The same, by the number of the module.
+#[tactic(auto, unfolding(crate::specs::Known::line_at))]
+fn codes_at(
+    there: Option<&Texts>,
+    returns: &ReturnTable<'_>,
+    stack: &Stack,
+    number: usize,
+) -> Option<CodeSet>
+    ensures codes { result ≡ line_at (Some returns.now) (option_map (λ t. t.now) there.entry) stack.now number }
+    ensures some { IfSome result (λ codes. codes ≢ []) }
+{
+    match stack.module(number) {
+        Some(module) => codes_of(there, returns, module),
+        None => None,
+    }
+}
+
+/// Sets the codes of the modules that have a line in the returns file.
+fn add_returns(there: Option<&Texts>, returns: &ReturnTable<'_>, stack: &Stack, known: &mut Known)
+    ensures { (base : ℕ → List ℕ) → Allows (module_count stack.now) known.old base → Allows (module_count stack.now) known.new
+        (λ number. unwrap_or (line_at (Some returns.now) (option_map (λ t. t.now) there.entry) stack.now number) (base number)) }
+{
+    for index in 0..stack.modules() {
+        if let Some(codes) = codes_at(there, returns, stack, index + 1) {
+            // A set says with its length that its codes are in order.
+            let _count = codes.len();
+            known.set(index + 1, codes);
+        }
+    }
+}
+
+/// The codes that the modules of a stack may answer: `module_unknown` if a module is not there, else the codes of its line in the
+/// returns file, else what facts say.
+#[tactic(auto, unfolding(crate::specs::Known::known_codes))]
+pub(crate) fn known_answers(
+    sides: &Sides<'_, '_>,
+    side: &Side<'_>,
+    kind: Kind,
+    stack: &Stack,
+) -> Known
+    ensures { Allows (module_count stack.now) result (known_codes (sides_view sides.now) (side_view side.now) kind stack.now) }
+{
+    let mut known = sides.facts.answers(stack, kind, side.there);
+    if let Some(returns) = sides.returns {
+        add_returns(side.there, returns, stack, &mut known);
+    }
+    known
+}
+
+/// Whether a module is there in both configurations, or in neither.
+fn is_alike(sides: &Sides<'_, '_>, module: &Module) -> bool
+    ensures { result ≡ is_alike (sides_view sides.now) (module_text «module».now) }
+{
+    let is_in_new = is_there(sides.new.there, &module.path);
+    if is_there(sides.old.there, &module.path) {
+        is_in_new
+    } else {
+        !is_in_new
+    }
+}
+
+/// The same, by the number of the module.
+fn is_alike_at(sides: &Sides<'_, '_>, stack: &Stack, number: usize) -> bool
+    ensures { result ≡ option_map_or (is_alike (sides_view sides.now)) (module_at number stack.now) true }
+{
+    match stack.module(number) {
+        Some(module) => is_alike(sides, module),
+        None => true,
+    }
+}
+
+/// Whether each module of a stack is there in both configurations, or in neither. Then the same is known of its answers.
+#[tactic(auto, unfolding(crate::specs::Known::AreThereAlike))]
+pub(crate) fn are_there_alike(sides: &Sides<'_, '_>, stack: &Stack) -> bool
+    ensures yes { IsTrue result → AreThereAlike (sides_view sides.now) stack.now }
+    ensures no { IsFalse result → AreThereAlike (sides_view sides.now) stack.now → ⊥ }
+{
+    for index in 0..stack.modules() {
+        if !is_alike_at(sides, stack, index + 1) {
+            return false;
+        }
+    }
+    true
+}

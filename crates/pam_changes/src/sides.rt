@@ -1,0 +1,23 @@
+//! The two configurations that are compared.
+
+use pam_conf::Files;
+use pam_facts::Facts;
+use pam_tables::ReturnTable;
+use pam_text::Texts;
+
+/// A configuration, and the paths at which a module is there, as its rules write them; `None` if that is not known.
+#[derive(Clone, Copy)]
+pub struct Side<'x> {
+    pub files: &'x Files,
+    pub there: Option<&'x Texts>,
+}
+
+/// Two configurations, and what is known of the answers of their modules.
+#[derive(Clone, Copy)]
+pub struct Sides<'x, 'f> {
+    pub old: Side<'x>,
+    pub new: Side<'x>,
+    pub facts: &'x Facts<'f>,
+    /// What modules are known to answer by a returns file, if one is given.
+    pub returns: Option<&'x ReturnTable<'x>>,
+}

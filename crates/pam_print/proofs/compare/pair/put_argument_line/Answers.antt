@@ -1,0 +1,14 @@
+use Rattle.std.proofs.Common.{codes}
+use Rattle.pam_codes.proofs.Writing.{writes-is}
+use Rattle.pam_print.specs.Compare.{argument_line, arguments_text, head_text, module_text}
+use Rattle.pam_print.specs.CompareParts.{head_view}
+use Rattle.pam_print.proofs.CompareTexts.{parts-8}
+use Rattle.pam_print.proofs.compare.pair.put_argument_line.Goals as goal
+
+pub returns : goal.returns
+unfolding argument_line
+returns g c =
+    writes-is _ _ _ _ _ _ c.put_parts.ensures
+    (parts-8 (head_text (head_view c.args.head)) (codes " arguments of ") (module_text c.args.pair.now.new c.args.matched.new) (codes ": \"")
+    (arguments_text c.args.pair.now.old c.args.matched.old) (codes "\" becomes \"")
+    (arguments_text c.args.pair.now.new c.args.matched.new) (codes "\"\n"))

@@ -1,0 +1,272 @@
+-- The text of `compare`: a line for each change, and a last line with their numbers.
+use Rattle.std.specs.Prelude.{ℕ, zero, suc, ◌+◌, ◌==◌, ◌||◌, nat_lt, Bool, true, false, not, List, [], ◌∷◌, ◌++◌, codes, count_by, decimal, if◌then◌else◌}
+use Rattle.std.specs.Prelude.{is_some, Option, None, Some, slice_get}
+use Rattle.std.specs.List.{flat_map}
+use Rattle.std.specs.Option.{option_map_or}
+use Rattle.std.specs.Str.{bytes_eq}
+use Rattle.pam_changes.specs.Counts.{counts_of}
+use Rattle.pam_changes.specs.declared.counts.Counts.{Counts}
+use Rattle.pam_changes.specs.declared.modules.MatchedPair.{MatchedPair}
+use Rattle.pam_changes.specs.declared.pair.Decisions.{Decisions}
+use Rattle.pam_changes.specs.declared.pair.Decisions.TheVariants.{Known, NotKnown}
+use Rattle.pam_changes.specs.declared.pair.Shown.{Shown}
+use Rattle.pam_changes.specs.declared.pair.ShownChanges.{ShownChanges}
+use Rattle.pam_changes.specs.declared.pair.StackPair.{StackPair}
+use Rattle.pam_changes.specs.declared.services.ComparedService.{ComparedService}
+use Rattle.pam_changes.specs.declared.stacks.ComparedStack.{ComparedStack}
+use Rattle.pam_changes.specs.declared.stacks.StackChange.{StackChange}
+use Rattle.pam_changes.specs.declared.stacks.StackChange.TheVariants as changes
+use Rattle.pam_changes.specs.declared.steps.AskedModule.{AskedModule}
+use Rattle.pam_changes.specs.declared.steps.AskedModule.TheVariants.{Old, New, Both}
+use Rattle.pam_compare.specs.declared.comparing.TheConstants.{MAX_SITUATIONS}
+use Rattle.pam_conf.specs.Files.{Folder}
+use Rattle.pam_conf.specs.Stack.{Items, module_at}
+use Rattle.pam_conf.specs.declared.conf_error.ConfError.{ConfError}
+use Rattle.pam_conf.specs.declared.rule.Kind.{Kind}
+use Rattle.pam_report.specs.Decide.{path_at}
+use Rattle.pam_report.specs.Fault.{file_at}
+use Rattle.pam_report.specs.FaultTable.{conf_row}
+use Rattle.pam_report.specs.Reply.{CompareValue}
+use Rattle.pam_print.specs.Check.{counted, shown_name}
+use Rattle.pam_print.specs.Header.{code_name, kind_name}
+
+-- MODULES
+
+-- how many of the modules up to a number have a path
+abbrev pub with_path : Items → List ℕ → ℕ → ℕ
+with_path items path zero = 0
+with_path items path (suc number) = with_path items path number + (if bytes_eq (path_at (suc number) items) path then 1 else 0)
+
+-- which of the modules with its path a module is, from 1
+abbrev pub occurrence : Items → ℕ → ℕ
+occurrence items number = with_path items (path_at number items) number
+
+abbrev pub occurrence_text : ℕ → List ℕ
+occurrence_text which = if nat_lt 1 which then codes "#" ++ decimal which else []
+
+-- `PATH`, or `PATH#N` for a module that is not the first with its path
+unfoldable pub module_text : Items → ℕ → List ℕ
+module_text items number = shown_name (path_at number items) ++ occurrence_text (occurrence items number)
+
+-- a space before a name that is not the first
+abbrev pub if_more : Bool → List ℕ → List ℕ
+if_more more name = (if more then codes " " else []) ++ shown_name name
+
+-- names, with a space between each two
+abbrev pub spaced : Bool → List (List ℕ) → List ℕ
+spaced more [] = []
+spaced more (name ∷ names) = if_more more name ++ spaced true names
+
+unfoldable pub arguments_text : Items → ℕ → List ℕ
+arguments_text items number = option_map_or (λ m. spaced false m.arguments) (module_at number items) []
+
+-- TWO STACKS
+
+-- the service and the kind with which a line begins
+pub record Head : Type 0 where
+  pub service : List ℕ
+  pub kind : Kind
+
+-- `SERVICE KIND`
+abbrev pub head_text : Head → List ℕ
+head_text head = shown_name head.service ++ codes " " ++ kind_name head.kind
+
+-- a module that is asked, and its answer; `-` for one that the old stack alone asks, `+` for one that the new stack alone asks
+unfoldable pub asked_text : StackPair → AskedModule → List ℕ
+asked_text pair (Old number code) = codes "-" ++ module_text pair.old number ++ codes " " ++ code_name code
+asked_text pair (New number code) = codes "+" ++ module_text pair.new number ++ codes " " ++ code_name code
+asked_text pair (Both old number code) = module_text pair.new number ++ codes " " ++ code_name code
+
+abbrev pub next_asked : StackPair → AskedModule → List ℕ
+next_asked pair asked = codes ", " ++ asked_text pair asked
+
+-- with commas
+abbrev pub asked_texts : StackPair → List AskedModule → List ℕ
+asked_texts pair [] = []
+asked_texts pair (asked ∷ others) = asked_text pair asked ++ flat_map (next_asked pair) others
+
+-- `SERVICE KIND CHANGE: CODE becomes CODE where MODULE CODE, MODULE CODE`
+unfoldable pub change_line : Head → StackPair → List ℕ → Shown → List ℕ
+change_line head pair change shown =
+    head_text head ++ codes " " ++ change ++ codes ": " ++ code_name shown.witness.old ++ codes " becomes " ++ code_name shown.witness.new
+    ++ codes " where " ++ asked_texts pair shown.asked.items ++ codes "\n"
+
+abbrev pub change_if_any : Head → StackPair → List ℕ → Option Shown → List ℕ
+change_if_any head pair change shown = option_map_or (change_line head pair change) shown []
+
+-- a colon before the first, a comma before each other
+abbrev pub separator : Bool → List ℕ
+separator more = if more then codes ", " else codes ": "
+
+-- a module, and what changes in it
+unfoldable pub numbered_text : Items → List ℕ → Bool → ℕ → List ℕ
+numbered_text items change more number = separator more ++ module_text items number ++ codes " " ++ change
+
+abbrev pub numbered : Items → List ℕ → Bool → List ℕ → List ℕ
+numbered items change more [] = []
+numbered items change more (number ∷ numbers) = numbered_text items change more number ++ flat_map (numbered_text items change true) numbers
+
+abbrev pub has_any : List ℕ → Bool
+has_any [] = false
+has_any (n ∷ ns) = true
+
+-- the modules that were moved, or got another control
+abbrev pub moved_text : StackPair → Bool → List ℕ
+moved_text pair more =
+    let m = pair.modules in
+    numbered pair.new (codes "moved") more m.moved.items
+    ++ numbered pair.new (codes "with another control") (more || has_any m.moved.items) m.controls.items
+
+-- those that were added, before them
+abbrev pub added_text : StackPair → Bool → List ℕ
+added_text pair more =
+    let m = pair.modules in
+    numbered pair.new (codes "added") more m.added.items ++ moved_text pair (more || has_any m.added.items)
+
+-- the modules that were removed, added or moved, or got another control
+abbrev pub module_changes : StackPair → List ℕ
+module_changes pair =
+    let m = pair.modules in
+    numbered pair.old (codes "removed") false m.removed.items ++ added_text pair (has_any m.removed.items)
+
+-- `SERVICE KIND same decisions: MODULE removed, MODULE moved`
+unfoldable pub same_line : Head → StackPair → List ℕ
+same_line head pair = head_text head ++ codes " same decisions" ++ module_changes pair ++ codes "\n"
+
+abbrev pub tells_text : Head → StackPair → Option Shown → List ℕ
+tells_text head pair None = same_line head pair
+tells_text head pair (Some shown) = change_line head pair (codes "tells") shown
+
+-- who is let in now, and who no longer
+abbrev pub grave_text : Head → StackPair → ShownChanges → List ℕ
+grave_text head pair changes =
+    change_if_any head pair (codes "admits") changes.admits ++ change_if_any head pair (codes "refuses") changes.refuses
+
+abbrev pub is_grave : ShownChanges → Bool
+is_grave changes = is_some changes.admits || is_some changes.refuses
+
+-- another failure only where nobody is let in and nobody no longer
+abbrev pub changes_text : Head → StackPair → ShownChanges → List ℕ
+changes_text head pair changes = if is_grave changes then grave_text head pair changes else tells_text head pair changes.tells
+
+-- `SERVICE KIND not known: more than N situations`
+unfoldable pub not_known_line : Head → List ℕ
+not_known_line head = head_text head ++ codes " not known: more than " ++ decimal MAX_SITUATIONS ++ codes " situations\n"
+
+abbrev pub decisions_in : Head → StackPair → Decisions → List ℕ
+decisions_in head pair (Known changes) = changes_text head pair changes
+decisions_in head pair NotKnown = not_known_line head
+
+unfoldable pub decisions_text : Head → StackPair → List ℕ
+decisions_text head pair = decisions_in head pair pair.decisions
+
+-- `SERVICE KIND arguments of MODULE: "ARGUMENTS" becomes "ARGUMENTS"`
+unfoldable pub argument_line : Head → StackPair → MatchedPair → List ℕ
+argument_line head pair matched =
+    head_text head ++ codes " arguments of " ++ module_text pair.new matched.new ++ codes ": \"" ++ arguments_text pair.old matched.old
+    ++ codes "\" becomes \"" ++ arguments_text pair.new matched.new ++ codes "\"\n"
+
+-- THE LINES of two stacks
+unfoldable pub pair_text : Head → StackPair → List ℕ
+pair_text head pair = flat_map (argument_line head pair) pair.modules.arguments.items ++ decisions_text head pair
+
+-- A STACK
+
+-- the name of a service by its position, empty if there is none
+abbrev pub service_at : List ComparedService → ℕ → List ℕ
+service_at services position = option_map_or (λ s. s.name.items) (slice_get services position) []
+
+-- ` FILE:LINE`, if there is a file
+abbrev pub place_text : Option (List ℕ) → ℕ → List ℕ
+place_text None line = []
+place_text (Some file) line = codes " " ++ shown_name file ++ codes ":" ++ decimal line
+
+-- `NUMBER NAME FILE:LINE`
+unfoldable pub fault_text : Folder → ConfError → List ℕ
+fault_text files fault = (conf_row fault.kind).name ++ place_text (file_at files fault.at) fault.line
+
+abbrev pub side_text : Folder → Option ConfError → List ℕ
+side_text files None = codes "accepted"
+side_text files (Some fault) = fault_text files fault
+
+-- `SERVICE KIND refused: old FAULT, new FAULT`
+unfoldable pub refused_line : CompareValue → Head → Option ConfError → Option ConfError → List ℕ
+refused_line value head old new =
+    head_text head ++ codes " refused: old " ++ side_text value.old old ++ codes ", new " ++ side_text value.new new ++ codes "\n"
+
+-- `SERVICE KIND as SERVICE KIND`
+unfoldable pub as_line : Head → Head → List ℕ
+as_line head first = head_text head ++ codes " as " ++ head_text first ++ codes "\n"
+
+-- the lines of two stacks, or at which service they were met first. All stacks of a pair are of one kind
+abbrev pub pair_at : CompareValue → ComparedStack → StackPair → List ℕ
+pair_at value stack pair =
+    let services = value.changes.services.items in
+    let head : Head = record { service = service_at services stack.service; kind = stack.kind } in
+    let first : Head = record { service = service_at services pair.service; kind = pair.kind } in
+    if stack.service == pair.service then pair_text head pair else as_line head first
+
+abbrev pub stack_in : CompareValue → ComparedStack → StackChange → List ℕ
+stack_in value stack changes.NoStack = []
+stack_in value stack changes.Same = []
+stack_in value stack (changes.Refused old new) =
+    refused_line value (record { service = service_at value.changes.services.items stack.service; kind = stack.kind }) old new
+stack_in value stack (changes.Differs position) = option_map_or (pair_at value stack) (slice_get value.changes.pairs.items position) []
+
+-- THE LINES of a stack, none if nothing changes in it
+unfoldable pub stack_text : CompareValue → ComparedStack → List ℕ
+stack_text value stack = stack_in value stack stack.change
+
+-- ALL STACKS
+
+-- which configuration alone has a service
+abbrev pub only_in : List ℕ → Bool → Bool → List ℕ
+only_in name true false = shown_name name ++ codes " only in old\n"
+only_in name false true = shown_name name ++ codes " only in new\n"
+only_in name in_old in_new = []
+
+abbrev pub only_text : ComparedService → List ℕ
+only_text service = only_in service.name.items service.in_old service.in_new
+
+abbrev pub presence : List ComparedService → ℕ → List ℕ
+presence services position = option_map_or only_text (slice_get services position) []
+
+-- the same, unless the stack before was of this service too
+abbrev pub if_first : List ComparedService → Option ℕ → ℕ → List ℕ
+if_first services before position = if option_map_or (λ b. b == position) before false then [] else presence services position
+
+-- the lines of a stack, after that of its service
+abbrev pub next_stack : CompareValue → Option ℕ → ComparedStack → List ℕ
+next_stack value before stack = if_first value.changes.services.items before stack.service ++ stack_text value stack
+
+-- the lines of stacks, before the first of which came one of this service
+abbrev pub lines_after : CompareValue → Option ℕ → List ComparedStack → List ℕ
+lines_after value before [] = []
+lines_after value before (stack ∷ stacks) = next_stack value before stack ++ lines_after value (Some stack.service) stacks
+
+-- THE LAST LINE
+
+abbrev pub is_stack : StackChange → Bool
+is_stack changes.NoStack = false
+is_stack _ = true
+
+-- the number of stacks that some configuration has
+abbrev pub compared_count : List ComparedStack → ℕ
+compared_count stacks = count_by (λ s. is_stack s.change) stacks
+
+-- `; N services WHERE`, but nothing for none
+abbrev pub only_count : ℕ → List ℕ → List ℕ
+only_count count place = if count == 0 then [] else codes "; " ++ counted count (codes "service") ++ place
+
+-- `compared STACKS: N equal, N with the same decisions, N changed, N refused, N not known; N services only in old`
+unfoldable pub last_line : ℕ → Counts → List ℕ
+last_line stacks counts =
+    codes "compared " ++ counted stacks (codes "stack") ++ codes ": " ++ decimal counts.equal ++ codes " equal, " ++ decimal counts.same_decisions
+    ++ codes " with the same decisions, " ++ decimal counts.changed ++ codes " changed, " ++ decimal counts.refused ++ codes " refused, "
+    ++ decimal counts.not_known ++ codes " not known" ++ only_count counts.only_in_old (codes " only in old")
+    ++ only_count counts.only_in_new (codes " only in new") ++ codes "\n"
+
+-- THE TEXT of `compare`
+abbrev pub compare_text : CompareValue → List ℕ
+compare_text value =
+    lines_after value None value.changes.stacks.items ++ last_line (compared_count value.changes.stacks.items) (counts_of value.changes)

@@ -1,0 +1,94 @@
+//! Reads a `compare` request from its words.
+
+ghost use Rattle.std.specs.Prelude.{◌≡◌, IfOk, codes, option_map};
+ghost use Rattle.clap.specs.Words.{found_of, rows_of};
+ghost use Rattle.pam_words.specs.Request.{compare_task, is_on as is_on_in, kind_if_named as kind_in, side_in, side_of};
+ghost use Rattle.pam_words.specs.Wanted.{GivesTask, IsCompareGiven, source_view};
+
+use crate::reading::checks::folders;
+use crate::reading::{text, value};
+use crate::wanted::{CompareFiles, ConfSource, Task, Usage};
+use clap::ArgMatches;
+use pam_conf::Kind;
+use std::alloc::{AllocError, Global};
+
+/// Whether an option without a value is given.
+fn is_on(matches: &ArgMatches<'_>, id: &str) -> bool
+    ensures { result ≡ is_on_in id.now (rows_of (found_of matches.now)) }
+{
+    match value(matches, id) {
+        Some(value) => value == "true",
+        None => false,
+    }
+}
+
+/// Returns the source of this name, or `None` if both forms are given.
+fn side_of_form<'a>(are_files: bool, are_roots: bool, name: &'a str) -> Option<ConfSource<'a>>
+    ensures { option_map source_view result ≡ side_of are_files are_roots name.now }
+{
+    match (are_files, are_roots) {
+        (false, false) => Some(ConfSource::Dir(name)),
+        (true, false) => Some(ConfSource::Conf(name)),
+        (false, true) => Some(ConfSource::Root(name)),
+        (true, true) => None,
+    }
+}
+
+/// Returns the source that an id names.
+fn side<'a>(matches: &ArgMatches<'a>, id: &str) -> Option<ConfSource<'a>>
+    ensures { option_map source_view result ≡ side_in id.now (rows_of (found_of matches.now)) }
+{
+    side_of_form(
+        is_on(matches, "conf"),
+        is_on(matches, "root"),
+        text(matches, id),
+    )
+}
+
+/// Returns the kind, if one is named, or `None` if it is the name of none.
+fn kind_if_named(matches: &ArgMatches<'_>) -> Option<Option<Kind>>
+    ensures { result ≡ kind_in (rows_of (found_of matches.now)) }
+{
+    match value(matches, "kind") {
+        Some(name) => match Kind::from_name(name.as_bytes()) {
+            Some(kind) => Some(Some(kind)),
+            None => None,
+        },
+        None => Some(None),
+    }
+}
+
+/// Reads the names of the folders and files that a comparison reads besides the two configurations.
+fn given<'a>(alloc: Global, matches: &ArgMatches<'a>) -> Result<CompareFiles<'a>, AllocError>
+    ensures { IfOk result (λ given. IsCompareGiven (rows_of (found_of matches.now)) given) }
+{
+    Ok(CompareFiles {
+        modules: folders(alloc, matches)?,
+        facts: value(matches, "facts"),
+        returns: value(matches, "returns"),
+    })
+}
+
+pub(crate) fn compare<'a>(alloc: Global, matches: &ArgMatches<'a>) -> Result<Task<'a>, Usage>
+    ensures { GivesTask (compare_task (rows_of (found_of matches.now))) result }
+{
+    let Some(old) = side(matches, "old") else {
+        return Err(Usage::Source);
+    };
+    let Some(new) = side(matches, "new") else {
+        return Err(Usage::Source);
+    };
+    let Some(kind) = kind_if_named(matches) else {
+        return Err(Usage::KindName);
+    };
+    match given(alloc, matches) {
+        Ok(given) => Ok(Task::Compare {
+            old,
+            new,
+            service: value(matches, "service"),
+            kind,
+            given,
+        }),
+        Err(_) => Err(Usage::Memory),
+    }
+}
