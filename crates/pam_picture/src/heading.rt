@@ -78,34 +78,32 @@ fn put_heading<'a, W: Write>(
         (column_heading sheet.now.nodes.now sheet.now.layout.now index number control path.now) }
 {
     let name = name_of_path(path);
-    put_marks(
-        &[
-            Mark::Plain(b"<g transform=\"translate("),
-            Mark::Number(column_at(sheet.layout, index)),
-            Mark::Plain(b" "),
-            Mark::Number(sheet.layout.headings),
-            Mark::Plain(b")\"><title>"),
-            Mark::Number(number),
-            Mark::Plain(b" "),
-            Mark::Control(control),
-            Mark::Plain(b" "),
-            Mark::Escaped(path),
-            Mark::Plain(b"</title><text class=\"strong\" x=\"-6\">"),
-            Mark::Number(number),
-            Mark::Plain(b"</text><text class=\"strong\" x=\"-6\" y=\"15\">"),
-            Mark::Escaped(name_front(name)),
-            Mark::Plain(name_ending(name)),
-            Mark::Plain(b"</text><text class=\"weak\" y=\"30\"><tspan x=\"-6\">"),
-            Mark::Rows(control_at(sheet.layout, index)),
-            Mark::Plain(asked_row(sheet.nodes, number)),
-            Mark::Plain(b"</tspan></text><path class=\"guide\" d=\"M0 "),
-            Mark::Number(sheet.layout.rows),
-            Mark::Plain(b"v"),
-            Mark::Number(sheet.layout.guide),
-            Mark::Plain(b"\"/></g>\n"),
-        ],
-        out,
-    )
+    let marks = [
+        Mark::Plain(b"<g transform=\"translate("),
+        Mark::Number(column_at(sheet.layout, index)),
+        Mark::Plain(b" "),
+        Mark::Number(sheet.layout.headings),
+        Mark::Plain(b")\"><title>"),
+        Mark::Number(number),
+        Mark::Plain(b" "),
+        Mark::Control(control),
+        Mark::Plain(b" "),
+        Mark::Escaped(path),
+        Mark::Plain(b"</title><text class=\"strong\" x=\"-6\">"),
+        Mark::Number(number),
+        Mark::Plain(b"</text><text class=\"strong\" x=\"-6\" y=\"15\">"),
+        Mark::Escaped(name_front(name)),
+        Mark::Plain(name_ending(name)),
+        Mark::Plain(b"</text><text class=\"weak\" y=\"30\"><tspan x=\"-6\">"),
+        Mark::Rows(control_at(sheet.layout, index)),
+        Mark::Plain(asked_row(sheet.nodes, number)),
+        Mark::Plain(b"</tspan></text><path class=\"guide\" d=\"M0 "),
+        Mark::Number(sheet.layout.rows),
+        Mark::Plain(b"v"),
+        Mark::Number(sheet.layout.guide),
+        Mark::Plain(b"\"/></g>\n"),
+    ];
+    put_marks(&marks, out)
 }
 
 /// Writes the heading of the column after this many columns.

@@ -162,6 +162,14 @@ fn notes_width(classes: &[CodeSet]) -> usize {
     most.saturating_mul(CHARACTER)
 }
 
+/// Returns the width of a picture with these ends and notes.
+fn width_of(graph: &Graph, ends: &[EndPlace], noted: &[CodeSet]) -> usize {
+    right_of(ends, drawn_ends(graph))
+        .max(notes_width(noted).saturating_add(MARGIN))
+        .saturating_add(MARGIN)
+        .max(LEAST)
+}
+
 /// Where the headings begin, where the lanes begin and end, and how many columns there are.
 #[derive(Clone, Copy)]
 struct Area {
@@ -204,10 +212,7 @@ fn layout_by(
     let notes = all_notes(alloc, measures.noted, foot.saturating_add(LINE))?;
     let lines = notes.len().saturating_add(1).saturating_mul(LINE);
     Ok(Layout {
-        width: right_of(&ends, drawn_ends(graph))
-            .max(notes_width(measures.noted).saturating_add(MARGIN))
-            .saturating_add(MARGIN)
-            .max(LEAST),
+        width: width_of(graph, &ends, measures.noted),
         height: foot.saturating_add(lines),
         headings: area.headings,
         rows,

@@ -1,5 +1,5 @@
 -- For private contracts and proofs alone: a format, with the layout of a picture.
-use Rattle.std.specs.Prelude.{⊤, ⊥, ℕ, List}
+use Rattle.std.specs.Prelude.{⊤, ℕ, List}
 use Rattle.pam_conf.specs.Stack.{Items}
 use Rattle.pam_drawing.specs.Languages.{dot_drawing, mermaid_drawing}
 use Rattle.pam_graph.specs.Walks.{GraphValue}
