@@ -73,8 +73,15 @@ unreachable_sentence = codes "services are looked up in lowercase, so no program
 abbrev pub large_sentence : List ℕ
 large_sentence = codes " can come to more than 65,536 places, so it is not known whether it lets nobody or anybody in"
 
+abbrev pub other_sentence : List ℕ
+other_sentence = codes " has no rules of its own, so those of other decide; write rules for it"
+
 abbrev pub left_over_sentence : List ℕ
 left_over_sentence = codes "a copy that an editor or a package left, for which no program asks; it is not checked, and may be removed"
+
+abbrev pub inside_sentence : List ℕ
+inside_sentence =
+    codes "a jump into the middle of what an include brings in, so a line added there changes where it goes; jump to its first item or past its last"
 
 abbrev pub no_function_sentence : List ℕ
 no_function_sentence = codes "the module has no function for this kind, so it always answers module_unknown; remove the rule"
@@ -99,6 +106,8 @@ problem_sentence (problems.NoModule is_dashed) = no_module_sentence
 problem_sentence problems.NoOther = no_other_sentence
 problem_sentence problems.UnreachableName = unreachable_sentence
 problem_sentence (problems.TooLarge service kind) = large_sentence
+problem_sentence (problems.OtherAnswers service kind) = other_sentence
 problem_sentence problems.LeftOver = left_over_sentence
+problem_sentence problems.JumpIntoInclude = inside_sentence
 problem_sentence problems.NoFunction = no_function_sentence
 problem_sentence problems.CallerIsRoot = caller_sentence

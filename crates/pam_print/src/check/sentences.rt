@@ -44,8 +44,14 @@ pub(super) fn problem_sentence(problem: Problem) -> &'static str
         Problem::TooLarge { .. } => {
             " can come to more than 65,536 places, so it is not known whether it lets nobody or anybody in"
         }
+        Problem::OtherAnswers { .. } => {
+            " has no rules of its own, so those of other decide; write rules for it"
+        }
         Problem::LeftOver => {
             "a copy that an editor or a package left, for which no program asks; it is not checked, and may be removed"
+        }
+        Problem::JumpIntoInclude => {
+            "a jump into the middle of what an include brings in, so a line added there changes where it goes; jump to its first item or past its last"
         }
         Problem::NoFunction => {
             "the module has no function for this kind, so it always answers module_unknown; remove the rule"
