@@ -16,7 +16,7 @@ _pamcheck_options() {
     local moment='--at --at-unix --zone'
     local known="--user --rhost --tty --access --time --group --returns $moment"
     case $1 in
-        check) echo "$source --modules --facts --accept --fail-on --help" ;;
+        check) echo "$source --modules --access --time --group --facts --accept --fail-on --help" ;;
         compare) echo '--conf --root --modules --facts --returns --help' ;;
         show | decide) echo "$source --help" ;;
         paths) echo "$source --limit --after --before --decision --asks $known --help" ;;

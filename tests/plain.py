@@ -22,7 +22,7 @@ from plain_sources import found, listed, read
 KNOWING = b" --access --time --group --returns --user --rhost --tty --at --at-unix --zone"
 SOURCES = b"--dir --vendor-dir --conf --root --with"
 OPTIONS = {
-    b"check": SOURCES + b" --modules --facts --accept --fail-on",
+    b"check": SOURCES + b" --modules --access --time --group --facts --accept --fail-on",
     b"compare": b"--conf --root --modules --facts --returns",
     b"show": SOURCES,
     b"decide": SOURCES,
@@ -180,7 +180,7 @@ class Request:
         source = plain_sources.Source(self.options, tree) if self.command in WITH_SOURCE else None
         self.tables = {}
         for option in (b"--group", b"--access", b"--time", b"--returns"):
-            if option in self.options:
+            if option in self.options and self.command != b"check":
                 self.tables[option] = read(tree, self.options[option])
         if self.command == b"access":
             return self.access()
@@ -208,6 +208,7 @@ class Request:
         folders = self.options.get(b"--modules", [])
         for folder in folders:
             listed(tree, folder)
+        given = plain_given.tables(self.options, tree)
         data = {name: read(tree, self.options[name]) if name in self.options else b"" for name in (b"--facts", b"--accept")}
         facts = plain_given.facts(data[b"--facts"])
         accepted = plain_given.accepted(data[b"--accept"])
@@ -215,7 +216,7 @@ class Request:
         there = plain_given.there(self.options.get(b"--root"), folders, files.values(), lambda path: found(tree, path))
         host = plain_host.Host(form, files, self.arguments, there, facts)
         accept = self.options.get(b"--accept", b""), accepted
-        return plain_host.text(host, source.paths, self.options.get(b"--fail-on", b"warning"), accept)
+        return plain_host.text(host, source.paths, self.options.get(b"--fail-on", b"warning"), accept, given)
 
     def side(self, name, tree):
         """The files of a side of a comparison, and the paths at which a module is there."""

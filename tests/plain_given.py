@@ -5,10 +5,12 @@ import re
 import plain_faults
 import plain_stacks as stacks
 from plain_faults import LineFault
-from plain_sources import joined
+from plain_sources import found, joined, read
 
 CLASSES = (b"checks", b"ignores", b"passes", b"fails")
 MOST_ARGUMENTS = 2
+TABLES = (("group", b"--group", b"etc/group"), ("access", b"--access", b"etc/security/access.conf"),
+          ("time", b"--time", b"etc/security/time.conf"))
 LIBRARIES = (b"lib", b"lib64", b"usr/lib", b"usr/lib64")
 
 
@@ -75,6 +77,19 @@ def key_of_line(number, line):
     if not re.fullmatch(rb"(E|L|S|A|T|TE)[0-9]{1,2}", words[0]) or len(words) > 3 or not has_kind:
         raise LineFault("TE15")
     return number, b" ".join(words)
+
+
+# Tables
+
+def tables(options, tree):
+    """The path and the bytes of each table that is named, or else of that of the root, if it is there."""
+    root = options.get(b"--root")
+    given = {}
+    for table, option, own in TABLES:
+        path = options[option] if option in options else root and joined(root, own)
+        if path and (option in options or found(tree, path) is not None):
+            given[table] = path, read(tree, path)
+    return given
 
 
 # Modules

@@ -60,6 +60,9 @@ auth sufficient pam_unix.so
 account required pam_access.so
 account required pam_time.so
 """
+HOST = {"login": STACK + b"""account optional pam_access.so listsep=,
+session required pam_access.so fieldsep=+ listsep=
+"""}
 CURSORS = [b"0.0.12", b"25.1", b"6.0", b"-"]
 MOMENT = b"2024-05-06T17:29:59"
 CANDIDATE = b"login=o/other"
@@ -76,6 +79,7 @@ OTHER_WORDS = [["--limit", "3"], ["--after", "0"], ["--before", "0"], ["more"], 
                ["--time", "time", "--user", "alice"], ["--zone", "UTC0"], ["--at-unix", "x"], ["--conf", "pam.conf"]]
 TABLES = ["--access", "access", "--group", "group", "--time", "time", "--returns", "returns", "--user", "alice",
           "--at", MOMENT]
+CHECK = ["check", "--dir", "h", "--access", "access", "--group", "group", "--time", "time", "--fail-on", "note"]
 ACCESS_WORDS = [["access", "login", "--access", "access", "--group", "group", *login] for login in (
     ["--user", "alice", "--rhost", "10.1.2.3"], ["--user", "bob", "--tty", "/dev/tty1"],
     ["--user", "dora", "--rhost", "host.example.ORG"], ["--user", "carol", "--rhost", "2001:DB8::1"],
@@ -138,15 +142,15 @@ def both_ways(first, second, asked):
 
 
 def tables():
-    """An access table, a group file, a time table and a returns file, alone and under `paths`, `outcomes` and `graph`."""
-    tree = {"access": ACCESS, "group": GROUP, "time": TIME, "returns": RETURNS, "d": {"login": STACK}}
+    """An access table, a group file, a time table and a returns file, alone and under `paths`, `outcomes`, `graph` and `check`."""
+    tree = {"access": ACCESS, "group": GROUP, "time": TIME, "returns": RETURNS, "d": {"login": STACK}, "h": HOST}
     auth = [*PATHS, "--dir", "d", *TABLES]
     account = ["paths", "login", "account", "--limit", "6", "--dir", "d", *TABLES]
     counted = [*OUTCOMES, "--dir", "d", *TABLES]
     graph = [*GRAPH, "--dir", "d", *TABLES]
-    yield from of_file(ACCESS, "access", tree, [*ACCESS_WORDS, account])
-    yield from of_file(GROUP, "group", tree, [*ACCESS_WORDS, account])
-    yield from of_file(TIME, "time", tree, [*TIME_WORDS, account])
+    yield from of_file(ACCESS, "access", tree, [*ACCESS_WORDS, account, CHECK, CHECK])
+    yield from of_file(GROUP, "group", tree, [*ACCESS_WORDS, account, CHECK])
+    yield from of_file(TIME, "time", tree, [*TIME_WORDS, account, CHECK, CHECK])
     yield from of_file(RETURNS, "returns", tree, [auth, account, counted, graph])
 
 

@@ -1,8 +1,9 @@
 -- What is read for a task: the inputs that fit it, or the input that cannot be read.
-use Rattle.std.specs.Prelude.{◌≡◌, ◌⊎◌, ⊤, true, ℕ, List, [], Option, Some, Result, Ok, Err, is_some, map}
+use Rattle.std.specs.Prelude.{◌≡◌, ◌⊎◌, ⊤, true, ℕ, List, [], MatchOption, Option, Some, None, Result, Ok, Err, codes, is_some, map}
 use Rattle.std.specs.Borrow.{Bor}
 use Rattle.std.specs.Bool.{beq}
 use Rattle.std.specs.Option.{option_copied}
+use Rattle.std.specs.Path.{path_join}
 use Rattle.clap.specs.Words.{Text}
 use Rattle.pam_conf.specs.declared.rule.Kind.{Kind}
 use Rattle.pam_paths.specs.Classes.{Member}
@@ -12,8 +13,11 @@ use Rattle.pam_report.specs.declared.inputs.SideInputs.{SideInputs}
 use Rattle.pam_report.specs.declared.inputs.InputError.{InputError}
 use Rattle.pam_report.specs.declared.inputs.Inputs.{Inputs}
 use Rattle.pam_report.specs.declared.inputs.Inputs.TheVariants as inputs
+use Rattle.pam_report.specs.declared.inputs.TableFile.{TableFile}
+use Rattle.pam_report.specs.declared.inputs.TableFiles.{TableFiles}
 use Rattle.pam_words.specs.declared.wanted.CompareFiles.{CompareFiles}
 use Rattle.pam_words.specs.declared.wanted.ConfSource.{ConfSource}
+use Rattle.pam_words.specs.declared.wanted.ConfSource.TheVariants.{Root}
 use Rattle.pam_words.specs.declared.wanted.KnowledgeSource.{KnowledgeSource}
 use Rattle.pam_words.specs.declared.wanted.LevelName.{LevelName}
 use Rattle.pam_words.specs.declared.wanted.Login.{Login}
@@ -31,6 +35,25 @@ HasFiles candidates source (inputs.Stack files) = IsFrom candidates source files
 HasFiles candidates source (inputs.Paths files groups access time returns) = IsFrom candidates source files
 HasFiles candidates source given = ⊤
 
+-- a table: that of the name, or else that of the root at this path, if it is there
+abbrev pub IsInRoot : ConfSource → Text → Text → Type 0
+IsInRoot (Root root) own path = path ≡ path_join root.now own
+IsInRoot source own path = ⊥
+
+abbrev pub IsTable : ConfSource → Text → Option Text → Option TableFile → Type 0
+IsTable source own (Some name) table = MatchOption table ⊥ (λ t. t.path.items ≡ name)
+IsTable source own None table = MatchOption table ⊤ (λ t. IsInRoot source own t.path.items)
+
+-- THE TABLES of `check`: those that are named, and else those of the root that are there
+pub record AreTables (source : ConfSource) (named : CheckFiles) (tables : TableFiles) : Type 0 where
+  pub groups : IsTable source (codes "etc/group") (option_copied named.groups) tables.groups
+  pub access : IsTable source (codes "etc/security/access.conf") (option_copied named.access) tables.access
+  pub time : IsTable source (codes "etc/security/time.conf") (option_copied named.time) tables.time
+
+abbrev pub HasTables : ConfSource → CheckFiles → Inputs → Type 0
+HasTables source named (inputs.Host files paths given) = AreTables source named given.tables
+HasTables source named given = ⊤
+
 -- a side of a comparison is read from its source
 abbrev pub IsSide : ConfSource → SideInputs → Type 0
 IsSide source side = IsFrom [] source side.files
@@ -41,7 +64,7 @@ HasSides old new (inputs.Sides old_side new_side facts returns) = IsSide old old
 HasSides old new given = ⊤
 
 abbrev pub HasSource : List (Text × Text) → Task → Inputs → Type 0
-HasSource candidates (Check source services fail_on named) given = HasFiles candidates source given
+HasSource candidates (Check source services fail_on named) given = HasFiles candidates source given × HasTables source named given
 HasSource candidates (Compare old new service kind named) given = HasSides old new given
 HasSource candidates (Show source kind) given = HasFiles candidates source given
 HasSource candidates (Decide source kind answered) given = HasFiles candidates source given
@@ -66,10 +89,15 @@ IsOfKnowledge source named name =
     IsInSource source name ⊎ IsNamed (option_copied named.groups) name ⊎ IsNamed (option_copied named.access) name
     ⊎ IsNamed (option_copied named.time) name ⊎ IsNamed (option_copied named.returns) name
 
--- the facts file or the accept file, or one of the folders of modules
+-- one of the tables
+abbrev pub IsOfTables : CheckFiles → List ℕ → Type 0
+IsOfTables named name =
+    IsNamed (option_copied named.groups) name ⊎ IsNamed (option_copied named.access) name ⊎ IsNamed (option_copied named.time) name
+
+-- the facts file or the accept file, one of the tables, or one of the folders of modules
 abbrev pub IsOfCheck : CheckFiles → List ℕ → Type 0
 IsOfCheck named name =
-    Member name (map (λ folder. folder.now) named.modules.items)
+    Member name (map (λ folder. folder.now) named.modules.items) ⊎ IsOfTables named name
     ⊎ IsNamed (option_copied named.facts) name ⊎ IsNamed (option_copied named.accept) name
 
 -- a name of the source of a side, or one of the folders of modules
@@ -118,7 +146,7 @@ IsCompareReading old new named result =
 
 -- what a check is given besides the configuration
 abbrev pub IsGivenReading : ConfSource → CheckFiles → Result CheckInputs InputError → Type 0
-IsGivenReading source named (Ok given) = fits_check named given ≡ true
+IsGivenReading source named (Ok given) = (fits_check named given ≡ true) × AreTables source named given.tables
 IsGivenReading source named (Err error) = IsUnread (λ name. IsInSource source name ⊎ IsOfCheck named name) error
 
 -- what is read for each `access` of these files

@@ -10,6 +10,7 @@ ghost use Rattle.pam_words.specs.Wanted.{candidate_view};
 mod files;
 mod modules;
 mod sources;
+mod tables;
 
 use files::named_file;
 use modules::modules_there;
@@ -20,6 +21,7 @@ use pam_words::{
 };
 use sources::source_files;
 use std::alloc::Global;
+use tables::table_files;
 
 /// Reads a file, if one is named.
 fn optional_file<R: std::rt::Files>(
@@ -50,7 +52,8 @@ fn optional_files<R: std::rt::Files>(
     Ok((first, second))
 }
 
-/// Looks for the modules of a configuration, and reads the facts file and the accept file that are named.
+/// Looks for the modules of a configuration, and reads the tables of its system or those that are named, and the facts file and the
+/// accept file that are named.
 fn given_inputs<R: std::rt::Files + AllocGlobal + Clone + Drop>(
     rt: &R,
     alloc: Global,
@@ -61,9 +64,11 @@ fn given_inputs<R: std::rt::Files + AllocGlobal + Clone + Drop>(
     ensures { IsGivenReading source.entry named.now result }
 {
     let there = modules_there(rt, alloc, source, &named.modules, files)?;
+    let tables = table_files(rt, alloc, source, named)?;
     let others = optional_files(rt, alloc, named.facts, named.accept)?;
     Ok(CheckInputs {
         there,
+        tables,
         facts: others.0,
         accept: others.1,
     })

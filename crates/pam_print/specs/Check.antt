@@ -24,8 +24,11 @@ use Rattle.pam_known.specs.Answers.{name_of_path}
 use Rattle.pam_report.specs.Decide.{path_at}
 use Rattle.pam_report.specs.Names.{problem_name, stack_of}
 use Rattle.pam_report.specs.Reply.{CheckValue}
+use Rattle.pam_report.specs.TablePaths.{TablePathsText, level_of_table_problem, path_of as path_of_table, table_problem_name}
+use Rattle.pam_table_check.specs.declared.problem.TableFinding.{TableFinding}
 use Rattle.pam_print.specs.Header.{code_name, kind_name}
 use Rattle.pam_print.specs.Sentences as say
+use Rattle.pam_print.specs.declared.check.Counts.{Counts}
 
 -- NAMES, IN WHICH NO BYTE CAN END OR CHANGE A LINE
 
@@ -147,6 +150,7 @@ abbrev pub said : ℕ → Problem → List ℕ
 said line (problems.Fault fault) = fault_text line fault
 said line (problems.Walk fault) = fault_text line fault
 said line (problems.Released difference) = say.released_sentence difference
+said line problems.EmptySeparator = say.separator_sentence
 said line problem = say.problem_sentence problem
 
 -- the stacks that meet a problem of a line
@@ -169,6 +173,17 @@ finding_line names entry =
     place_text names.paths entry.0 ++ say.level_name (level_of entry.1.problem) ++ codes ": " ++ problem_name entry.1.problem ++ codes ": "
     ++ sentence names entry.0.line entry.1.met entry.1.problem ++ codes "\n"
 
+-- A LINE FOR A PROBLEM OF A TABLE: `PATH:LINE: LEVEL: NUMBER NAME: SENTENCE`
+abbrev pub table_place : TablePathsText → TableFinding → List ℕ
+table_place paths finding = shown_name (path_of_table paths finding.table) ++ line_text finding.line ++ codes ": "
+
+abbrev pub table_heading : TableFinding → List ℕ
+table_heading finding =
+    say.level_name (level_of_table_problem finding.problem) ++ codes ": " ++ table_problem_name finding.problem ++ codes ": "
+
+unfoldable pub table_line : TablePathsText → TableFinding → List ℕ
+table_line paths finding = table_place paths finding ++ table_heading finding ++ say.table_sentence finding.problem ++ codes "\n"
+
 -- THE LAST LINE
 
 abbrev pub is_level : Level → Level → Bool
@@ -189,25 +204,33 @@ counted count name = decimal count ++ codes " " ++ name ++ (if count == 1 then [
 abbrev pub at_most : ℕ → ℕ
 at_most count = min count 18446744073709551615
 
--- the warnings, with S8 for each line of the accept file that accepts nothing
-abbrev pub warnings_in : List (Place × Finding) → List ℕ → ℕ
-warnings_in found unused = at_most (number_at levels.Warning found + length unused)
+-- the number of problems of tables of a level
+abbrev pub table_number_at : Level → List TableFinding → ℕ
+table_number_at level tables = count_by (λ finding. is_level (level_of_table_problem finding.problem) level) tables
+
+-- the numbers of findings and problems of tables of each level; a line of the accept file that accepts nothing is a warning (S8)
+abbrev pub counts_of : List (Place × Finding) → List TableFinding → List ℕ → Counts
+counts_of found tables unused = record {
+  errors = at_most (number_at levels.Error found + table_number_at levels.Error tables);
+  warnings = at_most (at_most (number_at levels.Warning found + table_number_at levels.Warning tables) + length unused);
+  notes = at_most (number_at levels.Note found + table_number_at levels.Note tables);
+}
 
 -- `ERRORS, WARNINGS, NOTES`
-abbrev pub levels_text : List (Place × Finding) → List ℕ → List ℕ
-levels_text found unused =
-    counted (number_at levels.Error found) (codes "error") ++ codes ", " ++ counted (warnings_in found unused) (codes "warning") ++ codes ", "
-    ++ counted (number_at levels.Note found) (codes "note")
+abbrev pub levels_text : Counts → List ℕ
+levels_text counts =
+    counted counts.errors (codes "error") ++ codes ", " ++ counted counts.warnings (codes "warning") ++ codes ", "
+    ++ counted counts.notes (codes "note")
 
 -- the stacks of services, one for each of the four kinds
 abbrev pub stacks_of : ℕ → ℕ
 stacks_of services = at_most (services * 4)
 
 -- `checked SERVICES, STACKS: ERRORS, WARNINGS, NOTES`
-unfoldable pub last_line : ℕ → List (Place × Finding) → List ℕ → List ℕ
-last_line services found unused =
+unfoldable pub last_line : ℕ → Counts → List ℕ
+last_line services counts =
     codes "checked " ++ counted services (codes "service") ++ codes ", " ++ counted (stacks_of services) (codes "stack") ++ codes ": "
-    ++ levels_text found unused ++ codes "\n"
+    ++ levels_text counts ++ codes "\n"
 
 -- `FILE:LINE: warning: S8 NothingAccepted: SENTENCE`
 unfoldable pub unused_line : List ℕ → ℕ → List ℕ
@@ -216,8 +239,12 @@ unused_line accept line = shown_name accept ++ codes ":" ++ decimal line ++ code
 abbrev pub names_of_value : CheckValue → Names
 names_of_value value = record { form = value.form; paths = value.paths; services = value.services; ways_in = value.ways_in }
 
+-- the lines of findings, of problems of tables, and of lines of the accept file
+abbrev pub lines_text : CheckValue → List ℕ
+lines_text value =
+    flat_map (finding_line (names_of_value value)) value.found ++ flat_map (table_line value.table_paths) value.tables
+    ++ flat_map (unused_line value.accept) value.unused
+
 -- THE TEXT of `check`
 abbrev pub check_text : CheckValue → List ℕ
-check_text value =
-    flat_map (finding_line (names_of_value value)) value.found ++ flat_map (unused_line value.accept) value.unused
-    ++ last_line (length value.services) value.found value.unused
+check_text value = lines_text value ++ last_line (length value.services) (counts_of value.found value.tables value.unused)

@@ -8,6 +8,15 @@ use Rattle.pam_host.specs.declared.level.Level.{Level}
 use Rattle.pam_host.specs.declared.level.Level.TheVariants.{Error, Note, Warning}
 use Rattle.pam_host.specs.declared.problem.Problem.{Problem}
 use Rattle.pam_host.specs.declared.problem.Problem.TheVariants as problems
+use Rattle.pam_old_tables.specs.Meanings as meanings
+use Rattle.pam_old_tables.specs.declared.difference.TableDifference.{TableDifference}
+use Rattle.pam_old_tables.specs.declared.difference.TableDifference.TheVariants.{EmptySeparator}
+use Rattle.pam_table_check.specs.declared.problem.TableProblem.{TableProblem}
+use Rattle.pam_table_check.specs.declared.problem.TableProblem.TheVariants as wrong
+use Rattle.pam_tables.specs.declared.error.TableFault.{TableFault}
+use Rattle.pam_tables.specs.declared.error.TableFault.TheVariants as tables
+use Rattle.pam_times.specs.declared.error.TimeFault.{TimeFault}
+use Rattle.pam_times.specs.declared.error.TimeFault.TheVariants as times
 use Rattle.pam_released.specs.Meanings.{meaning_of, mending_of}
 use Rattle.pam_released.specs.declared.difference.Difference.{Difference}
 
@@ -44,8 +53,47 @@ fault_sentence faults.TooManyFollowed = codes "more than 256 includes and substa
 abbrev pub no_rules_sentence : List ℕ
 no_rules_sentence = codes "neither the service nor other has rules, so every login is refused; make one of the files"
 
+-- of a group file or an access table
+unfoldable pub table_fault_sentence : TableFault → List ℕ
+table_fault_sentence tables.MissingField = codes "the line ends too early; a rule has a permission, users and origins, between :"
+table_fault_sentence tables.BadPermission = codes "the permission is neither + nor -; write one of them"
+table_fault_sentence tables.Netgroup = codes "a netgroup, which is not looked up here; name the users or hosts"
+table_fault_sentence tables.UserAtHost = codes "a user at a host, which is not looked up here; name the user, and the host among the origins"
+table_fault_sentence tables.BadMask = codes "the mask is neither a number of bits nor an address of the same family; write one of them"
+table_fault_sentence tables.BadGroup = codes "the line is not name, password, number and members, between :; mend it"
+table_fault_sentence tables.NulByte = codes "the table has a NUL byte; remove it"
+table_fault_sentence tables.Memory = codes "an allocation failed"
+table_fault_sentence tables.TableTooLong = codes "the table is longer than 1,048,576 bytes; shorten it"
+table_fault_sentence tables.BadCode = codes "a word is no return code; write one as success"
+table_fault_sentence tables.BadModule = codes "the name of a module has a slash; write it without folder"
+
+-- of a time table
+unfoldable pub time_fault_sentence : TimeFault → List ℕ
+time_fault_sentence times.MissingField = codes "the line lacks a field; a rule has services, terminals, users and times, between ;"
+time_fault_sentence times.Netgroup = codes "a netgroup, which is not looked up here; name the users"
+time_fault_sentence times.BadTimes = codes "the times are not days and a range; write them as MoTuWeThFr0800-1800"
+time_fault_sentence times.TwoWildcards = codes "a name has more than one *; leave one"
+time_fault_sentence times.BadLogic = codes "the field is not a list of names with &, | and !; mend it"
+time_fault_sentence times.NulByte = codes "the table has a NUL byte; remove it"
+time_fault_sentence times.Memory = codes "an allocation failed"
+time_fault_sentence times.TooLong = codes "the table is longer than 1,048,576 bytes; shorten it"
+
+-- where released Linux-PAM reads a table otherwise
+abbrev pub table_difference_sentence : TableDifference → List ℕ
+table_difference_sentence difference = meanings.meaning_of difference ++ codes "; " ++ meanings.mending_of difference
+
+-- of a problem of a table
+abbrev pub table_sentence : TableProblem → List ℕ
+table_sentence (wrong.Fault fault) = table_fault_sentence fault
+table_sentence (wrong.TimeFault fault) = time_fault_sentence fault
+table_sentence (wrong.Released difference) = table_difference_sentence difference
+
 abbrev pub released_sentence : Difference → List ℕ
 released_sentence difference = meaning_of difference ++ codes "; " ++ mending_of difference
+
+-- A5: the argument of a rule that names no separators
+abbrev pub separator_sentence : List ℕ
+separator_sentence = table_difference_sentence EmptySeparator
 
 abbrev pub nobody_sentence : List ℕ
 nobody_sentence = codes " never succeeds, whatever its modules answer; look for a jump over too many items, or a module that always fails"
@@ -98,6 +146,7 @@ unfoldable pub problem_sentence : Problem → List ℕ
 problem_sentence (problems.Fault fault) = []
 problem_sentence (problems.Walk fault) = []
 problem_sentence (problems.Released difference) = []
+problem_sentence problems.EmptySeparator = []
 problem_sentence (problems.LetsNobodyIn service kind) = nobody_sentence
 problem_sentence (problems.LetsAnybodyIn service) = anybody_sentence
 problem_sentence problems.NeverAsked = asked_sentence

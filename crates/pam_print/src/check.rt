@@ -1,13 +1,14 @@
 //! The text of `check`: a line for each finding, and a last line with their numbers.
 
-ghost use Rattle.std.specs.Prelude.{◌≡◌, [], IfOk, map};
+ghost use Rattle.std.specs.Prelude.{◌≡◌, ◌+◌, [], IfOk, map};
 ghost use Rattle.std.specs.List.{flat_map};
 ghost use Rattle.std.specs.Option.{option_map_or};
 ghost use Rattle.pam_codes.specs.Out.{Writes, WritesAndFlushes};
 ghost use Rattle.pam_report.specs.Reply.{Check};
 ghost use Rattle.pam_report.specs.ReplyViews.{check_view};
-ghost use Rattle.pam_print.specs.Check.{check_text, counted, finding_line, is_level, last_line, levels_text};
-ghost use Rattle.pam_print.specs.Check.{names_of_value, number_at, unused_line, warnings_in};
+ghost use Rattle.pam_report.specs.TablePaths.{table_paths_view};
+ghost use Rattle.pam_print.specs.Check.{at_most, check_text, counted, counts_of, finding_line, is_level, last_line, levels_text, lines_text};
+ghost use Rattle.pam_print.specs.Check.{names_of_value, number_at, table_line, table_number_at, unused_line};
 ghost use Rattle.pam_print.specs.CheckNames.{names_view};
 ghost use Rattle.pam_print.specs.Leaves.{Prints};
 
@@ -15,14 +16,17 @@ mod escaped;
 mod finding;
 mod met;
 mod sentences;
+mod table;
 
 pub(crate) use escaped::put_name;
 use finding::{Names, put_finding};
 use pam_codes::{Device, Out, Piece};
 use pam_host::{Finding, Level, Place};
-use pam_report::{CheckReply, Fault};
+use pam_report::{CheckReply, Fault, TablePaths, table_problem_level};
+use pam_table_check::TableFinding;
 use pam_text::Texts;
 use sentences::UNUSED;
+use table::put_table_finding;
 use std::alloc::{AllocError, Global};
 use std::io::Write;
 
@@ -62,11 +66,40 @@ fn number_at(found: &[(Place, Finding)], level: Level) -> usize
         .count()
 }
 
-/// Returns the number of warnings, with S8 for each line of the accept file that accepts nothing.
-fn warnings_in(found: &[(Place, Finding)], unused: &[u32]) -> usize
-    ensures { result ≡ warnings_in found.now unused.now }
+/// Returns the number of problems of tables of a level.
+fn table_number_at(tables: &[TableFinding], level: Level) -> usize
+    ensures { result ≡ table_number_at level tables.now }
 {
-    number_at(found, Level::Warning).saturating_add(unused.len())
+    tables
+        .iter()
+        .filter(|finding| is_level(table_problem_level(finding.problem), level))
+        .count()
+}
+
+/// The numbers of findings and problems of tables of each level.
+#[derive(Clone, Copy)]
+struct Counts {
+    errors: usize,
+    warnings: usize,
+    notes: usize,
+}
+
+/// Returns the number of findings and problems of tables of a level.
+fn number_of(found: &[(Place, Finding)], tables: &[TableFinding], level: Level) -> usize
+    ensures { result ≡ at_most (number_at level found.now + table_number_at level tables.now) }
+{
+    number_at(found, level).saturating_add(table_number_at(tables, level))
+}
+
+/// Counts by levels. Each line of the accept file that accepts nothing is a warning, S8.
+fn counts_of(found: &[(Place, Finding)], tables: &[TableFinding], unused: &[u32]) -> Counts
+    ensures { result ≡ counts_of found.now tables.now unused.now }
+{
+    Counts {
+        errors: number_of(found, tables, Level::Error),
+        warnings: number_of(found, tables, Level::Warning).saturating_add(unused.len()),
+        notes: number_of(found, tables, Level::Note),
+    }
 }
 
 /// Writes a number and what is counted, as `1 error` or `2 errors`.
@@ -90,36 +123,31 @@ pub(crate) fn put_counted<W: Write>(
 }
 
 /// Writes `ERRORS, WARNINGS, NOTES`.
-fn put_levels<W: Write>(
-    found: &[(Place, Finding)],
-    unused: &[u32],
-    out: &mut Out<W>,
-) -> Result<(), Device>
-    ensures { Writes W.contents out.old out.new result (levels_text found.now unused.now) }
+fn put_levels<W: Write>(counts: Counts, out: &mut Out<W>) -> Result<(), Device>
+    ensures { Writes W.contents out.old out.new result (levels_text counts) }
 {
-    put_counted(number_at(found, Level::Error), "error", out)?;
+    put_counted(counts.errors, "error", out)?;
     out.put(b", ")?;
-    put_counted(warnings_in(found, unused), "warning", out)?;
+    put_counted(counts.warnings, "warning", out)?;
     out.put(b", ")?;
-    put_counted(number_at(found, Level::Note), "note", out)
+    put_counted(counts.notes, "note", out)
 }
 
 /// Writes the last line.
 #[tactic(auto, unfolding(crate::specs::Check::last_line))]
 fn put_last_line<W: Write>(
     services: usize,
-    found: &[(Place, Finding)],
-    unused: &[u32],
+    counts: Counts,
     out: &mut Out<W>,
 ) -> Result<(), Device>
-    ensures { Writes W.contents out.old out.new result (last_line services found.now unused.now) }
+    ensures { Writes W.contents out.old out.new result (last_line services counts) }
 {
     out.put(b"checked ")?;
     put_counted(services, "service", out)?;
     out.put(b", ")?;
     put_counted(services.saturating_mul(KINDS), "stack", out)?;
     out.put(b": ")?;
-    put_levels(found, unused, out)?;
+    put_levels(counts, out)?;
     out.put(b"\n")
 }
 
@@ -160,6 +188,33 @@ fn put_all_unused<W: Write>(accept: &[u8], lines: &[u32], out: &mut Out<W>) -> R
     Ok(())
 }
 
+fn put_tables<W: Write>(
+    paths: &TablePaths<'_>,
+    tables: &[TableFinding],
+    out: &mut Out<W>,
+) -> Result<(), Device>
+    ensures { Writes W.contents out.old out.new result (flat_map (table_line (table_paths_view paths.now)) tables.now) }
+{
+    for finding in tables {
+        put_table_finding(paths, *finding, out)?;
+    }
+    Ok(())
+}
+
+/// Writes the lines of findings, of problems of tables, and of lines of the accept file.
+fn put_lines<W: Write>(
+    names: &Names<'_>,
+    reply: &CheckReply<'_>,
+    out: &mut Out<W>,
+) -> Result<(), Device>
+    requires { names_view names.now ≡ names_of_value (check_view reply.now) }
+    ensures { Writes W.contents out.old out.new result (lines_text (check_view reply.now)) }
+{
+    put_findings(names, &reply.found, out)?;
+    put_tables(&reply.table_paths, &reply.tables, out)?;
+    put_all_unused(reply.accept.as_bytes(), &reply.unused, out)
+}
+
 /// Writes the findings, and flushes.
 fn write_report<W: Write>(
     names: &Names<'_>,
@@ -169,9 +224,9 @@ fn write_report<W: Write>(
     requires { names_view names.now ≡ names_of_value (check_view reply.now) }
     ensures { WritesAndFlushes W.contents out.old out.new result (check_text (check_view reply.now)) }
 {
-    put_findings(names, &reply.found, out)?;
-    put_all_unused(reply.accept.as_bytes(), &reply.unused, out)?;
-    put_last_line(names.services.len(), &reply.found, &reply.unused, out)?;
+    let counts = counts_of(&reply.found, &reply.tables, &reply.unused);
+    put_lines(names, reply, out)?;
+    put_last_line(names.services.len(), counts, out)?;
     out.finish()
 }
 

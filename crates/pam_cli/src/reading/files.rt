@@ -148,3 +148,18 @@ pub(super) fn regular_bytes<R: std::rt::Files>(
     }
     Ok(Some(bytes_of(alloc, file, metadata.len())?))
 }
+
+/// Reads a regular file. Returns `None` if nothing is there.
+pub(super) fn bytes_if_there<R: std::rt::Files>(
+    rt: &R,
+    alloc: Global,
+    path: Path<'_>,
+) -> io::Result<Option<Vec<u8>>> {
+    if !is_there(rt, path)? {
+        return Ok(None);
+    }
+    match regular_bytes(rt, alloc, path)? {
+        Some(bytes) => Ok(Some(bytes)),
+        None => Err(io::Error::from(ErrorKind::InvalidInput)),
+    }
+}

@@ -6,7 +6,9 @@ ghost use Rattle.pam_cli.specs.Sources.{AddsCandidate, AddsFile, AddsFiles, HasC
 ghost use Rattle.pam_cli.specs.Sources.{IsOneFile, IsOver, IsRead, IsRootFile, IsStart, IsUnread, is_given};
 ghost use Rattle.pam_words.specs.Wanted.{candidate_view};
 
-use crate::reading::files::{entry_names, is_folder, is_there, named_file, regular_bytes, unread};
+use crate::reading::files::{
+    bytes_if_there, entry_names, is_folder, is_there, named_file, regular_bytes, unread,
+};
 use indexmap::IndexSet;
 use pam_conf::{Files, Form};
 use pam_report::InputError;
@@ -207,21 +209,6 @@ fn system_files<R: std::rt::Files + AllocGlobal + Clone + Drop>(
         Ok(true) => over_files(rt, alloc, folder, vendor.as_str(), candidates),
         Ok(false) => folder_files(rt, alloc, folder, candidates),
         Err(error) => Err(unread(alloc, vendor.as_str(), &error)),
-    }
-}
-
-/// Reads a regular file. Returns `None` if nothing is there.
-fn bytes_if_there<R: std::rt::Files>(
-    rt: &R,
-    alloc: Global,
-    path: Path<'_>,
-) -> io::Result<Option<Vec<u8>>> {
-    if !is_there(rt, path)? {
-        return Ok(None);
-    }
-    match regular_bytes(rt, alloc, path)? {
-        Some(bytes) => Ok(Some(bytes)),
-        None => Err(io::Error::from(ErrorKind::InvalidInput)),
     }
 }
 

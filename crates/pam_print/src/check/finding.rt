@@ -10,12 +10,13 @@ ghost use Rattle.pam_print.specs.CheckNames.{names_view};
 
 use super::escaped::put_name;
 use super::met::put_met_if_any;
-use super::sentences::{fault_text, level_name, problem_sentence, put_released};
+use super::sentences::{fault_text, level_name, problem_sentence, put_released, put_table_difference};
 use crate::decide::name_of;
 use pam_codes::{Device, Out, Piece};
 use pam_conf::{Form, Kind, Stack};
 use pam_host::{Answered, Finding, Met, Place, Problem, WayIn};
 use pam_known::name_of_path;
+use pam_old_tables::TableDifference;
 use pam_report::{kind_name, path_at, problem_name, stack_of};
 use std::io::Write;
 
@@ -54,7 +55,7 @@ fn path_of<'a>(names: &Names<'a>, file: Option<usize>) -> &'a [u8]
 }
 
 /// Writes `:LINE`, but nothing for a file as a whole.
-fn put_line_number<W: Write>(line: usize, out: &mut Out<W>) -> Result<(), Device>
+pub(super) fn put_line_number<W: Write>(line: usize, out: &mut Out<W>) -> Result<(), Device>
     ensures { Writes W.contents out.old out.new result (line_text line) }
 {
     if line == 0 {
@@ -188,6 +189,7 @@ fn put_said<W: Write>(line: usize, problem: Problem, out: &mut Out<W>) -> Result
     match problem {
         Problem::Fault(fault) | Problem::Walk(fault) => out.put(fault_text(line, fault).as_bytes()),
         Problem::Released(difference) => put_released(difference, out),
+        Problem::EmptySeparator => put_table_difference(TableDifference::EmptySeparator, out),
         _ => out.put(problem_sentence(problem).as_bytes()),
     }
 }

@@ -8,6 +8,7 @@ ghost use Rattle.pam_print.specs.Sentences as spec;
 use pam_codes::{ControlError, Device, Out, Piece};
 use pam_conf::FaultKind;
 use pam_host::{Level, Problem};
+use pam_old_tables::TableDifference;
 use pam_released::Difference;
 use std::io::Write;
 
@@ -20,7 +21,7 @@ pub(super) fn problem_sentence(problem: Problem) -> &'static str
     ensures { result.now ≡ spec.problem_sentence problem }
 {
     match problem {
-        Problem::Fault(_) | Problem::Walk(_) | Problem::Released(_) => "",
+        Problem::Fault(_) | Problem::Walk(_) | Problem::Released(_) | Problem::EmptySeparator => "",
         Problem::LetsNobodyIn { .. } => {
             " never succeeds, whatever its modules answer; look for a jump over too many items, or a module that always fails"
         }
@@ -146,6 +147,20 @@ pub(super) fn fault_text(line: usize, fault: FaultKind) -> &'static str
 /// Writes what a difference means, and how to mend it.
 pub(super) fn put_released<W: Write>(difference: Difference, out: &mut Out<W>) -> Result<(), Device>
     ensures { Writes W.contents out.old out.new result (spec.released_sentence difference) }
+{
+    out.put_line(&[
+        Piece::Bytes(difference.meaning().as_bytes()),
+        Piece::Bytes(b"; "),
+        Piece::Bytes(difference.mending().as_bytes()),
+    ])
+}
+
+/// Writes what a difference of a table means, and how to mend it.
+pub(super) fn put_table_difference<W: Write>(
+    difference: TableDifference,
+    out: &mut Out<W>,
+) -> Result<(), Device>
+    ensures { Writes W.contents out.old out.new result (spec.table_difference_sentence difference) }
 {
     out.put_line(&[
         Piece::Bytes(difference.meaning().as_bytes()),

@@ -1,33 +1,28 @@
 use Rattle.std.proofs.Common.{arith}
 use Rattle.pam_codes.proofs.Writing.{all-is, all-then, err-flushes, flushes-last, front-is, front-longer, front-then}
 use Rattle.pam_report.specs.ReplyViews.{check_view}
-use Rattle.pam_print.proofs.CheckTexts.{all-lines-are, lines-are}
+use Rattle.pam_print.proofs.CheckTexts.{text-is}
 use Rattle.pam_print.specs.Check.{last_line}
 use Rattle.pam_print.proofs.check.write_report.Goals as goal
 
-pub returns-in_err-put_all_unused : goal.returns-in_err-put_all_unused
-returns-in_err-put_all_unused g c =
-    let value = check_view c.args.reply.now in
-    err-flushes _ c.from_residual-in_err-put_all_unused.ensures.0
-    (front-is
-    (front-longer (last_line c.args.names.now.services.len value.found value.unused)
-    (front-then c.in_ok-put_findings.ensures c.in_err-put_all_unused.ensures))
-    (lines-are c.args.names.now value _ _ _ _ c.requires (omega (arith, c.args.names.now.services.ok)) c.deref.ensures.value c.as_bytes.ensures.value
-    c.deref-2.ensures.value))
+pub returns-in_err-put_lines : goal.returns-in_err-put_lines
+returns-in_err-put_lines g c =
+    err-flushes _ c.from_residual.ensures.0
+    (front-is (front-longer (last_line c.args.names.now.services.len c.counts_of-counts.result) c.in_err-put_lines.ensures)
+    (text-is c.args.names.now (check_view c.args.reply.now) _ _ _ _ _ c.requires (omega (arith, c.args.names.now.services.ok)) c.counts_of-counts.ensures
+    c.deref.ensures.value c.deref-2.ensures.value c.deref-3.ensures.value))
 
 pub returns-in_err-put_last_line : goal.returns-in_err-put_last_line
 returns-in_err-put_last_line g c =
     err-flushes _ c.from_residual-in_err-put_last_line.ensures.0
-    (front-is (front-then (all-then c.in_ok-put_findings.ensures c.in_ok-put_all_unused.ensures) c.in_err-put_last_line.ensures)
-    (all-lines-are c.args.names.now (check_view c.args.reply.now) c.len.result _ _ _ _ _ c.requires
-    (omega (arith, c.len.ensures, c.args.names.now.services.ok)) c.deref.ensures.value c.as_bytes.ensures.value c.deref-2.ensures.value
-    c.deref-3.ensures.value c.deref-4.ensures.value))
+    (front-is (front-then c.in_ok-put_lines.ensures c.in_err-put_last_line.ensures)
+    (text-is c.args.names.now (check_view c.args.reply.now) c.len.result _ _ _ _ c.requires (omega (arith, c.len.ensures, c.args.names.now.services.ok))
+    c.counts_of-counts.ensures c.deref.ensures.value c.deref-2.ensures.value c.deref-3.ensures.value))
 
 pub returns : goal.returns
 returns g c =
     flushes-last _ _
-    (all-is (all-then (all-then c.in_ok-put_findings.ensures c.in_ok-put_all_unused.ensures) c.in_ok-put_last_line.ensures)
-    (all-lines-are c.args.names.now (check_view c.args.reply.now) c.len.result _ _ _ _ _ c.requires
-    (omega (arith, c.len.ensures, c.args.names.now.services.ok)) c.deref.ensures.value c.as_bytes.ensures.value c.deref-2.ensures.value
-    c.deref-3.ensures.value c.deref-4.ensures.value))
+    (all-is (all-then c.in_ok-put_lines.ensures c.in_ok-put_last_line.ensures)
+    (text-is c.args.names.now (check_view c.args.reply.now) c.len.result _ _ _ _ c.requires (omega (arith, c.len.ensures, c.args.names.now.services.ok))
+    c.counts_of-counts.ensures c.deref.ensures.value c.deref-2.ensures.value c.deref-3.ensures.value))
     c.finish.ensures

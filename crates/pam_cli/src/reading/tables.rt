@@ -1,0 +1,93 @@
+//! Reads the tables that modules of a host read: pam_access(8), pam_time(8).
+
+ghost use Rattle.std.specs.Prelude.{◌≡◌, ◌⊎◌, IfErr, IfOk, IfSome, MatchResult};
+ghost use Rattle.std.specs.Option.{option_copied};
+ghost use Rattle.pam_cli.specs.Reading.{AreTables, IsNamed, IsOfTables, IsTable};
+ghost use Rattle.pam_cli.specs.Sources.{IsInSource, IsUnread};
+
+use crate::reading::files::{bytes_if_there, named_file, unread};
+use pam_report::{InputError, TableFile, TableFiles};
+use pam_words::{CheckFiles, ConfSource};
+use std::alloc::Global;
+use std::path::Path;
+
+/// The group file of a system.
+const GROUPS: &str = "etc/group";
+
+/// The access table of a system.
+const ACCESS: &str = "etc/security/access.conf";
+
+/// The time table of a system.
+const TIME: &str = "etc/security/time.conf";
+
+/// Reads a table that is named.
+fn named_table<R: std::rt::Files>(
+    rt: &R,
+    alloc: Global,
+    name: &str,
+) -> Result<TableFile, InputError>
+    ensures { MatchResult result (λ table. table.path.items ≡ name.now) (IsUnread (λ n. n ≡ name.now)) }
+{
+    let bytes = named_file(rt, alloc, name)?;
+    let path = Vec::from_slice(alloc, name.as_bytes())?;
+    Ok(TableFile { path, bytes })
+}
+
+/// Reads a table of a system, if it is there.
+fn table_if_there<R: std::rt::Files>(
+    rt: &R,
+    alloc: Global,
+    path: &str,
+) -> Result<Option<TableFile>, InputError>
+    ensures { IfOk result (λ found. IfSome found (λ table. table.path.items ≡ path.now)) }
+{
+    match bytes_if_there(rt, alloc, Path::new(path)) {
+        Ok(Some(bytes)) => {
+            let path = Vec::from_slice(alloc, path.as_bytes())?;
+            Ok(Some(TableFile { path, bytes }))
+        }
+        Ok(None) => Ok(None),
+        Err(error) => Err(unread(alloc, path, &error)),
+    }
+}
+
+/// Reads the table that is named, or else that of the root at this path, if it is there.
+fn table_of<R: std::rt::Files>(
+    rt: &R,
+    alloc: Global,
+    source: ConfSource<'_>,
+    named: Option<&str>,
+    own: &str,
+) -> Result<Option<TableFile>, InputError>
+    ensures ok { IfOk result (IsTable source.entry own.now (option_copied named.entry)) }
+    ensures error { IfErr result (IsUnread (λ n. IsInSource source.entry n ⊎ IsNamed (option_copied named.entry) n)) }
+{
+    match (named, source) {
+        (Some(name), _) => Ok(Some(named_table(rt, alloc, name)?)),
+        (None, ConfSource::Root(root)) => {
+            let path = Path::new(root).join(alloc, own)?;
+            table_if_there(rt, alloc, path.as_str())
+        }
+        (None, _) => Ok(None),
+    }
+}
+
+/// Reads the group file, the access table and the time table that are named, or else those of the root that are there.
+pub(super) fn table_files<R: std::rt::Files>(
+    rt: &R,
+    alloc: Global,
+    source: ConfSource<'_>,
+    named: &CheckFiles<'_>,
+) -> Result<TableFiles, InputError>
+    ensures ok { IfOk result (AreTables source.entry named.now) }
+    ensures error { IfErr result (IsUnread (λ n. IsInSource source.entry n ⊎ IsOfTables named.now n)) }
+{
+    let groups = table_of(rt, alloc, source, named.groups, GROUPS)?;
+    let access = table_of(rt, alloc, source, named.access, ACCESS)?;
+    let time = table_of(rt, alloc, source, named.time, TIME)?;
+    Ok(TableFiles {
+        groups,
+        access,
+        time,
+    })
+}
