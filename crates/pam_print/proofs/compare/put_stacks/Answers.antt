@@ -10,8 +10,9 @@ returns-in_err-put_next_stack g c =
     let l = c.loop-stack in
     let value = compare_view c.args.reply.now in
     let stacks = c.args.stacks.now in
+    let others = lines_after value (next-service stacks l.stack-index) (drop (l.stack-index + 1) stacks) in
     err-front _ c.from_residual.ensures.0
-    (front-is (front-longer (lines_after value (next-service stacks l.stack-index) (drop (l.stack-index + 1) stacks)) (front-then l.invariant.took c.in_err-put_next_stack.ensures))
+    (front-is (front-longer others (front-then l.invariant.took c.in_err-put_next_stack.ensures))
     (lines-at value stacks l.before l.invariant.front _ l.stack-index c.loop-stack-test.true l.invariant.parts))
 
 pub loop-stack-preserved : goal.loop-stack-preserved

@@ -10,6 +10,7 @@ returns-in_err-put_next_one g c =
     let asked = c.args.asked.now in
     let text = next_asked c.args.pair.now in
     let index = c.loop-module.module-index in
+    let failed = front-is c.in_err-put_next_one.ensures (ap text c.module-item.is) in
     err-front _ c.from_residual.ensures.0
-    (front-is (front-longer (flat_map text (drop (index + 1) asked)) (front-then c.loop-module.invariant (front-is c.in_err-put_next_one.ensures (ap text c.module-item.is))))
+    (front-is (front-longer (flat_map text (drop (index + 1) asked)) (front-then c.loop-module.invariant failed))
     (flat_map-at text asked index _ c.loop-module-test.true))

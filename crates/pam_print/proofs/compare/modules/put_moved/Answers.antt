@@ -7,6 +7,6 @@ use Rattle.pam_print.proofs.compare.modules.put_moved.Goals as goal
 pub returns : goal.returns
 returns g c =
     let pair = c.args.pair.now in
-    writes-is _ _ _ _ _ _
-    (writes-then _ _ _ (all-is c.in_ok-put_numbered.ensures (ap (numbered pair.new (codes "moved") c.args.more) c.deref.ensures.value)) c.put_numbered-2.ensures)
+    let moved = all-is c.in_ok-put_numbered.ensures (ap (numbered pair.new (codes "moved") c.args.more) c.deref.ensures.value) in
+    writes-is _ _ _ _ _ _ (writes-then _ _ _ moved c.put_numbered-2.ensures)
     (moved-are pair c.args.more _ _ _ _ c.has_any.ensures c.deref-2.ensures.value c.either-more.ensures c.deref-3.ensures.value)

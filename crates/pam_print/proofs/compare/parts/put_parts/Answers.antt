@@ -9,6 +9,7 @@ pub returns-in_err-put_part : goal.returns-in_err-put_part
 returns-in_err-put_part g c =
     let parts = c.args.parts.now in
     let index = c.loop-part.part-index in
+    let failed = front-is c.in_err-put_part.ensures (ap part_text c.part-item.is) in
     err-front _ c.from_residual.ensures.0
-    (front-is (front-longer (flat_map part_text (drop (index + 1) parts)) (front-then c.loop-part.invariant (front-is c.in_err-put_part.ensures (ap part_text c.part-item.is))))
+    (front-is (front-longer (flat_map part_text (drop (index + 1) parts)) (front-then c.loop-part.invariant failed))
     (flat_map-at part_text parts index _ c.loop-part-test.true))
