@@ -104,6 +104,7 @@ fn stack_of(
         stack,
         faults: _,
         reached: _,
+        other_answers: _,
     } = survey;
     match stack {
         Some(stack) => Ok(Ok(stack)),
