@@ -83,22 +83,22 @@ one-more {X} f xs ys whole x n rest more is pushed same before =
 
 -- THE MODULES OF BOTH
 
-module _ (partners : List (Option ℕ)) (old_answers new_answers : Assignment) (old_asked : List ℕ) where
+module _ (partners : List (Option ℕ)) (old_answers new_answers : Assignment) where
   merged-step : (alone : List ℕ) (number : ℕ) (news : List ℕ) →
-      merged partners old_answers new_answers old_asked alone (number ∷ news)
-      ≡ step_of old_answers new_answers number (one_with partners old_answers new_answers old_asked number) alone
-      ++ merged partners old_answers new_answers old_asked (left_after (one_with partners old_answers new_answers old_asked number) alone) news
+      merged partners old_answers new_answers alone (number ∷ news)
+      ≡ step_of old_answers new_answers number (one_with partners old_answers new_answers number) alone
+      ++ merged partners old_answers new_answers (left_after (one_with partners old_answers new_answers number) alone) news
   unfolding merged
   merged-step alone number news = refl
 
   pub merged-more : (alone news : List ℕ) (first place i : ℕ) (one : Option ℕ) (xs ys whole : List AskedModule) → i < length news →
-      one ≡ one_with partners old_answers new_answers old_asked (get_or news i 0) →
+      one ≡ one_with partners old_answers new_answers (get_or news i 0) →
       ys ≡ xs ++ step_of old_answers new_answers (get_or news i 0) one (drop first alone) →
       drop place alone ≡ left_after one (drop first alone) →
-      xs ++ merged partners old_answers new_answers old_asked (drop first alone) (drop i news) ≡ whole →
-      ys ++ merged partners old_answers new_answers old_asked (drop place alone) (drop (i + 1) news) ≡ whole
+      xs ++ merged partners old_answers new_answers (drop first alone) (drop i news) ≡ whole →
+      ys ++ merged partners old_answers new_answers (drop place alone) (drop (i + 1) news) ≡ whole
   merged-more alone news first place i one xs ys whole within is pushed after so_far =
-      let rest : List ℕ → List ℕ → List AskedModule = merged partners old_answers new_answers old_asked in
+      let rest : List ℕ → List ℕ → List AskedModule = merged partners old_answers new_answers in
       let number = get_or news i 0 in
       let step : Option ℕ → List AskedModule = λ o. step_of old_answers new_answers number o (drop first alone) in
       ap (λ (l : List AskedModule). l ++ rest (drop place alone) (drop (i + 1) news)) pushed
@@ -111,9 +111,9 @@ module _ (partners : List (Option ℕ)) (old_answers new_answers : Assignment) (
 
   pub merged-end : (alone news : List ℕ) (first i : ℕ) (xs ys whole : List AskedModule) → length news ≤ i →
       ys ≡ xs ++ map (as_old old_answers) (drop first alone) →
-      xs ++ merged partners old_answers new_answers old_asked (drop first alone) (drop i news) ≡ whole → ys ≡ whole
+      xs ++ merged partners old_answers new_answers (drop first alone) (drop i news) ≡ whole → ys ≡ whole
   unfolding merged
   merged-end alone news first i xs ys whole past pushed before =
       pushed
-      ∙ sym (ap (λ (l : List ℕ). xs ++ merged partners old_answers new_answers old_asked (drop first alone) l) (drop_all i news past))
+      ∙ sym (ap (λ (l : List ℕ). xs ++ merged partners old_answers new_answers (drop first alone) l) (drop_all i news past))
       ∙ before

@@ -36,7 +36,7 @@ module _ (old_allows new_allows : Allowance) (old new : List FlatItem) (partners
   pub record IsShownBy (change : Change) (shown : Shown) : Type 0 where
     pub witness : IsWitness old_allows new_allows old new partners change shown.witness
     pub asked : shown.asked.items ≡ asked_modules partners (answers_of shown.witness.old_codes.items) (answers_of shown.witness.new_codes.items)
-        (asked_numbers (runs_of old) (answers_of shown.witness.old_codes.items)) (asked_numbers (runs_of new) (answers_of shown.witness.new_codes.items))
+        (asked_numbers (runs_of old) (answers_of shown.witness.old_codes.items)) (asked_numbers (runs_of new) (answers_of shown.witness.new_codes.items)) (modules_of new)
 
   -- there are answers that make a change, or none
   abbrev pub IsShown : Change → Option Shown → Type 0

@@ -1,6 +1,6 @@
 -- The modules that two stacks ask, in one order.
-use Rattle.std.specs.Prelude.{◌≡◌, ℕ, ◌==◌, ◌&&◌, Bool, false, not, nat_lt, if◌then◌else◌, List, [], ◌∷◌, ◌++◌, filter, map, Option, Some, None}
-use Rattle.std.specs.List.{list_any}
+use Rattle.std.specs.Prelude.{◌≡◌, ℕ, ◌==◌, ◌||◌, Bool, false, not, nat_lt, if◌then◌else◌, List, [], ◌∷◌, ◌++◌, filter, map, Option, Some, None}
+use Rattle.std.specs.List.{list_any, range_with_len}
 use Rattle.std.specs.Option.{option_and_then, option_map_or}
 use Rattle.pam_compare.specs.Matching.{partner_of}
 use Rattle.pam_dispatch.specs.Runs.{Assignment, Runs, asked_by}
@@ -33,31 +33,42 @@ left_after (Some partner) alone = from partner alone
 abbrev pub as_old : Assignment → ℕ → AskedModule
 as_old old_answers number = Old number (old_answers number)
 
--- a module of the new stack: before it, if it is one with a module of the old stack, those which that stack alone asks before that
+-- a module of the new stack: before it, if it is one with a module of the old stack, those of the old stack that come before that
 abbrev pub step_of : Assignment → Assignment → ℕ → Option ℕ → List ℕ → List AskedModule
 step_of old_answers new_answers number None alone = New number (new_answers number) ∷ []
 step_of old_answers new_answers number (Some partner) alone =
     map (as_old old_answers) (before partner alone) ++ Both partner number (new_answers number) ∷ []
 
-module _ (partners : List (Option ℕ)) (old_answers new_answers : Assignment) (old_asked : List ℕ) where
-  -- a module that is asked by both stacks, with the same answer
-  abbrev pub if_shared : ℕ → ℕ → Option ℕ
-  if_shared number partner = if is_listed partner old_asked && (old_answers partner == new_answers number) then Some partner else None
+module _ (partners : List (Option ℕ)) (old_answers new_answers : Assignment) where
+  -- matched modules are shown as one if they answer alike
+  abbrev pub if_alike : ℕ → ℕ → Option ℕ
+  if_alike number partner = if old_answers partner == new_answers number then Some partner else None
 
   -- the module of the old stack that is one with a module of the new stack
   unfoldable pub one_with : ℕ → Option ℕ
-  one_with number = option_and_then (if_shared number) (partner_of partners number)
+  one_with number = option_and_then (if_alike number) (partner_of partners number)
 
-  -- the modules that the old stack alone asks
-  unfoldable pub old_alone : List ℕ → List ℕ
-  old_alone new_asked = filter (λ number. not (list_any (λ other. is_number number (one_with other)) new_asked)) old_asked
+  -- a module of the new stack that is asked, or is one with a module that the old stack asks
+  abbrev pub is_shown : List ℕ → List ℕ → ℕ → Bool
+  is_shown old_asked new_asked number =
+      is_listed number new_asked || option_map_or (λ partner. is_listed partner old_asked) (one_with number) false
 
-  -- THE MODULES THAT EITHER STACK ASKS: those of the new stack in order, with those that the old stack alone asks between them
+  -- these, of so many modules
+  unfoldable pub shown_new : List ℕ → List ℕ → ℕ → List ℕ
+  shown_new old_asked new_asked modules = filter (is_shown old_asked new_asked) (range_with_len 1 modules)
+
+  -- the modules that the old stack asks, and that are one with none of these
+  unfoldable pub old_alone : List ℕ → List ℕ → List ℕ
+  old_alone old_asked shown = filter (λ number. not (list_any (λ other. is_number number (one_with other)) shown)) old_asked
+
+  -- the modules of the new stack that are shown, in order, and between them those of the old stack that are one with none
   unfoldable pub merged : List ℕ → List ℕ → List AskedModule
   merged alone [] = map (as_old old_answers) alone
-  merged alone (number ∷ new_asked) =
-      step_of old_answers new_answers number (one_with number) alone ++ merged (left_after (one_with number) alone) new_asked
+  merged alone (number ∷ shown) =
+      step_of old_answers new_answers number (one_with number) alone ++ merged (left_after (one_with number) alone) shown
 
-abbrev pub asked_modules : List (Option ℕ) → Assignment → Assignment → List ℕ → List ℕ → List AskedModule
-asked_modules partners old_answers new_answers old_asked new_asked =
-    merged partners old_answers new_answers old_asked (old_alone partners old_answers new_answers old_asked new_asked) new_asked
+-- THE MODULES THAT EITHER STACK ASKS, where the new one has so many
+abbrev pub asked_modules : List (Option ℕ) → Assignment → Assignment → List ℕ → List ℕ → ℕ → List AskedModule
+asked_modules partners old_answers new_answers old_asked new_asked modules =
+    let shown = shown_new partners old_answers new_answers old_asked new_asked modules in
+    merged partners old_answers new_answers (old_alone partners old_answers new_answers old_asked shown) shown

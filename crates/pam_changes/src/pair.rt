@@ -18,7 +18,7 @@ use pam_dispatch::Program;
 use std::alloc::{AllocError, Global};
 
 /// Answers with which two stacks decide differently, and the modules that either stack then asks: those of the new stack in order,
-/// with those that the old stack alone asks before the ones that they preceded.
+/// and before a module that both stacks have those that only the old one has and that come before it there.
 #[derive(Drop)]
 pub struct Shown {
     pub witness: Witness,

@@ -2,9 +2,11 @@
 
 ghost use Rattle.std.specs.Prelude.{◌≡◌, ◌≤◌, ◌++◌, IfOk, OnOk, drop, length, map};
 ghost use Rattle.std.specs.List.{list_any};
-ghost use Rattle.pam_dispatch.specs.Flat.{runs_of};
+ghost use Rattle.pam_dispatch.specs.Flat.{modules_of, runs_of};
 ghost use Rattle.pam_dispatch.specs.Runs.{answers_of};
-ghost use Rattle.pam_changes.specs.Steps.{as_old, asked_modules, asked_numbers, before, from, is_listed, is_number, left_after, merged, old_alone, one_with, step_of};
+ghost use Rattle.pam_conf.specs.declared.stack.TheConstants.{MAX_MODULES};
+ghost use Rattle.pam_changes.specs.Steps.{as_old, asked_modules, asked_numbers, before, from, is_listed, is_number, is_shown, left_after, merged};
+ghost use Rattle.pam_changes.specs.Steps.{old_alone, one_with, shown_new, step_of};
 
 use pam_codes::Code;
 use pam_compare::{Matching, Witness};
@@ -14,11 +16,11 @@ use std::alloc::{AllocError, Global};
 /// A module that is asked, and its answer.
 #[derive(Clone, Copy, Debug, PartialEq, Eq)]
 pub enum AskedModule {
-    /// A module that the old stack alone asks, or that answers otherwise than the one it is matched with.
+    /// A module that only the old stack has, or that answers otherwise than the one it is matched with.
     Old { number: usize, code: Code },
     /// The same of the new stack.
     New { number: usize, code: Code },
-    /// Matched modules that both stacks ask, with the same answer.
+    /// Matched modules with the same answer, whichever stack asks them.
     Both { old: usize, new: usize, code: Code },
 }
 
@@ -72,49 +74,83 @@ fn is_number(number: usize, other: Option<usize>) -> bool
 }
 
 impl Answered<'_> {
-    /// The module of the old stack that is one with a module of the new stack: it is matched with it, is asked, and gives the
-    /// same answer.
+    /// The module of the old stack that is one with a module of the new stack: it is matched with it, and gives the same answer.
     #[tactic(auto, unfolding(crate::specs::Steps::one_with))]
-    fn one_with(&self, old_asked: &[usize], number: usize) -> Option<usize>
-        ensures { result ≡ one_with self.now.matching.now (answers_of self.now.old_codes.now) (answers_of self.now.new_codes.now) old_asked.now number }
+    fn one_with(&self, number: usize) -> Option<usize>
+        ensures { result ≡ one_with self.now.matching.now (answers_of self.now.old_codes.now) (answers_of self.now.new_codes.now) number }
     {
         let Some(partner) = self.matching.partner(number) else {
             return None;
         };
-        let answers_alike = answer_of(self.old_codes, partner) == answer_of(self.new_codes, number);
-        if is_listed(partner, old_asked) && answers_alike {
+        if answer_of(self.old_codes, partner) == answer_of(self.new_codes, number) {
             return Some(partner);
         }
         None
     }
 
-    /// Whether a module of the old stack is one with a module that the new stack asks.
-    fn is_shared(&self, old_asked: &[usize], new_asked: &[usize], number: usize) -> bool
-        ensures { result ≡ list_any (λ other. is_number number (one_with self.now.matching.now (answers_of self.now.old_codes.now)
-            (answers_of self.now.new_codes.now) old_asked.now other)) new_asked.now }
+    /// Whether a module of the new stack is asked, or is one with a module that the old stack asks.
+    fn is_shown(&self, old_asked: &[usize], new_asked: &[usize], number: usize) -> bool
+        ensures { result ≡ is_shown self.now.matching.now (answers_of self.now.old_codes.now) (answers_of self.now.new_codes.now) old_asked.now
+            new_asked.now number }
     {
-        for other in new_asked {
-            if is_number(number, self.one_with(old_asked, *other)) {
+        if is_listed(number, new_asked) {
+            return true;
+        }
+        match self.one_with(number) {
+            Some(partner) => is_listed(partner, old_asked),
+            None => false,
+        }
+    }
+
+    /// These, of so many modules.
+    #[tactic(auto, unfolding(crate::specs::Steps::shown_new))]
+    fn shown_new(
+        &self,
+        alloc: Global,
+        old_asked: &[usize],
+        new_asked: &[usize],
+        modules: usize,
+    ) -> Result<Vec<usize>, AllocError>
+        requires { modules ≤ MAX_MODULES }
+        ensures { IfOk result (λ shown. shown.items ≡ shown_new self.now.matching.now (answers_of self.now.old_codes.now)
+            (answers_of self.now.new_codes.now) old_asked.now new_asked.now modules) }
+    {
+        let mut shown = Vec::new(alloc);
+        for index in 0..modules {
+            if self.is_shown(old_asked, new_asked, index + 1) {
+                shown.push(index + 1)?;
+            }
+        }
+        Ok(shown)
+    }
+
+    /// Whether a module of the old stack is one with one of these.
+    fn is_shared(&self, shown: &[usize], number: usize) -> bool
+        ensures { result ≡ list_any (λ other. is_number number (one_with self.now.matching.now (answers_of self.now.old_codes.now)
+            (answers_of self.now.new_codes.now) other)) shown.now }
+    {
+        for other in shown {
+            if is_number(number, self.one_with(*other)) {
                 return true;
             }
         }
         false
     }
 
-    /// The modules that the old stack alone asks.
+    /// The modules that the old stack asks, and that are one with none of these.
     #[tactic(auto, unfolding(crate::specs::Steps::old_alone))]
     fn old_alone(
         &self,
         alloc: Global,
         old_asked: &[usize],
-        new_asked: &[usize],
+        shown: &[usize],
     ) -> Result<Vec<usize>, AllocError>
         ensures { IfOk result (λ alone. alone.items ≡ old_alone self.now.matching.now (answers_of self.now.old_codes.now)
-            (answers_of self.now.new_codes.now) old_asked.now new_asked.now) }
+            (answers_of self.now.new_codes.now) old_asked.now shown.now) }
     {
         let mut alone = Vec::new(alloc);
         for number in old_asked {
-            if !self.is_shared(old_asked, new_asked, *number) {
+            if !self.is_shared(shown, *number) {
                 alone.push(*number)?;
             }
         }
@@ -202,39 +238,41 @@ impl Answered<'_> {
         }
     }
 
-    /// The modules that either stack asks, in one order.
+    /// The modules of the new stack that are shown, in order, and between them those of the old stack that are one with none.
     fn merged(
         &self,
         alloc: Global,
-        old_asked: &[usize],
-        new_asked: &[usize],
         alone: &[usize],
+        shown: &[usize],
     ) -> Result<Vec<AskedModule>, AllocError>
         ensures { IfOk result (λ asked. asked.items ≡ merged self.now.matching.now (answers_of self.now.old_codes.now) (answers_of self.now.new_codes.now)
-            old_asked.now alone.now new_asked.now) }
+            alone.now shown.now) }
     {
         let mut asked = Vec::new(alloc);
         let mut first = 0;
-        for number in new_asked {
-            let one = self.one_with(old_asked, *number);
+        for number in shown {
+            let one = self.one_with(*number);
             first = self.push_new(&mut asked, alone, first, *number, one)?;
         }
         self.push_rest(&mut asked, alone, first)?;
         Ok(asked)
     }
 
-    /// The same, of the modules that the stacks ask.
+    /// The modules that either stack asks, of which the new one has so many.
     fn asked_among(
         &self,
         alloc: Global,
         old_asked: &[usize],
         new_asked: &[usize],
+        modules: usize,
     ) -> Result<Vec<AskedModule>, AllocError>
+        requires { modules ≤ MAX_MODULES }
         ensures { IfOk result (λ asked. asked.items ≡ asked_modules self.now.matching.now (answers_of self.now.old_codes.now)
-            (answers_of self.now.new_codes.now) old_asked.now new_asked.now) }
+            (answers_of self.now.new_codes.now) old_asked.now new_asked.now modules) }
     {
-        let alone = self.old_alone(alloc, old_asked, new_asked)?;
-        self.merged(alloc, old_asked, new_asked, &alone)
+        let shown = self.shown_new(alloc, old_asked, new_asked, modules)?;
+        let alone = self.old_alone(alloc, old_asked, &shown)?;
+        self.merged(alloc, &alone, &shown)
     }
 }
 
@@ -248,7 +286,7 @@ pub(crate) fn asked_modules(
 ) -> Result<Vec<AskedModule>, AllocError>
     ensures { IfOk result (λ asked. asked.items ≡ asked_modules matching.now (answers_of witness.now.old_codes.items)
         (answers_of witness.now.new_codes.items) (asked_numbers (runs_of old.now) (answers_of witness.now.old_codes.items))
-        (asked_numbers (runs_of new.now) (answers_of witness.now.new_codes.items))) }
+        (asked_numbers (runs_of new.now) (answers_of witness.now.new_codes.items)) (modules_of new.now)) }
 {
     let old_asked = asked_numbers(alloc, old, &witness.old_codes)?;
     let new_asked = asked_numbers(alloc, new, &witness.new_codes)?;
@@ -257,5 +295,5 @@ pub(crate) fn asked_modules(
         old_codes: &witness.old_codes,
         new_codes: &witness.new_codes,
     };
-    answered.asked_among(alloc, &old_asked, &new_asked)
+    answered.asked_among(alloc, &old_asked, &new_asked, new.modules())
 }
