@@ -71,7 +71,7 @@ pub record Head : Type 0 where
 abbrev pub head_text : Head → List ℕ
 head_text head = shown_name head.service ++ codes " " ++ kind_name head.kind
 
--- a module that is asked, and its answer; `-` for one that the old stack alone asks, `+` for one that the new stack alone asks
+-- a module that is asked, and its answer; `-` for one that only the old stack has, `+` for one that only the new stack has
 unfoldable pub asked_text : StackPair → AskedModule → List ℕ
 asked_text pair (Old number code) = codes "-" ++ module_text pair.old number ++ codes " " ++ code_name code
 asked_text pair (New number code) = codes "+" ++ module_text pair.new number ++ codes " " ++ code_name code
