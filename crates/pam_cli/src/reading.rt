@@ -16,9 +16,7 @@ use files::named_file;
 use modules::modules_there;
 use pam_conf::Files;
 use pam_report::{CheckInputs, InputError, Inputs, SideInputs};
-use pam_words::{
-    Candidate, CheckFiles, CompareFiles, ConfSource, KnowledgeSource, Request, Task,
-};
+use pam_words::{Candidate, CheckFiles, CompareFiles, ConfSource, KnowledgeSource, Request, Task};
 use sources::source_files;
 use std::alloc::Global;
 use tables::table_files;

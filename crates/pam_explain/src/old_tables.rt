@@ -95,10 +95,7 @@ static ACCESS_MASKS: [Explanation; 3] = [
             "A rule with pam_access has an argument fieldsep= or listsep= without a value.\n",
             "The separators are those without the argument here."
         ),
-        example: &[
-            "# login",
-            "account required pam_access.so listsep=",
-        ],
+        example: &["# login", "account required pam_access.so listsep="],
         linux_pam: concat!(
             "1.5.2 and 1.7.0 then have none: they pass over every line, or take\n",
             "each list for one name, and let in whom a line was to keep out."

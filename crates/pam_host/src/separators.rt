@@ -12,5 +12,6 @@ use pam_old_tables::has_empty_separator;
 pub(crate) fn lacks_separator(module: &Module) -> bool
     ensures { result ≡ lacks_separator (module_text «module».now) }
 {
-    name_of_path(&module.path) == b"pam_access.so".as_slice() && has_empty_separator(&module.arguments)
+    name_of_path(&module.path) == b"pam_access.so".as_slice()
+        && has_empty_separator(&module.arguments)
 }

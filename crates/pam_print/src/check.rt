@@ -26,9 +26,9 @@ use pam_report::{CheckReply, Fault, TablePaths, table_problem_level};
 use pam_table_check::TableFinding;
 use pam_text::Texts;
 use sentences::UNUSED;
-use table::put_table_finding;
 use std::alloc::{AllocError, Global};
 use std::io::Write;
+use table::put_table_finding;
 
 /// The number of kinds: each service has a stack for each of them.
 const KINDS: usize = 4;
@@ -135,11 +135,7 @@ fn put_levels<W: Write>(counts: Counts, out: &mut Out<W>) -> Result<(), Device>
 
 /// Writes the last line.
 #[tactic(auto, unfolding(crate::specs::Check::last_line))]
-fn put_last_line<W: Write>(
-    services: usize,
-    counts: Counts,
-    out: &mut Out<W>,
-) -> Result<(), Device>
+fn put_last_line<W: Write>(services: usize, counts: Counts, out: &mut Out<W>) -> Result<(), Device>
     ensures { Writes W.contents out.old out.new result (last_line services counts) }
 {
     out.put(b"checked ")?;

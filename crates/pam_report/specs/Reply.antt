@@ -161,7 +161,7 @@ is_empty (x ∷ xs) = false
 abbrev pub check_status : CheckValue → Status
 check_status value =
     if has_counting value.fail_on value.found
-        || (has_counting_table value.fail_on value.tables || (counts value.fail_on levels.Warning && not (is_empty value.unused)))
+    || (has_counting_table value.fail_on value.tables || (counts value.fail_on levels.Warning && not (is_empty value.unused)))
     then Refusal else Success
 
 -- a stack that is refused comes before a decision that changes, or of which that is not known

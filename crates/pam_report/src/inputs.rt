@@ -7,9 +7,9 @@ ghost use Rattle.pam_report.specs.Inputs.{has_named_tables};
 ghost use Rattle.pam_report.specs.Known.{with_time};
 ghost use Rattle.pam_known.specs.Tables.{tables_view, timed_view};
 
+use crate::tables::TablePaths;
 use jiff::civil::DateTime;
 use pam_conf::Files;
-use crate::tables::TablePaths;
 use pam_known::{Tables, TimedTable};
 use pam_table_check::HostTables;
 use pam_text::Texts;

@@ -114,13 +114,13 @@ both-access m old middle new h a b =
     let access = OfAccess (options_of m.arguments) in
     adds-iff (λ need. (need ≡ OfGroups) ⊎ (need ≡ access)) (λ need. Member need (access_needs m)) old new
     (λ need.
-        let two : Member need (access_needs m) ↔ Member need (OfGroups ∷ access ∷ []) = (
-          λ k. subst (λ (t : Bool). Member need (if t then OfGroups ∷ access ∷ [] else [])) h k,
-          λ k. subst (λ (t : Bool). Member need (if t then OfGroups ∷ access ∷ [] else [])) (sym h) k,
-        ) in (
-          λ w. two.1 ((of-first need OfGroups (access ∷ [])).1 (elim w [ inl e ↦ inl e | inr e ↦ inr ((of-one need access).1 e) ])),
-          λ k. elim ((of-first need OfGroups (access ∷ [])).0 (two.0 k)) [ inl e ↦ inl e | inr i ↦ inr ((of-one need access).0 i) ],
-        ))
+    let two : Member need (access_needs m) ↔ Member need (OfGroups ∷ access ∷ []) = (
+      λ k. subst (λ (t : Bool). Member need (if t then OfGroups ∷ access ∷ [] else [])) h k,
+      λ k. subst (λ (t : Bool). Member need (if t then OfGroups ∷ access ∷ [] else [])) (sym h) k,
+    ) in (
+      λ w. two.1 ((of-first need OfGroups (access ∷ [])).1 (elim w [ inl e ↦ inl e | inr e ↦ inr ((of-one need access).1 e) ])),
+      λ k. elim ((of-first need OfGroups (access ∷ [])).0 (two.0 k)) [ inl e ↦ inl e | inr i ↦ inr ((of-one need access).0 i) ],
+    ))
     (adds-both (λ need. need ≡ OfGroups) (λ need. need ≡ access) old middle new a b)
 
 pub no-time : (kind : Kind) (m : ModuleText) (needs : List Need) → is_time_reader kind m ≡ false → Adds (λ need. Member need (time_needs kind m)) needs needs

@@ -30,7 +30,11 @@ fn push_fault(
 }
 
 /// Appends the fault of a line, if it has one.
-fn push_line(faults: &mut Vec<TimeError>, line: Line<'_>, ends: &TokenEnds) -> Result<(), AllocError>
+fn push_line(
+    faults: &mut Vec<TimeError>,
+    line: Line<'_>,
+    ends: &TokenEnds,
+) -> Result<(), AllocError>
     ensures { OnOk result (faults.new.items ≡ faults.old.items ++ line_fault line.entry.number (rule_of line.entry.number line.entry.bytes.now)) }
 {
     push_fault(faults, line.number, check_line(line.bytes, ends))

@@ -10,7 +10,7 @@ mod words;
 
 pub use reading::request;
 pub use wanted::{
-    Candidate, CheckFiles, CompareFiles, ConfSource, GraphFormat, KnowledgeSource, LevelName, Login, Moment,
-    PagePart, PathFilter, Request, Task, Usage,
+    Candidate, CheckFiles, CompareFiles, ConfSource, GraphFormat, KnowledgeSource, LevelName,
+    Login, Moment, PagePart, PathFilter, Request, Task, Usage,
 };
 pub use words::version;

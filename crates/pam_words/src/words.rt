@@ -7,7 +7,11 @@ ghost use Rattle.pam_words.specs.Building.{IsBuilt, app_of_row, rule_of_row, wit
 ghost use Rattle.pam_words.specs.Words.{bare_app, pamcheck_app, version};
 
 use crate::arguments::{
-    ACCEPT, ACCESS, ACCESS_TABLE, AFTER, ARE_FILES, ARE_ROOTS, ARGUMENTS, ASKS, AT, AT_UNIX, ArgForm, ArgRow, BEFORE, CODES, CONF, DECISION, DIR, FACTS, FAIL_ON, FORMAT, GROUP, HOST_ACCESS, HOST_TIME, KIND, KIND_IF_NAMED, LIMIT, MODULES, NEW, NUMBER, OLD, RETURNS, RHOST, ROOT, SERVICE, SERVICES, SERVICE_IF_NAMED, TABLE_USER, TIME, TIME_TABLE, TTY, USER, VENDOR_DIR, WITH, ZONE,
+    ACCEPT, ACCESS, ACCESS_TABLE, AFTER, ARE_FILES, ARE_ROOTS, ARGUMENTS, ASKS, AT, AT_UNIX,
+    ArgForm, ArgRow, BEFORE, CODES, CONF, DECISION, DIR, FACTS, FAIL_ON, FORMAT, GROUP,
+    HOST_ACCESS, HOST_TIME, KIND, KIND_IF_NAMED, LIMIT, MODULES, NEW, NUMBER, OLD, RETURNS, RHOST,
+    ROOT, SERVICE, SERVICE_IF_NAMED, SERVICES, TABLE_USER, TIME, TIME_TABLE, TTY, USER, VENDOR_DIR,
+    WITH, ZONE,
 };
 use crate::number::number_parser;
 use clap::{Arg, ArgAction, Command};
@@ -33,8 +37,19 @@ static COMMANDS: [CommandRow; 12] = [
         name: "check",
         about: "Checks all services for faults, and for stacks that let nobody or anybody in",
         args: &[
-            DIR, VENDOR_DIR, CONF, ROOT, WITH, MODULES, HOST_ACCESS, HOST_TIME, GROUP, FACTS,
-            ACCEPT, FAIL_ON, SERVICES,
+            DIR,
+            VENDOR_DIR,
+            CONF,
+            ROOT,
+            WITH,
+            MODULES,
+            HOST_ACCESS,
+            HOST_TIME,
+            GROUP,
+            FACTS,
+            ACCEPT,
+            FAIL_ON,
+            SERVICES,
         ],
     },
     CommandRow {

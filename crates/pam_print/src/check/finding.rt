@@ -10,7 +10,9 @@ ghost use Rattle.pam_print.specs.CheckNames.{names_view};
 
 use super::escaped::put_name;
 use super::met::put_met_if_any;
-use super::sentences::{fault_text, level_name, problem_sentence, put_released, put_table_difference};
+use super::sentences::{
+    fault_text, level_name, problem_sentence, put_released, put_table_difference,
+};
 use crate::decide::name_of;
 use pam_codes::{Device, Out, Piece};
 use pam_conf::{Form, Kind, Stack};

@@ -8,14 +8,14 @@ ghost use Rattle.pam_report.specs.Accepting as spec;
 ghost use Rattle.pam_report.specs.Fault.{file_at};
 ghost use Rattle.pam_report.specs.TablePaths.{table_paths_view};
 
+use super::table_keys::{problems_of, push_keys, tables_not_accepted};
 use crate::fault::push_pieces;
 use crate::names::{kind_name, problem_name, stack_of};
+use crate::tables::TablePaths;
 use pam_accept::AcceptFile;
 use pam_codes::Piece;
 use pam_conf::{Files, Kind};
 use pam_host::{Finding, HostReport, Place};
-use super::table_keys::{problems_of, push_keys, tables_not_accepted};
-use crate::tables::TablePaths;
 use pam_table_check::{TableFinding, TableReport};
 use pam_text::{Texts, cut};
 use std::alloc::{AllocError, Global};

@@ -16,12 +16,12 @@ use super::accepting::list_findings;
 use super::replies::Reply;
 use crate::fault::{Fault, accept_fault, facts_fault};
 use crate::inputs::Inputs;
+use crate::tables::{TablePaths, table_problem_level};
 use pam_accept::AcceptFile;
 use pam_conf::{Files, Form};
 use pam_facts::Facts;
 use pam_host::laws::a_silent_host_is_sound;
 use pam_host::{Finding, HostReport, Level, Place};
-use crate::tables::{TablePaths, table_problem_level};
 use pam_table_check::{TableFinding, TableReport};
 use pam_text::Texts;
 use pam_words::{CheckFiles, LevelName};
@@ -80,9 +80,7 @@ fn has_counting(found: &[(Place, Finding)], fail_on: LevelName) -> bool
 fn has_counting_table(tables: &[TableFinding], fail_on: LevelName) -> bool
     ensures { result ≡ has_counting_table fail_on tables.now }
 {
-    tables
-        .iter()
-        .any(|finding| counts(fail_on, table_problem_level(finding.problem)))
+    tables.iter().any(|finding| counts(fail_on, table_problem_level(finding.problem)))
 }
 
 impl CheckReply<'_> {

@@ -58,7 +58,10 @@ fn level(matches: &ArgMatches<'_>) -> Option<LevelName>
 }
 
 /// Returns the folders of modules that are named, in order.
-pub(crate) fn folders<'a>(alloc: Global, matches: &ArgMatches<'a>) -> Result<Vec<&'a str>, AllocError>
+pub(crate) fn folders<'a>(
+    alloc: Global,
+    matches: &ArgMatches<'a>,
+) -> Result<Vec<&'a str>, AllocError>
     ensures { IfOk result (λ v. map (λ s. s.now) v.items ≡ texts_of (codes "modules") (rows_of (found_of matches.now))) }
 {
     match values(matches, "modules") {

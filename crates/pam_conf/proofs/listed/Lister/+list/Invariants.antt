@@ -18,5 +18,5 @@ abbrev pub invariant-list_file-loop-rule : goal.invariant-list_file-loop-rule
 invariant-list_file-loop-rule l =
     map listed_text l.items.items
     ++ rules_listed l.self.rules.now l.self.kind (further l.self.rules.now l.self.kind l.room) l.includes l.file
-        (map kept_view (drop l.rule-index l.rule-items))
+    (map kept_view (drop l.rule-index l.rule-items))
     ≡ map listed_text l.fn.items.items ++ file_listed l.self.rules.now l.self.kind l.room l.includes l.file
