@@ -20,7 +20,7 @@ use Rattle.pam_report.specs.declared.inputs.Inputs.{Inputs}
 use Rattle.pam_report.specs.declared.report.Status.{Status}
 use Rattle.pam_report.specs.declared.report.replies.Reply as declared
 use Rattle.pam_words.specs.declared.wanted.Task.{Task}
-use Rattle.pam_words.specs.declared.wanted.Task.TheVariants.{Show, Decide, Access, Time, Paths, Outcomes, Graph, Check, Explain, Facts, Version}
+use Rattle.pam_words.specs.declared.wanted.Task.TheVariants.{Show, Decide, Access, Time, Paths, Outcomes, Graph, Check, Compare, Explain, Facts, Version}
 use Rattle.pam_print.specs.Leaves.{LeavesFault, LeavesSome, Prints}
 use Rattle.pam_print.specs.Text.{IsText}
 
@@ -35,6 +35,7 @@ answers-by One Other go service (Paths source kind limit part filter knowledge) 
 answers-by One Other go service (Outcomes source kind knowledge) files inputs h = (h.0, h.1, go _ h.2)
 answers-by One Other go service (Graph source kind format knowledge) files inputs h = (h.0, h.1, go _ h.2)
 answers-by One Other go service (Check source services fail_on named) files inputs h = go _ h
+answers-by One Other go service (Compare old new named kind given) files inputs h = go _ h
 answers-by One Other go service (Explain number) files inputs h = go _ h
 answers-by One Other go service Facts files inputs h = go _ h
 answers-by One Other go service Version files inputs h = go _ h
@@ -141,6 +142,7 @@ page-wants service (Paths source kind limit part filter knowledge) files inputs 
 page-wants service (Outcomes source kind knowledge) files inputs reply h page = refl
 page-wants service (Graph source kind format knowledge) files inputs reply h page = refl
 page-wants service (Check source services fail_on named) files inputs reply h page = refl
+page-wants service (Compare old new named kind given) files inputs reply h page = refl
 page-wants service (Explain number) files inputs reply h page = absurd (not_both (sym page ∙ ap page_in (sym h) ∙ no_explained (option_copied number)))
 page-wants service Facts files inputs reply h page = absurd (not_both (sym page ∙ ap page_in (sym h)))
 page-wants service Version files inputs reply h page = absurd (not_both (sym page ∙ ap page_in (sym h)))
