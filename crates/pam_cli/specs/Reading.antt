@@ -101,8 +101,8 @@ IsOfCheck named name =
     ⊎ IsNamed (option_copied named.facts) name ⊎ IsNamed (option_copied named.accept) name
 
 -- a name of the source of a side, or one of the folders of modules
-abbrev pub IsOfSide : ConfSource → List (List ℕ) → List ℕ → Type 0
-IsOfSide source folders name = IsInSource source name ⊎ Member name folders
+abbrev pub IsOfSide : ConfSource → CompareFiles → List ℕ → Type 0
+IsOfSide source named name = IsInSource source name ⊎ Member name (map (λ folder. folder.now) named.modules.items)
 
 -- a name of either source, one of the folders of modules, or the facts file or the returns file
 abbrev pub IsOfCompare : ConfSource → ConfSource → CompareFiles → List ℕ → Type 0

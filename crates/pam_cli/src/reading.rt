@@ -96,12 +96,12 @@ fn side_inputs<R: std::rt::Files + AllocGlobal + Clone + Drop>(
     rt: &R,
     alloc: Global,
     source: ConfSource<'_>,
-    modules: &[&str],
+    named: &CompareFiles<'_>,
 ) -> Result<SideInputs, InputError>
-    ensures { MatchResult result (IsSide source.entry) (IsUnread (IsOfSide source.entry (map (λ m. m.now) modules.now))) }
+    ensures { MatchResult result (IsSide source.entry) (IsUnread (IsOfSide source.entry named.now)) }
 {
     let files = source_files(rt, alloc, source, &[])?.files;
-    let there = modules_there(rt, alloc, source, modules, &files)?;
+    let there = modules_there(rt, alloc, source, &named.modules, &files)?;
     Ok(SideInputs { files, there })
 }
 
@@ -115,8 +115,8 @@ fn compare_inputs<R: std::rt::Files + AllocGlobal + Clone + Drop>(
 ) -> Result<Inputs, InputError>
     ensures { IsCompareReading old.entry new.entry named.now result }
 {
-    let old = side_inputs(rt, alloc, old, &named.modules)?;
-    let new = side_inputs(rt, alloc, new, &named.modules)?;
+    let old = side_inputs(rt, alloc, old, named)?;
+    let new = side_inputs(rt, alloc, new, named)?;
     let others = optional_files(rt, alloc, named.facts, named.returns)?;
     Ok(Inputs::Sides {
         old,
