@@ -185,6 +185,7 @@ static LIMITS: [Explanation; 4] = [
         example: &[
             "$ for n in $(seq 1 15); do",
             "> printf 'auth required pam_unix.so\\nauth substack f%d\\n' $((n+1)) >f$n",
+            "> echo 'auth [success=ok ignore=reset default=bad] pam_ldap.so' >>f$n",
             "> done",
             "$ echo 'auth required pam_unix.so' >f16",
             "$ pamcheck outcomes f1 auth --dir .",
