@@ -63,7 +63,7 @@ abbrev pub kinds_asked : Option Kind → List Kind
 kinds_asked None = Auth ∷ Account ∷ Password ∷ Session ∷ []
 kinds_asked (Some kind) = kind ∷ []
 
--- each of so many services, from a position on, with each kind
+-- each service from a position on, with each kind; the second argument is the number of services
 unfoldable pub stacks_asked : ℕ → ℕ → Option Kind → List (ℕ × Kind)
 stacks_asked first zero kind = []
 stacks_asked first (suc services) kind = map (λ k. (first, k)) (kinds_asked kind) ++ stacks_asked (first + 1) services kind

@@ -53,7 +53,7 @@ module _ (partners : List (Option ℕ)) (old_answers new_answers : Assignment) w
   is_shown old_asked new_asked number =
       is_listed number new_asked || option_map_or (λ partner. is_listed partner old_asked) (one_with number) false
 
-  -- these, of so many modules
+  -- of the modules of the new stack, by their number, those that are shown
   unfoldable pub shown_new : List ℕ → List ℕ → ℕ → List ℕ
   shown_new old_asked new_asked modules = filter (is_shown old_asked new_asked) (range_with_len 1 modules)
 
@@ -67,7 +67,7 @@ module _ (partners : List (Option ℕ)) (old_answers new_answers : Assignment) w
   merged alone (number ∷ shown) =
       step_of old_answers new_answers number (one_with number) alone ++ merged (left_after (one_with number) alone) shown
 
--- THE MODULES THAT EITHER STACK ASKS, where the new one has so many
+-- THE MODULES THAT EITHER STACK ASKS; the last argument is the number of modules of the new one
 abbrev pub asked_modules : List (Option ℕ) → Assignment → Assignment → List ℕ → List ℕ → ℕ → List AskedModule
 asked_modules partners old_answers new_answers old_asked new_asked modules =
     let shown = shown_new partners old_answers new_answers old_asked new_asked modules in

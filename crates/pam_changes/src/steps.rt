@@ -102,7 +102,7 @@ impl Answered<'_> {
         }
     }
 
-    /// These, of so many modules.
+    /// The modules of the new stack, which has `modules`, that are shown.
     #[tactic(auto, unfolding(crate::specs::Steps::shown_new))]
     fn shown_new(
         &self,
@@ -258,7 +258,7 @@ impl Answered<'_> {
         Ok(asked)
     }
 
-    /// The modules that either stack asks, of which the new one has so many.
+    /// The modules that either stack asks. `modules` is the number of modules of the new one.
     fn asked_among(
         &self,
         alloc: Global,
