@@ -1,15 +1,14 @@
 #!/usr/bin/env python3
 """Measures the built program:
 
-    python3 benches/run.py PROGRAM [--pages] [--outcomes] [--decisions PROGRAM] [--paths PROGRAM] [--graphs PROGRAM] [--only WORD]
-        [--runs N]
+    python3 benches/run.py PROGRAM [--pages] [--outcomes] [--libraries PROGRAM] [--only WORD] [--runs N]
 
 For each case the inputs are made anew in a temporary folder, in three sizes, the program is run once to warm up and then
 N times over each, and the least processor time and the peak memory are printed, the start of the process included. It
 needs Python's standard library and, for peak memory, /usr/bin/time. With --pages it also lists the paths of stacks in one
-page, of three lengths; with --outcomes it counts the outcomes of these stacks and of the largest graphs; with --decisions
-it also runs that program, which decides one stack many times by the library alone; with --paths that one, which explores
-stacks by the library alone; with --graphs that one, which follows the walks of their graphs.
+page, of three lengths; with --outcomes it counts the outcomes of these stacks and of the largest graphs; with --libraries
+it also runs that program, which by the libraries alone decides one stack many times, explores stacks, and follows the walks of
+their graphs.
 """
 import argparse
 import os
@@ -246,10 +245,12 @@ def measure_cases(program, cases, only, runs):
 def measure_decisions(program):
     for modules in (10, 64):
         times = []
-        for _ in range(5):
-            begin = time.perf_counter()
-            subprocess.run([program, str(modules), "1000000"], stdout=subprocess.DEVNULL, check=True)
-            times.append(time.perf_counter() - begin)
+        with tempfile.TemporaryDirectory() as folder:
+            put(folder, "login", STACK * modules)
+            for _ in range(5):
+                begin = time.perf_counter()
+                subprocess.run([program, "decisions", "1000000", "login"], cwd=folder, stdout=subprocess.DEVNULL, check=True)
+                times.append(time.perf_counter() - begin)
         print("decisions of %d modules: %.1f million a second" % (modules, 1 / min(times)))
 
 
@@ -313,7 +314,7 @@ def measure_paths(program):
     for name, limit, text in STACKS:
         with tempfile.TemporaryDirectory() as folder:
             put(folder, "login", text.encode())
-            words = [program, str(limit), "login"]
+            words = [program, "paths", str(limit), "login"]
             times = []
             for _ in range(5):
                 begin = time.perf_counter()
@@ -333,11 +334,11 @@ def measure_graphs(program):
             put(folder, "login", text.encode())
 
             def least(count):
-                return min(run([program, str(count), "login"], folder)[1] for _ in range(6))
+                return min(run([program, "graphs", str(count), "login"], folder)[1] for _ in range(6))
 
-            done = subprocess.run([program, str(limit), "login"], cwd=folder, stdout=subprocess.PIPE, check=True)
+            done = subprocess.run([program, "graphs", str(limit), "login"], cwd=folder, stdout=subprocess.PIPE, check=True)
             nodes, _, walks, steps = (int(word) for word in done.stdout.decode().split() if word.isdigit())
-            peak = int(run(["/usr/bin/time", "-q", "-f", "%M", program, str(limit), "login"], folder)[0].split()[-1])
+            peak = int(run(["/usr/bin/time", "-q", "-f", "%M", program, "graphs", str(limit), "login"], folder)[0].split()[-1])
             seconds = least(limit) - least(0)
         speed = "%.2f" % (walks / seconds / 1e6) if seconds > 0.001 else "-"
         each = "%.1f" % (steps / walks) if walks else "-"
@@ -364,9 +365,7 @@ def main():
     parser.add_argument("program")
     parser.add_argument("--pages", action="store_true")
     parser.add_argument("--outcomes", action="store_true")
-    parser.add_argument("--decisions")
-    parser.add_argument("--paths")
-    parser.add_argument("--graphs")
+    parser.add_argument("--libraries")
     parser.add_argument("--only", default="")
     parser.add_argument("--runs", type=int, default=20)
     args = parser.parse_args()
@@ -376,12 +375,11 @@ def main():
         measure_pages(program, args.runs)
     if args.outcomes:
         measure_cases(program, OUTCOME_CASES, args.only, args.runs)
-    if args.decisions:
-        measure_decisions(os.path.abspath(args.decisions))
-    if args.paths:
-        measure_paths(os.path.abspath(args.paths))
-    if args.graphs:
-        measure_graphs(os.path.abspath(args.graphs))
+    if args.libraries:
+        libraries = os.path.abspath(args.libraries)
+        measure_decisions(libraries)
+        measure_paths(libraries)
+        measure_graphs(libraries)
 
 
 if __name__ == "__main__":

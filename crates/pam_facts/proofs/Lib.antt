@@ -1,12 +1,10 @@
 pub mod AddSteps
 pub mod AnswerSteps
 pub mod CodeSteps
-pub mod Cutting
 pub mod FactSteps
 pub mod HeadSteps
 pub mod KindSteps
 pub mod LawSteps
-pub mod LineSteps
 pub mod RowSteps
 pub mod TableSteps
 pub mod WordSteps

@@ -9,7 +9,7 @@ use Rattle.pam_text.specs.declared.source.SourceFault.{SourceFault}
 use Rattle.pam_text.specs.declared.source.SourceFault.TheVariants as source
 use Rattle.pam_facts.specs.Codes.{codes_said}
 use Rattle.pam_facts.specs.Error.{TellsFault, error_at, source_error}
-use Rattle.pam_facts.specs.Lines.{lines_from}
+use Rattle.pam_tables.specs.Lines.{lines_from}
 use Rattle.pam_facts.specs.Reading.{after_rows, onto_rows, row_if_any, rows_from, rows_in, rows_of}
 use Rattle.pam_facts.specs.Rows.{Head, Row, head_of, is_name, row_after, row_of, row_of_words, row_with}
 use Rattle.pam_facts.specs.Words.{words_of}

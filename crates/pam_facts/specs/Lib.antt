@@ -5,7 +5,6 @@ pub mod Facts
 pub mod Fitting
 pub mod Kinds
 pub mod Laws
-pub mod Lines
 pub mod Paths
 pub mod Reading
 pub mod Rows

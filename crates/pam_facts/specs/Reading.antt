@@ -2,7 +2,7 @@
 use Rattle.std.specs.Prelude.{ℕ, List, [], ◌∷◌, ◌++◌, Option, Some, None, Result, Ok, Err}
 use Rattle.std.specs.List.{filter_map}
 use Rattle.std.specs.Option.{option_map_or}
-use Rattle.pam_facts.specs.Lines.{lines_from}
+use Rattle.pam_tables.specs.Lines.{lines_from}
 use Rattle.pam_text.specs.Source.{source_fault}
 use Rattle.pam_facts.specs.Error.{error_at, no_memory, source_error}
 use Rattle.pam_facts.specs.Rows.{Row, row_of}

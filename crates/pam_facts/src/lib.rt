@@ -8,7 +8,6 @@ mod facts;
 mod head;
 mod kinds;
 pub mod laws;
-mod lines;
 mod paths;
 mod reading;
 mod row;

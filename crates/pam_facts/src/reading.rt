@@ -12,11 +12,11 @@ ghost use Rattle.pam_facts.specs.Words.{words_of};
 use crate::error::{FactsError, FactsFault};
 use crate::head::{Arguments, read_head};
 use crate::kinds::Kinds;
-use crate::lines::Lines;
 use crate::row::{CodesByKind, Fact};
 use crate::table::table;
 use crate::words::{Words, first_word};
 use pam_codes::Code;
+use pam_tables::parts::Lines;
 use pam_text::Source;
 
 /// What is known of a module, where its rule has some arguments.

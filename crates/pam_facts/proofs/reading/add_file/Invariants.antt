@@ -1,5 +1,5 @@
 use Rattle.std.proofs.Common.{◌≡◌, map}
-use Rattle.pam_facts.specs.Lines.{lines_from, lines_left}
+use Rattle.pam_tables.specs.Lines.{lines_from, lines_left}
 use Rattle.pam_facts.specs.Reading.{after_rows, rows_from}
 use Rattle.pam_facts.specs.Views.{row_view}
 use Rattle.pam_facts.proofs.reading.add_file.Given as goal

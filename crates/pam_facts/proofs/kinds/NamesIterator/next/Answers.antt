@@ -1,6 +1,6 @@
 use Rattle.std.proofs.Common.{ap, List, ℕ, Bor}
 use Rattle.std.specs.Option.{option_map}
-use Rattle.pam_facts.proofs.Cutting.{shorter}
+use Rattle.pam_tables.proofs.LineSteps.{shorter}
 use Rattle.pam_facts.proofs.KindSteps.{last_name, name_found}
 use Rattle.pam_facts.proofs.kinds.NamesIterator.next.Goals as goal
 

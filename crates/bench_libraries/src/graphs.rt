@@ -1,28 +1,11 @@
-//! Makes the graph of one stack, for `benches/README.md`: `bench_graphs LIMIT FILE...`. The first file is that of the service, the
-//! others are its includes. Prints the number of nodes, then counts the walks that decide each code, and follows up to LIMIT walks.
-#![tactic(auto)]
+//! Makes the graph of one stack, and follows its walks.
 
 use anyhow::Error;
 use pam_codes::{Code, CodeSet};
-use pam_conf::{Files, Form, Kind, resolve};
 use pam_dispatch::Program;
 use pam_graph::{Goal, Graph};
 use pam_paths::Free;
 use std::alloc::Global;
-use std::{env, fs};
-
-/// Reads the file `name` into `files`.
-fn put(rt: &HostRuntime, alloc: Global, files: &mut Files, name: &str) -> Result<(), Error> {
-    let bytes = fs::read(rt, name)?;
-    files.put(name.as_bytes().to_vec(alloc)?, bytes)?;
-    Ok(())
-}
-
-fn graph_of(alloc: Global, files: &Files, service: &[u8]) -> Result<Graph, Error> {
-    let stack = resolve(alloc, files, service, Kind::Auth)?;
-    let program = Program::of(alloc, &stack)?;
-    Ok(Graph::of(alloc, &program, &Free)?)
-}
 
 /// The number of decisions, which are counted and whose first walks are found.
 fn decided(alloc: Global, graph: &Graph) -> Result<usize, Error> {
@@ -54,19 +37,12 @@ fn follow(alloc: Global, graph: &Graph, limit: u64) -> Result<Followed, Error> {
     Ok(followed)
 }
 
-fn main(rt: HostRuntime) -> Result<(), Error> {
+/// Prints the number of nodes and of decisions, which are counted, and of up to `limit` walks that are followed.
+pub(crate) fn measure(rt: &HostRuntime, limit: u64, program: &Program) -> Result<(), Error> {
     let alloc = rt.alloc();
-    let words: Vec<String> = env::args(&rt)?.collect(alloc)?;
-    let mut files = Files::new(alloc, Form::Dir);
-    for name in words.iter().skip(2) {
-        put(&rt, alloc, &mut files, name.as_str())?;
-    }
-    if words.len() < 3 {
-        return Ok(());
-    }
-    let graph = graph_of(alloc, &files, words[2].as_bytes())?;
+    let graph = Graph::of(alloc, program, &Free)?;
     let decisions = decided(alloc, &graph)?;
-    let followed = follow(alloc, &graph, words[1].as_str().parse()?)?;
+    let followed = follow(alloc, &graph, limit)?;
     println!(rt;
         "{} nodes, {} decisions, {} walks followed, {} steps",
         graph.nodes().len(),
