@@ -19,13 +19,18 @@ fn put(rt: &HostRuntime, alloc: Global, files: &mut Files, name: &str) -> Result
     Ok(())
 }
 
-/// The stack of the first of the files that are named.
-fn stack_of(rt: &HostRuntime, alloc: Global, names: &[String]) -> Result<Stack, Error> {
+/// The stack of a service whose files are named.
+fn stack_of(
+    rt: &HostRuntime,
+    alloc: Global,
+    service: &str,
+    names: &[String],
+) -> Result<Stack, Error> {
     let mut files = Files::new(alloc, Form::Dir);
     for name in names {
         put(rt, alloc, &mut files, name.as_str())?;
     }
-    Ok(resolve(alloc, &files, names[0].as_bytes(), Kind::Auth)?)
+    Ok(resolve(alloc, &files, service.as_bytes(), Kind::Auth)?)
 }
 
 fn measure(rt: &HostRuntime, what: &str, count: u64, program: &Program) -> Result<(), Error> {
@@ -48,7 +53,7 @@ fn main(rt: HostRuntime) -> Result<(), Error> {
     if words.len() < 4 {
         return Ok(());
     }
-    let stack = stack_of(&rt, alloc, &words[3..])?;
+    let stack = stack_of(&rt, alloc, words[3].as_str(), &words[3..])?;
     let program = Program::of(alloc, &stack)?;
     measure(&rt, words[1].as_str(), words[2].as_str().parse()?, &program)
 }
