@@ -34,7 +34,8 @@ reads_at host service kind = files_read host.folder.form (length host.folder.ent
 -- a problem of a stack itself, of what the service's own rules leave to `other`, or of its jumps into includes
 abbrev pub InStackOf : Folder → Modules → ℕ → List ℕ → Kind → Verdict → Spot → Type 0
 InStackOf folder modules service name kind verdict spot =
-    InStack modules service name kind (surveyed folder name kind) verdict spot ⊎ (HasOtherAnswer folder service name kind spot ⊎ HasJumpInside folder name kind spot)
+    InStack modules service name kind (surveyed folder name kind) verdict spot
+    ⊎ (HasOtherAnswer folder service name kind spot ⊎ HasJumpInside folder name kind spot)
 
 -- a problem of a file that is read for a stack
 abbrev pub InFile : Host → Spot → ℕ → Kind → Type 0

@@ -81,7 +81,8 @@ fn put_other(table: &mut Table, files: &Files) -> Result<(), AllocError>
 
 /// Finds what is wrong with a folder itself.
 fn put_whole(table: &mut Table, files: &Files) -> Result<(), AllocError>
-    ensures { OnOk result (Puts (λ spot. LacksOther files.now spot ⊎ IsNameProblem files.now (length files.now.entries) spot) (with_met None) table.old table.new) }
+    ensures { OnOk result (Puts (λ spot. LacksOther files.now spot ⊎ IsNameProblem files.now (length files.now.entries) spot)
+        (with_met None) table.old table.new) }
 {
     put_other(table, files)?;
     put_names(table, files)?;

@@ -146,7 +146,8 @@ fn push_unless_listed(
     never_asked: &[usize],
     number: usize,
 ) -> Result<(), AllocError>
-    ensures { OnOk result (Adds (λ spot. (Member number never_asked.now → ⊥) × OfModule Problem.NeverAsked stack.now number spot) asked.old.items asked.new.items) }
+    ensures { OnOk result (Adds (λ spot. (Member number never_asked.now → ⊥) × OfModule Problem.NeverAsked stack.now number spot)
+        asked.old.items asked.new.items) }
 {
     if is_listed(number, never_asked) {
         return Ok(());

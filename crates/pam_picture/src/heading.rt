@@ -4,7 +4,8 @@ ghost use Rattle.std.specs.Prelude.{◌≡◌, ◌<◌, ◌≤◌};
 ghost use Rattle.std.specs.List.{flat_map, list_any, range_with_len};
 ghost use Rattle.pam_codes.specs.Out.{Writes};
 ghost use Rattle.pam_conf.specs.declared.stack.TheConstants.{MAX_MODULES};
-ghost use Rattle.pam_picture.specs.Picture.{asked_row, asks, bracket_text, brackets_text, column_heading, column_text, columns_text, lane_impression, lane_status, lane_text, lanes_text, name_ending, name_front};
+ghost use Rattle.pam_picture.specs.Picture.{asked_row, asks, bracket_text, brackets_text, column_heading, column_text, columns_text};
+ghost use Rattle.pam_picture.specs.Picture.{lane_impression, lane_status, lane_text, lanes_text, name_ending, name_front};
 
 use crate::edge::Sheet;
 use crate::layout::Layout;

@@ -103,7 +103,8 @@ fn add_access(alloc: Global, needs: &mut Vec<Needed>, arguments: &Texts) -> Resu
 
 /// Adds the tables of pam_access, if the module reads them.
 fn add_of_access(alloc: Global, needs: &mut Vec<Needed>, module: &Module) -> Result<(), AllocError>
-    ensures { OnOk result (Adds (λ need. Member need (access_needs (module_text «module».now))) (map need_view needs.old.items) (map need_view needs.new.items)) }
+    ensures { OnOk result (Adds (λ need. Member need (access_needs (module_text «module».now)))
+        (map need_view needs.old.items) (map need_view needs.new.items)) }
 {
     if !is_access_reader(module) {
         return Ok(());
@@ -114,7 +115,8 @@ fn add_of_access(alloc: Global, needs: &mut Vec<Needed>, module: &Module) -> Res
 
 /// Adds the time table, if the module reads it.
 fn add_of_time(needs: &mut Vec<Needed>, kind: Kind, module: &Module) -> Result<(), AllocError>
-    ensures { OnOk result (Adds (λ need. Member need (time_needs kind (module_text «module».now))) (map need_view needs.old.items) (map need_view needs.new.items)) }
+    ensures { OnOk result (Adds (λ need. Member need (time_needs kind (module_text «module».now)))
+        (map need_view needs.old.items) (map need_view needs.new.items)) }
 {
     if !is_time_reader(kind, module) {
         return Ok(());
@@ -129,7 +131,8 @@ fn add_module(
     kind: Kind,
     module: &Module,
 ) -> Result<(), AllocError>
-    ensures { OnOk result (Adds (λ need. Member need (needs_of kind (module_text «module».now))) (map need_view needs.old.items) (map need_view needs.new.items)) }
+    ensures { OnOk result (Adds (λ need. Member need (needs_of kind (module_text «module».now)))
+        (map need_view needs.old.items) (map need_view needs.new.items)) }
 {
     add_of_access(alloc, needs, module)?;
     add_of_time(needs, kind, module)

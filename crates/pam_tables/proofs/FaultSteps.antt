@@ -1,5 +1,6 @@
 -- All faults of a table, line after line, and the first of them.
-use Rattle.std.proofs.Common.{◌≡◌, ◌∙◌, ◌++◌, ℕ, Bool, true, false, List, [], ◌∷◌, codes, Option, Some, None, Result, Ok, Err, append-nil, append_assoc, ap, refl, sym}
+use Rattle.std.proofs.Common.{◌≡◌, ◌∙◌, ◌++◌, ℕ, Bool, true, false, List, [], ◌∷◌, codes, Option, Some, None, Result, Ok, Err}
+use Rattle.std.proofs.Common.{append-nil, append_assoc, ap, refl, sym}
 use Rattle.std.specs.List.{slice_split}
 use Rattle.std.specs.Option.{option_map_or}
 use Rattle.pam_tables.specs.Access.{LineText, access_line, lines_of, table_of, table_with}

@@ -27,7 +27,8 @@ or_faults table (Some whole) faults = record { table = table; fault = whole.0; l
 -- THE FAULTS of an access table
 unfoldable pub access_faults : Options → List ℕ → List TableError
 access_faults options bytes =
-    or_faults tables.Access (fault_of_bytes bytes) (line_faults tables.Access (access_line options.field_separators options.list_separators) (lines_from 1 bytes))
+    or_faults tables.Access (fault_of_bytes bytes)
+    (line_faults tables.Access (access_line options.field_separators options.list_separators) (lines_from 1 bytes))
 
 -- the group of a line, whatever its number
 abbrev pub group_line : ℕ → List ℕ → Result (Option Group) TableFault
