@@ -62,7 +62,8 @@ def of_tree(program, service, folder):
     for words in drawings:
         harmless(words, tree, answered(program, words, tree), NO_ASCII)
     # The plain reading cuts the steps of a line at commas.
-    comparisons = [] if "," in service else [[b"compare", b"d", b"e"], [b"compare", b"e", b"d"]]
+    has_comma = any("," in name or b"," in data for name, data in folder.items())
+    comparisons = [] if has_comma else [[b"compare", b"d", b"e"], [b"compare", b"e", b"d"]]
     for words in comparisons:
         harmless(words, tree, compared.judged(program, words, tree), CONTROL)
     return 2 + len(stacks) + len(drawings) + len(comparisons)
