@@ -1,8 +1,7 @@
-"""Standard output that takes a number of bytes and no more, for each number below the length of the answer, and the streams of
-`streams.py` for commands that it leaves out.
+"""Standard output that takes a number of bytes and no more, for each number below the length of the answer.
 
-The answer is then a failed write, after exactly these bytes. A limit on the size of files cuts a write there; what comes after it
-fails. Standard error is a pipe, which has no such limit."""
+The answer is then a failed write, after exactly these bytes. A limit on the size of files cuts a write there, and what comes after
+it fails. Standard error is a pipe, which has no such limit."""
 import os
 import resource
 
@@ -18,8 +17,9 @@ STACK = ["login", "auth", "--dir", "s"]
 ASKED = [["check", "--dir", "d"], ["outcomes", *STACK], ["graph", *STACK], ["graph", *STACK, "--format", "mermaid"],
          ["compare", "s", "n"], ["explain", "e15"], ["explain", "L2"], ["show", *STACK], ["decide", *STACK, "success", "ignore"]]
 # Answers of many bytes, of which not every one is tried.
-LONG = [["graph", *STACK, "--format", "svg"], ["explain"], ["facts"], ["paths", *STACK], ["check", "--help"]]
+LONG = [["graph", *STACK, "--format", "svg"], ["explain"], ["facts"], ["paths", *STACK], ["help", "check"]]
 STEP = 97
+EXPLAINED = [["explain"], ["explain", "s2"], ["facts"], ["help"]]
 
 
 def whole_answer(program, words):
@@ -27,7 +27,7 @@ def whole_answer(program, words):
     got = program.run(words)
     if words[0] == "compare":
         compared.judged(program, [word.encode() for word in words], TREE)
-    elif words[0] != "explain" and "--help" not in words:
+    elif words[0] not in ("explain", "help"):
         expected = Answer(*plain.answer(words, TREE))
         if not agrees(expected, got):
             raise difference(words, TREE, expected, got)
@@ -51,10 +51,22 @@ def cut(program, words, most):
         return got._replace(stderr=said.read())
 
 
+def closed(program):
+    """How many runs of commands that `streams.py` leaves out had closed streams."""
+    for words in EXPLAINED:
+        whole = whole_answer(program, words)
+        unwritten = Answer(b"", V2, 5)
+        for streams, expected in (("<&-", whole), (">&-", unwritten), ("2>&-", whole), (">&- 2>&-", unwritten._replace(stderr=b""))):
+            got = program.run_in_shell('exec "$@" ' + streams, words)
+            if got != expected:
+                raise difference(words, TREE, expected, got)
+    return 4 * len(EXPLAINED)
+
+
 def run(program):
-    """How many writes failed."""
+    """How many writes failed, or had a closed stream."""
     program.hold(TREE)
-    runs = 0
+    runs = closed(program)
     for words, step in [(words, 1) for words in ASKED] + [(words, STEP) for words in LONG]:
         whole = whole_answer(program, words)
         length = len(whole.stdout)
