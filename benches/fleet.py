@@ -1,17 +1,16 @@
 #!/usr/bin/env python3
 """Measures the recipes for many hosts:
 
-    python3 benches/fleet.py PROGRAM [--hosts N] [--runs N]
+    python3 benches/fleet.py PROGRAM [--hosts N] [--runs N] [--roots FOLDER]
 
-Roots of small systems are made in a temporary folder, one in ten of which has a mistake. They are checked one after another by
+Roots of small systems are made in a temporary folder, or in FOLDER if it is not there yet. One in ten has a mistake. They are checked one after another by
 `xargs`, by `examples/recipes/fleet` and by `examples/recipes/fleet.py` with four workers, which need Debian's packages parallel
-and python3-distributed. Printed are the least seconds and processor seconds of some runs, and the most memory of one process."""
+and python3-distributed. Printed are the least seconds, processor time and memory of some runs: the memory is the most that one
+process took. It needs GNU time as /usr/bin/time."""
 import argparse
 import os
-import resource
 import subprocess
 import tempfile
-import time
 from pathlib import Path
 
 from run import HOST_COMMON, SERVICE, put
@@ -45,19 +44,11 @@ def make_root(root, number):
 
 
 def measured(command, environment):
-    """The lines of a run, its seconds and its processor seconds, those of all that it starts included."""
-    begin, before = time.perf_counter(), resource.getrusage(resource.RUSAGE_CHILDREN)
-    done = subprocess.run(command, env=environment, stdin=subprocess.DEVNULL, stdout=subprocess.PIPE, stderr=subprocess.DEVNULL, check=False)
-    after = resource.getrusage(resource.RUSAGE_CHILDREN)
-    processor = after.ru_utime + after.ru_stime - before.ru_utime - before.ru_stime
-    return sorted(done.stdout.splitlines()), time.perf_counter() - begin, processor
-
-
-def peak(command, environment):
-    """The most memory of one process of a run, in megabytes."""
-    done = subprocess.run(["/usr/bin/time", "-q", "-f", "%M", *command], env=environment, stdin=subprocess.DEVNULL,
-                          stdout=subprocess.DEVNULL, stderr=subprocess.PIPE, check=False)
-    return int(done.stderr.split()[-1]) / 1000
+    """The lines of a run, its seconds, its processor seconds and those of all that it starts, and the most megabytes of one process."""
+    done = subprocess.run(["/usr/bin/time", "-q", "-f", "%e %U %S %M", *command], env=environment, stdin=subprocess.DEVNULL,
+                          capture_output=True, check=False)
+    seconds, user, system, memory = map(float, done.stderr.split()[-4:])
+    return done.stdout.splitlines(), seconds, user + system, memory / 1000
 
 
 def main():
@@ -65,13 +56,14 @@ def main():
     parser.add_argument("program")
     parser.add_argument("--hosts", type=int, default=10000)
     parser.add_argument("--runs", type=int, default=3)
+    parser.add_argument("--roots")
     given = parser.parse_args()
     with tempfile.TemporaryDirectory() as folder:
         os.makedirs(folder + "/bin")
         os.symlink(os.path.abspath(given.program), folder + "/bin/pamcheck")
         environment = {**os.environ, "PATH": folder + "/bin:" + os.environ["PATH"]}
-        roots = folder + "/roots"
-        for number in range(given.hosts):
+        roots = given.roots or folder + "/roots"
+        for number in range(0 if os.path.isdir(roots) else given.hosts):
             make_root("%s/host%05d" % (roots, number), number)
         one_by_one = ["sh", "-c", 'ls "$0" | xargs -I{} pamcheck check --root "$0/{}"', roots]
         commands = [("`xargs`, one after another", one_by_one), ("`fleet`", [str(RECIPES / "fleet"), roots]),
@@ -80,9 +72,9 @@ def main():
         print("|---|---|---|---|---|")
         for name, command in commands:
             runs = [measured(command, environment) for _ in range(given.runs)]
-            seconds, processor = (min(run[at] for run in runs) for at in (1, 2))
+            seconds, processor, memory = (min(run[at] for run in runs) for at in (1, 2, 3))
             print("| %s | %.1f | %.0f | %.2f ms | %.0f MB |" % (
-                name, seconds, given.hosts / seconds, 1000 * processor / given.hosts, peak(command, environment)), flush=True)
+                name, seconds, given.hosts / seconds, 1000 * processor / given.hosts, memory), flush=True)
             checked = sum(b"checked " in line for line in runs[0][0])
             if checked != given.hosts:
                 raise SystemExit("%s: %d hosts checked" % (name, checked))
