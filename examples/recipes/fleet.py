@@ -39,6 +39,8 @@ def main():
     parser.add_argument("--workers", type=int, default=os.cpu_count())
     parser.add_argument("roots")
     given, words = parser.parse_known_args()
+    if not os.path.isdir(given.roots):
+        parser.error("%s is no folder" % given.roots)
     roots = sorted(entry.path for entry in os.scandir(os.path.abspath(given.roots)) if entry.is_dir())
     with client_of(given):
         hosts = dask.bag.from_sequence(roots, partition_size=HOSTS_AT_A_TIME).map(checked, words=words).compute()
@@ -48,9 +50,9 @@ def main():
         findings.update({found.group(1) for found in map(FINDING.search, lines) if found})
         sys.stdout.buffer.writelines(os.fsencode(host) + b"\t" + line + b"\n" for line in lines)
     for status, count in sorted(statuses.items()):
-        print("%d hosts: status %d" % (count, status), file=sys.stderr)
-    for number, count in findings.most_common():
-        print("%d hosts: %s" % (count, number.decode()), file=sys.stderr)
+        print("%d of %d hosts: status %d" % (count, len(hosts), status), file=sys.stderr)
+    for number, count in sorted(findings.items(), key=lambda found: (-found[1], found[0])):
+        print("%d of %d hosts: %s" % (count, len(hosts), number.decode()), file=sys.stderr)
     return int(set(statuses) != {0})
 
 
