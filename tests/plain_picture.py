@@ -2,7 +2,7 @@
 
 Where the shapes are is not compared. It is looked at on its own: each node is in the column of its module and the lane of its
 state, no two are at one point, an edge begins at its node, ends at its target and goes through no other node, and its label is
-over a straight part of it and no other label."""
+over a straight part of it, a row away from each other label."""
 import re
 import xml.etree.ElementTree as xml
 
@@ -220,7 +220,7 @@ class Reader:
 
     def check_ways(self):
         """Looks at what is on the way of each edge."""
-        taken = set()
+        rows = {}
         for (start, target, (first, last, numbers)), label in zip(self.lines, self.labels):
             bends = [(numbers[i], numbers[i + 5], numbers[i + 6]) for i in range(0, 21, 7)]
             beside = [point for name, point in self.points.items() if name not in (start, target)]
@@ -231,10 +231,12 @@ class Reader:
                 # Where it does not bend, it is straight up to the next bend.
                 expect(not any(at < x < left and abs(y - height) < ROW / 2 for x, y in beside), "an edge from", start, "through a node")
                 at, height = (right, after) if after != height else (at, height)
-            row = bends[0][1:]
-            expect(LETTER * len(label) <= bends[1][0] - row[0], "no room for", label)
-            expect(not label or row not in taken, "a label over another", label)
-            taken.add(row)
+            _, right, height = bends[0]
+            expect(LETTER * len(label) <= bends[1][0] - right, "no room for", label)
+            if label:
+                rows.setdefault(right, []).append(height)
+        for heights in map(sorted, rows.values()):
+            expect(all(after - before >= ROW for before, after in zip(heights, heights[1:])), "a label over another")
 
     def lines_told(self):
         yield from self.top()
