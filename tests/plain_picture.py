@@ -11,7 +11,7 @@ from plain_faults import Fault
 
 MOST_NODES = 400
 MOST_NAME, CUT_NAME = 24, 22
-ROW, LETTER = 18, 7
+ROW, LETTER, BOLD, MARGIN = 18, 7, 8, 16
 SPACE = "{http://www.w3.org/2000/svg}"
 FOOT = "Read from left to right. A line without a word: any answer. else: every other answer."
 SHAPES = {("undef", True): "circle 6", ("undef", False): "circle 3", ("positive", True): "circle 6", ("positive", False): "circle 3",
@@ -153,6 +153,7 @@ class Reader:
         self.next("style")
         self.next("rect", width=str(self.size[0]), height=str(self.size[1]))
         expect(self.next("text").text == title, "two titles")
+        expect(2 * MARGIN + BOLD * len(title) <= self.size[0], "no room for the title")
         yield "title " + title
         yield from ("told " + line for line in told)
 
