@@ -79,7 +79,7 @@ same-count (ThenSub s inner rest) (ThenSub u others more) t =
 same-ask : (m n : ModuleText) (rest more : Items) (s entry : State) → Shared m n → count rest ≡ count more → ask_of m rest s entry ≡ ask_of n more s entry
 same-ask m n rest more s entry is e =
     let ask : ℕ → List Action → ℕ → Ask =
-        λ number control after. record { module_number = number; control = control; state = s; entry = entry; after = after } in
+    λ number control after. record { module_number = number; control = control; state = s; entry = entry; after = after } in
     ap (λ (k : ℕ). ask k m.control (count rest)) is.number
     ∙ ap (λ (c : List Action). ask n.number c (count rest)) is.control
     ∙ ap (λ (k : ℕ). ask n.number n.control k) e
