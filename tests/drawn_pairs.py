@@ -64,9 +64,13 @@ class Pairs(drawn.Drawing):
         else:
             files[name] = self.lines([b"one"], 2)
 
-    def returns(self):
+    def modules(self):
+        """A folder with most of the modules."""
+        return {name.split(b" ")[0].decode(): b"" for name in MODULES if self.random.random() < 0.8}
+
+    def returns(self, more):
         names = [name.split(b" ")[0] for name in MODULES]
-        lines = [name + b" " + b" ".join(self.random.sample(CODES, self.random.randint(1, 3))) for name in names]
+        lines = [name + b" " + b" ".join(self.random.sample(CODES + more, self.random.randint(1, 3))) for name in names]
         return b"".join(line + b"\n" for line in lines)
 
     def pair(self, most):
@@ -94,10 +98,12 @@ def cases(count):
         old, new = drawing.pair(4 if is_known else 2)
         words, files = drawing.of([[]] * 4 + [[b"login"], [b"LOGIN", b"Auth"], [b"gone"], [b"su", b"account"]]), {}
         if is_known:
-            words, files = words + [b"--returns", b"returns"], {"returns": drawing.returns()}
+            # What a module that is not there answers, one that is can answer too.
+            more = [b"module_unknown"] if number % 8 == 7 else []
+            words, files = words + [b"--returns", b"returns"], {"returns": drawing.returns(more)}
         if number % 4 == 0:
             words = words + [b"--modules", b"m"]
-            files["m"] = {name.split(b" ")[0].decode(): b"" for name in MODULES if drawing.random.random() < 0.8}
+            files["m"] = drawing.modules()
         if number % 16 == 1:
             words, files = words + [b"--facts", b"facts"], {**files, "facts": b"a passes auth success ignore\nb checks auth auth_err\n"}
         if number % 8 < 6:
@@ -105,5 +111,5 @@ def cases(count):
         elif number % 8 == 6:
             yield words + [b"--conf"], single(old), single(new), files
         else:
-            roots = [{"etc": {"pam.d": folder(side)}} for side in (old, new)]
+            roots = [{"etc": {"pam.d": folder(side)}, "lib": {"security": drawing.modules()}} for side in (old, new)]
             yield words + [b"--root"], *roots, files

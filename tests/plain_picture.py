@@ -1,7 +1,8 @@
 """The picture of a stack's runs: what it has to show, drawn plainly from `docs/SPECIFICATION.md`, and what an SVG text shows.
 
 Where the shapes are is not compared. It is looked at on its own: each node is in the column of its module and the lane of its
-state, no two are at one point, and an edge begins at its node and ends at its target."""
+state, no two are at one point, an edge begins at its node, ends at its target and goes through no other node, and its label is
+over a straight part of it, a row away from each other label."""
 import re
 import xml.etree.ElementTree as xml
 
@@ -10,6 +11,7 @@ from plain_faults import Fault
 
 MOST_NODES = 400
 MOST_NAME, CUT_NAME = 24, 22
+ROW, LETTER, BOLD, MARGIN = 18, 7, 8, 16
 SPACE = "{http://www.w3.org/2000/svg}"
 FOOT = "Read from left to right. A line without a word: any answer. else: every other answer."
 SHAPES = {("undef", True): "circle 6", ("undef", False): "circle 3", ("positive", True): "circle 6", ("positive", False): "circle 3",
@@ -128,7 +130,7 @@ class Reader:
         self.root = xml.fromstring(text)
         self.shapes = list(self.root)
         self.size = int(self.root.get("width")), int(self.root.get("height"))
-        self.points, self.columns, self.lanes, self.lines = {}, [], {}, []
+        self.points, self.columns, self.lanes, self.lines, self.labels = {}, [], {}, [], []
 
     def next(self, tag, **given):
         """Takes the next shape, which is of this kind and has these attributes."""
@@ -151,6 +153,7 @@ class Reader:
         self.next("style")
         self.next("rect", width=str(self.size[0]), height=str(self.size[1]))
         expect(self.next("text").text == title, "two titles")
+        expect(2 * MARGIN + BOLD * len(title) <= self.size[0], "no room for the title")
         yield "title " + title
         yield from ("told " + line for line in told)
 
@@ -183,6 +186,7 @@ class Reader:
         shape = self.next("g")
         self.lines.append((shape.get("data-from"), shape.get("data-to"), ends_of_line(shape.find(SPACE + "path").get("d"))))
         told = shape.find(SPACE + "title").text, shape.find(SPACE + "text").text or ""
+        self.labels.append(told[1])
         return "edge %s %s | %s | %s" % (shape.get("data-from"), shape.get("data-to"), *told)
 
     def node(self):
@@ -215,6 +219,26 @@ class Reader:
             expect(across == sorted(across), "an edge goes back", across)
             expect(all(0 < number < max(self.size) for number in numbers), "an edge outside the picture")
 
+    def check_ways(self):
+        """Looks at what is on the way of each edge."""
+        rows = {}
+        for (start, target, (first, last, numbers)), label in zip(self.lines, self.labels):
+            bends = [(numbers[i], numbers[i + 5], numbers[i + 6]) for i in range(0, 21, 7)]
+            beside = [point for name, point in self.points.items() if name not in (start, target)]
+            at, height = first
+            for left, right, after in [*bends, (last[0], *last)]:
+                if after != height:
+                    expect(not any(left < x < right for x in self.columns), "an edge from", start, "bends in a column")
+                # Where it does not bend, it is straight up to the next bend.
+                expect(not any(at < x < left and abs(y - height) < ROW / 2 for x, y in beside), "an edge from", start, "through a node")
+                at, height = (right, after) if after != height else (at, height)
+            _, right, height = bends[0]
+            expect(LETTER * len(label) <= bends[1][0] - right, "no room for", label)
+            if label:
+                rows.setdefault(right, []).append(height)
+        for heights in map(sorted, rows.values()):
+            expect(all(after - before >= ROW for before, after in zip(heights, heights[1:])), "a label over another")
+
     def lines_told(self):
         yield from self.top()
         while self.comes("path", **{"class": "lane"}):
@@ -233,6 +257,7 @@ class Reader:
         while self.shapes:
             yield self.next("text").text
         self.check_points()
+        self.check_ways()
 
 
 def told(text):

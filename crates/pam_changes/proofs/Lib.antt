@@ -1,3 +1,4 @@
+pub mod Alike
 pub mod Listing
 pub mod Merging
 pub mod Returns

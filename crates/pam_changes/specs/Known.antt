@@ -1,8 +1,10 @@
 -- What is known of the answers of modules: pam.conf(5), DESCRIPTION.
-use Rattle.std.specs.Prelude.{◌≡◌, ℕ, ◌≤◌, Bool, true, not, List, if◌then◌else◌, unwrap_or, Option, Some, None}
+use Rattle.std.specs.Prelude.{◌≡◌, ℕ, ◌≤◌, Bool, true, not, List, ◌∷◌, if◌then◌else◌, map, unwrap_or, Option, Some, None}
+use Rattle.std.specs.List.{range_with_len}
 use Rattle.std.specs.Option.{option_map_or}
 use Rattle.pam_codes.specs.Code.{all_codes}
 use Rattle.pam_codes.specs.Set.{is_in}
+use Rattle.pam_compare.specs.Matching.{partner_of}
 use Rattle.pam_conf.specs.Stack.{Items, ModuleText, module_at, module_count}
 use Rattle.pam_conf.specs.declared.rule.Kind.{Kind}
 use Rattle.pam_facts.specs.Answers.{free_answers, is_there}
@@ -32,7 +34,20 @@ known_by sides side kind items number code = is_in code (known_codes sides side 
 abbrev pub is_alike : SidesText → ModuleText → Bool
 is_alike sides m = if is_there sides.old.there m.path then is_there sides.new.there m.path else not (is_there sides.new.there m.path)
 
+-- the same, by the number of the module
+abbrev pub is_alike_at : SidesText → Items → ℕ → Bool
+is_alike_at sides items number = option_map_or (is_alike sides) (module_at number items) true
+
 -- each of the modules is
 unfoldable pub AreThereAlike : SidesText → Items → Type 0
 AreThereAlike sides items =
-    (number : ℕ) → 1 ≤ number → number ≤ module_count items → option_map_or (is_alike sides) (module_at number items) true ≡ true
+    (number : ℕ) → 1 ≤ number → number ≤ module_count items → is_alike_at sides items number ≡ true
+
+-- the partner of a module of the new stack, if it is
+abbrev pub alike_partner : SidesText → Items → List (Option ℕ) → ℕ → Option ℕ
+alike_partner sides new partners number = if is_alike_at sides new number then partner_of partners number else None
+
+-- THE MODULES THAT ANSWER ALIKE: those that are matched, and there in both configurations or in neither. Matched modules have one path,
+-- so it is enough to ask for that of the new one
+unfoldable pub alike_partners : SidesText → Items → List (Option ℕ) → List (Option ℕ)
+alike_partners sides new partners = None ∷ map (alike_partner sides new partners) (range_with_len 1 (module_count new))

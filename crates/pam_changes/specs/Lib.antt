@@ -2,6 +2,7 @@ pub mod Changes
 pub mod Counts
 pub mod Finding
 pub mod Known
+pub mod Laws
 pub mod Modules
 pub mod Pairs
 pub mod Same

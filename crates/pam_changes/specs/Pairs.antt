@@ -16,7 +16,7 @@ use Rattle.pam_facts.specs.Answers.{Allows}
 use Rattle.pam_paths.specs.Known.{may_answer}
 use Rattle.pam_paths.specs.Listing.{Allowance}
 use Rattle.pam_paths.specs.declared.knowledge.Known.{Known}
-use Rattle.pam_changes.specs.Known.{known_codes}
+use Rattle.pam_changes.specs.Known.{alike_partners, known_codes}
 use Rattle.pam_changes.specs.Modules.{AreModuleChanges}
 use Rattle.pam_changes.specs.Sides.{SideText, SidesText}
 use Rattle.pam_changes.specs.Steps.{asked_modules, asked_numbers}
@@ -36,7 +36,8 @@ module _ (old_allows new_allows : Allowance) (old new : List FlatItem) (partners
   pub record IsShownBy (change : Change) (shown : Shown) : Type 0 where
     pub witness : IsWitness old_allows new_allows old new partners change shown.witness
     pub asked : shown.asked.items ≡ asked_modules partners (answers_of shown.witness.old_codes.items) (answers_of shown.witness.new_codes.items)
-        (asked_numbers (runs_of old) (answers_of shown.witness.old_codes.items)) (asked_numbers (runs_of new) (answers_of shown.witness.new_codes.items)) (modules_of new)
+        (asked_numbers (runs_of old) (answers_of shown.witness.old_codes.items))
+        (asked_numbers (runs_of new) (answers_of shown.witness.new_codes.items)) (modules_of new)
 
   -- there are answers that make a change, or none
   abbrev pub IsShown : Change → Option Shown → Type 0
@@ -52,7 +53,8 @@ module _ (old_allows new_allows : Allowance) (old new : List FlatItem) (partners
   AreDecisions (decisions.Known shown) = AreShown shown
   AreDecisions decisions.NotKnown = HasMoreSituations old_allows new_allows old new partners MAX_SITUATIONS
 
--- HOW THE DECISIONS OF TWO STACKS DIFFER, for all answers that are known to be possible
+-- HOW THE DECISIONS OF TWO STACKS DIFFER, for all answers that are known to be possible. Of matched modules one of which is there and
+-- the other is not, each answers for itself
 pub record IsCompared (sides : SidesText) (kind : Kind) (old new : Items) (partners : List (Option ℕ)) (told : Decisions) : Type 0 where
   pub old_known : Known
   pub new_known : Known
@@ -62,7 +64,7 @@ pub record IsCompared (sides : SidesText) (kind : Kind) (old new : Items) (partn
   pub new_program : List FlatItem
   pub of_old : IsProgramOf old old_program
   pub of_new : IsProgramOf new new_program
-  pub decisions : AreDecisions (may_answer old_known) (may_answer new_known) old_program new_program partners told
+  pub decisions : AreDecisions (may_answer old_known) (may_answer new_known) old_program new_program (alike_partners sides new partners) told
 
 -- A PAIR OF STACKS
 pub record IsPair (sides : SidesText) (pair : StackPair) : Type 0 where

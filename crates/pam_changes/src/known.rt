@@ -1,21 +1,23 @@
 //! What is known of the answers of the modules of a stack.
 
-ghost use Rattle.std.specs.Prelude.{◌≡◌, ◌≢◌, ℕ, [], IfSome, IsFalse, IsTrue, List, Some, true, unwrap_or};
-ghost use Rattle.std.specs.Option.{option_map, option_map_or};
+ghost use Rattle.std.specs.Prelude.{◌≡◌, ◌≢◌, ℕ, [], IfOk, IfSome, IsFalse, IsTrue, List, Some, unwrap_or};
+ghost use Rattle.std.specs.Option.{option_map};
 ghost use Rattle.pam_conf.specs.ItemsOf.{module_text};
-ghost use Rattle.pam_conf.specs.Stack.{module_at, module_count};
+ghost use Rattle.pam_conf.specs.Stack.{module_count};
 ghost use Rattle.pam_facts.specs.Answers.{Allows};
-ghost use Rattle.pam_changes.specs.Known.{AreThereAlike, is_alike, known_codes, line_at, line_of};
+ghost use Rattle.pam_changes.specs.Known.{AreThereAlike, alike_partner, alike_partners, is_alike, is_alike_at, known_codes, line_at, line_of};
 ghost use Rattle.pam_changes.specs.Sides.{side_view, sides_view};
 
 use crate::sides::{Side, Sides};
 use pam_codes::CodeSet;
+use pam_compare::Matching;
 use pam_conf::{Kind, Module, Stack};
 use pam_facts::is_there;
 use pam_known::name_of_path;
 use pam_paths::Known;
 use pam_tables::ReturnTable;
 use pam_text::Texts;
+use std::alloc::{AllocError, Global};
 
 /// The codes of a module's line in the returns file, if it has one and is there.
 fn codes_of(there: Option<&Texts>, returns: &ReturnTable<'_>, module: &Module) -> Option<CodeSet>
@@ -91,7 +93,7 @@ fn is_alike(sides: &Sides<'_, '_>, module: &Module) -> bool
 
 /// The same, by the number of the module.
 fn is_alike_at(sides: &Sides<'_, '_>, stack: &Stack, number: usize) -> bool
-    ensures { result ≡ option_map_or (is_alike (sides_view sides.now)) (module_at number stack.now) true }
+    ensures { result ≡ is_alike_at (sides_view sides.now) stack.now number }
 {
     match stack.module(number) {
         Some(module) => is_alike(sides, module),
@@ -111,4 +113,39 @@ pub(crate) fn are_there_alike(sides: &Sides<'_, '_>, stack: &Stack) -> bool
         }
     }
     true
+}
+
+/// The partner of a module of the new stack, if both are there, or neither is.
+fn alike_partner(
+    sides: &Sides<'_, '_>,
+    new: &Stack,
+    matching: &Matching,
+    number: usize,
+) -> Option<usize>
+    ensures { result ≡ alike_partner (sides_view sides.now) new.now matching.now number }
+{
+    if is_alike_at(sides, new, number) {
+        matching.partner(number)
+    } else {
+        None
+    }
+}
+
+/// The matched modules that answer alike: those that are there in both configurations, or in neither. One that is not there answers
+/// `module_unknown`, and says nothing of one that is.
+#[tactic(auto, unfolding(crate::specs::Known::alike_partners))]
+pub(crate) fn alike_modules(
+    alloc: Global,
+    sides: &Sides<'_, '_>,
+    new: &Stack,
+    matching: &Matching,
+) -> Result<Matching, AllocError>
+    ensures { IfOk result (λ m. m ≡ alike_partners (sides_view sides.now) new.now matching.now) }
+{
+    let mut partners = Vec::new(alloc);
+    partners.push(None)?;
+    for index in 0..new.modules() {
+        partners.push(alike_partner(sides, new, matching, index + 1))?;
+    }
+    Ok(Matching::from_partners(partners))
 }

@@ -6,6 +6,7 @@ mod changes;
 mod counts;
 mod digest;
 mod known;
+pub mod laws;
 mod modules;
 mod pair;
 mod same;

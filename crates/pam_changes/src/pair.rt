@@ -8,7 +8,7 @@ ghost use Rattle.pam_paths.specs.Listing.{Allowance};
 ghost use Rattle.pam_changes.specs.Pairs.{AreDecisions, AreShown, IsCompared, IsPair, IsProgramOf, IsShown};
 ghost use Rattle.pam_changes.specs.Sides.{sides_view};
 
-use crate::known::known_answers;
+use crate::known::{alike_modules, known_answers};
 use crate::modules::ModuleChanges;
 use crate::sides::Sides;
 use crate::steps::{AskedModule, asked_modules};
@@ -152,12 +152,13 @@ impl Matched<'_> {
     {
         let old_known = known_answers(sides, &sides.old, self.kind, self.old);
         let new_known = known_answers(sides, &sides.new, self.kind, self.new);
+        let matching = alike_modules(alloc, sides, self.new, self.matching)?;
         let programs = Programs {
             old,
             new,
-            matching: self.matching,
+            matching: &matching,
         };
-        match compare(alloc, old, new, self.matching, &old_known, &new_known) {
+        match compare(alloc, old, new, &matching, &old_known, &new_known) {
             Ok(comparison) => programs.decisions(alloc, comparison),
             Err(_) => Err(AllocError),
         }

@@ -8,8 +8,8 @@ use Rattle.std.proofs.lemmas.Simd.{bit_mask_l}
 use Rattle.std.specs.Prelude.{map}
 use lib.Pointwise.{pointwise}
 use Rattle.pam_codes.specs.Code.{all_codes}
-use Rattle.pam_codes.specs.Set.{is_in}
-use Rattle.pam_codes.specs.SetBits.{bits_of_codes}
+use Rattle.pam_codes.specs.Set.{IsCodeSet, is_in}
+use Rattle.pam_codes.specs.SetBits.{bits_of_codes, codes_of_bits, codes_where-same}
 use Rattle.pam_dispatch.specs.Runs.{Assignment}
 use Rattle.pam_compare.specs.declared.held.HeldAnswer.{HeldAnswer}
 use Rattle.pam_compare.specs.declared.situation.Situation.{Situation}
@@ -21,6 +21,15 @@ bit-in codes c low =
     let test : ℕ → Bool = λ code. is_in code codes in
     bit_mask_l (map test (range_with_len 0 31)) c
     ∙ ap (λ (t : Bool). cond t 1 0) (get_or-map-range_with_len test 0 31 c c false low (omega arith))
+
+one-if : (t : Bool) → eqb (cond t 1 0) 1 ≡ t
+one-if true = refl
+one-if false = refl
+
+pub codes-kept : (codes : List ℕ) → IsCodeSet codes → codes_of_bits (bits_of_codes codes) ≡ codes
+unfolding codes_of_bits
+codes-kept codes order =
+    codes_where-same _ _ (λ code low. ap (λ (n : ℕ). eqb n 1) (bit-in codes code low) ∙ one-if (is_in code codes)) ∙ sym order
 
 set-bit : (s t : Bool) (n m : ℕ) → n ≡ cond s 1 0 → m ≡ cond t 1 0 → n ≡ m → s ≡ true → t ≡ true
 set-bit s true n m e f g h = refl

@@ -1,7 +1,7 @@
 -- Answers that one stack has had from modules which the other has still ahead.
-use Rattle.std.specs.Prelude.{◌≡◌, ◌<◌, ◌&&◌, ℕ, Bool, List, [], ◌∷◌, IsTrue, nat_eq}
+use Rattle.std.specs.Prelude.{◌≡◌, ◌<◌, ◌&&◌, ℕ, Bool, List, [], ◌∷◌, IsTrue, nat_eq, slice_get, unwrap_or}
 use lib.Pointwise.{pointwise}
-use Rattle.pam_codes.specs.SetBits.{bits_of_codes}
+use Rattle.pam_codes.specs.SetBits.{bits_of_codes, codes_of_bits}
 use Rattle.pam_codes.specs.Set.{is_in}
 use Rattle.pam_dispatch.specs.Runs.{Assignment}
 use Rattle.pam_compare.specs.declared.held.HeldAnswer.{HeldAnswer}
@@ -24,3 +24,7 @@ same_held a b = nat_eq a.name b.name && nat_eq (bits_of_codes a.codes) (bits_of_
 
 abbrev pub same_situation : Situation → Situation → Bool
 same_situation a b = nat_eq a.old b.old && (nat_eq a.new b.new && pointwise same_held a.held.items b.held.items)
+
+-- for private contracts and proofs alone: the least code of a set, by its bits; 31 if there is none
+abbrev pub least_of_bits : ℕ → ℕ
+least_of_bits bits = unwrap_or (slice_get (codes_of_bits bits) 0) 31

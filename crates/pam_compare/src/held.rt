@@ -2,15 +2,16 @@
 
 ghost use Rattle.std.specs.Prelude.{◌≡◌, ◌⊎◌, ◌+◌, ◌<◌, ℕ, false, true, IfOk, IsTrue, OnOk, Some, length, slice_get};
 ghost use Rattle.pam_codes.specs.Set.{is_in};
+ghost use Rattle.pam_codes.specs.SetBits.{bits_of_codes};
 ghost use Rattle.pam_dispatch.specs.Runs.{Assignment};
 ghost use Rattle.pam_compare.specs.declared.held.HeldAnswer.{HeldAnswer};
-ghost use Rattle.pam_compare.specs.Held.{Holds};
+ghost use Rattle.pam_compare.specs.Held.{Holds, least_of_bits};
 ghost use Rattle.pam_compare.specs.Naming.{AreLast};
 ghost use Rattle.pam_compare.specs.Nodes.{Keeps};
 ghost use Rattle.pam_compare.specs.Trails.{IsHeldAfter, IsPast};
 
 use crate::naming::{Naming, common, value_at};
-use pam_codes::CodeSet;
+use pam_codes::{CODES, CodeSet};
 use pam_dispatch::Memory;
 use std::alloc::Global;
 use std::hash::{Hash, Hasher};
@@ -22,17 +23,29 @@ pub(crate) struct HeldAnswer {
     pub(crate) codes: CodeSet,
 }
 
+/// The least of the codes, by which sets that share none are told apart; the number of all codes if there is none.
+fn least_number(codes: CodeSet) -> u8
+    ensures { result ≡ least_of_bits (bits_of_codes codes) }
+{
+    match codes.least() {
+        Some(code) => code.number(),
+        None => CODES as u8,
+    }
+}
+
 impl Hash for HeldAnswer {
-    ghost use Rattle.std.specs.Prelude.{◌++◌, slice_index_or};
+    ghost use Rattle.std.specs.Prelude.{◌++◌};
+    ghost use Rattle.std.specs.Cmp.Rules.{hashing};
     ghost use Rattle.std.specs.Hash as fed;
     ghost use Rattle.std.proofs.Common.{rules};
 
-    ghost hash_input = { λ h. fed.usize h.name };
+    ghost hash_input = { λ h. fed.usize h.name ++ fed.u8 (least_of_bits (bits_of_codes h.codes)) };
 
-    ghost respects_eq = { Prim.search rules };
+    ghost respects_eq = { Prim.search (hashing, rules) };
 
     fn hash<H: Hasher>(&self, state: &mut H) {
         state.write_usize(self.name);
+        state.write_u8(least_number(self.codes));
     }
 }
 

@@ -17,6 +17,7 @@ ghost use Rattle.pam_graph.specs.Order.{IsAbove, numbers_of};
 ghost use Rattle.pam_graph.specs.Places.{AreNodesOf};
 ghost use Rattle.pam_graph.specs.Reached.{AreReachedKeys, IsReached, IsReason, node_key};
 ghost use Rattle.pam_graph.specs.Walks.{walks, walks_of, walks_to};
+ghost use Rattle.pam_paths.specs.Cached.{IsCacheFor};
 ghost use Rattle.pam_paths.specs.Computed.{listing};
 ghost use Rattle.pam_paths.specs.Listing.{IsListing};
 ghost use Rattle.pam_paths.specs.Paths.{path_of, path_through};
@@ -25,7 +26,7 @@ use crate::error::GraphError;
 use crate::graph::{Graph, MAX_NODES};
 use crate::node::{Edge, Node, Target};
 use pam_dispatch::{Place, PlaceTable, Program};
-use pam_paths::{Fork, Knowledge};
+use pam_paths::{ClassCache, Fork, Knowledge};
 use std::alloc::Global;
 
 /// A graph while it is built.
@@ -34,6 +35,8 @@ pub(crate) struct Draft {
     pub(crate) nodes: Vec<Node>,
     /// The place of each node, by its representative.
     pub(crate) places: PlaceTable,
+    /// The classes computed last for each module.
+    pub(crate) cache: ClassCache,
 }
 
 /// The index of the node for `place`.
@@ -63,6 +66,7 @@ fn add(
     ensures target { IfOk result (λ target. target ≡ At (length draft.old.nodes.items)) }
     ensures node { OnOk result (draft.new.nodes.items ≡ draft.old.nodes.items ++ node ∷ []) }
     ensures place { OnOk result (draft.new.places ≡ draft.old.places ++ node_key program.now place.now ∷ []) }
+    ensures cache { draft.new.cache ≡ draft.old.cache }
     ensures many { IfErr result (λ e. e ≡ TooManyNodes → (keys : List PlaceKey) × (keys ≡ draft.old.places ++ node_key program.now place.now ∷ [])
         × (limit < length keys) × AreDifferent keys) }
 {
@@ -91,8 +95,10 @@ pub(crate) fn target_of<K: Knowledge>(
     requires place { IsPlaceOf program.now place.now }
     requires rise { AsksRise 0 (modules_of program.now) (rest_of program.now place.now) }
     requires built { IsBuilt (K.allows knowledge.now) program.now draft.old.nodes.items draft.old.places }
+    requires cache { IsCacheFor (K.allows knowledge.now) program.now draft.old.cache }
     requires reached { IsReached (K.allows knowledge.now) program.now place.now }
     requires keys { AreReachedKeys (K.allows knowledge.now) program.now draft.old.places }
+    ensures cache { IsCacheFor (K.allows knowledge.now) program.now draft.new.cache }
     ensures keys { OnOk result (AreReachedKeys (K.allows knowledge.now) program.now draft.new.places) }
 
     // Places of modules that are asked earlier are not added.
@@ -112,7 +118,7 @@ pub(crate) fn target_of<K: Knowledge>(
     if let Some(index) = find(program, &draft.places, place) {
         return Ok(Target::At(index));
     }
-    let fork = Fork::at(program, knowledge, place, module_number);
+    let fork = Fork::at(program, knowledge, &mut draft.cache, place, module_number);
     let mut edges = Vec::with_capacity(alloc, fork.choices())?;
     let mut bound = 0;
     while let Some(choice) = fork.choice(program, bound) {
@@ -169,6 +175,7 @@ impl Graph {
         let mut draft = Draft {
             nodes: Vec::new(alloc),
             places: PlaceTable::new(alloc),
+            cache: ClassCache::new(),
         };
         let first = program.first();
         let start = target_of(alloc, program, knowledge, limit, &first, &mut draft)?;

@@ -7,6 +7,7 @@ use Rattle.pam_dispatch.specs.Flat.{IsPlaceOf, rest_of}
 use Rattle.pam_dispatch.specs.Runs.{asked_module, next_ask, situation_of}
 use Rattle.pam_dispatch.specs.Situations.{representative}
 use Rattle.pam_paths.specs.declared.class_cache.CachedClasses.{CachedClasses}
+use Rattle.pam_paths.specs.declared.class_cache.ClassCache.{ClassCache}
 use Rattle.pam_paths.specs.Frames.{AreClasses, offered_at}
 use Rattle.pam_paths.specs.Listing.{Allowance}
 
@@ -21,3 +22,7 @@ IsCachedFor allows program number cached =
 unfoldable pub AreCached : Allowance → List FlatItem → List CachedClasses → Type 0
 AreCached allows program modules =
     (number : ℕ) → 1 ≤ number → number ≤ MAX_MODULES → (past : CachedClasses) → IsCachedFor allows program number (slice_index_or modules (number - 1) past)
+
+-- a cache has nothing but classes of this program under this knowledge
+abbrev pub IsCacheFor : Allowance → List FlatItem → ClassCache → Type 0
+IsCacheFor allows program cache = AreCached allows program cache.modules

@@ -44,13 +44,13 @@ impl CachedClasses {
 
 /// The classes computed last for each module. A module is often asked in a situation like the last one again.
 #[derive(Drop)]
-pub(crate) struct ClassCache {
+pub struct ClassCache {
     pub(crate) modules: [CachedClasses; MAX_MODULES],
 }
 
 impl ClassCache {
     /// No classes.
-    pub(crate) fn new() -> ClassCache
+    pub fn new() -> ClassCache
         ensures { (allows : Allowance) (program : List FlatItem) → AreCached allows program result.modules }
     {
         ClassCache {

@@ -4,13 +4,17 @@ ghost use Rattle.std.specs.Prelude.{◌≡◌, ◌+◌, ◌<◌, ◌≤◌, ◌+
 ghost use Rattle.pam_conf.specs.declared.stack.TheConstants.{MAX_MODULES};
 ghost use Rattle.pam_dispatch.specs.Flat.{IsPlaceOf, modules_of, rest_of};
 ghost use Rattle.pam_dispatch.specs.Runs.{AsksRise, asked_module};
+ghost use Rattle.pam_paths.specs.Cached.{IsCacheFor};
 ghost use Rattle.pam_paths.specs.Classes.{least};
 ghost use Rattle.pam_paths.specs.Computed.{listing};
 ghost use Rattle.pam_paths.specs.Forks.{IsChoice, IsFork, paths_by, paths_from};
 ghost use Rattle.pam_paths.specs.Listing.{Allowance};
 
+use crate::class_cache::ClassCache;
 use crate::classes::Classes;
+use crate::direction::Direction;
 use crate::knowledge::Knowledge;
+use crate::scope::Scope;
 use pam_codes::CodeSet;
 use pam_dispatch::{Place, Program, Work};
 
@@ -33,24 +37,33 @@ pub struct Fork {
 }
 
 impl Fork {
-    /// The fork at a place.
+    /// The fork at a place, whose classes are computed if the module was not asked in a situation like it last. The cache is new, or
+    /// one of forks of the same program under the same knowledge.
     #[inline(never)]
     pub fn at<K: Knowledge>(
         program: &Program,
         knowledge: &K,
+        cache: &mut ClassCache,
         place: &Place,
         module_number: usize,
     ) -> Fork
+        requires few { modules_of program.now ≤ MAX_MODULES }
+        requires cache { IsCacheFor (K.allows knowledge.now) program.now cache.old }
         requires place { IsPlaceOf program.now place.now }
         requires asking { asked_module (rest_of program.now place.now) ≡ Some module_number }
         requires rise { AsksRise 0 (modules_of program.now) (rest_of program.now place.now) }
+        ensures cache { IsCacheFor (K.allows knowledge.now) program.now cache.new }
         ensures fork { IsFork (K.allows knowledge.now) program.now result }
         ensures number { result.module_number ≡ module_number }
         ensures place { result.place ≡ place.now }
         ensures paths { paths_from (K.allows knowledge.now) program.now result 0 ≡ listing (K.allows knowledge.now) (rest_of program.now place.now) }
     {
-        let allowed = knowledge.allowed(module_number);
-        let classes = Classes::at(program, place, module_number, allowed);
+        let scope = Scope {
+            program,
+            knowledge,
+            direction: Direction::Forward,
+        };
+        let classes = cache.at(&scope, place, module_number);
         Fork {
             place: *place,
             module_number,

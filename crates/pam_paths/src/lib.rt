@@ -22,6 +22,7 @@ mod scope;
 mod tail_steps;
 
 pub use before::Before;
+pub use class_cache::ClassCache;
 pub use cursor::{Cursor, CursorError, least_number};
 pub use explorer::Explorer;
 pub use fork::{Choice, Fork};

@@ -2,6 +2,7 @@
 
 ghost use Rattle.std.specs.Prelude.{◌≡◌, ◌<◌, IfOk, length};
 ghost use Rattle.pam_codes.specs.declared.code.TheConstants.{CODES};
+ghost use Rattle.pam_conf.specs.Stack.{module_count};
 ghost use Rattle.pam_picture.specs.Layouts.{HasPlaces};
 
 mod aims;
@@ -32,7 +33,7 @@ use shapes::{Bracket, EndPlace, Lane, Note, Place, Point};
 use std::alloc::{AllocError, Global};
 use table::number_at;
 use turns::all_turns;
-use widths::{CHARACTER, Columns, all_gutters, lanes_width, letters, letters_of_class};
+use widths::{CHARACTER, Columns, all_gutters, bold_width, lanes_width, letters, letters_of_class};
 
 /// The height of the outermost brackets.
 const BRACKETS: usize = 42;
@@ -162,17 +163,25 @@ fn notes_width(classes: &[CodeSet]) -> usize {
     most.saturating_mul(CHARACTER)
 }
 
-/// Returns the width of a picture with these ends and notes.
-fn width_of(graph: &Graph, ends: &[EndPlace], noted: &[CodeSet]) -> usize {
+/// Returns the width of a picture with these ends and notes, which is at least `least`.
+fn width_of(graph: &Graph, ends: &[EndPlace], noted: &[CodeSet], least: usize) -> usize {
     right_of(ends, drawn_ends(graph))
         .max(notes_width(noted).saturating_add(MARGIN))
         .saturating_add(MARGIN)
+        .max(least)
+}
+
+/// Returns the least width of a picture with a title, which is written whole.
+fn least_width(title: &[u8]) -> usize {
+    bold_width(title)
+        .saturating_add(MARGIN.saturating_mul(2))
         .max(LEAST)
 }
 
-/// Where the headings begin, where the lanes begin and end, and how many columns there are.
+/// How wide a picture is at least, where the headings begin, where the lanes begin and end, and how many columns there are.
 #[derive(Clone, Copy)]
 struct Area {
+    width: usize,
     headings: usize,
     top: usize,
     bottom: usize,
@@ -190,6 +199,21 @@ fn lanes_below(headings: usize, rows: usize) -> usize {
         .saturating_add(NAMES)
         .saturating_add(rows.saturating_mul(ROW_OF_HEADING))
         .saturating_add(ABOVE)
+}
+
+/// Returns the area of a picture of a stack with this title, these brackets and this many rows of headings. Its lanes have no height yet.
+fn area_above(stack: &Stack, title: &[u8], spans: &[Span], rows: usize) -> Area
+    ensures { result.columns ≡ module_count stack.now }
+{
+    let headings = headings_below(spans);
+    let top = lanes_below(headings, rows);
+    Area {
+        width: least_width(title),
+        headings,
+        top,
+        bottom: top,
+        columns: stack.modules(),
+    }
 }
 
 fn layout_by(
@@ -212,7 +236,7 @@ fn layout_by(
     let notes = all_notes(alloc, measures.noted, foot.saturating_add(LINE))?;
     let lines = notes.len().saturating_add(1).saturating_mul(LINE);
     Ok(Layout {
-        width: width_of(graph, &ends, measures.noted),
+        width: width_of(graph, &ends, measures.noted, area.width),
         height: foot.saturating_add(lines),
         headings: area.headings,
         rows,
@@ -235,8 +259,14 @@ impl Layout {
     ghost use Rattle.std.specs.Prelude.{IfOk};
     ghost use Rattle.pam_picture.specs.Layouts.{IsLayoutOf};
 
-    /// Returns the layout of the picture of a graph of the runs of a stack, with a place for each module, node, edge and decision.
-    pub fn of(alloc: Global, stack: &Stack, graph: &Graph) -> Result<Layout, AllocError>
+    /// Returns the layout of the picture of a graph of the runs of a stack, with a place for each module, node, edge and decision, and
+    /// room for the title.
+    pub fn of(
+        alloc: Global,
+        stack: &Stack,
+        graph: &Graph,
+        title: &[u8],
+    ) -> Result<Layout, AllocError>
         ensures { IfOk result (IsLayoutOf stack.now graph.now) }
     {
         let controls = controls_of(alloc, stack)?;
@@ -244,9 +274,9 @@ impl Layout {
         let grid = Grid::of(alloc, graph, stack.modules())?;
         let nodes = graph.nodes();
         let all = all_ports(alloc, &grid, nodes)?;
-        let headings = headings_below(&spans);
-        let top = lanes_below(headings, most_rows(&controls, nodes));
-        let (heights, bottom) = all_heights(alloc, &grid, &all, top)?;
+        let mut area = area_above(stack, title, &spans, most_rows(&controls, nodes));
+        let (heights, bottom) = all_heights(alloc, &grid, &all, area.top)?;
+        area.bottom = bottom;
         let turns = all_turns(alloc, &heights, nodes, &all, grid.last)?;
         let first = MARGIN
             .saturating_add(lanes_width(&grid))
@@ -266,12 +296,6 @@ impl Layout {
             gutters: &gutters,
             first,
             noted: &noted,
-        };
-        let area = Area {
-            headings,
-            top,
-            bottom,
-            columns: stack.modules(),
         };
         layout_by(alloc, graph, &measures, area, &spans, controls)
     }

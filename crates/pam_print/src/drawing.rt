@@ -48,13 +48,13 @@ enum Canvas {
 }
 
 /// Returns the format that is asked for; for a picture, with its layout.
-fn canvas_of(alloc: Global, reply: &GraphReply<'_>) -> Result<Canvas, AllocError>
+fn canvas_of(alloc: Global, reply: &GraphReply<'_>, title: &[u8]) -> Result<Canvas, AllocError>
     ensures { IfOk result (IsCanvasOf reply.now.format reply.now.stack reply.now.graph) }
 {
     match reply.format {
         GraphFormat::Dot => Ok(Canvas::Dot),
         GraphFormat::Mermaid => Ok(Canvas::Mermaid),
-        GraphFormat::Svg => match Layout::of(alloc, &reply.stack, &reply.graph) {
+        GraphFormat::Svg => match Layout::of(alloc, &reply.stack, &reply.graph, title) {
             Ok(layout) => Ok(Canvas::Svg(layout)),
             Err(error) => Err(error),
         },
@@ -102,7 +102,7 @@ pub(crate) fn write_drawing<W: Write>(
         Ok(title) => title,
         Err(_) => return Err(Fault::Memory),
     };
-    let canvas = match canvas_of(alloc, reply) {
+    let canvas = match canvas_of(alloc, reply, &title) {
         Ok(canvas) => canvas,
         Err(_) => return Err(Fault::Memory),
     };

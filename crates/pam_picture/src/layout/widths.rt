@@ -94,13 +94,18 @@ fn labels_of_column(nodes: &[Node], column: usize) -> usize {
     most
 }
 
-/// Returns the width of the name of a module.
-fn name_width(name: &[u8]) -> usize {
+/// Returns the width of a text in bold.
+pub(super) fn bold_width(text: &[u8]) -> usize {
     let mut width: usize = 0;
-    for byte in name_front(name) {
+    for byte in text {
         width = width.saturating_add(ascii_byte(*byte).len().saturating_mul(BOLD));
     }
-    width.saturating_add(BOLD.saturating_mul(2))
+    width
+}
+
+/// Returns the width of the name of a module.
+fn name_width(name: &[u8]) -> usize {
+    bold_width(name_front(name)).saturating_add(BOLD.saturating_mul(2))
 }
 
 /// Returns the width of what is written over a column.

@@ -16,6 +16,8 @@ use Rattle.pam_graph.proofs.Growing.{added-above, added-built, added-extended, a
 use Rattle.pam_graph.proofs.Growing.{built-length, extended-trans, found-above, left-at, left-fewer, listing-end, node-for, walks-all, walks-choice}
 use Rattle.pam_graph.proofs.Reaching.{added-apart, added-keys, added-reason, added-rests, before-later, before-trans, get-at, key-apart, reached-on}
 use Rattle.pam_graph.proofs.Rests.{asked-equal, before-equal, listing-equal, rise-equal, state-equal}
+use Rattle.pam_paths.specs.declared.class_cache.ClassCache.{ClassCache}
+use Rattle.pam_paths.specs.Cached.{IsCacheFor}
 use Rattle.pam_paths.specs.Forks.{paths_from}
 use Rattle.pam_paths.proofs.FrameLists.{AsksRise-lower, rise_after}
 use Rattle.pam_graph.proofs.building.+target_of.Goals as goal
@@ -58,6 +60,7 @@ loop-choice-init g t c =
       extended = ([], sym (append-nil _));
       later = subst (AreAbove (numbers_of nodes) c.in-Some.module_number) (sym c.in_ok-edges.ensures.items) tt;
       rise = subst (LeastRise 0 0) (sym c.in_ok-edges.ensures.items) (omega arith);
+      cached = c.at-fork.ensures.cache;
       keys = c.requires.keys;
       new = c.in_default-find.ensures.none;
       apart = λ key h before. h;
@@ -86,6 +89,7 @@ target_of-requires g t c κs within =
     (subst (λ (x : ℕ). allows x is.code ≡ true) c.at-fork.ensures.number is.allowed)
     (is.rest ∙ ap (λ (p : Place). after_answer (rest_of program p) is.code) c.at-fork.ensures.place) in
     let keys = c.loop-choice.invariant.keys in
+    let cached = c.loop-choice.invariant.cached in
     let d = c.decreases in
     search rules
 
@@ -115,6 +119,7 @@ loop-choice-preserved g t c =
           (AreAbove-push (numbers_of new) m edges edge (above-extended old new m edges e.extended i.later) (e.above m later));
       rise = subst (LeastRise 0 choice.next) (sym pushed)
           (subst (λ (h : ℕ). LeastRise 0 h (edges ++ edge ∷ [])) (sym low.1) (LeastRise-push 0 c.loop-choice.bound edges edge i.rise low.0));
+      cached = e.cache;
       keys = e.keys;
       new = e.apart (node_key program c.args.place.now) i.new
           (before-later m n _ _ (asked-equal _ _ c.in_default-find.ensures.rests ∙ asked) later);
@@ -176,6 +181,11 @@ returns-clause-walks g t c =
 pub add-requires-clause-same : goal.add-requires-clause-same
 add-requires-clause-same g t c =
     built-length _ c.args.program.now c.loop-choice.draft.nodes.items c.loop-choice.draft.places c.loop-choice.invariant.built
+
+pub returns-clause-cache : goal.returns-clause-cache
+returns-clause-cache g t c =
+    subst (λ (x : ClassCache). IsCacheFor (g.K.Knowledge.allows c.args.knowledge.now) c.args.program.now x) (sym c.add.ensures.cache)
+    c.loop-choice.invariant.cached
 
 pub returns-clause-keys : goal.returns-clause-keys
 returns-clause-keys g t c =

@@ -7,6 +7,7 @@ use Rattle.pam_graph.specs.Building.{IsBefore, IsBuilt, IsExtended, modules_left
 use Rattle.pam_graph.specs.Order.{AreAbove, LeastRise, numbers_of}
 use Rattle.pam_graph.specs.Reached.{AreReachedKeys, node_key}
 use Rattle.pam_graph.specs.Walks.{walks_by, walks_of}
+use Rattle.pam_paths.specs.Cached.{IsCacheFor}
 use Rattle.pam_paths.specs.Computed.{listing}
 use Rattle.pam_paths.specs.Forks.{paths_from}
 use Rattle.pam_graph.proofs.building.+target_of.Given as goal
@@ -23,6 +24,7 @@ invariant-loop-choice g l =
       extended : IsExtended l.fn.draft.nodes.items l.draft.nodes.items;
       later : AreAbove (numbers_of l.draft.nodes.items) l.module_number l.edges.items;
       rise : LeastRise 0 l.bound l.edges.items;
+      cached : IsCacheFor allows l.program l.draft.cache;
       keys : AreReachedKeys allows l.program l.draft.places;
       new : DiffersFrom (node_key l.program l.place) l.draft.places;
       apart : (key : PlaceKey) → DiffersFrom key l.fn.draft.places → IsBefore (rest_at l.program key) (rest_of l.program l.place)

@@ -8,7 +8,7 @@ pub returns-in-Ok-write_graph : goal.returns-in-Ok-write_graph
 returns-in-Ok-write_graph g c =
     let reply = c.args.reply.now in
     let form = c.in-Ok-canvas_of.canvas in
-    let title = c.deref.ensures.value ∙ c.in-Ok.ensures in
+    let title = c.deref-2.ensures.value ∙ c.in-Ok.ensures in
     let drawn = drawn-in reply.format form (title_of reply.service.now reply.kind) reply.stack reply.graph c.in-Ok-canvas_of.ensures in
     (_, (_, drawn, refl), flushed-is c.in-Ok-write_graph.ensures (drawing-is form reply.stack reply.graph title))
 
@@ -16,6 +16,6 @@ pub returns : goal.returns
 returns g c =
     let reply = c.args.reply.now in
     let form = c.in-Ok-canvas_of.canvas in
-    let title = c.deref.ensures.value ∙ c.in-Ok.ensures in
+    let title = c.deref-2.ensures.value ∙ c.in-Ok.ensures in
     let drawn = drawn-in reply.format form (title_of reply.service.now reply.kind) reply.stack reply.graph c.in-Ok-canvas_of.ensures in
     (_, (_, drawn, refl), front-is c.in-Err-write_graph.ensures (drawing-is form reply.stack reply.graph title))

@@ -47,3 +47,6 @@ pub target_of-requires-clause-keys : goal.target_of-requires-clause-keys
 unfolding AreReachedKeys
 target_of-requires-clause-keys g c =
     subst (AreReachedKeys (g.K.Knowledge.allows c.args.knowledge.now) c.args.program.now) (sym c.new-2.ensures) tt
+
+pub target_of-requires-clause-cache : goal.target_of-requires-clause-cache
+target_of-requires-clause-cache g c = c.new-3.ensures (g.K.Knowledge.allows c.args.knowledge.now) c.args.program.now

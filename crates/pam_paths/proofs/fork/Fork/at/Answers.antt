@@ -1,9 +1,7 @@
-use Rattle.std.proofs.Common.{arith, subst, sym}
-use Rattle.pam_codes.specs.Set.{IsCodeSet}
+use Rattle.std.proofs.Common.{arith, sym}
 use Rattle.pam_dispatch.specs.Flat.{modules_of, rest_of}
 use Rattle.pam_paths.specs.declared.direction.Direction.TheVariants.{Forward}
 use Rattle.pam_paths.proofs.FrameLists.{listing-ahead, rise_after}
-use Rattle.pam_paths.proofs.Sets.{where-is_set}
 use Rattle.pam_paths.proofs.fork.Fork.at.Goals as goal
 
 pub at-classes-requires-clause-first : goal.at-classes-requires-clause-first
@@ -14,16 +12,12 @@ pub at-classes-requires-clause-last : goal.at-classes-requires-clause-last
 at-classes-requires-clause-last g c =
     (rise_after 0 (modules_of c.args.program.now) c.args.module_number 0 _ c.requires.rise c.requires.asking).1
 
-pub at-classes-requires-clause-allowed : goal.at-classes-requires-clause-allowed
-at-classes-requires-clause-allowed g c =
-    subst IsCodeSet (sym c.allowed-allowed.ensures) (where-is_set (g.K.Knowledge.allows c.args.knowledge.now c.args.module_number))
-
 pub returns-clause-fork : goal.returns-clause-fork
 returns-clause-fork g c = record {
   place = c.requires.place;
   asking = c.requires.asking;
   rise = c.requires.rise;
-  offered = c.at-classes.ensures.offered (g.K.Knowledge.allows c.args.knowledge.now) c.allowed-allowed.ensures;
+  offered = c.at-classes.ensures.offered;
   classes = c.at-classes.ensures.classes;
 }
 

@@ -1,0 +1,11 @@
+//! Laws of the definitions that the contracts cite: each is the contract of an empty function.
+
+ghost use Rattle.pam_changes.specs.Laws.{EqualStacksAreKnownAlike, SameItemsAreKnownAlike, SameItemsDecideAlike};
+
+/// Stacks with the same items decide alike, whatever their modules answer, and the same is known of their modules. So nothing
+/// changes where stacks are equal, and what a pair of stacks says holds for every stack with its items.
+pub fn same_items()
+    ensures decide { SameItemsDecideAlike }
+    ensures known { SameItemsAreKnownAlike }
+    ensures equal { EqualStacksAreKnownAlike }
+{}
