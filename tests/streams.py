@@ -21,9 +21,12 @@ ACCESS = ["access", "login", "--access", "access", "--group", "group", "--user",
 TIME = ["time", "login", "--time", "time", "--user", "alice", "--at", "2024-05-06T10:00"]
 OUTCOMES = ["outcomes", "login", "auth", "--dir", "d"]
 GRAPH = ["graph", "login", "auth", "--dir", "d"]
-ANSWERED = [SHOW, ["decide", "login", "auth", *["success"] * 12, "--dir", "d"], LONG, OUTCOMES, GRAPH, ACCESS, TIME]
+CHECK = ["check", "--dir", "d", "--fail-on", "note"]
+COMPARE = ["compare", "d", "d"]
+ANSWERED = [SHOW, ["decide", "login", "auth", *["success"] * 12, "--dir", "d"], LONG, OUTCOMES, GRAPH, ACCESS, TIME, CHECK, COMPARE,
+            ["version"]]
 REFUSED = [["show", "ftp", "auth", "--dir", "d"], ["show", "login", "auth"], ["show", "login"], [*LONG, "--after", "x"],
-           ["show", "login", "auth", "--dir", "gone"]]
+           ["show", "login", "auth", "--dir", "gone"], ["check", "--dir", "gone"], ["compare", "d", "gone"], ["compare", "d", "--conf"]]
 V2 = b"pamcheck: V2 Write\n"
 PIPE = 4096
 
