@@ -208,10 +208,10 @@ def over_cases(program):
 
 def words_are_followed(program):
     """Links and `..` in the words themselves are followed by the system, also out of the folder of the words."""
-    make("root", {"out/login": INSIDE}, {"etc/pam.d/login": "/out/login"})
+    make("root", {"out/login": INSIDE, "x/": None}, {"etc/pam.d/login": "../../x/../out/login"})
     os.symlink("root", "linked")
     os.symlink("out/../linked/.", "again")
-    names = ["linked", "again", "out/../root", "root/", "./root//", os.getcwd() + "/root", "out/../again"]
+    names = ["linked", "again", "out/../root", "root/", "./root//", "root/.", os.getcwd() + "/root", "out/../again"]
     seen = nested({"etc/pam.d/login": INSIDE})
     for name in names:
         words = ["check", "--root", name]

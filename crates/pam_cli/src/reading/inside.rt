@@ -21,6 +21,8 @@ pub(super) struct Folder<'a> {
     pub(super) shown: &'a str,
     /// The path by which it is reached, which has no link below the root.
     pub(super) path: &'a str,
+    /// How many folders it is below the root.
+    depth: usize,
     /// How many links were followed to reach it.
     links: usize,
     /// The root out of which no link leads. Without one, links are followed by the system.
@@ -31,6 +33,8 @@ pub(super) struct Folder<'a> {
 #[derive(Drop)]
 pub(super) struct Reached {
     pub(super) path: PathBuf,
+    /// How many folders it is below the root.
+    depth: usize,
     /// How many links were followed to reach it.
     links: usize,
 }
@@ -43,6 +47,7 @@ impl<'a> Folder<'a> {
         Folder {
             shown: path,
             path,
+            depth: 0,
             links: 0,
             root: None,
         }
@@ -55,6 +60,7 @@ impl<'a> Folder<'a> {
         Folder {
             shown: root,
             path: root,
+            depth: 0,
             links: 0,
             root: if root == "/" { None } else { Some(root) },
         }
@@ -67,6 +73,7 @@ impl<'a> Folder<'a> {
         Folder {
             shown,
             path: reached.path.as_str(),
+            depth: reached.depth,
             links: reached.links,
             root: self.root,
         }
@@ -81,12 +88,17 @@ impl<'a> Folder<'a> {
     ) -> io::Result<Option<Reached>> {
         let Some(root) = self.root else {
             let path = Path::new(self.path).join(alloc, path)?;
-            return Ok(Some(Reached { path, links: 0 }));
+            return Ok(Some(Reached {
+                path,
+                depth: 0,
+                links: 0,
+            }));
         };
         let mut walk = Walk {
             root,
             reached: Reached {
                 path: PathBuf::from_str(alloc, self.path)?,
+                depth: self.depth,
                 links: self.links,
             },
             is_folder: true,
@@ -149,6 +161,7 @@ impl Walk<'_> {
     ) -> io::Result<Option<PathBuf>> {
         if path.starts_with('/') {
             self.reached.path = PathBuf::from_str(alloc, self.root)?;
+            self.reached.depth = 0;
         }
         let mut walked = 0_usize;
         for part in path.split('/') {
@@ -196,7 +209,8 @@ impl Walk<'_> {
 
     /// Goes to the folder above, but not above the root.
     fn leave(&mut self) {
-        if self.reached.path.as_str().len() > self.root.len() {
+        if let Some(depth) = self.reached.depth.checked_sub(1) {
+            self.reached.depth = depth;
             self.reached.path.pop();
         }
     }
@@ -215,6 +229,7 @@ impl Walk<'_> {
             self.reached.path.pop();
             return Ok(Some(target));
         }
+        self.reached.depth = self.reached.depth.saturating_add(1);
         self.is_folder = metadata.is_dir();
         Ok(None)
     }
