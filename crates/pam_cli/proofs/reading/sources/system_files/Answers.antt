@@ -9,9 +9,9 @@ pub returns-in-Ok-Some : goal.returns-in-Ok-Some
 returns-in-Ok-Some g c =
     let candidates = map candidate_view c.args.candidates.now in
     let first = path_join c.args.root.shown.now (codes "etc/pam.d") in
-    let shown = c.inner.ensures ∙ c.as_str-in-Ok-Some.ensures ∙ c.in_ok-shown.ensures in
+    let shown = c.inner-vendor.ensures ∙ c.as_str.ensures ∙ c.in_ok-shown.ensures in
     let vendor = shown ∙ ap (λ r. path_join r (codes "usr/lib/pam.d")) c.new.ensures in
     IfOk-weaker c.over_files.result _ _
     (λ found h. inl (subst (λ (v : List ℕ). IsOver candidates first v found.files found.paths) vendor
-    (subst (λ (f : List ℕ). IsOver candidates f c.inner.result.shown.now found.files found.paths) c.requires h)))
+    (subst (λ (f : List ℕ). IsOver candidates f c.inner-vendor.result.shown.now found.files found.paths) c.requires h)))
     c.over_files.ensures
