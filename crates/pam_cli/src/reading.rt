@@ -8,6 +8,7 @@ ghost use Rattle.pam_cli.specs.Sources.{IsUnread};
 ghost use Rattle.pam_words.specs.Wanted.{candidate_view};
 
 mod files;
+mod inside;
 mod modules;
 mod sources;
 mod tables;

@@ -3,6 +3,7 @@
 ghost use Rattle.std.specs.Prelude.{◌≡◌, IfErr};
 ghost use Rattle.pam_cli.specs.Sources.{IsUnread};
 
+use crate::reading::inside::{Folder, Reached};
 use pam_report::InputError;
 use std::alloc::{AllocError, Global};
 use std::fs::{Metadata, OpenFile};
@@ -64,16 +65,18 @@ fn is_link<R: std::rt::Files>(rt: &R, path: Path<'_>) -> bool {
     }
 }
 
+/// Whether this error, met at a link, says that its target is none.
+pub(super) fn is_of_target(error: &io::Error) -> bool {
+    match error.kind() {
+        ErrorKind::FilesystemLoop | ErrorKind::NotADirectory | ErrorKind::InvalidFilename => true,
+        _ => false,
+    }
+}
+
 /// Whether this error, met at a path, says that it is a link that leads nowhere, or that nothing is there. A link whose
 /// target may not be looked at leads somewhere.
 fn leads_nowhere<R: std::rt::Files>(rt: &R, path: Path<'_>, error: &io::Error) -> bool {
-    match error.kind() {
-        ErrorKind::NotFound => true,
-        ErrorKind::FilesystemLoop | ErrorKind::NotADirectory | ErrorKind::InvalidFilename => {
-            is_link(rt, path)
-        }
-        _ => false,
-    }
+    error.kind() == ErrorKind::NotFound || (is_of_target(error) && is_link(rt, path))
 }
 
 /// Returns what the system says of a path after links are followed. Returns `None` if it leads nowhere.
@@ -90,24 +93,52 @@ fn metadata_at<R: std::rt::Files>(rt: &R, path: Path<'_>) -> io::Result<Option<M
     }
 }
 
-/// Whether something is at this path after links are followed.
-pub(super) fn is_there<R: std::rt::Files>(rt: &R, path: Path<'_>) -> io::Result<bool> {
-    Ok(metadata_at(rt, path)?.is_some())
+/// What is at a path below a folder after links are followed.
+#[derive(Drop)]
+struct Found {
+    reached: Reached,
+    metadata: Metadata,
 }
 
-/// Whether a folder is at this path after links are followed.
-pub(super) fn is_folder<R: std::rt::Files>(rt: &R, path: Path<'_>) -> io::Result<bool> {
-    match metadata_at(rt, path)? {
-        Some(metadata) => Ok(metadata.is_dir()),
-        None => Ok(false),
+/// Looks at a path below a folder. Returns `None` if it leads nowhere.
+fn found_at<R: std::rt::Files>(
+    rt: &R,
+    alloc: Global,
+    folder: Folder<'_>,
+    path: &str,
+) -> io::Result<Option<Found>> {
+    let Some(reached) = folder.find(rt, alloc, path)? else {
+        return Ok(None);
+    };
+    match metadata_at(rt, reached.path.as_path())? {
+        Some(metadata) => Ok(Some(Found { reached, metadata })),
+        None => Ok(None),
     }
 }
 
-/// Whether a regular file is at this path after links are followed.
-fn is_regular<R: std::rt::Files>(rt: &R, path: Path<'_>) -> io::Result<bool> {
-    match metadata_at(rt, path)? {
-        Some(metadata) => Ok(metadata.is_file()),
-        None => Ok(false),
+/// Returns how what is at a path below a folder is reached, if anything is there after links are followed.
+pub(super) fn find_there<R: std::rt::Files>(
+    rt: &R,
+    alloc: Global,
+    folder: Folder<'_>,
+    path: &str,
+) -> io::Result<Option<Reached>> {
+    match found_at(rt, alloc, folder, path)? {
+        Some(found) => Ok(Some(found.reached)),
+        None => Ok(None),
+    }
+}
+
+/// Returns how the folder at a path below another one is reached, if one is there after links are followed.
+pub(super) fn find_folder<R: std::rt::Files>(
+    rt: &R,
+    alloc: Global,
+    folder: Folder<'_>,
+    path: &str,
+) -> io::Result<Option<Reached>> {
+    match found_at(rt, alloc, folder, path)? {
+        Some(found) if found.metadata.is_dir() => Ok(Some(found.reached)),
+        _ => Ok(None),
     }
 }
 
@@ -131,16 +162,16 @@ pub(super) fn entry_names<R: std::rt::Files + AllocGlobal + Clone + Drop>(
     Ok(names)
 }
 
-/// Reads what is at this path, if it is a regular file.
-pub(super) fn regular_bytes<R: std::rt::Files>(
+/// Reads what was found, if it is a regular file.
+fn bytes_found<R: std::rt::Files>(
     rt: &R,
     alloc: Global,
-    path: Path<'_>,
+    found: &Found,
 ) -> io::Result<Option<Vec<u8>>> {
-    if !is_regular(rt, path)? {
+    if !found.metadata.is_file() {
         return Ok(None);
     }
-    let file = fs::open(rt, path)?;
+    let file = fs::open(rt, found.reached.path.as_path())?;
     // What is open may be another file than the one that was looked at.
     let metadata = file.metadata()?;
     if !metadata.is_file() {
@@ -149,16 +180,30 @@ pub(super) fn regular_bytes<R: std::rt::Files>(
     Ok(Some(bytes_of(alloc, file, metadata.len())?))
 }
 
-/// Reads a regular file. Returns `None` if nothing is there.
+/// Reads what is at a path below a folder, after links are followed, if it is a regular file.
+pub(super) fn regular_bytes<R: std::rt::Files>(
+    rt: &R,
+    alloc: Global,
+    folder: Folder<'_>,
+    path: &str,
+) -> io::Result<Option<Vec<u8>>> {
+    match found_at(rt, alloc, folder, path)? {
+        Some(found) => bytes_found(rt, alloc, &found),
+        None => Ok(None),
+    }
+}
+
+/// Reads the regular file at a path below a folder, after links are followed. Returns `None` if nothing is there.
 pub(super) fn bytes_if_there<R: std::rt::Files>(
     rt: &R,
     alloc: Global,
-    path: Path<'_>,
+    folder: Folder<'_>,
+    path: &str,
 ) -> io::Result<Option<Vec<u8>>> {
-    if !is_there(rt, path)? {
+    let Some(found) = found_at(rt, alloc, folder, path)? else {
         return Ok(None);
-    }
-    match regular_bytes(rt, alloc, path)? {
+    };
+    match bytes_found(rt, alloc, &found)? {
         Some(bytes) => Ok(Some(bytes)),
         None => Err(io::Error::from(ErrorKind::InvalidInput)),
     }

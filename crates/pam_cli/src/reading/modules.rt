@@ -4,13 +4,15 @@ ghost use Rattle.std.specs.Prelude.{◌≡◌, ◌⊎◌, IfErr, map};
 ghost use Rattle.pam_paths.specs.Classes.{Member};
 ghost use Rattle.pam_cli.specs.Sources.{IsInSource, IsUnread};
 
-use crate::reading::files::{entry_names, is_folder, is_there, unread};
+use crate::reading::files::{entry_names, find_folder, find_there, unread};
+use crate::reading::inside::Folder;
 use indexmap::IndexSet;
 use pam_conf::Files;
 use pam_report::InputError;
 use pam_text::Texts;
 use pam_words::ConfSource;
 use std::alloc::{AllocError, Global};
+use std::io::ErrorKind;
 use std::path::Path;
 
 /// The folders of a system that have a folder of modules, or folders that do.
@@ -49,14 +51,14 @@ impl Found {
 fn put_folder<R: std::rt::Files + AllocGlobal + Clone + Drop>(
     rt: &R,
     alloc: Global,
-    folder: &str,
+    folder: Folder<'_>,
     found: &mut Found,
 ) -> Result<(), InputError>
-    ensures { IfErr result (IsUnread (λ n. n ≡ folder.now)) }
+    ensures { IfErr result (IsUnread (λ n. n ≡ folder.entry.shown.now)) }
 {
-    let names = match entry_names(rt, alloc, folder) {
+    let names = match entry_names(rt, alloc, folder.path) {
         Ok(names) => names,
-        Err(error) => return Err(unread(alloc, folder, &error)),
+        Err(error) => return Err(unread(alloc, folder.shown, &error)),
     };
     found.is_known = true;
     for name in names {
@@ -75,25 +77,29 @@ fn put_folders<R: std::rt::Files + AllocGlobal + Clone + Drop>(
     ensures { IfErr result (IsUnread (λ n. Member n (map (λ f. f.now) folders.now))) }
 {
     for folder in folders {
-        if let Err(error) = put_folder(rt, alloc, folder, found) {
+        if let Err(error) = put_folder(rt, alloc, Folder::of_system(folder), found) {
             return Err(error);
         }
     }
     Ok(())
 }
 
-/// Adds the names of the entries of the folder of modules in this folder, if it has one.
+/// Adds the names of the entries of the folder of modules at this path below a folder of libraries, if it is there.
 fn put_security<R: std::rt::Files + AllocGlobal + Clone + Drop>(
     rt: &R,
     alloc: Global,
-    folder: Path<'_>,
+    library: Folder<'_>,
+    path: &str,
     found: &mut Found,
 ) -> Result<(), InputError> {
-    let security = folder.join(alloc, SECURITY)?;
-    match is_folder(rt, security.as_path()) {
-        Ok(true) => put_folder(rt, alloc, security.as_str(), found),
-        Ok(false) => Ok(()),
-        Err(error) => Err(unread(alloc, security.as_str(), &error)),
+    let shown = Path::new(library.shown).join(alloc, path)?;
+    match find_folder(rt, alloc, library, path) {
+        Ok(Some(reached)) => {
+            let security = library.inner(shown.as_str(), &reached);
+            put_folder(rt, alloc, security, found)
+        }
+        Ok(None) => Ok(()),
+        Err(error) => Err(unread(alloc, shown.as_str(), &error)),
     }
 }
 
@@ -106,18 +112,18 @@ fn is_triplet(name: &str) -> bool {
 fn put_library<R: std::rt::Files + AllocGlobal + Clone + Drop>(
     rt: &R,
     alloc: Global,
-    library: Path<'_>,
+    library: Folder<'_>,
     found: &mut Found,
 ) -> Result<(), InputError> {
-    put_security(rt, alloc, library, found)?;
-    let names = match entry_names(rt, alloc, library.as_str()) {
+    put_security(rt, alloc, library, SECURITY, found)?;
+    let names = match entry_names(rt, alloc, library.path) {
         Ok(names) => names,
-        Err(error) => return Err(unread(alloc, library.as_str(), &error)),
+        Err(error) => return Err(unread(alloc, library.shown, &error)),
     };
     for name in names {
         if is_triplet(name.as_str()) {
-            let folder = library.join(alloc, name.as_str())?;
-            put_security(rt, alloc, folder.as_path(), found)?;
+            let path = Path::new(name.as_str()).join(alloc, SECURITY)?;
+            put_security(rt, alloc, library, path.as_str(), found)?;
         }
     }
     Ok(())
@@ -127,15 +133,18 @@ fn put_library<R: std::rt::Files + AllocGlobal + Clone + Drop>(
 fn put_system<R: std::rt::Files + AllocGlobal + Clone + Drop>(
     rt: &R,
     alloc: Global,
-    root: &str,
+    root: Folder<'_>,
     found: &mut Found,
 ) -> Result<(), InputError> {
     for library in LIBRARIES {
-        let library = Path::new(root).join(alloc, library)?;
-        match is_folder(rt, library.as_path()) {
-            Ok(true) => put_library(rt, alloc, library.as_path(), found)?,
-            Ok(false) => {}
-            Err(error) => return Err(unread(alloc, library.as_str(), &error)),
+        let shown = Path::new(root.shown).join(alloc, library)?;
+        match find_folder(rt, alloc, root, library) {
+            Ok(Some(reached)) => {
+                let library = root.inner(shown.as_str(), &reached);
+                put_library(rt, alloc, library, found)?;
+            }
+            Ok(None) => {}
+            Err(error) => return Err(unread(alloc, shown.as_str(), &error)),
         }
     }
     Ok(())
@@ -145,11 +154,14 @@ fn put_system<R: std::rt::Files + AllocGlobal + Clone + Drop>(
 fn is_at_root<R: std::rt::Files>(
     rt: &R,
     alloc: Global,
-    root: &str,
+    root: Folder<'_>,
     path: &str,
 ) -> Result<bool, AllocError> {
-    let path = Path::new(root).join(alloc, path.trim_start_matches('/'))?;
-    Ok(is_there(rt, path.as_path()).unwrap_or(true))
+    match find_there(rt, alloc, root, path.trim_start_matches('/')) {
+        Ok(found) => Ok(found.is_some()),
+        Err(error) if error.kind() == ErrorKind::OutOfMemory => Err(AllocError),
+        Err(_) => Ok(true),
+    }
 }
 
 fn is_blank(byte: &u8) -> bool {
@@ -160,7 +172,7 @@ fn is_blank(byte: &u8) -> bool {
 fn put_absolute<R: std::rt::Files>(
     rt: &R,
     alloc: Global,
-    root: &str,
+    root: Folder<'_>,
     bytes: &[u8],
     found: &mut Found,
 ) -> Result<(), AllocError> {
@@ -182,7 +194,7 @@ fn put_absolute<R: std::rt::Files>(
 fn put_all_absolute<R: std::rt::Files>(
     rt: &R,
     alloc: Global,
-    root: &str,
+    root: Folder<'_>,
     files: &Files,
     found: &mut Found,
 ) -> Result<(), AllocError> {
@@ -195,10 +207,10 @@ fn put_all_absolute<R: std::rt::Files>(
 }
 
 /// Returns the folder below which the modules of a source are: that of the system for `--root`, else that of the running one.
-fn root_of<'a>(source: ConfSource<'a>) -> &'a str {
+fn root_of<'a>(source: ConfSource<'a>) -> Folder<'a> {
     match source {
-        ConfSource::Root(root) => root,
-        _ => "/",
+        ConfSource::Root(root) => Folder::of_root(root),
+        _ => Folder::of_system("/"),
     }
 }
 
@@ -212,7 +224,7 @@ fn put_source<R: std::rt::Files + AllocGlobal + Clone + Drop>(
     ensures { IfErr result (IsUnread (IsInSource source.entry)) }
 {
     match source {
-        ConfSource::Root(root) => put_system(rt, alloc, root, found),
+        ConfSource::Root(_) => put_system(rt, alloc, root_of(source), found),
         _ => Ok(()),
     }
 }

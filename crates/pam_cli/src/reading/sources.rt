@@ -7,8 +7,9 @@ ghost use Rattle.pam_cli.specs.Sources.{IsOneFile, IsOver, IsRead, IsRootFile, I
 ghost use Rattle.pam_words.specs.Wanted.{candidate_view};
 
 use crate::reading::files::{
-    bytes_if_there, entry_names, is_folder, is_there, named_file, regular_bytes, unread,
+    bytes_if_there, entry_names, find_folder, find_there, named_file, regular_bytes, unread,
 };
+use crate::reading::inside::Folder;
 use indexmap::IndexSet;
 use pam_conf::{Files, Form};
 use pam_report::InputError;
@@ -18,6 +19,15 @@ use std::alloc::{AllocError, Global};
 use std::io::ErrorKind;
 use std::path::Path;
 use std::{fs, io};
+
+/// The folder of the files of a system.
+const FOLDER: &str = "etc/pam.d";
+
+/// The second folder of the files of a system.
+const VENDOR: &str = "usr/lib/pam.d";
+
+/// The one file of a system without these folders.
+const FILE: &str = "etc/pam.conf";
 
 /// The files of a source, and the paths under which they were read: that of the whole configuration, and then that of
 /// each file.
@@ -66,19 +76,19 @@ impl SourceFiles {
 fn put_entry<R: std::rt::Files>(
     rt: &R,
     alloc: Global,
-    folder: &str,
+    folder: Folder<'_>,
     name: String,
     found: &mut SourceFiles,
 ) -> Result<(), InputError>
     requires { HasNames found.old }
-    ensures ok { OnOk result (AddsFiles folder.now found.old found.new) }
+    ensures ok { OnOk result (AddsFiles folder.entry.shown.now found.old found.new) }
     ensures error { IfErr result (IsUnread (λ n. n ≡ string_bytes name)) }
 {
     if found.names.contains(name.as_bytes()) {
         return Ok(());
     }
-    let path = Path::new(folder).join(alloc, name.as_str())?;
-    match regular_bytes(rt, alloc, path.as_path()) {
+    let path = Path::new(folder.shown).join(alloc, name.as_str())?;
+    match regular_bytes(rt, alloc, folder, name.as_str()) {
         Ok(None) => Ok(()),
         Ok(Some(bytes)) => found.put(alloc, name.into_bytes(), path.as_str(), bytes),
         Err(error) => Err(unread(alloc, name.as_str(), &error)),
@@ -89,15 +99,15 @@ fn put_entry<R: std::rt::Files>(
 fn add_folder<R: std::rt::Files + AllocGlobal + Clone + Drop>(
     rt: &R,
     alloc: Global,
-    folder: &str,
+    folder: Folder<'_>,
     found: &mut SourceFiles,
 ) -> Result<(), InputError>
     requires { HasNames found.old }
-    ensures { OnOk result (AddsFiles folder.now found.old found.new) }
+    ensures { OnOk result (AddsFiles folder.entry.shown.now found.old found.new) }
 {
-    let names = match entry_names(rt, alloc, folder) {
+    let names = match entry_names(rt, alloc, folder.path) {
         Ok(names) => names,
-        Err(error) => return Err(unread(alloc, folder, &error)),
+        Err(error) => return Err(unread(alloc, folder.shown, &error)),
     };
     for name in names {
         put_entry(rt, alloc, folder, name, found)?;
@@ -143,13 +153,13 @@ fn candidate_files<R: std::rt::Files>(
 fn folder_files<R: std::rt::Files + AllocGlobal + Clone + Drop>(
     rt: &R,
     alloc: Global,
-    folder: &str,
+    folder: Folder<'_>,
     candidates: &[Candidate<'_>],
 ) -> Result<SourceFiles, InputError>
     ensures names { IfOk result HasNames }
-    ensures files { IfOk result (λ found. IsOfFolder (map candidate_view candidates.now) folder.now found.files found.paths) }
+    ensures files { IfOk result (λ found. IsOfFolder (map candidate_view candidates.now) folder.entry.shown.now found.files found.paths) }
 {
-    let mut found = candidate_files(rt, alloc, folder, candidates)?;
+    let mut found = candidate_files(rt, alloc, folder.shown, candidates)?;
     add_folder(rt, alloc, folder, &mut found)?;
     Ok(found)
 }
@@ -158,11 +168,11 @@ fn folder_files<R: std::rt::Files + AllocGlobal + Clone + Drop>(
 fn over_files<R: std::rt::Files + AllocGlobal + Clone + Drop>(
     rt: &R,
     alloc: Global,
-    folder: &str,
-    vendor: &str,
+    folder: Folder<'_>,
+    vendor: Folder<'_>,
     candidates: &[Candidate<'_>],
 ) -> Result<SourceFiles, InputError>
-    ensures { IfOk result (λ found. IsOver (map candidate_view candidates.now) folder.now vendor.now found.files found.paths) }
+    ensures { IfOk result (λ found. IsOver (map candidate_view candidates.now) folder.entry.shown.now vendor.entry.shown.now found.files found.paths) }
 {
     let mut found = folder_files(rt, alloc, folder, candidates)?;
     add_folder(rt, alloc, vendor, &mut found)?;
@@ -197,18 +207,21 @@ fn one_file(alloc: Global, path: &str, bytes: Vec<u8>) -> Result<SourceFiles, In
 fn system_files<R: std::rt::Files + AllocGlobal + Clone + Drop>(
     rt: &R,
     alloc: Global,
-    root: Path<'_>,
-    folder: &str,
+    root: Folder<'_>,
+    folder: Folder<'_>,
     candidates: &[Candidate<'_>],
 ) -> Result<SourceFiles, InputError>
-    requires { folder.now ≡ path_join root.text.now (codes "etc/pam.d") }
-    ensures { IfOk result (λ found. IsOfRoot (map candidate_view candidates.now) root.entry.text.now found.files found.paths) }
+    requires { folder.shown.now ≡ path_join root.shown.now (codes "etc/pam.d") }
+    ensures { IfOk result (λ found. IsOfRoot (map candidate_view candidates.now) root.entry.shown.now found.files found.paths) }
 {
-    let vendor = root.join(alloc, "usr/lib/pam.d")?;
-    match is_there(rt, vendor.as_path()) {
-        Ok(true) => over_files(rt, alloc, folder, vendor.as_str(), candidates),
-        Ok(false) => folder_files(rt, alloc, folder, candidates),
-        Err(error) => Err(unread(alloc, vendor.as_str(), &error)),
+    let shown = Path::new(root.shown).join(alloc, VENDOR)?;
+    match find_there(rt, alloc, root, VENDOR) {
+        Ok(Some(reached)) => {
+            let vendor = root.inner(shown.as_str(), &reached);
+            over_files(rt, alloc, folder, vendor, candidates)
+        }
+        Ok(None) => folder_files(rt, alloc, folder, candidates),
+        Err(error) => Err(unread(alloc, shown.as_str(), &error)),
     }
 }
 
@@ -216,11 +229,12 @@ fn system_files<R: std::rt::Files + AllocGlobal + Clone + Drop>(
 fn root_file<R: std::rt::Files>(
     rt: &R,
     alloc: Global,
+    root: Folder<'_>,
     path: &str,
 ) -> Result<SourceFiles, InputError>
     ensures { IfOk result (λ found. IsRootFile path.now found.files found.paths) }
 {
-    match bytes_if_there(rt, alloc, Path::new(path)) {
+    match bytes_if_there(rt, alloc, root, FILE) {
         Ok(Some(bytes)) => one_file(alloc, path, bytes),
         Ok(None) => Ok(SourceFiles::new(alloc, Form::Single, path)?),
         Err(error) => Err(unread(alloc, path, &error)),
@@ -240,20 +254,19 @@ fn root_files<R: std::rt::Files + AllocGlobal + Clone + Drop>(
     if let Err(error) = fs::read_dir(rt, root) {
         return Err(unread(alloc, root, &error));
     }
-    let root = Path::new(root);
-    let folder = root.join(alloc, "etc/pam.d")?;
-    match is_folder(rt, folder.as_path()) {
-        Ok(true) => system_files(rt, alloc, root, folder.as_str(), candidates),
-        Ok(false) if candidates.is_empty() => {
-            let file = root.join(alloc, "etc/pam.conf")?;
-            root_file(rt, alloc, file.as_str())
+    let root = Folder::of_root(root);
+    let shown = Path::new(root.shown).join(alloc, FOLDER)?;
+    match find_folder(rt, alloc, root, FOLDER) {
+        Ok(Some(reached)) => {
+            let folder = root.inner(shown.as_str(), &reached);
+            system_files(rt, alloc, root, folder, candidates)
         }
-        Ok(false) => Err(unread(
-            alloc,
-            folder.as_str(),
-            &io::Error::from(ErrorKind::NotFound),
-        )),
-        Err(error) => Err(unread(alloc, folder.as_str(), &error)),
+        Ok(None) if candidates.is_empty() => {
+            let file = Path::new(root.shown).join(alloc, FILE)?;
+            root_file(rt, alloc, root, file.as_str())
+        }
+        Ok(None) => Err(unread(alloc, shown.as_str(), &io::Error::from(ErrorKind::NotFound))),
+        Err(error) => Err(unread(alloc, shown.as_str(), &error)),
     }
 }
 
@@ -267,8 +280,11 @@ pub(super) fn source_files<R: std::rt::Files + AllocGlobal + Clone + Drop>(
     ensures { MatchResult result (λ found. IsRead (map candidate_view candidates.now) source.entry found.files found.paths) (IsUnread (IsInSource source.entry)) }
 {
     match source {
-        ConfSource::Dir(folder) => folder_files(rt, alloc, folder, candidates),
-        ConfSource::Over { folder, vendor } => over_files(rt, alloc, folder, vendor, candidates),
+        ConfSource::Dir(folder) => folder_files(rt, alloc, Folder::of_system(folder), candidates),
+        ConfSource::Over { folder, vendor } => {
+            let (folder, vendor) = (Folder::of_system(folder), Folder::of_system(vendor));
+            over_files(rt, alloc, folder, vendor, candidates)
+        }
         ConfSource::Conf(name) => conf_file(rt, alloc, name),
         ConfSource::Root(root) => root_files(rt, alloc, root, candidates),
     }

@@ -6,6 +6,7 @@ ghost use Rattle.pam_cli.specs.Reading.{AreTables, IsNamed, IsOfTables, IsTable}
 ghost use Rattle.pam_cli.specs.Sources.{IsInSource, IsUnread};
 
 use crate::reading::files::{bytes_if_there, named_file, unread};
+use crate::reading::inside::Folder;
 use pam_report::{InputError, TableFile, TableFiles};
 use pam_words::{CheckFiles, ConfSource};
 use std::alloc::Global;
@@ -33,15 +34,17 @@ fn named_table<R: std::rt::Files>(
     Ok(TableFile { path, bytes })
 }
 
-/// Reads a table of a system, if it is there.
+/// Reads the own table of the system of this root, if it is there. It is shown by its path.
 fn table_if_there<R: std::rt::Files>(
     rt: &R,
     alloc: Global,
+    root: Folder<'_>,
+    own: &str,
     path: &str,
 ) -> Result<Option<TableFile>, InputError>
     ensures { IfOk result (λ found. IfSome found (λ table. table.path.items ≡ path.now)) }
 {
-    match bytes_if_there(rt, alloc, Path::new(path)) {
+    match bytes_if_there(rt, alloc, root, own) {
         Ok(Some(bytes)) => {
             let path = Vec::from_slice(alloc, path.as_bytes())?;
             Ok(Some(TableFile { path, bytes }))
@@ -66,7 +69,7 @@ fn table_of<R: std::rt::Files>(
         (Some(name), _) => Ok(Some(named_table(rt, alloc, name)?)),
         (None, ConfSource::Root(root)) => {
             let path = Path::new(root).join(alloc, own)?;
-            table_if_there(rt, alloc, path.as_str())
+            table_if_there(rt, alloc, Folder::of_root(root), own, path.as_str())
         }
         (None, _) => Ok(None),
     }

@@ -3,4 +3,4 @@ use Rattle.pam_cli.specs.Sources.{AddsFiles}
 use Rattle.pam_cli.proofs.reading.sources.add_folder.Given as goal
 
 abbrev pub invariant-loop-name : goal.invariant-loop-name
-invariant-loop-name g l = AddsFiles l.fn.folder l.initial.found l.found
+invariant-loop-name g l = AddsFiles l.fn.folder.shown.now l.initial.found l.found

@@ -19,4 +19,4 @@ returns-in-Ok-Some-clause-ok g c =
     (c.as_bytes.ensures.value ∙ spelled) c.if-contains.false in
     let place = c.as_str-in-Ok-Some.ensures ∙ c.in_ok-path.ensures ∙ ap₂ path_join c.new.ensures (c.as_str.ensures.value ∙ spelled) in
     on_ok_weaker c.put.result
-    (one_more c.args.folder.now c.into_bytes.result.items c.in-Ok-Some.bytes.items _ found c.put.new.self lacked place) c.put.ensures.ok
+    (one_more c.args.folder.shown.now c.into_bytes.result.items c.in-Ok-Some.bytes.items _ found c.put.new.self lacked place) c.put.ensures.ok
