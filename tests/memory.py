@@ -38,6 +38,9 @@ TABLES = LOGINS + [TE11]
 # The flat program, and the texts of a page or a graph and what is counted over it; a cursor takes no memory.
 PAGES = LOGINS + [E17]
 TABLE_PAGES = TABLES + [E17]
+# A comparison reads two configurations and the facts file, then the returns file; then it compares.
+COMPARES = STACKS
+TABLE_COMPARES = STACKS + [TE11, E17]
 # The title of a drawing, which has the service in lower case once more, and the layout of a picture.
 DRAWINGS = PAGES + [KEPT, E17]
 TABLE_DRAWINGS = TABLE_PAGES + [KEPT, E17]
@@ -52,7 +55,7 @@ LONG_CHECKS = FOUND_CHECKS + [KEPT]
 
 TREE = {"d": FOLDER, "stack": {"login": STACK}, "pam.conf": b"login auth required a.so x\n" * 40, "access": ACCESS,
         "group": GROUP, "time": TIME, "returns": RETURNS, "facts": b"pam_own passes auth success\n", "accept": b"S6\nS2 login auth\n",
-        "m": {"a.so": b""},
+        "m": {"a.so": b""}, "old": {"login": b"auth required a.so\n"}, "new": {"login": b"auth optional a.so\nauth optional b.so x\n"},
         "big": {"login": STACK + b"session required [success=ok default=bad] a.so [d e]\n" * 2000}}
 ACCESS_TABLE = ["--access", "access", "--group", "group", "--user", "alice"]
 TIME_TABLE = ["--time", "time", "--at", MOMENT]
@@ -89,6 +92,9 @@ ASKED = [
     (["check", "--conf", "pam.conf", "--fail-on", "note"], CHECKS),
     (["show", "login", "auth", "--dir", "d", "--with", "login=d/common", "--with=new=d/other"], STACKS),
     (["check", "--dir", "stack", "--modules", "m", "--facts", "facts", "--accept", "accept"], FOUND_CHECKS),
+    (["compare", "old", "new"], COMPARES),
+    (["compare", "new", "old", "LOGIN", "auth", "--modules", "m", "--facts", "facts", *RETURNS_FILE], TABLE_COMPARES),
+    (["compare", "pam.conf", "pam.conf", "--conf"], COMPARES),
     (["version"], WORDS),
     (["show", "login"], WORDS),
     (["show", "login", "atuh", "--dir", "d"], [*WORDS, UNSAID]),
@@ -102,6 +108,8 @@ ASKED = [
     (["access", "login", *ACCESS_TABLE, "listsep=,"], [*TABLES, UNSAID]),
     (["check", "--dir", "stack", "--facts", "group"], [*STACKS, UNSAID]),
     (["check", "--dir", "stack", "--accept", "group"], [*STACKS, UNSAID]),
+    (["compare", "old", "gone"], [*STACKS, UNSAID]),
+    (["compare", "old", "new", "--returns", "group"], [*STACKS, TE11, UNSAID]),
     ([*PATHS, "--after", "3"], [*PAGES, UNSAID]),
     ([*ACCOUNT, *RETURNS_FILE, "--before", "x"], [*TABLE_PAGES, UNSAID]),
 ]
