@@ -27,7 +27,7 @@ use Rattle.pam_print.specs.Text.{IsText}
 -- what a call gives that answers a task, if another gives as much for each relation
 pub answers-by : (One Other : (Answer → Type 0) → Type 0) → ((IsAnswer : Answer → Type 0) → One IsAnswer → Other IsAnswer)
     → (service : List ℕ) (task : Task) (files : Folder) (inputs : Inputs) → AnswersBy One service task files inputs → AnswersBy Other service task files inputs
-answers-by One Other go service (Show source kind) files inputs h = go _ h
+answers-by One Other go service (Show source kind release) files inputs h = go _ h
 answers-by One Other go service (Decide source kind answered) files inputs h = go _ h
 answers-by One Other go service (Access table groups login arguments) files inputs h = go _ h
 answers-by One Other go service (Time table login moment) files inputs h = (h.0, h.1, go _ h.2)

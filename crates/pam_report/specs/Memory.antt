@@ -46,8 +46,12 @@ of_tables access groups time = record { configuration = false; access = access; 
 
 -- the tables of `paths` that are given, at a moment or at none
 abbrev pub paths_tables : Bool → Inputs → TablesRead
-paths_tables timed (inputs.Paths files groups access time returns) =
-    record { groups = is_some groups; access = is_some access; time = is_some time && timed; returns = is_some returns }
+paths_tables timed (inputs.Paths files given) = record {
+  groups = is_some given.tables.groups;
+  access = is_some given.tables.access;
+  time = is_some given.tables.time && timed;
+  returns = is_some given.returns;
+}
 paths_tables timed _ = record { groups = false; access = false; time = false; returns = false }
 
 -- a stack is read, and these tables
@@ -68,7 +72,7 @@ wants (Compare old new service kind named) inputs = of_compare (is_some (returns
 wants (Explain number) inputs = of_nothing
 wants Facts inputs = of_nothing
 wants Version inputs = of_nothing
-wants (Show source kind) inputs = of_stack false
+wants (Show source kind release) inputs = of_stack false
 wants (Decide source kind answered) inputs = of_stack true
 wants (Access table groups login arguments) inputs = of_tables true (is_some (group_file inputs)) false
 wants (Time table login moment) inputs = of_tables false false true

@@ -26,6 +26,15 @@ pub enum LevelName {
     Note,
 }
 
+/// A release of Linux-PAM, whose reading of a file is shown.
+#[derive(Clone, Copy)]
+pub enum ReleaseName {
+    /// `linux-pam-1.5`: Linux-PAM 1.5.2.
+    LinuxPam15,
+    /// `linux-pam-1.7`: Linux-PAM 1.7.0.
+    LinuxPam17,
+}
+
 /// The moment of a login.
 #[derive(Clone, Copy)]
 pub enum Moment<'a> {
@@ -76,13 +85,23 @@ pub enum GraphFormat {
     Svg,
 }
 
-/// What says which codes modules may return: a returns file, and the tables in which they look up a login at a moment.
+/// The names of the group file and the tables that modules read, as far as they are given.
 #[derive(Clone, Copy)]
-pub struct KnowledgeSource<'a> {
-    pub login: Login<'a>,
+pub struct TableNames<'a> {
+    pub groups: Option<&'a str>,
     pub access: Option<&'a str>,
     pub time: Option<&'a str>,
-    pub groups: Option<&'a str>,
+}
+
+/// What says which codes modules may return: the folders of modules, a returns file, and the tables in which they look up a login at
+/// a moment.
+#[derive(Drop)]
+pub struct KnowledgeSource<'a> {
+    /// The folders of modules. With `ConfSource::Root`, those of the system are read too.
+    pub modules: Vec<&'a str>,
+    pub login: Login<'a>,
+    /// With `ConfSource::Root`, those of the system are read where none is named and the login and the moment that they need are given.
+    pub tables: TableNames<'a>,
     pub returns: Option<&'a str>,
     pub moment: Option<Moment<'a>>,
 }
@@ -92,10 +111,8 @@ pub struct KnowledgeSource<'a> {
 pub struct CheckFiles<'a> {
     /// The folders of modules. With `ConfSource::Root`, those of the system are read too.
     pub modules: Vec<&'a str>,
-    /// The tables and the group file that modules read. With `ConfSource::Root`, those of the system are read where none is named.
-    pub access: Option<&'a str>,
-    pub time: Option<&'a str>,
-    pub groups: Option<&'a str>,
+    /// With `ConfSource::Root`, those of the system are read where none is named.
+    pub tables: TableNames<'a>,
     /// What is known of modules, after the program's own table.
     pub facts: Option<&'a str>,
     /// The findings that are meant to be.
@@ -131,10 +148,11 @@ pub enum Task<'a> {
         kind: Option<Kind>,
         given: CompareFiles<'a>,
     },
-    /// Lists the stack.
+    /// Lists the stack, or the rules of the service's own file as a release reads them, if one is named.
     Show {
         source: ConfSource<'a>,
         kind: Kind,
+        release: Option<ReleaseName>,
     },
     /// Runs the stack with one code for each of its modules, in order.
     Decide {
@@ -242,6 +260,9 @@ pub enum Usage {
     /// U11: both `--decision` and `--asks` are given.
     #[error("more than one of --decision and --asks")]
     BothFilters,
+    /// U16: the value of `--as` is not the name of a release.
+    #[error("unknown release")]
+    ReleaseName,
     /// U15: a value of `--with` is not NAME=FILE, or one is given beside `--conf`.
     #[error("a candidate that is not NAME=FILE, or beside --conf")]
     CandidateForm,

@@ -47,6 +47,7 @@ pub(super) fn usage_row(usage: &Usage) -> Row
         Usage::BothFilters => Row::of("U11 BothFilters", BAD_REQUEST),
         Usage::FormatName => Row::of("U12 FormatName", BAD_REQUEST),
         Usage::LevelName => Row::of("U13 LevelName", BAD_REQUEST),
+        Usage::ReleaseName => Row::of("U16 ReleaseName", BAD_REQUEST),
         Usage::CandidateForm => Row::of("U15 CandidateForm", BAD_REQUEST),
     }
 }
