@@ -30,7 +30,7 @@ function __pamcheck_at
     for word in $words[3..]
         if test $value = yes
             set value no
-        else if string match -q -- '--*=*' $word
+        else if string match -q -- '--*=*' $word; or test $word = --json
         else if test "$words[2]" = compare; and contains -- $word --conf --root
         else if string match -q -- '--*' $word
             set value yes
@@ -127,10 +127,11 @@ complete -c pamcheck -n '__pamcheck_in check show decide paths outcomes graph' -
 complete -c pamcheck -n '__pamcheck_in check show decide paths outcomes graph' -l with -xa '(__pamcheck_candidates)' -d 'A file to read in place of NAME, as NAME=FILE'
 complete -c pamcheck -n '__pamcheck_in compare' -l conf -d 'OLD and NEW are files for all services'
 complete -c pamcheck -n '__pamcheck_in compare' -l root -d 'OLD and NEW are root folders of systems'
-complete -c pamcheck -n '__pamcheck_in check compare' -l modules -xa '(__fish_complete_directories)' -d 'A folder of modules'
+complete -c pamcheck -n '__pamcheck_in check compare paths outcomes graph' -l modules -xa '(__fish_complete_directories)' -d 'A folder of modules'
 complete -c pamcheck -n '__pamcheck_in check compare' -l facts -rF -d 'What is known of more modules'
 complete -c pamcheck -n '__pamcheck_in check' -l accept -rF -d 'The findings that are meant to be'
 complete -c pamcheck -n '__pamcheck_in check' -l fail-on -xa 'error warning note' -d 'The least level that fails'
+complete -c pamcheck -n '__pamcheck_in decide access time' -l json -d 'Answers in JSON Lines'
 complete -c pamcheck -n '__pamcheck_in paths' -l limit -x -d 'The most paths to list'
 complete -c pamcheck -n '__pamcheck_in paths' -l after -x -d 'Lists the paths after this cursor'
 complete -c pamcheck -n '__pamcheck_in paths' -l before -x -d 'Lists the paths before this cursor'

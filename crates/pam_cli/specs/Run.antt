@@ -39,7 +39,7 @@ module _ {W : Type 0} (contents : W → Option (List ℕ)) (old new : Out W) (st
   abbrev pub EndsAnswered : Request → Inputs → Type 0
   EndsAnswered request inputs =
       (answered : Result Status Fault)
-      × Answers contents old new answered request.service.now request.task inputs
+      × Answers contents old new answered request.output request.service.now request.task inputs
       × (status ≡ status_of_answer answered)
 
   -- the answer, or why the inputs cannot be read
@@ -56,5 +56,5 @@ module _ {W : Type 0} (contents : W → Option (List ℕ)) (old new : Out W) (st
   EndsAsked (Err refusal) = EndsRefused refusal
 
   -- THE RUN: the words are refused, or their request is answered
-  abbrev pub Runs : List (List ℕ) → Type 0
+  unfoldable pub Runs : List (List ℕ) → Type 0
   Runs words = (asked : Result Request Usage) × Asks words asked × EndsAsked asked

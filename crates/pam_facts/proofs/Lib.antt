@@ -7,6 +7,8 @@ pub mod HeadSteps
 pub mod KindSteps
 pub mod LawSteps
 pub mod LineSteps
+pub mod MissingCodes
+pub mod Replaced
 pub mod RowSteps
 pub mod TableSteps
 pub mod WordSteps

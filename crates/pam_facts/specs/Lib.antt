@@ -6,6 +6,7 @@ pub mod Fitting
 pub mod Kinds
 pub mod Laws
 pub mod Lines
+pub mod Missing
 pub mod Paths
 pub mod Reading
 pub mod Rows

@@ -52,6 +52,10 @@ abbrev pub with_options : App → List Text → App
 with_options app [] = app
 with_options app (id ∷ ids) = with_options (with_rule app (option_rule id)) ids
 
+-- the option that asks for JSON
+abbrev pub with_json : App → App
+with_json app = with_rule app (flag_rule (codes "json"))
+
 -- `NAME SERVICE`
 abbrev pub service_app : Text → App
 service_app name = with_rule (new_app name) (required_rule (codes "service"))
@@ -105,7 +109,7 @@ show_app = stack_app (codes "show")
 
 -- `decide SERVICE KIND [CODE]...`
 unfoldable pub decide_app : App
-decide_app = with_rule (stack_app (codes "decide")) (repeated_rule (codes "code"))
+decide_app = with_rule (with_json (stack_app (codes "decide"))) (repeated_rule (codes "code"))
 
 -- the options that choose a page of a listing
 abbrev pub with_page : App → App
@@ -127,7 +131,7 @@ with_moment app = with_options app (codes "at" ∷ codes "at-unix" ∷ codes "zo
 
 -- the options that say which codes modules may return
 abbrev pub with_knowledge : App → App
-with_knowledge app = with_moment (with_tables (with_login app))
+with_knowledge app = with_moment (with_tables (with_login (with_rule app (repeated_option_rule (codes "modules")))))
 
 -- `paths SERVICE KIND`
 unfoldable pub paths_app : App
@@ -151,11 +155,11 @@ login_app name =
 -- `access SERVICE [ARGUMENT]...`
 unfoldable pub access_app : App
 access_app =
-    with_rule (with_options (login_app (codes "access")) (codes "group" ∷ codes "rhost" ∷ [])) (repeated_rule (codes "argument"))
+    with_rule (with_json (with_options (login_app (codes "access")) (codes "group" ∷ codes "rhost" ∷ []))) (repeated_rule (codes "argument"))
 
 -- `time SERVICE`
 unfoldable pub time_app : App
-time_app = with_moment (login_app (codes "time"))
+time_app = with_json (with_moment (login_app (codes "time")))
 
 -- the version of the program, and the toolchain that proved it
 abbrev pub version : Text
@@ -165,11 +169,21 @@ version = codes "1.0.0 (proved with rattle, logic dac8208d650f15bf)"
 unfoldable pub bare_app : App
 bare_app = let app = new_app (codes "pamcheck") in record app { top = record app.top { has_version = true; subcommand_required = true } }
 
--- the commands that read a stack
+-- the commands about whole configurations
+abbrev pub with_hosts : App → App
+with_hosts app = with_subcommand (with_subcommand app check_app.top) compare_app.top
+
+-- the commands about a stack as it is
 abbrev pub with_stacks : App → App
-with_stacks app =
-    with_subcommand (with_subcommand (with_subcommand (with_subcommand (with_subcommand app
-    show_app.top) decide_app.top) paths_app.top) outcomes_app.top) graph_app.top
+with_stacks app = with_subcommand (with_subcommand app show_app.top) decide_app.top
+
+-- the commands that list paths
+abbrev pub with_listings : App → App
+with_listings app = with_subcommand app paths_app.top
+
+-- the commands about all runs of a stack
+abbrev pub with_graphs : App → App
+with_graphs app = with_subcommand (with_subcommand app outcomes_app.top) graph_app.top
 
 -- the commands that look a login up
 abbrev pub with_lookups : App → App
@@ -180,4 +194,4 @@ abbrev pub with_pages : App → App
 with_pages app = with_subcommand (with_subcommand (with_subcommand app explain_app.top) facts_app.top) version_app.top
 
 unfoldable pub pamcheck_app : App
-pamcheck_app = with_pages (with_lookups (with_stacks (with_subcommand (with_subcommand bare_app check_app.top) compare_app.top)))
+pamcheck_app = with_pages (with_lookups (with_graphs (with_listings (with_stacks (with_hosts bare_app)))))

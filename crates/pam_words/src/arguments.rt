@@ -217,7 +217,7 @@ pub(crate) const FORMAT: ArgRow = ArgRow {
     form: ArgForm::Optional,
     id: "format",
     name: "FORMAT",
-    help: "dot (for Graphviz) or mermaid; dot if left out",
+    help: "dot (for Graphviz), mermaid or svg; dot if left out",
 };
 
 pub(crate) const USER: ArgRow = ArgRow {
@@ -309,6 +309,13 @@ pub(crate) const TABLE_USER: ArgRow = ArgRow {
     id: "user",
     name: "NAME",
     help: "The user",
+};
+
+pub(crate) const JSON: ArgRow = ArgRow {
+    form: ArgForm::Flag,
+    id: "json",
+    name: "",
+    help: "Answer in JSON Lines",
 };
 
 pub(crate) const ARGUMENTS: ArgRow = ArgRow {

@@ -1,0 +1,3 @@
+pub mod FlatTexts
+pub mod Lines
+pub mod Strings

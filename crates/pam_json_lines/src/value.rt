@@ -1,0 +1,160 @@
+//! The objects of which an answer consists, a line each.
+
+ghost use Rattle.std.specs.Prelude.{◌≡◌, ◌++◌, false, map};
+ghost use Rattle.pam_text.specs.Out.{Writes};
+ghost use Rattle.serde_json.specs.Written.{comma_if, compact_text, members_text};
+ghost use Rattle.pam_json_lines.specs.Line.{line, members_of};
+ghost use Rattle.pam_json_lines.specs.Values.{data_of, member_of, member_text};
+
+use crate::text::{put_lowercase, put_quoted, put_readable};
+use pam_text::{Device, Out};
+use std::io::Write;
+
+/// A value of a member.
+#[derive(Clone, Copy)]
+enum Value<'x> {
+    Null,
+    Boolean(bool),
+    Number(u64),
+    /// UTF-8.
+    Text(&'x [u8]),
+    /// Bytes, with U+FFFD for what is no UTF-8.
+    Readable(&'x [u8]),
+    /// UTF-8, in lowercase.
+    Lowercase(&'x [u8]),
+}
+
+/// A member of an object.
+#[derive(Clone, Copy)]
+pub struct Member<'x> {
+    name: &'x str,
+    value: Value<'x>,
+}
+
+impl<'x> Member<'x> {
+    ghost use Rattle.serde_json.specs.Data.{boolean as json_boolean, number as json_number, string, unsigned};
+    ghost use Rattle.std.specs.Char.{to_ascii_lowercase};
+    ghost use Rattle.std.specs.Str.Lossy.{utf8_lossy};
+    ghost use Rattle.pam_json_lines.specs.Line.{number_or_null};
+
+    /// A string. The text is UTF-8.
+    pub fn text(name: &'x str, text: &'x [u8]) -> Member<'x>
+        ensures { member_of result ≡ (name.now, string text.now) }
+    {
+        Member {
+            name,
+            value: Value::Text(text),
+        }
+    }
+
+    /// A string, with U+FFFD for what is no UTF-8 in the bytes.
+    pub fn readable(name: &'x str, bytes: &'x [u8]) -> Member<'x>
+        ensures { member_of result ≡ (name.now, string (utf8_lossy bytes.now)) }
+    {
+        Member {
+            name,
+            value: Value::Readable(bytes),
+        }
+    }
+
+    /// A string in lowercase. The text is UTF-8.
+    pub fn lowercase(name: &'x str, text: &'x [u8]) -> Member<'x>
+        ensures { member_of result ≡ (name.now, string (map to_ascii_lowercase text.now)) }
+    {
+        Member {
+            name,
+            value: Value::Lowercase(text),
+        }
+    }
+
+    pub fn boolean(name: &'x str, value: bool) -> Member<'x>
+        ensures { member_of result ≡ (name.now, json_boolean value) }
+    {
+        Member {
+            name,
+            value: Value::Boolean(value),
+        }
+    }
+
+    pub fn number(name: &'x str, number: u64) -> Member<'x>
+        ensures { member_of result ≡ (name.now, json_number (unsigned number)) }
+    {
+        Member {
+            name,
+            value: Value::Number(number),
+        }
+    }
+
+    /// A number, or `null`.
+    pub fn number_if_any(name: &'x str, number: Option<u64>) -> Member<'x>
+        ensures { member_of result ≡ (name.now, number_or_null number) }
+    {
+        let value = match number {
+            Some(number) => Value::Number(number),
+            None => Value::Null,
+        };
+        Member { name, value }
+    }
+}
+
+fn put_value<W: Write>(value: &Value<'_>, out: &mut Out<W>) -> Result<(), Device>
+    ensures { Writes W.contents out.old out.new result (compact_text (data_of value.now)) }
+{
+    match value {
+        Value::Null => out.put(b"null"),
+        Value::Boolean(true) => out.put(b"true"),
+        Value::Boolean(false) => out.put(b"false"),
+        Value::Number(number) => out.put_number(*number),
+        Value::Text(text) => put_quoted(text, out),
+        Value::Readable(bytes) => put_readable(bytes, out),
+        Value::Lowercase(text) => put_lowercase(text, out),
+    }
+}
+
+/// Writes `"NAME":VALUE`.
+fn put_member<W: Write>(member: &Member<'_>, out: &mut Out<W>) -> Result<(), Device>
+    ensures { Writes W.contents out.old out.new result (member_text member.now) }
+{
+    put_quoted(member.name.as_bytes(), out)?;
+    out.put(b":")?;
+    put_value(&member.value, out)
+}
+
+/// Writes the comma before each member but the first.
+fn put_comma<W: Write>(later: bool, out: &mut Out<W>) -> Result<(), Device>
+    ensures { Writes W.contents out.old out.new result (comma_if later) }
+{
+    if later {
+        return out.put(b",");
+    }
+    Ok(())
+}
+
+/// Writes a member, with a comma before it unless it is the first.
+fn put_next<W: Write>(later: bool, member: &Member<'_>, out: &mut Out<W>) -> Result<(), Device>
+    ensures { Writes W.contents out.old out.new result (comma_if later ++ member_text member.now) }
+{
+    put_comma(later, out)?;
+    put_member(member, out)
+}
+
+/// Writes the members of an object after its opening brace, and the closing one.
+fn put_members<W: Write>(members: &[Member<'_>], out: &mut Out<W>) -> Result<(), Device>
+    ensures { Writes W.contents out.old out.new result (members_text false (members_of (map member_of members.now))) }
+{
+    let mut later = false;
+    for member in members {
+        put_next(later, member, out)?;
+        later = true;
+    }
+    out.put(b"}")
+}
+
+/// Writes an object, and a line feed.
+pub fn put_object<W: Write>(members: &[Member<'_>], out: &mut Out<W>) -> Result<(), Device>
+    ensures { Writes W.contents out.old out.new result (line (map member_of members.now)) }
+{
+    out.put(b"{")?;
+    put_members(members, out)?;
+    out.put(b"\n")
+}
