@@ -1,0 +1,3 @@
+pub mod Decide
+pub mod Header
+pub mod Tables
