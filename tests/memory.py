@@ -109,7 +109,7 @@ ASKED = [
     (["check", "--dir", "stack", "--facts", "group"], [*STACKS, UNSAID]),
     (["check", "--dir", "stack", "--accept", "group"], [*STACKS, UNSAID]),
     (["compare", "old", "gone"], [*STACKS, UNSAID]),
-    (["compare", "old", "new", "--returns", "group"], [*STACKS, TE11, UNSAID]),
+    (["compare", "old", "new", "--returns", "group"], [*STACKS, UNSAID]),
     ([*PATHS, "--after", "3"], [*PAGES, UNSAID]),
     ([*ACCOUNT, *RETURNS_FILE, "--before", "x"], [*TABLE_PAGES, UNSAID]),
 ]
