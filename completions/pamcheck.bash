@@ -14,7 +14,7 @@ _pamcheck_numbers='E1 E2 E3 E4 E5 E6 E7 E8 E9 E10 E11 E12 E13 E14 E15 E16 E17 E1
 _pamcheck_options() {
     local source='--dir --vendor-dir --conf --root --with'
     local moment='--at --at-unix --zone'
-    local known="--user --rhost --tty --access --time --group --returns $moment"
+    local known="--modules --user --rhost --tty --access --time --group --returns $moment"
     case $1 in
         check) echo "$source --modules --access --time --group --facts --accept --fail-on --help" ;;
         compare) echo '--conf --root --modules --facts --returns --help' ;;

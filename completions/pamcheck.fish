@@ -127,7 +127,7 @@ complete -c pamcheck -n '__pamcheck_in check show decide paths outcomes graph' -
 complete -c pamcheck -n '__pamcheck_in check show decide paths outcomes graph' -l with -xa '(__pamcheck_candidates)' -d 'A file to read in place of NAME, as NAME=FILE'
 complete -c pamcheck -n '__pamcheck_in compare' -l conf -d 'OLD and NEW are files for all services'
 complete -c pamcheck -n '__pamcheck_in compare' -l root -d 'OLD and NEW are root folders of systems'
-complete -c pamcheck -n '__pamcheck_in check compare' -l modules -xa '(__fish_complete_directories)' -d 'A folder of modules'
+complete -c pamcheck -n '__pamcheck_in check compare paths outcomes graph' -l modules -xa '(__fish_complete_directories)' -d 'A folder of modules'
 complete -c pamcheck -n '__pamcheck_in check compare' -l facts -rF -d 'What is known of more modules'
 complete -c pamcheck -n '__pamcheck_in check' -l accept -rF -d 'The findings that are meant to be'
 complete -c pamcheck -n '__pamcheck_in check' -l fail-on -xa 'error warning note' -d 'The least level that fails'

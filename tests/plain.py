@@ -19,7 +19,7 @@ import plain_zones as zones
 from plain_faults import Fault
 from plain_sources import found, listed, read
 
-KNOWING = b" --access --time --group --returns --user --rhost --tty --at --at-unix --zone"
+KNOWING = b" --modules --access --time --group --returns --user --rhost --tty --at --at-unix --zone"
 SOURCES = b"--dir --vendor-dir --conf --root --with"
 OPTIONS = {
     b"check": SOURCES + b" --modules --access --time --group --facts --accept --fail-on",
@@ -34,6 +34,7 @@ OPTIONS = {
     b"facts": b"",
     b"version": b"",
 }
+OF_PATHS = (b"paths", b"outcomes", b"graph")
 REPEATED = (b"--modules", b"--with")
 FLAGS = {b"compare": [b"--conf", b"--root"]}
 WITH_SOURCE = [name for name, options in OPTIONS.items() if options.startswith(SOURCES)]
@@ -140,7 +141,7 @@ class Request:
         if self.format not in plain_graph.FORMATS:
             raise Fault("U12")
         self.decisions = decisions_of(self.options[b"--decision"]) if b"--decision" in self.options else set()
-        if self.command in (b"paths", b"outcomes", b"graph", b"time"):
+        if self.command in (*OF_PATHS, b"time"):
             self.judge_login_and_moment()
 
     def judge_sides(self):
@@ -178,7 +179,9 @@ class Request:
         if self.command == b"compare":
             return self.comparison(tree).whole()
         source = plain_sources.Source(self.options, tree) if self.command in WITH_SOURCE else None
-        self.tables = {}
+        self.tables, self.there = {}, None
+        if self.command in OF_PATHS:
+            self.learn(source, tree)
         for option in (b"--group", b"--access", b"--time", b"--returns"):
             if option in self.options and self.command != b"check":
                 self.tables[option] = read(tree, self.options[option])
@@ -203,11 +206,24 @@ class Request:
             return header + self.outcomes(items, modules), 0
         return header + self.page(items, modules), 0
 
-    def check(self, source, tree):
-        """What is wrong with a host."""
+    def folders(self, tree):
+        """The folders of modules that are named."""
         folders = self.options.get(b"--modules", [])
         for folder in folders:
             listed(tree, folder)
+        return folders
+
+    def learn(self, source, tree):
+        """Looks for the modules, and reads the tables of the system that tell of the login."""
+        folders, files = self.folders(tree), source.files.files.values()
+        self.there = plain_given.there(self.options.get(b"--root"), folders, files, lambda path: found(tree, path))
+        told = (["group", "access"] + ["time"] * (self.moment_words() != [])) * bool(self.options.get(b"--user"))
+        options = {table: option for table, option, _ in plain_given.TABLES}
+        self.tables = {options[table]: data for table, (_, data) in plain_given.tables(self.options, tree, told).items()}
+
+    def check(self, source, tree):
+        """What is wrong with a host."""
+        folders = self.folders(tree)
         given = plain_given.tables(self.options, tree)
         data = {name: read(tree, self.options[name]) if name in self.options else b"" for name in (b"--facts", b"--accept")}
         facts = plain_given.facts(data[b"--facts"])
@@ -222,9 +238,7 @@ class Request:
         """The files of a side of a comparison, and the paths at which a module is there."""
         form = b"--conf" if b"--conf" in self.options else b"--root" if b"--root" in self.options else b"--dir"
         files = plain_sources.Source({form: name}, tree).files
-        folders = self.options.get(b"--modules", [])
-        for folder in folders:
-            listed(tree, folder)
+        folders = self.folders(tree)
         return files, plain_given.there(name if form == b"--root" else None, folders, files.files.values(), lambda path: found(tree, path))
 
     def comparison(self, tree):
@@ -240,6 +254,10 @@ class Request:
     def login(self):
         """The login that the words tell."""
         return tables.Login(self.service, *(self.options.get(name, b"") for name in (b"--user", b"--tty", b"--rhost")))
+
+    def moment_words(self):
+        """The options of the moment that are given."""
+        return [option for option in (b"--at", b"--at-unix") if option in self.options]
 
     def moment(self):
         """The moment that the words tell, if any."""
@@ -299,7 +317,10 @@ class Request:
             if answers is not None:
                 known[position] = {b"success" if answers[0] else b"perm_denied"}
         returns = tables.returns_of(self.tables.get(b"--returns", b""))
-        return [codes or returns.get(name, set(stacks.CODES)) for codes, name in zip(known, names)]
+        for position, (name, module) in enumerate(zip(names, modules)):
+            is_there = self.there is None or module.path in self.there
+            known[position] = known[position] or returns.get(name, set(stacks.CODES)) if is_there else {b"module_unknown"}
+        return known
 
     def outcomes(self, items, modules):
         """The lines of `outcomes` after the header."""

@@ -81,12 +81,12 @@ def key_of_line(number, line):
 
 # Tables
 
-def tables(options, tree):
-    """The path and the bytes of each table that is named, or else of that of the root, if it is there."""
+def tables(options, tree, of_root=("group", "access", "time")):
+    """The path and the bytes of each table that is named, or else of that of the root, if it is one of these and is there."""
     root = options.get(b"--root")
     given = {}
     for table, option, own in TABLES:
-        path = options[option] if option in options else root and joined(root, own)
+        path = options[option] if option in options else root and table in of_root and joined(root, own)
         if path and (option in options or found(tree, path) is not None):
             given[table] = path, read(tree, path)
     return given

@@ -1,5 +1,5 @@
 -- What is read for a task: the inputs that fit it, or the input that cannot be read.
-use Rattle.std.specs.Prelude.{◌≡◌, ◌⊎◌, ⊤, true, ℕ, List, [], MatchOption, Option, Some, None, Result, Ok, Err, codes, is_some, map}
+use Rattle.std.specs.Prelude.{◌≡◌, ◌⊎◌, ◌&&◌, ⊤, Bool, false, true, ℕ, List, [], ◌∷◌, MatchOption, Option, Some, None, Result, Ok, Err, codes, is_some, map}
 use Rattle.std.specs.Borrow.{Bor}
 use Rattle.std.specs.Bool.{beq}
 use Rattle.std.specs.Option.{option_copied}
@@ -7,8 +7,9 @@ use Rattle.std.specs.Path.{path_join}
 use Rattle.clap.specs.Words.{Text}
 use Rattle.pam_conf.specs.declared.rule.Kind.{Kind}
 use Rattle.pam_paths.specs.Classes.{Member}
-use Rattle.pam_report.specs.Inputs.{fits_check, fits_knowledge, fits_task}
+use Rattle.pam_report.specs.Inputs.{fits_check, fits_knowledge, fits_task, has_named_tables}
 use Rattle.pam_report.specs.declared.inputs.CheckInputs.{CheckInputs}
+use Rattle.pam_report.specs.declared.inputs.KnowledgeInputs.{KnowledgeInputs}
 use Rattle.pam_report.specs.declared.inputs.SideInputs.{SideInputs}
 use Rattle.pam_report.specs.declared.inputs.InputError.{InputError}
 use Rattle.pam_report.specs.declared.inputs.Inputs.{Inputs}
@@ -21,6 +22,7 @@ use Rattle.pam_words.specs.declared.wanted.ConfSource.TheVariants.{Root}
 use Rattle.pam_words.specs.declared.wanted.KnowledgeSource.{KnowledgeSource}
 use Rattle.pam_words.specs.declared.wanted.LevelName.{LevelName}
 use Rattle.pam_words.specs.declared.wanted.Login.{Login}
+use Rattle.pam_words.specs.declared.wanted.TableNames.{TableNames}
 use Rattle.pam_words.specs.declared.wanted.Task.{Task}
 use Rattle.pam_words.specs.declared.wanted.Task.TheVariants.{Check, Compare, Show, Decide, Access, Time, Paths, Outcomes, Graph}
 use Rattle.pam_words.specs.declared.wanted.CheckFiles.{CheckFiles}
@@ -32,7 +34,7 @@ use Rattle.pam_cli.specs.Sources.{IsFrom, IsInSource, IsRead, IsUnread}
 abbrev pub HasFiles : List (Text × Text) → ConfSource → Inputs → Type 0
 HasFiles candidates source (inputs.Host files paths given) = IsRead candidates source files paths
 HasFiles candidates source (inputs.Stack files) = IsFrom candidates source files
-HasFiles candidates source (inputs.Paths files groups access time returns) = IsFrom candidates source files
+HasFiles candidates source (inputs.Paths files given) = IsFrom candidates source files
 HasFiles candidates source given = ⊤
 
 -- a table: that of the name, or else that of the root at this path, if it is there
@@ -40,19 +42,38 @@ abbrev pub IsInRoot : ConfSource → Text → Text → Type 0
 IsInRoot (Root root) own path = path ≡ path_join root.now own
 IsInRoot source own path = ⊥
 
-abbrev pub IsTable : ConfSource → Text → Option Text → Option TableFile → Type 0
-IsTable source own (Some name) table = MatchOption table ⊥ (λ t. t.path.items ≡ name)
-IsTable source own None table = MatchOption table ⊤ (λ t. IsInRoot source own t.path.items)
+-- the first is whether the table of the root is read
+abbrev pub IsTable : Bool → ConfSource → Text → Option Text → Option TableFile → Type 0
+IsTable reads source own (Some name) table = MatchOption table ⊥ (λ t. t.path.items ≡ name)
+IsTable reads source own None table = MatchOption table ⊤ (λ t. (reads ≡ true) × IsInRoot source own t.path.items)
 
--- THE TABLES of `check`: those that are named, and else those of the root that are there
-pub record AreTables (source : ConfSource) (named : CheckFiles) (tables : TableFiles) : Type 0 where
-  pub groups : IsTable source (codes "etc/group") (option_copied named.groups) tables.groups
-  pub access : IsTable source (codes "etc/security/access.conf") (option_copied named.access) tables.access
-  pub time : IsTable source (codes "etc/security/time.conf") (option_copied named.time) tables.time
+-- THE TABLES: those that are named, and else those of the root that are there. The table of the root is read where a login is looked
+-- up, the time table where its moment is looked up too
+pub record AreTables (by_login by_moment : Bool) (source : ConfSource) (named : TableNames) (tables : TableFiles) : Type 0 where
+  pub groups : IsTable by_login source (codes "etc/group") (option_copied named.groups) tables.groups
+  pub access : IsTable by_login source (codes "etc/security/access.conf") (option_copied named.access) tables.access
+  pub time : IsTable by_moment source (codes "etc/security/time.conf") (option_copied named.time) tables.time
 
+-- `check` reads them all
 abbrev pub HasTables : ConfSource → CheckFiles → Inputs → Type 0
-HasTables source named (inputs.Host files paths given) = AreTables source named given.tables
+HasTables source named (inputs.Host files paths given) = AreTables true true source named.tables given.tables
 HasTables source named given = ⊤
+
+-- a user is given
+abbrev pub is_user : Text → Bool
+is_user [] = false
+is_user (c ∷ cs) = true
+
+abbrev pub has_user : KnowledgeSource → Bool
+has_user named = is_user named.login.user.now
+
+-- `paths`, `outcomes` and `graph` look up a login if its user is given, and its moment if that is given too
+abbrev pub AreKnownTables : ConfSource → KnowledgeSource → TableFiles → Type 0
+AreKnownTables source named tables = AreTables (has_user named) (has_user named && is_some named.moment) source named.tables tables
+
+abbrev pub HasKnownTables : ConfSource → KnowledgeSource → Inputs → Type 0
+HasKnownTables source named (inputs.Paths files given) = AreKnownTables source named given.tables
+HasKnownTables source named given = ⊤
 
 -- a side of a comparison is read from its source
 abbrev pub IsSide : ConfSource → SideInputs → Type 0
@@ -68,9 +89,9 @@ HasSource candidates (Check source services fail_on named) given = HasFiles cand
 HasSource candidates (Compare old new service kind named) given = HasSides old new given
 HasSource candidates (Show source kind) given = HasFiles candidates source given
 HasSource candidates (Decide source kind answered) given = HasFiles candidates source given
-HasSource candidates (Paths source kind limit part filter knowledge) given = HasFiles candidates source given
-HasSource candidates (Outcomes source kind knowledge) given = HasFiles candidates source given
-HasSource candidates (Graph source kind format knowledge) given = HasFiles candidates source given
+HasSource candidates (Paths source kind limit part filter knowledge) given = HasFiles candidates source given × HasKnownTables source knowledge given
+HasSource candidates (Outcomes source kind knowledge) given = HasFiles candidates source given × HasKnownTables source knowledge given
+HasSource candidates (Graph source kind format knowledge) given = HasFiles candidates source given × HasKnownTables source knowledge given
 HasSource candidates task given = ⊤
 
 -- THE INPUTS of a task with these candidates: those of exactly the files that are named
@@ -83,21 +104,21 @@ AreInputs candidates task given = (fits_task task given ≡ true) × HasSource c
 abbrev pub IsNamed : Option (List ℕ) → List ℕ → Type 0
 IsNamed named name = named ≡ Some name
 
--- a name of the source, or of a table or returns file that is named
-abbrev pub IsOfKnowledge : ConfSource → KnowledgeSource → List ℕ → Type 0
-IsOfKnowledge source named name =
-    IsInSource source name ⊎ IsNamed (option_copied named.groups) name ⊎ IsNamed (option_copied named.access) name
-    ⊎ IsNamed (option_copied named.time) name ⊎ IsNamed (option_copied named.returns) name
-
 -- one of the tables
-abbrev pub IsOfTables : CheckFiles → List ℕ → Type 0
+abbrev pub IsOfTables : TableNames → List ℕ → Type 0
 IsOfTables named name =
     IsNamed (option_copied named.groups) name ⊎ IsNamed (option_copied named.access) name ⊎ IsNamed (option_copied named.time) name
+
+-- a name of the source, one of the folders of modules or of the tables, or the returns file
+abbrev pub IsOfKnowledge : ConfSource → KnowledgeSource → List ℕ → Type 0
+IsOfKnowledge source named name =
+    IsInSource source name ⊎ Member name (map (λ folder. folder.now) named.modules.items) ⊎ IsOfTables named.tables name
+    ⊎ IsNamed (option_copied named.returns) name
 
 -- the facts file or the accept file, one of the tables, or one of the folders of modules
 abbrev pub IsOfCheck : CheckFiles → List ℕ → Type 0
 IsOfCheck named name =
-    Member name (map (λ folder. folder.now) named.modules.items) ⊎ IsOfTables named name
+    Member name (map (λ folder. folder.now) named.modules.items) ⊎ IsOfTables named.tables name
     ⊎ IsNamed (option_copied named.facts) name ⊎ IsNamed (option_copied named.accept) name
 
 -- a name of the source of a side, or one of the folders of modules
@@ -146,8 +167,15 @@ IsCompareReading old new named result =
 
 -- what a check is given besides the configuration
 abbrev pub IsGivenReading : ConfSource → CheckFiles → Result CheckInputs InputError → Type 0
-IsGivenReading source named (Ok given) = (fits_check named given ≡ true) × AreTables source named given.tables
+IsGivenReading source named (Ok given) = (fits_check named given ≡ true) × AreTables true true source named.tables given.tables
 IsGivenReading source named (Err error) = IsUnread (λ name. IsInSource source name ⊎ IsOfCheck named name) error
+
+-- what is known besides the configuration, for each task about paths
+abbrev pub IsKnownReading : ConfSource → KnowledgeSource → Result KnowledgeInputs InputError → Type 0
+IsKnownReading source named (Ok given) =
+    (beq (is_some given.returns) (is_some named.returns) && has_named_tables named.tables given.tables ≡ true)
+    × AreKnownTables source named given.tables
+IsKnownReading source named (Err error) = IsUnread (IsOfKnowledge source named) error
 
 -- what is read for each `access` of these files
 abbrev pub IsAccessReading : Bor Text → Option (Bor Text) → Result Inputs InputError → Type 0
@@ -156,5 +184,6 @@ IsAccessReading table groups result =
 
 -- what is read for each task about this source with what is known of answers
 abbrev pub IsKnowledgeReading : List (Text × Text) → ConfSource → KnowledgeSource → Result Inputs InputError → Type 0
-IsKnowledgeReading candidates source named (Ok given) = (fits_knowledge named given ≡ true) × HasFiles candidates source given
+IsKnowledgeReading candidates source named (Ok given) =
+    (fits_knowledge named given ≡ true) × HasFiles candidates source given × HasKnownTables source named given
 IsKnowledgeReading candidates source named (Err error) = IsUnread (IsOfKnowledge source named) error

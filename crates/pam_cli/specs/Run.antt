@@ -56,5 +56,5 @@ module _ {W : Type 0} (contents : W → Option (List ℕ)) (old new : Out W) (st
   EndsAsked (Err refusal) = EndsRefused refusal
 
   -- THE RUN: the words are refused, or their request is answered
-  abbrev pub Runs : List (List ℕ) → Type 0
+  unfoldable pub Runs : List (List ℕ) → Type 0
   Runs words = (asked : Result Request Usage) × Asks words asked × EndsAsked asked

@@ -20,6 +20,7 @@ use std::rt::Files;
 
 /// Runs the program with these words, the first of which is its name, and returns the exit status. Failed writes to
 /// `err` are ignored.
+#[tactic(auto, unfolding(crate::specs::Run::Runs))]
 pub fn run<R: Files + AllocGlobal + Clone + Drop, W: Write, V: Write>(
     rt: &R,
     alloc: Global,

@@ -1,9 +1,9 @@
 //! Reads the files that a request names.
 
-ghost use Rattle.std.specs.Prelude.{◌⊎◌, IfErr, IfOk, MatchResult, map};
+ghost use Rattle.std.specs.Prelude.{◌≡◌, ◌⊎◌, ◌&&◌, IfErr, IfOk, MatchResult, is_some, map};
 ghost use Rattle.std.specs.Option.{option_copied};
-ghost use Rattle.pam_cli.specs.Reading.{IsAccessReading, IsCheckReading, IsGiven, IsGivenReading, IsKnowledgeReading, IsNamed};
-ghost use Rattle.pam_cli.specs.Reading.{IsCompareReading, IsOfSide, IsReading, IsSide};
+ghost use Rattle.pam_cli.specs.Reading.{IsAccessReading, IsCheckReading, IsGiven, IsGivenReading, IsKnowledgeReading, IsKnownReading, IsNamed};
+ghost use Rattle.pam_cli.specs.Reading.{has_user, IsCompareReading, IsOfSide, IsReading, IsSide};
 ghost use Rattle.pam_cli.specs.Sources.{IsUnread};
 ghost use Rattle.pam_words.specs.Wanted.{candidate_view};
 
@@ -16,11 +16,17 @@ mod tables;
 use files::named_file;
 use modules::modules_there;
 use pam_conf::Files;
-use pam_report::{CheckInputs, InputError, Inputs, SideInputs};
+use pam_report::{CheckInputs, InputError, Inputs, KnowledgeInputs, SideInputs};
 use pam_words::{Candidate, CheckFiles, CompareFiles, ConfSource, KnowledgeSource, Request, Task};
 use sources::source_files;
 use std::alloc::Global;
-use tables::table_files;
+use tables::{LookedUp, table_files};
+
+/// A check looks up all logins, at all moments.
+const ALL_TABLES: LookedUp = LookedUp {
+    login: true,
+    moment: true,
+};
 
 /// Reads a file, if one is named.
 fn optional_file<R: std::rt::Files>(
@@ -63,7 +69,7 @@ fn given_inputs<R: std::rt::Files + AllocGlobal + Clone + Drop>(
     ensures { IsGivenReading source.entry named.now result }
 {
     let there = modules_there(rt, alloc, source, &named.modules, files)?;
-    let tables = table_files(rt, alloc, source, named)?;
+    let tables = table_files(rt, alloc, source, named.tables, ALL_TABLES)?;
     let others = optional_files(rt, alloc, named.facts, named.accept)?;
     Ok(CheckInputs {
         there,
@@ -141,8 +147,41 @@ fn access_inputs<R: std::rt::Files>(
     Ok(Inputs::Access { table, groups })
 }
 
-/// Reads a configuration, and then what is named of the answers of its modules: the group file, the access table, the
-/// time table and the returns file.
+/// What of the tables of a system is looked up for the answers of modules: a login if its user is given, and its moment if that is given
+/// too.
+fn looked_up(named: &KnowledgeSource<'_>) -> LookedUp
+    ensures login { result.login ≡ has_user named.now }
+    ensures moment { result.moment ≡ (has_user named.now && is_some named.now.moment) }
+{
+    let has_user = !named.login.user.is_empty();
+    LookedUp {
+        login: has_user,
+        moment: has_user && named.moment.is_some(),
+    }
+}
+
+/// Looks for the modules of a configuration, and reads the tables of its system or those that are named, and the returns file that is
+/// named.
+fn known_inputs<R: std::rt::Files + AllocGlobal + Clone + Drop>(
+    rt: &R,
+    alloc: Global,
+    source: ConfSource<'_>,
+    named: &KnowledgeSource<'_>,
+    files: &Files,
+) -> Result<KnowledgeInputs, InputError>
+    ensures { IsKnownReading source.entry named.now result }
+{
+    let there = modules_there(rt, alloc, source, &named.modules, files)?;
+    let tables = table_files(rt, alloc, source, named.tables, looked_up(named))?;
+    let returns = optional_file(rt, alloc, named.returns)?;
+    Ok(KnowledgeInputs {
+        there,
+        tables,
+        returns,
+    })
+}
+
+/// Reads a configuration, and then what is known of the answers of its modules.
 fn knowledge_inputs<R: std::rt::Files + AllocGlobal + Clone + Drop>(
     rt: &R,
     alloc: Global,
@@ -153,19 +192,12 @@ fn knowledge_inputs<R: std::rt::Files + AllocGlobal + Clone + Drop>(
     ensures { IsKnowledgeReading (map candidate_view candidates.now) source.entry named.now result }
 {
     let files = source_files(rt, alloc, source, candidates)?.files;
-    let of_access = optional_files(rt, alloc, named.groups, named.access)?;
-    let others = optional_files(rt, alloc, named.time, named.returns)?;
-    Ok(Inputs::Paths {
-        files,
-        groups: of_access.0,
-        access: of_access.1,
-        time: others.0,
-        returns: others.1,
-    })
+    let given = known_inputs(rt, alloc, source, named, &files)?;
+    Ok(Inputs::Paths { files, given })
 }
 
-/// Reads the files of a request: the configuration, then the group file, the access table, the time table and the
-/// returns file.
+/// Reads the files of a request: the configuration, the folders of modules, the group file, the access table, the time table, and then
+/// the other files.
 pub(crate) fn inputs_of<R: std::rt::Files + AllocGlobal + Clone + Drop>(
     rt: &R,
     alloc: Global,

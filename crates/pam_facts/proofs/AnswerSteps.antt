@@ -38,7 +38,7 @@ one_failure : IsSomeSet (7 ∷ [])
 unfolding all_codes
 one_failure = record { order = refl; some = λ none. absurd (cc) }
 
-one_unknown : IsSomeSet (28 ∷ [])
+pub one_unknown : IsSomeSet (28 ∷ [])
 unfolding all_codes
 one_unknown = record { order = refl; some = λ none. absurd (cc) }
 

@@ -5,6 +5,7 @@ pub mod Facts
 pub mod Fitting
 pub mod Kinds
 pub mod Laws
+pub mod Missing
 pub mod Paths
 pub mod Reading
 pub mod Rows

@@ -31,7 +31,7 @@ enum Checks {
 }
 
 /// The answers of a module that is not there, or has no function.
-fn module_unknown() -> CodeSet
+pub(crate) fn module_unknown() -> CodeSet
     ensures { result ≡ module_unknown ∷ [] }
 {
     match Code::new(MODULE_UNKNOWN) {

@@ -1,5 +1,5 @@
 -- The codes that are known of a module: at least one.
-use Rattle.std.proofs.Common.{◌≡◌, ◌≢◌, ◌<◌, ◌==◌, ℕ, true, All, List, [], ◌∷◌, ◌++◌, codes, nat_eq, is_some, refl, ◌∙◌, subst, ap, eq-eqb}
+use Rattle.std.proofs.Common.{◌≡◌, ◌≢◌, ◌<◌, ◌==◌, ℕ, true, All, List, [], ◌∷◌, ◌++◌, codes, nat_eq, is_some, refl, ◌∙◌, subst, ap, arith, eq-eqb, unwrap_or}
 use Rattle.std.specs.Prelude.{IfSome, Option, Some, None, Result, Ok, Err}
 use Rattle.std.specs.List.{list_all, list_any, starts_with}
 use Rattle.std.specs.Option.{option_and_then, option_map_or}
@@ -11,6 +11,9 @@ use Rattle.pam_codes.specs.Set.{codes_where, is_in}
 use Rattle.pam_codes.proofs.CodeSets.{all_codes-within}
 use Rattle.pam_conf.specs.Stack.{Items, ModuleText, module_at}
 use Rattle.pam_conf.specs.declared.rule.Kind.{Kind}
+use Rattle.pam_facts.specs.Answers.{is_there}
+use Rattle.pam_facts.specs.Facts.{module_unknown}
+use Rattle.pam_facts.specs.Missing.{if_missing, missing_at, where_there}
 use Rattle.pam_tables.specs.Error.{onto_lines, read_lines}
 use Rattle.pam_tables.specs.Groups.{Group}
 use Rattle.pam_tables.specs.Lines.{fault_of_bytes, lines_from}
@@ -22,7 +25,7 @@ use Rattle.pam_tables.specs.declared.error.TableFault.{TableFault}
 use Rattle.pam_tables.specs.declared.error.TableFault.TheVariants.{BadCode, BadModule}
 use Rattle.pam_tables.proofs.ReturnSteps.{no_code}
 use Rattle.pam_known.specs.Answers.{name_of_path, read_as}
-use Rattle.pam_known.specs.Knowledge.{◌>>=◌, codes_by, first_fault, groups_read, knowledge, line_at, numbers, returns_read, told_at, unless}
+use Rattle.pam_known.specs.Knowledge.{◌>>=◌, codes_by, first_fault, groups_read, knowledge, line_at, numbers, returns_read, told_at, told_knowledge, unless}
 use Rattle.pam_known.specs.Laws.{AreSomeCodes, KnowledgeIsLawful, KnownCodesAreSome}
 use Rattle.pam_known.specs.Tables.{TablesText}
 use Rattle.pam_known.specs.declared.error.KnownError.{KnownError}
@@ -176,9 +179,39 @@ module _ (kind : Kind) (login : LoginText) (tables : TablesText) (items : Items)
       lines_some groups (returns_read tables.returns) (returns_some tables.returns)
       (unless_none (first_fault (told_at kind login tables groups items) (numbers items)) _ e) number
 
+told_some : (kind : Kind) (login : LoginText) (tables : TablesText) (items : Items) (allowed : ℕ → List ℕ) →
+    told_knowledge kind login tables items ≡ Ok allowed → (number : ℕ) → AreSomeCodes (allowed number)
+unfolding told_knowledge
+told_some kind login tables items allowed e number = groups_some kind login tables items allowed (groups_read tables items) e number
+
+unknown_some : AreSomeCodes (module_unknown ∷ [])
+unknown_some = ((λ none. absurd (cc)), All-cons IsCode module_unknown [] (omega arith) (All-nil IsCode))
+
+-- the codes of a module that may not be there
+by_place : (o : Option ModuleText) (there : Option (List (List ℕ))) (codes : List ℕ) → AreSomeCodes codes →
+    AreSomeCodes (unwrap_or (option_map_or (if_missing there) o None) codes)
+by_place None there codes some = some
+by_place (Some m) there codes some =
+    cond_both (is_there there m.path) None (Some (module_unknown ∷ [])) (λ (o : Option (List ℕ)). AreSomeCodes (unwrap_or o codes))
+    (λ here. some) (λ missing. unknown_some)
+
+there_some : (there : Option (List (List ℕ))) (items : Items) (codes : ℕ → List ℕ) (number : ℕ) → AreSomeCodes (codes number) →
+    AreSomeCodes (where_there there items codes number)
+unfolding where_there missing_at
+there_some there items codes number some = by_place (module_at number items) there (codes number) some
+
+all_some : (there : Option (List (List ℕ))) (items : Items) (told : Result (ℕ → List ℕ) KnownError) (allowed : ℕ → List ℕ) →
+    ((codes : ℕ → List ℕ) → told ≡ Ok codes → (number : ℕ) → AreSomeCodes (codes number)) →
+    (told >>= λ codes. Ok (where_there there items codes)) ≡ Ok allowed → (number : ℕ) → AreSomeCodes (allowed number)
+all_some there items (Err fault) allowed some e number = absurd (cc)
+all_some there items (Ok codes) allowed some e number =
+    let same : where_there there items codes ≡ allowed = cc in
+    subst (λ (known : ℕ → List ℕ). AreSomeCodes (known number)) same (there_some there items codes number (some codes refl number))
+
 pub known_some : KnownCodesAreSome
 unfolding knowledge
-known_some kind login tables items allowed e number = groups_some kind login tables items allowed (groups_read tables items) e number
+known_some kind login tables items allowed e number =
+    all_some tables.there items (told_knowledge kind login tables items) allowed (told_some kind login tables items) e number
 
 one_allowed : (set : List ℕ) → AreSomeCodes set → (code : ℕ) × (code < 31) × (is_in code set ≡ true)
 one_allowed [] some = absurd (some.0 refl)

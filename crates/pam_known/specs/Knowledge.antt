@@ -6,6 +6,7 @@ use Rattle.pam_codes.specs.Code.{all_codes}
 use Rattle.pam_codes.specs.Set.{is_in}
 use Rattle.pam_conf.specs.Stack.{Items, module_at, module_count}
 use Rattle.pam_conf.specs.declared.rule.Kind.{Kind}
+use Rattle.pam_facts.specs.Missing.{where_there}
 use Rattle.pam_paths.specs.Known.{may_answer}
 use Rattle.pam_paths.specs.Listing.{Allowance}
 use Rattle.pam_paths.specs.declared.knowledge.Known.{Known}
@@ -79,14 +80,18 @@ abbrev pub unless : {B : Type 0} → Option KnownError → Result B KnownError �
 unless None told = told
 unless (Some e) told = Err e
 
--- THE KNOWLEDGE of a stack for a login, from the tables and a returns file: the codes that each module may return, by
--- its number. The first fault is that of the groups, then those of the tables, in the order of the modules, then that
--- of the returns file
-unfoldable pub knowledge : Kind → LoginText → TablesText → Items → Result (ℕ → List ℕ) KnownError
-knowledge kind login tables items =
+-- the codes that each module may return if all modules are there, from the tables and a returns file
+unfoldable pub told_knowledge : Kind → LoginText → TablesText → Items → Result (ℕ → List ℕ) KnownError
+told_knowledge kind login tables items =
     groups_read tables items
     >>= λ groups. unless (first_fault (told_at kind login tables groups items) (numbers items)) (returns_read tables.returns
     >>= λ lines. Ok (λ number. codes_by (told_at kind login tables groups items number) (line_at lines items number)))
+
+-- THE KNOWLEDGE of a stack for a login: the codes that each module may return, by its number. One that is not there returns
+-- module_unknown alone, whatever a table or the returns file says of it. The first fault is that of the groups, then those of the
+-- tables, in the order of the modules, then that of the returns file
+unfoldable pub knowledge : Kind → LoginText → TablesText → Items → Result (ℕ → List ℕ) KnownError
+knowledge kind login tables items = told_knowledge kind login tables items >>= λ codes. Ok (where_there tables.there items codes)
 
 -- ---- results of calls
 

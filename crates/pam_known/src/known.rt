@@ -5,7 +5,7 @@ ghost use Rattle.std.specs.List.{list_any};
 ghost use Rattle.pam_conf.specs.ItemsOf.{module_text};
 ghost use Rattle.pam_conf.specs.Stack.{module_count};
 ghost use Rattle.pam_known.specs.Answers.{TellsError, access_told, name_of_path, time_told};
-ghost use Rattle.pam_known.specs.Knowledge.{Knows, groups_read, knowledge, line_at, numbers, reads_access};
+ghost use Rattle.pam_known.specs.Knowledge.{Knows, groups_read, knowledge, line_at, numbers, reads_access, told_knowledge};
 ghost use Rattle.pam_known.specs.Reads.{IsOfRead, tables_read};
 ghost use Rattle.pam_known.specs.Sets.{module_reads, number_reads, of_groups, of_module, some_read};
 ghost use Rattle.pam_known.specs.Sets.{Adds, IsKept, TellsAll, TellsIfAny, IsAccessCode, IsLineSet, IsTableSet, told_of, told_of_number};
@@ -20,6 +20,7 @@ use crate::error::KnownError;
 use crate::tables::{Tables, TimedTable};
 use pam_codes::{Code, CodeSet};
 use pam_conf::{Kind, Module, Stack};
+use pam_facts::set_missing;
 use pam_paths::Known;
 use pam_tables::{AccessOptions, Groups, Login, ReturnTable, Table, TableError, TableFault};
 use pam_text::Texts;
@@ -268,19 +269,36 @@ impl Lookup<'_, '_, '_> {
 /// A module `pam_access.so` returns what the access table says, read with the module's own arguments, unless one of
 /// them begins with `accessfile=`. A module `pam_time.so` returns what the time table says, for `account` only, unless
 /// an argument begins with `conffile=`. Granted is `success`, denied is `perm_denied`. Every other module may return
-/// the codes of its line in the returns file, or any code if it has no line.
+/// the codes of its line in the returns file, or any code if it has no line. A module that is not there returns
+/// `module_unknown` alone, whatever a table or the returns file says of it.
 ///
 /// Returns the first fault: of the group file, which is read only if a module reads the access table; then of the
 /// table that a module reads, in the order of the modules; then of the returns file. A failed allocation is `Memory`
 /// of the kind of a table that is read, with line 0.
-pub fn known_answers<'x>(
+pub fn known_answers(
+    alloc: Global,
+    stack: &Stack,
+    kind: Kind,
+    login: &Login<'_>,
+    tables: &Tables<'_>,
+) -> Result<Known, KnownError>
+    ensures known { Knows (module_count stack.now) result (knowledge kind (login_view login.now) (tables_view tables.now) stack.now) }
+    ensures read { IfErr result (IsOfRead (tables_read kind (tables_view tables.now) stack.now)) }
+{
+    let mut known = told_answers(alloc, stack, kind, login, tables)?;
+    set_missing(tables.there, stack, &mut known);
+    Ok(known)
+}
+
+/// Returns the codes that the modules of a stack of this kind may return for a login if all of them are there.
+fn told_answers<'x>(
     alloc: Global,
     stack: &Stack,
     kind: Kind,
     login: &'x Login<'_>,
     tables: &'x Tables<'_>,
 ) -> Result<Known, KnownError>
-    ensures known { Knows (module_count stack.now) result (knowledge kind (login_view login.now) (tables_view tables.now) stack.now) }
+    ensures known { Knows (module_count stack.now) result (told_knowledge kind (login_view login.now) (tables_view tables.now) stack.now) }
     ensures read { IfErr result (IsOfRead (tables_read kind (tables_view tables.now) stack.now)) }
 {
     let groups = groups_read(alloc, stack, tables)?;

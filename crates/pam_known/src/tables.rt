@@ -1,6 +1,7 @@
 //! The files that a login is looked up in.
 
 use jiff::civil::DateTime;
+use pam_text::Texts;
 
 /// A time table, as in time.conf(5), and the moment of the login.
 #[derive(Clone, Copy)]
@@ -9,9 +10,11 @@ pub struct TimedTable<'a> {
     pub moment: DateTime,
 }
 
-/// The contents of the files that tell the codes of modules. One that is `None` tells nothing.
+/// What tells the codes of modules: the contents of files, and which modules are there. What is `None` tells nothing.
 #[derive(Clone, Copy)]
 pub struct Tables<'a> {
+    /// The paths at which a module is there, as rules write them.
+    pub there: Option<&'a Texts>,
     /// The group file that the access table refers to, as in group(5).
     pub groups: Option<&'a [u8]>,
     /// The access table, as in access.conf(5).

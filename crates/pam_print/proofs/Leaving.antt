@@ -27,6 +27,7 @@ use Rattle.pam_print.specs.Text.{IsText}
 -- what a call gives that answers a task, if another gives as much for each relation
 pub answers-by : (One Other : (Answer → Type 0) → Type 0) → ((IsAnswer : Answer → Type 0) → One IsAnswer → Other IsAnswer)
     → (service : List ℕ) (task : Task) (files : Folder) (inputs : Inputs) → AnswersBy One service task files inputs → AnswersBy Other service task files inputs
+unfolding AnswersBy
 answers-by One Other go service (Show source kind) files inputs h = go _ h
 answers-by One Other go service (Decide source kind answered) files inputs h = go _ h
 answers-by One Other go service (Access table groups login arguments) files inputs h = go _ h
@@ -134,6 +135,7 @@ not_both both = cc
 -- a page, a drawing or a check is the reply of a task that may want memory for what is made
 pub page-wants : (service : List ℕ) (task : Task) (files : Folder) (inputs : Inputs) (reply : declared.Reply)
     → AnswersBy (Finds (Ok reply)) service task files inputs → wants_memory (reply_view reply) ≡ true → (wants_of task inputs).work ≡ true
+unfolding AnswersBy
 page-wants service (Show source kind) files inputs reply h page = absurd (not_both (sym page ∙ ap page_in (sym h) ∙ no_page service kind files _))
 page-wants service (Decide source kind answered) files inputs reply h page = refl
 page-wants service (Access table groups login arguments) files inputs reply h page = refl

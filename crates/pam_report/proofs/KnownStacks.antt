@@ -72,7 +72,7 @@ finds-ok items told found h = record {
 -- ---- tables
 
 with_its : (given : Inputs) (moment : Option DateTime) → with_time (tables_given given None) (tables_given given moment).time ≡ tables_given given moment
-with_its (inputs.Paths files groups access time returns) moment = refl
+with_its (inputs.Paths files given) moment = refl
 with_its (inputs.Host files paths given) moment = refl
 with_its (inputs.Sides old new facts returns) moment = refl
 with_its inputs.Nothing moment = refl

@@ -1,7 +1,6 @@
 -- Want of memory of the tables of `paths`.
 use Rattle.std.proofs.Common.{◌≡◌, ◌&&◌, true, refl, subst}
-use Rattle.std.specs.Prelude.{Vec, ℕ, Option, Some, None, is_some, option_map}
-use Rattle.std.specs.Global.{Global}
+use Rattle.std.specs.Prelude.{ℕ, Option, Some, None, is_some, option_map}
 use Rattle.jiff.specs.Types.{DateTime}
 use Rattle.pam_conf.specs.Stack.{Items}
 use Rattle.pam_conf.specs.declared.rule.Kind.{Kind}
@@ -17,11 +16,12 @@ use Rattle.pam_report.specs.Inputs.{tables_given, timed}
 use Rattle.pam_report.specs.Memory.{IsWanting, of_paths, paths_tables, wants_table}
 use Rattle.pam_report.specs.declared.inputs.Inputs.{Inputs}
 use Rattle.pam_report.specs.declared.inputs.Inputs.TheVariants as inputs
+use Rattle.pam_report.specs.declared.inputs.TableFile.{TableFile}
 
 -- a time table is given where one is read
-time_is : (time : Option (Vec ℕ Global)) (moment : Option DateTime) → is_some (timed time moment) ≡ (is_some time && is_some moment)
-time_is (Some bytes) (Some moment) = refl
-time_is (Some bytes) None = refl
+time_is : (time : Option TableFile) (moment : Option DateTime) → is_some (timed time moment) ≡ (is_some time && is_some moment)
+time_is (Some table) (Some moment) = refl
+time_is (Some table) None = refl
 time_is None moment = refl
 
 map_is : {A B : Type 0} (f : A → B) (given : Option A) → is_some (option_map f given) ≡ is_some given
@@ -38,8 +38,13 @@ wanted given (known.Table e) h = λ memory. table_wanted given e.table h
 wanted given (known.Time e) h = λ memory. h
 
 given_are : (inputs : Inputs) (moment : Option DateTime) → all_given (tables_given inputs moment) ≡ paths_tables (is_some moment) inputs
-given_are (inputs.Paths files groups access time returns) moment =
-    rw (map_is (λ b. b.items) groups, map_is (λ b. b.items) access, map_is (λ b. b.items) returns, time_is time moment) refl
+given_are (inputs.Paths files given) moment =
+    rw (
+      map_is (λ t. t.bytes.items) given.tables.groups,
+      map_is (λ t. t.bytes.items) given.tables.access,
+      map_is (λ b. b.items) given.returns,
+      time_is given.tables.time moment,
+    ) refl
 given_are (inputs.Host files paths given) moment = refl
 given_are (inputs.Sides old new facts returns) moment = refl
 given_are inputs.Nothing moment = refl

@@ -12,6 +12,7 @@ use Rattle.pam_tables.specs.Groups.{Group, groups_of}
 use Rattle.pam_tables.specs.declared.error.TableFault.{TableFault}
 use Rattle.pam_words.specs.declared.wanted.Task.{Task}
 use Rattle.pam_words.specs.declared.wanted.KnowledgeSource.{KnowledgeSource}
+use Rattle.pam_words.specs.declared.wanted.TableNames.{TableNames}
 use Rattle.pam_words.specs.declared.wanted.Task.TheVariants.{Check, Compare, Show, Decide, Access, Time, Paths, Outcomes, Graph, Explain, Facts, Version}
 use Rattle.pam_words.specs.declared.wanted.CheckFiles.{CheckFiles}
 use Rattle.pam_words.specs.declared.wanted.CompareFiles.{CompareFiles}
@@ -28,7 +29,7 @@ abbrev pub files_given : Inputs → Option Folder
 files_given (inputs.Host files paths given) = Some files
 files_given (inputs.Sides old new facts returns) = None
 files_given (inputs.Stack files) = Some files
-files_given (inputs.Paths files groups access time returns) = Some files
+files_given (inputs.Paths files given) = Some files
 files_given (inputs.Access table groups) = None
 files_given (inputs.Time table) = None
 files_given inputs.Nothing = None
@@ -41,6 +42,7 @@ paths_given _ = []
 -- the paths at which a module is there, if that is known
 abbrev pub there_given : Inputs → Option (List (List ℕ))
 there_given (inputs.Host files paths given) = given.there
+there_given (inputs.Paths files given) = given.there
 there_given _ = None
 
 -- the two configurations of a comparison, with their modules
@@ -115,21 +117,12 @@ time_given _ = []
 
 -- ---- inputs that fit
 
--- a configuration, and the contents of exactly the tables and returns file that are named
-abbrev pub fits_knowledge : KnowledgeSource → Inputs → Bool
-fits_knowledge named (inputs.Paths files groups access time returns) =
-    beq (is_some groups) (is_some named.groups)
-    && (beq (is_some access) (is_some named.access)
-    && (beq (is_some time) (is_some named.time)
-    && beq (is_some returns) (is_some named.returns)))
-fits_knowledge named _ = false
-
 -- a path for the whole configuration, and one for each file
 abbrev pub has_paths : Folder → List (List ℕ) → Bool
 has_paths files paths = length paths == suc (length files.entries)
 
 -- each table that is named is given
-abbrev pub has_named_tables : CheckFiles → TableFiles → Bool
+abbrev pub has_named_tables : TableNames → TableFiles → Bool
 has_named_tables named given =
     (is_none named.groups || is_some given.groups)
     && ((is_none named.access || is_some given.access) && (is_none named.time || is_some given.time))
@@ -138,7 +131,12 @@ has_named_tables named given =
 abbrev pub fits_check : CheckFiles → CheckInputs → Bool
 fits_check named given =
     beq (is_some given.facts) (is_some named.facts)
-    && (beq (is_some given.accept) (is_some named.accept) && has_named_tables named given.tables)
+    && (beq (is_some given.accept) (is_some named.accept) && has_named_tables named.tables given.tables)
+
+-- a configuration, the contents of exactly the returns file that is named, and those of each table that is named
+abbrev pub fits_knowledge : KnowledgeSource → Inputs → Bool
+fits_knowledge named (inputs.Paths files given) = beq (is_some given.returns) (is_some named.returns) && has_named_tables named.tables given.tables
+fits_knowledge named _ = false
 
 -- the contents of exactly the facts file and the returns file that are named
 abbrev pub fits_compare : CompareFiles → Option (Vec ℕ Global) → Option (Vec ℕ Global) → Bool
@@ -163,20 +161,21 @@ fits_task _ _ = false
 -- ---- the tables that tell the codes of modules
 
 -- a time table, if there is a moment
-abbrev pub timed : Option (Vec ℕ Global) → Option DateTime → Option TimedText
-timed (Some bytes) (Some moment) = Some (record { bytes = bytes.items; moment = moment })
-timed (Some bytes) None = None
+abbrev pub timed : Option TableFile → Option DateTime → Option TimedText
+timed (Some table) (Some moment) = Some (record { bytes = table.bytes.items; moment = moment })
+timed (Some table) None = None
 timed None moment = None
 
 abbrev pub no_tables : TablesText
-no_tables = record { groups = None; access = None; time = None; returns = None }
+no_tables = record { there = None; groups = None; access = None; time = None; returns = None }
 
--- the tables of the commands about paths
+-- the tables of the commands about paths, and which modules are there
 abbrev pub tables_given : Inputs → Option DateTime → TablesText
-tables_given (inputs.Paths files groups access time returns) moment = record {
-  groups = option_map (λ b. b.items) groups;
-  access = option_map (λ b. b.items) access;
-  time = timed time moment;
-  returns = option_map (λ b. b.items) returns;
+tables_given (inputs.Paths files given) moment = record {
+  there = given.there;
+  groups = bytes_of_table given.tables.groups;
+  access = bytes_of_table given.tables.access;
+  time = timed given.tables.time moment;
+  returns = option_map (λ b. b.items) given.returns;
 }
 tables_given _ moment = no_tables

@@ -50,4 +50,4 @@ IsFaultOfRead read fault = (e : KnownError) × (fault ≡ known_fault e) × IsOf
 
 -- tables with this time table
 abbrev pub with_time : TablesText → Option TimedText → TablesText
-with_time tables time = record { groups = tables.groups; access = tables.access; time = time; returns = tables.returns }
+with_time tables time = record { there = tables.there; groups = tables.groups; access = tables.access; time = time; returns = tables.returns }

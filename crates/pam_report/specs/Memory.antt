@@ -46,8 +46,12 @@ of_tables access groups time = record { configuration = false; access = access; 
 
 -- the tables of `paths` that are given, at a moment or at none
 abbrev pub paths_tables : Bool → Inputs → TablesRead
-paths_tables timed (inputs.Paths files groups access time returns) =
-    record { groups = is_some groups; access = is_some access; time = is_some time && timed; returns = is_some returns }
+paths_tables timed (inputs.Paths files given) = record {
+  groups = is_some given.tables.groups;
+  access = is_some given.tables.access;
+  time = is_some given.tables.time && timed;
+  returns = is_some given.returns;
+}
 paths_tables timed _ = record { groups = false; access = false; time = false; returns = false }
 
 -- a stack is read, and these tables

@@ -11,7 +11,9 @@ mod tables;
 pub use fault::{
     Fault, conf_name, fault_status, fault_text, input_status, input_text, usage_status, usage_text,
 };
-pub use inputs::{CheckInputs, InputError, Inputs, SideInputs, TableFile, TableFiles};
+pub use inputs::{
+    CheckInputs, InputError, Inputs, KnowledgeInputs, SideInputs, TableFile, TableFiles,
+};
 pub use names::{kind_name, problem_name, stack_of};
 pub use report::{
     AskedModule, CheckReply, CompareReply, GraphReply, Outcome, Outcomes, OutcomesReply,

@@ -111,6 +111,7 @@ fn stack_request<'a>(
 }
 
 /// Returns the reply to a request from these files, which are those of `inputs` or none, and the tables of `inputs`.
+#[tactic(auto, unfolding(crate::specs::Answer::AnswersBy))]
 fn reply_from<'a>(
     alloc: Global,
     request: &Request<'a>,

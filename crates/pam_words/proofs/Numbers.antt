@@ -4,7 +4,7 @@ use Rattle.std.specs.Str.Parse.{IsNumeral, digits_value, without_leading_plus}
 use Rattle.clap.proofs.ValueTestLemmas.{accepts-Accepts, Accepts-accepts}
 use Rattle.clap.specs.ValueTests.{accepts}
 use Rattle.clap.specs.Words.{Text}
-use Rattle.pam_words.specs.Request.{number_in}
+use Rattle.pam_words.specs.Values.{number_in}
 use Rattle.pam_words.specs.Words.{least_number, number_parser, most_number}
 
 -- `u32` reads the text as a number

@@ -5,7 +5,8 @@ use Rattle.clap.specs.Words.{Row, Text, HasKind, IsAmong, Kinds, kind_of}
 use Rattle.clap.specs.declared.Error.{Error}
 use Rattle.clap.specs.declared.error.ErrorKind.{ErrorKind}
 use Rattle.clap.specs.declared.error.ErrorKind.TheVariants.{OutOfMemory}
-use Rattle.pam_words.specs.Request.{Refusal, RequestText, request_of}
+use Rattle.pam_words.specs.Asked.{Refusal, RequestText}
+use Rattle.pam_words.specs.Request.{request_of}
 use Rattle.pam_words.specs.Wanted.{Answers, IsHelp, IsRead, IsRefusal, IsRefusalOf, Reads, RefusesBy}
 use Rattle.pam_words.specs.declared.wanted.Request.{Request}
 use Rattle.pam_words.specs.declared.wanted.Usage.{Usage}

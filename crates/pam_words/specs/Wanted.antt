@@ -5,9 +5,9 @@ use Rattle.clap.specs.Words.{IsAmong, Kinds, Row, Text, first_of, kind_of}
 use Rattle.clap.specs.declared.Error.{Error}
 use Rattle.clap.specs.declared.error.ErrorKind.TheVariants.{DisplayHelp, DisplayVersion, OutOfMemory}
 use Rattle.clap.specs.declared.error.ErrorKind.{ErrorKind}
-use Rattle.pam_words.specs.Request.{KnowledgeText, LoginText, MomentText, PartText, Refusal, RequestText, SourceText, TaskText}
-use Rattle.pam_words.specs.Request as spec
-use Rattle.pam_words.specs.Request.{texts_of}
+use Rattle.pam_words.specs.Asked.{KnowledgeText, LoginText, MomentText, PartText, Refusal, RequestText, SourceText, TaskText}
+use Rattle.pam_words.specs.Asked as spec
+use Rattle.pam_words.specs.Values.{texts_of}
 use Rattle.pam_words.specs.declared.wanted.Candidate.{Candidate}
 use Rattle.pam_words.specs.declared.wanted.CheckFiles.{CheckFiles}
 use Rattle.pam_words.specs.declared.wanted.CompareFiles.{CompareFiles}
@@ -47,10 +47,11 @@ login_view login = record { user = login.user.now; rhost = login.rhost.now; tty 
 
 abbrev pub knowledge_view : KnowledgeSource → KnowledgeText
 knowledge_view k = record {
+  modules = map (λ s. s.now) k.modules.items;
   login = login_view k.login;
-  access = option_copied k.access;
-  time = option_copied k.time;
-  groups = option_copied k.groups;
+  access = option_copied k.tables.access;
+  time = option_copied k.tables.time;
+  groups = option_copied k.tables.groups;
   returns = option_copied k.returns;
   moment = option_map moment_view k.moment;
 }
@@ -61,9 +62,9 @@ task_view (Check source services fail_on given) = spec.check (record {
   services = services;
   fail_on = fail_on;
   modules = map (λ s. s.now) given.modules.items;
-  access = option_copied given.access;
-  time = option_copied given.time;
-  groups = option_copied given.groups;
+  access = option_copied given.tables.access;
+  time = option_copied given.tables.time;
+  groups = option_copied given.tables.groups;
   facts = option_copied given.facts;
   accept = option_copied given.accept;
 })
@@ -193,9 +194,9 @@ RefusesBy kinds _ = kinds ≡ []
 -- for private contracts alone: what a check reads besides the configuration
 pub record IsGiven (rows : List Row) (given : CheckFiles) : Type 0 where
   pub modules : map (λ s. s.now) given.modules.items ≡ texts_of (codes "modules") rows
-  pub access : option_copied given.access ≡ first_of (codes "access") rows
-  pub time : option_copied given.time ≡ first_of (codes "time") rows
-  pub groups : option_copied given.groups ≡ first_of (codes "group") rows
+  pub access : option_copied given.tables.access ≡ first_of (codes "access") rows
+  pub time : option_copied given.tables.time ≡ first_of (codes "time") rows
+  pub groups : option_copied given.tables.groups ≡ first_of (codes "group") rows
   pub facts : option_copied given.facts ≡ first_of (codes "facts") rows
   pub accept : option_copied given.accept ≡ first_of (codes "accept") rows
 

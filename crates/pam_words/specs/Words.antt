@@ -127,7 +127,7 @@ with_moment app = with_options app (codes "at" ∷ codes "at-unix" ∷ codes "zo
 
 -- the options that say which codes modules may return
 abbrev pub with_knowledge : App → App
-with_knowledge app = with_moment (with_tables (with_login app))
+with_knowledge app = with_moment (with_tables (with_login (with_rule app (repeated_option_rule (codes "modules")))))
 
 -- `paths SERVICE KIND`
 unfoldable pub paths_app : App
@@ -165,11 +165,21 @@ version = codes "1.0.0 (proved with rattle, logic dac8208d650f15bf)"
 unfoldable pub bare_app : App
 bare_app = let app = new_app (codes "pamcheck") in record app { top = record app.top { has_version = true; subcommand_required = true } }
 
--- the commands that read a stack
+-- the commands about whole configurations
+abbrev pub with_hosts : App → App
+with_hosts app = with_subcommand (with_subcommand app check_app.top) compare_app.top
+
+-- the commands about a stack as it is
 abbrev pub with_stacks : App → App
-with_stacks app =
-    with_subcommand (with_subcommand (with_subcommand (with_subcommand (with_subcommand app
-    show_app.top) decide_app.top) paths_app.top) outcomes_app.top) graph_app.top
+with_stacks app = with_subcommand (with_subcommand app show_app.top) decide_app.top
+
+-- the commands that list paths
+abbrev pub with_listings : App → App
+with_listings app = with_subcommand app paths_app.top
+
+-- the commands about all runs of a stack
+abbrev pub with_graphs : App → App
+with_graphs app = with_subcommand (with_subcommand app outcomes_app.top) graph_app.top
 
 -- the commands that look a login up
 abbrev pub with_lookups : App → App
@@ -180,4 +190,4 @@ abbrev pub with_pages : App → App
 with_pages app = with_subcommand (with_subcommand (with_subcommand app explain_app.top) facts_app.top) version_app.top
 
 unfoldable pub pamcheck_app : App
-pamcheck_app = with_pages (with_lookups (with_stacks (with_subcommand (with_subcommand bare_app check_app.top) compare_app.top)))
+pamcheck_app = with_pages (with_lookups (with_graphs (with_listings (with_stacks (with_hosts bare_app)))))

@@ -217,7 +217,7 @@ pub(crate) const FORMAT: ArgRow = ArgRow {
     form: ArgForm::Optional,
     id: "format",
     name: "FORMAT",
-    help: "dot (for Graphviz) or mermaid; dot if left out",
+    help: "dot (for Graphviz), mermaid or svg; dot if left out",
 };
 
 pub(crate) const USER: ArgRow = ArgRow {

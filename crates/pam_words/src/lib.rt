@@ -3,6 +3,7 @@
 #![tactic(auto)]
 
 mod arguments;
+mod examples;
 mod number;
 mod reading;
 mod wanted;
@@ -11,6 +12,6 @@ mod words;
 pub use reading::request;
 pub use wanted::{
     Candidate, CheckFiles, CompareFiles, ConfSource, GraphFormat, KnowledgeSource, LevelName,
-    Login, Moment, PagePart, PathFilter, Request, Task, Usage,
+    Login, Moment, PagePart, PathFilter, Request, TableNames, Task, Usage,
 };
 pub use words::version;

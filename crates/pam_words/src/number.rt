@@ -1,7 +1,7 @@
 //! The numbers that an option gives: the most paths of a page (`--limit`), and the number of a module (`--asks`).
 
 ghost use Rattle.std.specs.Prelude.{◌≡◌};
-ghost use Rattle.pam_words.specs.Request.{number_in as number_in_text};
+ghost use Rattle.pam_words.specs.Values.{number_in as number_in_text};
 ghost use Rattle.pam_words.specs.Words.{number_parser as parser_of_numbers};
 
 use clap::builder::ValueParser;

@@ -7,8 +7,8 @@ ghost use Rattle.std.specs.Option.{option_copied};
 ghost use Rattle.clap.specs.Words.{found_of, rows_of, first_of, all_of, takes, fault_of, subcommand_of};
 ghost use Rattle.pam_words.specs.Request.{access_task, decide_task, request_of, show_task, stack_of, task_of, time_task};
 ghost use Rattle.pam_words.specs.Decisions.{code_named as code_of_name, codes_named as codes_of_names};
-ghost use Rattle.pam_words.specs.Request.{codes_of_rows};
-ghost use Rattle.pam_words.specs.Request.{instant_of, kind_of_rows, login_of, moment_of, seconds_of, source_of, text_of, texts_of as texts_in};
+ghost use Rattle.pam_words.specs.Values.{codes_of_rows, is_on as is_on_in};
+ghost use Rattle.pam_words.specs.Values.{instant_of, kind_of_rows, login_of, moment_of, seconds_of, source_of, text_of, texts_of as texts_in};
 ghost use Rattle.pam_words.specs.Wanted.{Answers, Gives, GivesTask, IsRead, IsRefusal, IsRefusalOf, Reads, RefusesBy};
 ghost use Rattle.pam_words.specs.Wanted.{login_view, moment_view, source_view};
 ghost use Rattle.pam_words.specs.Words.{pamcheck_app};
@@ -43,6 +43,16 @@ fn text<'a>(matches: &ArgMatches<'a>, id: &str) -> &'a str
     ensures { result.now ≡ text_of id.now (rows_of (found_of matches.now)) }
 {
     value(matches, id).unwrap_or("")
+}
+
+/// Whether an option without a value is given.
+fn is_on(matches: &ArgMatches<'_>, id: &str) -> bool
+    ensures { result ≡ is_on_in id.now (rows_of (found_of matches.now)) }
+{
+    match value(matches, id) {
+        Some(value) => value == "true",
+        None => false,
+    }
 }
 
 /// Returns all values of an id, in order.
@@ -258,11 +268,11 @@ fn task<'a>(alloc: Global, command: &str, matches: &ArgMatches<'a>) -> Result<Ta
     } else if command == "decide" {
         decide(alloc, matches)
     } else if command == "paths" {
-        paths::paths(matches)
+        paths::paths(alloc, matches)
     } else if command == "outcomes" {
-        knowledge::outcomes(matches)
+        knowledge::outcomes(alloc, matches)
     } else if command == "graph" {
-        graph::graph(matches)
+        graph::graph(alloc, matches)
     } else if command == "access" {
         access(alloc, matches)
     } else if command == "time" {

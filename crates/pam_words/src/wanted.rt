@@ -76,13 +76,23 @@ pub enum GraphFormat {
     Svg,
 }
 
-/// What says which codes modules may return: a returns file, and the tables in which they look up a login at a moment.
+/// The names of the group file and the tables that modules read, as far as they are given.
 #[derive(Clone, Copy)]
-pub struct KnowledgeSource<'a> {
-    pub login: Login<'a>,
+pub struct TableNames<'a> {
+    pub groups: Option<&'a str>,
     pub access: Option<&'a str>,
     pub time: Option<&'a str>,
-    pub groups: Option<&'a str>,
+}
+
+/// What says which codes modules may return: the folders of modules, a returns file, and the tables in which they look up a login at
+/// a moment.
+#[derive(Drop)]
+pub struct KnowledgeSource<'a> {
+    /// The folders of modules. With `ConfSource::Root`, those of the system are read too.
+    pub modules: Vec<&'a str>,
+    pub login: Login<'a>,
+    /// With `ConfSource::Root`, those of the system are read where none is named and the login and the moment that they need are given.
+    pub tables: TableNames<'a>,
     pub returns: Option<&'a str>,
     pub moment: Option<Moment<'a>>,
 }
@@ -92,10 +102,8 @@ pub struct KnowledgeSource<'a> {
 pub struct CheckFiles<'a> {
     /// The folders of modules. With `ConfSource::Root`, those of the system are read too.
     pub modules: Vec<&'a str>,
-    /// The tables and the group file that modules read. With `ConfSource::Root`, those of the system are read where none is named.
-    pub access: Option<&'a str>,
-    pub time: Option<&'a str>,
-    pub groups: Option<&'a str>,
+    /// With `ConfSource::Root`, those of the system are read where none is named.
+    pub tables: TableNames<'a>,
     /// What is known of modules, after the program's own table.
     pub facts: Option<&'a str>,
     /// The findings that are meant to be.

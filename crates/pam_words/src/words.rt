@@ -4,6 +4,7 @@ ghost use Rattle.std.specs.Prelude.{◌≡◌, false};
 ghost use Rattle.clap.specs.Words.{App, app_of, rule_of};
 ghost use Rattle.clap.specs.declared.builder.Command.TheViews.{out-Command as fields_of};
 ghost use Rattle.pam_words.specs.Building.{IsBuilt, app_of_row, rule_of_row, with_args as with_rules, with_commands as with_apps};
+ghost use Rattle.pam_words.specs.Words.{with_graphs, with_hosts, with_listings, with_lookups, with_stacks};
 ghost use Rattle.pam_words.specs.Words.{bare_app, pamcheck_app, version};
 
 use crate::arguments::{
@@ -13,6 +14,7 @@ use crate::arguments::{
     ROOT, SERVICE, SERVICE_IF_NAMED, SERVICES, TABLE_USER, TIME, TIME_TABLE, TTY, USER, VENDOR_DIR,
     WITH, ZONE,
 };
+use crate::examples::examples_of;
 use crate::number::number_parser;
 use clap::{Arg, ArgAction, Command};
 use std::alloc::{AllocError, Global};
@@ -32,7 +34,10 @@ struct CommandRow {
     args: &'static [ArgRow],
 }
 
-static COMMANDS: [CommandRow; 12] = [
+// The commands stand in several tables, since what it costs to prove a static grows with the square of its size.
+
+/// The commands about whole configurations.
+static HOSTS: [CommandRow; 2] = [
     CommandRow {
         name: "check",
         about: "Checks all services for faults, and for stacks that let nobody or anybody in",
@@ -67,6 +72,10 @@ static COMMANDS: [CommandRow; 12] = [
             RETURNS,
         ],
     },
+];
+
+/// The commands about a stack as it is.
+static STACKS: [CommandRow; 2] = [
     CommandRow {
         name: "show",
         about: "Shows the modules of a stack",
@@ -77,30 +86,40 @@ static COMMANDS: [CommandRow; 12] = [
         about: "Runs a stack with given return codes",
         args: &[SERVICE, KIND, DIR, VENDOR_DIR, CONF, ROOT, WITH, CODES],
     },
-    CommandRow {
-        name: "paths",
-        about: "Lists the paths through a stack",
-        args: &[
-            SERVICE, KIND, DIR, VENDOR_DIR, CONF, ROOT, WITH, LIMIT, AFTER, BEFORE, DECISION, ASKS,
-            USER, RHOST, TTY, ACCESS, TIME, GROUP, RETURNS, AT, AT_UNIX, ZONE,
-        ],
-    },
+];
+
+/// The commands that list paths.
+static LISTINGS: [CommandRow; 1] = [CommandRow {
+    name: "paths",
+    about: "Lists the paths through a stack",
+    args: &[
+        SERVICE, KIND, DIR, VENDOR_DIR, CONF, ROOT, WITH, LIMIT, AFTER, BEFORE, DECISION, ASKS,
+        MODULES, USER, RHOST, TTY, ACCESS, TIME, GROUP, RETURNS, AT, AT_UNIX, ZONE,
+    ],
+}];
+
+/// The commands about all runs of a stack.
+static GRAPHS: [CommandRow; 2] = [
     CommandRow {
         name: "outcomes",
         about: "Counts the paths through a stack by their decisions",
         args: &[
-            SERVICE, KIND, DIR, VENDOR_DIR, CONF, ROOT, WITH, USER, RHOST, TTY, ACCESS, TIME,
-            GROUP, RETURNS, AT, AT_UNIX, ZONE,
+            SERVICE, KIND, DIR, VENDOR_DIR, CONF, ROOT, WITH, MODULES, USER, RHOST, TTY, ACCESS,
+            TIME, GROUP, RETURNS, AT, AT_UNIX, ZONE,
         ],
     },
     CommandRow {
         name: "graph",
         about: "Draws the graph of a stack",
         args: &[
-            SERVICE, KIND, DIR, VENDOR_DIR, CONF, ROOT, WITH, FORMAT, USER, RHOST, TTY, ACCESS,
-            TIME, GROUP, RETURNS, AT, AT_UNIX, ZONE,
+            SERVICE, KIND, DIR, VENDOR_DIR, CONF, ROOT, WITH, FORMAT, MODULES, USER, RHOST, TTY,
+            ACCESS, TIME, GROUP, RETURNS, AT, AT_UNIX, ZONE,
         ],
     },
+];
+
+/// The commands that look a login up.
+static LOOKUPS: [CommandRow; 2] = [
     CommandRow {
         name: "access",
         about: "Looks a login up in an access table",
@@ -119,6 +138,10 @@ static COMMANDS: [CommandRow; 12] = [
         about: "Looks a login up in a time table",
         args: &[SERVICE, TIME_TABLE, TABLE_USER, TTY, AT, AT_UNIX, ZONE],
     },
+];
+
+/// The commands about the program itself.
+static PAGES: [CommandRow; 3] = [
     CommandRow {
         name: "explain",
         about: "Explains a fault or finding, and how to mend it",
@@ -174,7 +197,9 @@ fn command_of<'a>(alloc: Global, row: &CommandRow) -> Result<Command<'a>, AllocE
 {
     with_args(
         alloc,
-        Command::new(alloc, row.name).about(row.about),
+        Command::new(alloc, row.name)
+            .about(row.about)
+            .after_help(examples_of(row.name)),
         row.args,
     )
 }
@@ -206,9 +231,44 @@ fn bare_command<'a>(alloc: Global) -> Command<'a>
         .subcommand_required(true)
 }
 
+/// Returns the command line with the commands up to those about whole configurations.
+fn up_to_hosts<'a>(alloc: Global) -> Result<Command<'a>, AllocError>
+    ensures { IsBuilt result (with_hosts bare_app) }
+{
+    with_commands(alloc, bare_command(alloc), &HOSTS)
+}
+
+/// Returns the command line with the commands up to those about a stack as it is.
+fn up_to_stacks<'a>(alloc: Global) -> Result<Command<'a>, AllocError>
+    ensures { IsBuilt result (with_stacks (with_hosts bare_app)) }
+{
+    with_commands(alloc, up_to_hosts(alloc)?, &STACKS)
+}
+
+/// Returns the command line with the commands up to those that list paths.
+fn up_to_listings<'a>(alloc: Global) -> Result<Command<'a>, AllocError>
+    ensures { IsBuilt result (with_listings (with_stacks (with_hosts bare_app))) }
+{
+    with_commands(alloc, up_to_stacks(alloc)?, &LISTINGS)
+}
+
+/// Returns the command line with the commands up to those about all runs of a stack.
+fn up_to_graphs<'a>(alloc: Global) -> Result<Command<'a>, AllocError>
+    ensures { IsBuilt result (with_graphs (with_listings (with_stacks (with_hosts bare_app)))) }
+{
+    with_commands(alloc, up_to_listings(alloc)?, &GRAPHS)
+}
+
+/// Returns the command line with the commands up to those that look a login up.
+fn up_to_lookups<'a>(alloc: Global) -> Result<Command<'a>, AllocError>
+    ensures { IsBuilt result (with_lookups (with_graphs (with_listings (with_stacks (with_hosts bare_app))))) }
+{
+    with_commands(alloc, up_to_graphs(alloc)?, &LOOKUPS)
+}
+
 /// Returns the whole command line, as a `clap` command.
 pub fn pamcheck_command<'a>(alloc: Global) -> Result<Command<'a>, AllocError>
     ensures { IsBuilt result pamcheck_app }
 {
-    with_commands(alloc, bare_command(alloc), &COMMANDS)
+    with_commands(alloc, up_to_lookups(alloc)?, &PAGES)
 }

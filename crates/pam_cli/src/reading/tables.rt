@@ -8,7 +8,7 @@ ghost use Rattle.pam_cli.specs.Sources.{IsInSource, IsUnread};
 use crate::reading::files::{bytes_if_there, named_file, unread};
 use crate::reading::inside::Folder;
 use pam_report::{InputError, TableFile, TableFiles};
-use pam_words::{CheckFiles, ConfSource};
+use pam_words::{ConfSource, TableNames};
 use std::alloc::Global;
 use std::path::Path;
 
@@ -20,6 +20,15 @@ const ACCESS: &str = "etc/security/access.conf";
 
 /// The time table of a system.
 const TIME: &str = "etc/security/time.conf";
+
+/// What is looked up in the tables of a system.
+#[derive(Clone, Copy)]
+pub(super) struct LookedUp {
+    /// A login, in the group file and the access table.
+    pub(super) login: bool,
+    /// A login at a moment, in the time table.
+    pub(super) moment: bool,
+}
 
 /// Reads a table that is named.
 fn named_table<R: std::rt::Files>(
@@ -54,20 +63,21 @@ fn table_if_there<R: std::rt::Files>(
     }
 }
 
-/// Reads the table that is named, or else that of the root at this path, if it is there.
+/// Reads the table that is named, or else that of the root, if it is to be read and is there.
 fn table_of<R: std::rt::Files>(
     rt: &R,
     alloc: Global,
     source: ConfSource<'_>,
     named: Option<&str>,
     own: &str,
+    is_read: bool,
 ) -> Result<Option<TableFile>, InputError>
-    ensures ok { IfOk result (IsTable source.entry own.now (option_copied named.entry)) }
+    ensures ok { IfOk result (IsTable is_read source.entry own.now (option_copied named.entry)) }
     ensures error { IfErr result (IsUnread (λ n. IsInSource source.entry n ⊎ IsNamed (option_copied named.entry) n)) }
 {
     match (named, source) {
         (Some(name), _) => Ok(Some(named_table(rt, alloc, name)?)),
-        (None, ConfSource::Root(root)) => {
+        (None, ConfSource::Root(root)) if is_read => {
             let path = Path::new(root).join(alloc, own)?;
             table_if_there(rt, alloc, Folder::of_root(root), own, path.as_str())
         }
@@ -75,19 +85,21 @@ fn table_of<R: std::rt::Files>(
     }
 }
 
-/// Reads the group file, the access table and the time table that are named, or else those of the root that are there.
+/// Reads the group file, the access table and the time table that are named, or else those of the root that are there: the first two
+/// if a login is looked up, and the time table if its moment is looked up too.
 pub(super) fn table_files<R: std::rt::Files>(
     rt: &R,
     alloc: Global,
     source: ConfSource<'_>,
-    named: &CheckFiles<'_>,
+    named: TableNames<'_>,
+    looked_up: LookedUp,
 ) -> Result<TableFiles, InputError>
-    ensures ok { IfOk result (AreTables source.entry named.now) }
-    ensures error { IfErr result (IsUnread (λ n. IsInSource source.entry n ⊎ IsOfTables named.now n)) }
+    ensures ok { IfOk result (AreTables looked_up.entry.login looked_up.entry.moment source.entry named.entry) }
+    ensures error { IfErr result (IsUnread (λ n. IsInSource source.entry n ⊎ IsOfTables named.entry n)) }
 {
-    let groups = table_of(rt, alloc, source, named.groups, GROUPS)?;
-    let access = table_of(rt, alloc, source, named.access, ACCESS)?;
-    let time = table_of(rt, alloc, source, named.time, TIME)?;
+    let groups = table_of(rt, alloc, source, named.groups, GROUPS, looked_up.login)?;
+    let access = table_of(rt, alloc, source, named.access, ACCESS, looked_up.login)?;
+    let time = table_of(rt, alloc, source, named.time, TIME, looked_up.moment)?;
     Ok(TableFiles {
         groups,
         access,

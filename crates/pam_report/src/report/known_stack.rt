@@ -21,6 +21,7 @@ use pam_conf::{Files, Kind, Stack, resolve};
 use pam_known::{Tables, TimedTable, known_answers};
 use pam_paths::Known;
 use pam_tables::Login as TableLogin;
+use pam_text::Texts;
 use pam_times::MomentError;
 use pam_words::Login;
 use std::alloc::Global;
@@ -72,6 +73,8 @@ fn known_with(
         IfErr result (IsFaultOfRead (tables_read kind tables stack.now)) }
 {
     let tables = tables_with(inputs, time);
+    // Its type is named here, since the proof of what is lent has to find it.
+    let _there: Option<&Texts> = tables.there;
     known_by(alloc, kind, login, stack, &tables)
 }
 

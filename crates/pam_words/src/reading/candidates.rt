@@ -3,7 +3,7 @@
 ghost use Rattle.std.specs.Prelude.{◌≡◌, IfOk, map, option_map};
 ghost use Rattle.clap.specs.Words.{found_of, rows_of};
 ghost use Rattle.pam_words.specs.Candidates.{candidate_of, candidates_in as candidates_in_texts};
-ghost use Rattle.pam_words.specs.Request.{candidates_of};
+ghost use Rattle.pam_words.specs.Values.{candidates_of};
 ghost use Rattle.pam_words.specs.Wanted.{candidate_view};
 
 use crate::reading::knowledge::has;

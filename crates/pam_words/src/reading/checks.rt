@@ -1,13 +1,14 @@
 //! Reads a `check` request from its words.
 
-ghost use Rattle.std.specs.Prelude.{◌≡◌, IfOk, codes, map, option_map};
+ghost use Rattle.std.specs.Prelude.{◌≡◌, IfOk, option_map};
 ghost use Rattle.clap.specs.Words.{found_of, rows_of};
-ghost use Rattle.pam_words.specs.Request.{check_task, level_named as level_of_name, level_of, source_or_root as source_or_root_of};
-ghost use Rattle.pam_words.specs.Request.{names_source as has_source, texts_of};
+ghost use Rattle.pam_words.specs.Request.{check_task};
+ghost use Rattle.pam_words.specs.Values.{level_named as level_of_name, level_of, source_or_root as source_or_root_of};
+ghost use Rattle.pam_words.specs.Values.{names_source as has_source};
 ghost use Rattle.pam_words.specs.Wanted.{GivesTask, IsGiven, source_view};
 
-use crate::reading::knowledge::has;
-use crate::reading::{source, texts, value, values};
+use crate::reading::knowledge::{folders, has, tables};
+use crate::reading::{source, texts, value};
 use crate::wanted::{CheckFiles, ConfSource, LevelName, Task, Usage};
 use clap::ArgMatches;
 use std::alloc::{AllocError, Global};
@@ -57,28 +58,13 @@ fn level(matches: &ArgMatches<'_>) -> Option<LevelName>
     }
 }
 
-/// Returns the folders of modules that are named, in order.
-pub(crate) fn folders<'a>(
-    alloc: Global,
-    matches: &ArgMatches<'a>,
-) -> Result<Vec<&'a str>, AllocError>
-    ensures { IfOk result (λ v. map (λ s. s.now) v.items ≡ texts_of (codes "modules") (rows_of (found_of matches.now))) }
-{
-    match values(matches, "modules") {
-        Some(names) => Vec::from_slice(alloc, names),
-        None => Ok(Vec::new(alloc)),
-    }
-}
-
 /// Reads the names of the folders and files that a check reads besides the configuration.
 fn given<'a>(alloc: Global, matches: &ArgMatches<'a>) -> Result<CheckFiles<'a>, AllocError>
     ensures { IfOk result (λ given. IsGiven (rows_of (found_of matches.now)) given) }
 {
     Ok(CheckFiles {
         modules: folders(alloc, matches)?,
-        access: value(matches, "access"),
-        time: value(matches, "time"),
-        groups: value(matches, "group"),
+        tables: tables(matches),
         facts: value(matches, "facts"),
         accept: value(matches, "accept"),
     })

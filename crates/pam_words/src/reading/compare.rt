@@ -2,25 +2,16 @@
 
 ghost use Rattle.std.specs.Prelude.{◌≡◌, IfOk, codes, option_map};
 ghost use Rattle.clap.specs.Words.{found_of, rows_of};
-ghost use Rattle.pam_words.specs.Request.{compare_task, is_on as is_on_in, kind_if_named as kind_in, side_in, side_of};
+ghost use Rattle.pam_words.specs.Request.{compare_task};
+ghost use Rattle.pam_words.specs.Values.{kind_if_named as kind_in, side_in, side_of};
 ghost use Rattle.pam_words.specs.Wanted.{GivesTask, IsCompareGiven, source_view};
 
-use crate::reading::checks::folders;
-use crate::reading::{text, value};
+use crate::reading::knowledge::folders;
+use crate::reading::{is_on, text, value};
 use crate::wanted::{CompareFiles, ConfSource, Task, Usage};
 use clap::ArgMatches;
 use pam_conf::Kind;
 use std::alloc::{AllocError, Global};
-
-/// Whether an option without a value is given.
-fn is_on(matches: &ArgMatches<'_>, id: &str) -> bool
-    ensures { result ≡ is_on_in id.now (rows_of (found_of matches.now)) }
-{
-    match value(matches, id) {
-        Some(value) => value == "true",
-        None => false,
-    }
-}
 
 /// Returns the source of this name, or `None` if both forms are given.
 fn side_of_form<'a>(are_files: bool, are_roots: bool, name: &'a str) -> Option<ConfSource<'a>>

@@ -2,13 +2,15 @@
 
 ghost use Rattle.std.specs.Prelude.{◌≡◌};
 ghost use Rattle.clap.specs.Words.{found_of, rows_of};
-ghost use Rattle.pam_words.specs.Request.{format_named as format_of_name, format_of, graph_task};
+ghost use Rattle.pam_words.specs.Request.{graph_task};
+ghost use Rattle.pam_words.specs.Values.{format_named as format_of_name, format_of};
 ghost use Rattle.pam_words.specs.Wanted.{GivesTask};
 
 use crate::reading::knowledge::knowledge;
 use crate::reading::{stack, value};
 use crate::wanted::{GraphFormat, Task, Usage};
 use clap::ArgMatches;
+use std::alloc::Global;
 
 fn format_named(name: &str) -> Option<GraphFormat>
     ensures { result ≡ format_of_name name.now }
@@ -34,14 +36,14 @@ fn format(matches: &ArgMatches<'_>) -> Option<GraphFormat>
     }
 }
 
-pub(crate) fn graph<'a>(matches: &ArgMatches<'a>) -> Result<Task<'a>, Usage>
+pub(crate) fn graph<'a>(alloc: Global, matches: &ArgMatches<'a>) -> Result<Task<'a>, Usage>
     ensures { GivesTask (graph_task (rows_of (found_of matches.now))) result }
 {
     let (source, kind) = stack(matches)?;
     let Some(format) = format(matches) else {
         return Err(Usage::FormatName);
     };
-    let knowledge = knowledge(matches)?;
+    let knowledge = knowledge(alloc, matches)?;
     Ok(Task::Graph {
         source,
         kind,

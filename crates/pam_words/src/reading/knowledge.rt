@@ -1,14 +1,18 @@
 //! Reads what a request says of the answers of modules, and an `outcomes` request.
 
-ghost use Rattle.std.specs.Prelude.{◌≡◌, codes, option_map};
-ghost use Rattle.clap.specs.Words.{found_of, rows_of};
-ghost use Rattle.pam_words.specs.Request.{has as has_value, knowledge_of, lacks_user as lacks_user_in};
-ghost use Rattle.pam_words.specs.Request.{moment_if_needed as moment_if_needed_in, needs_moment as needs_moment_in, outcomes_task};
+ghost use Rattle.std.specs.Prelude.{◌≡◌, IfOk, codes, map, option_map};
+ghost use Rattle.std.specs.Option.{option_copied};
+ghost use Rattle.clap.specs.Words.{first_of, found_of, rows_of};
+ghost use Rattle.pam_words.specs.Request.{knowledge_of};
+ghost use Rattle.pam_words.specs.Values.{has as has_value, lacks_user as lacks_user_in, texts_of};
+ghost use Rattle.pam_words.specs.Request.{moment_if_needed as moment_if_needed_in, outcomes_task};
+ghost use Rattle.pam_words.specs.Values.{needs_moment as needs_moment_in};
 ghost use Rattle.pam_words.specs.Wanted.{Gives, GivesTask, knowledge_view, moment_view};
 
-use crate::reading::{login, moment, stack, value};
-use crate::wanted::{KnowledgeSource, Moment, Task, Usage};
+use crate::reading::{login, moment, stack, value, values};
+use crate::wanted::{KnowledgeSource, Moment, TableNames, Task, Usage};
 use clap::ArgMatches;
+use std::alloc::{AllocError, Global};
 
 pub(crate) fn has(matches: &ArgMatches<'_>, id: &str) -> bool
     ensures { result ≡ has_value id.now (rows_of (found_of matches.now)) }
@@ -43,29 +47,60 @@ fn moment_if_needed<'a>(matches: &ArgMatches<'a>) -> Result<Option<Moment<'a>>, 
     Ok(Some(moment))
 }
 
-/// Reads the login and the moment, and the names of the tables and of the returns file.
-pub(crate) fn knowledge<'a>(matches: &ArgMatches<'a>) -> Result<KnowledgeSource<'a>, Usage>
+/// Returns the folders of modules that are named, in order.
+pub(crate) fn folders<'a>(
+    alloc: Global,
+    matches: &ArgMatches<'a>,
+) -> Result<Vec<&'a str>, AllocError>
+    ensures { IfOk result (λ v. map (λ s. s.now) v.items ≡ texts_of (codes "modules") (rows_of (found_of matches.now))) }
+{
+    match values(matches, "modules") {
+        Some(names) => Vec::from_slice(alloc, names),
+        None => Ok(Vec::new(alloc)),
+    }
+}
+
+/// Reads the names of the group file and the tables.
+pub(crate) fn tables<'a>(matches: &ArgMatches<'a>) -> TableNames<'a>
+    ensures groups { option_copied result.groups ≡ first_of (codes "group") (rows_of (found_of matches.now)) }
+    ensures access { option_copied result.access ≡ first_of (codes "access") (rows_of (found_of matches.now)) }
+    ensures time { option_copied result.time ≡ first_of (codes "time") (rows_of (found_of matches.now)) }
+{
+    TableNames {
+        groups: value(matches, "group"),
+        access: value(matches, "access"),
+        time: value(matches, "time"),
+    }
+}
+
+/// Reads the login and the moment, and the names of the folders of modules, of the tables and of the returns file.
+pub(crate) fn knowledge<'a>(
+    alloc: Global,
+    matches: &ArgMatches<'a>,
+) -> Result<KnowledgeSource<'a>, Usage>
     ensures { Gives knowledge_view (knowledge_of (rows_of (found_of matches.now))) result }
 {
     if lacks_user(matches) {
         return Err(Usage::Login);
     }
     let moment = moment_if_needed(matches)?;
+    let Ok(modules) = folders(alloc, matches) else {
+        return Err(Usage::Memory);
+    };
     Ok(KnowledgeSource {
+        modules,
         login: login(matches),
-        access: value(matches, "access"),
-        time: value(matches, "time"),
-        groups: value(matches, "group"),
+        tables: tables(matches),
         returns: value(matches, "returns"),
         moment,
     })
 }
 
-pub(crate) fn outcomes<'a>(matches: &ArgMatches<'a>) -> Result<Task<'a>, Usage>
+pub(crate) fn outcomes<'a>(alloc: Global, matches: &ArgMatches<'a>) -> Result<Task<'a>, Usage>
     ensures { GivesTask (outcomes_task (rows_of (found_of matches.now))) result }
 {
     let (source, kind) = stack(matches)?;
-    let knowledge = knowledge(matches)?;
+    let knowledge = knowledge(alloc, matches)?;
     Ok(Task::Outcomes {
         source,
         kind,

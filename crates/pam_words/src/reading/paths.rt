@@ -3,7 +3,8 @@
 ghost use Rattle.std.specs.Prelude.{◌≡◌, option_map};
 ghost use Rattle.std.specs.Option.{option_and_then};
 ghost use Rattle.clap.specs.Words.{found_of, rows_of};
-ghost use Rattle.pam_words.specs.Request.{asks_of, limit_of, one_filter, part_of, paths_task};
+ghost use Rattle.pam_words.specs.Request.{paths_task};
+ghost use Rattle.pam_words.specs.Values.{asks_of, limit_of, one_filter, part_of};
 ghost use Rattle.pam_words.specs.Wanted.{GivesTask, part_view};
 
 use crate::number::{DEFAULT_LIMIT, number_in};
@@ -13,6 +14,7 @@ use crate::reading::{stack, value};
 use crate::wanted::{PagePart, PathFilter, Task, Usage};
 use clap::ArgMatches;
 use pam_codes::CodeSet;
+use std::alloc::Global;
 
 fn limit(matches: &ArgMatches<'_>) -> u32
     ensures { result ≡ limit_of (rows_of (found_of matches.now)) }
@@ -56,14 +58,14 @@ fn filter(decisions: Option<CodeSet>, asks: Option<u32>) -> Option<PathFilter>
     }
 }
 
-pub(crate) fn paths<'a>(matches: &ArgMatches<'a>) -> Result<Task<'a>, Usage>
+pub(crate) fn paths<'a>(alloc: Global, matches: &ArgMatches<'a>) -> Result<Task<'a>, Usage>
     ensures { GivesTask (paths_task (rows_of (found_of matches.now))) result }
 {
     let (source, kind) = stack(matches)?;
     let Some(decisions) = decisions(matches) else {
         return Err(Usage::CodeName);
     };
-    let knowledge = knowledge(matches)?;
+    let knowledge = knowledge(alloc, matches)?;
     let Some(part) = part(matches) else {
         return Err(Usage::BothEnds);
     };

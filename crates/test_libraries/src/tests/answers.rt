@@ -9,7 +9,7 @@ use crate::tests::same::same;
 use pam_codes::Out;
 use pam_conf::{Files, Form};
 use pam_print::answer;
-use pam_report::{Fault, Inputs, SideInputs, fault_status};
+use pam_report::{Fault, Inputs, KnowledgeInputs, SideInputs, TableFiles, fault_status};
 use pam_words::{Request, request};
 use std::alloc::Global;
 use std::io::Write;
@@ -192,6 +192,19 @@ fn sides_of(alloc: Global, login: &[u8]) -> Result<Inputs, Fail> {
     })
 }
 
+/// Returns no tables and no returns file, with which nothing is known of modules.
+fn nothing_known() -> KnowledgeInputs {
+    KnowledgeInputs {
+        there: None,
+        tables: TableFiles {
+            groups: None,
+            access: None,
+            time: None,
+        },
+        returns: None,
+    }
+}
+
 pub(crate) fn inputs(alloc: Global, command: &Command) -> Result<Inputs, Fail> {
     if let Some(table) = command.access {
         let table = table.to_vec(alloc)?;
@@ -211,10 +224,7 @@ pub(crate) fn inputs(alloc: Global, command: &Command) -> Result<Inputs, Fail> {
     match command.words.get(1) {
         Some(&"paths") | Some(&"outcomes") | Some(&"graph") => Ok(Inputs::Paths {
             files,
-            groups: None,
-            access: None,
-            time: None,
-            returns: None,
+            given: nothing_known(),
         }),
         _ => Ok(Inputs::Stack(files)),
     }

@@ -277,6 +277,7 @@ fn timed(bytes: Option<&'static [u8]>) -> Option<TimedTable<'static>> {
 
 fn tables(given: &Given) -> Tables<'static> {
     Tables {
+        there: None,
         groups: given.groups,
         access: given.access,
         time: timed(given.time),

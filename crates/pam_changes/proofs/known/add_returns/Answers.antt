@@ -4,8 +4,8 @@ use Rattle.pam_conf.specs.Stack.{module_count}
 use Rattle.pam_paths.specs.Known.{set_for}
 use Rattle.pam_paths.specs.declared.knowledge.Known.{Known}
 use Rattle.pam_facts.proofs.AnswerSteps.{IsSomeSet}
+use Rattle.pam_facts.proofs.Replaced.{So, with-one, without-one}
 use Rattle.pam_changes.specs.Known.{line_at}
-use Rattle.pam_changes.proofs.Returns.{So, with-line, without-line}
 use Rattle.pam_changes.proofs.known.add_returns.Goals.{in-Some, in_default}
 use Rattle.pam_changes.proofs.known.add_returns.Goals as goal
 
@@ -17,9 +17,9 @@ loop-index-preserved c base allows number code low high small =
     let before = c.loop-index.invariant base allows number code low high small in
     elim c.match-codes_at.branch [
       | in-Some w ↦ subst (λ (k : Known). So line base (set_for k) (i + 1) number code) (sym w.known-is)
-          (with-line line base (set_for c.loop-index.known) (set_for w.set.new.self) w.in-Some.codes i number code
+          (with-one line base (set_for c.loop-index.known) (set_for w.set.new.self) w.in-Some.codes i number code
           (sym w.in-Some.ensures.codes) (record { order = w.len-count.ensures.order; some = w.in-Some.ensures.some }) small
           (w.set.ensures number low (omega (arith, most, high))) before)
       | in_default w ↦ subst (λ (k : Known). So line base (set_for k) (i + 1) number code) (sym w.known-is)
-          (without-line line base (set_for c.loop-index.known) i number code (sym w.in_default.ensures.codes) before)
+          (without-one line base (set_for c.loop-index.known) i number code (sym w.in_default.ensures.codes) before)
     ]

@@ -1,0 +1,187 @@
+-- The command line: the values that the rows found by `clap` spell.
+use Rattle.std.specs.Prelude.{Bool, ◌&&◌, ◌||◌, true, false, not, ℕ, ℤ, pos, nat_le, nat_lt, List, [], codes, length}
+use Rattle.std.specs.Prelude.{Option, Some, None, is_some, option_map, unwrap_or, if◌then◌else◌}
+use Rattle.std.specs.Char.{is_ascii_digit}
+use Rattle.std.specs.List.{list_all}
+use Rattle.std.specs.Option.{option_and_then, option_map_or}
+use Rattle.std.specs.Str.{bytes_eq}
+use Rattle.std.specs.Str.Parse.{digits_value, without_leading_plus}
+use Rattle.pam_conf.specs.Rule.{kind_named}
+use Rattle.pam_conf.specs.declared.Kind.{Kind}
+use Rattle.clap.specs.ValueTests.{accepts}
+use Rattle.clap.specs.Words.{Row, Text, all_of, first_of}
+use Rattle.pam_words.specs.Asked.{LoginText, MomentText, PartText, SourceText, after, before, civil, conf, dir, instant, over, root, whole}
+use Rattle.pam_words.specs.Candidates.{candidates_beside}
+use Rattle.pam_words.specs.Decisions.{codes_named}
+use Rattle.pam_words.specs.Words.{number_parser}
+use Rattle.pam_words.specs.declared.wanted.GraphFormat.{GraphFormat}
+use Rattle.pam_words.specs.declared.wanted.GraphFormat.TheVariants.{Dot, Mermaid, Svg}
+use Rattle.pam_words.specs.declared.wanted.LevelName.{LevelName}
+use Rattle.pam_words.specs.declared.wanted.LevelName.TheVariants.{Error, Warning, Note}
+use Rattle.pam_words.specs.declared.wanted.PathFilter.{PathFilter}
+use Rattle.pam_words.specs.declared.wanted.PathFilter.TheVariants.{All, Decides, Asks}
+
+-- the text of an id, empty if it has none
+abbrev pub text_of : Text → List Row → Text
+text_of id rows = unwrap_or (first_of id rows) []
+
+-- all texts of an id, in order
+abbrev pub texts_of : Text → List Row → List Text
+texts_of id rows = unwrap_or (all_of id rows) []
+
+-- whether an id has a value
+abbrev pub has : Text → List Row → Bool
+has id rows = is_some (first_of id rows)
+
+-- the source: `--dir`, `--conf` or `--root`, exactly one, and `--vendor-dir` with `--dir` alone. The columns are the values of
+-- `--dir`, `--vendor-dir`, `--conf` and `--root`
+abbrev pub one_source : Option Text → Option Text → Option Text → Option Text → Option SourceText
+one_source (Some folder) None None None = Some (dir folder)
+one_source (Some folder) (Some vendor) None None = Some (over folder vendor)
+one_source None None (Some file) None = Some (conf file)
+one_source None None None (Some folder) = Some (root folder)
+one_source _ _ _ _ = None
+
+abbrev pub source_of : List Row → Option SourceText
+source_of rows =
+    one_source (first_of (codes "dir") rows) (first_of (codes "vendor-dir") rows) (first_of (codes "conf") rows) (first_of (codes "root") rows)
+
+-- an option of a source is given
+abbrev pub names_source : List Row → Bool
+names_source rows = has (codes "dir") rows || has (codes "vendor-dir") rows || has (codes "conf") rows || has (codes "root") rows
+
+-- the source of `check`, which is the running system if no option names one
+abbrev pub source_or_root : List Row → Option SourceText
+source_or_root rows = if names_source rows then source_of rows else Some (root (codes "/"))
+
+-- an option without a value is given
+abbrev pub is_on : Text → List Row → Bool
+is_on id rows = option_map_or (λ value. bytes_eq value (codes "true")) (first_of id rows) false
+
+-- a side of `compare`: a folder, one file with `--conf`, or a root with `--root`. The columns are whether `--conf` is given, whether
+-- `--root` is given, and the name
+abbrev pub side_of : Bool → Bool → Text → Option SourceText
+side_of false false name = Some (dir name)
+side_of true false name = Some (conf name)
+side_of false true name = Some (root name)
+side_of true true name = None
+
+abbrev pub side_in : Text → List Row → Option SourceText
+side_in id rows = side_of (is_on (codes "conf") rows) (is_on (codes "root") rows) (text_of id rows)
+
+-- the candidates for files of the source
+abbrev pub candidates_of : List Row → Option (List (Text × Text))
+candidates_of rows = candidates_beside (has (codes "conf") rows) (all_of (codes "with") rows)
+
+abbrev pub kind_of_rows : List Row → Option Kind
+kind_of_rows rows = kind_named (text_of (codes "kind") rows)
+
+-- the kind of a name, if there is one
+abbrev pub kind_or_all : Option Text → Option (Option Kind)
+kind_or_all None = Some None
+kind_or_all (Some name) = option_map (λ kind. Some kind) (kind_named name)
+
+abbrev pub kind_if_named : List Row → Option (Option Kind)
+kind_if_named rows = kind_or_all (first_of (codes "kind") rows)
+
+abbrev pub codes_of_rows : List Row → Option (List ℕ)
+codes_of_rows rows = codes_named (texts_of (codes "code") rows)
+
+-- the number written by 1 to 12 decimal digits
+abbrev pub seconds_of : Text → Option ℤ
+seconds_of text =
+    if nat_lt 0 (length text) && nat_le (length text) 12 && list_all is_ascii_digit text
+    then Some (pos (digits_value 10 text)) else None
+
+abbrev pub instant_of : Text → Option Text → Option MomentText
+instant_of digits zone = option_map (λ seconds. instant seconds (unwrap_or zone (codes "UTC0"))) (seconds_of digits)
+
+-- `--at` alone, or `--at-unix` with or without `--zone`
+abbrev pub one_moment : Option Text → Option Text → Option Text → Option MomentText
+one_moment (Some text) None None = Some (civil text)
+one_moment (Some text) None (Some rule) = None
+one_moment None (Some digits) rule = instant_of digits rule
+one_moment (Some text) (Some digits) rule = None
+one_moment None None rule = None
+
+abbrev pub moment_of : List Row → Option MomentText
+moment_of rows =
+    one_moment (first_of (codes "at") rows) (first_of (codes "at-unix") rows) (first_of (codes "zone") rows)
+
+abbrev pub login_of : List Row → LoginText
+login_of rows = record {
+  user = text_of (codes "user") rows;
+  rhost = text_of (codes "rhost") rows;
+  tty = text_of (codes "tty") rows;
+}
+
+-- the limit if `--limit` is not given
+abbrev pub default_limit : ℕ
+default_limit = 1000
+
+-- the number of a text that `clap` accepts as one
+abbrev pub number_in : Text → Option ℕ
+number_in text = if accepts false number_parser text then Some (digits_value 10 (without_leading_plus text)) else None
+
+-- the limit. `clap` finds no text for `--limit` but one that it accepts
+abbrev pub limit_of : List Row → ℕ
+limit_of rows = unwrap_or (option_and_then number_in (first_of (codes "limit") rows)) default_limit
+
+-- the module that paths are to ask
+abbrev pub asks_of : List Row → Option ℕ
+asks_of rows = option_and_then number_in (first_of (codes "asks") rows)
+
+-- at most one of `--decision` and `--asks`
+abbrev pub one_filter : Option (List ℕ) → Option ℕ → Option PathFilter
+one_filter None None = Some All
+one_filter (Some decisions) None = Some (Decides decisions)
+one_filter None (Some module_number) = Some (Asks module_number)
+one_filter (Some decisions) (Some module_number) = None
+
+-- at most one of `--after` and `--before`
+abbrev pub one_part : Option Text → Option Text → Option PartText
+one_part None None = Some whole
+one_part (Some cursor) None = Some (after cursor)
+one_part None (Some cursor) = Some (before cursor)
+one_part (Some cursor) (Some other) = None
+
+abbrev pub part_of : List Row → Option PartText
+part_of rows = one_part (first_of (codes "after") rows) (first_of (codes "before") rows)
+
+abbrev pub format_named : Text → Option GraphFormat
+format_named name =
+    if bytes_eq name (codes "dot") then Some Dot
+    else if bytes_eq name (codes "mermaid") then Some Mermaid
+    else if bytes_eq name (codes "svg") then Some Svg
+    else None
+
+abbrev pub format_or_default : Option Text → Option GraphFormat
+format_or_default None = Some Dot
+format_or_default (Some name) = format_named name
+
+-- the format of a drawing, which is DOT unless `--format` names another one
+abbrev pub format_of : List Row → Option GraphFormat
+format_of rows = format_or_default (first_of (codes "format") rows)
+
+abbrev pub level_named : Text → Option LevelName
+level_named name =
+    if bytes_eq name (codes "error") then Some Error
+    else if bytes_eq name (codes "warning") then Some Warning
+    else if bytes_eq name (codes "note") then Some Note
+    else None
+
+abbrev pub level_or_default : Option Text → Option LevelName
+level_or_default None = Some Warning
+level_or_default (Some name) = level_named name
+
+-- the least level that fails, which is a warning unless `--fail-on` names another one
+abbrev pub level_of : List Row → Option LevelName
+level_of rows = level_or_default (first_of (codes "fail-on") rows)
+
+-- an access or time table is given, and no user
+abbrev pub lacks_user : List Row → Bool
+lacks_user rows = (has (codes "access") rows || has (codes "time") rows) && not (has (codes "user") rows)
+
+-- a time table or an option of the moment is given
+abbrev pub needs_moment : List Row → Bool
+needs_moment rows = has (codes "time") rows || has (codes "at") rows || has (codes "at-unix") rows || has (codes "zone") rows
