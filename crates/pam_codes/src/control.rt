@@ -74,7 +74,7 @@ impl Control {
     }
 
     /// The control with the `named` actions, and `default` for the other codes.
-    fn of(named: [Option<Action>; CODES], default: Action) -> Control
+    pub fn of(named: [Option<Action>; CODES], default: Action) -> Control
         requires named { All (λ action. IfSome action IsAction) named }
         requires default { IsAction default }
         ensures { result ≡ map (λ code. unwrap_or (slice_index_or named code None) default) all_codes }

@@ -2,6 +2,7 @@ pub mod Calls
 pub mod FileRules
 pub mod FilesRead
 pub mod Files
+pub mod FaultWord
 pub mod FirstWord
 pub mod ItemsOf
 pub mod Kept

@@ -5,6 +5,7 @@
 mod call;
 mod conf_error;
 mod error;
+mod fault_word;
 mod files;
 mod kept;
 pub mod laws;
@@ -23,6 +24,7 @@ mod words;
 
 pub use conf_error::ConfError;
 pub use error::{FaultKind, RuleFault};
+pub use fault_word::word_at_fault;
 pub use files::Files;
 pub use lines::rules;
 pub use listed::Listed;

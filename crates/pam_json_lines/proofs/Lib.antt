@@ -1,0 +1,4 @@
+pub mod Bytes
+pub mod FlatTexts
+pub mod Lines
+pub mod Strings

@@ -1,0 +1,33 @@
+-- The text of an object, member by member.
+use Rattle.std.proofs.Common.{◌≡◌, ◌∙◌, ℕ, ◌+◌, ◌<◌, ◌≤◌, Bool, true, List, [], ◌∷◌, ◌++◌, ap, append_assoc, drop, drop_of_length-le, get_or, length, map, sym}
+use Rattle.std.proofs.lemmas.List.{at_drop_more}
+use Rattle.json.specs.Print.{quoted}
+use Rattle.serde_json.specs.Data.{Data}
+use Rattle.serde_json.specs.Written.{comma_if, compact_text, members_text}
+use Rattle.pam_json_lines.specs.Line.{members_of}
+use Rattle.pam_json_lines.specs.Values.{data_of, member_of, member_text}
+use Rattle.pam_json_lines.specs.declared.value.Member.{Member}
+
+-- the text of members, with the closing brace
+abbrev pub rest_text : {E : Type 0} → (E → List Data) → Bool → List (Member E) → List ℕ
+rest_text elements later members = members_text later (members_of (map (member_of elements) members))
+
+-- one more member is written
+pub member-more : {E : Type 0} (elements : E → List Data) (front text : List ℕ) (later : Bool) (members : List (Member E)) (i : ℕ) (d m : Member E) → i < length members → m ≡ get_or members i d
+    → front ++ rest_text elements later (drop i members) ≡ text
+    → (front ++ (comma_if later ++ member_text elements m)) ++ rest_text elements true (drop (i + 1) members) ≡ text
+member-more elements front text later members i d m h is before =
+    let rest = rest_text elements true (drop (i + 1) members) in
+    let at = get_or members i d in
+    ap (λ x. (front ++ (comma_if later ++ member_text elements x)) ++ rest) is
+    ∙ append_assoc front (comma_if later ++ member_text elements at) rest
+    ∙ ap (λ l. front ++ l)
+    (append_assoc (comma_if later) (member_text elements at) rest
+    ∙ ap (λ l. comma_if later ++ l) (append_assoc (quoted at.name.now) (58 ∷ compact_text (data_of elements at.value)) rest))
+    ∙ ap (λ l. front ++ l) (sym (at_drop_more (rest_text elements later) members i d h)) ∙ before
+
+-- no member is left
+pub members-all : {E : Type 0} (elements : E → List Data) (front text : List ℕ) (later : Bool) (members : List (Member E)) (i : ℕ) → length members ≤ i
+    → front ++ rest_text elements later (drop i members) ≡ text → front ++ 125 ∷ [] ≡ text
+members-all elements front text later members i h before =
+    ap (λ ms. front ++ rest_text elements later ms) (sym (drop_of_length-le members h)) ∙ before

@@ -1,0 +1,25 @@
+-- A line of an answer: a JSON object (RFC 8259) with no space, and a line feed.
+use Rattle.std.specs.Prelude.{ℕ, List, [], ◌∷◌, ◌++◌, codes, None, Option, Some}
+use Rattle.serde_json.specs.Data.{Data, Items, Members, item, member, no_items, no_members, null, number, object, string, unsigned}
+use Rattle.serde_json.specs.Written.{compact_text}
+
+abbrev pub items_of : List Data → Items
+items_of [] = no_items
+items_of (d ∷ ds) = item d (items_of ds)
+
+-- the members of an object, in the order in which they are written
+abbrev pub members_of : List (List ℕ × Data) → Members
+members_of [] = no_members
+members_of (m ∷ ms) = member m.0 m.1 (members_of ms)
+
+-- THE LINE of these members
+abbrev pub line : List (List ℕ × Data) → List ℕ
+line members = compact_text (object (members_of members)) ++ codes "\n"
+
+-- the member `kind`, with which each line begins
+abbrev pub kind : List ℕ → List ℕ × Data
+kind name = (codes "kind", string name)
+
+abbrev pub number_or_null : Option ℕ → Data
+number_or_null None = null
+number_or_null (Some n) = number (unsigned n)
