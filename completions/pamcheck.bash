@@ -18,12 +18,13 @@ _pamcheck_options() {
     case $1 in
         check) echo "$source --modules --access --time --group --facts --accept --fail-on --help" ;;
         compare) echo '--conf --root --modules --facts --returns --help' ;;
-        show | decide) echo "$source --help" ;;
+        show) echo "$source --help" ;;
+        decide) echo "$source --json --help" ;;
         paths) echo "$source --limit --after --before --decision --asks $known --help" ;;
         outcomes) echo "$source $known --help" ;;
         graph) echo "$source --format $known --help" ;;
-        access) echo '--access --user --tty --group --rhost --help' ;;
-        time) echo "--time --user --tty $moment --help" ;;
+        access) echo '--access --user --tty --group --rhost --json --help' ;;
+        time) echo "--time --user --tty $moment --json --help" ;;
         *) echo '--help' ;;
     esac
 }
@@ -94,8 +95,8 @@ _pamcheck() {
         COMPREPLY=($(compgen -W "$_pamcheck_commands" -- "$cur"))
         return
     fi
-    # The two sources of a comparison, whose form is said by options without a value.
-    if [[ $command == compare && ($prev == --conf || $prev == --root) ]]; then
+    # Options without a value: --json, and those that say the form of the two sources of a comparison.
+    if [[ $prev == --json || $command == compare && ($prev == --conf || $prev == --root) ]]; then
         prev=''
     fi
     case $prev in
@@ -117,7 +118,7 @@ _pamcheck() {
     # The place of this word among those that are neither options nor their values.
     for ((at = 2; at < cword; at++)); do
         case ${words[at]} in
-            --*=*) ;;
+            --*=* | --json) ;;
             --conf | --root) [[ $command == compare ]] || at=$((at + 1)) ;;
             --*) at=$((at + 1)) ;;
             *) place=$((place + 1)) ;;

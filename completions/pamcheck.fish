@@ -30,7 +30,7 @@ function __pamcheck_at
     for word in $words[3..]
         if test $value = yes
             set value no
-        else if string match -q -- '--*=*' $word
+        else if string match -q -- '--*=*' $word; or test $word = --json
         else if test "$words[2]" = compare; and contains -- $word --conf --root
         else if string match -q -- '--*' $word
             set value yes
@@ -131,6 +131,7 @@ complete -c pamcheck -n '__pamcheck_in check compare paths outcomes graph' -l mo
 complete -c pamcheck -n '__pamcheck_in check compare' -l facts -rF -d 'What is known of more modules'
 complete -c pamcheck -n '__pamcheck_in check' -l accept -rF -d 'The findings that are meant to be'
 complete -c pamcheck -n '__pamcheck_in check' -l fail-on -xa 'error warning note' -d 'The least level that fails'
+complete -c pamcheck -n '__pamcheck_in decide access time' -l json -d 'Answers in JSON Lines'
 complete -c pamcheck -n '__pamcheck_in paths' -l limit -x -d 'The most paths to list'
 complete -c pamcheck -n '__pamcheck_in paths' -l after -x -d 'Lists the paths after this cursor'
 complete -c pamcheck -n '__pamcheck_in paths' -l before -x -d 'Lists the paths before this cursor'

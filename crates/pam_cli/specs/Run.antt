@@ -39,7 +39,7 @@ module _ {W : Type 0} (contents : W → Option (List ℕ)) (old new : Out W) (st
   abbrev pub EndsAnswered : Request → Inputs → Type 0
   EndsAnswered request inputs =
       (answered : Result Status Fault)
-      × Answers contents old new answered request.service.now request.task inputs
+      × Answers contents old new answered request.output request.service.now request.task inputs
       × (status ≡ status_of_answer answered)
 
   -- the answer, or why the inputs cannot be read

@@ -9,6 +9,7 @@ use Rattle.pam_conf.specs.declared.conf_error.ConfError.{ConfError}
 use Rattle.pam_conf.specs.declared.rule.Kind.{Kind}
 use Rattle.pam_explain.specs.Explanation.{Explanation}
 use Rattle.pam_explain.specs.Explanations.{explanation_of}
+use Rattle.pam_paths.specs.declared.cursor.CursorError.{CursorError}
 use Rattle.pam_report.specs.Answer.{AnswersBy, explained, explained_by, shown, with_stack}
 use Rattle.pam_report.specs.Finds.{Finds, Refuses}
 use Rattle.pam_report.specs.Memory.{IsWanting, Wants, wants as wants_of}
@@ -19,10 +20,12 @@ use Rattle.pam_report.specs.declared.fault.Fault.TheVariants as faults
 use Rattle.pam_report.specs.declared.inputs.Inputs.{Inputs}
 use Rattle.pam_report.specs.declared.report.Status.{Status}
 use Rattle.pam_report.specs.declared.report.replies.Reply as declared
+use Rattle.pam_words.specs.declared.wanted.OutputForm.TheVariants.{Json}
 use Rattle.pam_words.specs.declared.wanted.Task.{Task}
 use Rattle.pam_words.specs.declared.wanted.Task.TheVariants.{Show, Decide, Access, Time, Paths, Outcomes, Graph, Check, Compare, Explain, Facts, Version}
-use Rattle.pam_print.specs.Leaves.{LeavesFault, LeavesSome, Prints}
-use Rattle.pam_print.specs.Text.{IsText}
+use Rattle.pam_print.specs.Leaves.{LeavesFault, LeavesSome, PrintsBy}
+use Rattle.pam_json.specs.Text.{PrintsIfAny, json_of}
+use Rattle.pam_print.specs.Text.{IsJsonOrText, IsText as IsPlainText, IsTextIn}
 
 -- what a call gives that answers a task, if another gives as much for each relation
 pub answers-by : (One Other : (Answer → Type 0) → Type 0) → ((IsAnswer : Answer → Type 0) → One IsAnswer → Other IsAnswer)
@@ -41,23 +44,23 @@ answers-by One Other go service (Explain number) files inputs h = go _ h
 answers-by One Other go service Facts files inputs h = go _ h
 answers-by One Other go service Version files inputs h = go _ h
 
-module _ {W : Type 0} (contents : W → Option (List ℕ)) (old new : Out W) where
+module _ {W : Type 0} (contents : W → Option (List ℕ)) (IsText : Reply → Result (List ℕ) CursorError → Type 0) (old new : Out W) where
   -- the text of a reply is written, and what is told of it is this
   pub text-printed : (reply : Reply) (text : List ℕ) (written : Result (Unit {0}) Device) (result : Result (Unit {0}) Fault) → IsText reply (Ok text)
       → MatchResult written (λ none. result ≡ Ok none) (λ _. result ≡ Err faults.Device) → WritesAndFlushes contents old new written text
-      → Prints contents old new result reply
+      → PrintsBy contents IsText old new result reply
   text-printed reply text (Ok none) result is told h =
-      subst (λ (r : Result (Unit {0}) Fault). Prints contents old new r reply) (sym told) (text, is, h)
+      subst (λ (r : Result (Unit {0}) Fault). PrintsBy contents IsText old new r reply) (sym told) (text, is, h)
   text-printed reply text (Err e) result is told h =
-      subst (λ (r : Result (Unit {0}) Fault). Prints contents old new r reply) (sym told) (text, is, h)
+      subst (λ (r : Result (Unit {0}) Fault). PrintsBy contents IsText old new r reply) (sym told) (text, is, h)
 
   -- it is this reply that is printed
-  pub reply-is : (result : Result (Unit {0}) Fault) (one other : declared.Reply) → other ≡ one → Prints contents old new result (reply_view one)
-      → Prints contents old new result (reply_view other)
-  reply-is result one other same h = subst (λ (reply : declared.Reply). Prints contents old new result (reply_view reply)) (sym same) h
+  pub reply-is : (result : Result (Unit {0}) Fault) (one other : declared.Reply) → other ≡ one → PrintsBy contents IsText old new result (reply_view one)
+      → PrintsBy contents IsText old new result (reply_view other)
+  reply-is result one other same h = subst (λ (reply : declared.Reply). PrintsBy contents IsText old new result (reply_view reply)) (sym same) h
 
   -- a fault is found, and nothing is written
-  pub refused : (fault : Fault) (IsAnswer : Answer → Type 0) → new ≡ old → Refuses IsAnswer fault → LeavesFault contents old new IsAnswer fault
+  pub refused : (fault : Fault) (IsAnswer : Answer → Type 0) → new ≡ old → Refuses IsAnswer fault → LeavesFault contents IsText old new IsAnswer fault
   refused faults.Device IsAnswer same h = absurd h
   refused faults.Memory IsAnswer same h = same
   refused (faults.Cursor e) IsAnswer same h = absurd h
@@ -73,13 +76,13 @@ module _ {W : Type 0} (contents : W → Option (List ℕ)) (old new : Out W) whe
   refused (faults.Time e) IsAnswer same h = (same, h)
 
   -- a reply is printed
-  pub printed : (reply : Reply) (status : Status) (none : Unit {0}) → Prints contents old new (Ok none) reply → status ≡ status_of reply
-      → (IsAnswer : Answer → Type 0) → IsAnswer (Ok reply) → LeavesSome contents old new (Ok status) IsAnswer
+  pub printed : (reply : Reply) (status : Status) (none : Unit {0}) → PrintsBy contents IsText old new (Ok none) reply → status ≡ status_of reply
+      → (IsAnswer : Answer → Type 0) → IsAnswer (Ok reply) → LeavesSome contents IsText old new (Ok status) IsAnswer
   printed reply status none h same IsAnswer is = (reply, h.0, is, h.1, same, h.2)
 
   -- a reply is not printed, or not whole
-  pub unprinted : (fault : Fault) (reply : Reply) → Prints contents old new (Err fault) reply
-      → (IsAnswer : Answer → Type 0) → IsAnswer (Ok reply) → LeavesFault contents old new IsAnswer fault
+  pub unprinted : (fault : Fault) (reply : Reply) → PrintsBy contents IsText old new (Err fault) reply
+      → (IsAnswer : Answer → Type 0) → IsAnswer (Ok reply) → LeavesFault contents IsText old new IsAnswer fault
   unprinted faults.Device reply h IsAnswer is = (reply, h.0, is, h.1, h.2)
   unprinted faults.Memory reply h IsAnswer is = h.0
   unprinted (faults.Cursor e) reply h IsAnswer is = (h.0, (reply, is, h.1))
@@ -95,7 +98,7 @@ module _ {W : Type 0} (contents : W → Option (List ℕ)) (old new : Out W) whe
   unprinted (faults.Time e) reply h IsAnswer is = absurd h
 
   -- if it is for want of memory, it is a page, a drawing or a check
-  pub unprinted-wants : (wants : Wants) (fault : Fault) (reply : Reply) → Prints contents old new (Err fault) reply
+  pub unprinted-wants : (wants : Wants) (fault : Fault) (reply : Reply) → PrintsBy contents IsText old new (Err fault) reply
       → (wants_memory reply ≡ true → wants.work ≡ true) → IsWanting wants fault
   unprinted-wants wants faults.Device reply h works = tt
   unprinted-wants wants faults.Memory reply h works = works h.1
@@ -110,6 +113,57 @@ module _ {W : Type 0} (contents : W → Option (List ℕ)) (old new : Out W) whe
   unprinted-wants wants (faults.Moment e) reply h works = absurd h
   unprinted-wants wants (faults.Table e) reply h works = absurd h
   unprinted-wants wants (faults.Time e) reply h works = absurd h
+
+-- ---- JSON
+
+module _ {W : Type 0} (contents : W → Option (List ℕ)) (old new : Out W) where
+  -- what is written is JSON
+  written-is : (json : Option (List ℕ)) (written : Result (Unit {0}) Device) → PrintsIfAny contents old new (Some written) json
+      → (text : List ℕ) × (json ≡ Some text) × WritesAndFlushes contents old new written text
+  written-is (Some text) written h = (text, refl, h)
+  written-is None written h = absurd h
+
+  -- there is no JSON, and nothing is written
+  unwritten-is : (json : Option (List ℕ)) → PrintsIfAny contents old new None json → (json ≡ None) × (new ≡ old)
+  unwritten-is (Some text) h = absurd h
+  unwritten-is None h = (refl, h)
+
+  pub json-printed : (reply : Reply) (written : Result (Unit {0}) Device) (result : Result (Unit {0}) Fault)
+      → PrintsIfAny contents old new (Some written) (json_of reply)
+      → MatchResult written (λ none. result ≡ Ok none) (λ _. result ≡ Err faults.Device) → PrintsBy contents (IsTextIn Json) old new result reply
+  json-printed reply written result h told =
+      let is = written-is (json_of reply) written h in
+      let text : IsTextIn Json reply (Ok is.0) = subst (λ (json : Option (List ℕ)). IsJsonOrText json reply (Ok is.0)) (sym is.1) refl in
+      text-printed contents (IsTextIn Json) old new reply is.0 written result text told is.2
+
+  -- the text of a reply that has no JSON
+  text-as : (reply : Reply) → json_of reply ≡ None → (text : Result (List ℕ) CursorError) → IsPlainText reply text → IsTextIn Json reply text
+  text-as reply none text is = subst (λ (json : Option (List ℕ)). IsJsonOrText json reply text) (sym none) is
+
+  text-instead : (reply : Reply) (result : Result (Unit {0}) Fault) → json_of reply ≡ None → PrintsBy contents IsPlainText old new result reply
+      → PrintsBy contents (IsTextIn Json) old new result reply
+  text-instead reply (Ok told) none h = (h.0, text-as reply none _ h.1, h.2)
+  text-instead reply (Err faults.Device) none h = (h.0, text-as reply none _ h.1, h.2)
+  text-instead reply (Err faults.Memory) none h = h
+  text-instead reply (Err (faults.Cursor e)) none h = (h.0, text-as reply none _ h.1)
+  text-instead reply (Err (faults.Conf e)) none h = absurd h
+  text-instead reply (Err (faults.Count e)) none h = absurd h
+  text-instead reply (Err faults.TooManyStates) none h = absurd h
+  text-instead reply (Err faults.NoSuchModule) none h = absurd h
+  text-instead reply (Err faults.NoSuchNumber) none h = absurd h
+  text-instead reply (Err (faults.Facts e)) none h = absurd h
+  text-instead reply (Err (faults.Accept e)) none h = absurd h
+  text-instead reply (Err (faults.Moment e)) none h = absurd h
+  text-instead reply (Err (faults.Table e)) none h = absurd h
+  text-instead reply (Err (faults.Time e)) none h = absurd h
+
+module _ {W : Type 0} (contents : W → Option (List ℕ)) (old mid new : Out W) where
+  -- no JSON is written, and then the text
+  pub text-printed-instead : (reply : Reply) (result : Result (Unit {0}) Fault) → PrintsIfAny contents old mid None (json_of reply)
+      → PrintsBy contents IsPlainText mid new result reply → PrintsBy contents (IsTextIn Json) old new result reply
+  text-printed-instead reply result nothing h =
+      let is = unwritten-is contents old mid (json_of reply) nothing in
+      text-instead contents old new reply result is.0 (subst (λ (out : Out W). PrintsBy contents IsPlainText out new result reply) is.1 h)
 
 -- ---- pages
 

@@ -7,11 +7,13 @@ use Rattle.pam_report.specs.Memory.{WantsOnly, wants}
 use Rattle.pam_report.specs.declared.fault.Fault.{Fault}
 use Rattle.pam_report.specs.declared.inputs.Inputs.{Inputs}
 use Rattle.pam_report.specs.declared.report.Status.{Status}
+use Rattle.pam_words.specs.declared.wanted.OutputForm.{OutputForm}
 use Rattle.pam_words.specs.declared.wanted.Task.{Task}
 use Rattle.pam_print.specs.Leaves.{LeavesSome}
+use Rattle.pam_print.specs.Text.{IsTextIn}
 
--- THE ANSWER to a task for a service, from these inputs, and what the call writes
-abbrev pub Answers : {W : Type 0} → (W → Option (List ℕ)) → Out W → Out W → Result Status Fault → List ℕ → Task → Inputs → Type 0
-Answers contents old new result service task inputs =
-    AnswersBy (LeavesSome contents old new result) service task (unwrap_or (files_given inputs) no_files) inputs
+-- THE ANSWER to a task for a service, from these inputs, and what the call writes in this form
+abbrev pub Answers : {W : Type 0} → (W → Option (List ℕ)) → Out W → Out W → Result Status Fault → OutputForm → List ℕ → Task → Inputs → Type 0
+Answers contents old new result output service task inputs =
+    AnswersBy (LeavesSome contents (IsTextIn output) old new result) service task (unwrap_or (files_given inputs) no_files) inputs
     × WantsOnly (wants task inputs) result

@@ -1,8 +1,11 @@
 -- The text of a reply.
-use Rattle.std.specs.Prelude.{◌≡◌, ℕ, List, Result, Ok}
+use Rattle.std.specs.Prelude.{◌≡◌, ℕ, List, Option, None, Some, Result, Ok}
 use Rattle.pam_paths.specs.declared.cursor.CursorError.{CursorError}
 use Rattle.pam_report.specs.Reply.{Reply, Stack, Run, Access, Time, Outcomes, Drawing, Page, Check, Compared, Explained, Explanations, Facts, Version}
 use Rattle.pam_facts.specs.Table.{table_text}
+use Rattle.pam_json.specs.Text.{json_of}
+use Rattle.pam_words.specs.declared.wanted.OutputForm.{OutputForm}
+use Rattle.pam_words.specs.declared.wanted.OutputForm.TheVariants.{Json, PlainText}
 use Rattle.pam_print.specs.About.{version_text}
 use Rattle.pam_print.specs.Check.{check_text}
 use Rattle.pam_print.specs.Compare.{compare_text}
@@ -29,3 +32,13 @@ IsText (Explained explanation) text = text ≡ Ok (explanation_text explanation)
 IsText Explanations text = text ≡ Ok explanations_text
 IsText Facts text = text ≡ Ok table_text
 IsText Version text = text ≡ Ok version_text
+
+-- the JSON of a reply, or its text if it has none
+abbrev pub IsJsonOrText : Option (List ℕ) → Reply → Result (List ℕ) CursorError → Type 0
+IsJsonOrText (Some json) reply text = text ≡ Ok json
+IsJsonOrText None reply text = IsText reply text
+
+-- THE TEXT of a reply in a form
+abbrev pub IsTextIn : OutputForm → Reply → Result (List ℕ) CursorError → Type 0
+IsTextIn PlainText reply text = IsText reply text
+IsTextIn Json reply text = IsJsonOrText (json_of reply) reply text

@@ -4,7 +4,9 @@ ghost use Rattle.std.specs.Prelude.{◌≡◌, Err, MatchResult, Ok};
 ghost use Rattle.pam_report.specs.ReplyViews.{reply_view};
 ghost use Rattle.pam_report.specs.declared.fault.Fault.TheVariants as faults;
 ghost use Rattle.pam_print.specs.Answer.{Answers};
-ghost use Rattle.pam_print.specs.Leaves.{Prints};
+ghost use Rattle.pam_print.specs.Leaves.{Prints, PrintsBy};
+ghost use Rattle.pam_print.specs.Text.{IsTextIn};
+ghost use Rattle.pam_words.specs.declared.wanted.OutputForm.TheVariants.{Json};
 
 use crate::about::{write_known, write_version};
 use crate::check::write_check;
@@ -17,16 +19,42 @@ use crate::paths::write_page;
 use crate::show::write_stack;
 use crate::tables::{write_access, write_time};
 use pam_codes::{Device, Out};
+use pam_json::print_if_any;
 use pam_report::{Fault, Inputs, Reply, Status, reply_to};
-use pam_words::Request;
+use pam_words::{OutputForm, Request};
 use std::alloc::Global;
 use std::io::Write;
 
-/// Writes the text of a reply, and flushes once, at its end.
+/// Writes the text of a reply in a form, and flushes once, at its end. A reply that has no JSON is written as text.
 ///
 /// For a page of paths, a cursor that is refused is found before the first byte is written; for a page, a drawing and a check, so
 /// is want of memory. Nothing is allocated after it.
-pub fn print<W: Write>(alloc: Global, reply: &Reply<'_>, out: &mut Out<W>) -> Result<(), Fault>
+pub fn print<W: Write>(
+    alloc: Global,
+    reply: &Reply<'_>,
+    output: OutputForm,
+    out: &mut Out<W>,
+) -> Result<(), Fault>
+    ensures { PrintsBy W.contents (IsTextIn output) out.old out.new result (reply_view reply.now) }
+{
+    match output {
+        OutputForm::PlainText => print_text(alloc, reply, out),
+        OutputForm::Json => print_json(alloc, reply, out),
+    }
+}
+
+/// Writes the JSON of a reply, or its text if it has none.
+fn print_json<W: Write>(alloc: Global, reply: &Reply<'_>, out: &mut Out<W>) -> Result<(), Fault>
+    ensures { PrintsBy W.contents (IsTextIn Json) out.old out.new result (reply_view reply.now) }
+{
+    match print_if_any(reply, out) {
+        Some(written) => told(written),
+        None => print_text(alloc, reply, out),
+    }
+}
+
+/// Writes the text of a reply.
+fn print_text<W: Write>(alloc: Global, reply: &Reply<'_>, out: &mut Out<W>) -> Result<(), Fault>
     ensures { Prints W.contents out.old out.new result (reply_view reply.now) }
 {
     match reply {
@@ -56,7 +84,7 @@ fn told(written: Result<(), Device>) -> Result<(), Fault>
     }
 }
 
-/// Answers a request: writes the text and flushes once, at its end.
+/// Answers a request: writes the text in the form that it asks for, and flushes once, at its end.
 ///
 /// All faults but a failed write are found before the first byte is written. Inputs of another command have no files and
 /// no tables that this one uses; see `Inputs::fits`.
@@ -66,13 +94,13 @@ pub fn answer<W: Write>(
     inputs: &Inputs,
     out: &mut Out<W>,
 ) -> Result<Status, Fault>
-    ensures { Answers W.contents out.old out.new result request.now.service.now request.now.task inputs.now }
+    ensures { Answers W.contents out.old out.new result request.now.output request.now.service.now request.now.task inputs.now }
 {
     let reply = match reply_to(alloc, request, inputs) {
         Ok(reply) => reply,
         Err(fault) => return Err(fault),
     };
-    match print(alloc, &reply, out) {
+    match print(alloc, &reply, request.output, out) {
         Ok(()) => Ok(reply.status()),
         Err(fault) => Err(fault),
     }

@@ -4,6 +4,7 @@ use Rattle.pam_conf.specs.declared.Kind.{Kind}
 use Rattle.clap.specs.Words.{Text}
 use Rattle.pam_words.specs.declared.wanted.GraphFormat.{GraphFormat}
 use Rattle.pam_words.specs.declared.wanted.LevelName.{LevelName}
+use Rattle.pam_words.specs.declared.wanted.OutputForm.{OutputForm}
 use Rattle.pam_words.specs.declared.wanted.PathFilter.{PathFilter}
 
 pub data SourceText : Type 0 where
@@ -109,6 +110,7 @@ pub record RequestText : Type 0 where
   pub service : Text
   pub task : TaskText
   pub candidates : List (Text × Text)
+  pub output : OutputForm
 
 -- U2 to U6, U8, U11 to U13, U15
 pub data Refusal : Type 0 where

@@ -9,7 +9,7 @@ use Rattle.pam_words.specs.Asked.{both_ends, both_filters, candidate_form, code_
 use Rattle.pam_words.specs.Asked.{login, moment, source}
 use Rattle.pam_words.specs.Decisions.{decisions_of}
 use Rattle.pam_words.specs.Values.{asks_of, candidates_of, codes_of_rows, format_of, kind_if_named, kind_of_rows, lacks_user, level_of, limit_of, login_of}
-use Rattle.pam_words.specs.Values.{moment_of, needs_moment, one_filter, part_of, side_in, source_of, source_or_root, text_of, texts_of}
+use Rattle.pam_words.specs.Values.{moment_of, needs_moment, one_filter, output_of, part_of, side_in, source_of, source_or_root, text_of, texts_of}
 
 -- a refusal if there is no value
 abbrev pub or_refuse : {A B : Type 0} → Option A → Refusal → (A → Result B Refusal) → Result B Refusal
@@ -167,4 +167,4 @@ abbrev pub request_of : Text → List Row → Result RequestText Refusal
 request_of command rows =
     task_of command rows >>= λ task.
     or_refuse (candidates_of rows) candidate_form (λ candidates.
-    Ok (record { service = text_of (codes "service") rows; task = task; candidates = candidates }))
+    Ok (record { service = text_of (codes "service") rows; task = task; candidates = candidates; output = output_of rows }))

@@ -18,6 +18,8 @@ use Rattle.pam_words.specs.declared.wanted.GraphFormat.{GraphFormat}
 use Rattle.pam_words.specs.declared.wanted.GraphFormat.TheVariants.{Dot, Mermaid, Svg}
 use Rattle.pam_words.specs.declared.wanted.LevelName.{LevelName}
 use Rattle.pam_words.specs.declared.wanted.LevelName.TheVariants.{Error, Warning, Note}
+use Rattle.pam_words.specs.declared.wanted.OutputForm.{OutputForm}
+use Rattle.pam_words.specs.declared.wanted.OutputForm.TheVariants.{Json, PlainText}
 use Rattle.pam_words.specs.declared.wanted.PathFilter.{PathFilter}
 use Rattle.pam_words.specs.declared.wanted.PathFilter.TheVariants.{All, Decides, Asks}
 
@@ -177,6 +179,10 @@ level_or_default (Some name) = level_named name
 -- the least level that fails, which is a warning unless `--fail-on` names another one
 abbrev pub level_of : List Row → Option LevelName
 level_of rows = level_or_default (first_of (codes "fail-on") rows)
+
+-- JSON if `--json` is given, else text
+abbrev pub output_of : List Row → OutputForm
+output_of rows = if is_on (codes "json") rows then Json else PlainText
 
 -- an access or time table is given, and no user
 abbrev pub lacks_user : List Row → Bool

@@ -121,6 +121,7 @@ request_view request = record {
   service = request.service.now;
   task = task_view request.task;
   candidates = map candidate_view request.candidates.items;
+  output = request.output;
 }
 
 -- ---- results, if `clap` accepts the words

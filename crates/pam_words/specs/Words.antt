@@ -52,6 +52,10 @@ abbrev pub with_options : App → List Text → App
 with_options app [] = app
 with_options app (id ∷ ids) = with_options (with_rule app (option_rule id)) ids
 
+-- the option that asks for JSON
+abbrev pub with_json : App → App
+with_json app = with_rule app (flag_rule (codes "json"))
+
 -- `NAME SERVICE`
 abbrev pub service_app : Text → App
 service_app name = with_rule (new_app name) (required_rule (codes "service"))
@@ -105,7 +109,7 @@ show_app = stack_app (codes "show")
 
 -- `decide SERVICE KIND [CODE]...`
 unfoldable pub decide_app : App
-decide_app = with_rule (stack_app (codes "decide")) (repeated_rule (codes "code"))
+decide_app = with_rule (with_json (stack_app (codes "decide"))) (repeated_rule (codes "code"))
 
 -- the options that choose a page of a listing
 abbrev pub with_page : App → App
@@ -151,11 +155,11 @@ login_app name =
 -- `access SERVICE [ARGUMENT]...`
 unfoldable pub access_app : App
 access_app =
-    with_rule (with_options (login_app (codes "access")) (codes "group" ∷ codes "rhost" ∷ [])) (repeated_rule (codes "argument"))
+    with_rule (with_json (with_options (login_app (codes "access")) (codes "group" ∷ codes "rhost" ∷ []))) (repeated_rule (codes "argument"))
 
 -- `time SERVICE`
 unfoldable pub time_app : App
-time_app = with_moment (login_app (codes "time"))
+time_app = with_json (with_moment (login_app (codes "time")))
 
 -- the version of the program, and the toolchain that proved it
 abbrev pub version : Text

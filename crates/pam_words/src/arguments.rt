@@ -311,6 +311,13 @@ pub(crate) const TABLE_USER: ArgRow = ArgRow {
     help: "The user",
 };
 
+pub(crate) const JSON: ArgRow = ArgRow {
+    form: ArgForm::Flag,
+    id: "json",
+    name: "",
+    help: "Answer in JSON Lines",
+};
+
 pub(crate) const ARGUMENTS: ArgRow = ArgRow {
     form: ArgForm::Repeated,
     id: "argument",

@@ -7,7 +7,7 @@ ghost use Rattle.std.specs.Option.{option_copied};
 ghost use Rattle.clap.specs.Words.{found_of, rows_of, first_of, all_of, takes, fault_of, subcommand_of};
 ghost use Rattle.pam_words.specs.Request.{access_task, decide_task, request_of, show_task, stack_of, task_of, time_task};
 ghost use Rattle.pam_words.specs.Decisions.{code_named as code_of_name, codes_named as codes_of_names};
-ghost use Rattle.pam_words.specs.Values.{codes_of_rows, is_on as is_on_in};
+ghost use Rattle.pam_words.specs.Values.{codes_of_rows, is_on as is_on_in, output_of};
 ghost use Rattle.pam_words.specs.Values.{instant_of, kind_of_rows, login_of, moment_of, seconds_of, source_of, text_of, texts_of as texts_in};
 ghost use Rattle.pam_words.specs.Wanted.{Answers, Gives, GivesTask, IsRead, IsRefusal, IsRefusalOf, Reads, RefusesBy};
 ghost use Rattle.pam_words.specs.Wanted.{login_view, moment_view, source_view};
@@ -21,7 +21,7 @@ mod graph;
 mod knowledge;
 mod paths;
 
-use crate::wanted::{ConfSource, Login, Moment, Request, Task, Usage};
+use crate::wanted::{ConfSource, Login, Moment, OutputForm, Request, Task, Usage};
 use crate::words::pamcheck_command;
 use clap::error::ErrorKind;
 use clap::{ArgMatches, Error};
@@ -286,6 +286,17 @@ fn task<'a>(alloc: Global, command: &str, matches: &ArgMatches<'a>) -> Result<Ta
     }
 }
 
+/// Returns the form of the answer.
+fn output(matches: &ArgMatches<'_>) -> OutputForm
+    ensures { result ≡ output_of (rows_of (found_of matches.now)) }
+{
+    if is_on(matches, "json") {
+        OutputForm::Json
+    } else {
+        OutputForm::PlainText
+    }
+}
+
 /// Reads the request of a command from its values.
 fn read<'a>(alloc: Global, command: &str, matches: &ArgMatches<'a>) -> Result<Request<'a>, Usage>
     ensures { Answers (request_of command.now (rows_of (found_of matches.now))) result }
@@ -296,6 +307,7 @@ fn read<'a>(alloc: Global, command: &str, matches: &ArgMatches<'a>) -> Result<Re
             service: text(matches, "service"),
             task,
             candidates,
+            output: output(matches),
         }),
         Ok(None) => Err(Usage::CandidateForm),
         Err(_) => Err(Usage::Memory),

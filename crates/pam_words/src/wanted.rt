@@ -26,6 +26,15 @@ pub enum LevelName {
     Note,
 }
 
+/// The form in which an answer is written.
+#[derive(Clone, Copy)]
+pub enum OutputForm {
+    /// Text for people.
+    PlainText,
+    /// JSON Lines.
+    Json,
+}
+
 /// The moment of a login.
 #[derive(Clone, Copy)]
 pub enum Moment<'a> {
@@ -207,6 +216,7 @@ pub struct Request<'a> {
     pub task: Task<'a>,
     /// The candidates for files of the source, none for a command without one. Of several for one name, the first counts.
     pub candidates: Vec<Candidate<'a>>,
+    pub output: OutputForm,
 }
 
 /// Why the words are refused. If several reasons apply, the first in this order is returned.

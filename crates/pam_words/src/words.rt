@@ -10,9 +10,9 @@ ghost use Rattle.pam_words.specs.Words.{bare_app, pamcheck_app, version};
 use crate::arguments::{
     ACCEPT, ACCESS, ACCESS_TABLE, AFTER, ARE_FILES, ARE_ROOTS, ARGUMENTS, ASKS, AT, AT_UNIX,
     ArgForm, ArgRow, BEFORE, CODES, CONF, DECISION, DIR, FACTS, FAIL_ON, FORMAT, GROUP,
-    HOST_ACCESS, HOST_TIME, KIND, KIND_IF_NAMED, LIMIT, MODULES, NEW, NUMBER, OLD, RETURNS, RHOST,
-    ROOT, SERVICE, SERVICE_IF_NAMED, SERVICES, TABLE_USER, TIME, TIME_TABLE, TTY, USER, VENDOR_DIR,
-    WITH, ZONE,
+    HOST_ACCESS, HOST_TIME, JSON, KIND, KIND_IF_NAMED, LIMIT, MODULES, NEW, NUMBER, OLD, RETURNS,
+    RHOST, ROOT, SERVICE, SERVICE_IF_NAMED, SERVICES, TABLE_USER, TIME, TIME_TABLE, TTY, USER,
+    VENDOR_DIR, WITH, ZONE,
 };
 use crate::examples::examples_of;
 use crate::number::number_parser;
@@ -84,7 +84,9 @@ static STACKS: [CommandRow; 2] = [
     CommandRow {
         name: "decide",
         about: "Runs a stack with given return codes",
-        args: &[SERVICE, KIND, DIR, VENDOR_DIR, CONF, ROOT, WITH, CODES],
+        args: &[
+            SERVICE, KIND, DIR, VENDOR_DIR, CONF, ROOT, WITH, JSON, CODES,
+        ],
     },
 ];
 
@@ -130,13 +132,16 @@ static LOOKUPS: [CommandRow; 2] = [
             TTY,
             GROUP,
             RHOST,
+            JSON,
             ARGUMENTS,
         ],
     },
     CommandRow {
         name: "time",
         about: "Looks a login up in a time table",
-        args: &[SERVICE, TIME_TABLE, TABLE_USER, TTY, AT, AT_UNIX, ZONE],
+        args: &[
+            SERVICE, TIME_TABLE, TABLE_USER, TTY, AT, AT_UNIX, ZONE, JSON,
+        ],
     },
 ];
 

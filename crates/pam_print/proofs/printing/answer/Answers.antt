@@ -6,34 +6,40 @@ use Rattle.pam_report.specs.Memory.{wants}
 use Rattle.pam_report.specs.ReplyViews.{reply_view}
 use Rattle.pam_print.proofs.Leaving.{answers-by, page-wants, printed, refused, unprinted, unprinted-wants}
 use Rattle.pam_print.specs.Leaves.{LeavesSome}
+use Rattle.pam_print.specs.Text.{IsTextIn}
 use Rattle.pam_print.proofs.printing.answer.Goals as goal
 
 pub returns-in-Err : goal.returns-in-Err
 returns-in-Err g c =
     let request = c.args.request.now in
     let files = unwrap_or (files_given c.args.inputs.now) no_files in
-    let leaves = answers-by (Finds (Err c.in-Err.fault)) (LeavesSome g.W.Write.contents _ _ (Err c.in-Err.fault))
-    (λ IsAnswer h. refused g.W.Write.contents _ _ c.in-Err.fault IsAnswer refl h) request.service.now request.task files c.args.inputs.now
-    c.in-Err.ensures.0 in
+    let leaves = answers-by (Finds (Err c.in-Err.fault)) (LeavesSome g.W.Write.contents (IsTextIn request.output) _ _ (Err c.in-Err.fault))
+    (λ IsAnswer h. refused g.W.Write.contents (IsTextIn request.output) _ _ c.in-Err.fault IsAnswer refl h)
+    request.service.now request.task files c.args.inputs.now c.in-Err.ensures.0 in
     (leaves, c.in-Err.ensures.1)
 
 pub returns-in-Ok-print : goal.returns-in-Ok-print
 returns-in-Ok-print g c =
     let request = c.args.request.now in
     let files = unwrap_or (files_given c.args.inputs.now) no_files in
-    let leaves = answers-by (Finds (Ok c.in-Ok.reply)) (LeavesSome g.W.Write.contents _ _ (Ok c.status.result))
-    (λ IsAnswer h. printed g.W.Write.contents _ _ (reply_view c.in-Ok.reply) c.status.result tt c.in-Ok-print.ensures c.status.ensures IsAnswer h)
+    let status = c.status.result in
+    let leaves = answers-by (Finds (Ok c.in-Ok.reply)) (LeavesSome g.W.Write.contents (IsTextIn request.output) _ _ (Ok status))
+    (λ IsAnswer h. printed g.W.Write.contents (IsTextIn request.output) _ _ (reply_view c.in-Ok.reply) status tt c.in-Ok-print.ensures c.status.ensures
+    IsAnswer h)
     request.service.now request.task files c.args.inputs.now c.in-Ok.ensures.0 in
     (leaves, tt)
 
 pub returns : goal.returns
 returns g c =
     let request = c.args.request.now in
-    let files = unwrap_or (files_given c.args.inputs.now) no_files in
+    let inputs = c.args.inputs.now in
+    let files = unwrap_or (files_given inputs) no_files in
     let fault = c.in-Err-print.fault in
     let reply = c.in-Ok.reply in
-    let leaves = answers-by (Finds (Ok reply)) (LeavesSome g.W.Write.contents _ _ (Err fault))
-    (λ IsAnswer h. unprinted g.W.Write.contents _ _ fault (reply_view reply) c.in-Err-print.ensures IsAnswer h)
-    request.service.now request.task files c.args.inputs.now c.in-Ok.ensures.0 in
-    let works = page-wants request.service.now request.task files c.args.inputs.now reply c.in-Ok.ensures.0 in
-    (leaves, unprinted-wants g.W.Write.contents _ _ (wants request.task c.args.inputs.now) fault (reply_view reply) c.in-Err-print.ensures works)
+    let leaves = answers-by (Finds (Ok reply)) (LeavesSome g.W.Write.contents (IsTextIn request.output) _ _ (Err fault))
+    (λ IsAnswer h. unprinted g.W.Write.contents (IsTextIn request.output) _ _ fault (reply_view reply) c.in-Err-print.ensures IsAnswer h)
+    request.service.now request.task files inputs c.in-Ok.ensures.0 in
+    let works = page-wants request.service.now request.task files inputs reply c.in-Ok.ensures.0 in
+    let wanting = unprinted-wants g.W.Write.contents (IsTextIn request.output) _ _ (wants request.task inputs) fault (reply_view reply) c.in-Err-print.ensures
+    works in
+    (leaves, wanting)

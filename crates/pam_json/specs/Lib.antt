@@ -1,0 +1,4 @@
+pub mod Decide
+pub mod Header
+pub mod Tables
+pub mod Text

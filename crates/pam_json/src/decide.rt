@@ -1,0 +1,98 @@
+//! The JSON of `decide`: the modules that a run asks, and the decision.
+
+ghost use Rattle.std.specs.Prelude.{◌≡◌, map};
+ghost use Rattle.pam_codes.specs.Out.{Writes, WritesAndFlushes};
+ghost use Rattle.pam_report.specs.ReplyViews.{asked_view, run_view};
+ghost use Rattle.pam_json.specs.Decide.{action_name, decision_members, impression_name, jump_of, run_json, step_json, steps_json};
+ghost use Rattle.pam_json_lines.specs.Line.{line};
+
+use crate::header::{name_of, put_stack};
+use pam_codes::{Action, Device, Out};
+use pam_dispatch::{Decision, Impression};
+use pam_json_lines::{Member, put_object};
+use pam_report::{AskedModule, RunReply};
+use std::io::Write;
+
+fn impression_name(impression: Impression) -> &'static [u8]
+    ensures { result.now ≡ impression_name impression }
+{
+    match impression {
+        Impression::Undef => b"undef",
+        Impression::Positive => b"positive",
+        Impression::Negative => b"negative",
+    }
+}
+
+fn action_name(action: Action) -> &'static [u8]
+    ensures { result.now ≡ action_name action }
+{
+    match action {
+        Action::Ignore => b"ignore",
+        Action::Ok => b"ok",
+        Action::Done => b"done",
+        Action::Bad => b"bad",
+        Action::Die => b"die",
+        Action::Reset => b"reset",
+        Action::Jump(_) => b"jump",
+    }
+}
+
+/// Returns how many items an action jumps over.
+fn jump_of(action: Action) -> Option<u64>
+    ensures { result ≡ jump_of action }
+{
+    match action {
+        Action::Jump(items) => Some(u64::from(items)),
+        _ => None,
+    }
+}
+
+/// Writes the line of a module that is asked.
+#[tactic(auto, unfolding(crate::specs::Decide::step_json))]
+fn put_step<W: Write>(module: &AskedModule, out: &mut Out<W>) -> Result<(), Device>
+    ensures { Writes W.contents out.old out.new result (step_json (asked_view module.now)) }
+{
+    put_object(
+        &[
+            Member::text("kind", b"step"),
+            Member::number("number", module.number as u64),
+            Member::readable("path", &module.path),
+            Member::text("code", name_of(module.code)),
+            Member::text("action", action_name(module.action)),
+            Member::number_if_any("jump", jump_of(module.action)),
+            Member::text("impression", impression_name(module.state.impression)),
+            Member::text("status", name_of(module.state.status)),
+        ],
+        out,
+    )
+}
+
+fn put_steps<W: Write>(asked: &[AskedModule], out: &mut Out<W>) -> Result<(), Device>
+    ensures { Writes W.contents out.old out.new result (steps_json (map asked_view asked.now)) }
+{
+    for module in asked {
+        put_step(module, out)?;
+    }
+    Ok(())
+}
+
+fn put_decision<W: Write>(decision: Decision, out: &mut Out<W>) -> Result<(), Device>
+    ensures { Writes W.contents out.old out.new result (line (decision_members decision)) }
+{
+    put_object(
+        &[
+            Member::text("kind", b"decision"),
+            Member::text("code", name_of(decision.code())),
+        ],
+        out,
+    )
+}
+
+pub(crate) fn write_run<W: Write>(run: &RunReply<'_>, out: &mut Out<W>) -> Result<(), Device>
+    ensures { WritesAndFlushes W.contents out.old out.new result (run_json (run_view run.now)) }
+{
+    put_stack(run.service, run.kind, run.modules, out)?;
+    put_steps(&run.trace.asked, out)?;
+    put_decision(run.trace.decision, out)?;
+    out.finish()
+}

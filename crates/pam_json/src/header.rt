@@ -1,0 +1,39 @@
+//! The first line of an answer about a stack.
+
+ghost use Rattle.std.specs.Prelude.{◌≡◌};
+ghost use Rattle.pam_codes.specs.Out.{Writes};
+ghost use Rattle.pam_json.specs.Header.{code_name, stack_members};
+ghost use Rattle.pam_json_lines.specs.Line.{line};
+
+use pam_codes::{Code, Device, Out};
+use pam_conf::Kind;
+use pam_json_lines::{Member, put_object};
+use pam_report::kind_name;
+use std::io::Write;
+
+#[tactic(auto, unfolding(crate::specs::Header::code_name))]
+pub(crate) fn name_of(code: Code) -> &'static [u8]
+    ensures { result.now ≡ code_name code }
+{
+    code.name().as_bytes()
+}
+
+/// Writes the line of a stack, with the service in lowercase.
+pub(crate) fn put_stack<W: Write>(
+    service: &str,
+    kind: Kind,
+    modules: usize,
+    out: &mut Out<W>,
+) -> Result<(), Device>
+    ensures { Writes W.contents out.old out.new result (line (stack_members service.now kind modules)) }
+{
+    put_object(
+        &[
+            Member::text("kind", b"stack"),
+            Member::lowercase("service", service.as_bytes()),
+            Member::text("type", kind_name(kind).as_bytes()),
+            Member::number("modules", modules as u64),
+        ],
+        out,
+    )
+}

@@ -1,0 +1,9 @@
+//! Answers as JSON Lines: each reply of `pam_report` is written as lines of JSON, and nowhere else.
+#![tactic(auto)]
+
+mod decide;
+mod header;
+mod printing;
+mod tables;
+
+pub use printing::print_if_any;
