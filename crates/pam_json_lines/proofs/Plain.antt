@@ -1,7 +1,7 @@
 -- Texts that stand for themselves in a string.
-use Rattle.std.proofs.Common.{◌≡◌, ◌∙◌, ℕ, ◌+◌, ◌/◌, ◌%◌, ◌<◌, ◌≤◌, ◌==◌, ◌&&◌, ◌^◌, not, nat_le, nat_lt, Bool, true, false, List, [], ◌∷◌, ◌++◌, ap, arith, decimal, le-leb, refl}
-use Rattle.std.proofs.lemmas.Bool.{and_from, and_parts, false≢true, le-ltb, leb-true}
-use Rattle.std.proofs.lemmas.Fmt.{decimal_by_steps}
+use Rattle.std.proofs.Common.{◌≡◌, ◌∙◌, ℕ, ◌+◌, ◌/◌, ◌%◌, ◌<◌, ◌≤◌, ◌==◌, ◌&&◌, not, nat_le, nat_lt, Bool, true, false, zero, suc, List, [], ◌∷◌, ◌++◌, ap, arith, decimal, le-leb, refl}
+use Rattle.std.proofs.lemmas.Bool.{and_from, and_parts, cond_both, false≢true, le-ltb, leb-true, lt-ltb}
+use Rattle.std.specs.Fmt.{digit_glyph, digits, digits_onto}
 use Rattle.std.specs.List.{list_all}
 use Rattle.json.specs.Print.{escape, escape_byte, quoted}
 use Rattle.pam_text.proofs.TextSteps.{unequal}
@@ -50,14 +50,23 @@ plain-append (x ∷ xs) b h k =
     let parts = and_parts (is_plain x) (list_all is_plain xs) h in
     and_from (is_plain x) (list_all is_plain (xs ++ b)) parts.0 (plain-append xs b parts.1 k)
 
-digit-plain : (n : ℕ) → n < 10 → is_plain (48 + n) ≡ true
-digit-plain n h =
-    let ne : (m : ℕ) → 58 ≤ m → ((48 + n) == m) ≡ false = λ m g. unequal (48 + n) m (λ q. omega (arith, q, g, h)) in
-    and_from (nat_le 32 (48 + n)) (not ((48 + n) == 34) && not ((48 + n) == 92)) (le-leb 32 (48 + n) (omega arith))
-    (and_from (not ((48 + n) == 34)) (not ((48 + n) == 92)) (ap not (unequal (48 + n) 34 (λ q. omega (arith, q)))) (ap not (ne 92 (omega arith))))
+digit-plain : (d : ℕ) → d < 10 → is_plain (digit_glyph false d) ≡ true
+digit-plain d h =
+    let ne : (m : ℕ) → 58 ≤ m → ((48 + d) == m) ≡ false = λ m g. unequal (48 + d) m (λ q. omega (arith, q, g, h)) in
+    let plain : is_plain (48 + d) ≡ true =
+    and_from (nat_le 32 (48 + d)) (not ((48 + d) == 34) && not ((48 + d) == 92)) (le-leb 32 (48 + d) (omega arith))
+    (and_from (not ((48 + d) == 34)) (not ((48 + d) == 92)) (ap not (unequal (48 + d) 34 (λ q. omega (arith, q)))) (ap not (ne 92 (omega arith)))) in
+    rw (lt-ltb d 10 h) plain
+
+digits-plain : (k n : ℕ) (acc : List ℕ) → ArePlain acc → ArePlain (digits_onto k 10 false n acc)
+digits-plain zero n acc h = h
+digits-plain (suc k) n acc h =
+    let more : ArePlain (digit_glyph false (n % 10) ∷ acc) =
+    and_from (is_plain (digit_glyph false (n % 10))) (list_all is_plain acc) (digit-plain (n % 10) (omega arith)) h in
+    cond_both (n / 10 == 0) (digit_glyph false (n % 10) ∷ acc) (digits_onto k 10 false (n / 10) (digit_glyph false (n % 10) ∷ acc)) ArePlain (λ _. more)
+    (λ _. digits-plain k (n / 10) (digit_glyph false (n % 10) ∷ acc) more)
 
 -- a number has digits alone
-pub decimal-plain : (n : ℕ) → n < 2 ^ 64 → ArePlain (decimal n)
-decimal-plain n h =
-    decimal_by_steps (λ n text. ArePlain text) (λ n h. and_from (is_plain (48 + n)) true (digit-plain n h) refl)
-    (λ n text h before. plain-append text ((48 + n % 10) ∷ []) before (and_from (is_plain (48 + n % 10)) true (digit-plain (n % 10) (omega arith)) refl)) n h
+pub decimal-plain : (n : ℕ) → ArePlain (decimal n)
+unfolding digits
+decimal-plain n = digits-plain 64 n [] refl

@@ -17,7 +17,7 @@ data_of value (values.Number n) = number (unsigned n)
 data_of value (values.Text text) = string text.now
 data_of value (values.Readable bytes) = string (utf8_lossy bytes.now)
 data_of value (values.Lowercase text) = string (map to_ascii_lowercase text.now)
-data_of value (values.Written v) = value v.now
+data_of value (values.Written v) = value v
 
 abbrev pub member_of : {V : Type 0} → (V → Data) → Member V → List ℕ × Data
 member_of value m = (m.name.now, data_of value m.value)

@@ -8,4 +8,4 @@ mod value;
 
 pub use array::{Elements, put_array, put_strings};
 pub use text::put_quoted;
-pub use value::{Member, Written, put_line, put_object};
+pub use value::{Member, Written, put_comma, put_line, put_object};

@@ -37,7 +37,7 @@ impl Written for () {
 }
 
 /// A value of a member.
-#[derive(Drop)]
+#[derive(Clone, Copy)]
 enum Value<'x, V> {
     Null,
     Boolean(bool),
@@ -48,11 +48,11 @@ enum Value<'x, V> {
     Readable(&'x [u8]),
     /// UTF-8, in lowercase.
     Lowercase(&'x [u8]),
-    Written(&'x V),
+    Written(V),
 }
 
 /// A member of an object, whose value may be one that is written part by part.
-#[derive(Drop)]
+#[derive(Clone, Copy)]
 pub struct Member<'x, V> {
     name: &'x str,
     value: Value<'x, V>,
@@ -95,8 +95,8 @@ impl<'x, V: Written> Member<'x, V> {
     }
 
     /// A value that is written part by part.
-    pub fn written(name: &'x str, value: &'x V) -> Member<'x, V>
-        ensures { member_of V.value result ≡ (name.now, V.value value.now) }
+    pub fn written(name: &'x str, value: V) -> Member<'x, V>
+        ensures { member_of V.value result ≡ (name.now, V.value value) }
     {
         Member {
             name,
@@ -158,8 +158,8 @@ fn put_member<V: Written, W: Write>(member: &Member<'_, V>, out: &mut Out<W>) ->
     put_value(&member.value, out)
 }
 
-/// Writes the comma before each member but the first.
-pub(crate) fn put_comma<W: Write>(later: bool, out: &mut Out<W>) -> Result<(), Device>
+/// Writes the comma before each member or element but the first.
+pub fn put_comma<W: Write>(later: bool, out: &mut Out<W>) -> Result<(), Device>
     ensures { Writes W.contents out.old out.new result (comma_if later) }
 {
     if later {

@@ -1,0 +1,2 @@
+pub mod ItemLines
+pub mod PlainTexts
