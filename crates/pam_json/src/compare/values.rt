@@ -1,6 +1,6 @@
 //! The values of a line of `compare` that are written part by part.
 
-ghost use Rattle.std.specs.Prelude.{◌≡◌};
+ghost use Rattle.std.specs.Prelude.{◌≡◌, option_map};
 ghost use Rattle.std.specs.List.{after_first, before_first};
 ghost use Rattle.pam_codes.specs.Out.{Writes};
 ghost use Rattle.pam_json.specs.Compare.{fault_if_any, fault_object, is_space};
@@ -17,22 +17,34 @@ use pam_report::conf_name;
 use std::io::Write;
 
 /// Returns the number of a fault, which stands before its name.
-fn number_in(name: &[u8]) -> &[u8]
+#[tactic(auto, using(std::proofs::lemmas::Str::Pattern::split_once_first))]
+fn number_in(name: &str) -> &str
     ensures { result.now ≡ before_first is_space name.now }
 {
-    match name.iter().position(|byte| *byte == b' ') {
-        Some(end) => name.split_at(end).0,
+    match name.split_once(' ') {
+        Some((number, _)) => number,
         None => name,
     }
 }
 
 /// Returns the name of a fault, which stands after its number.
-fn name_in(name: &[u8]) -> &[u8]
+#[tactic(auto, using(std::proofs::lemmas::Str::Pattern::split_once_first))]
+fn name_in(name: &str) -> &str
     ensures { result.now ≡ after_first is_space name.now }
 {
-    match name.iter().position(|byte| *byte == b' ') {
-        Some(end) => name.split_at(end + 1).1,
-        None => b"",
+    match name.split_once(' ') {
+        Some((_, after)) => after,
+        None => "",
+    }
+}
+
+/// Returns a line, if there is a file.
+fn line_in(file: Option<&[u8]>, line: usize) -> Option<u64>
+    ensures { result ≡ option_map (λ _. line) (option_map (λ f. f.now) file.entry) }
+{
+    match file {
+        Some(_) => Some(line as u64),
+        None => None,
     }
 }
 
@@ -45,17 +57,13 @@ fn put_fault<W: Write>(
 ) -> Result<(), Device>
     ensures { Writes W.contents out.old out.new result (compact_text (fault_object (side_files files.entry) fault.now)) }
 {
-    let name = conf_name(fault.kind).as_bytes();
+    let name = conf_name(fault.kind);
     let file = file_of(files, fault);
-    let line = match file {
-        Some(_) => Some(fault.line as u64),
-        None => None,
-    };
     let members: [Member<'_, ()>; 4] = [
-        Member::text("number", number_in(name)),
-        Member::text("name", name_in(name)),
+        Member::text("number", number_in(name).as_bytes()),
+        Member::text("name", name_in(name).as_bytes()),
         Member::readable_if_any("file", file),
-        Member::number_if_any("line", line),
+        Member::number_if_any("line", line_in(file, fault.line)),
     ];
     put_object(&members, out)
 }
