@@ -1,10 +1,15 @@
--- The names, signs and numbers of a control, as the code reads them.
-use Rattle.std.proofs.Common.{◌≡◌, ◌<◌, ◌≤◌, ◌+◌, ◌-◌, ◌*◌, ◌∙◌, ◌&&◌, ◌==◌, ℕ, zero, suc, Bool, true, false, List, [], ◌∷◌, length, take, cond, eqb, nat_lt, ap, sym, refl, Option, Some, None, arith, find, fold}
-use Rattle.std.specs.List.{range_with_len, starts_with}
-use Rattle.std.proofs.lemmas.Bool.{eq-eqb, eqb-true, lt-ltb, ltb-true}
-use Rattle.pam_codes.specs.Code.{all_codes}
-use Rattle.pam_released.specs.Control.{after_spaces, begins, is_space}
-use Rattle.pam_released.proofs.ControlNames.{two_ways}
+-- The names of a control, as the code reads them.
+use Rattle.std.proofs.Common.{◌≡◌, ◌<◌, ◌≤◌, ◌+◌, ◌-◌, ◌*◌, ◌∙◌, ◌&&◌, ◌==◌, ℕ, zero, suc, Bool, true, false, List, [], ◌∷◌, length}
+use Rattle.std.proofs.Common.{take, cond, eqb, nat_lt, ap, sym, refl, Option, Some, None, arith, codes, drop, find, fold, get_or}
+use Rattle.std.specs.List.{range_with_len, slice_get, starts_with}
+use Rattle.std.specs.Option.{option_map, option_map_or}
+use Rattle.std.proofs.lemmas.Bool.{lt-ltb}
+use Rattle.std.proofs.lemmas.Option.{get_or_from_slice_get}
+use Rattle.pam_codes.specs.Code.{all_codes, code_names}
+use Rattle.pam_codes.specs.declared.subject.Subject.{Subject}
+use Rattle.pam_codes.specs.declared.subject.Subject.TheVariants.{Named, Incomplete, Default}
+use Rattle.pam_released.specs.Control.{after_spaces, begins, is_space, name_of, subject_at}
+use Rattle.pam_released.specs.Pair.{code_after}
 
 -- BLANKS
 
@@ -20,13 +25,7 @@ pub begins_as : (name text : List ℕ) → begins name text ≡ starts_with ◌=
 begins_as [] [] = refl
 begins_as [] (b ∷ text) = refl
 begins_as (n ∷ name) [] = refl
-begins_as (n ∷ name) (b ∷ text) = eq_and (eqb n b) (eqb b n) (eq_sides n b) (begins_as name text)
-  where
-    eq_and : (t u : Bool) → t ≡ u → begins name text ≡ starts_with ◌==◌ text name → (t && begins name text) ≡ (u && starts_with ◌==◌ text name)
-    eq_and t u h k = ap (λ (v : Bool). v && begins name text) h ∙ ap (λ (v : Bool). u && v) k
-
-    eq_sides : (x y : ℕ) → eqb x y ≡ eqb y x
-    eq_sides x y = two_ways (eqb x y) (eqb y x) (λ e. eq-eqb y x (sym (eqb-true x y e))) (λ e. eq-eqb x y (sym (eqb-true y x e)))
+begins_as (n ∷ name) (b ∷ text) = ap (λ (v : Bool). n == b && v) (begins_as name text)
 
 next_code : (p : ℕ → Bool) (n : ℕ) → n < 31 → find p (range_with_len n (31 - n)) ≡ cond (p n) (Some n) (find p (range_with_len (n + 1) (31 - (n + 1))))
 next_code p n h =
@@ -42,23 +41,95 @@ pub code_found : (p : ℕ → Bool) (n : ℕ) (whole : Option ℕ) → n < 31 �
 code_found p n whole low begins_it h =
     sym h ∙ next_code p n low ∙ ap (λ (t : Bool). cond t (Some n) (find p (range_with_len (n + 1) (31 - (n + 1))))) begins_it
 
-pub no_code : (p : ℕ → Bool) (n : ℕ) (whole : Option ℕ) → 31 ≤ n → find p (range_with_len n (31 - n)) ≡ whole → whole ≡ None
-no_code p n whole high h =
-    let none : 31 - n ≡ 0 = omega (arith, high) in
-    sym h ∙ ap (λ (k : ℕ). find p (range_with_len n k)) none
+pub first_codes : (p : ℕ → Bool) → find p (range_with_len 0 (31 - 0)) ≡ find p all_codes
+unfolding all_codes
+first_codes p = refl
 
--- NUMBERS
+abbrev pub begins_text : List ℕ → ℕ → Bool
+begins_text text code = begins (name_of code) text
 
-abbrev pub at_most : ℕ → ℕ
-at_most n = cond (nat_lt 999999999 n) 999999999 n
+abbrev pub and_after : List ℕ → Option ℕ → Option (ℕ × List ℕ)
+and_after text found = option_map {U = ℕ × List ℕ} (λ code. (code, drop (length (name_of code)) text)) found
 
--- one more digit, also where the number was too large before
-pub one_digit : (n d : ℕ) → at_most (10 * at_most n + d) ≡ at_most (10 * n + d)
-one_digit n d =
-    elim (nat_lt 999999999 n) as (λ (t : Bool). nat_lt 999999999 n ≡ t → at_most (10 * cond t 999999999 n + d) ≡ at_most (10 * n + d)) [
-      | false ↦ λ h. refl
-      | true ↦ λ h.
-          let big : 999999999 < n = ltb-true 999999999 n h in
-          ap (λ (t : Bool). cond t 999999999 (10 * 999999999 + d)) (lt-ltb 999999999 (10 * 999999999 + d) (omega arith))
-          ∙ sym (ap (λ (t : Bool). cond t 999999999 (10 * n + d)) (lt-ltb 999999999 (10 * n + d) (omega (arith, big))))
-    ] refl
+abbrev pub code_if : List ℕ → ℕ → Bool → Option (ℕ × List ℕ)
+code_if text code begun = cond begun (Some (code, drop (length (name_of code)) text)) None
+
+pub found_here : (text : List ℕ) (n : ℕ) (p : ℕ × List ℕ) (whole : Option ℕ) → n < 31 → Some p ≡ code_after text n →
+    find (begins_text text) (range_with_len n (31 - n)) ≡ whole → Some p ≡ and_after text whole
+found_here text n p whole low is h =
+    elim (begins (name_of n) text) as (λ (t : Bool). begins (name_of n) text ≡ t →
+    Some p ≡ code_if text n t → Some p ≡ and_after text whole) [
+      | true ↦ λ e f. f ∙ sym (ap (and_after text) (code_found (begins_text text) n whole low e h))
+      | false ↦ λ e f. absurd (cc)
+    ] refl is
+
+pub not_here : (text : List ℕ) (n : ℕ) (whole : Option ℕ) → n < 31 → None ≡ code_after text n →
+    find (begins_text text) (range_with_len n (31 - n)) ≡ whole → find (begins_text text) (range_with_len (n + 1) (31 - (n + 1))) ≡ whole
+not_here text n whole low is h =
+    elim (begins (name_of n) text) as (λ (t : Bool). begins (name_of n) text ≡ t →
+    None ≡ code_if text n t →
+    find (begins_text text) (range_with_len (n + 1) (31 - (n + 1))) ≡ whole) [
+      | true ↦ λ e f. absurd (cc)
+      | false ↦ λ e f. code_passed (begins_text text) n whole low e h
+    ] refl is
+
+-- the code with a number, and its name
+
+abbrev pub code_with : ℕ → Option ℕ
+code_with n = cond (nat_lt n 31) (Some n) None
+
+is_code : (n : ℕ) → n < 31 → code_with n ≡ Some n
+is_code n low = ap (λ (t : Bool). cond t (Some n) None) (lt-ltb n 31 low)
+
+pub always_code : (n : ℕ) → n < 31 → None ≡ code_with n → ⊥
+always_code n low h = let both : None ≡ Some n = h ∙ is_code n low in absurd (cc)
+
+same_code : (n code : ℕ) → n < 31 → Some code ≡ code_with n → code ≡ n
+same_code n code low h = let both : Some code ≡ Some n = h ∙ is_code n low in cc
+
+named_so : (n code : ℕ) (name bytes : List ℕ) → code ≡ n → slice_get code_names code ≡ Some name → bytes ≡ name → name_of n ≡ bytes
+named_so n code name bytes same got is = ap name_of (sym same) ∙ get_or_from_slice_get code_names code name [] got ∙ sym is
+
+pub code_is : (text rest name bytes : List ℕ) (n code : ℕ) → n < 31 → Some code ≡ code_with n → slice_get code_names code ≡ Some name → bytes ≡ name →
+    begins bytes text ≡ true → rest ≡ drop (length bytes) text → Some (code, rest) ≡ code_after text n
+code_is text rest name bytes n code low new got is begun after =
+    let same : code ≡ n = same_code n code low new in
+    let named : name_of n ≡ bytes = named_so n code name bytes same got is in
+    ap (λ (k : ℕ). Some (k, rest)) same
+    ∙ ap (λ (r : List ℕ). Some (n, r)) (after ∙ ap (λ (m : List ℕ). drop (length m) text) (sym named))
+    ∙ sym (ap (code_if text n) (ap (λ (m : List ℕ). begins m text) named ∙ begun))
+
+pub code_missed : (text name bytes : List ℕ) (n code : ℕ) → n < 31 → Some code ≡ code_with n → slice_get code_names code ≡ Some name → bytes ≡ name →
+    begins bytes text ≡ false → None ≡ code_after text n
+code_missed text name bytes n code low new got is missed =
+    sym (ap (code_if text n)
+    (ap (λ (m : List ℕ). begins m text) (named_so n code name bytes (same_code n code low new) got is) ∙ missed))
+
+-- SUBJECTS
+
+abbrev pub code_read : List ℕ → Option (ℕ × List ℕ)
+code_read text = and_after text (find (begins_text text) all_codes)
+
+abbrev pub other_at : List ℕ → Option (Subject × List ℕ)
+other_at text =
+    cond (begins (codes "incomplete") text) (Some (Incomplete, drop 10 text)) (cond (begins (codes "default") text) (Some (Default, drop 7 text)) None)
+
+pub code_named : (text rest : List ℕ) (code : ℕ) → Some (code, rest) ≡ code_read text → subject_at text ≡ Some (Named code, rest)
+unfolding subject_at
+code_named text rest code h = of (find (begins_text text) all_codes) h
+  where
+    of : (o : Option ℕ) → Some (code, rest) ≡ and_after text o →
+        option_map_or (λ c. Some (Named c, drop (length (name_of c)) text)) o (other_at text) ≡ Some (Named code, rest)
+    of None k = absurd (cc)
+    of (Some c) k =
+        let both : (code, rest) ≡ (c, drop (length (name_of c)) text) = cc in
+        ap (λ (p : ℕ × List ℕ). Some (Named p.0, p.1)) (sym both)
+
+pub no_code_named : (text : List ℕ) → None ≡ code_read text → subject_at text ≡ other_at text
+unfolding subject_at
+no_code_named text h = of (find (begins_text text) all_codes) h
+  where
+    of : (o : Option ℕ) → None ≡ and_after text o →
+        option_map_or (λ c. Some (Named c, drop (length (name_of c)) text)) o (other_at text) ≡ other_at text
+    of None k = refl
+    of (Some c) k = absurd (cc)

@@ -1,5 +1,6 @@
 -- What the words after a kind make, as a rule.
-use Rattle.std.proofs.Common.{◌≡◌, ◌++◌, ◌∙◌, ℕ, Bool, true, false, List, [], ◌∷◌, map, cond, codes, ap, sym, refl, Option, Some, None, append-nil, append_assoc}
+use Rattle.std.proofs.Common.{◌≡◌, ◌<◌, ◌≤◌, ◌+◌, ◌++◌, ◌∙◌, ℕ, zero, suc, Bool, true, false, List, [], ◌∷◌, length, map, get_or, drop, cond}
+use Rattle.std.proofs.Common.{codes, ap, sym, refl, Option, Some, None, append-nil, append_assoc, add-one, arith}
 use Rattle.std.specs.Option.{option_map}
 use Rattle.pam_codes.specs.Code.{same_name}
 use Rattle.pam_codes.specs.declared.action.Action.{Action}
@@ -9,10 +10,14 @@ use Rattle.pam_conf.specs.declared.rule.Kind.{Kind}
 use Rattle.pam_released.specs.Bodies.{control_body, first_target, module_body, target_body, with_body}
 use Rattle.pam_released.specs.Control.{then_some}
 use Rattle.pam_released.specs.Findings.{is_no_name, module_name}
-use Rattle.pam_released.specs.Numbered.{NumberedLine}
-use Rattle.pam_released.specs.Readings.{NumberedRule, numbered_readings}
+use Rattle.pam_released.specs.Numbered.{NumberedLine, line_view, numbered_lines}
+use Rattle.pam_released.specs.Readings.{NumberedRule, numbered_readings, numbered_rules, numbered_view, reading_view, rules_by}
 use Rattle.pam_released.specs.Rules.{Reading, control_actions, control_reading, line_reading, module_reading, reads, target_reading}
 use Rattle.pam_released.specs.Words.{released_words}
+use Rattle.pam_released.specs.declared.assembly.LogicalLine.{LogicalLine}
+use Rattle.pam_released.specs.declared.reading.NumberedReading.{NumberedReading}
+use Rattle.pam_released.specs.declared.release.Release.{Release}
+use Rattle.pam_released.proofs.Unnumbered.{unnumbered}
 
 pub target_alike : (body : List ℕ → RuleBody) (service : Option (List ℕ)) (kind : Option Kind) (dashed : Bool) (words : List (List ℕ)) →
     target_reading body service kind dashed words ≡ with_body service kind dashed (target_body body (first_target words))
@@ -83,3 +88,58 @@ pub rules_read : (form : Form) (front : List NumberedRule) (lines : List Numbere
 rules_read form front lines whole none h =
     ap (λ (r : List NumberedRule). Some r) (sym (append-nil front))
     ∙ ap (after_rules front) (sym (ap (numbered_readings form) none ∙ no_reading form)) ∙ h
+
+-- the lines one after another
+
+line_there : (lines : List LogicalLine) (i : ℕ) (line : LogicalLine) → i < length lines → line ≡ get_or lines i line →
+    drop i (map line_view lines) ≡ line_view line ∷ drop (suc i) (map line_view lines)
+line_there [] i line low is = absurd (omega (arith, low))
+line_there (l ∷ ls) zero line low is = ap (λ (r : LogicalLine). line_view r ∷ map line_view ls) (sym is)
+line_there (l ∷ ls) (suc i) line low is = line_there ls i line (omega (arith, low)) is
+
+pub line_at : (lines : List LogicalLine) (i : ℕ) (line : LogicalLine) → i < length lines → line ≡ get_or lines i line →
+    drop i (map line_view lines) ≡ line_view line ∷ drop (i + 1) (map line_view lines)
+line_at lines i line low is =
+    line_there lines i line low is ∙ ap (λ (k : ℕ). line_view line ∷ drop k (map line_view lines)) (sym (add-one i))
+
+pub no_line : (lines : List LogicalLine) (i : ℕ) → length lines ≤ i → drop i (map line_view lines) ≡ []
+no_line [] zero high = refl
+no_line [] (suc i) high = refl
+no_line (l ∷ ls) zero high = absurd (omega (arith, high))
+no_line (l ∷ ls) (suc i) high = no_line ls i (omega (arith, high))
+
+nothing_before : (o : Option (List NumberedRule)) → after_rules [] o ≡ o
+nothing_before None = refl
+nothing_before (Some rules) = refl
+
+pub rules_first : (release : Release) (form : Form) (bytes : List ℕ) (lines : List NumberedLine) (front : List NumberedReading) → front ≡ [] →
+    Some lines ≡ numbered_lines release bytes →
+    after_rules (map numbered_view front) (numbered_readings form lines) ≡ numbered_rules release form bytes
+rules_first release form bytes lines front none is =
+    ap (λ (r : List NumberedReading). after_rules (map numbered_view r) (numbered_readings form lines)) none
+    ∙ nothing_before (numbered_readings form lines)
+    ∙ ap (λ (o : Option (List NumberedLine)). then_some o (numbered_readings form)) is
+
+pub lines_refused : (release : Release) (form : Form) (bytes : List ℕ) → None ≡ numbered_lines release bytes → None ≡ numbered_rules release form bytes
+lines_refused release form bytes is = ap (λ (o : Option (List NumberedLine)). then_some o (numbered_readings form)) is
+
+pub views_pushed : (rules : List NumberedReading) (rule : NumberedReading) →
+    map numbered_view (rules ++ rule ∷ []) ≡ map numbered_view rules ++ numbered_view rule ∷ []
+views_pushed [] rule = refl
+views_pushed (r ∷ rules) rule = ap (λ (rs : List NumberedRule). numbered_view r ∷ rs) (views_pushed rules rule)
+
+-- without their numbers
+
+plain_views : (rules : List NumberedReading) → map (λ p. p.1) (map numbered_view rules) ≡ map (λ rule. reading_view rule.reading) rules
+plain_views [] = refl
+plain_views (rule ∷ rules) = ap (λ (rs : List Reading). reading_view rule.reading ∷ rs) (plain_views rules)
+
+pub plain_rules : (release : Release) (form : Form) (bytes : List ℕ) (rules : List NumberedReading) →
+    Some (map numbered_view rules) ≡ numbered_rules release form bytes →
+    Some (map (λ rule. reading_view rule.reading) rules) ≡ rules_by release form bytes
+plain_rules release form bytes rules is =
+    ap (λ (rs : List Reading). Some rs) (sym (plain_views rules))
+    ∙ ap (λ (o : Option (List NumberedRule)). option_map (map (λ p. p.1)) o) is ∙ unnumbered release form bytes
+
+pub plain_refused : (release : Release) (form : Form) (bytes : List ℕ) → None ≡ numbered_rules release form bytes → None ≡ rules_by release form bytes
+plain_refused release form bytes is = ap (λ (o : Option (List NumberedRule)). option_map (map (λ p. p.1)) o) is ∙ unnumbered release form bytes

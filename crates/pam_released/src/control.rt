@@ -9,7 +9,7 @@ ghost use Rattle.pam_codes.specs.Code.{all_codes};
 ghost use Rattle.pam_released.specs.Control.{action_at, after_spaces, begins, equals_at, is_space, jump_at, jump_value, name_of};
 ghost use Rattle.pam_released.specs.Control.{released_actions, subject_at};
 ghost use Rattle.pam_released.specs.Rules.{control_actions};
-ghost use Rattle.pam_released.specs.Pair.{pair_at};
+ghost use Rattle.pam_released.specs.Pair.{code_after, pair_at};
 
 use pam_codes::{Action, CODES, Code, Control, Subject};
 
@@ -50,6 +50,21 @@ fn after_name<'a>(name: &[u8], text: &'a [u8]) -> Option<&'a [u8]>
     }
 }
 
+/// The code with this number and the bytes after its name, if the text begins with it.
+fn code_after(number: u8, text: &[u8]) -> Option<(Code, &[u8])>
+    requires { number < CODES }
+    ensures value { option_map (λ p. (p.0, p.1.now)) result ≡ code_after text.now number }
+    ensures shorter { IfSome result (λ p. length p.1.now ≤ length text.now) }
+{
+    let Some(code) = Code::new(number) else {
+        return None;
+    };
+    let Some(rest) = after_name(code.name().as_bytes(), text) else {
+        return None;
+    };
+    Some((code, rest))
+}
+
 /// The code whose name the text begins with, and the bytes after it.
 fn code_at(text: &[u8]) -> Option<(Code, &[u8])>
     ensures value { option_map (λ p. (p.0, p.1.now)) result
@@ -57,10 +72,8 @@ fn code_at(text: &[u8]) -> Option<(Code, &[u8])>
     ensures shorter { IfSome result (λ p. length p.1.now ≤ length text.now) }
 {
     for number in 0..CODES as u8 {
-        if let Some(code) = Code::new(number)
-            && let Some(rest) = after_name(code.name().as_bytes(), text)
-        {
-            return Some((code, rest));
+        if let Some(found) = code_after(number, text) {
+            return Some(found);
         }
     }
     None
@@ -180,12 +193,12 @@ fn bracket_control(inside: &[u8]) -> Control
         let Some((subject, action, after)) = pair_at(rest) else {
             return Control::of([None; CODES], Action::Bad);
         };
+        rest = after_spaces(after);
         match subject {
             Subject::Named(code) => named[usize::from(code.number())] = Some(action),
             Subject::Incomplete => {}
             Subject::Default => default = default.or(Some(action)),
         }
-        rest = after_spaces(after);
     }
     Control::of(named, default.unwrap_or(Action::Bad))
 }
