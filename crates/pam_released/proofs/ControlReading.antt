@@ -14,6 +14,10 @@ use Rattle.pam_released.proofs.ControlTokens.{all_alike, same_action_of}
 abbrev pub bads : List Action
 bads = map (λ code. Bad) all_codes
 
+pub all_bad : map (λ code. unwrap_or (get_or (replicate 31 None) code None) Bad) all_codes ≡ bads
+unfolding all_codes
+all_bad = refl
+
 -- the pairs of the rest of a text, which does not begin with a blank
 abbrev pub left : ℕ → List ℕ → Option Pairs
 left n rest = pairs_from (λ r. pairs_at n r) rest

@@ -37,10 +37,6 @@ pub code_passed : (p : ℕ → Bool) (n : ℕ) (whole : Option ℕ) → n < 31 �
 code_passed p n whole low misses h =
     sym (next_code p n low ∙ ap (λ (t : Bool). cond t (Some n) (find p (range_with_len (n + 1) (31 - (n + 1))))) misses) ∙ h
 
-pub code_found : (p : ℕ → Bool) (n : ℕ) (whole : Option ℕ) → n < 31 → p n ≡ true → find p (range_with_len n (31 - n)) ≡ whole → whole ≡ Some n
-code_found p n whole low begins_it h =
-    sym h ∙ next_code p n low ∙ ap (λ (t : Bool). cond t (Some n) (find p (range_with_len (n + 1) (31 - (n + 1))))) begins_it
-
 pub first_codes : (p : ℕ → Bool) → find p (range_with_len 0 (31 - 0)) ≡ find p all_codes
 unfolding all_codes
 first_codes p = refl
@@ -48,20 +44,8 @@ first_codes p = refl
 abbrev pub begins_text : List ℕ → ℕ → Bool
 begins_text text code = begins (name_of code) text
 
-abbrev pub and_after : List ℕ → Option ℕ → Option (ℕ × List ℕ)
-and_after text found = option_map {U = ℕ × List ℕ} (λ code. (code, drop (length (name_of code)) text)) found
-
 abbrev pub code_if : List ℕ → ℕ → Bool → Option (ℕ × List ℕ)
 code_if text code begun = cond begun (Some (code, drop (length (name_of code)) text)) None
-
-pub found_here : (text : List ℕ) (n : ℕ) (p : ℕ × List ℕ) (whole : Option ℕ) → n < 31 → Some p ≡ code_after text n →
-    find (begins_text text) (range_with_len n (31 - n)) ≡ whole → Some p ≡ and_after text whole
-found_here text n p whole low is h =
-    elim (begins (name_of n) text) as (λ (t : Bool). begins (name_of n) text ≡ t →
-    Some p ≡ code_if text n t → Some p ≡ and_after text whole) [
-      | true ↦ λ e f. f ∙ sym (ap (and_after text) (code_found (begins_text text) n whole low e h))
-      | false ↦ λ e f. absurd (cc)
-    ] refl is
 
 pub not_here : (text : List ℕ) (n : ℕ) (whole : Option ℕ) → n < 31 → None ≡ code_after text n →
     find (begins_text text) (range_with_len n (31 - n)) ≡ whole → find (begins_text text) (range_with_len (n + 1) (31 - (n + 1))) ≡ whole
@@ -104,32 +88,3 @@ pub code_missed : (text name bytes : List ℕ) (n code : ℕ) → n < 31 → Som
 code_missed text name bytes n code low new got is missed =
     sym (ap (code_if text n)
     (ap (λ (m : List ℕ). begins m text) (named_so n code name bytes (same_code n code low new) got is) ∙ missed))
-
--- SUBJECTS
-
-abbrev pub code_read : List ℕ → Option (ℕ × List ℕ)
-code_read text = and_after text (find (begins_text text) all_codes)
-
-abbrev pub other_at : List ℕ → Option (Subject × List ℕ)
-other_at text =
-    cond (begins (codes "incomplete") text) (Some (Incomplete, drop 10 text)) (cond (begins (codes "default") text) (Some (Default, drop 7 text)) None)
-
-pub code_named : (text rest : List ℕ) (code : ℕ) → Some (code, rest) ≡ code_read text → subject_at text ≡ Some (Named code, rest)
-unfolding subject_at
-code_named text rest code h = of (find (begins_text text) all_codes) h
-  where
-    of : (o : Option ℕ) → Some (code, rest) ≡ and_after text o →
-        option_map_or (λ c. Some (Named c, drop (length (name_of c)) text)) o (other_at text) ≡ Some (Named code, rest)
-    of None k = absurd (cc)
-    of (Some c) k =
-        let both : (code, rest) ≡ (c, drop (length (name_of c)) text) = cc in
-        ap (λ (p : ℕ × List ℕ). Some (Named p.0, p.1)) (sym both)
-
-pub no_code_named : (text : List ℕ) → None ≡ code_read text → subject_at text ≡ other_at text
-unfolding subject_at
-no_code_named text h = of (find (begins_text text) all_codes) h
-  where
-    of : (o : Option ℕ) → None ≡ and_after text o →
-        option_map_or (λ c. Some (Named c, drop (length (name_of c)) text)) o (other_at text) ≡ other_at text
-    of None k = refl
-    of (Some c) k = absurd (cc)

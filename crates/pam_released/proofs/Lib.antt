@@ -1,6 +1,7 @@
 pub mod AssembledLines
 pub mod Assembling
 pub mod Buffer
+pub mod ControlKeywords
 pub mod ControlNames
 pub mod ControlReading
 pub mod ControlSteps

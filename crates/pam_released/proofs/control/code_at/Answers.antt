@@ -1,4 +1,4 @@
-use Rattle.pam_released.proofs.ControlSteps.{first_codes, found_here, not_here}
+use Rattle.pam_released.proofs.ControlSteps.{first_codes, not_here}
 use Rattle.pam_released.proofs.control.code_at.Goals as goal
 
 pub loop-number-init : goal.loop-number-init
