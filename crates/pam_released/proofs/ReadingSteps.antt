@@ -69,7 +69,7 @@ one_more : (front : List NumberedRule) (x : NumberedRule) (o : Option (List Numb
 one_more front x None = refl
 one_more front x (Some more) = ap (λ (r : List NumberedRule). Some r) (append_assoc front (x ∷ []) more)
 
-pub rule_read : (form : Form) (front : List NumberedRule) (line : NumberedLine) (lines rest : List NumberedLine) (read : Reading)
+rule_read : (form : Form) (front : List NumberedRule) (line : NumberedLine) (lines rest : List NumberedLine) (read : Reading)
     (whole : Option (List NumberedRule)) → lines ≡ line ∷ rest → line_reading form (released_words line.1) ≡ Some read →
     after_rules front (numbered_readings form lines) ≡ whole → after_rules (front ++ (line.0, read) ∷ []) (numbered_readings form rest) ≡ whole
 rule_read form front line lines rest read whole split is h =
@@ -123,10 +123,27 @@ rules_first release form bytes lines front none is =
 pub lines_refused : (release : Release) (form : Form) (bytes : List ℕ) → None ≡ numbered_lines release bytes → None ≡ numbered_rules release form bytes
 lines_refused release form bytes is = ap (λ (o : Option (List NumberedLine)). then_some o (numbered_readings form)) is
 
-pub views_pushed : (rules : List NumberedReading) (rule : NumberedReading) →
+views_pushed : (rules : List NumberedReading) (rule : NumberedReading) →
     map numbered_view (rules ++ rule ∷ []) ≡ map numbered_view rules ++ numbered_view rule ∷ []
 views_pushed [] rule = refl
 views_pushed (r ∷ rules) rule = ap (λ (rs : List NumberedRule). numbered_view r ∷ rs) (views_pushed rules rule)
+
+pub rule_pushed : (form : Form) (rules pushed : List NumberedReading) (rule : NumberedReading) (line : NumberedLine) (lines rest : List NumberedLine)
+    (whole : Option (List NumberedRule)) → pushed ≡ rules ++ rule ∷ [] → rule.line ≡ line.0 → lines ≡ line ∷ rest →
+    Some (reading_view rule.reading) ≡ line_reading form (released_words line.1) →
+    after_rules (map numbered_view rules) (numbered_readings form lines) ≡ whole →
+    after_rules (map numbered_view pushed) (numbered_readings form rest) ≡ whole
+rule_pushed form rules pushed rule line lines rest whole push number split is h =
+    ap (λ (rs : List NumberedReading). after_rules (map numbered_view rs) (numbered_readings form rest)) push
+    ∙ ap (λ (rs : List NumberedRule). after_rules rs (numbered_readings form rest)) (views_pushed rules rule
+    ∙ ap (λ (n : ℕ). map numbered_view rules ++ (n, reading_view rule.reading) ∷ []) number)
+    ∙ rule_read form (map numbered_view rules) line lines rest (reading_view rule.reading) whole split (sym is) h
+
+-- the reading of a line, by its text
+pub reading_at : (form : Form) (text bytes : List ℕ) (words texts : List (List ℕ)) (read : Option Reading) → read ≡ line_reading form words →
+    words ≡ texts → texts ≡ released_words bytes → bytes ≡ text → read ≡ line_reading form (released_words text)
+reading_at form text bytes words texts read is same cut lent =
+    is ∙ ap (line_reading form) (same ∙ cut ∙ ap released_words lent)
 
 -- without their numbers
 

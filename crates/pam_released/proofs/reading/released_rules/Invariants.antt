@@ -7,4 +7,4 @@ use Rattle.pam_released.proofs.reading.released_rules.Given as goal
 abbrev pub invariant-loop-line : goal.invariant-loop-line
 invariant-loop-line l =
     after_rules (map numbered_view l.rules.items) (numbered_readings l.form (drop l.line-index (map line_view l.line-items)))
-    ≡ numbered_rules l.release l.form l.source.bytes.now
+    ≡ numbered_rules l.fn.release l.form l.source.bytes.now
