@@ -15,14 +15,20 @@ fn put(rt: &HostRuntime, alloc: Global, files: &mut Files, name: &str) -> Result
     Ok(())
 }
 
-/// The stack of a service for the kind `auth`. Its rules may include the files `inner` and `empty`.
-pub(crate) fn stack_of(rt: &HostRuntime, service: &str) -> Result<Stack, Error> {
+/// The stack of the first of these files for the kind `auth`. Its rules may include the others.
+pub(crate) fn stack_in(rt: &HostRuntime, names: &[&str]) -> Result<Stack, Error> {
     let alloc = rt.alloc();
     let mut files = Files::new(alloc, Form::Dir);
-    for name in [service, "inner", "empty"] {
+    for name in names {
         put(rt, alloc, &mut files, name)?;
     }
+    let service = names.first().unwrap_or(&"");
     Ok(resolve(alloc, &files, service.as_bytes(), Kind::Auth)?)
+}
+
+/// The stack of a service for the kind `auth`. Its rules may include the files `inner` and `empty`.
+pub(crate) fn stack_of(rt: &HostRuntime, service: &str) -> Result<Stack, Error> {
+    stack_in(rt, &[service, "inner", "empty"])
 }
 
 /// The program of that stack.

@@ -1,5 +1,6 @@
-//! Tests of the paths of stacks, of findings and of what stacks do to everybody, through the public calls of the libraries. Each
-//! line of standard input is a test:
+//! Calls of the libraries: tests of the paths of stacks, of findings and of what stacks do to everybody; what `benches/` measures;
+//! and calls that take memory, one after another, with the word `refusals`. Other words are a test, and without words each line of
+//! standard input is one:
 //!
 //! - `list SERVICE FIRST LAST [NUMBER=NAME,...]...`: how many paths there are, and the lines from FIRST to LAST.
 //! - `first SERVICE COUNT`: the lines of the first COUNT paths.
@@ -11,17 +12,26 @@
 //!   `\t` and `\s` are a line feed, a carriage return, a tab and a space, `\L` is a thousand letters, and `\\` a backslash.
 //! - `sound TEXT` or `sound TEXT | INNER`: what this stack does to everybody, where INNER is the file `inner`.
 //! - `table rows`: the number of rows of the table of facts, if each of them is read back.
+//! - `access ARGUMENT TEXT`, `time TEXT`: where the modules of released Linux-PAM read this table otherwise, an access table with one
+//!   argument (`-` for none), or a time table; `separators ARGUMENT...`: whether one is a separator without a value.
+//! - `changes TEXT | NEW`: which kinds of changes there are from the first stack to the second.
+//! - `measure WHAT COUNT FILE...`: what is measured of a stack.
 //! - `fact KIND PATH [ARGUMENT]...`: the class of the module at this path, and the codes that it can answer.
 #![tactic(auto)]
 
 mod assignments;
+mod changes;
 mod cursors;
 mod facts;
 mod graphs;
 mod lines;
+mod measured;
+mod old_tables;
 mod pages;
+mod refusals;
 mod released;
 mod sound;
+mod spelled;
 mod stacks;
 mod walks;
 mod ways;
@@ -30,6 +40,8 @@ use anyhow::Error;
 use pam_paths::{Explorer, Free, Path};
 use stacks::{known_of, program_of};
 use std::io::{BufRead, BufReader};
+use std::process::ExitCode;
+use std::{env, io};
 
 fn print_line(rt: &HostRuntime, path: &Path) -> Result<(), Error> {
     let line = String::from_utf8(lines::line_of(rt.alloc(), path)?)?;
@@ -98,6 +110,13 @@ fn test(rt: &HostRuntime, words: &[&str]) -> Result<(), Error> {
         "table" => facts::read_back(rt),
         "findings" => released::print_findings(rt, words[1], &words[2..]),
         "sound" => sound::print_soundness(rt, &words[1..]),
+        "changes" => changes::print_changes(rt, &words[1..]),
+        "access" if words.len() >= 3 => old_tables::print_access(rt, words[1], &words[2..]),
+        "time" => old_tables::print_time(rt, &words[1..]),
+        "separators" => old_tables::print_separators(rt, &words[1..]),
+        "measure" if words.len() >= 4 => {
+            measured::measure(rt, words[1], words[2].parse()?, &words[3..])
+        }
         _ => {
             println!(rt; "no such test")?;
             Ok(())
@@ -105,12 +124,41 @@ fn test(rt: &HostRuntime, words: &[&str]) -> Result<(), Error> {
     }
 }
 
-fn main(rt: HostRuntime) -> Result<(), Error> {
+/// Runs each line of standard input as a test.
+fn tests(rt: &HostRuntime) -> Result<(), Error> {
     for line in BufReader::new(rt.alloc(), rt.reader())?.lines(rt.alloc()) {
         let line = line?;
         println!(rt; "> {line}")?;
         let words: Vec<&str> = line.as_str().split(' ').collect(rt.alloc())?;
-        test(&rt, &words)?;
+        test(rt, &words)?;
     }
     Ok(())
+}
+
+/// The words of the command line after the name of the program.
+fn words(rt: &HostRuntime) -> io::Result<Vec<String>> {
+    let words: Vec<String> = env::args(rt)?.skip(1).collect(rt.alloc())?;
+    Ok(words)
+}
+
+/// Runs the test of the words, or without words that of each line of standard input.
+fn run(rt: &HostRuntime, words: &[String]) -> Result<(), Error> {
+    if words.is_empty() {
+        return tests(rt);
+    }
+    let words: Vec<&str> = words.iter().map(|word| word.as_str()).collect(rt.alloc())?;
+    test(rt, &words)
+}
+
+fn main(rt: HostRuntime) -> ExitCode {
+    let Ok(words) = words(&rt) else {
+        return ExitCode::from(6);
+    };
+    if words.len() == 1 && words[0].as_str() == "refusals" {
+        return refusals::status(&rt);
+    }
+    match run(&rt, &words) {
+        Ok(()) => ExitCode::from(0),
+        Err(_) => ExitCode::from(1),
+    }
 }

@@ -1,6 +1,5 @@
-//! Calls of the libraries that take memory, one after another. `tests/alone` runs this program with each allocation refused
-//! in turn: it prints the lines of the calls before the one that says so, and ends with the status 6.
-#![tactic(auto)]
+//! Calls of the libraries that take memory, one after another. `tests/alone` refuses each allocation in turn: the lines of the calls
+//! before the one that says so are printed, and the status is 6.
 
 use pam_conf::{Body, ConfError, FaultKind, Files, Form, Kind, Rule, resolve, rules};
 use pam_dispatch::Program;
@@ -122,8 +121,9 @@ fn run(rt: &HostRuntime) -> Result<(), Failure> {
     print_graph(rt, &files)
 }
 
-fn main(rt: HostRuntime) -> ExitCode {
-    match run(&rt) {
+/// Makes these calls, and returns the exit status.
+pub(crate) fn status(rt: &HostRuntime) -> ExitCode {
+    match run(rt) {
         Ok(()) => ExitCode::from(0),
         Err(Failure::Memory) => ExitCode::from(6),
         Err(Failure::Other) => ExitCode::from(1),

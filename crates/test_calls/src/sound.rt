@@ -1,49 +1,15 @@
 //! What stacks do to everybody. In them `pam_unix.so` checks who logs in, `pam_permit.so` succeeds and `pam_deny.so` answers
 //! `auth_err`; any other module may answer every code.
 
-ghost use Rattle.std.specs.Prelude.{◌≤◌, length};
-
 use crate::lines::line_of;
-use crate::released::bytes_of_words;
+use crate::spelled::spelled_stack;
 use anyhow::Error;
 use pam_check::Soundness;
 use pam_codes::{Code, CodeSet};
-use pam_conf::{Files, Form, Kind, Stack, resolve};
+use pam_conf::Stack;
 use pam_dispatch::MAX_MODULES;
 use pam_paths::Known;
 use std::alloc::Global;
-
-/// The number of words before the first `|`.
-fn words_before_bar(words: &[&str]) -> usize
-    ensures { result ≤ length words.now }
-{
-    let mut count: usize = 0;
-    for word in words {
-        if *word == "|" {
-            break;
-        }
-        count = count.saturating_add(1);
-    }
-    count.min(words.len())
-}
-
-/// Puts a file with the rules that the words spell.
-fn put(alloc: Global, files: &mut Files, name: &str, words: &[&str]) -> Result<(), Error> {
-    let bytes = bytes_of_words(alloc, words)?;
-    files.put(name.as_bytes().to_vec(alloc)?, bytes)?;
-    Ok(())
-}
-
-/// The stack of the file that the words before `|` spell; those after it are the file `inner`.
-fn stack_of(alloc: Global, words: &[&str]) -> Result<Stack, Error> {
-    let bar = words_before_bar(words);
-    let mut files = Files::new(alloc, Form::Dir);
-    put(alloc, &mut files, "service", &words[..bar])?;
-    if bar < words.len() {
-        put(alloc, &mut files, "inner", &words[bar + 1..])?;
-    }
-    Ok(resolve(alloc, &files, b"service", Kind::Auth)?)
-}
 
 /// The codes that a module may answer, where its checks `fail` if it has some; the empty set if it may answer every code.
 fn codes_of(path: &[u8], fail: bool) -> CodeSet {
@@ -86,7 +52,7 @@ fn print_numbers(rt: &HostRuntime, finding: &str, numbers: &[usize]) -> Result<(
 /// Prints what the stack of the words does to everybody.
 pub(crate) fn print_soundness(rt: &HostRuntime, words: &[&str]) -> Result<(), Error> {
     let alloc = rt.alloc();
-    let stack = stack_of(alloc, words)?;
+    let stack = spelled_stack(alloc, words)?;
     let free = known_of(&stack, false);
     let failing = known_of(&stack, true);
     let soundness = Soundness::of(alloc, &stack, &free, &failing)?;
