@@ -10,9 +10,10 @@ use Rattle.pam_host.specs.declared.way_in.Answered.{Answered}
 use Rattle.pam_known.specs.Answers.{name_of_path}
 use Rattle.pam_report.specs.Decide.{path_at}
 use Rattle.pam_report.specs.Names.{problem_name}
-use Rattle.pam_print.specs.Check.{Names, answer_text, answers_text, finding_line, next_answer, place_text, sentence, shown_name}
+use Rattle.pam_print.specs.Check.{Names, answer_text, answers_text, finding_line, next_answer, place_text, sentence}
+use Rattle.pam_sentences.specs.Shown.{shown_name}
 use Rattle.pam_print.specs.Header.{code_name}
-use Rattle.pam_print.specs.Sentences as say
+use Rattle.pam_sentences.specs.Sentences as say
 
 -- THE ANSWERS OF A WAY IN
 

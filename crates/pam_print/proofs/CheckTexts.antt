@@ -10,10 +10,11 @@ use Rattle.pam_report.specs.TablePaths.{level_of_table_problem, table_problem_na
 use Rattle.pam_table_check.specs.declared.problem.TableFinding.{TableFinding}
 use Rattle.pam_text.proofs.TextSteps.{unequal}
 use Rattle.pam_print.specs.Check as spec
-use Rattle.pam_print.specs.Check.{check_text, counted, counts_of, finding_line, last_line, levels_text, lines_text, names_of_value, shown_name}
+use Rattle.pam_print.specs.Check.{check_text, counted, counts_of, finding_line, last_line, levels_text, lines_text, names_of_value}
+use Rattle.pam_sentences.specs.Shown.{shown_name}
 use Rattle.pam_print.specs.Check.{stacks_of, table_heading, table_line, unused_line}
 use Rattle.pam_print.specs.declared.check.Counts.{Counts}
-use Rattle.pam_print.specs.Sentences as say
+use Rattle.pam_sentences.specs.Sentences as say
 use Rattle.pam_print.specs.CheckNames.{names_view}
 use Rattle.pam_print.specs.declared.check.finding.Names.{Names}
 

@@ -1,8 +1,8 @@
 use Rattle.std.proofs.Common.{◌/◌, ◌%◌}
 use Rattle.pam_codes.proofs.Writing.{all-then, err-front, front-is, front-longer, front-then, writes-is, writes-then}
-use Rattle.pam_print.specs.Check.{hex_digit}
-use Rattle.pam_print.proofs.CheckMet.{byte-escaped}
-use Rattle.pam_print.proofs.check.escaped.put_byte.Goals as goal
+use Rattle.pam_sentences.specs.Shown.{hex_digit}
+use Rattle.pam_sentences.proofs.ShownTexts.{byte-escaped}
+use Rattle.pam_sentences.proofs.shown.put_byte.Goals as goal
 
 pub returns-in_err-put : goal.returns-in_err-put
 returns-in_err-put g c =

@@ -1,8 +1,8 @@
 use Rattle.std.proofs.Common.{◌+◌, drop}
 use Rattle.pam_codes.proofs.Writing.{err-front, front-is, front-longer, front-then}
 use Rattle.pam_page.proofs.FlatTexts.{flat_map-at}
-use Rattle.pam_print.specs.Check.{shown_byte, shown_name}
-use Rattle.pam_print.proofs.check.escaped.put_name.Goals as goal
+use Rattle.pam_sentences.specs.Shown.{shown_byte, shown_name}
+use Rattle.pam_sentences.proofs.shown.put_name.Goals as goal
 
 pub returns-in_err-put_byte : goal.returns-in_err-put_byte
 returns-in_err-put_byte g c =

@@ -1,0 +1,4 @@
+pub mod Lines
+pub mod Misspelled
+pub mod MisspelledView
+pub mod Reading
