@@ -73,7 +73,8 @@ impl Control {
         Some(Control::keyword(granted, other))
     }
 
-    /// The control with the `named` actions, and `default` for the other codes.
+    /// The control with the actions that `named` has, in the order of the numbers of the codes, and `default` for each code
+    /// for which it has `None`.
     pub fn of(named: [Option<Action>; CODES], default: Action) -> Control
         requires named { All (λ action. IfSome action IsAction) named }
         requires default { IsAction default }
