@@ -28,7 +28,7 @@ numbered_152 line start got (p ∷ piece) inside [] = numbered_piece start got (
 numbered_152 line start got piece inside (b ∷ bs) =
     if b == 10 then numbered_piece start got piece inside (line + 1) (λ s g i. numbered_152 (line + 1) s g [] i bs)
     else if length got + length piece + 1 == 1023 then
-      numbered_piece start got (piece ++ b ∷ []) inside line (λ s g i. numbered_152 line s g [] i bs)
+    numbered_piece start got (piece ++ b ∷ []) inside line (λ s g i. numbered_152 line s g [] i bs)
     else numbered_152 line start got (piece ++ b ∷ []) inside bs
 
 -- an empty line is passed over

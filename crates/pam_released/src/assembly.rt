@@ -110,7 +110,10 @@ fn lines_152(alloc: Global, source: Source<'_>) -> Result<Option<Vec<LogicalLine
             inside = true;
         } else {
             text.extend_from_slice(before_hash(piece))?;
-            lines.push(LogicalLine { number: start, text })?;
+            lines.push(LogicalLine {
+                number: start,
+                text,
+            })?;
             text = Vec::new(alloc);
             start = number;
             inside = false;
