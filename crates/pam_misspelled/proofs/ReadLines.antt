@@ -1,9 +1,9 @@
 -- Lines that are read in part.
-use Rattle.std.proofs.Common.{◌≡◌, ◌∙◌, ◌≤◌, ◌<◌, ◌+◌, ◌==◌, ℕ, zero, suc, List, [], ◌∷◌, Bool, true, false, Option, None, Some, absurd, arith, ap, cond, eqb, refl, sym, subst}
+use Rattle.std.proofs.Common.{◌≡◌, ◌∙◌, ◌≤◌, ◌<◌, ◌+◌, ◌==◌, ℕ, zero, suc, List, [], ◌∷◌, Bool, true, false, Option, None, Some, arith, ap, cond, eqb, refl, sym, subst}
 use Rattle.std.proofs.lemmas.Bool.{eq-eqb, eqb-false, eqb-true}
 use Rattle.pam_released.proofs.LineNumbers.{LinesRise, text_rises}
 use Rattle.pam_text.proofs.TextSteps.{unequal}
-use Rattle.pam_text.specs.Text.{text_lines, text_of}
+use Rattle.pam_text.specs.Text.{FileByte, text_lines, text_of}
 use Rattle.pam_misspelled.specs.Lines.{Lines, line_at}
 use Rattle.pam_misspelled.specs.Reading.{AreRead, Rise, if_last, last_line}
 
@@ -74,3 +74,9 @@ at_next all left number last next line bytes read after upto =
 -- no line is left
 pub at_end : (all : Lines) (number last : ℕ) (line : List ℕ) → AreRead all last line [] → last < number → line_at all number ≡ if_last number last line
 at_end all number last line read after = read.ahead number after ∙ sym (if_other number last line (λ e. omega (arith, e, after)))
+
+-- a file that is opened
+pub opened : (bytes line : List ℕ) (text : List FileByte) → text ≡ text_of 1 bytes → AreRead (text_lines (text_of 1 bytes)) 0 line (text_lines text)
+opened bytes line text e =
+    subst (λ (t : List FileByte). AreRead (text_lines (text_of 1 bytes)) 0 line (text_lines t)) (sym e)
+    (none_read (text_lines (text_of 1 bytes)) line (text_rise bytes))

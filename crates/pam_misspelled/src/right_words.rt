@@ -3,7 +3,7 @@
 ghost use Rattle.std.specs.Prelude.{◌≡◌, IfOk, map};
 ghost use Rattle.std.specs.Char.{to_ascii_lowercase};
 ghost use Rattle.std.specs.Option.{option_map};
-ghost use Rattle.pam_misspelled.specs.Misspelled.{controls, first_names, kinds, nearest_control, nearest_right};
+ghost use Rattle.pam_misspelled.specs.RightWords.{first_names, kinds, nearest_control, nearest_right};
 ghost use Rattle.pam_spelling.specs.Nearest.{nearest};
 
 use pam_codes::ControlError;
@@ -12,7 +12,7 @@ use pam_spelling::nearest;
 use std::alloc::{AllocError, Global};
 
 /// The number of files whose names may stand for the name of a target: so the time of a check stays linear in its lines.
-pub(crate) const MAX_NAMES: usize = 1000;
+pub const MAX_NAMES: usize = 1000;
 
 /// The names of the first files.
 pub(crate) fn first_names(alloc: Global, files: &Files) -> Result<Vec<&[u8]>, AllocError>

@@ -19,7 +19,7 @@ use Rattle.pam_host.specs.declared.level.Level.TheVariants.{Note}
 use Rattle.pam_host.specs.declared.problem.Place.{Place}
 use Rattle.pam_host.specs.declared.report.Finding.{Finding}
 use Rattle.pam_host.specs.declared.report.HostReport.{HostReport}
-use Rattle.pam_misspelled.specs.Misspelled.{misspelled_at}
+use Rattle.pam_misspelled.specs.Findings.{misspelled_at}
 use Rattle.pam_table_check.specs.Report.{IsTableReport}
 use Rattle.pam_table_check.specs.declared.problem.TableFinding.{TableFinding}
 use Rattle.pam_table_check.specs.declared.problem.TablePlace.{TablePlace}
