@@ -1,8 +1,8 @@
 -- Logical lines that are appended one after another.
 use Rattle.std.proofs.Common.{◌≡◌, ◌+◌, ◌++◌, ◌∙◌, ℕ, Bool, true, false, List, [], ◌∷◌, map, cond, ap, sym, refl, Option, Some, None, append-nil, append_assoc}
 use Rattle.std.specs.Option.{option_map}
-use Rattle.pam_released.specs.Lines.{before_hash, front_part, goes_on, is_blank_line, without_start_blanks}
-use Rattle.pam_released.specs.Numbered.{NumberedLine, line_view, numbered_152, numbered_170, numbered_end, numbered_piece, with_line}
+use Rattle.pam_released.specs.Lines.{before_hash, front_part, goes_on, without_start_blanks}
+use Rattle.pam_released.specs.Numbered.{NumberedLine, line_view, numbered_152, numbered_170, numbered_end, with_line}
 use Rattle.pam_released.specs.declared.assembly.LogicalLine.{LogicalLine}
 
 abbrev pub with_front : List NumberedLine → Option (List NumberedLine) → Option (List NumberedLine)
@@ -18,38 +18,6 @@ view_pushed [] line = refl
 view_pushed (l ∷ lines) line = ap (λ (r : List NumberedLine). line_view l ∷ r) (view_pushed lines line)
 
 -- 1.5.2
-
-abbrev pub Next : Type 0
-Next = ℕ → List ℕ → Bool → Option (List NumberedLine)
-
-pub piece_blank : (front : List NumberedLine) (start after : ℕ) (got piece : List ℕ) (inside : Bool) (next : Next) (read whole : Option (List NumberedLine)) →
-    read ≡ numbered_piece start got piece inside after next → is_blank_line piece ≡ true → with_front front read ≡ whole →
-    with_front front (next (cond inside start after) got inside) ≡ whole
-piece_blank front start after got piece inside next read whole is blank h =
-    ap (with_front front) (sym (is ∙ ap (λ (t : Bool). cond t (next (cond inside start after) got inside)
-    (cond (goes_on piece) (next start (got ++ front_part piece) true) (option_map (λ more. (start, got ++ before_hash piece) ∷ more) (next after [] false))))
-    blank)) ∙ h
-
-pub piece_goes : (front : List NumberedLine) (start after : ℕ) (got piece : List ℕ) (inside : Bool) (next : Next) (read whole : Option (List NumberedLine)) →
-    read ≡ numbered_piece start got piece inside after next → is_blank_line piece ≡ false → goes_on piece ≡ true → with_front front read ≡ whole →
-    with_front front (next start (got ++ front_part piece) true) ≡ whole
-piece_goes front start after got piece inside next read whole is blank goes h =
-    ap (with_front front) (sym (is ∙ ap (λ (t : Bool). cond t (next (cond inside start after) got inside)
-    (cond (goes_on piece) (next start (got ++ front_part piece) true) (option_map (λ more. (start, got ++ before_hash piece) ∷ more) (next after [] false))))
-    blank
-    ∙ ap (λ (t : Bool). cond t (next start (got ++ front_part piece) true)
-    (option_map (λ more. (start, got ++ before_hash piece) ∷ more) (next after [] false))) goes)) ∙ h
-
-pub piece_ends : (front : List NumberedLine) (start after : ℕ) (got piece : List ℕ) (inside : Bool) (next : Next) (read whole : Option (List NumberedLine)) →
-    read ≡ numbered_piece start got piece inside after next → is_blank_line piece ≡ false → goes_on piece ≡ false → with_front front read ≡ whole →
-    with_front (front ++ (start, got ++ before_hash piece) ∷ []) (next after [] false) ≡ whole
-piece_ends front start after got piece inside next read whole is blank goes h =
-    front_one front (start, got ++ before_hash piece) (next after [] false)
-    ∙ ap (with_front front) (sym (is ∙ ap (λ (t : Bool). cond t (next (cond inside start after) got inside)
-    (cond (goes_on piece) (next start (got ++ front_part piece) true) (option_map (λ more. (start, got ++ before_hash piece) ∷ more) (next after [] false))))
-    blank
-    ∙ ap (λ (t : Bool). cond t (next start (got ++ front_part piece) true)
-    (option_map (λ more. (start, got ++ before_hash piece) ∷ more) (next after [] false))) goes)) ∙ h
 
 pub pieces_end : (line start : ℕ) (got bytes : List ℕ) (inside : Bool) → bytes ≡ [] → numbered_152 line start got [] inside bytes ≡ numbered_end inside
 unfolding numbered_152

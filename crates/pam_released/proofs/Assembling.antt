@@ -1,12 +1,11 @@
 -- The logical lines of a release, piece by piece.
-use Rattle.std.proofs.Common.{◌≡◌, ◌<◌, ◌≤◌, ◌+◌, ◌++◌, ◌∙◌, ℕ, zero, suc, Bool, true, false, not, List, [], ◌∷◌, length, map, take, drop, cond, eqb, ap, sym, refl}
-use Rattle.std.proofs.Common.{Option, Some, None, arith, append-nil, append_assoc, one-add}
+use Rattle.std.proofs.Common.{◌≡◌, ◌<◌, ◌≤◌, ◌+◌, ◌++◌, ◌∙◌, ℕ, zero, suc, Bool, true, false, not, List, [], ◌∷◌, length, take, drop, cond, eqb, ap, sym, refl}
+use Rattle.std.proofs.Common.{arith, append-nil, append_assoc, one-add}
 use Rattle.std.specs.List.{prefix_len}
-use Rattle.std.specs.Option.{option_map}
 use Rattle.std.proofs.lemmas.Bool.{eqb-true, ne_eqb, eq-eqb, true≢false}
-use Rattle.pam_released.specs.Lines.{before_hash, front_part, goes_on, is_blank_line, is_space_or_tab, last_is_space, without_end_blanks}
+use Rattle.pam_released.specs.Lines.{front_part, is_space_or_tab, last_is_space, without_end_blanks}
 use Rattle.pam_released.specs.Lines.{without_start_blanks}
-use Rattle.pam_released.specs.Numbered.{NumberedLine, numbered_152, numbered_170, numbered_end, numbered_piece, with_line}
+use Rattle.pam_released.specs.Numbered.{numbered_152, numbered_end, numbered_piece}
 
 -- BLANKS
 

@@ -1,6 +1,7 @@
 -- The pairs of a control, read one by one.
-use Rattle.std.proofs.Common.{◌≡◌, ◌<◌, ◌≤◌, ◌+◌, ◌∙◌, ℕ, zero, suc, Bool, List, [], ◌∷◌, length, map, get_or, replicate, slice_set, ap, sym, refl, Option, Some, None, unwrap_or, arith}
-use Rattle.std.specs.Option.{option_map, option_map_or, option_or}
+use Rattle.std.proofs.Common.{◌≡◌, ◌<◌, ◌≤◌, ◌+◌, ◌∙◌, ℕ, zero, suc, List, [], ◌∷◌, length, map, get_or, replicate}
+use Rattle.std.proofs.Common.{ap, sym, refl, Option, Some, None, unwrap_or, arith}
+use Rattle.std.specs.Option.{option_map, option_map_or}
 use Rattle.pam_codes.specs.Code.{all_codes}
 use Rattle.pam_codes.specs.Control.{Pairs, action_of, actions_of}
 use Rattle.pam_codes.specs.declared.action.Action.{Action}
@@ -63,14 +64,16 @@ by_pair next b bs = by_subject (subject_at (b ∷ bs))
 
     by_sign : (s : Subject) (o : Option (List ℕ)) →
         then_some o (λ r. then_some (action_at (after_spaces r)) (λ a. option_map (λ ps. (s, a.0) ∷ ps) (next a.1))) ≡
-        then_some {A = (Subject × Action) × List ℕ} (then_some o (λ r. then_some (action_at (after_spaces r)) (λ a. Some ((s, a.0), a.1)))) (λ p. option_map (λ ps. p.0 ∷ ps) (next p.1))
+        then_some {A = (Subject × Action) × List ℕ} (then_some o (λ r. then_some (action_at (after_spaces r)) (λ a. Some ((s, a.0), a.1))))
+        (λ p. option_map (λ ps. p.0 ∷ ps) (next p.1))
     by_sign s None = refl
     by_sign s (Some r) = by_action s (action_at (after_spaces r))
 
     by_subject : (o : Option (Subject × List ℕ)) →
         then_some o (λ s. then_some (equals_at (after_spaces s.1)) (λ r. then_some (action_at (after_spaces r))
         (λ a. option_map (λ ps. (s.0, a.0) ∷ ps) (next a.1)))) ≡
-        then_some {A = (Subject × Action) × List ℕ} (then_some o (λ s. then_some (equals_at (after_spaces s.1)) (λ r. then_some (action_at (after_spaces r)) (λ a. Some ((s.0, a.0), a.1)))))
+        then_some {A = (Subject × Action) × List ℕ} (then_some o (λ s. then_some (equals_at (after_spaces s.1))
+        (λ r. then_some (action_at (after_spaces r)) (λ a. Some ((s.0, a.0), a.1)))))
         (λ p. option_map (λ ps. p.0 ∷ ps) (next p.1))
     by_subject None = refl
     by_subject (Some s) = by_sign s.0 (equals_at (after_spaces s.1))

@@ -1,14 +1,11 @@
 -- The names of a control, as the code reads them.
-use Rattle.std.proofs.Common.{◌≡◌, ◌<◌, ◌≤◌, ◌+◌, ◌-◌, ◌*◌, ◌∙◌, ◌&&◌, ◌==◌, ℕ, zero, suc, Bool, true, false, List, [], ◌∷◌, length}
-use Rattle.std.proofs.Common.{take, cond, eqb, nat_lt, ap, sym, refl, Option, Some, None, arith, codes, drop, find, fold, get_or}
+use Rattle.std.proofs.Common.{◌≡◌, ◌<◌, ◌+◌, ◌-◌, ◌∙◌, ◌&&◌, ◌==◌, ℕ, suc, Bool, true, false, List, [], ◌∷◌, length}
+use Rattle.std.proofs.Common.{cond, nat_lt, ap, sym, refl, Option, Some, None, arith, drop, find}
 use Rattle.std.specs.List.{range_with_len, slice_get, starts_with}
-use Rattle.std.specs.Option.{option_map, option_map_or}
 use Rattle.std.proofs.lemmas.Bool.{lt-ltb}
 use Rattle.std.proofs.lemmas.Option.{get_or_from_slice_get}
 use Rattle.pam_codes.specs.Code.{all_codes, code_names}
-use Rattle.pam_codes.specs.declared.subject.Subject.{Subject}
-use Rattle.pam_codes.specs.declared.subject.Subject.TheVariants.{Named, Incomplete, Default}
-use Rattle.pam_released.specs.Control.{after_spaces, begins, is_space, name_of, subject_at}
+use Rattle.pam_released.specs.Control.{after_spaces, begins, is_space, name_of}
 use Rattle.pam_released.specs.Pair.{code_after}
 
 -- BLANKS

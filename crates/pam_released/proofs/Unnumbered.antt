@@ -6,10 +6,10 @@ use Rattle.pam_conf.specs.declared.rule.Form.{Form}
 use Rattle.pam_released.specs.Buffer.{at_end, buffered, piece_read}
 use Rattle.pam_released.specs.Control.{then_some}
 use Rattle.pam_released.specs.Lines.{before_hash, front_part, goes_on, is_blank_line, lines_170, not_empty, onto_line, physical_lines, without_start_blanks}
-use Rattle.pam_released.specs.Numbered.{NumberedLine, numbered_152, numbered_170, numbered_end, numbered_lines, numbered_piece, with_line}
+use Rattle.pam_released.specs.Numbered.{NumberedLine, numbered_152, numbered_170, numbered_end, numbered_piece, with_line}
 use Rattle.pam_released.specs.Readings.{NumberedRule, numbered_readings, numbered_rules, rules_by}
 use Rattle.pam_released.specs.Rules.{Reading, line_reading, line_readings, rules_152, rules_170}
-use Rattle.pam_released.specs.Words.{released_words, words_152, words_170}
+use Rattle.pam_released.specs.Words.{released_words}
 use Rattle.pam_released.specs.declared.release.Release.{Release}
 use Rattle.pam_released.specs.declared.release.Release.TheVariants.{Older, Newer}
 

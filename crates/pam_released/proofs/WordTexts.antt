@@ -1,5 +1,6 @@
 -- The texts of the words of a line, byte by byte.
-use Rattle.std.proofs.Common.{◌≡◌, ◌≤◌, ◌+◌, ◌++◌, ◌∙◌, ◌&&◌, ℕ, suc, Bool, true, false, not, List, [], ◌∷◌, length, take, drop, cond, eqb, ap, sym, refl, append-nil, append_assoc, one-add, arith}
+use Rattle.std.proofs.Common.{◌≡◌, ◌≤◌, ◌+◌, ◌++◌, ◌∙◌, ◌&&◌, ℕ, Bool, true, false, not, List, [], ◌∷◌, length}
+use Rattle.std.proofs.Common.{take, drop, cond, eqb, ap, sym, refl, append-nil, append_assoc, one-add, arith}
 use Rattle.std.specs.List.{onto_first, prefix_len}
 use Rattle.std.proofs.lemmas.Bool.{ne_eqb}
 use Rattle.pam_released.specs.Lines.{is_space_or_tab, onto_line}

@@ -1,6 +1,6 @@
 -- For private contracts and proofs alone: what the words after a kind make. None where the library refuses the file.
 use Rattle.std.specs.Prelude.{ℕ, Bool, List, [], ◌∷◌, codes, if◌then◌else◌, Option, Some, None}
-use Rattle.std.specs.Option.{option_map, option_map_or}
+use Rattle.std.specs.Option.{option_map}
 use Rattle.pam_codes.specs.Code.{same_name}
 use Rattle.pam_codes.specs.declared.action.Action.{Action}
 use Rattle.pam_conf.specs.Rule.{RuleBody, Include, Module, Sub, body_view, without_folder_of}

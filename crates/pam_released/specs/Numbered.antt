@@ -1,5 +1,5 @@
 -- The logical lines of released Linux-PAM, each with the number of the physical line at which it begins.
-use Rattle.std.specs.Prelude.{ℕ, ◌+◌, ◌==◌, Bool, true, false, List, [], ◌∷◌, ◌++◌, length, map, if◌then◌else◌, Option, Some, None}
+use Rattle.std.specs.Prelude.{ℕ, ◌+◌, ◌==◌, Bool, true, false, List, [], ◌∷◌, ◌++◌, length, if◌then◌else◌, Option, Some, None}
 use Rattle.std.specs.Option.{option_map}
 use Rattle.pam_released.specs.Lines.{before_hash, front_part, goes_on, is_blank_line, physical_lines, without_start_blanks}
 use Rattle.pam_released.specs.declared.assembly.LogicalLine.{LogicalLine}

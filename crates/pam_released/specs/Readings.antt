@@ -1,5 +1,5 @@
 -- The rules of a file by a release, each with the number of its first line.
-use Rattle.std.specs.Prelude.{ℕ, Bool, List, [], ◌∷◌, Option, Some, None}
+use Rattle.std.specs.Prelude.{ℕ, List, [], ◌∷◌, Option, Some}
 use Rattle.std.specs.Option.{option_map}
 use Rattle.pam_conf.specs.Rule.{body_view}
 use Rattle.pam_conf.specs.declared.rule.Form.{Form}

@@ -20,7 +20,8 @@ loop-line-preserved-in_ok-push c = record {
       line_kept _ _ _ _ _ _ _ _ _ _ _ _ _ c.in_ok-push.ensures.items refl
       (c.in_ok-extend_from_slice.ensures.items
       ∙ ap (λ (r : List ℕ). c.loop-line.text.items ++ r) (c.without_start_blanks.ensures ∙ ap without_start_blanks c.before_hash.ensures))
-      (is_something _ (ap (λ (n : ℕ). eqb n 0) (sym c.extend_from_slice.new.self.ok.0) ∙ sym c.is_empty.ensures ∙ c.if-not-is_empty.true)) c.new-text-then-not-is_empty.ensures.items c.in-Some.ensures.value
+      (is_something _ (ap (λ (n : ℕ). eqb n 0) (sym c.extend_from_slice.new.self.ok.0) ∙ sym c.is_empty.ensures ∙ c.if-not-is_empty.true))
+      c.new-text-then-not-is_empty.ensures.items c.in-Some.ensures.value
       (sym c.goes_on.ensures ∙ c.if-goes_on.false) c.loop-line.invariant.found;
   counted = omega (arith, c.in-Some.ensures.shorter, c.loop-line.invariant.counted);
 }
@@ -31,7 +32,8 @@ loop-line-preserved c = record {
       line_gone _ _ _ _ _ _ _ _ _ _
       (c.in_ok-extend_from_slice.ensures.items
       ∙ ap (λ (r : List ℕ). c.loop-line.text.items ++ r) (c.without_start_blanks.ensures ∙ ap without_start_blanks c.before_hash.ensures))
-      (is_nothing _ (ap (λ (n : ℕ). eqb n 0) (sym c.extend_from_slice.new.self.ok.0) ∙ sym c.is_empty.ensures ∙ c.if-not-is_empty.false)) c.in-Some.ensures.value
+      (is_nothing _ (ap (λ (n : ℕ). eqb n 0) (sym c.extend_from_slice.new.self.ok.0) ∙ sym c.is_empty.ensures ∙ c.if-not-is_empty.false))
+      c.in-Some.ensures.value
       (sym c.goes_on.ensures ∙ c.if-goes_on.false) c.loop-line.invariant.found;
   counted = omega (arith, c.in-Some.ensures.shorter, c.loop-line.invariant.counted);
 }

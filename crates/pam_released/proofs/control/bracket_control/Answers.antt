@@ -24,7 +24,8 @@ of-requires-clause-named c = All-replicate (λ action. IfSome action IsAction) 3
 
 pub returns-in_default : goal.returns-in_default
 returns-in_default c =
-    c.of.ensures ∙ all_bad ∙ told_fault _ _ _ _ _ (is_something _ (sym c.is_empty.ensures ∙ c.loop-rest-test.true)) (sym c.in_default.ensures.value) c.loop-rest.invariant.left.same
+    c.of.ensures ∙ all_bad ∙ told_fault _ _ _ _ _ (is_something _ (sym c.is_empty.ensures ∙ c.loop-rest-test.true)) (sym c.in_default.ensures.value)
+    c.loop-rest.invariant.left.same
 
 pub loop-rest-preserved-in-Named : goal.loop-rest-preserved-in-Named
 loop-rest-preserved-in-Named c = record {
@@ -32,8 +33,8 @@ loop-rest-preserved-in-Named c = record {
   named = All-set (λ action. IfSome action IsAction) _ _ _ c.in-Some.ensures.action c.loop-rest.invariant.named;
   default = c.loop-rest.invariant.default;
   left =
-      one_pair _ _ _ _ (c.in-Some.subject, c.in-Some.action) _ _ _ _ (is_something _ (sym c.is_empty.ensures ∙ c.loop-rest-test.true)) (sym c.in-Some.ensures.value)
-      c.in-Some.ensures.shorter c.after_spaces-rest-in-loop-rest.ensures.value c.after_spaces-rest-in-loop-rest.ensures.shorter
+      one_pair _ _ _ _ (c.in-Some.subject, c.in-Some.action) _ _ _ _ (is_something _ (sym c.is_empty.ensures ∙ c.loop-rest-test.true))
+      (sym c.in-Some.ensures.value) c.in-Some.ensures.shorter c.after_spaces-rest-in-loop-rest.ensures.value c.after_spaces-rest-in-loop-rest.ensures.shorter
       (λ ps. rw (c.in-Named.is, c.from.ensures, c.number.ensures.value)
       (actions_after-named _ _ _ _ ps (let few : length c.loop-rest.named ≡ 31 = c.loop-rest.invariant.few in omega arith)))
       c.loop-rest.invariant.left;
@@ -45,8 +46,8 @@ loop-rest-preserved-in-Incomplete c = record {
   named = c.loop-rest.invariant.named;
   default = c.loop-rest.invariant.default;
   left =
-      one_pair _ _ _ _ (c.in-Some.subject, c.in-Some.action) _ _ _ _ (is_something _ (sym c.is_empty.ensures ∙ c.loop-rest-test.true)) (sym c.in-Some.ensures.value)
-      c.in-Some.ensures.shorter c.after_spaces-rest-in-loop-rest.ensures.value c.after_spaces-rest-in-loop-rest.ensures.shorter
+      one_pair _ _ _ _ (c.in-Some.subject, c.in-Some.action) _ _ _ _ (is_something _ (sym c.is_empty.ensures ∙ c.loop-rest-test.true))
+      (sym c.in-Some.ensures.value) c.in-Some.ensures.shorter c.after_spaces-rest-in-loop-rest.ensures.value c.after_spaces-rest-in-loop-rest.ensures.shorter
       (λ ps. rw c.in-Incomplete.is (actions_after-incomplete _ _ _ ps)) c.loop-rest.invariant.left;
 }
 
@@ -56,8 +57,8 @@ loop-rest-preserved c = record {
   named = c.loop-rest.invariant.named;
   default = rw c.or-default.ensures (some_action c.loop-rest.default c.in-Some.action c.loop-rest.invariant.default c.in-Some.ensures.action);
   left =
-      one_pair _ _ _ _ (c.in-Some.subject, c.in-Some.action) _ _ _ _ (is_something _ (sym c.is_empty.ensures ∙ c.loop-rest-test.true)) (sym c.in-Some.ensures.value)
-      c.in-Some.ensures.shorter c.after_spaces-rest-in-loop-rest.ensures.value c.after_spaces-rest-in-loop-rest.ensures.shorter
+      one_pair _ _ _ _ (c.in-Some.subject, c.in-Some.action) _ _ _ _ (is_something _ (sym c.is_empty.ensures ∙ c.loop-rest-test.true))
+      (sym c.in-Some.ensures.value) c.in-Some.ensures.shorter c.after_spaces-rest-in-loop-rest.ensures.value c.after_spaces-rest-in-loop-rest.ensures.shorter
       (λ ps. rw (c.in-Default.is, c.or-default.ensures) (actions_after-default _ _ _ ps)) c.loop-rest.invariant.left;
 }
 
