@@ -3,7 +3,7 @@ use Rattle.std.specs.Prelude.{ℕ, List, [], ◌∷◌, ◌++◌, codes, Option}
 use Rattle.std.specs.List.{flat_map}
 use Rattle.pam_conf.specs.Stack.{Items, module_count}
 use Rattle.pam_json_lines.specs.Line.{kind, line}
-use Rattle.pam_report.specs.Ways.{count_text}
+use Rattle.pam_parts.specs.Ways.{count_text}
 use Rattle.pam_report.specs.Reply.{Outcome, OutcomesValue}
 use Rattle.serde_json.specs.Data.{Data, string}
 use Rattle.pam_json.specs.Header.{code_name, stack_members}

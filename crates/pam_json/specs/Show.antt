@@ -4,7 +4,7 @@ use Rattle.pam_codes.specs.ControlText.{control_text}
 use Rattle.pam_conf.specs.Files.{Folder}
 use Rattle.pam_conf.specs.Stack.{Items, End, ThenModule, ThenSub, ModuleText, SubText, module_count}
 use Rattle.pam_json_lines.specs.Line.{kind, line, readable, strings}
-use Rattle.pam_report.specs.FileNames.{name_at}
+use Rattle.pam_parts.specs.Files.{name_at}
 use Rattle.pam_report.specs.Reply.{StackValue}
 use Rattle.serde_json.specs.Data.{Data, boolean, number, string, unsigned}
 use Rattle.pam_json.specs.Header.{stack_members}

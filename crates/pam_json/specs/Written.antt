@@ -2,7 +2,7 @@
 use Rattle.std.specs.Prelude.{map}
 use Rattle.pam_codes.specs.ControlText.{control_text}
 use Rattle.pam_json_lines.specs.Line.{strings}
-use Rattle.pam_report.specs.Ways.{count_text}
+use Rattle.pam_parts.specs.Ways.{count_text}
 use Rattle.pam_paths.specs.Steps.{step_seen}
 use Rattle.serde_json.specs.Data.{Data, string}
 use Rattle.pam_json.specs.Steps.{cursor_string, steps_array}

@@ -3,7 +3,7 @@
 ghost use Rattle.std.specs.Prelude.{◌++◌, false, map};
 ghost use Rattle.json.specs.Print.{quoted};
 ghost use Rattle.pam_codes.specs.Out.{Writes};
-ghost use Rattle.pam_report.specs.Ways.{count_text};
+ghost use Rattle.pam_parts.specs.Ways.{count_text};
 ghost use Rattle.pam_paths.specs.CursorText.{cursor_text};
 ghost use Rattle.pam_paths.specs.Paths.{key};
 ghost use Rattle.pam_paths.specs.Steps.{step_seen};

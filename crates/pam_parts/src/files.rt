@@ -1,7 +1,7 @@
 //! Names of files.
 
 ghost use Rattle.std.specs.Prelude.{◌≡◌};
-ghost use Rattle.pam_report.specs.FileNames.{name_at};
+ghost use Rattle.pam_parts.specs.Files.{name_at};
 
 use pam_conf::Files;
 

@@ -4,7 +4,7 @@ use Rattle.std.specs.Char.{to_ascii_lowercase}
 use Rattle.std.specs.List.{concat}
 use Rattle.pam_conf.specs.declared.rule.Kind.{Kind}
 unfoldable pub use Rattle.pam_page.specs.Page.{code_name}
-unfoldable pub use Rattle.pam_report.specs.FileNames.{name_at}
+unfoldable pub use Rattle.pam_parts.specs.Files.{name_at}
 pub use Rattle.pam_report.specs.Names.{kind_name}
 
 -- `SERVICE KIND N modules`, with the service in lowercase

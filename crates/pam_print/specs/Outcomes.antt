@@ -4,7 +4,7 @@ use Rattle.std.specs.List.{flat_map}
 use Rattle.pam_codes.specs.SetText.{set_text}
 use Rattle.pam_conf.specs.Stack.{Items, module_count}
 use Rattle.pam_known.specs.Answers.{name_of_path}
-use Rattle.pam_report.specs.Ways.{count_text}
+use Rattle.pam_parts.specs.Ways.{count_text}
 use Rattle.pam_paths.specs.CursorText.{cursor_text}
 use Rattle.pam_paths.specs.Paths.{StepValue, key}
 use Rattle.pam_report.specs.Decide.{path_at}

@@ -6,7 +6,6 @@ pub mod Decide
 pub mod Fault
 pub mod FaultTable
 pub mod FaultViews
-pub mod FileNames
 pub mod Finds
 pub mod Graph
 pub mod GraphViews
@@ -24,4 +23,3 @@ pub mod Reply
 pub mod ReplyViews
 pub mod TablePaths
 pub mod TooLarge
-pub mod Ways

@@ -14,7 +14,7 @@ pub use fault::{
 pub use inputs::{
     CheckInputs, InputError, Inputs, KnowledgeInputs, SideInputs, TableFile, TableFiles,
 };
-pub use names::{kind_name, name_at, problem_name, stack_of};
+pub use names::{kind_name, problem_name, stack_of};
 pub use report::{
     AskedModule, CheckReply, CompareReply, GraphReply, Outcome, Outcomes, OutcomesReply,
     PageRenderer, PathsPage, Reply, RunReply, StackReply, Status, Trace, path_at, reply_to,

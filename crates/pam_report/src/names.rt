@@ -1,11 +1,10 @@
-//! The names of what is wrong with a host, each after its number, of kinds, and of files.
+//! The names of what is wrong with a host, each after its number, and of kinds.
 
 ghost use Rattle.std.specs.Prelude.{◌≡◌};
-ghost use Rattle.pam_report.specs.FileNames.{name_at};
 ghost use Rattle.pam_report.specs.Names as spec;
 
 use crate::fault::conf_name;
-use pam_conf::{Files, Kind};
+use pam_conf::Kind;
 use pam_host::Problem;
 
 /// Returns the name of a kind.
@@ -55,16 +54,5 @@ pub fn stack_of(problem: Problem) -> Option<(usize, Kind)>
         | Problem::OtherAnswers { service, kind } => Some((service, kind)),
         Problem::LetsAnybodyIn { service } => Some((service, Kind::Auth)),
         _ => None,
-    }
-}
-
-/// Returns the name of the file at a position, empty if there is none.
-#[tactic(auto, unfolding(crate::specs::FileNames::name_at))]
-pub fn name_at(files: &Files, position: usize) -> &[u8]
-    ensures { result.now ≡ name_at files.now position }
-{
-    match files.name(position) {
-        Some(name) => name,
-        None => b"",
     }
 }
