@@ -18,10 +18,10 @@ _pamcheck_options() {
     case $1 in
         check) echo "$source --modules --access --time --group --facts --accept --fail-on --help" ;;
         compare) echo '--conf --root --modules --facts --returns --help' ;;
-        show) echo "$source --help" ;;
+        show) echo "$source --json --help" ;;
         decide) echo "$source --json --help" ;;
         paths) echo "$source --limit --after --before --decision --asks $known --help" ;;
-        outcomes) echo "$source $known --help" ;;
+        outcomes) echo "$source --json $known --help" ;;
         graph) echo "$source --format $known --help" ;;
         access) echo '--access --user --tty --group --rhost --json --help' ;;
         time) echo "--time --user --tty $moment --json --help" ;;

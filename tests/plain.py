@@ -11,6 +11,7 @@ import plain_compare
 import plain_given
 import plain_graph
 import plain_host
+import plain_json
 import plain_outcomes
 import plain_sources
 import plain_stacks as stacks
@@ -24,19 +25,19 @@ SOURCES = b"--dir --vendor-dir --conf --root --with"
 OPTIONS = {
     b"check": SOURCES + b" --modules --access --time --group --facts --accept --fail-on",
     b"compare": b"--conf --root --modules --facts --returns",
-    b"show": SOURCES,
-    b"decide": SOURCES,
+    b"show": SOURCES + b" --json",
+    b"decide": SOURCES + b" --json",
     b"paths": SOURCES + b" --limit --after --before --decision --asks" + KNOWING,
-    b"outcomes": SOURCES + KNOWING,
+    b"outcomes": SOURCES + b" --json" + KNOWING,
     b"graph": SOURCES + b" --format" + KNOWING,
-    b"access": b"--access --user --group --rhost --tty",
-    b"time": b"--time --user --tty --at --at-unix --zone",
+    b"access": b"--access --user --group --rhost --tty --json",
+    b"time": b"--time --user --tty --at --at-unix --zone --json",
     b"facts": b"",
     b"version": b"",
 }
 OF_PATHS = (b"paths", b"outcomes", b"graph")
 REPEATED = (b"--modules", b"--with")
-FLAGS = {b"compare": [b"--conf", b"--root"]}
+FLAGS = {b"compare": [b"--conf", b"--root"], **dict.fromkeys([b"show", b"decide", b"outcomes", b"access", b"time"], [b"--json"])}
 WITH_SOURCE = [name for name, options in OPTIONS.items() if options.startswith(SOURCES)]
 ABOUT = (b"facts", b"version")
 VERSION = b"pamcheck 1.0.0 (proved with rattle, logic dac8208d650f15bf)\n"
@@ -190,11 +191,17 @@ class Request:
         if self.command == b"time":
             moment = self.moment()
             granted, line = tables.TimeTable(self.tables[b"--time"]).decide(self.login(), moment)
+            if self.is_json():
+                return plain_json.login("time", granted, None if granted else line), 0 if granted else 1
             return (b"granted\n", 0) if granted else (b"denied line %d\n" % line, 1)
         if self.command == b"check":
             return self.check(source, tree)
         items, modules = stacks.resolve(source.files, self.service, self.kind)
         header = b"%s %s %d modules\n" % (self.service, self.kind, len(modules))
+        if self.is_json():
+            header = plain_json.stack(self.service, self.kind, modules)
+        if self.command == b"show" and self.is_json():
+            return header + b"".join(plain_json.items(items)), 0
         if self.command == b"show":
             return header + b"".join(item_lines(items, b"")), 0
         if self.command == b"decide":
@@ -205,6 +212,10 @@ class Request:
         if self.command == b"outcomes":
             return header + self.outcomes(items, modules), 0
         return header + self.page(items, modules), 0
+
+    def is_json(self):
+        """Whether the answer is JSON."""
+        return b"--json" in self.options
 
     def folders(self, tree):
         """The folders of modules that are named."""
@@ -271,6 +282,8 @@ class Request:
         groups = tables.Groups(self.tables.get(b"--group", b""))
         table = tables.AccessTable(self.tables[b"--access"], self.arguments[1:])
         granted, line = table.decide(self.login(), groups)
+        if self.is_json():
+            return plain_json.login("access", granted, line), 0 if granted else 1
         place = b"no line" if line is None else b"line %d" % line
         return b"%s %s\n" % (b"granted" if granted else b"denied", place), 0 if granted else 1
 
@@ -278,12 +291,15 @@ class Request:
         if len(self.codes) != len(modules):
             raise Fault("DE1", b"want %d" % len(modules))
         asked, decision = stacks.run(items, self.codes)
+        status = 0 if decision == b"success" else 1
+        if self.is_json():
+            return b"".join(plain_json.step(*one) for one in asked) + plain_json.decision(decision), status
         text = b""
         for module, code, state in asked:
             action = module.control[stacks.CODES.index(code)]
             action = action if isinstance(action, bytes) else b"jump:%d" % action
             text += b"%d %s %s %s %s %s\n" % (module.number, word_text(module.path), code, action, *state)
-        return text + b"decision %s\n" % decision, 0 if decision == b"success" else 1
+        return text + b"decision %s\n" % decision, status
 
     def known(self, modules):
         """The codes that each module may answer."""
@@ -325,8 +341,12 @@ class Request:
     def outcomes(self, items, modules):
         """The lines of `outcomes` after the header."""
         found = plain_outcomes.outcomes(items, self.known(modules))
+        total = sum(count for count, _ in found.values())
+        if self.is_json():
+            lines = [plain_json.outcome(code, *found[code], modules) for code in stacks.CODES if code in found]
+            return b"".join(lines) + plain_json.total(total)
         lines = [outcome_line(code, *found[code], modules) for code in stacks.CODES if code in found]
-        return b"".join(lines) + b"total %s ways\n" % count_text(sum(count for count, _ in found.values()))
+        return b"".join(lines) + b"total %s ways\n" % count_text(total)
 
     def paths(self, items, modules, allowed):
         """The paths that the filter lets through, in order."""

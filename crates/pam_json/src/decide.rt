@@ -9,7 +9,7 @@ ghost use Rattle.pam_json_lines.specs.Line.{line};
 use crate::header::{name_of, put_stack};
 use pam_codes::{Action, Device, Out};
 use pam_dispatch::{Decision, Impression};
-use pam_json_lines::{Member, put_object};
+use pam_json_lines::{Member, put_line};
 use pam_report::{AskedModule, RunReply};
 use std::io::Write;
 
@@ -52,19 +52,17 @@ fn jump_of(action: Action) -> Option<u64>
 fn put_step<W: Write>(module: &AskedModule, out: &mut Out<W>) -> Result<(), Device>
     ensures { Writes W.contents out.old out.new result (step_json (asked_view module.now)) }
 {
-    put_object(
-        &[
-            Member::text("kind", b"step"),
-            Member::number("number", module.number as u64),
-            Member::readable("path", &module.path),
-            Member::text("code", name_of(module.code)),
-            Member::text("action", action_name(module.action)),
-            Member::number_if_any("jump", jump_of(module.action)),
-            Member::text("impression", impression_name(module.state.impression)),
-            Member::text("status", name_of(module.state.status)),
-        ],
-        out,
-    )
+    let members: [Member<'_, ()>; 8] = [
+        Member::text("kind", b"step"),
+        Member::number("number", module.number as u64),
+        Member::readable("path", &module.path),
+        Member::text("code", name_of(module.code)),
+        Member::text("action", action_name(module.action)),
+        Member::number_if_any("jump", jump_of(module.action)),
+        Member::text("impression", impression_name(module.state.impression)),
+        Member::text("status", name_of(module.state.status)),
+    ];
+    put_line(&members, out)
 }
 
 fn put_steps<W: Write>(asked: &[AskedModule], out: &mut Out<W>) -> Result<(), Device>
@@ -79,13 +77,11 @@ fn put_steps<W: Write>(asked: &[AskedModule], out: &mut Out<W>) -> Result<(), De
 fn put_decision<W: Write>(decision: Decision, out: &mut Out<W>) -> Result<(), Device>
     ensures { Writes W.contents out.old out.new result (line (decision_members decision)) }
 {
-    put_object(
-        &[
-            Member::text("kind", b"decision"),
-            Member::text("code", name_of(decision.code())),
-        ],
-        out,
-    )
+    let members: [Member<'_, ()>; 2] = [
+        Member::text("kind", b"decision"),
+        Member::text("code", name_of(decision.code())),
+    ];
+    put_line(&members, out)
 }
 
 pub(crate) fn write_run<W: Write>(run: &RunReply<'_>, out: &mut Out<W>) -> Result<(), Device>

@@ -7,7 +7,7 @@ ghost use Rattle.pam_json_lines.specs.Line.{line};
 
 use pam_codes::{Code, Device, Out};
 use pam_conf::Kind;
-use pam_json_lines::{Member, put_object};
+use pam_json_lines::{Member, put_line};
 use pam_report::kind_name;
 use std::io::Write;
 
@@ -27,13 +27,11 @@ pub(crate) fn put_stack<W: Write>(
 ) -> Result<(), Device>
     ensures { Writes W.contents out.old out.new result (line (stack_members service.now kind modules)) }
 {
-    put_object(
-        &[
-            Member::text("kind", b"stack"),
-            Member::lowercase("service", service.as_bytes()),
-            Member::text("type", kind_name(kind).as_bytes()),
-            Member::number("modules", modules as u64),
-        ],
-        out,
-    )
+    let members: [Member<'_, ()>; 4] = [
+        Member::text("kind", b"stack"),
+        Member::lowercase("service", service.as_bytes()),
+        Member::text("type", kind_name(kind).as_bytes()),
+        Member::number("modules", modules as u64),
+    ];
+    put_line(&members, out)
 }

@@ -3,7 +3,10 @@
 
 mod decide;
 mod header;
+mod outcomes;
 mod printing;
+mod show;
+mod steps;
 mod tables;
 
 pub use printing::print_if_any;

@@ -6,7 +6,7 @@ ghost use Rattle.pam_json.specs.Tables.{access_json, access_line, access_members
 ghost use Rattle.pam_json_lines.specs.Line.{line};
 
 use pam_codes::{Device, Out};
-use pam_json_lines::{Member, put_object};
+use pam_json_lines::{Member, put_line};
 use pam_tables::AccessAnswer;
 use pam_times::TimeAnswer;
 use std::io::Write;
@@ -33,14 +33,12 @@ fn access_line(answer: AccessAnswer) -> Option<u64>
 fn put_access<W: Write>(answer: AccessAnswer, out: &mut Out<W>) -> Result<(), Device>
     ensures { Writes W.contents out.old out.new result (line (access_members answer)) }
 {
-    put_object(
-        &[
-            Member::text("kind", b"access"),
-            Member::boolean("granted", is_granted(answer)),
-            Member::number_if_any("line", access_line(answer)),
-        ],
-        out,
-    )
+    let members: [Member<'_, ()>; 3] = [
+        Member::text("kind", b"access"),
+        Member::boolean("granted", is_granted(answer)),
+        Member::number_if_any("line", access_line(answer)),
+    ];
+    put_line(&members, out)
 }
 
 pub(crate) fn write_access<W: Write>(answer: AccessAnswer, out: &mut Out<W>) -> Result<(), Device>
@@ -72,14 +70,12 @@ fn denied_at(answer: TimeAnswer) -> Option<u64>
 fn put_time<W: Write>(answer: TimeAnswer, out: &mut Out<W>) -> Result<(), Device>
     ensures { Writes W.contents out.old out.new result (line (time_members answer)) }
 {
-    put_object(
-        &[
-            Member::text("kind", b"time"),
-            Member::boolean("granted", is_allowed(answer)),
-            Member::number_if_any("line", denied_at(answer)),
-        ],
-        out,
-    )
+    let members: [Member<'_, ()>; 3] = [
+        Member::text("kind", b"time"),
+        Member::boolean("granted", is_allowed(answer)),
+        Member::number_if_any("line", denied_at(answer)),
+    ];
+    put_line(&members, out)
 }
 
 pub(crate) fn write_time<W: Write>(answer: TimeAnswer, out: &mut Out<W>) -> Result<(), Device>

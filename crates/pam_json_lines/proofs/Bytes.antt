@@ -23,7 +23,7 @@ abbrev IsShownIfAny : ℕ → Type 0
 IsShownIfAny letter = nat_lt 0 letter ≡ true → IsShown letter
 
 own-shown : (x : ℕ) → ((x == 34) || (x == 92)) ≡ true → IsShownIfAny x
-own-shown x e h = ⊎_elim (or_cases (x == 34) (x == 92) e) (λ f. ap (nat_le 32) (eqb-true x 34 f)) (λ f. ap (nat_le 32) (eqb-true x 92 f))
+own-shown x e h = ⊎_elim (λ f. ap (nat_le 32) (eqb-true x 34 f)) (λ f. ap (nat_le 32) (eqb-true x 92 f)) (or_cases (x == 34) (x == 92) e)
 
 letter-shown : (x : ℕ) → IsShownIfAny (escape_letter x)
 letter-shown x =

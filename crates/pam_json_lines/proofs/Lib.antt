@@ -2,3 +2,5 @@ pub mod Bytes
 pub mod FlatTexts
 pub mod Lines
 pub mod Strings
+pub mod Arrays
+pub mod Plain

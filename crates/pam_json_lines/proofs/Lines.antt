@@ -9,25 +9,25 @@ use Rattle.pam_json_lines.specs.Values.{data_of, member_of, member_text}
 use Rattle.pam_json_lines.specs.declared.value.Member.{Member}
 
 -- the text of members, with the closing brace
-abbrev pub rest_text : {E : Type 0} → (E → List Data) → Bool → List (Member E) → List ℕ
-rest_text elements later members = members_text later (members_of (map (member_of elements) members))
+abbrev pub rest_text : {V : Type 0} → (V → Data) → Bool → List (Member V) → List ℕ
+rest_text value later members = members_text later (members_of (map (member_of value) members))
 
 -- one more member is written
-pub member-more : {E : Type 0} (elements : E → List Data) (front text : List ℕ) (later : Bool) (members : List (Member E)) (i : ℕ) (d m : Member E) → i < length members → m ≡ get_or members i d
-    → front ++ rest_text elements later (drop i members) ≡ text
-    → (front ++ (comma_if later ++ member_text elements m)) ++ rest_text elements true (drop (i + 1) members) ≡ text
-member-more elements front text later members i d m h is before =
-    let rest = rest_text elements true (drop (i + 1) members) in
+pub member-more : {V : Type 0} (value : V → Data) (front text : List ℕ) (later : Bool) (members : List (Member V)) (i : ℕ) (d m : Member V) → i < length members → m ≡ get_or members i d
+    → front ++ rest_text value later (drop i members) ≡ text
+    → (front ++ (comma_if later ++ member_text value m)) ++ rest_text value true (drop (i + 1) members) ≡ text
+member-more value front text later members i d m h is before =
+    let rest = rest_text value true (drop (i + 1) members) in
     let at = get_or members i d in
-    ap (λ x. (front ++ (comma_if later ++ member_text elements x)) ++ rest) is
-    ∙ append_assoc front (comma_if later ++ member_text elements at) rest
+    ap (λ x. (front ++ (comma_if later ++ member_text value x)) ++ rest) is
+    ∙ append_assoc front (comma_if later ++ member_text value at) rest
     ∙ ap (λ l. front ++ l)
-    (append_assoc (comma_if later) (member_text elements at) rest
-    ∙ ap (λ l. comma_if later ++ l) (append_assoc (quoted at.name.now) (58 ∷ compact_text (data_of elements at.value)) rest))
-    ∙ ap (λ l. front ++ l) (sym (at_drop_more (rest_text elements later) members i d h)) ∙ before
+    (append_assoc (comma_if later) (member_text value at) rest
+    ∙ ap (λ l. comma_if later ++ l) (append_assoc (quoted at.name.now) (58 ∷ compact_text (data_of value at.value)) rest))
+    ∙ ap (λ l. front ++ l) (sym (at_drop_more (rest_text value later) members i d h)) ∙ before
 
 -- no member is left
-pub members-all : {E : Type 0} (elements : E → List Data) (front text : List ℕ) (later : Bool) (members : List (Member E)) (i : ℕ) → length members ≤ i
-    → front ++ rest_text elements later (drop i members) ≡ text → front ++ 125 ∷ [] ≡ text
-members-all elements front text later members i h before =
-    ap (λ ms. front ++ rest_text elements later ms) (sym (drop_of_length-le members h)) ∙ before
+pub members-all : {V : Type 0} (value : V → Data) (front text : List ℕ) (later : Bool) (members : List (Member V)) (i : ℕ) → length members ≤ i
+    → front ++ rest_text value later (drop i members) ≡ text → front ++ 125 ∷ [] ≡ text
+members-all value front text later members i h before =
+    ap (λ ms. front ++ rest_text value later ms) (sym (drop_of_length-le members h)) ∙ before

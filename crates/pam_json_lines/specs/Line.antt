@@ -1,6 +1,7 @@
 -- A line of an answer: a JSON object (RFC 8259) with no space, and a line feed.
-use Rattle.std.specs.Prelude.{ℕ, List, [], ◌∷◌, ◌++◌, codes, None, Option, Some}
-use Rattle.serde_json.specs.Data.{Data, Items, Members, item, member, no_items, no_members, null, number, object, string, unsigned}
+use Rattle.std.specs.Prelude.{ℕ, List, [], ◌∷◌, ◌++◌, codes, map, None, Option, Some}
+use Rattle.std.specs.Str.Lossy.{utf8_lossy}
+use Rattle.serde_json.specs.Data.{Data, Items, Members, array, item, member, no_items, no_members, null, number, object, string, unsigned}
 use Rattle.serde_json.specs.Written.{compact_text}
 
 abbrev pub items_of : List Data → Items
@@ -23,3 +24,11 @@ kind name = (codes "kind", string name)
 abbrev pub number_or_null : Option ℕ → Data
 number_or_null None = null
 number_or_null (Some n) = number (unsigned n)
+
+-- bytes as a string, with U+FFFD for what is no UTF-8
+abbrev pub readable : List ℕ → Data
+readable bytes = string (utf8_lossy bytes)
+
+-- texts as an array of strings
+abbrev pub strings : List (List ℕ) → Data
+strings texts = array (items_of (map readable texts))

@@ -1,8 +1,11 @@
 //! JSON Lines: objects that are written a line each, member by member, with no memory but that of the writer.
 #![tactic(auto)]
 
+mod array;
 pub mod laws;
 mod text;
 mod value;
 
-pub use value::{Elements, Member, put_object};
+pub use array::{Elements, put_array, put_strings};
+pub use text::put_quoted;
+pub use value::{Member, Written, put_comma, put_line, put_object};

@@ -98,7 +98,7 @@ fn put_chunks<W: Write>(bytes: &[u8], out: &mut Out<W>) -> Result<(), Device>
 }
 
 /// Writes a text, which is UTF-8, as a string.
-pub(crate) fn put_quoted<W: Write>(text: &[u8], out: &mut Out<W>) -> Result<(), Device>
+pub fn put_quoted<W: Write>(text: &[u8], out: &mut Out<W>) -> Result<(), Device>
     ensures { Writes W.contents out.old out.new result (quoted text.now) }
 {
     out.put(b"\"")?;

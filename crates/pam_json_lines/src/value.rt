@@ -2,33 +2,43 @@
 
 ghost use Rattle.std.specs.Prelude.{◌≡◌, ◌++◌, false, map};
 ghost use Rattle.pam_text.specs.Out.{Writes};
-ghost use Rattle.serde_json.specs.Data.{array};
+ghost use Rattle.serde_json.specs.Data.{object};
 ghost use Rattle.serde_json.specs.Written.{comma_if, compact_text, members_text};
-ghost use Rattle.pam_json_lines.specs.Line.{items_of, line, members_of};
+ghost use Rattle.pam_json_lines.specs.Line.{line, members_of};
 ghost use Rattle.pam_json_lines.specs.Values.{data_of, member_of, member_text};
 
 use crate::text::{put_lowercase, put_quoted, put_readable};
 use pam_text::{Device, Out};
 use std::io::Write;
 
-/// The values of an array.
-pub trait Elements {
-    ghost use Rattle.std.specs.Prelude.{List, false};
+/// A value that is written part by part, as an array, or a text whose bytes stand nowhere together.
+pub trait Written {
     ghost use Rattle.serde_json.specs.Data.{Data};
-    ghost use Rattle.serde_json.specs.Written.{items_text};
+    ghost use Rattle.serde_json.specs.Written.{compact_text};
     ghost use Rattle.pam_text.specs.Out.{Writes};
-    ghost use Rattle.pam_json_lines.specs.Line.{items_of};
 
-    /// The values, in order.
-    ghost elements: { Self → List Data };
+    /// The value.
+    ghost value: { Self → Data };
 
-    /// Writes the values, with a comma between each two, and the closing bracket.
-    fn put_elements<W: Write>(&self, out: &mut Out<W>) -> Result<(), Device>
-        ensures { Writes W.contents out.old out.new result (items_text false (items_of (elements self.now))) };
+    /// Writes the value.
+    fn put<W: Write>(&self, out: &mut Out<W>) -> Result<(), Device>
+        ensures { Writes W.contents out.old out.new result (compact_text (value self.now)) };
+}
+
+/// `null`. It stands for the values of objects that have none of their own.
+impl Written for () {
+    ghost use Rattle.serde_json.specs.Data.{null};
+
+    ghost value = { λ _. null };
+
+    fn put<W: Write>(&self, out: &mut Out<W>) -> Result<(), Device> {
+        out.put(b"null")
+    }
 }
 
 /// A value of a member.
-enum Value<'x, E> {
+#[derive(Clone, Copy)]
+enum Value<'x, V> {
     Null,
     Boolean(bool),
     Number(u64),
@@ -38,24 +48,25 @@ enum Value<'x, E> {
     Readable(&'x [u8]),
     /// UTF-8, in lowercase.
     Lowercase(&'x [u8]),
-    Array(&'x E),
+    Written(V),
 }
 
-/// A member of an object, of which some may be arrays of these elements.
-pub struct Member<'x, E> {
+/// A member of an object, whose value may be one that is written part by part.
+#[derive(Clone, Copy)]
+pub struct Member<'x, V> {
     name: &'x str,
-    value: Value<'x, E>,
+    value: Value<'x, V>,
 }
 
-impl<'x, E: Elements> Member<'x, E> {
-    ghost use Rattle.serde_json.specs.Data.{array as json_array, boolean as json_boolean, number as json_number, string, unsigned};
+impl<'x, V: Written> Member<'x, V> {
+    ghost use Rattle.serde_json.specs.Data.{boolean as json_boolean, number as json_number, string, unsigned};
     ghost use Rattle.std.specs.Char.{to_ascii_lowercase};
     ghost use Rattle.std.specs.Str.Lossy.{utf8_lossy};
-    ghost use Rattle.pam_json_lines.specs.Line.{items_of, number_or_null};
+    ghost use Rattle.pam_json_lines.specs.Line.{number_or_null};
 
     /// A string. The text is UTF-8.
-    pub fn text(name: &'x str, text: &'x [u8]) -> Member<'x, E>
-        ensures { member_of E.elements result ≡ (name.now, string text.now) }
+    pub fn text(name: &'x str, text: &'x [u8]) -> Member<'x, V>
+        ensures { member_of V.value result ≡ (name.now, string text.now) }
     {
         Member {
             name,
@@ -64,8 +75,8 @@ impl<'x, E: Elements> Member<'x, E> {
     }
 
     /// A string, with U+FFFD for what is no UTF-8 in the bytes.
-    pub fn readable(name: &'x str, bytes: &'x [u8]) -> Member<'x, E>
-        ensures { member_of E.elements result ≡ (name.now, string (utf8_lossy bytes.now)) }
+    pub fn readable(name: &'x str, bytes: &'x [u8]) -> Member<'x, V>
+        ensures { member_of V.value result ≡ (name.now, string (utf8_lossy bytes.now)) }
     {
         Member {
             name,
@@ -74,8 +85,8 @@ impl<'x, E: Elements> Member<'x, E> {
     }
 
     /// A string in lowercase. The text is UTF-8.
-    pub fn lowercase(name: &'x str, text: &'x [u8]) -> Member<'x, E>
-        ensures { member_of E.elements result ≡ (name.now, string (map to_ascii_lowercase text.now)) }
+    pub fn lowercase(name: &'x str, text: &'x [u8]) -> Member<'x, V>
+        ensures { member_of V.value result ≡ (name.now, string (map to_ascii_lowercase text.now)) }
     {
         Member {
             name,
@@ -83,17 +94,18 @@ impl<'x, E: Elements> Member<'x, E> {
         }
     }
 
-    pub fn array(name: &'x str, elements: &'x E) -> Member<'x, E>
-        ensures { member_of E.elements result ≡ (name.now, json_array (items_of (E.elements elements.now))) }
+    /// A value that is written part by part.
+    pub fn written(name: &'x str, value: V) -> Member<'x, V>
+        ensures { member_of V.value result ≡ (name.now, V.value value) }
     {
         Member {
             name,
-            value: Value::Array(elements),
+            value: Value::Written(value),
         }
     }
 
-    pub fn boolean(name: &'x str, value: bool) -> Member<'x, E>
-        ensures { member_of E.elements result ≡ (name.now, json_boolean value) }
+    pub fn boolean(name: &'x str, value: bool) -> Member<'x, V>
+        ensures { member_of V.value result ≡ (name.now, json_boolean value) }
     {
         Member {
             name,
@@ -101,8 +113,8 @@ impl<'x, E: Elements> Member<'x, E> {
         }
     }
 
-    pub fn number(name: &'x str, number: u64) -> Member<'x, E>
-        ensures { member_of E.elements result ≡ (name.now, json_number (unsigned number)) }
+    pub fn number(name: &'x str, number: u64) -> Member<'x, V>
+        ensures { member_of V.value result ≡ (name.now, json_number (unsigned number)) }
     {
         Member {
             name,
@@ -111,8 +123,8 @@ impl<'x, E: Elements> Member<'x, E> {
     }
 
     /// A number, or `null`.
-    pub fn number_if_any(name: &'x str, number: Option<u64>) -> Member<'x, E>
-        ensures { member_of E.elements result ≡ (name.now, number_or_null number) }
+    pub fn number_if_any(name: &'x str, number: Option<u64>) -> Member<'x, V>
+        ensures { member_of V.value result ≡ (name.now, number_or_null number) }
     {
         let value = match number {
             Some(number) => Value::Number(number),
@@ -122,15 +134,8 @@ impl<'x, E: Elements> Member<'x, E> {
     }
 }
 
-fn put_array<E: Elements, W: Write>(elements: &E, out: &mut Out<W>) -> Result<(), Device>
-    ensures { Writes W.contents out.old out.new result (compact_text (array (items_of (E.elements elements.now)))) }
-{
-    out.put(b"[")?;
-    elements.put_elements(out)
-}
-
-fn put_value<E: Elements, W: Write>(value: &Value<'_, E>, out: &mut Out<W>) -> Result<(), Device>
-    ensures { Writes W.contents out.old out.new result (compact_text (data_of E.elements value.now)) }
+fn put_value<V: Written, W: Write>(value: &Value<'_, V>, out: &mut Out<W>) -> Result<(), Device>
+    ensures { Writes W.contents out.old out.new result (compact_text (data_of V.value value.now)) }
 {
     match value {
         Value::Null => out.put(b"null"),
@@ -140,21 +145,21 @@ fn put_value<E: Elements, W: Write>(value: &Value<'_, E>, out: &mut Out<W>) -> R
         Value::Text(text) => put_quoted(text, out),
         Value::Readable(bytes) => put_readable(bytes, out),
         Value::Lowercase(text) => put_lowercase(text, out),
-        Value::Array(elements) => put_array(*elements, out),
+        Value::Written(value) => value.put(out),
     }
 }
 
 /// Writes `"NAME":VALUE`.
-fn put_member<E: Elements, W: Write>(member: &Member<'_, E>, out: &mut Out<W>) -> Result<(), Device>
-    ensures { Writes W.contents out.old out.new result (member_text E.elements member.now) }
+fn put_member<V: Written, W: Write>(member: &Member<'_, V>, out: &mut Out<W>) -> Result<(), Device>
+    ensures { Writes W.contents out.old out.new result (member_text V.value member.now) }
 {
     put_quoted(member.name.as_bytes(), out)?;
     out.put(b":")?;
     put_value(&member.value, out)
 }
 
-/// Writes the comma before each member but the first.
-fn put_comma<W: Write>(later: bool, out: &mut Out<W>) -> Result<(), Device>
+/// Writes the comma before each member or element but the first.
+pub fn put_comma<W: Write>(later: bool, out: &mut Out<W>) -> Result<(), Device>
     ensures { Writes W.contents out.old out.new result (comma_if later) }
 {
     if later {
@@ -164,23 +169,23 @@ fn put_comma<W: Write>(later: bool, out: &mut Out<W>) -> Result<(), Device>
 }
 
 /// Writes a member, with a comma before it unless it is the first.
-fn put_next<E: Elements, W: Write>(
+fn put_next<V: Written, W: Write>(
     later: bool,
-    member: &Member<'_, E>,
+    member: &Member<'_, V>,
     out: &mut Out<W>,
 ) -> Result<(), Device>
-    ensures { Writes W.contents out.old out.new result (comma_if later ++ member_text E.elements member.now) }
+    ensures { Writes W.contents out.old out.new result (comma_if later ++ member_text V.value member.now) }
 {
     put_comma(later, out)?;
     put_member(member, out)
 }
 
 /// Writes the members of an object after its opening brace, and the closing one.
-fn put_members<E: Elements, W: Write>(
-    members: &[Member<'_, E>],
+fn put_members<V: Written, W: Write>(
+    members: &[Member<'_, V>],
     out: &mut Out<W>,
 ) -> Result<(), Device>
-    ensures { Writes W.contents out.old out.new result (members_text false (members_of (map (member_of E.elements) members.now))) }
+    ensures { Writes W.contents out.old out.new result (members_text false (members_of (map (member_of V.value) members.now))) }
 {
     let mut later = false;
     for member in members {
@@ -190,14 +195,24 @@ fn put_members<E: Elements, W: Write>(
     out.put(b"}")
 }
 
-/// Writes an object, and a line feed.
-pub fn put_object<E: Elements, W: Write>(
-    members: &[Member<'_, E>],
+/// Writes an object.
+pub fn put_object<V: Written, W: Write>(
+    members: &[Member<'_, V>],
     out: &mut Out<W>,
 ) -> Result<(), Device>
-    ensures { Writes W.contents out.old out.new result (line (map (member_of E.elements) members.now)) }
+    ensures { Writes W.contents out.old out.new result (compact_text (object (members_of (map (member_of V.value) members.now)))) }
 {
     out.put(b"{")?;
-    put_members(members, out)?;
+    put_members(members, out)
+}
+
+/// Writes an object, and a line feed.
+pub fn put_line<V: Written, W: Write>(
+    members: &[Member<'_, V>],
+    out: &mut Out<W>,
+) -> Result<(), Device>
+    ensures { Writes W.contents out.old out.new result (line (map (member_of V.value) members.now)) }
+{
+    put_object(members, out)?;
     out.put(b"\n")
 }

@@ -13,8 +13,9 @@ use Rattle.pam_report.specs.Decide.{path_at}
 use Rattle.pam_report.specs.Reply.{Outcome}
 use Rattle.pam_report.specs.ReplyViews.{outcome_view}
 use Rattle.pam_report.specs.declared.report.outcomes.Outcome as declared
+use Rattle.pam_parts.specs.Ways.{count_text}
 use Rattle.pam_print.specs.Header.{code_name, header_text}
-use Rattle.pam_print.specs.Outcomes.{count_text, named_step, named_steps, next_step, outcome_line, total_line}
+use Rattle.pam_print.specs.Outcomes.{named_step, named_steps, next_step, outcome_line, total_line}
 use Rattle.pam_print.specs.WordText.{word_text}
 
 pub named_step-is : (items : Items) (step : StepValue) (number : ℕ) (path name class : List ℕ) → number ≡ step.module_number → path ≡ path_at number items

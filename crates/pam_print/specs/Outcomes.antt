@@ -1,20 +1,16 @@
 -- The text of `outcomes`: a line for each decision, with the first path that ends in it, and a last line.
-use Rattle.std.specs.Prelude.{ℕ, List, [], ◌∷◌, ◌++◌, codes, decimal, Option, None, Some}
+use Rattle.std.specs.Prelude.{ℕ, List, [], ◌∷◌, ◌++◌, codes, Option}
 use Rattle.std.specs.List.{flat_map}
 use Rattle.pam_codes.specs.SetText.{set_text}
 use Rattle.pam_conf.specs.Stack.{Items, module_count}
 use Rattle.pam_known.specs.Answers.{name_of_path}
+use Rattle.pam_parts.specs.Ways.{count_text}
 use Rattle.pam_paths.specs.CursorText.{cursor_text}
 use Rattle.pam_paths.specs.Paths.{StepValue, key}
 use Rattle.pam_report.specs.Decide.{path_at}
 use Rattle.pam_report.specs.Reply.{Outcome, OutcomesValue}
 use Rattle.pam_print.specs.Header.{code_name, header_text}
 use Rattle.pam_print.specs.WordText.{word_text}
-
--- a number; 2^128 with a plus for one that is not below it
-abbrev pub count_text : Option ℕ → List ℕ
-count_text (Some count) = decimal count
-count_text None = codes "340282366920938463463374607431768211456+"
 
 -- `NAME CLASS`: the name of the module's file, and the class of its answer
 unfoldable pub named_step : Items → StepValue → List ℕ

@@ -5,7 +5,8 @@ ghost use Rattle.std.specs.List.{flat_map};
 ghost use Rattle.pam_codes.specs.Out.{Writes, WritesAndFlushes};
 ghost use Rattle.pam_paths.specs.Steps.{step_seen};
 ghost use Rattle.pam_report.specs.ReplyViews.{outcome_view, outcomes_view};
-ghost use Rattle.pam_print.specs.Outcomes.{count_text, named_step, named_steps, next_step};
+ghost use Rattle.pam_parts.specs.Ways.{count_text};
+ghost use Rattle.pam_print.specs.Outcomes.{named_step, named_steps, next_step};
 ghost use Rattle.pam_print.specs.Outcomes.{outcome_line, outcomes_text, total_line};
 
 use crate::decide::name_of;

@@ -47,7 +47,7 @@ pub fn print<W: Write>(
 fn print_json<W: Write>(alloc: Global, reply: &Reply<'_>, out: &mut Out<W>) -> Result<(), Fault>
     ensures { PrintsBy W.contents (IsTextIn Json) out.old out.new result (reply_view reply.now) }
 {
-    match print_if_any(reply, out) {
+    match print_if_any(alloc, reply, out) {
         Some(written) => told(written),
         None => print_text(alloc, reply, out),
     }

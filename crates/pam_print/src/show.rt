@@ -5,7 +5,6 @@ ghost use Rattle.pam_codes.specs.Out.{Writes, WritesAndFlushes};
 ghost use Rattle.pam_conf.specs.ItemsOf.{items_of, module_text};
 ghost use Rattle.pam_conf.specs.Stack.{depth};
 ghost use Rattle.pam_report.specs.ReplyViews.{stack_view};
-ghost use Rattle.pam_print.specs.Header.{name_at};
 ghost use Rattle.pam_print.specs.Show.{dash_text, indent, items_text, module_front, module_line, place_text, stack_text, sub_line, words_text};
 ghost use Rattle.pam_print.specs.WordText.{word_text};
 
@@ -13,21 +12,11 @@ use crate::header::put_header;
 use crate::word::put_word;
 use pam_codes::{Device, Out, Piece};
 use pam_conf::{Files, Form, Item, Module, Sub};
+use pam_parts::name_at;
 use pam_report::StackReply;
 use pam_text::Texts;
 use std::alloc::Global;
 use std::io::Write;
-
-/// Returns the name of the file at a position.
-#[tactic(auto, unfolding(crate::specs::Header::name_at))]
-fn name_at(files: &Files, position: usize) -> &[u8]
-    ensures { result.now ≡ name_at files.now position }
-{
-    match files.name(position) {
-        Some(name) => name,
-        None => b"",
-    }
-}
 
 /// Writes two spaces per level.
 fn put_indent<W: Write>(level: usize, out: &mut Out<W>) -> Result<(), Device>

@@ -105,7 +105,7 @@ stack_app name = with_source (with_rule (service_app name) (required_rule (codes
 
 -- `show SERVICE KIND`
 unfoldable pub show_app : App
-show_app = stack_app (codes "show")
+show_app = with_json (stack_app (codes "show"))
 
 -- `decide SERVICE KIND [CODE]...`
 unfoldable pub decide_app : App
@@ -139,7 +139,7 @@ paths_app = with_knowledge (with_filter (with_page (stack_app (codes "paths"))))
 
 -- `outcomes SERVICE KIND`
 unfoldable pub outcomes_app : App
-outcomes_app = with_knowledge (stack_app (codes "outcomes"))
+outcomes_app = with_knowledge (with_json (stack_app (codes "outcomes")))
 
 -- `graph SERVICE KIND`
 unfoldable pub graph_app : App

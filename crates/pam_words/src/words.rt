@@ -79,7 +79,7 @@ static STACKS: [CommandRow; 2] = [
     CommandRow {
         name: "show",
         about: "Shows the modules of a stack",
-        args: &[SERVICE, KIND, DIR, VENDOR_DIR, CONF, ROOT, WITH],
+        args: &[SERVICE, KIND, DIR, VENDOR_DIR, CONF, ROOT, WITH, JSON],
     },
     CommandRow {
         name: "decide",
@@ -106,8 +106,8 @@ static GRAPHS: [CommandRow; 2] = [
         name: "outcomes",
         about: "Counts the paths through a stack by their decisions",
         args: &[
-            SERVICE, KIND, DIR, VENDOR_DIR, CONF, ROOT, WITH, MODULES, USER, RHOST, TTY, ACCESS,
-            TIME, GROUP, RETURNS, AT, AT_UNIX, ZONE,
+            SERVICE, KIND, DIR, VENDOR_DIR, CONF, ROOT, WITH, JSON, MODULES, USER, RHOST, TTY,
+            ACCESS, TIME, GROUP, RETURNS, AT, AT_UNIX, ZONE,
         ],
     },
     CommandRow {

@@ -12,15 +12,15 @@ returns-in_err-put_next g c =
     let index = c.loop-member.member-index in
     let l = c.loop-member.invariant in
     err-front _ c.from_residual.ensures.0
-    (front-is (front-longer (rest_text g.E.Elements.elements true (drop (index + 1) members)) (front-then l.took c.in_err-put_next.ensures))
-    (member-more g.E.Elements.elements l.front _ c.loop-member.later members index _ _ c.loop-member-test.true refl l.parts))
+    (front-is (front-longer (rest_text g.V.Written.value true (drop (index + 1) members)) (front-then l.took c.in_err-put_next.ensures))
+    (member-more g.V.Written.value l.front _ c.loop-member.later members index _ c.member-item.result c.loop-member-test.true c.member-item.is l.parts))
 
 pub loop-member-preserved : goal.loop-member-preserved
 loop-member-preserved g c =
     let l = c.loop-member.invariant in
     record {
       front = _;
-      parts = member-more g.E.Elements.elements l.front _ c.loop-member.later c.args.members.now c.loop-member.member-index _ _ c.loop-member-test.true refl l.parts;
+      parts = member-more g.V.Written.value l.front _ c.loop-member.later c.args.members.now c.loop-member.member-index _ c.member-item.result c.loop-member-test.true c.member-item.is l.parts;
       took = all-then l.took c.in_ok-put_next.ensures;
     }
 
@@ -28,4 +28,4 @@ pub returns : goal.returns
 returns g c =
     let l = c.loop-member.invariant in
     writes-is _ _ _ _ _ _ (writes-then _ _ _ l.took c.put.ensures)
-    (members-all g.E.Elements.elements l.front _ c.loop-member.later c.args.members.now c.loop-member.member-index c.loop-member-test.false l.parts)
+    (members-all g.V.Written.value l.front _ c.loop-member.later c.args.members.now c.loop-member.member-index c.loop-member-test.false l.parts)

@@ -7,6 +7,6 @@ use Rattle.pam_json_lines.proofs.value.put_members.Given as goal
 abbrev pub invariant-loop-member : goal.invariant-loop-member
 invariant-loop-member g l = record {
   front : List ℕ;
-  parts : front ++ rest_text g.E.Elements.elements l.later (drop l.member-index l.members) ≡ rest_text g.E.Elements.elements false l.members;
+  parts : front ++ rest_text g.V.Written.value l.later (drop l.member-index l.members) ≡ rest_text g.V.Written.value false l.members;
   took : TookAll g.W.Write.contents l.initial.out l.out front;
 }

@@ -1,6 +1,7 @@
 use Rattle.pam_codes.proofs.Writing.{all-then, err-front, front-longer, front-then, writes-then}
 use Rattle.std.proofs.Common.{codes}
-use Rattle.pam_print.specs.Outcomes.{count_text, total_line}
+use Rattle.pam_parts.specs.Ways.{count_text}
+use Rattle.pam_print.specs.Outcomes.{total_line}
 use Rattle.pam_print.proofs.outcomes.put_total.Goals as goal
 
 pub returns-in_err-put : goal.returns-in_err-put

@@ -1,0 +1,39 @@
+-- The JSON of `show`: the stack of a service, rule by rule, in the order of pam.conf(5).
+use Rattle.std.specs.Prelude.{ℕ, ◌+◌, List, ◌∷◌, [], ◌++◌, codes}
+use Rattle.pam_codes.specs.ControlText.{control_text}
+use Rattle.pam_conf.specs.Files.{Folder}
+use Rattle.pam_conf.specs.Stack.{Items, End, ThenModule, ThenSub, ModuleText, SubText, module_count}
+use Rattle.pam_json_lines.specs.Line.{kind, line, readable, strings}
+use Rattle.pam_parts.specs.Files.{name_at}
+use Rattle.pam_report.specs.Reply.{StackValue}
+use Rattle.serde_json.specs.Data.{Data, boolean, number, string, unsigned}
+use Rattle.pam_json.specs.Header.{stack_members}
+
+-- a rule with a module, so many substacks deep
+abbrev pub module_members : Folder → ℕ → ModuleText → List (List ℕ × Data)
+module_members files depth m =
+    kind (codes "module") ∷ (codes "depth", number (unsigned depth)) ∷ (codes "number", number (unsigned m.number))
+    ∷ (codes "file", readable (name_at files m.file)) ∷ (codes "line", number (unsigned m.line)) ∷ (codes "dashed", boolean m.dashed)
+    ∷ (codes "control", string (control_text m.control)) ∷ (codes "path", readable m.path) ∷ (codes "arguments", strings m.arguments) ∷ []
+
+unfoldable pub module_json : Folder → ℕ → ModuleText → List ℕ
+module_json files depth m = line (module_members files depth m)
+
+-- the rule of a substack, and the file that it reads
+abbrev pub sub_members : Folder → ℕ → SubText → List (List ℕ × Data)
+sub_members files depth s =
+    kind (codes "substack") ∷ (codes "depth", number (unsigned depth)) ∷ (codes "file", readable (name_at files s.file))
+    ∷ (codes "line", number (unsigned s.line)) ∷ (codes "target", readable (name_at files s.target)) ∷ []
+
+unfoldable pub sub_json : Folder → ℕ → SubText → List ℕ
+sub_json files depth s = line (sub_members files depth s)
+
+-- the lines of a list. The items of a substack are one substack deeper
+unfoldable pub items_json : Folder → ℕ → Items → List ℕ
+items_json files depth End = []
+items_json files depth (ThenModule m rest) = module_json files depth m ++ items_json files depth rest
+items_json files depth (ThenSub s inner rest) = sub_json files depth s ++ items_json files (depth + 1) inner ++ items_json files depth rest
+
+-- THE JSON of `show`
+abbrev pub stack_json : StackValue → List ℕ
+stack_json stack = line (stack_members stack.service stack.kind (module_count stack.items)) ++ items_json stack.files 0 stack.items

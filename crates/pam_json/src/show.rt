@@ -1,0 +1,134 @@
+//! The JSON of `show`: the stack, rule by rule.
+
+ghost use Rattle.std.specs.Prelude.{◌≡◌, ◌+◌, ◌≤◌};
+ghost use Rattle.json.specs.Print.{quoted};
+ghost use Rattle.pam_codes.specs.ControlText.{control_text};
+ghost use Rattle.pam_codes.specs.Out.{Writes, WritesAndFlushes};
+ghost use Rattle.pam_conf.specs.ItemsOf.{items_of, module_text};
+ghost use Rattle.pam_conf.specs.Stack.{depth};
+ghost use Rattle.pam_report.specs.ReplyViews.{stack_view};
+ghost use Rattle.pam_json.specs.Show.{items_json, module_json, stack_json, sub_json};
+
+use crate::header::put_stack;
+use pam_codes::{Control, Device, Out};
+use pam_conf::{Files, Form, Item, Module, Sub};
+use pam_json_lines::{Member, Written, put_line, put_strings};
+use pam_parts::name_at;
+use pam_report::StackReply;
+use pam_text::Texts;
+use std::alloc::Global;
+use std::io::Write;
+
+/// Writes a control as a string. It has no byte to be escaped.
+fn put_control<W: Write>(control: &Control, out: &mut Out<W>) -> Result<(), Device>
+    ensures { Writes W.contents out.old out.new result (quoted (control_text control.now)) }
+{
+    out.put(b"\"")?;
+    control.write_text(out)?;
+    out.put(b"\"")
+}
+
+/// A value in the line of a module.
+#[derive(Clone, Copy)]
+enum ModuleValue<'x> {
+    Control(&'x Control),
+    Arguments(&'x Texts),
+}
+
+impl Written for ModuleValue<'_> {
+    ghost use Rattle.pam_json.specs.Written.{module_value};
+
+    ghost value = { module_value };
+
+    fn put<W: Write>(&self, out: &mut Out<W>) -> Result<(), Device> {
+        match self {
+            ModuleValue::Control(control) => put_control(*control, out),
+            ModuleValue::Arguments(arguments) => put_strings(*arguments, out),
+        }
+    }
+}
+
+/// Writes the line of a module.
+#[tactic(auto, unfolding(crate::specs::Show::module_json))]
+fn put_module<'x, W: Write>(
+    files: &'x Files,
+    depth: usize,
+    module: &'x Module,
+    out: &mut Out<W>,
+) -> Result<(), Device>
+    ensures { Writes W.contents out.old out.new result (module_json files.now depth (module_text «module».now)) }
+{
+    put_line(
+        &[
+            Member::text("kind", b"module"),
+            Member::number("depth", depth as u64),
+            Member::number("number", module.number as u64),
+            Member::readable("file", name_at(files, module.file)),
+            Member::number("line", module.line as u64),
+            Member::boolean("dashed", module.dashed),
+            Member::written("control", ModuleValue::Control(&module.control)),
+            Member::readable("path", &module.path),
+            Member::written("arguments", ModuleValue::Arguments(&module.arguments)),
+        ],
+        out,
+    )
+}
+
+/// Writes the line of a substack.
+#[tactic(auto, unfolding(crate::specs::Show::sub_json))]
+fn put_sub<W: Write>(files: &Files, depth: usize, sub: &Sub, out: &mut Out<W>) -> Result<(), Device>
+    ensures { Writes W.contents out.old out.new result (sub_json files.now depth sub.now.text) }
+{
+    let members: [Member<'_, ()>; 5] = [
+        Member::text("kind", b"substack"),
+        Member::number("depth", depth as u64),
+        Member::readable("file", name_at(files, sub.file)),
+        Member::number("line", sub.line as u64),
+        Member::readable("target", name_at(files, sub.target)),
+    ];
+    put_line(&members, out)
+}
+
+/// Writes the items of a list. Those of a substack are one substack deeper.
+fn put_items<W: Write>(
+    files: &Files,
+    level: usize,
+    items: &[Item],
+    out: &mut Out<W>,
+) -> Result<(), Device>
+    requires shallow { level + depth (items_of items.now) ≤ 16 }
+    ensures { Writes W.contents out.old out.new result (items_json files.now level (items_of items.now)) }
+{
+    for item in items {
+        match item {
+            Item::Module(module) => put_module(files, level, module, out)?,
+            Item::Sub(sub) => {
+                put_sub(files, level, sub, out)?;
+                put_items(files, level + 1, &sub.items, out)?;
+            }
+        }
+    }
+    Ok(())
+}
+
+fn write_in<W: Write>(reply: &StackReply<'_>, files: &Files, out: &mut Out<W>) -> Result<(), Device>
+    requires { (stack_view reply.now).files ≡ files.now }
+    ensures { WritesAndFlushes W.contents out.old out.new result (stack_json (stack_view reply.now)) }
+{
+    put_stack(reply.service, reply.kind, reply.stack.modules(), out)?;
+    put_items(files, 0, reply.stack.items(), out)?;
+    out.finish()
+}
+
+pub(crate) fn write_stack<W: Write>(
+    alloc: Global,
+    reply: &StackReply<'_>,
+    out: &mut Out<W>,
+) -> Result<(), Device>
+    ensures { WritesAndFlushes W.contents out.old out.new result (stack_json (stack_view reply.now)) }
+{
+    match reply.files {
+        Some(files) => write_in(reply, files, out),
+        None => write_in(reply, &Files::new(alloc, Form::Dir), out),
+    }
+}
