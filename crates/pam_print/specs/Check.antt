@@ -148,11 +148,14 @@ finding_line names entry word =
 
 -- the word that is wrong at a position, if there is one
 abbrev pub word_at : List (Option MisspelledText) → ℕ → Option MisspelledText
-word_at words position = slice_index_or words position None
+word_at words position = unwrap_or (slice_get words position) None
+
+abbrev pub numbered_line : Names → List (Option MisspelledText) → ℕ × (Place × Finding) → List ℕ
+numbered_line names words entry = finding_line names entry.1 (word_at words entry.0)
 
 -- a line for each finding, each with the word at its position
 abbrev pub findings_text : Names → List (Option MisspelledText) → List (Place × Finding) → List ℕ
-findings_text names words found = flat_map (λ e. finding_line names e.1 (word_at words e.0)) (enumerate_from 0 found)
+findings_text names words found = flat_map (numbered_line names words) (enumerate_from 0 found)
 
 -- A LINE FOR A PROBLEM OF A TABLE: `PATH:LINE: LEVEL: NUMBER NAME: SENTENCE`
 abbrev pub table_place : TablePathsText → TableFinding → List ℕ

@@ -10,7 +10,7 @@ ghost use Rattle.pam_report.specs.ReplyViews.{check_view};
 ghost use Rattle.pam_report.specs.TablePaths.{table_paths_view};
 ghost use Rattle.pam_print.specs.Check.{at_most, check_text, counted, counts_of, findings_text, is_level, last_line, levels_text, lines_text};
 ghost use Rattle.pam_print.specs.Check.{names_of_value, number_at, table_line, table_number_at, unused_line, word_at};
-ghost use Rattle.pam_print.specs.CheckNames.{names_view};
+ghost use Rattle.pam_print.specs.CheckNames.{names_view, word_of};
 ghost use Rattle.pam_print.specs.Leaves.{Prints};
 
 mod finding;
@@ -146,13 +146,22 @@ fn put_last_line<W: Write>(services: usize, counts: Counts, out: &mut Out<W>) ->
     out.put(b"\n")
 }
 
-/// The word that is wrong at a position, if there is one.
+fn lent(word: &Option<Misspelled>) -> Option<&Misspelled>
+    ensures { word_of result ≡ option_map misspelled_view word.now }
+{
+    match word {
+        Some(word) => Some(word),
+        None => None,
+    }
+}
+
+/// Returns the word that is wrong at a position, if there is one.
 fn word_at(words: &[Option<Misspelled>], position: usize) -> Option<&Misspelled>
-    ensures { option_map (λ m. misspelled_view m.now) result ≡ word_at (map (option_map misspelled_view) words.now) position }
+    ensures { word_of result ≡ word_at (map (option_map misspelled_view) words.now) position }
 {
     match words.get(position) {
-        Some(Some(word)) => Some(word),
-        _ => None,
+        Some(word) => lent(word),
+        None => None,
     }
 }
 

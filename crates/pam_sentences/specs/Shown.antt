@@ -23,5 +23,5 @@ abbrev pub shown_word : List ℕ → List ℕ
 shown_word word = if nat_lt MAX_SHOWN (length word) then shown_name (take MAX_SHOWN word) ++ codes ".." else shown_name word
 
 -- `"WORD"`
-abbrev pub quoted : List ℕ → List ℕ
+unfoldable pub quoted : List ℕ → List ℕ
 quoted word = codes "\"" ++ shown_word word ++ codes "\""

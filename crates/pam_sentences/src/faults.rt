@@ -84,6 +84,12 @@ fn plain_sentence(line: usize, fault: FaultKind) -> &'static str
     }
 }
 
+fn put_plain<W: Write>(line: usize, fault: FaultKind, out: &mut Out<W>) -> Result<(), Device>
+    ensures { Writes W.contents out.old out.new result (spec.plain_sentence line fault) }
+{
+    out.put(plain_sentence(line, fault).as_bytes())
+}
+
 /// What stands before and after the word that is wrong, and what to write where no right word is near.
 #[derive(Clone, Copy)]
 struct Naming {
@@ -149,12 +155,20 @@ fn put_mending<W: Write>(
     ensures { Writes W.contents out.old out.new result (spec.mending_text (option_map (λ w. w.now) nearest.entry) mending.now) }
 {
     let Some(right) = nearest else {
-        out.put(b"; ")?;
-        return out.put(mending.as_bytes());
+        return out.put_line(&[Piece::Bytes(b"; "), Piece::Bytes(mending.as_bytes())]);
     };
     out.put(b"; did you mean ")?;
     put_quoted(right, out)?;
     out.put(b"?")
+}
+
+fn nearest_of(misspelled: &Misspelled) -> Option<&[u8]>
+    ensures { option_map (λ w. w.now) result ≡ (misspelled_view misspelled.now).nearest }
+{
+    match &misspelled.nearest {
+        Some(right) => Some(right),
+        None => None,
+    }
 }
 
 /// Writes what is wrong with a word.
@@ -163,12 +177,12 @@ fn put_naming<W: Write>(
     misspelled: &Misspelled,
     out: &mut Out<W>,
 ) -> Result<(), Device>
-    ensures { Writes W.contents out.old out.new result (spec.naming_text (misspelled_view misspelled.now) (naming_view naming.entry)) }
+    ensures { Writes W.contents out.old out.new result (spec.naming_text (misspelled_view misspelled.now) (naming_view naming)) }
 {
     out.put(naming.before.as_bytes())?;
     put_quoted(&misspelled.word, out)?;
     out.put(naming.after.as_bytes())?;
-    put_mending(misspelled.nearest.as_deref(), naming.mending, out)
+    put_mending(nearest_of(misspelled), naming.mending, out)
 }
 
 /// Writes what is wrong at this line, and how to mend it, with the word that is wrong if it is known.
@@ -180,8 +194,11 @@ pub(crate) fn put_fault<W: Write>(
 ) -> Result<(), Device>
     ensures { Writes W.contents out.old out.new result (spec.fault_text line fault (option_map (λ m. misspelled_view m.now) misspelled.entry)) }
 {
-    match (misspelled, naming_of(fault)) {
-        (Some(misspelled), Some(naming)) => put_naming(naming, misspelled, out),
-        _ => out.put(plain_sentence(line, fault).as_bytes()),
+    let Some(misspelled) = misspelled else {
+        return put_plain(line, fault, out);
+    };
+    match naming_of(fault) {
+        Some(naming) => put_naming(naming, misspelled, out),
+        None => put_plain(line, fault, out),
     }
 }

@@ -2,13 +2,11 @@
 
 ghost use Rattle.std.specs.Prelude.{◌≡◌, map};
 ghost use Rattle.std.specs.List.{flat_map};
-ghost use Rattle.std.specs.Option.{option_map};
 ghost use Rattle.pam_codes.specs.Out.{Writes};
-ghost use Rattle.pam_misspelled.specs.MisspelledView.{misspelled_view};
 ghost use Rattle.pam_print.specs.Check.{answer_text, answers_text, finding_line, kind_of_service, line_text, next_answer};
 ghost use Rattle.pam_print.specs.Check.{met_unless, of_service, path_of, place_text, rest_text, sentence, subject_text, text_at};
 ghost use Rattle.pam_print.specs.Check.{way_in_at, way_text};
-ghost use Rattle.pam_print.specs.CheckNames.{names_view};
+ghost use Rattle.pam_print.specs.CheckNames.{names_view, word_of};
 
 use super::met::put_met_if_any;
 use crate::decide::name_of;
@@ -218,7 +216,7 @@ fn put_sentence<W: Write>(
     out: &mut Out<W>,
 ) -> Result<(), Device>
     ensures { Writes W.contents out.old out.new result
-        (sentence (names_view names.now) line finding.met finding.problem (option_map (λ m. misspelled_view m.now) word.entry)) }
+        (sentence (names_view names.now) line finding.met finding.problem (word_of word.entry)) }
 {
     put_subject(names, stack_of(finding.problem), out)?;
     put_said(line, finding.problem, word, out)?;
@@ -235,7 +233,7 @@ pub(super) fn put_finding<W: Write>(
     out: &mut Out<W>,
 ) -> Result<(), Device>
     ensures { Writes W.contents out.old out.new result
-        (finding_line (names_view names.now) (place.now, finding) (option_map (λ m. misspelled_view m.now) word.entry)) }
+        (finding_line (names_view names.now) (place.now, finding) (word_of word.entry)) }
 {
     put_place(names, place, out)?;
     out.put_line(&[
