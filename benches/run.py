@@ -249,7 +249,7 @@ def measure_decisions(program):
             put(folder, "login", STACK * modules)
             for _ in range(5):
                 begin = time.perf_counter()
-                subprocess.run([program, "decisions", "1000000", "login"], cwd=folder, stdout=subprocess.DEVNULL, check=True)
+                subprocess.run([program, "measure", "decisions", "1000000", "login"], cwd=folder, stdout=subprocess.DEVNULL, check=True)
                 times.append(time.perf_counter() - begin)
         print("decisions of %d modules: %.1f million a second" % (modules, 1 / min(times)))
 
@@ -314,7 +314,7 @@ def measure_paths(program):
     for name, limit, text in STACKS:
         with tempfile.TemporaryDirectory() as folder:
             put(folder, "login", text.encode())
-            words = [program, "paths", str(limit), "login"]
+            words = [program, "measure", "paths", str(limit), "login"]
             times = []
             for _ in range(5):
                 begin = time.perf_counter()
@@ -334,11 +334,11 @@ def measure_graphs(program):
             put(folder, "login", text.encode())
 
             def least(count):
-                return min(run([program, "graphs", str(count), "login"], folder)[1] for _ in range(6))
+                return min(run([program, "measure", "graphs", str(count), "login"], folder)[1] for _ in range(6))
 
-            done = subprocess.run([program, "graphs", str(limit), "login"], cwd=folder, stdout=subprocess.PIPE, check=True)
+            done = subprocess.run([program, "measure", "graphs", str(limit), "login"], cwd=folder, stdout=subprocess.PIPE, check=True)
             nodes, _, walks, steps = (int(word) for word in done.stdout.decode().split() if word.isdigit())
-            peak = int(run(["/usr/bin/time", "-q", "-f", "%M", program, "graphs", str(limit), "login"], folder)[0].split()[-1])
+            peak = int(run(["/usr/bin/time", "-q", "-f", "%M", program, "measure", "graphs", str(limit), "login"], folder)[0].split()[-1])
             seconds = least(limit) - least(0)
         speed = "%.2f" % (walks / seconds / 1e6) if seconds > 0.001 else "-"
         each = "%.1f" % (steps / walks) if walks else "-"

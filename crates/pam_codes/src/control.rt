@@ -73,7 +73,7 @@ impl Control {
         Some(Control::keyword(granted, other))
     }
 
-    /// The control with the `named` actions, and `default` for the other codes.
+    /// The control with the `named` actions, each at the number of its code, and `default` for the other codes.
     pub fn of(named: [Option<Action>; CODES], default: Action) -> Control
         requires named { All (λ action. IfSome action IsAction) named }
         requires default { IsAction default }

@@ -12,8 +12,6 @@ mod node;
 mod nodes;
 mod ranks;
 mod situation;
-#[cfg(test)]
-mod tests;
 mod turn;
 mod usual;
 mod witness;

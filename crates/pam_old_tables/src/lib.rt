@@ -14,6 +14,3 @@ pub use access::{access_findings, has_empty_separator};
 pub use difference::TableDifference;
 pub use finding::TableFinding;
 pub use times::time_findings;
-
-#[cfg(test)]
-mod tests;

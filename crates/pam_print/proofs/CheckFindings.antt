@@ -1,5 +1,5 @@
 -- The line of a finding, part by part.
-use Rattle.std.proofs.Common.{◌≡◌, ◌∙◌, ℕ, List, [], ◌∷◌, ◌++◌, append_assoc, append-nil, codes, refl}
+use Rattle.std.proofs.Common.{◌≡◌, ◌∙◌, ℕ, List, [], ◌∷◌, ◌++◌, append_assoc, append-nil, codes, refl, Option}
 use Rattle.std.specs.Prelude.{decimal}
 use Rattle.std.specs.List.{concat, flat_map}
 use Rattle.pam_conf.specs.Stack.{Items}
@@ -8,11 +8,13 @@ use Rattle.pam_host.specs.declared.problem.Place.{Place}
 use Rattle.pam_host.specs.declared.report.Finding.{Finding}
 use Rattle.pam_host.specs.declared.way_in.Answered.{Answered}
 use Rattle.pam_known.specs.Answers.{name_of_path}
+use Rattle.pam_misspelled.specs.Misspelled.{MisspelledText}
 use Rattle.pam_report.specs.Decide.{path_at}
 use Rattle.pam_report.specs.Names.{problem_name}
-use Rattle.pam_print.specs.Check.{Names, answer_text, answers_text, finding_line, next_answer, place_text, sentence, shown_name}
+use Rattle.pam_print.specs.Check.{Names, answer_text, answers_text, finding_line, next_answer, place_text, sentence}
+use Rattle.pam_sentences.specs.Shown.{shown_name}
 use Rattle.pam_print.specs.Header.{code_name}
-use Rattle.pam_print.specs.Sentences as say
+use Rattle.pam_sentences.specs.Sentences as say
 
 -- THE ANSWERS OF A WAY IN
 
@@ -38,10 +40,10 @@ line_parts : (place level name said : List ℕ) → ((place ++ concat (level ∷
     ≡ place ++ level ++ codes ": " ++ name ++ codes ": " ++ said ++ codes "\n"
 line_parts place level name said = simp (append_assoc, append-nil)
 
-pub finding_line-is : (names : Names) (place : Place) (finding : Finding) (level name : List ℕ)
+pub finding_line-is : (names : Names) (place : Place) (finding : Finding) (word : Option MisspelledText) (level name : List ℕ)
     → level ≡ say.level_name (level_of finding.problem) → name ≡ problem_name finding.problem
-    → ((place_text names.paths place ++ concat (level ∷ codes ": " ∷ name ∷ codes ": " ∷ [])) ++ sentence names place.line finding.met finding.problem)
-    ++ codes "\n" ≡ finding_line names (place, finding)
+    → ((place_text names.paths place ++ concat (level ∷ codes ": " ∷ name ∷ codes ": " ∷ []))
+    ++ sentence names place.line finding.met finding.problem word) ++ codes "\n" ≡ finding_line names (place, finding) word
 unfolding finding_line
-finding_line-is names place finding level name e f =
-    line_parts (place_text names.paths place) level name (sentence names place.line finding.met finding.problem) ∙ rw (e, f) refl
+finding_line-is names place finding word level name e f =
+    line_parts (place_text names.paths place) level name (sentence names place.line finding.met finding.problem word) ∙ rw (e, f) refl

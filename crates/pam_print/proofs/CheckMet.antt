@@ -1,18 +1,14 @@
--- The names of `check`, and the stacks that meet a problem, part by part.
+-- The stacks that meet a problem, part by part.
 use Rattle.std.proofs.Common.{◌≡◌, ℕ, ◌-◌, ◌/◌, ◌%◌, ◌<◌, ◌≤◌, ◌||◌, Bool, true, false, List, [], ◌∷◌, ◌++◌, codes, refl, sym, ap, ◌∙◌}
 use Rattle.std.proofs.Common.{append_assoc, append-nil}
 use Rattle.std.proofs.lemmas.Bool.{le-ltb, lt-ltb}
 use Rattle.std.specs.Prelude.{decimal, if◌then◌else◌}
 use Rattle.pam_host.specs.declared.met.Kinds.{Kinds}
 use Rattle.pam_host.specs.declared.met.Met.{Met}
-use Rattle.pam_print.specs.Check.{after_comma, hex_digit, if_kind, is_escaped, kinds_text, met_text, others_if_any, others_text}
-use Rattle.pam_print.specs.Check.{shown_byte, shown_name, text_at}
-
--- NAMES
-
--- a byte that is written as its code
-pub byte-escaped : (byte : ℕ) → true ≡ is_escaped byte → codes "\\x" ++ hex_digit (byte / 16) ++ hex_digit (byte % 16) ≡ shown_byte byte
-byte-escaped byte h = ap (λ (b : Bool). if b then codes "\\x" ++ hex_digit (byte / 16) ++ hex_digit (byte % 16) else byte ∷ []) h
+use Rattle.pam_print.specs.Check.{after_comma, if_kind, kinds_text, met_text, others_if_any, others_text}
+use Rattle.pam_sentences.specs.Shown.{hex_digit, is_escaped}
+use Rattle.pam_print.specs.Check.{text_at}
+use Rattle.pam_sentences.specs.Shown.{shown_byte, shown_name}
 
 -- KINDS
 

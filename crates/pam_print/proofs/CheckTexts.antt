@@ -1,19 +1,21 @@
 -- The lines of `check`.
-use Rattle.std.proofs.Common.{◌≡◌, ◌∙◌, ℕ, List, [], ◌∷◌, ◌++◌, ap, ap₂, append-nil, append_assoc, Bor, codes, length, refl, sym}
+use Rattle.std.proofs.Common.{◌≡◌, ◌∙◌, ℕ, List, [], ◌∷◌, ◌++◌, ap, ap₂, append-nil, append_assoc, Bor, codes, length, refl, sym, Option}
 use Rattle.std.proofs.lemmas.List.{length-map}
 use Rattle.std.specs.List.{concat, flat_map}
 use Rattle.std.specs.Prelude.{decimal}
 use Rattle.pam_host.specs.declared.problem.Place.{Place}
 use Rattle.pam_host.specs.declared.report.Finding.{Finding}
+use Rattle.pam_misspelled.specs.Misspelled.{MisspelledText}
 use Rattle.pam_report.specs.Reply.{CheckValue}
 use Rattle.pam_report.specs.TablePaths.{level_of_table_problem, table_problem_name}
 use Rattle.pam_table_check.specs.declared.problem.TableFinding.{TableFinding}
 use Rattle.pam_text.proofs.TextSteps.{unequal}
 use Rattle.pam_print.specs.Check as spec
-use Rattle.pam_print.specs.Check.{check_text, counted, counts_of, finding_line, last_line, levels_text, lines_text, names_of_value, shown_name}
+use Rattle.pam_print.specs.Check.{check_text, counted, counts_of, findings_text, last_line, levels_text, lines_text, names_of_value}
+use Rattle.pam_sentences.specs.Shown.{shown_name}
 use Rattle.pam_print.specs.Check.{stacks_of, table_heading, table_line, unused_line}
 use Rattle.pam_print.specs.declared.check.Counts.{Counts}
-use Rattle.pam_print.specs.Sentences as say
+use Rattle.pam_sentences.specs.Sentences as say
 use Rattle.pam_print.specs.CheckNames.{names_view}
 use Rattle.pam_print.specs.declared.check.finding.Names.{Names}
 
@@ -54,13 +56,14 @@ heading-is finding level name e f = four_parts level name (codes ": ") ∙ rw (e
 -- THE REPORT
 
 -- the lines, by equal lists
-pub lines-are : (names : Names) (value : CheckValue) (found : List (Place × Finding)) (tables : List TableFinding) (accept unused : List ℕ)
-    → names_view names ≡ names_of_value value → found ≡ value.found → tables ≡ value.tables → accept ≡ value.accept → unused ≡ value.unused
-    → flat_map (finding_line (names_view names)) found ++ flat_map (table_line value.table_paths) tables ++ flat_map (unused_line accept) unused
+pub lines-are : (names : Names) (value : CheckValue) (found : List (Place × Finding)) (words : List (Option MisspelledText)) (tables : List TableFinding)
+    (accept unused : List ℕ) → names_view names ≡ names_of_value value → found ≡ value.found → words ≡ value.misspelled → tables ≡ value.tables
+    → accept ≡ value.accept → unused ≡ value.unused
+    → findings_text (names_view names) words found ++ flat_map (table_line value.table_paths) tables ++ flat_map (unused_line accept) unused
     ≡ lines_text value
-lines-are names value found tables accept unused n f t a u =
-    ap (λ (m : spec.Names). flat_map (finding_line m) found ++ flat_map (table_line value.table_paths) tables ++ flat_map (unused_line accept) unused) n
-    ∙ rw (f, t, a, u) refl
+lines-are names value found words tables accept unused n f w t a u =
+    ap (λ (m : spec.Names). findings_text m words found ++ flat_map (table_line value.table_paths) tables ++ flat_map (unused_line accept) unused) n
+    ∙ rw (f, w, t, a, u) refl
 
 -- the last line, by equal numbers
 pub text-is : (names : Names) (value : CheckValue) (services : ℕ) (found : List (Place × Finding)) (tables : List TableFinding) (unused : List ℕ)

@@ -1,7 +1,7 @@
 -- The text of `check`: a line for each finding, and a last line with their numbers.
 use Rattle.std.specs.Prelude.{ℕ, ◌+◌, ◌-◌, ◌*◌, ◌/◌, ◌%◌, ◌==◌, ◌||◌, nat_lt, Bool, true, false, List, [], ◌∷◌, ◌++◌, codes, count_by}
 use Rattle.std.specs.Prelude.{decimal, length, min, if◌then◌else◌, Option, None, Some, slice_get, slice_index_or, unwrap_or}
-use Rattle.std.specs.List.{flat_map}
+use Rattle.std.specs.List.{enumerate_from, flat_map}
 use Rattle.std.specs.Option.{option_map_or}
 use Rattle.pam_conf.specs.Stack.{Items}
 use Rattle.pam_conf.specs.declared.error.FaultKind.{FaultKind}
@@ -21,31 +21,17 @@ use Rattle.pam_host.specs.declared.report.Finding.{Finding}
 use Rattle.pam_host.specs.declared.way_in.Answered.{Answered}
 use Rattle.pam_host.specs.declared.way_in.WayIn.{WayIn}
 use Rattle.pam_known.specs.Answers.{name_of_path}
+use Rattle.pam_misspelled.specs.Misspelled.{MisspelledText}
 use Rattle.pam_report.specs.Decide.{path_at}
 use Rattle.pam_report.specs.Names.{problem_name, stack_of}
 use Rattle.pam_report.specs.Reply.{CheckValue}
 use Rattle.pam_report.specs.TablePaths.{TablePathsText, level_of_table_problem, path_of as path_of_table, table_problem_name}
 use Rattle.pam_table_check.specs.declared.problem.TableFinding.{TableFinding}
 use Rattle.pam_print.specs.Header.{code_name, kind_name}
-use Rattle.pam_print.specs.Sentences as say
+use Rattle.pam_sentences.specs.Sentences as say
+use Rattle.pam_sentences.specs.Shown.{shown_name}
+use Rattle.pam_sentences.specs.Tables.{table_sentence}
 use Rattle.pam_print.specs.declared.check.Counts.{Counts}
-
--- NAMES, IN WHICH NO BYTE CAN END OR CHANGE A LINE
-
--- the two digits of a byte
-abbrev pub hex_digit : ℕ → List ℕ
-hex_digit digit = (if nat_lt digit 10 then 48 + digit else 87 + digit) ∷ []
-
--- a control byte, and the backslash of one
-abbrev pub is_escaped : ℕ → Bool
-is_escaped byte = nat_lt byte 32 || (byte == 127) || (byte == 92)
-
--- a byte of a name: `\x0a` for a line feed
-abbrev pub shown_byte : ℕ → List ℕ
-shown_byte byte = if is_escaped byte then codes "\\x" ++ hex_digit (byte / 16) ++ hex_digit (byte % 16) else byte ∷ []
-
-abbrev pub shown_name : List ℕ → List ℕ
-shown_name name = flat_map shown_byte name
 
 -- the names and the ways in that sentences need
 pub record Names : Type 0 where
@@ -135,23 +121,10 @@ way_text way = option_map_or (λ w. answers_text w.stack w.answers.items) way []
 abbrev pub way_in_at : List (Option WayIn) → ℕ → List ℕ
 way_in_at ways service = way_text (slice_index_or ways service None)
 
--- a missing file that is named at a line, or a service without rules
-abbrev pub fault_text : ℕ → FaultKind → List ℕ
-fault_text line NoService = if line == 0 then say.no_rules_sentence else say.fault_sentence NoService
-fault_text line fault = say.fault_sentence fault
-
 -- the kind and the service of a problem of a whole stack
 abbrev pub subject_text : Names → Option (ℕ × Kind) → List ℕ
 subject_text names None = []
 subject_text names (Some stack) = kind_of_service names stack.1 stack.0
-
--- what is wrong, and how to mend it
-abbrev pub said : ℕ → Problem → List ℕ
-said line (problems.Fault fault) = fault_text line fault
-said line (problems.Walk fault) = fault_text line fault
-said line (problems.Released difference) = say.released_sentence difference
-said line problems.EmptySeparator = say.separator_sentence
-said line problem = say.problem_sentence problem
 
 -- the stacks that meet a problem of a line
 abbrev pub met_unless : List (List ℕ) → Option Met → Option (ℕ × Kind) → List ℕ
@@ -163,15 +136,26 @@ abbrev pub rest_text : Names → Option Met → Problem → List ℕ
 rest_text names met (problems.LetsAnybodyIn service) = way_in_at names.ways_in service
 rest_text names met problem = met_unless names.services met (stack_of problem)
 
--- what is wrong, how to mend it, and which stacks meet it
-unfoldable pub sentence : Names → ℕ → Option Met → Problem → List ℕ
-sentence names line met problem = subject_text names (stack_of problem) ++ said line problem ++ rest_text names met problem
+-- what is wrong, how to mend it, and which stacks meet it; with the word that is wrong, if it is known
+unfoldable pub sentence : Names → ℕ → Option Met → Problem → Option MisspelledText → List ℕ
+sentence names line met problem word = subject_text names (stack_of problem) ++ say.said line problem word ++ rest_text names met problem
 
 -- A LINE: `PLACE: LEVEL: NUMBER NAME: SENTENCE`
-unfoldable pub finding_line : Names → Place × Finding → List ℕ
-finding_line names entry =
+unfoldable pub finding_line : Names → Place × Finding → Option MisspelledText → List ℕ
+finding_line names entry word =
     place_text names.paths entry.0 ++ say.level_name (level_of entry.1.problem) ++ codes ": " ++ problem_name entry.1.problem ++ codes ": "
-    ++ sentence names entry.0.line entry.1.met entry.1.problem ++ codes "\n"
+    ++ sentence names entry.0.line entry.1.met entry.1.problem word ++ codes "\n"
+
+-- the word that is wrong at a position, if there is one
+abbrev pub word_at : List (Option MisspelledText) → ℕ → Option MisspelledText
+word_at words position = unwrap_or (slice_get words position) None
+
+abbrev pub numbered_line : Names → List (Option MisspelledText) → ℕ × (Place × Finding) → List ℕ
+numbered_line names words entry = finding_line names entry.1 (word_at words entry.0)
+
+-- a line for each finding, each with the word at its position
+abbrev pub findings_text : Names → List (Option MisspelledText) → List (Place × Finding) → List ℕ
+findings_text names words found = flat_map (numbered_line names words) (enumerate_from 0 found)
 
 -- A LINE FOR A PROBLEM OF A TABLE: `PATH:LINE: LEVEL: NUMBER NAME: SENTENCE`
 abbrev pub table_place : TablePathsText → TableFinding → List ℕ
@@ -182,7 +166,7 @@ table_heading finding =
     say.level_name (level_of_table_problem finding.problem) ++ codes ": " ++ table_problem_name finding.problem ++ codes ": "
 
 unfoldable pub table_line : TablePathsText → TableFinding → List ℕ
-table_line paths finding = table_place paths finding ++ table_heading finding ++ say.table_sentence finding.problem ++ codes "\n"
+table_line paths finding = table_place paths finding ++ table_heading finding ++ table_sentence finding.problem ++ codes "\n"
 
 -- THE LAST LINE
 
@@ -242,7 +226,7 @@ names_of_value value = record { form = value.form; paths = value.paths; services
 -- the lines of findings, of problems of tables, and of lines of the accept file
 abbrev pub lines_text : CheckValue → List ℕ
 lines_text value =
-    flat_map (finding_line (names_of_value value)) value.found ++ flat_map (table_line value.table_paths) value.tables
+    findings_text (names_of_value value) value.misspelled value.found ++ flat_map (table_line value.table_paths) value.tables
     ++ flat_map (unused_line value.accept) value.unused
 
 -- THE TEXT of `check`

@@ -27,7 +27,8 @@ use Rattle.pam_report.specs.Decide.{path_at}
 use Rattle.pam_report.specs.Fault.{file_at}
 use Rattle.pam_report.specs.FaultTable.{conf_row}
 use Rattle.pam_report.specs.Reply.{CompareValue}
-use Rattle.pam_print.specs.Check.{counted, shown_name}
+use Rattle.pam_print.specs.Check.{counted}
+use Rattle.pam_sentences.specs.Shown.{shown_name}
 use Rattle.pam_print.specs.Header.{code_name, kind_name}
 
 -- MODULES

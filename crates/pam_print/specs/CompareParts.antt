@@ -1,7 +1,8 @@
 -- For private contracts and proofs alone: the parts of a line of `compare`.
 use Rattle.std.specs.Prelude.{ℕ, List, decimal}
 use Rattle.pam_report.specs.ReplyViews.{side_files}
-use Rattle.pam_print.specs.Check.{counted, shown_name}
+use Rattle.pam_print.specs.Check.{counted}
+use Rattle.pam_sentences.specs.Shown.{shown_name}
 use Rattle.pam_print.specs.Compare as spec
 use Rattle.pam_print.specs.Compare.{arguments_text, asked_texts, head_text, module_changes, module_text, only_count, side_text}
 use Rattle.pam_print.specs.declared.compare.parts.Head.{Head as LineHead}

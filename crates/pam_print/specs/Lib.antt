@@ -12,7 +12,6 @@ pub mod Header
 pub mod Leaves
 pub mod Outcomes
 pub mod Page
-pub mod Sentences
 pub mod Show
 pub mod Tables
 pub mod Text

@@ -2,30 +2,29 @@
 
 ghost use Rattle.std.specs.Prelude.{◌≡◌, ◌+◌, [], IfOk, map};
 ghost use Rattle.std.specs.List.{flat_map};
-ghost use Rattle.std.specs.Option.{option_map_or};
+ghost use Rattle.std.specs.Option.{option_map, option_map_or};
+ghost use Rattle.pam_misspelled.specs.MisspelledView.{misspelled_view};
 ghost use Rattle.pam_codes.specs.Out.{Writes, WritesAndFlushes};
 ghost use Rattle.pam_report.specs.Reply.{Check};
 ghost use Rattle.pam_report.specs.ReplyViews.{check_view};
 ghost use Rattle.pam_report.specs.TablePaths.{table_paths_view};
-ghost use Rattle.pam_print.specs.Check.{at_most, check_text, counted, counts_of, finding_line, is_level, last_line, levels_text, lines_text};
-ghost use Rattle.pam_print.specs.Check.{names_of_value, number_at, table_line, table_number_at, unused_line};
-ghost use Rattle.pam_print.specs.CheckNames.{names_view};
+ghost use Rattle.pam_print.specs.Check.{at_most, check_text, counted, counts_of, findings_text, is_level, last_line, levels_text, lines_text};
+ghost use Rattle.pam_print.specs.Check.{names_of_value, number_at, table_line, table_number_at, unused_line, word_at};
+ghost use Rattle.pam_print.specs.CheckNames.{names_view, word_of};
 ghost use Rattle.pam_print.specs.Leaves.{Prints};
 
-mod escaped;
 mod finding;
 mod met;
-mod sentences;
 mod table;
 
-pub(crate) use escaped::put_name;
 use finding::{Names, put_finding};
 use pam_codes::{Device, Out, Piece};
 use pam_host::{Finding, Level, Place};
+use pam_misspelled::Misspelled;
 use pam_report::{CheckReply, Fault, TablePaths, table_problem_level};
+use pam_sentences::{UNUSED, put_name};
 use pam_table_check::TableFinding;
 use pam_text::Texts;
-use sentences::UNUSED;
 use std::alloc::{AllocError, Global};
 use std::io::Write;
 use table::put_table_finding;
@@ -147,15 +146,37 @@ fn put_last_line<W: Write>(services: usize, counts: Counts, out: &mut Out<W>) ->
     out.put(b"\n")
 }
 
+fn lent(word: &Option<Misspelled>) -> Option<&Misspelled>
+    ensures { word_of result ≡ option_map misspelled_view word.now }
+{
+    match word {
+        Some(word) => Some(word),
+        None => None,
+    }
+}
+
+/// Returns the word that is wrong at a position, if there is one.
+fn word_at(words: &[Option<Misspelled>], position: usize) -> Option<&Misspelled>
+    ensures { word_of result ≡ word_at (map (option_map misspelled_view) words.now) position }
+{
+    match words.get(position) {
+        Some(word) => lent(word),
+        None => None,
+    }
+}
+
+/// Writes the findings, each with the word that is wrong at its position.
 fn put_findings<W: Write>(
     names: &Names<'_>,
     found: &[(Place, Finding)],
+    words: &[Option<Misspelled>],
     out: &mut Out<W>,
 ) -> Result<(), Device>
-    ensures { Writes W.contents out.old out.new result (flat_map (finding_line (names_view names.now)) found.now) }
+    ensures { Writes W.contents out.old out.new result
+        (findings_text (names_view names.now) (map (option_map misspelled_view) words.now) found.now) }
 {
-    for entry in found {
-        put_finding(names, &entry.0, entry.1, out)?;
+    for (position, entry) in found.iter().enumerate() {
+        put_finding(names, &entry.0, entry.1, word_at(words, position), out)?;
     }
     Ok(())
 }
@@ -206,7 +227,7 @@ fn put_lines<W: Write>(
     requires { names_view names.now ≡ names_of_value (check_view reply.now) }
     ensures { Writes W.contents out.old out.new result (lines_text (check_view reply.now)) }
 {
-    put_findings(names, &reply.found, out)?;
+    put_findings(names, &reply.found, &reply.misspelled, out)?;
     put_tables(&reply.table_paths, &reply.tables, out)?;
     put_all_unused(reply.accept.as_bytes(), &reply.unused, out)
 }

@@ -3,7 +3,7 @@
 ghost use Rattle.std.specs.Prelude.{◌++◌, None};
 ghost use Rattle.pam_codes.specs.Out.{Writes, WritesAndFlushes};
 ghost use Rattle.pam_report.specs.ReplyViews.{compare_view};
-ghost use Rattle.pam_print.specs.Check.{shown_name};
+ghost use Rattle.pam_sentences.specs.Shown.{shown_name};
 ghost use Rattle.pam_print.specs.Compare.{compare_text, if_first, last_line, lines_after, next_stack};
 ghost use Rattle.pam_print.specs.Compare.{only_text, presence};
 
@@ -13,11 +13,11 @@ mod pair;
 mod parts;
 mod stack;
 
-use crate::check::put_name;
 use pam_changes::{ComparedService, ComparedStack, Counts};
 use pam_codes::{Device, Out};
 use pam_parts::compared_count;
 use pam_report::CompareReply;
+use pam_sentences::put_name;
 use parts::{Part, put_parts};
 use stack::put_stack;
 use std::io::Write;

@@ -1,7 +1,7 @@
 -- What names and actions say to released Linux-PAM, which goes by their first letters.
 use Rattle.std.proofs.Common.{◌≡◌, one-add, ◌≤◌, ◌<◌, ◌+◌, ◌&&◌, ◌++◌, ◌∙◌, ℕ, suc, Bool, true, false, not, List, [], ◌∷◌, map, take, drop}
 use Rattle.std.proofs.Common.{length, get_or, cond, eqb, ap, sym, refl, subst, Option, Some, None, Result, Ok, Err, All, arith, codes}
-use Rattle.std.specs.Prelude.{if◌then◌else◌, ◌==◌, nat_lt, find}
+use Rattle.std.specs.Prelude.{if◌then◌else◌, ◌==◌, ◌*◌, ◌-◌, fold, nat_lt, find}
 use Rattle.std.specs.List.{list_all, prefix_len, take_while, position}
 use Rattle.std.specs.Option.{option_map_or}
 use Rattle.std.specs.Char.{to_ascii_lowercase, is_ascii_digit}
@@ -21,7 +21,8 @@ use Rattle.pam_codes.specs.declared.subject.Subject.{Subject}
 use Rattle.pam_codes.specs.declared.subject.Subject.TheVariants.{Named, Incomplete, Default}
 use Rattle.pam_codes.proofs.CodeNames.{first_code, has_name}
 use Rattle.pam_codes.proofs.CodeSets.{all_codes-within}
-use Rattle.pam_released.specs.Control.{action_at, begins, is_space, jump_at, name_of}
+use Rattle.pam_codes.proofs.Jumps.{jump_len}
+use Rattle.pam_released.specs.Control.{action_at, begins, is_space, jump_at, jump_value, name_of}
 use Rattle.pam_released.specs.Control.{subject_at}
 
 -- NAMES
@@ -232,14 +233,44 @@ pub no_action_name : (d : ℕ) (t : List ℕ) → is_ascii_digit d ≡ true → 
 unfolding action_at
 no_action_name d t h = rw (not_letter 105 d refl h, not_letter 111 d refl h, not_letter 100 d refl h, not_letter 98 d refl h, not_letter 114 d refl h) refl
 
+-- DIGITS
+
+grows : (w : List ℕ) (n m : ℕ) → n ≤ m → list_all is_ascii_digit w ≡ true → fold (λ k d. 10 * k + (d - 48)) n w ≤ fold (λ k d. 10 * k + 9) m w
+grows [] n m h k = h
+grows (d ∷ w) n m h k =
+    let parts = and_parts (is_ascii_digit d) (list_all is_ascii_digit w) k in
+    let high : d ≤ 57 = leb-true d 57 (and_parts (leb 48 d) (leb d 57) parts.0).1 in
+    grows w (10 * n + (d - 48)) (10 * m + 9) (omega (arith, h, high)) parts.1
+
+nines : (w : List ℕ) → length w < 10 → fold (λ k d. 10 * k + 9) 0 w ≤ 999999999
+nines [] h = omega arith
+nines (a ∷ []) h = omega arith
+nines (a ∷ b ∷ []) h = omega arith
+nines (a ∷ b ∷ c ∷ []) h = omega arith
+nines (a ∷ b ∷ c ∷ d ∷ []) h = omega arith
+nines (a ∷ b ∷ c ∷ d ∷ e ∷ []) h = omega arith
+nines (a ∷ b ∷ c ∷ d ∷ e ∷ f ∷ []) h = omega arith
+nines (a ∷ b ∷ c ∷ d ∷ e ∷ f ∷ g ∷ []) h = omega arith
+nines (a ∷ b ∷ c ∷ d ∷ e ∷ f ∷ g ∷ i ∷ []) h = omega arith
+nines (a ∷ b ∷ c ∷ d ∷ e ∷ f ∷ g ∷ i ∷ j ∷ []) h = omega arith
+nines (a ∷ b ∷ c ∷ d ∷ e ∷ f ∷ g ∷ i ∷ j ∷ k ∷ w) h = absurd (omega (arith, h))
+
+-- the number of a jump that the manual pages read
+own_value : (w : List ℕ) → is_jump_text w ≡ true → jump_value w ≡ decimal_value w
+own_value w h =
+    let digits = (and_parts (nat_lt 0 (length w) && nat_lt (length w) 10) (list_all is_ascii_digit w) h).1 in
+    let most : decimal_value w ≤ 999999999 = (let under = grows w 0 0 (omega arith) digits in let top = nines w (jump_len w h) in omega (arith, under, top)) in
+    ap (λ (t : Bool). cond t 999999999 (decimal_value w)) (le-ltb 999999999 (decimal_value w) most)
+
 pub jump_there : (d : ℕ) (w u : List ℕ) → list_all is_ascii_digit (d ∷ w) ≡ true → begins_word u ≡ false → eqb (decimal_value (d ∷ w)) 0 ≡ false →
-    jump_at (d ∷ w ++ u) ≡ Some (Jump (decimal_value (d ∷ w)), u)
-jump_there d w u h k z =
+    jump_value (d ∷ w) ≡ decimal_value (d ∷ w) → jump_at (d ∷ w ++ u) ≡ Some (Jump (decimal_value (d ∷ w)), u)
+jump_there d w u h k z own =
     let n : prefix_len is_ascii_digit (d ∷ w ++ u) ≡ length (d ∷ w) = digits_end (d ∷ w) u h k in
     let front : take_while is_ascii_digit (d ∷ w ++ u) ≡ d ∷ w = ap (λ (m : ℕ). take m (d ∷ w ++ u)) n ∙ take_whole (d ∷ w) u in
     let back : drop (prefix_len is_ascii_digit (d ∷ w ++ u)) (d ∷ w ++ u) ≡ u = ap (λ (m : ℕ). drop m (d ∷ w ++ u)) n ∙ after_itself (d ∷ w) u in
-    ap (λ (v : List ℕ). cond (eqb (decimal_value v) 0) None (Some (Jump (decimal_value v), drop (prefix_len is_ascii_digit (d ∷ w ++ u)) (d ∷ w ++ u)))) front
-    ∙ ap (λ (t : Bool). cond t None (Some (Jump (decimal_value (d ∷ w)), drop (prefix_len is_ascii_digit (d ∷ w ++ u)) (d ∷ w ++ u)))) z
+    ap (λ (v : List ℕ). cond (eqb (decimal_value v) 0) None (Some (Jump (jump_value v), drop (prefix_len is_ascii_digit (d ∷ w ++ u)) (d ∷ w ++ u)))) front
+    ∙ ap (λ (t : Bool). cond t None (Some (Jump (jump_value (d ∷ w)), drop (prefix_len is_ascii_digit (d ∷ w ++ u)) (d ∷ w ++ u)))) z
+    ∙ ap (λ (m : ℕ). Some (Jump m, drop (prefix_len is_ascii_digit (d ∷ w ++ u)) (d ∷ w ++ u))) own
     ∙ ap (λ (r : List ℕ). Some (Jump (decimal_value (d ∷ w)), r)) back
 
 pub digits_act : (w : List ℕ) → is_jump_text w ≡ true → eqb (decimal_value w) 0 ≡ false → Acts w (Jump (decimal_value w))
@@ -248,7 +279,7 @@ digits_act [] h z = absurd (true≢false (sym h))
 digits_act (d ∷ w) h z =
     let two = and_parts (nat_lt 0 (length (d ∷ w)) && nat_lt (length (d ∷ w)) 10) (list_all is_ascii_digit (d ∷ w)) h in
     let first = and_parts (is_ascii_digit d) (list_all is_ascii_digit w) two.1 in
-    (λ u n. no_action_name d (w ++ u) first.0 ∙ jump_there d w u two.1 n z, digit_no_space d first.0, digit_word d first.0)
+    (λ u n. no_action_name d (w ++ u) first.0 ∙ jump_there d w u two.1 n z (own_value (d ∷ w) h), digit_no_space d first.0, digit_word d first.0)
 
 pub jump_acts : (w : List ℕ) (x : Action) →
     (if not (is_jump_text w) then Err BadAction else if decimal_value w == 0 then Err ZeroJump else Ok (Jump (decimal_value w))) ≡ Ok x → Acts w x

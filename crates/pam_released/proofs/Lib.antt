@@ -1,5 +1,10 @@
+pub mod AssembledLines
+pub mod Assembling
 pub mod Buffer
+pub mod ControlKeywords
 pub mod ControlNames
+pub mod ControlReading
+pub mod ControlSteps
 pub mod ControlTokens
 pub mod Controls
 pub mod FileOrder
@@ -12,10 +17,13 @@ pub mod Lines170
 pub mod Manual
 pub mod Order
 pub mod Pushing
+pub mod ReadingSteps
 pub mod RowLemmas
 pub mod RuleLines
 pub mod RuleReadings
 pub mod RuleSteps
 pub mod Scanning
 pub mod Silence
+pub mod Unnumbered
+pub mod WordTexts
 pub mod Words

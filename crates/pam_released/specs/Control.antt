@@ -45,11 +45,16 @@ unfoldable pub equals_at : List ℕ → Option (List ℕ)
 equals_at [] = None
 equals_at (b ∷ bs) = if b == 61 then Some bs else None
 
--- a jump over as many items as the digits say, not 0. A number that is no `int` is told otherwise by either release
+-- the value of digits, or 999,999,999 where it is more: no list has as many items, and a number that is no `int` is told otherwise by
+-- either release
+abbrev pub jump_value : List ℕ → ℕ
+jump_value digits = if nat_lt 999999999 (decimal_value digits) then 999999999 else decimal_value digits
+
+-- a jump over as many items as the digits say, not 0
 abbrev pub jump_at : List ℕ → Option (Action × List ℕ)
 jump_at text =
     if decimal_value (take_while is_ascii_digit text) == 0 then None
-    else Some (Jump (decimal_value (take_while is_ascii_digit text)), drop (prefix_len is_ascii_digit text) text)
+    else Some (Jump (jump_value (take_while is_ascii_digit text)), drop (prefix_len is_ascii_digit text) text)
 
 -- the first action whose name the text begins with, else a jump; and the text after it
 unfoldable pub action_at : List ℕ → Option (Action × List ℕ)

@@ -1,3 +1,4 @@
+pub mod Bodies
 pub mod Bracket
 pub mod Buffer
 pub mod Control
@@ -7,6 +8,9 @@ pub mod Laws
 pub mod Lines
 pub mod Meanings
 pub mod NextState
+pub mod Numbered
+pub mod Pair
 pub mod Reader
+pub mod Readings
 pub mod Rules
 pub mod Words

@@ -10,7 +10,7 @@ ghost use Rattle.pam_released.specs.Lines.{physical_lines, without_end_blanks};
 use memchr::memchr;
 
 /// The number of bytes before the first line feed.
-fn line_len(bytes: &[u8]) -> usize
+pub(crate) fn line_len(bytes: &[u8]) -> usize
     ensures value { result ≡ prefix_len (λ b. not (b == 10)) bytes.now }
     ensures bound { result ≤ length bytes.now }
 {

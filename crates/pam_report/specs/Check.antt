@@ -1,5 +1,5 @@
 -- The reply of `check`: what is wrong with the host.
-use Rattle.std.specs.Prelude.{◌≡◌, ◌≢◌, ◌<◌, ⊤, ℕ, All, List, [], length, Result, Ok, Err, unwrap_or}
+use Rattle.std.specs.Prelude.{◌≡◌, ◌≢◌, ◌<◌, ⊤, ℕ, All, List, [], length, map, Result, Ok, Err, unwrap_or}
 use Rattle.std.specs.BTreeMap.{BTreeMap}
 use Rattle.std.specs.Option.{option_copied}
 use Rattle.pam_accept.specs.Lines.{Accepted, accepted_lines}
@@ -19,6 +19,7 @@ use Rattle.pam_host.specs.declared.level.Level.TheVariants.{Note}
 use Rattle.pam_host.specs.declared.problem.Place.{Place}
 use Rattle.pam_host.specs.declared.report.Finding.{Finding}
 use Rattle.pam_host.specs.declared.report.HostReport.{HostReport}
+use Rattle.pam_misspelled.specs.Findings.{misspelled_at}
 use Rattle.pam_table_check.specs.Report.{IsTableReport}
 use Rattle.pam_table_check.specs.declared.problem.TableFinding.{TableFinding}
 use Rattle.pam_table_check.specs.declared.problem.TablePlace.{TablePlace}
@@ -47,6 +48,7 @@ module _ (services : List (List ℕ)) (fail_on : LevelName) (named : CheckFiles)
     pub all_tables : BTreeMap TablePlace TableFinding
     pub table_report : IsTableReport files value.services (host_tables_given inputs) all_tables
     pub not_accepted : value.found ≡ not_accepted lines files value.services all.entries
+    pub misspelled : value.misspelled ≡ map (misspelled_at files) value.found
     pub tables_not_accepted : value.tables ≡ tables_not_accepted lines value.table_paths (table_findings all_tables)
     pub unused : value.unused ≡ lines_without (all_keys files value.services all.entries value.table_paths (table_findings all_tables)) lines
     -- where no line accepts a finding, and all that are listed are notes, each stack that is checked is sound

@@ -18,6 +18,7 @@ use Rattle.pam_host.specs.declared.problem.Place.{Place}
 use Rattle.pam_host.specs.declared.report.Finding.{Finding}
 use Rattle.pam_host.specs.declared.way_in.WayIn.{WayIn}
 use Rattle.pam_graph.specs.declared.goal.Goal.{Goal}
+use Rattle.pam_misspelled.specs.Misspelled.{MisspelledText}
 use Rattle.pam_paths.specs.Listing.{Allowance}
 use Rattle.pam_paths.specs.Paths.{PathValue}
 use Rattle.pam_tables.specs.declared.access.AccessAnswer.{AccessAnswer}
@@ -87,12 +88,13 @@ pub record PageValue : Type 0 where
 
 -- the findings of a host and the problems of its tables that are not accepted: the path of its configuration and of each file, and
 -- of each table, the services that were checked, the first way in of each, the name of the accept file and its lines that accept
--- nothing, and the least level that makes the status a refusal
+-- nothing, and the least level that makes the status a refusal. At the position of each finding is the word that is wrong, if any
 pub record CheckValue : Type 0 where
   pub form : Form
   pub paths : List (List ℕ)
   pub services : List (List ℕ)
   pub found : List (Place × Finding)
+  pub misspelled : List (Option MisspelledText)
   pub ways_in : List (Option WayIn)
   pub table_paths : TablePathsText
   pub tables : List TableFinding

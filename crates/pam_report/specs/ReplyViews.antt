@@ -4,6 +4,7 @@ use Rattle.std.specs.Borrow.{Bor}
 use Rattle.std.specs.Prelude.{[], Option, map, option_map, unwrap_or}
 use Rattle.pam_conf.specs.Files.{Folder}
 use Rattle.pam_explain.specs.Views.{explanation_view}
+use Rattle.pam_misspelled.specs.MisspelledView.{misspelled_view}
 use Rattle.pam_report.specs.Decide.{AskedModule}
 use Rattle.pam_report.specs.Inputs.{no_files}
 use Rattle.pam_report.specs.PageView.{page_value}
@@ -61,6 +62,7 @@ check_view c = record {
   paths = option_map_or (λ paths. paths.now) c.paths [];
   services = c.report.services;
   found = c.found.items;
+  misspelled = map (option_map misspelled_view) c.misspelled.items;
   ways_in = c.report.ways_in.items;
   table_paths = table_paths_view c.table_paths;
   tables = c.tables.items;

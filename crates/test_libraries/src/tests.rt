@@ -5,7 +5,6 @@ mod controls;
 mod faults;
 mod files;
 mod halting;
-mod json;
 mod known;
 mod picture;
 mod returns;

@@ -4,22 +4,19 @@ ghost use Rattle.std.specs.Prelude.{◌≡◌, map};
 ghost use Rattle.std.specs.List.{flat_map};
 ghost use Rattle.pam_codes.specs.Out.{Writes};
 ghost use Rattle.pam_print.specs.Check.{answer_text, answers_text, finding_line, kind_of_service, line_text, next_answer};
-ghost use Rattle.pam_print.specs.Check.{met_unless, of_service, path_of, place_text, rest_text, said, sentence, subject_text, text_at};
+ghost use Rattle.pam_print.specs.Check.{met_unless, of_service, path_of, place_text, rest_text, sentence, subject_text, text_at};
 ghost use Rattle.pam_print.specs.Check.{way_in_at, way_text};
-ghost use Rattle.pam_print.specs.CheckNames.{names_view};
+ghost use Rattle.pam_print.specs.CheckNames.{names_view, word_of};
 
-use super::escaped::put_name;
 use super::met::put_met_if_any;
-use super::sentences::{
-    fault_text, level_name, problem_sentence, put_released, put_table_difference,
-};
 use crate::decide::name_of;
 use pam_codes::{Device, Out, Piece};
 use pam_conf::{Form, Kind, Stack};
 use pam_host::{Answered, Finding, Met, Place, Problem, WayIn};
 use pam_known::name_of_path;
-use pam_old_tables::TableDifference;
+use pam_misspelled::Misspelled;
 use pam_report::{kind_name, path_at, problem_name, stack_of};
+use pam_sentences::{level_name, put_name, put_said};
 use std::io::Write;
 
 /// The names that the lines of a check use.
@@ -184,18 +181,6 @@ fn put_subject<W: Write>(
     }
 }
 
-/// Writes what is wrong, and how to mend it.
-fn put_said<W: Write>(line: usize, problem: Problem, out: &mut Out<W>) -> Result<(), Device>
-    ensures { Writes W.contents out.old out.new result (said line problem) }
-{
-    match problem {
-        Problem::Fault(fault) | Problem::Walk(fault) => out.put(fault_text(line, fault).as_bytes()),
-        Problem::Released(difference) => put_released(difference, out),
-        Problem::EmptySeparator => put_table_difference(TableDifference::EmptySeparator, out),
-        _ => out.put(problem_sentence(problem).as_bytes()),
-    }
-}
-
 /// Writes the stacks that meet a problem, unless it is one of a whole stack.
 fn put_met_unless<W: Write>(
     names: &Names<'_>,
@@ -221,18 +206,20 @@ fn put_rest<W: Write>(names: &Names<'_>, finding: Finding, out: &mut Out<W>) -> 
     }
 }
 
-/// Writes what is wrong, how to mend it, and which stacks meet it.
+/// Writes what is wrong, how to mend it, and which stacks meet it; with the word that is wrong, if it is known.
 #[tactic(auto, unfolding(crate::specs::Check::sentence))]
 fn put_sentence<W: Write>(
     names: &Names<'_>,
     line: usize,
     finding: Finding,
+    word: Option<&Misspelled>,
     out: &mut Out<W>,
 ) -> Result<(), Device>
-    ensures { Writes W.contents out.old out.new result (sentence (names_view names.now) line finding.met finding.problem) }
+    ensures { Writes W.contents out.old out.new result
+        (sentence (names_view names.now) line finding.met finding.problem (word_of word.entry)) }
 {
     put_subject(names, stack_of(finding.problem), out)?;
-    put_said(line, finding.problem, out)?;
+    put_said(line, finding.problem, word, out)?;
     put_rest(names, finding, out)
 }
 
@@ -242,9 +229,11 @@ pub(super) fn put_finding<W: Write>(
     names: &Names<'_>,
     place: &Place,
     finding: Finding,
+    word: Option<&Misspelled>,
     out: &mut Out<W>,
 ) -> Result<(), Device>
-    ensures { Writes W.contents out.old out.new result (finding_line (names_view names.now) (place.now, finding)) }
+    ensures { Writes W.contents out.old out.new result
+        (finding_line (names_view names.now) (place.now, finding) (word_of word.entry)) }
 {
     put_place(names, place, out)?;
     out.put_line(&[
@@ -253,6 +242,6 @@ pub(super) fn put_finding<W: Write>(
         Piece::Bytes(problem_name(finding.problem).as_bytes()),
         Piece::Bytes(b": "),
     ])?;
-    put_sentence(names, place.line, finding, out)?;
+    put_sentence(names, place.line, finding, word, out)?;
     out.put(b"\n")
 }

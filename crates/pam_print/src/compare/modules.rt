@@ -6,12 +6,12 @@ ghost use Rattle.pam_codes.specs.Out.{Writes};
 ghost use Rattle.pam_print.specs.Compare.{added_text, arguments_text, has_any, if_more, module_changes, module_text, moved_text};
 ghost use Rattle.pam_print.specs.Compare.{numbered, numbered_text, occurrence_text, separator, spaced};
 
-use crate::check::put_name;
 use pam_changes::StackPair;
 use pam_codes::{Device, Out, Piece};
 use pam_conf::Stack;
 use pam_parts::occurrence;
 use pam_report::path_at;
+use pam_sentences::put_name;
 use pam_text::Texts;
 use std::io::Write;
 

@@ -9,12 +9,13 @@ ghost use Rattle.pam_report.specs.ReplyViews.{side_files};
 
 use super::asked::put_all_asked;
 use super::modules::{put_arguments, put_module, put_module_changes};
-use crate::check::{put_counted, put_name};
+use crate::check::put_counted;
 use pam_changes::{AskedModule, StackPair};
 use pam_codes::{Device, Out, Piece};
 use pam_conf::{ConfError, Files, Kind, Stack};
 use pam_parts::file_of;
 use pam_report::{conf_name, kind_name};
+use pam_sentences::put_name;
 use std::io::Write;
 
 /// The service and the kind with which a line begins.

@@ -22,6 +22,7 @@ use pam_conf::{Files, Form};
 use pam_facts::Facts;
 use pam_host::laws::a_silent_host_is_sound;
 use pam_host::{Finding, HostReport, Level, Place};
+use pam_misspelled::{Misspelled, misspelled_words};
 use pam_table_check::{TableFinding, TableReport};
 use pam_text::Texts;
 use pam_words::{CheckFiles, LevelName};
@@ -36,6 +37,8 @@ pub struct CheckReply<'a> {
     pub report: HostReport,
     /// The findings of the report that are not accepted, in its order.
     pub found: Vec<(Place, Finding)>,
+    /// For each finding, by its position, the word that is wrong, if it is about one.
+    pub misspelled: Vec<Option<Misspelled>>,
     /// The path of each table.
     pub table_paths: TablePaths<'a>,
     /// The problems of tables that are not accepted, in order.
@@ -172,11 +175,15 @@ pub(super) fn checked<'a>(
     let Ok(listed) = list_findings(alloc, files, &report, &tables, paths, &accept) else {
         return Err(Fault::Memory);
     };
+    let Ok(misspelled) = misspelled_words(alloc, files, &listed.found) else {
+        return Err(Fault::Memory);
+    };
     Ok(Reply::Check(CheckReply {
         form: files.form(),
         paths: inputs.paths(),
         report,
         found: listed.found,
+        misspelled,
         table_paths: paths,
         tables: listed.tables,
         accept: accept_name(asked.given),

@@ -31,75 +31,8 @@ fn text_of(alloc: Global, set: CodeSet) -> Result<Vec<u8>, Fail> {
     Ok(text)
 }
 
-/// Asserts that a set has this code, this least code and this length.
-fn has(rt: &impl Abort, set: CodeSet, code: Code, least: Code, len: usize) {
-    same(rt, "the code", &set.contains(code), &true);
-    same(rt, "the least code", &set.least(), &Some(least));
-    same(rt, "how many codes", &set.len(), &len);
-    same(rt, "no codes", &set.is_empty(), &false);
-}
-
-#[test]
-fn sets_of_few_and_of_all_codes(rt: HostRuntime) {
-    let (Some(six), Some(none)) = (Code::new(6), Code::new(0)) else {
-        return assert!(rt; false, "6 and 0 are no codes");
-    };
-    for number in 0..31 {
-        let Some(code) = Code::new(number) else {
-            continue;
-        };
-        let mut set = CodeSet::single(code);
-        has(&rt, set, code, code, 1);
-        set.insert(code);
-        has(&rt, set, code, code, 1);
-        set.insert(six);
-        has(
-            &rt,
-            set,
-            code,
-            code.min(six),
-            if number == 6 { 1 } else { 2 },
-        );
-        has(&rt, CodeSet::all(), code, none, 31);
-    }
-}
-
 fn granting() -> CodeSet {
     set_of(&[Code::SUCCESS, Code::NEW_AUTHTOK_REQD])
-}
-
-#[test]
-fn sets_made_of_others(rt: HostRuntime) {
-    let denying = set_of(&[Code::PERM_DENIED, Code::NEW_AUTHTOK_REQD]);
-    let all_three = set_of(&[Code::NEW_AUTHTOK_REQD, Code::PERM_DENIED, Code::SUCCESS]);
-    same(&rt, "union", &granting().union(denying), &all_three);
-    let success = CodeSet::single(Code::SUCCESS);
-    same(&rt, "without", &granting().without(denying), &success);
-    same(&rt, "meets", &granting().meets(denying), &true);
-    same(&rt, "meets", &success.meets(denying), &false);
-}
-
-#[test]
-fn codes_from_and_below_a_number(rt: HostRuntime) {
-    for (from, least) in [
-        (0, Some(Code::SUCCESS)),
-        (1, Some(Code::NEW_AUTHTOK_REQD)),
-        (13, None),
-    ] {
-        same(&rt, "least_from", &granting().least_from(from), &least);
-    }
-    for (below, greatest) in [
-        (0, None),
-        (12, Some(Code::SUCCESS)),
-        (255, Some(Code::NEW_AUTHTOK_REQD)),
-    ] {
-        same(
-            &rt,
-            "greatest_below",
-            &granting().greatest_below(below),
-            &greatest,
-        );
-    }
 }
 
 #[test]

@@ -3,8 +3,8 @@ use Rattle.std.specs.List.{concat}
 use Rattle.std.specs.Prelude.{decimal}
 use Rattle.pam_codes.proofs.Writing.{err-front, front-is, front-longer, writes-is, writes-then}
 use Rattle.pam_print.proofs.CheckTexts.{unused_line-is}
-use Rattle.pam_print.specs.Check.{shown_name}
-use Rattle.pam_print.specs.Sentences as say
+use Rattle.pam_sentences.specs.Shown.{shown_name}
+use Rattle.pam_sentences.specs.Sentences as say
 use Rattle.pam_print.proofs.check.put_unused.Goals as goal
 
 pub returns-in_err-put_name : goal.returns-in_err-put_name

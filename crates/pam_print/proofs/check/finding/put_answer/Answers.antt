@@ -4,7 +4,7 @@ use Rattle.pam_codes.proofs.Writing.{all-then, err-front, front-is, front-longer
 use Rattle.pam_known.specs.Answers.{name_of_path}
 use Rattle.pam_report.specs.Decide.{path_at}
 use Rattle.pam_print.proofs.CheckFindings.{answer_text-is}
-use Rattle.pam_print.specs.Check.{shown_name}
+use Rattle.pam_sentences.specs.Shown.{shown_name}
 use Rattle.pam_print.specs.Header.{code_name}
 use Rattle.pam_print.proofs.check.finding.put_answer.Goals as goal
 

@@ -1,6 +1,7 @@
 use Rattle.std.proofs.Common.{ap}
 use Rattle.pam_codes.proofs.Writing.{all-is, all-then, err-front, front-longer, front-then, writes-then}
-use Rattle.pam_print.specs.Check.{place_text, shown_name}
+use Rattle.pam_print.specs.Check.{place_text}
+use Rattle.pam_sentences.specs.Shown.{shown_name}
 use Rattle.pam_print.proofs.check.finding.put_place.Goals as goal
 
 pub returns-in_err-put_line_number : goal.returns-in_err-put_line_number

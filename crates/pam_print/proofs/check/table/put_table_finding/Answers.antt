@@ -13,13 +13,13 @@ returns-in_err-put_heading g c =
     err-front _ c.from_residual-in_err-put_heading.ensures.0
     (front-longer _ (front-longer _ (front-then c.in_ok-put_place.ensures c.in_err-put_heading.ensures)))
 
-pub returns-in_err-put_said : goal.returns-in_err-put_said
+pub returns-in_err-put_table_said : goal.returns-in_err-put_table_said
 unfolding table_line
-returns-in_err-put_said g c =
-    err-front _ c.from_residual-in_err-put_said.ensures.0
-    (front-longer _ (front-then (all-then c.in_ok-put_place.ensures c.in_ok-put_heading.ensures) c.in_err-put_said.ensures))
+returns-in_err-put_table_said g c =
+    err-front _ c.from_residual-in_err-put_table_said.ensures.0
+    (front-longer _ (front-then (all-then c.in_ok-put_place.ensures c.in_ok-put_heading.ensures) c.in_err-put_table_said.ensures))
 
 pub returns : goal.returns
 unfolding table_line
 returns g c =
-    writes-then _ _ _ (all-then (all-then c.in_ok-put_place.ensures c.in_ok-put_heading.ensures) c.in_ok-put_said.ensures) c.put.ensures
+    writes-then _ _ _ (all-then (all-then c.in_ok-put_place.ensures c.in_ok-put_heading.ensures) c.in_ok-put_table_said.ensures) c.put.ensures

@@ -1,7 +1,7 @@
 use Rattle.std.proofs.Common.{◌++◌, ap}
 use Rattle.pam_codes.proofs.Writing.{all-is, writes-is, writes-then}
 use Rattle.pam_report.specs.Decide.{path_at}
-use Rattle.pam_print.specs.Check.{shown_name}
+use Rattle.pam_sentences.specs.Shown.{shown_name}
 use Rattle.pam_print.specs.Compare.{module_text, occurrence_text}
 use Rattle.pam_print.proofs.compare.modules.put_module.Goals as goal
 

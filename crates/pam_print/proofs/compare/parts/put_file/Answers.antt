@@ -1,7 +1,7 @@
 use Rattle.std.proofs.Common.{codes}
 use Rattle.std.specs.Prelude.{decimal}
 use Rattle.pam_codes.proofs.Writing.{all-then, err-front, front-longer, front-then, writes-is, writes-then}
-use Rattle.pam_print.specs.Check.{shown_name}
+use Rattle.pam_sentences.specs.Shown.{shown_name}
 use Rattle.pam_print.proofs.CompareTexts.{place-is}
 use Rattle.pam_print.proofs.compare.parts.put_file.Goals as goal
 

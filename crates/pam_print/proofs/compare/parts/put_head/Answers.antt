@@ -1,6 +1,6 @@
 use Rattle.std.proofs.Common.{◌∙◌, ◌++◌, ap, codes}
 use Rattle.pam_codes.proofs.Writing.{all-then, err-front, front-longer, front-then, writes-is, writes-then}
-use Rattle.pam_print.specs.Check.{shown_name}
+use Rattle.pam_sentences.specs.Shown.{shown_name}
 use Rattle.pam_print.proofs.compare.parts.put_head.Goals as goal
 
 pub returns-in_err-put : goal.returns-in_err-put

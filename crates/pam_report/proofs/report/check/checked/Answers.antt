@@ -21,6 +21,7 @@ returns-clause-answer c =
       all_tables = c.in_ok-tables.tables.found;
       table_report = c.in_ok-tables.ensures.ok;
       not_accepted = listed.found;
+      misspelled = c.in-Ok-2.ensures;
       tables_not_accepted = listed.tables_found;
       unused = listed.unused;
       silence = silent-check c.a_silent_host_is_sound.ensures c.args.files.now c.args.asked.services.now reported.facts _ c.in_ok-report.report.found

@@ -1,0 +1,3 @@
+pub mod NearestNames
+pub mod ReadLines
+pub mod Readers

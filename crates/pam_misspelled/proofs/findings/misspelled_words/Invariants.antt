@@ -1,0 +1,14 @@
+use Rattle.std.proofs.Common.{◌≡◌, map, take}
+use Rattle.std.specs.Option.{option_map}
+use Rattle.pam_misspelled.specs.Findings.{misspelled_at}
+use Rattle.pam_misspelled.specs.MisspelledView.{misspelled_view}
+use Rattle.pam_misspelled.specs.Reading.{IsReading}
+use Rattle.pam_misspelled.proofs.findings.misspelled_words.Given as goal
+
+-- the words at the findings so far
+abbrev pub invariant-loop-entry : goal.invariant-loop-entry
+invariant-loop-entry l = record {
+  reading : IsReading l.reader;
+  same : l.reader.files.now ≡ l.files;
+  words : map (option_map misspelled_view) l.words.items ≡ map (misspelled_at l.files) (take l.entry-index l.found);
+}

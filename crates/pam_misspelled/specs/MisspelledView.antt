@@ -1,0 +1,7 @@
+-- The value of a word that is wrong.
+use Rattle.std.specs.Option.{option_map}
+use Rattle.pam_misspelled.specs.Misspelled.{MisspelledText}
+use Rattle.pam_misspelled.specs.declared.word.Misspelled.{Misspelled}
+
+abbrev pub misspelled_view : Misspelled → MisspelledText
+misspelled_view m = record { word = m.word.items; nearest = option_map (λ word. word.items) m.nearest }

@@ -1,0 +1,10 @@
+use Rattle.std.proofs.Common.{◌≡◌, drop, map}
+use Rattle.pam_released.specs.Numbered.{line_view}
+use Rattle.pam_released.specs.Readings.{numbered_readings, numbered_rules, numbered_view}
+use Rattle.pam_released.proofs.ReadingSteps.{after_rules}
+use Rattle.pam_released.proofs.reading.released_rules.Given as goal
+
+abbrev pub invariant-loop-line : goal.invariant-loop-line
+invariant-loop-line l =
+    after_rules (map numbered_view l.rules.items) (numbered_readings l.form (drop l.line-index (map line_view l.line-items)))
+    ≡ numbered_rules l.fn.release l.form l.source.bytes.now

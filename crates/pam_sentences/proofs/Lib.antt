@@ -1,0 +1,2 @@
+pub mod NamedWords
+pub mod ShownTexts

@@ -1,0 +1,5 @@
+pub mod Faults
+pub mod NamingView
+pub mod Sentences
+pub mod Shown
+pub mod Tables

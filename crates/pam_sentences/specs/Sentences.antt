@@ -1,0 +1,98 @@
+-- What `check` says of each problem: what is wrong, and how to mend it.
+use Rattle.std.specs.Prelude.{ℕ, List, [], ◌++◌, codes, Option}
+use Rattle.pam_host.specs.declared.level.Level.{Level}
+use Rattle.pam_host.specs.declared.level.Level.TheVariants.{Error, Note, Warning}
+use Rattle.pam_host.specs.declared.problem.Problem.{Problem}
+use Rattle.pam_host.specs.declared.problem.Problem.TheVariants as problems
+use Rattle.pam_misspelled.specs.Misspelled.{MisspelledText}
+use Rattle.pam_old_tables.specs.declared.difference.TableDifference.TheVariants.{EmptySeparator}
+use Rattle.pam_released.specs.Meanings.{meaning_of, mending_of}
+use Rattle.pam_released.specs.declared.difference.Difference.{Difference}
+use Rattle.pam_sentences.specs.Faults.{fault_text}
+use Rattle.pam_sentences.specs.Tables.{table_difference_sentence}
+
+abbrev pub level_name : Level → List ℕ
+level_name Note = codes "note"
+level_name Warning = codes "warning"
+level_name Error = codes "error"
+
+abbrev pub released_sentence : Difference → List ℕ
+released_sentence difference = meaning_of difference ++ codes "; " ++ mending_of difference
+
+-- A5: the argument of a rule that names no separators
+abbrev pub separator_sentence : List ℕ
+separator_sentence = table_difference_sentence EmptySeparator
+
+abbrev pub nobody_sentence : List ℕ
+nobody_sentence = codes " never succeeds, whatever its modules answer; look for a jump over too many items, or a module that always fails"
+
+abbrev pub anybody_sentence : List ℕ
+anybody_sentence = codes " succeeds although no module that checks who logs in does"
+
+abbrev pub asked_sentence : List ℕ
+asked_sentence =
+    codes "the module is never asked, whatever other modules answer; remove the rule, or mend a control above that ends the stack or jumps over it"
+
+abbrev pub jump_sentence : List ℕ
+jump_sentence = codes "a jump past the end of the list, which fails the stack; jump over fewer items"
+
+abbrev pub no_module_sentence : List ℕ
+no_module_sentence =
+    codes "no folder of modules has this module, so it always answers module_unknown; install it, or remove the rule"
+
+abbrev pub no_other_sentence : List ℕ
+no_other_sentence = codes "there is no file other, which decides for each service without a file; make one that denies"
+
+abbrev pub unreachable_sentence : List ℕ
+unreachable_sentence = codes "services are looked up in lowercase, so no program finds this file; write its name in lowercase"
+
+abbrev pub large_sentence : List ℕ
+large_sentence = codes " can come to more than 65,536 places, so it is not known whether it lets nobody or anybody in"
+
+abbrev pub other_sentence : List ℕ
+other_sentence = codes " has no rules of its own, so those of other decide; write rules for it"
+
+abbrev pub left_over_sentence : List ℕ
+left_over_sentence = codes "a copy that an editor or a package left, for which no program asks; it is not checked, and may be removed"
+
+abbrev pub inside_sentence : List ℕ
+inside_sentence =
+    codes "a jump into the middle of what an include brings in, so a line added there changes where it goes; jump to its first item or past its last"
+
+abbrev pub no_function_sentence : List ℕ
+no_function_sentence = codes "the module has no function for this kind, so it always answers module_unknown; remove the rule"
+
+abbrev pub caller_sentence : List ℕ
+caller_sentence = codes "the module looks at the user of the process, which in this service is always root; remove the rule"
+
+-- S8: a line of the accept file that accepts nothing
+abbrev pub unused_sentence : List ℕ
+unused_sentence = codes "no finding has this number and place; remove the line, or mend it"
+
+-- of a problem that is neither a fault nor a difference
+unfoldable pub problem_sentence : Problem → List ℕ
+problem_sentence (problems.Fault fault) = []
+problem_sentence (problems.Walk fault) = []
+problem_sentence (problems.Released difference) = []
+problem_sentence problems.EmptySeparator = []
+problem_sentence (problems.LetsNobodyIn service kind) = nobody_sentence
+problem_sentence (problems.LetsAnybodyIn service) = anybody_sentence
+problem_sentence problems.NeverAsked = asked_sentence
+problem_sentence problems.JumpPastEnd = jump_sentence
+problem_sentence (problems.NoModule is_dashed) = no_module_sentence
+problem_sentence problems.NoOther = no_other_sentence
+problem_sentence problems.UnreachableName = unreachable_sentence
+problem_sentence (problems.TooLarge service kind) = large_sentence
+problem_sentence (problems.OtherAnswers service kind) = other_sentence
+problem_sentence problems.LeftOver = left_over_sentence
+problem_sentence problems.JumpIntoInclude = inside_sentence
+problem_sentence problems.NoFunction = no_function_sentence
+problem_sentence problems.CallerIsRoot = caller_sentence
+
+-- WHAT IS SAID of a problem at a line, with the word that is wrong if it is known
+abbrev pub said : ℕ → Problem → Option MisspelledText → List ℕ
+said line (problems.Fault fault) misspelled = fault_text line fault misspelled
+said line (problems.Walk fault) misspelled = fault_text line fault misspelled
+said line (problems.Released difference) misspelled = released_sentence difference
+said line problems.EmptySeparator misspelled = separator_sentence
+said line problem misspelled = problem_sentence problem
