@@ -16,9 +16,9 @@ mod stack;
 use pam_changes::{ComparedService, ComparedStack, Counts, StackChange};
 use pam_codes::{Device, Out};
 use pam_report::CompareReply;
+use pam_sentences::put_name;
 use parts::{Part, put_parts};
 use stack::put_stack;
-use pam_sentences::put_name;
 use std::io::Write;
 
 /// Writes `SERVICE` and where alone it is.
