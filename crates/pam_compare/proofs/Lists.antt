@@ -160,6 +160,12 @@ listed-after links more before answer index held link keeps are set at same is =
       listed-kept links more before held keeps is,
     )
 
+-- the list before, and the last answer
+pub listed-push : (links : List Link) (n before : ℕ) (answer : HeldAnswer) (rest : List HeldAnswer) → IsLast links n before answer →
+    IsListed links before rest → IsListed links n (answer ∷ rest)
+unfolding IsListed
+listed-push links n before answer rest last is = (before, last, is)
+
 -- a list that goes on from another
 pub listed-step : (links : List Link) (n : ℕ) (held : List HeldAnswer) → 0 < n → IsListed links n held →
     (l : Link) × (rest : List HeldAnswer) × (slice_get links (n - 1) ≡ Some l) × (l.before < n) × IsListed links l.before rest × (held ≡ l.answer ∷ rest)

@@ -1,9 +1,9 @@
 //! Lists of held answers, each stored once: a list is its last answer and the list before it.
 
-ghost use Rattle.std.specs.Prelude.{◌≡◌, ◌<◌, ◌≤◌, ◌-◌, ◌^◌, ◌∷◌, List, ℕ, IfOk, OnOk, Some, length, slice_get};
+ghost use Rattle.std.specs.Prelude.{◌≡◌, ◌<◌, ◌≤◌, ◌-◌, ◌^◌, ◌∷◌, List, ℕ, IfOk, IfSome, IsTrue, OnOk, Some, drop, length, slice_get};
 ghost use Rattle.std.specs.List.{IsDistinct};
 ghost use Rattle.pam_compare.specs.declared.held.HeldAnswer.{HeldAnswer};
-ghost use Rattle.pam_compare.specs.HeldLists.{AreLinks, IsListed, same_link};
+ghost use Rattle.pam_compare.specs.HeldLists.{AreLinks, IsLast, IsListed, same_link};
 ghost use Rattle.pam_compare.specs.Nodes.{Keeps};
 
 use crate::held::HeldAnswer;
@@ -68,6 +68,56 @@ impl HeldLists {
             number = self.with(number, held[index])?;
         }
         Ok(number)
+    }
+
+    /// The number of a list, whose last answer comes first. It is found at once if the other answers are the list `near`.
+    pub(crate) fn number_after(&mut self, near: usize, held: &[HeldAnswer]) -> Result<usize, Memory>
+        ensures keeps { OnOk result (Keeps self.old.links.keys self.new.links.keys) }
+        ensures links { AreLinks self.old.links.keys → OnOk result (AreLinks self.new.links.keys) }
+        ensures listed { AreLinks self.old.links.keys → IfOk result (λ number. IsListed self.new.links.keys number held.now) }
+    {
+        if held.is_empty() {
+            return self.number_of(held);
+        }
+        if !self.is_list(near, held, 1) {
+            return self.number_of(held);
+        }
+        let last = held[0];
+        self.with(near, last)
+    }
+
+    /// Whether the answers from index `start` on are the list with this number.
+    fn is_list(&self, number: usize, held: &[HeldAnswer], start: usize) -> bool
+        ensures { AreLinks self.now.links.keys → IsTrue result → IsListed self.now.links.keys number (drop start held.now) }
+    {
+        let mut at = number;
+        for index in start..held.len() {
+            let answer = held[index];
+            let Some(before) = self.before(at, answer) else {
+                return false;
+            };
+            at = before;
+        }
+        at == 0
+    }
+
+    /// The number of the list before the last answer of a list, if that is this answer.
+    fn before(&self, number: usize, answer: HeldAnswer) -> Option<usize>
+        ensures { AreLinks self.now.links.keys → IfSome result (λ before. IsLast self.now.links.keys number before answer) }
+    {
+        if number == 0 {
+            return None;
+        }
+        if number > self.len() {
+            return None;
+        }
+        // A set says with its least code that it is one of codes.
+        let _least = answer.codes.least();
+        let link = self.last(number);
+        if link.answer == answer {
+            return Some(link.before);
+        }
+        None
     }
 
     /// The link of a list that is not empty.

@@ -155,6 +155,14 @@ impl Nodes {
         Ok(index)
     }
 
+    /// The number of the list of answers that are held at a situation; 0 if there is none with this index.
+    fn list_at(&self, index: usize) -> usize {
+        match self.situations.get_index(index) {
+            Some(situation) => situation.held,
+            None => 0,
+        }
+    }
+
     /// Adds the situation with these places and held answers, unless it is there.
     pub(crate) fn add(
         &mut self,
@@ -175,7 +183,8 @@ impl Nodes {
     {
         let old_index = self.old_places.index_of(old_place)?;
         let new_index = self.new_places.index_of(new_place)?;
-        let list = self.held_lists.number_of(&held)?;
+        let near = self.list_at(way.parent);
+        let list = self.held_lists.number_after(near, &held)?;
         let situation = Situation {
             old: old_index,
             new: new_index,

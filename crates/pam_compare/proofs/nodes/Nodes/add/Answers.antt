@@ -17,7 +17,7 @@ returns-clause-nodes c old new are here there =
     nodes-added old new c.args.self.now _ _ _ _ _ node are (first.places old are.of_old here) (second.places new are.of_new there) (lists.links are.links)
     first.keeps second.keeps lists.keeps added.places.0 added.places.1 added.lists
     (λ k s at. elim (added.added k s at) [ inl was ↦ inl was | inr n ↦ inr n.0 ]) p.1 q.1
-    (subst (λ (l : List HeldAnswer). IsListed c.number_of.new.self.links.keys c.in_ok-list.list l) c.deref.ensures.value (lists.listed are.links))
+    (subst (λ (l : List HeldAnswer). IsListed c.number_after.new.self.links.keys c.in_ok-list.list l) c.deref.ensures.value (lists.listed are.links))
 
 pub returns-clause-added : goal.returns-clause-added
 returns-clause-added c old new are k s at =
@@ -31,7 +31,7 @@ returns-clause-added c old new are k s at =
     elim (added.added k s at) [
       | inl was ↦ inl was
       | inr n ↦ inr (new-added old new c.args.self.now _ _ _ _ _ s node k _ _ c.args.way added.places.0 added.places.1 added.lists n.0 p.1 q.1
-          (subst (λ (l : List HeldAnswer). IsListed c.number_of.new.self.links.keys c.in_ok-list.list l) c.deref.ensures.value (lists.listed are.links))
+          (subst (λ (l : List HeldAnswer). IsListed c.number_after.new.self.links.keys c.in_ok-list.list l) c.deref.ensures.value (lists.listed are.links))
           p.2 q.2 n.1 n.2)
     ]
 
@@ -46,5 +46,5 @@ returns-clause-met c old new a are low holds =
     let s = added.found in
     let node : Node = record { old = p.0; new = q.0; held = c.args.held } in
     met-added old new _ _ _ _ _ s.0 node _ a _ _ added.places.0 added.places.1 added.lists s.1 s.2 p.1 q.1
-    (subst (λ (l : List HeldAnswer). IsListed c.number_of.new.self.links.keys c.in_ok-list.list l) c.deref.ensures.value (lists.listed are.links))
+    (subst (λ (l : List HeldAnswer). IsListed c.number_after.new.self.links.keys c.in_ok-list.list l) c.deref.ensures.value (lists.listed are.links))
     p.2 q.2 holds
