@@ -184,5 +184,6 @@ IsAccessReading table groups result =
 
 -- what is read for each task about this source with what is known of answers
 abbrev pub IsKnowledgeReading : List (Text × Text) → ConfSource → KnowledgeSource → Result Inputs InputError → Type 0
-IsKnowledgeReading candidates source named (Ok given) = (fits_knowledge named given ≡ true) × HasFiles candidates source given × HasKnownTables source named given
+IsKnowledgeReading candidates source named (Ok given) =
+    (fits_knowledge named given ≡ true) × HasFiles candidates source given × HasKnownTables source named given
 IsKnowledgeReading candidates source named (Err error) = IsUnread (IsOfKnowledge source named) error

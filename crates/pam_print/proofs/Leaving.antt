@@ -201,7 +201,8 @@ not_both both = cc
 pub page-wants : (service : List ℕ) (task : Task) (files : Folder) (inputs : Inputs) (reply : declared.Reply)
     → AnswersBy (Finds (Ok reply)) service task files inputs → wants_memory (reply_view reply) ≡ true → (wants_of task inputs).work ≡ true
 unfolding AnswersBy
-page-wants service (Show source kind release) files inputs reply h page = absurd (not_both (sym page ∙ ap page_in (sym h) ∙ no_shown release service kind files))
+page-wants service (Show source kind release) files inputs reply h page =
+    absurd (not_both (sym page ∙ ap page_in (sym h) ∙ no_shown release service kind files))
 page-wants service (Decide source kind answered) files inputs reply h page = refl
 page-wants service (Access table groups login arguments) files inputs reply h page = refl
 page-wants service (Time table login moment) files inputs reply h page = refl
