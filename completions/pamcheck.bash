@@ -17,7 +17,7 @@ _pamcheck_options() {
     local known="--modules --user --rhost --tty --access --time --group --returns $moment"
     case $1 in
         check) echo "$source --modules --access --time --group --facts --accept --fail-on --help" ;;
-        compare) echo '--conf --root --modules --facts --returns --help' ;;
+        compare) echo '--conf --root --json --modules --facts --returns --help' ;;
         show) echo "$source --as --json --help" ;;
         decide) echo "$source --json --help" ;;
         paths) echo "$source --limit --after --before --decision --asks $known --help" ;;

@@ -25,7 +25,7 @@ KNOWING = b" --modules --access --time --group --returns --user --rhost --tty --
 SOURCES = b"--dir --vendor-dir --conf --root --with"
 OPTIONS = {
     b"check": SOURCES + b" --modules --access --time --group --facts --accept --fail-on",
-    b"compare": b"--conf --root --modules --facts --returns",
+    b"compare": b"--conf --root --json --modules --facts --returns",
     b"show": SOURCES + b" --as --json",
     b"decide": SOURCES + b" --json",
     b"paths": SOURCES + b" --limit --after --before --decision --asks" + KNOWING,
@@ -38,7 +38,7 @@ OPTIONS = {
 }
 OF_PATHS = (b"paths", b"outcomes", b"graph")
 REPEATED = (b"--modules", b"--with")
-FLAGS = {b"compare": [b"--conf", b"--root"], **dict.fromkeys([b"show", b"decide", b"outcomes", b"access", b"time"], [b"--json"])}
+FLAGS = {b"compare": [b"--conf", b"--root", b"--json"], **dict.fromkeys([b"show", b"decide", b"outcomes", b"access", b"time"], [b"--json"])}
 WITH_SOURCE = [name for name, options in OPTIONS.items() if options.startswith(SOURCES)]
 ABOUT = (b"facts", b"version")
 VERSION = b"pamcheck 1.0.0 (proved with rattle, logic dac8208d650f15bf)\n"
@@ -181,7 +181,8 @@ class Request:
         if self.command == b"version":
             return VERSION, 0
         if self.command == b"compare":
-            return self.comparison(tree).whole()
+            text, status = self.comparison(tree).whole()
+            return b"".join(map(plain_json.compared, text.splitlines())) if self.is_json() else text, status
         source = plain_sources.Source(self.options, tree) if self.command in WITH_SOURCE else None
         self.tables, self.there = {}, None
         if self.command in OF_PATHS:

@@ -1,5 +1,6 @@
 """The lines of answers as JSON, read plainly from `docs/JSON.md`."""
 import json
+import re
 
 import plain_stacks as stacks
 
@@ -69,3 +70,75 @@ def outcome(code, count, taken, modules):
 
 def total(count):
     return line("total", ways=ways(count))
+
+
+# The lines of `compare`, from those of its text. No name in it may have a blank, a quote, or ` only in `.
+
+def module(word):
+    """A module by its path, and which of those with this path it is."""
+    path, number = re.fullmatch(r"(.*?)(?:#(\d+))?", word).groups()
+    return {"module": path, "occurrence": int(number or 1)}
+
+
+def asked(words):
+    """A module that is asked, and its answer; `-` marks one of the old stack alone, `+` one of the new stack."""
+    word, code = words.rsplit(" ", 1)
+    place = {"-": "old", "+": "new"}.get(word[0])
+    return {"configuration": place or "both", **module(word[1:] if place else word), "code": code}
+
+
+def fault(words):
+    """The first fault of a configuration, or nothing."""
+    number, *rest = words.split(" ")
+    if number == "accepted":
+        return None
+    file, _, at = rest[1].rpartition(":") if len(rest) > 1 else (None, None, None)
+    return {"number": number, "name": rest[0], "file": file, "line": at and int(at)}
+
+
+def same(words):
+    """The modules that change where the decisions are the same."""
+    lists = {"removed": [], "added": [], "moved": [], "controls": []}
+    for one in filter(None, words.split(", ")):
+        word, change = one.split(" ", 1)
+        lists["controls" if change == "with another control" else change].append(module(word))
+    return lists
+
+
+def counted(words):
+    """The numbers of the last line."""
+    names = ["stacks", "equal", "same_decisions", "changed", "refused", "not_known"]
+    numbers = dict(zip(names, map(int, re.findall(r"\d+", words.split(";")[0]))))
+    only = {where: int(number) for number, where in re.findall(r"(\d+) services? only in (old|new)", words)}
+    return line("compared", **numbers, only_in_old=only.get("old", 0), only_in_new=only.get("new", 0))
+
+
+def compared(data):
+    """A line of `compare`."""
+    words = text(data)
+    if words.startswith("compared "):
+        return counted(words)
+    if " only in " in words:
+        service, place = words.split(" only in ")
+        return line("only", service=service, configuration=place)
+    service, kind, rest = words.split(" ", 2)
+    return of_stack({"service": service, "type": kind}, rest)
+
+
+def of_stack(head, rest):
+    """A line of two stacks, after the service and the kind."""
+    what, _, more = rest.partition(" ")
+    if what == "refused:":
+        old, new = re.fullmatch("old (.*), new (.*)", more).groups()
+        return line("refused", **head, old=fault(old), new=fault(new))
+    if what == "as":
+        return line("as", **head, **dict(zip(("first_service", "first_type"), more.split(" "))))
+    if what == "arguments":
+        path, old, new = re.fullmatch('of (\\S+): "(.*)" becomes "(.*)"', more).groups()
+        return line("arguments", **head, **module(path), old=old.split(), new=new.split())
+    if what == "same":
+        return line("same_decisions", **head, **same(more.partition(": ")[2]))
+    if what == "not":
+        return line("not_known", **head, situations=int(re.search(r"\d+", more)[0]))
+    old, new, steps = re.fullmatch("(\\S+) becomes (\\S+) where (.*)", more).groups()
+    return line("change", **head, change=what[:-1], old=old, new=new, steps=[asked(step) for step in steps.split(", ")])

@@ -1,11 +1,12 @@
 -- Lists of places and situations that grow.
-use Rattle.std.proofs.Common.{◌≡◌, ◌<◌, ◌+◌, ◌⊎◌, ◌∙◌, inl, inr, ℕ, zero, suc, Bool, true, false, cond, List, [], ◌∷◌, ◌++◌, Option, Some, None}
+use Rattle.std.proofs.Common.{◌≡◌, ◌<◌, ◌≤◌, ◌+◌, ◌⊎◌, ◌∙◌, inl, inr, ℕ, zero, suc, Bool, true, false, cond, List, [], ◌∷◌, ◌++◌, Option, Some, None}
 use Rattle.std.proofs.Common.{get_or, length, ap, arith, refl, sym, subst}
 use Rattle.std.specs.List.{list_any}
 use Rattle.std.specs.Prelude.{not, slice_get}
 use Rattle.std.proofs.lemmas.Bool.{false≢true}
 use Rattle.std.proofs.lemmas.List.{length_push}
 use Rattle.std.proofs.lemmas.Option.{slice_get-get_or, slice_get_within}
+use Rattle.pam_codes.specs.Set.{IsCodeSet}
 use Rattle.pam_dispatch.specs.declared.flat_item.FlatItem.{FlatItem}
 use Rattle.pam_dispatch.specs.declared.key.PlaceKey.{PlaceKey}
 use Rattle.pam_dispatch.specs.declared.place.Place.{Place}
@@ -19,9 +20,13 @@ use Rattle.pam_compare.specs.declared.nodes.Nodes.{Nodes}
 use Rattle.pam_compare.specs.declared.nodes.Places.{Places}
 use Rattle.pam_compare.specs.declared.nodes.Way.{Way}
 use Rattle.pam_compare.specs.declared.held.HeldAnswer.{HeldAnswer}
+use Rattle.pam_compare.specs.declared.held_lists.HeldLists.{HeldLists}
+use Rattle.pam_compare.specs.declared.held_lists.Link.{Link}
 use Rattle.pam_compare.specs.declared.situation.Situation.{Situation}
-use Rattle.pam_compare.specs.Held.{Holds, IsSame}
+use Rattle.pam_compare.specs.Held.{Holds}
+use Rattle.pam_compare.specs.HeldLists.{AreLinks, IsListed}
 use Rattle.pam_compare.specs.Nodes.{AreNodes, ArePlaces, IsAt, IsDone, IsMet, IsNew, IsNoted, IsStored, IsVisited, Keeps, KeepsNodes}
+use Rattle.pam_compare.proofs.Lists.{listed-kept}
 
 pub nothing : {X : Type 0} (x : X) → None ≡ Some x → ⊥
 nothing x e = cc
@@ -137,18 +142,19 @@ pub nodes-both : (a b c : Nodes) → KeepsNodes a b → KeepsNodes b c → Keeps
 nodes-both a b c f g = record {
   of_old = keeps-both _ _ _ f.of_old g.of_old;
   of_new = keeps-both _ _ _ f.of_new g.of_new;
+  held_lists = keeps-both _ _ _ f.held_lists g.held_lists;
   situations = keeps-both _ _ _ f.situations g.situations;
   ways = keeps-both _ _ _ f.ways g.ways;
 }
 
 pub nodes-same : (a : Nodes) → KeepsNodes a a
-nodes-same a = record { of_old = keeps-same _; of_new = keeps-same _; situations = keeps-same _; ways = keeps-same _ }
+nodes-same a = record { of_old = keeps-same _; of_new = keeps-same _; held_lists = keeps-same _; situations = keeps-same _; ways = keeps-same _ }
 
 pub at-kept : (before after : Nodes) (s : Situation) (n : Node) → KeepsNodes before after → IsAt before s n → IsAt after s n
 at-kept before after s n keeps is = record {
   old = kept _ _ _ _ keeps.of_old is.old;
   new = kept _ _ _ _ keeps.of_new is.new;
-  held = is.held;
+  held = listed-kept _ _ s.held n.held.items keeps.held_lists is.held;
 }
 
 pub met-kept : (old new : List FlatItem) (before after : Nodes) (a : Assignment) (left right : Runs) → KeepsNodes before after →
@@ -178,9 +184,9 @@ visited-kept old new names possible before after found more s keeps noted v = re
   ];
 }
 
--- SITUATIONS
+-- VALUES OF A SET
 
-module _ (test : Situation → Bool) (keys after : List Situation) (value : Situation)
+module _ {X : Type 0} (test : X → Bool) (keys after : List X) (value : X)
     (is : after ≡ cond (list_any test keys) keys (keys ++ value ∷ [])) where
   by-keeps : (t : Bool) → after ≡ cond t keys (keys ++ value ∷ []) → Keeps keys after
   by-keeps true e = keeps-equal keys after e
@@ -203,6 +209,8 @@ module _ (test : Situation → Bool) (keys after : List Situation) (value : Situ
   pub insert-old : false ≡ not (list_any test keys) → after ≡ keys
   insert-old out = by-old (list_any test keys) out is
 
+-- SITUATIONS
+
 pub pushed-cases : {P : Type 0} (keys after : List Situation) (value : Situation) → after ≡ keys ++ value ∷ [] → P → (k : ℕ) (s : Situation) →
     slice_get after k ≡ Some s → (slice_get keys k ≡ Some s) ⊎ ((s ≡ value) × (k ≡ length keys) × P)
 pushed-cases keys after value e p k s at =
@@ -211,66 +219,105 @@ pushed-cases keys after value e p k s at =
       | inr new ↦ inr (sym new.0, new.1, p)
     ]
 
-pub new-added : (old new : List FlatItem) (before after : Nodes) (op np : Places) (situation s : Situation) (p q : Place) (k : ℕ) (left right : Runs)
-    (held : List HeldAnswer) (way : Way) → after.old_places ≡ op → after.new_places ≡ np → s ≡ situation → situation.held.items ≡ held →
-    slice_get op.places.items situation.old ≡ Some p → slice_get np.places.items situation.new ≡ Some q → rest_of old p ≡ left → rest_of new q ≡ right →
-    k ≡ length before.situations.keys → after.ways.items ≡ before.ways.items ++ way ∷ [] → IsNew old new before after left right held way k s
-new-added old new before after op np situation s p q k left right held way e f same h at_old at_new l r index ways = record {
-  node = record { old = p; new = q; held = s.held };
-  is_at = record {
-    old = ap (λ (x : Places). slice_get x.places.items s.old) e ∙ ap (λ (x : Situation). slice_get op.places.items x.old) same ∙ at_old;
-    new = ap (λ (x : Places). slice_get x.places.items s.new) f ∙ ap (λ (x : Situation). slice_get np.places.items x.new) same ∙ at_new;
-    held = refl;
-  };
+-- a situation and its node, where its places and its list are stored
+stored-at : (after : Nodes) (op np : Places) (lists : HeldLists) (situation s : Situation) (n : Node) → after.old_places ≡ op → after.new_places ≡ np →
+    after.held_lists ≡ lists → s ≡ situation → slice_get op.places.items situation.old ≡ Some n.old → slice_get np.places.items situation.new ≡ Some n.new →
+    IsListed lists.links.keys situation.held n.held.items → IsAt after s n
+stored-at after op np lists situation s n e f g same at_old at_new listed = record {
+  old = ap (λ (x : Places). slice_get x.places.items s.old) e ∙ ap (λ (x : Situation). slice_get op.places.items x.old) same ∙ at_old;
+  new = ap (λ (x : Places). slice_get x.places.items s.new) f ∙ ap (λ (x : Situation). slice_get np.places.items x.new) same ∙ at_new;
+  held = subst (λ (x : HeldLists). IsListed x.links.keys s.held n.held.items) (sym g)
+      (subst (λ (x : Situation). IsListed lists.links.keys x.held n.held.items) (sym same) listed);
+}
+
+pub new-added : (old new : List FlatItem) (before after : Nodes) (op np : Places) (lists : HeldLists) (situation s : Situation) (n : Node) (k : ℕ)
+    (left right : Runs) (way : Way) → after.old_places ≡ op → after.new_places ≡ np → after.held_lists ≡ lists → s ≡ situation →
+    slice_get op.places.items situation.old ≡ Some n.old → slice_get np.places.items situation.new ≡ Some n.new →
+    IsListed lists.links.keys situation.held n.held.items → rest_of old n.old ≡ left → rest_of new n.new ≡ right →
+    k ≡ length before.situations.keys → after.ways.items ≡ before.ways.items ++ way ∷ [] → IsNew old new before after left right n.held.items way k s
+new-added old new before after op np lists situation s n k left right way e f g same at_old at_new listed l r index ways = record {
+  node = n;
+  is_at = stored-at after op np lists situation s n e f g same at_old at_new listed;
   left_is = l;
   right_is = r;
-  held_is = ap (λ (x : Situation). x.held.items) same ∙ h;
+  held_is = refl;
   index = index;
   ways = ways;
 }
 
-pub nodes-added : (old new : List FlatItem) (before after : Nodes) (op np : Places) (situation : Situation) (p q : Place) →
+pub nodes-added : (old new : List FlatItem) (before after : Nodes) (op np : Places) (lists : HeldLists) (situation : Situation) (n : Node) →
     AreNodes old new before →
-    ArePlaces old op.places.items op.keys → ArePlaces new np.places.items np.keys →
+    ArePlaces old op.places.items op.keys → ArePlaces new np.places.items np.keys → AreLinks lists.links.keys →
     Keeps before.old_places.places.items op.places.items → Keeps before.new_places.places.items np.places.items →
-    after.old_places ≡ op → after.new_places ≡ np →
+    Keeps before.held_lists.links.keys lists.links.keys →
+    after.old_places ≡ op → after.new_places ≡ np → after.held_lists ≡ lists →
     ((k : ℕ) (s : Situation) → slice_get after.situations.keys k ≡ Some s → (slice_get before.situations.keys k ≡ Some s) ⊎ (s ≡ situation)) →
-    slice_get op.places.items situation.old ≡ Some p → slice_get np.places.items situation.new ≡ Some q → AreNodes old new after
-nodes-added old new before after op np situation p q are is_old is_new keeps_old keeps_new e f only at_old at_new =
+    slice_get op.places.items situation.old ≡ Some n.old → slice_get np.places.items situation.new ≡ Some n.new →
+    IsListed lists.links.keys situation.held n.held.items → AreNodes old new after
+nodes-added old new before after op np lists situation n are is_old is_new is_links keeps_old keeps_new keeps_lists e f g only at_old at_new listed =
     let into : (k n : ℕ) → k < length op.places.items → n < length np.places.items →
     (k < length after.old_places.places.items) × (n < length after.new_places.places.items) =
     λ k n less fewer. (
       subst (λ (x : Places). k < length x.places.items) (sym e) less,
       subst (λ (x : Places). n < length x.places.items) (sym f) fewer,
     ) in
+    let in_lists : (number : ℕ) (held : List HeldAnswer) → IsListed lists.links.keys number held →
+    (held : List HeldAnswer) × IsListed after.held_lists.links.keys number held =
+    λ number held is. (held, subst (λ (x : HeldLists). IsListed x.links.keys number held) (sym g) is) in
     record {
       of_old = subst (λ (x : Places). ArePlaces old x.places.items x.keys) (sym e) is_old;
       of_new = subst (λ (x : Places). ArePlaces new x.places.items x.keys) (sym f) is_new;
+      links = subst (λ (x : HeldLists). AreLinks x.links.keys) (sym g) is_links;
       within = λ k s at. elim (only k s at) [
         | inl was ↦ let w = are.within k s was in
             into s.old s.new (longer _ _ s.old keeps_old w.0) (longer _ _ s.new keeps_new w.1)
         | inr same ↦ into s.old s.new
-            (subst (λ (x : Situation). x.old < length op.places.items) (sym same) (slice_get_within op.places.items situation.old p at_old))
-            (subst (λ (x : Situation). x.new < length np.places.items) (sym same) (slice_get_within np.places.items situation.new q at_new))
+            (subst (λ (x : Situation). x.old < length op.places.items) (sym same) (slice_get_within op.places.items situation.old n.old at_old))
+            (subst (λ (x : Situation). x.new < length np.places.items) (sym same) (slice_get_within np.places.items situation.new n.new at_new))
+      ];
+      listed = λ k s at. elim (only k s at) [
+        | inl was ↦ let w = are.listed k s was in in_lists s.held w.0 (listed-kept _ _ s.held w.0 keeps_lists w.1)
+        | inr same ↦ in_lists s.held n.held.items (subst (λ (x : Situation). IsListed lists.links.keys x.held n.held.items) (sym same) listed)
       ];
     }
 
-pub met-added : (old new : List FlatItem) (after : Nodes) (op np : Places) (situation s : Situation) (p q : Place) (k : ℕ) (a : Assignment)
-    (left right : Runs) → after.old_places ≡ op → after.new_places ≡ np →
-    slice_get after.situations.keys k ≡ Some s → IsSame s situation →
-    slice_get op.places.items situation.old ≡ Some p → slice_get np.places.items situation.new ≡ Some q → rest_of old p ≡ left → rest_of new q ≡ right →
-    ((name : ℕ) → a name < 31) → Holds a situation.held.items → IsMet old new after a left right
-met-added old new after op np situation s p q k a left right e f at same at_old at_new l r low h = record {
+pub met-added : (old new : List FlatItem) (after : Nodes) (op np : Places) (lists : HeldLists) (situation s : Situation) (n : Node) (k : ℕ)
+    (a : Assignment) (left right : Runs) → after.old_places ≡ op → after.new_places ≡ np → after.held_lists ≡ lists →
+    slice_get after.situations.keys k ≡ Some s → s ≡ situation →
+    slice_get op.places.items situation.old ≡ Some n.old → slice_get np.places.items situation.new ≡ Some n.new →
+    IsListed lists.links.keys situation.held n.held.items → rest_of old n.old ≡ left → rest_of new n.new ≡ right →
+    Holds a n.held.items → IsMet old new after a left right
+met-added old new after op np lists situation s n k a left right e f g at same at_old at_new listed l r h = record {
   index = k;
   situation = s;
-  node = record { old = p; new = q; held = s.held };
+  node = n;
   is_there = at;
-  is_at = record {
-    old = ap (λ (x : Places). slice_get x.places.items s.old) e ∙ ap (λ (n : ℕ). slice_get op.places.items n) same.old ∙ at_old;
-    new = ap (λ (x : Places). slice_get x.places.items s.new) f ∙ ap (λ (n : ℕ). slice_get np.places.items n) same.new ∙ at_new;
-    held = refl;
-  };
+  is_at = stored-at after op np lists situation s n e f g same at_old at_new listed;
   left_is = l;
   right_is = r;
-  holds = same.held a low h;
+  holds = h;
 }
+
+-- LINKS
+
+pub links-none : (links : List Link) → links ≡ [] → AreLinks links
+links-none links e = record { each = λ k l at. absurd (nothing l (sym (ap (λ (x : List Link). slice_get x k) e) ∙ at)) }
+
+module _ (keys after : List Link) (value : Link) (within : value.before ≤ length keys) (set : IsCodeSet value.answer.codes) (are : AreLinks keys) where
+  links-pushed : after ≡ keys ++ value ∷ [] → AreLinks after
+  links-pushed e = record {
+    each = λ k l at. elim (append-cases keys value k l (sym (ap (λ (x : List Link). slice_get x k) e) ∙ at)) [
+      | inl was ↦ are.each k l was
+      | inr new ↦ (
+        subst (λ (x : Link). x.before ≤ k) new.0 (omega (arith, within, new.1)),
+        subst (λ (x : Link). IsCodeSet x.answer.codes) new.0 set,
+      )
+    ];
+  }
+
+  by-links : (t : Bool) → after ≡ cond t keys (keys ++ value ∷ []) → AreLinks after
+  by-links true e = subst AreLinks (sym e) are
+  by-links false e = links-pushed e
+
+  pub links-inserted : (test : Link → Bool) → after ≡ cond (list_any test keys) keys (keys ++ value ∷ []) → AreLinks after
+  links-inserted test e = by-links (list_any test keys) e

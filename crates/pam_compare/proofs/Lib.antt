@@ -3,6 +3,7 @@ pub mod Coming
 pub mod Fewer
 pub mod Growing
 pub mod Holding
+pub mod Lists
 pub mod Many
 pub mod Matched
 pub mod Meeting

@@ -15,12 +15,14 @@ use Rattle.pam_compare.specs.declared.nodes.Nodes.{Nodes}
 use Rattle.pam_compare.specs.declared.situation.Situation.{Situation}
 use Rattle.pam_compare.specs.Agreement.{Agree}
 use Rattle.pam_compare.specs.Held.{Holds, same_situation}
+use Rattle.pam_compare.specs.HeldLists.{same_link}
 use Rattle.pam_compare.specs.Naming.{AreNames, IsKnown, IsPossible, by_name, name_of}
 use Rattle.pam_compare.specs.Nodes.{AreNodes, ArePlaces}
 use Rattle.pam_compare.specs.Situations.{Comes, HasMoreSituations, IsReached, Standing}
 use Rattle.pam_compare.specs.Trails.{answers_on}
 use Rattle.pam_compare.specs.Ways.{AreReached}
 use Rattle.pam_compare.proofs.Growing.{same-some}
+use Rattle.pam_compare.proofs.Lists.{listed-for}
 use Rattle.pam_compare.proofs.Reaching.{possible-on}
 use Rattle.pam_compare.proofs.Standing.{IsInside, all-at, all-map, are-apart, stand}
 
@@ -54,7 +56,7 @@ module _ (old_allows new_allows : Allowance) (old new : List FlatItem) (partners
   module _ (nodes : Nodes) (base : Assignment) (can : IsPossible possible base) (are : AreNodes old new nodes)
       (reached : AreReached old new names possible nodes) where
     standing-reached : (d : PlaceKey) (k : ℕ) (s : Situation) → slice_get nodes.situations.keys k ≡ Some s →
-        IsReached old_allows new_allows old new partners (stand nodes.old_places.keys nodes.new_places.keys d s)
+        IsReached old_allows new_allows old new partners (stand nodes.old_places.keys nodes.new_places.keys nodes.held_lists.links.keys d s)
     standing-reached d k s at =
         let r = reached.reached k s at in
         let way = r.way in
@@ -69,27 +71,28 @@ module _ (old_allows new_allows : Allowance) (old new : List FlatItem) (partners
           agree = names-agree a;
           old_comes = subst (Comes (runs_of old) a) (key-at old _ _ s.old r.node.old d are.of_old r.is_at.old) (way.old_comes a follows);
           new_comes = subst (Comes (runs_of new) (by_name names a)) (key-at new _ _ s.new r.node.new d are.of_new r.is_at.new) (way.new_comes a follows);
-          holds = subst (Holds a) (sym r.is_at.held) (way.holds a follows);
+          holds = subst (Holds a) (sym (listed-for _ s.held s.held r.node.held.items (omega arith) r.is_at.held)) (way.holds a follows);
         }
 
     pub many : (limit : ℕ) → limit < length nodes.situations.keys → IsDistinct same_situation nodes.situations.keys → AreDifferent nodes.old_places.keys →
-        AreDifferent nodes.new_places.keys → HasMoreSituations old_allows new_allows old new partners limit
-    many limit more distinct old_keys new_keys =
+        AreDifferent nodes.new_places.keys → IsDistinct same_link nodes.held_lists.links.keys → HasMoreSituations old_allows new_allows old new partners limit
+    many limit more distinct old_keys new_keys distinct_links =
         let keys = nodes.situations.keys in
         let olds = nodes.old_places.keys in
         let news = nodes.new_places.keys in
+        let links = nodes.held_lists.links.keys in
         let first = head-of keys (omega (arith, more)) in
         let d : PlaceKey = key_of (reached.reached 0 first.0 first.1).node.old in
-        let inside : AllByRecursion (IsInside olds news d) keys =
-        all-at (IsInside olds news d) keys (λ k s at.
+        let inside : AllByRecursion (IsInside olds news links d) keys =
+        all-at (IsInside olds news links d) keys (λ k s at.
         let within = are.within k s at in
         let less = within.0 in
         let fewer = within.1 in
-        (omega (arith, less, are.of_old.count), omega (arith, fewer, are.of_new.count))) in
+        (omega (arith, less, are.of_old.count), omega (arith, fewer, are.of_new.count), are.listed k s at)) in
         let Reached : Standing → Type 0 = IsReached old_allows new_allows old new partners in (
-          map (stand olds news d) keys,
-          subst (λ (n : ℕ). limit < n) (sym (length-map keys (stand olds news d))) more,
-          are-apart olds news d old_keys new_keys keys inside distinct,
-          all-map (λ s. Reached (stand olds news d s)) Reached (stand olds news d) (λ s h. h) keys
-              (all-at (λ s. Reached (stand olds news d s)) keys (λ k s at. standing-reached d k s at)),
+          map (stand olds news links d) keys,
+          subst (λ (n : ℕ). limit < n) (sym (length-map keys (stand olds news links d))) more,
+          are-apart olds news links d old_keys new_keys distinct_links keys inside distinct,
+          all-map (λ s. Reached (stand olds news links d s)) Reached (stand olds news links d) (λ s h. h) keys
+              (all-at (λ s. Reached (stand olds news links d s)) keys (λ k s at. standing-reached d k s at)),
         )

@@ -20,6 +20,7 @@ use Rattle.pam_compare.specs.Nodes.{IsAt, IsBegun, IsDecided, IsDone, IsMet, IsN
 use Rattle.pam_compare.specs.Turn.{IsTurn, new_after, old_after, turn_name}
 use Rattle.pam_compare.proofs.Growing.{same-some}
 use Rattle.pam_compare.proofs.Holding.{holds-equal}
+use Rattle.pam_compare.proofs.Lists.{one-listed}
 
 -- the modules that a run asks under an assignment
 abbrev steps : Runs → Assignment → ℕ
@@ -57,7 +58,7 @@ module _ (names : List ℕ) (a : Assignment) where
 pub same-node : (nodes : Nodes) (s : Situation) (n m : Node) → IsAt nodes s n → IsAt nodes s m →
     (n.old ≡ m.old) × (n.new ≡ m.new) × (n.held.items ≡ m.held.items)
 same-node nodes s n m one other =
-    (same-some n.old m.old (sym one.old ∙ other.old), same-some n.new m.new (sym one.new ∙ other.new), sym one.held ∙ other.held)
+    (same-some n.old m.old (sym one.old ∙ other.old), same-some n.new m.new (sym one.new ∙ other.new), one-listed _ s.held _ _ one.held other.held)
 
 module _ (old new : List FlatItem) (names : List ℕ) (possible : List (List ℕ)) (nodes : Nodes) (found : Found)
     (closed : (k : ℕ) (s : Situation) → slice_get nodes.situations.keys k ≡ Some s → IsVisited old new names possible nodes found s)

@@ -1,4 +1,4 @@
--- Situations that are found to be equal.
+-- Answers and situations that are found to be equal.
 use Rattle.std.proofs.Common.{◌≡◌, ◌<◌, ◌∙◌, ℕ, Bool, true, false, cond, eqb, List, [], ◌∷◌, ap, arith, refl, subst, sym}
 use Rattle.std.specs.Int.{bit_at}
 use Rattle.std.specs.List.{range_with_len}
@@ -13,7 +13,7 @@ use Rattle.pam_codes.specs.SetBits.{bits_of_codes, codes_of_bits, codes_where-sa
 use Rattle.pam_dispatch.specs.Runs.{Assignment}
 use Rattle.pam_compare.specs.declared.held.HeldAnswer.{HeldAnswer}
 use Rattle.pam_compare.specs.declared.situation.Situation.{Situation}
-use Rattle.pam_compare.specs.Held.{Holds, IsSame, same_held, same_situation}
+use Rattle.pam_compare.specs.Held.{same_held, same_situation}
 
 bit-in : (codes : List ℕ) (c : ℕ) → c < 31 → bit_at (bits_of_codes codes) c ≡ cond (is_in c codes) 1 0
 unfolding bits_of_codes all_codes
@@ -31,36 +31,29 @@ unfolding codes_of_bits
 codes-kept codes order =
     codes_where-same _ _ (λ code low. ap (λ (n : ℕ). eqb n 1) (bit-in codes code low) ∙ one-if (is_in code codes)) ∙ sym order
 
-set-bit : (s t : Bool) (n m : ℕ) → n ≡ cond s 1 0 → m ≡ cond t 1 0 → n ≡ m → s ≡ true → t ≡ true
-set-bit s true n m e f g h = refl
-set-bit true false n m e f g h = absurd (omega (arith, e, f, g))
-set-bit false false n m e f g h = absurd (false≢true h)
+-- sets with the same bits are equal
+pub codes-same : (xs ys : List ℕ) → IsCodeSet xs → IsCodeSet ys → bits_of_codes xs ≡ bits_of_codes ys → xs ≡ ys
+codes-same xs ys first second e = sym (codes-kept xs first) ∙ ap codes_of_bits e ∙ codes-kept ys second
 
-in-same : (xs ys : List ℕ) (c : ℕ) → c < 31 → bits_of_codes xs ≡ bits_of_codes ys → is_in c xs ≡ true → is_in c ys ≡ true
-in-same xs ys c low e is =
-    set-bit (is_in c xs) (is_in c ys) (bit_at (bits_of_codes xs) c) (bit_at (bits_of_codes ys) c) (bit-in xs c low) (bit-in ys c low)
-    (ap (λ (n : ℕ). bit_at n c) e) is
+abbrev answer_of : ℕ → List ℕ → HeldAnswer
+answer_of name codes = record { name = name; codes = codes }
 
-holds-same : (a : Assignment) → ((name : ℕ) → a name < 31) → (xs ys : List HeldAnswer) → pointwise same_held xs ys ≡ true → Holds a xs → Holds a ys
-unfolding Holds
-holds-same a low [] [] t h = tt
-holds-same a low [] (y ∷ ys) t h = absurd (false≢true t)
-holds-same a low (x ∷ xs) [] t h = absurd (false≢true t)
-holds-same a low (x ∷ xs) (y ∷ ys) t h =
-    let parts = and_parts (same_held x y) (pointwise same_held xs ys) t in
-    let both = and_parts (eqb x.name y.name) (eqb (bits_of_codes x.codes) (bits_of_codes y.codes)) parts.0 in
-    let name : x.name ≡ y.name = eqb-true x.name y.name both.0 in
-    let bits = eqb-true (bits_of_codes x.codes) (bits_of_codes y.codes) both.1 in (
-      subst (λ (n : ℕ). is_in (a n) y.codes ≡ true) name (in-same x.codes y.codes (a x.name) (low x.name) bits h.0),
-      holds-same a low xs ys parts.1 h.1,
-    )
+pub answers-same : (one other : HeldAnswer) → IsCodeSet one.codes → IsCodeSet other.codes → same_held one other ≡ true → one ≡ other
+answers-same one other first second t =
+    let parts = and_parts (eqb one.name other.name) (eqb (bits_of_codes one.codes) (bits_of_codes other.codes)) t in
+    let name : one.name ≡ other.name = eqb-true one.name other.name parts.0 in
+    let codes = codes-same one.codes other.codes first second (eqb-true (bits_of_codes one.codes) (bits_of_codes other.codes) parts.1) in
+    ap (λ (n : ℕ). answer_of n one.codes) name ∙ ap (answer_of other.name) codes
 
-pub same-is : (one other : Situation) → same_situation other one ≡ true → IsSame one other
+abbrev situation_of : ℕ → ℕ → ℕ → Situation
+situation_of old new held = record { old = old; new = new; held = held }
+
+pub same-is : (one other : Situation) → same_situation other one ≡ true → one ≡ other
 same-is one other t =
     let first = and_parts (eqb other.old one.old) _ t in
-    let second = and_parts (eqb other.new one.new) (pointwise same_held other.held.items one.held.items) first.1 in
-    record {
-      old = sym (eqb-true other.old one.old first.0);
-      new = sym (eqb-true other.new one.new second.0);
-      held = λ a low h. holds-same a low other.held.items one.held.items second.1 h;
-    }
+    let second = and_parts (eqb other.new one.new) (eqb other.held one.held) first.1 in
+    let old : one.old ≡ other.old = sym (eqb-true other.old one.old first.0) in
+    let new : one.new ≡ other.new = sym (eqb-true other.new one.new second.0) in
+    let held : one.held ≡ other.held = sym (eqb-true other.held one.held second.1) in
+    ap (λ (n : ℕ). situation_of n one.new one.held) old ∙ ap (λ (n : ℕ). situation_of other.old n one.held) new
+    ∙ ap (situation_of other.old other.new) held

@@ -5,14 +5,15 @@ use Rattle.std.specs.List.{AllByRecursion, IsDistinct}
 use Rattle.std.specs.Prelude.{slice_get}
 use Rattle.std.proofs.lemmas.Bool.{and_from, false≢true}
 use Rattle.std.proofs.lemmas.Map.Keys.{IsDistinct-head, IsDistinct-tail}
-use lib.Pointwise.{pointwise}
-use Rattle.pam_codes.specs.SetBits.{bits_of_codes}
 use Rattle.pam_dispatch.specs.declared.key.PlaceKey.{PlaceKey}
 use Rattle.pam_dispatch.specs.Keys.{AreDifferent, DiffersFrom}
 use Rattle.pam_compare.specs.declared.held.HeldAnswer.{HeldAnswer}
+use Rattle.pam_compare.specs.declared.held_lists.Link.{Link}
 use Rattle.pam_compare.specs.declared.situation.Situation.{Situation}
 use Rattle.pam_compare.specs.Situations.{AreApart, Standing}
-use Rattle.pam_compare.specs.Held.{same_held, same_situation}
+use Rattle.pam_compare.specs.Held.{same_situation}
+use Rattle.pam_compare.specs.HeldLists.{IsListed, same_link}
+use Rattle.pam_compare.proofs.Lists.{list_for, listed-for, one-number}
 
 pub all-at : {X : Type 0} (P : X → Type 0) (xs : List X) → ((k : ℕ) (x : X) → slice_get xs k ≡ Some x → P x) → AllByRecursion P xs
 all-at P [] h = tt
@@ -43,31 +44,28 @@ one-index d (key ∷ keys) (suc i) (suc j) different first second e =
 
 -- SITUATIONS
 
-held-self : (held : List HeldAnswer) → pointwise same_held held held ≡ true
-held-self [] = refl
-held-self (x ∷ xs) =
-    and_from (same_held x x) (pointwise same_held xs xs)
-    (and_from (eqb x.name x.name) (eqb (bits_of_codes x.codes) (bits_of_codes x.codes)) (eq-eqb x.name x.name refl)
-    (eq-eqb (bits_of_codes x.codes) (bits_of_codes x.codes) refl))
-    (held-self xs)
-
-module _ (olds news : List PlaceKey) (d : PlaceKey) where
+module _ (olds news : List PlaceKey) (links : List Link) (d : PlaceKey) where
   abbrev pub stand : Situation → Standing
-  stand s = record { old = get_or olds s.old d; new = get_or news s.new d; held = s.held.items }
+  stand s = record { old = get_or olds s.old d; new = get_or news s.new d; held = list_for links s.held s.held }
 
   abbrev pub IsInside : Situation → Type 0
-  IsInside s = (s.old < length olds) × (s.new < length news)
+  IsInside s = (s.old < length olds) × (s.new < length news) × ((held : List HeldAnswer) × IsListed links s.held held)
 
-  module _ (old_keys : AreDifferent olds) (new_keys : AreDifferent news) where
+  module _ (old_keys : AreDifferent olds) (new_keys : AreDifferent news) (distinct_links : IsDistinct same_link links) where
     stand-apart : (s t : Situation) → IsInside s → IsInside t → same_situation s t ≡ false → stand s ≢ stand t
     stand-apart s t first second apart e =
         let old = one-index d olds s.old t.old old_keys first.0 second.0 (ap (λ (x : Standing). x.old) e) in
         let new = one-index d news s.new t.new new_keys first.1 second.1 (ap (λ (x : Standing). x.new) e) in
-        let held : pointwise same_held s.held.items t.held.items ≡ true =
-        subst (λ (l : List HeldAnswer). pointwise same_held s.held.items l ≡ true) (ap (λ (x : Standing). x.held) e) (held-self s.held.items) in
+        let one = first.2 in
+        let other = second.2 in
+        let lists : one.0 ≡ other.0 =
+        sym (listed-for links s.held s.held one.0 (omega arith) one.1) ∙ ap (λ (x : Standing). x.held) e
+        ∙ listed-for links t.held t.held other.0 (omega arith) other.1 in
+        let held : s.held ≡ t.held =
+        one-number links s.held t.held other.0 distinct_links (subst (IsListed links s.held) lists one.1) other.1 in
         false≢true (sym apart
-        ∙ and_from (eqb s.old t.old) (eqb s.new t.new && pointwise same_held s.held.items t.held.items) (eq-eqb s.old t.old old)
-        (and_from (eqb s.new t.new) (pointwise same_held s.held.items t.held.items) (eq-eqb s.new t.new new) held))
+        ∙ and_from (eqb s.old t.old) (eqb s.new t.new && eqb s.held t.held) (eq-eqb s.old t.old old)
+        (and_from (eqb s.new t.new) (eqb s.held t.held) (eq-eqb s.new t.new new) (eq-eqb s.held t.held held)))
 
     each-apart : (s : Situation) (rest : List Situation) → IsInside s → AllByRecursion IsInside rest →
         AllByRecursion (λ t. same_situation s t ≡ false) rest → AllByRecursion (λ x. stand s ≢ x) (map stand rest)

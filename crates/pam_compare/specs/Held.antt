@@ -1,6 +1,5 @@
 -- Answers that one stack has had from modules which the other has still ahead.
 use Rattle.std.specs.Prelude.{◌≡◌, ◌<◌, ◌&&◌, ℕ, Bool, List, [], ◌∷◌, IsTrue, nat_eq, slice_get, unwrap_or}
-use lib.Pointwise.{pointwise}
 use Rattle.pam_codes.specs.SetBits.{bits_of_codes, codes_of_bits}
 use Rattle.pam_codes.specs.Set.{is_in}
 use Rattle.pam_dispatch.specs.Runs.{Assignment}
@@ -12,18 +11,12 @@ unfoldable pub Holds : Assignment → List HeldAnswer → Type 0
 Holds a [] = Unit {0}
 Holds a (answer ∷ rest) = IsTrue (is_in (a answer.name) answer.codes) × Holds a rest
 
--- for private contracts and proofs alone: the same places, and the same held answers
-pub record IsSame (one other : Situation) : Type 0 where
-  pub old : one.old ≡ other.old
-  pub new : one.new ≡ other.new
-  pub held : (a : Assignment) → ((name : ℕ) → a name < 31) → Holds a other.held.items → Holds a one.held.items
-
 -- for private contracts and proofs alone: the tests that are derived
 abbrev pub same_held : HeldAnswer → HeldAnswer → Bool
 same_held a b = nat_eq a.name b.name && nat_eq (bits_of_codes a.codes) (bits_of_codes b.codes)
 
 abbrev pub same_situation : Situation → Situation → Bool
-same_situation a b = nat_eq a.old b.old && (nat_eq a.new b.new && pointwise same_held a.held.items b.held.items)
+same_situation a b = nat_eq a.old b.old && (nat_eq a.new b.new && nat_eq a.held b.held)
 
 -- for private contracts and proofs alone: the least code of a set, by its bits; 31 if there is none
 abbrev pub least_of_bits : ℕ → ℕ

@@ -2,10 +2,12 @@ pub mod Agreement
 pub mod Changes
 pub mod Comparison
 pub mod Held
+pub mod HeldLists
 pub mod Likeness
 pub mod Matching
 pub mod Naming
 pub mod Nodes
+pub mod Outcomes
 pub mod Situations
 pub mod Trails
 pub mod Turn

@@ -19,6 +19,7 @@ use Rattle.pam_compare.specs.declared.turn.Turn.{Turn}
 use Rattle.pam_compare.specs.Changes.{change_of}
 use Rattle.pam_compare.specs.Comparison.{decision_in}
 use Rattle.pam_compare.specs.Held.{Holds}
+use Rattle.pam_compare.specs.HeldLists.{AreLinks, IsListed}
 use Rattle.pam_compare.specs.Naming.{IsPossible, by_name}
 use Rattle.pam_compare.specs.Turn.{IsTurn, turn_name, old_after, new_after}
 
@@ -36,8 +37,11 @@ pub record ArePlaces (program : List FlatItem) (places : List Place) (keys : Lis
 pub record AreNodes (old new : List FlatItem) (nodes : Nodes) : Type 0 where
   pub of_old : ArePlaces old nodes.old_places.places.items nodes.old_places.keys
   pub of_new : ArePlaces new nodes.new_places.places.items nodes.new_places.keys
+  pub links : AreLinks nodes.held_lists.links.keys
   pub within : (k : ℕ) (s : Situation) → slice_get nodes.situations.keys k ≡ Some s →
       (s.old < length nodes.old_places.places.items) × (s.new < length nodes.new_places.places.items)
+  pub listed : (k : ℕ) (s : Situation) → slice_get nodes.situations.keys k ≡ Some s →
+      (held : List HeldAnswer) × IsListed nodes.held_lists.links.keys s.held held
 
 -- what is in a list stays where it is
 unfoldable pub Keeps : {X : Type 0} → List X → List X → Type 0
@@ -46,6 +50,7 @@ Keeps {X} before after = (k : ℕ) (x : X) → slice_get before k ≡ Some x →
 pub record KeepsNodes (before after : Nodes) : Type 0 where
   pub of_old : Keeps before.old_places.places.items after.old_places.places.items
   pub of_new : Keeps before.new_places.places.items after.new_places.places.items
+  pub held_lists : Keeps before.held_lists.links.keys after.held_lists.links.keys
   pub situations : Keeps before.situations.keys after.situations.keys
   pub ways : Keeps before.ways.items after.ways.items
 
@@ -53,7 +58,7 @@ pub record KeepsNodes (before after : Nodes) : Type 0 where
 pub record IsAt (nodes : Nodes) (s : Situation) (n : Node) : Type 0 where
   pub old : slice_get nodes.old_places.places.items s.old ≡ Some n.old
   pub new : slice_get nodes.new_places.places.items s.new ≡ Some n.new
-  pub held : s.held.items ≡ n.held.items
+  pub held : IsListed nodes.held_lists.links.keys s.held n.held.items
 
 -- node k is a new one, to which the last way leads
 pub record IsNew (old new : List FlatItem) (before after : Nodes) (left right : Runs) (held : List HeldAnswer) (way : Way) (k : ℕ)

@@ -119,7 +119,7 @@ pub(crate) fn expand(
     let name = turn_name(pair.naming, fork.turn);
     let mut left = codes_at(pair, fork);
     while let Some(code) = first_usual(left) {
-        let class = common(class_of(pair, fork.node, fork.turn, code), left);
+        let class = common(class_of(pair, fork.node, fork.turn, code, left), left);
         let way = Way {
             parent: fork.index,
             name,

@@ -125,7 +125,7 @@ fn push_if(is_wanted: bool, answer: HeldAnswer, held: &mut Vec<HeldAnswer>) -> R
     Ok(())
 }
 
-/// What is held after an answer of this class, where the stacks then ask these modules next.
+/// What is held after an answer of this class, where the stacks then ask these modules next: the last answer comes first.
 pub(crate) fn held_after(
     alloc: Global,
     naming: &Naming,
@@ -138,15 +138,16 @@ pub(crate) fn held_after(
     ensures told { (modules : ℕ) → length naming.now.names.items ≡ modules + 1 → AreLast naming.now.names.items naming.now.last.items
         → IfOk result (λ after. IsHeldAfter naming.now.names.items naming.now.old_modules modules held.now after.items answer old new) }
 {
+    let name = answer.name;
     let mut after = Vec::new(alloc);
+    push_if(is_ahead(naming, name, old, new), answer, &mut after)?;
     for index in 0..held.len() {
         let earlier = held[index];
         push_if(
-            is_wanted(naming, earlier.name, answer.name, old, new),
+            is_wanted(naming, earlier.name, name, old, new),
             earlier,
             &mut after,
         )?;
     }
-    push_if(is_ahead(naming, answer.name, old, new), answer, &mut after)?;
     Ok(after)
 }

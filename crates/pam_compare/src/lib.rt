@@ -6,6 +6,7 @@ mod change;
 mod comparing;
 mod expanding;
 mod held;
+mod held_lists;
 mod matching;
 mod naming;
 mod node;

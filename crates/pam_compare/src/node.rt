@@ -4,13 +4,14 @@ ghost use Rattle.std.specs.Prelude.{◌≡◌, ◌<◌, ℕ, IsSome, IsTrue};
 ghost use Rattle.pam_codes.specs.Set.{is_in};
 ghost use Rattle.pam_dispatch.specs.Flat.{IsPlaceOf, rest_of};
 ghost use Rattle.pam_dispatch.specs.Runs.{after_answer, asked_module, outcome_in};
+ghost use Rattle.pam_compare.specs.Outcomes.{AreOutcomes};
 ghost use Rattle.pam_compare.specs.Turn.{AreAlike, IsTurn, old_after, new_after};
 
 use crate::held::HeldAnswer;
 use crate::naming::Naming;
 use crate::turn::Turn;
 use pam_codes::{CODES, Code, CodeSet};
-use pam_dispatch::{Place, Program, Work};
+use pam_dispatch::{Outcome, Place, Program, Work};
 
 /// Two programs, and the names of their modules.
 #[derive(Clone, Copy, Debug)]
@@ -28,53 +29,87 @@ pub(crate) struct Node {
     pub(crate) held: Vec<HeldAnswer>,
 }
 
-/// Whether a module's codes lead to the same rest of the run.
-fn lead_alike(program: &Program, place: &Place, code: Code, other: Code) -> bool
-    requires place { IsPlaceOf program.now place.now }
-    requires asking { IsSome (asked_module (rest_of program.now place.now)) }
-    ensures { IsTrue result → after_answer (rest_of program.now place.now) code ≡ after_answer (rest_of program.now place.now) other }
-{
-    program.outcome(place, code) == program.outcome(place, other)
+/// The outcomes of a code in the stacks that are asked.
+#[derive(Clone, Copy, Debug)]
+struct Outcomes {
+    old: Outcome,
+    new: Outcome,
 }
 
-/// Whether both stacks go on alike after two codes.
-fn are_alike(pair: &Pair<'_>, node: &Node, turn: Turn, code: Code, other: Code) -> bool
+/// The outcomes of a code.
+fn outcomes_of(pair: &Pair<'_>, node: &Node, turn: Turn, code: Code) -> Outcomes
     requires old { IsPlaceOf pair.now.old.now node.now.old }
     requires new { IsPlaceOf pair.now.new.now node.now.new }
     requires turn { IsTurn pair.now.naming.now.names.items (asked_module (rest_of pair.now.old.now node.now.old))
         (asked_module (rest_of pair.now.new.now node.now.new)) turn }
-    ensures { IsTrue result → AreAlike turn (rest_of pair.now.old.now node.now.old) (rest_of pair.now.new.now node.now.new) code other }
+    ensures { AreOutcomes turn (rest_of pair.now.old.now node.now.old) (rest_of pair.now.new.now node.now.new) code result }
 {
     match turn {
-        Turn::Old(_) => lead_alike(pair.old, &node.old, code, other),
-        Turn::New(_) => lead_alike(pair.new, &node.new, code, other),
-        Turn::Both(_, _) => lead_alike(pair.old, &node.old, code, other)
-            && lead_alike(pair.new, &node.new, code, other),
+        Turn::Old(_) => Outcomes {
+            old: pair.old.outcome(&node.old, code),
+            new: Outcome::default(),
+        },
+        Turn::New(_) => Outcomes {
+            old: Outcome::default(),
+            new: pair.new.outcome(&node.new, code),
+        },
+        Turn::Both(_, _) => Outcomes {
+            old: pair.old.outcome(&node.old, code),
+            new: pair.new.outcome(&node.new, code),
+        },
     }
 }
 
-/// Adds the code with this number to `class`, if both stacks go on after it as after `code`.
+/// Whether a module's code leads to an outcome, and so to the same rest of the run as each other code that does.
+fn leads_to(program: &Program, place: &Place, outcome: &Outcome, other: Code) -> bool
+    requires place { IsPlaceOf program.now place.now }
+    requires asking { IsSome (asked_module (rest_of program.now place.now)) }
+    ensures { (code : ℕ) → outcome_in (rest_of program.now place.now) code ≡ outcome.now → IsTrue result
+        → after_answer (rest_of program.now place.now) code ≡ after_answer (rest_of program.now place.now) other }
+{
+    *outcome == program.outcome(place, other)
+}
+
+/// Whether both stacks go on after a code as after those that have these outcomes.
+fn are_alike(pair: &Pair<'_>, node: &Node, turn: Turn, outcomes: &Outcomes, other: Code) -> bool
+    requires old { IsPlaceOf pair.now.old.now node.now.old }
+    requires new { IsPlaceOf pair.now.new.now node.now.new }
+    requires turn { IsTurn pair.now.naming.now.names.items (asked_module (rest_of pair.now.old.now node.now.old))
+        (asked_module (rest_of pair.now.new.now node.now.new)) turn }
+    ensures { (code : ℕ) → AreOutcomes turn (rest_of pair.now.old.now node.now.old) (rest_of pair.now.new.now node.now.new) code outcomes.now
+        → IsTrue result → AreAlike turn (rest_of pair.now.old.now node.now.old) (rest_of pair.now.new.now node.now.new) code other }
+{
+    match turn {
+        Turn::Old(_) => leads_to(pair.old, &node.old, &outcomes.old, other),
+        Turn::New(_) => leads_to(pair.new, &node.new, &outcomes.new, other),
+        Turn::Both(_, _) => leads_to(pair.old, &node.old, &outcomes.old, other)
+            && leads_to(pair.new, &node.new, &outcomes.new, other),
+    }
+}
+
+/// Adds a code to `class`, if both stacks go on after it as after those that have these outcomes.
 fn with_alike(
     pair: &Pair<'_>,
     node: &Node,
     turn: Turn,
-    code: Code,
+    outcomes: &Outcomes,
     class: CodeSet,
-    number: u8,
+    other: Option<Code>,
 ) -> CodeSet
     requires old { IsPlaceOf pair.now.old.now node.now.old }
     requires new { IsPlaceOf pair.now.new.now node.now.new }
     requires turn { IsTurn pair.now.naming.now.names.items (asked_module (rest_of pair.now.old.now node.now.old))
         (asked_module (rest_of pair.now.new.now node.now.new)) turn }
-    ensures alike { ((d : ℕ) → d < 31 → IsTrue (is_in d class)
+    ensures alike { (code : ℕ) → AreOutcomes turn (rest_of pair.now.old.now node.now.old) (rest_of pair.now.new.now node.now.new) code outcomes.now
+        → ((d : ℕ) → d < 31 → IsTrue (is_in d class)
         → AreAlike turn (rest_of pair.now.old.now node.now.old) (rest_of pair.now.new.now node.now.new) code d)
         → (d : ℕ) → d < 31 → IsTrue (is_in d result) → AreAlike turn (rest_of pair.now.old.now node.now.old) (rest_of pair.now.new.now node.now.new) code d }
     ensures more { (d : ℕ) → d < 31 → IsTrue (is_in d class) → IsTrue (is_in d result) }
 {
-    let Some(other) = Code::new(number) else {
+    let Some(other) = other else {
         return class;
     };
-    if !are_alike(pair, node, turn, code, other) {
+    if !are_alike(pair, node, turn, outcomes, other) {
         return class;
     }
     let mut more = class;
@@ -82,8 +117,24 @@ fn with_alike(
     more
 }
 
-/// The codes after which both stacks go on as after `code`.
-pub(crate) fn class_of(pair: &Pair<'_>, node: &Node, turn: Turn, code: Code) -> CodeSet
+/// The code with this number, if it is one of these.
+fn member(codes: CodeSet, number: u8) -> Option<Code> {
+    let code = Code::new(number)?;
+    if codes.contains(code) {
+        Some(code)
+    } else {
+        None
+    }
+}
+
+/// The code `code`, and those of `left` after which both stacks go on as after it.
+pub(crate) fn class_of(
+    pair: &Pair<'_>,
+    node: &Node,
+    turn: Turn,
+    code: Code,
+    left: CodeSet,
+) -> CodeSet
     requires old { IsPlaceOf pair.now.old.now node.now.old }
     requires new { IsPlaceOf pair.now.new.now node.now.new }
     requires turn { IsTurn pair.now.naming.now.names.items (asked_module (rest_of pair.now.old.now node.now.old))
@@ -92,9 +143,10 @@ pub(crate) fn class_of(pair: &Pair<'_>, node: &Node, turn: Turn, code: Code) -> 
         → AreAlike turn (rest_of pair.now.old.now node.now.old) (rest_of pair.now.new.now node.now.new) code d }
     ensures own { code < 31 → IsTrue (is_in code result) }
 {
+    let outcomes = outcomes_of(pair, node, turn, code);
     let mut class = CodeSet::single(code);
     for number in 0..CODES as u8 {
-        class = with_alike(pair, node, turn, code, class, number);
+        class = with_alike(pair, node, turn, &outcomes, class, member(left, number));
     }
     class
 }

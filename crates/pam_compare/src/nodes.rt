@@ -7,7 +7,8 @@ ghost use Rattle.pam_dispatch.specs.Flat.{IsPlaceOf, rest_of};
 ghost use Rattle.pam_dispatch.specs.Runs.{Assignment};
 ghost use Rattle.pam_compare.specs.declared.situation.Situation.{Situation};
 ghost use Rattle.pam_compare.specs.declared.change.Change.{Change};
-ghost use Rattle.pam_compare.specs.Held.{Holds, IsSame, same_situation};
+ghost use Rattle.pam_compare.specs.Held.{Holds, same_situation};
+ghost use Rattle.pam_compare.specs.HeldLists.{same_link};
 ghost use Rattle.pam_compare.specs.Ways.{found_at};
 ghost use Rattle.pam_dispatch.specs.Keys.{AreDifferent};
 ghost use Rattle.std.specs.List.{IsDistinct};
@@ -15,6 +16,7 @@ ghost use Rattle.pam_compare.specs.Nodes.{AreAdded, AreNodes, ArePlaces, IsAt, I
 
 use crate::change::Change;
 use crate::held::HeldAnswer;
+use crate::held_lists::HeldLists;
 use crate::node::Node;
 use crate::situation::Situation;
 use indexmap::IndexSet;
@@ -44,6 +46,7 @@ pub(crate) struct Places {
 pub(crate) struct Nodes {
     pub(crate) old_places: Places,
     pub(crate) new_places: Places,
+    pub(crate) held_lists: HeldLists,
     pub(crate) situations: IndexSet<Situation>,
     pub(crate) ways: Vec<Way>,
 }
@@ -62,16 +65,6 @@ fn push_place(places: &mut Vec<Place>, place: &Place) -> Result<(), Memory>
 {
     match places.extend_from_slice(&[*place]) {
         Ok(()) => Ok(()),
-        Err(_) => Err(Memory),
-    }
-}
-
-fn copied(alloc: Global, held: &[HeldAnswer]) -> Result<Vec<HeldAnswer>, Memory>
-    ensures { IfOk result (λ copy. copy.items ≡ held.now) }
-{
-    let mut copy = Vec::new(alloc);
-    match copy.extend_from_slice(held) {
-        Ok(()) => Ok(copy),
         Err(_) => Err(Memory),
     }
 }
@@ -121,6 +114,7 @@ impl Nodes {
         Nodes {
             old_places: Places::new(alloc),
             new_places: Places::new(alloc),
+            held_lists: HeldLists::new(alloc),
             situations: IndexSet::new(alloc),
             ways: Vec::new(alloc),
         }
@@ -132,16 +126,19 @@ impl Nodes {
         ensures different { IsDistinct same_situation self.now.situations.keys }
         ensures old_places { AreDifferent self.now.old_places.keys }
         ensures new_places { AreDifferent self.now.new_places.keys }
+        ensures held_lists { IsDistinct same_link self.now.held_lists.links.keys }
     {
-        // A table says with its length that its places differ.
+        // A table says with its length that its places, or its links, differ.
         let _old = self.old_places.keys.len();
         let _new = self.new_places.keys.len();
+        let _lists = self.held_lists.len();
         self.situations.len()
     }
 
     /// Adds a situation, unless it is there. Returns its index.
     fn add_situation(&mut self, situation: Situation, way: Way) -> Result<usize, Memory>
         ensures places { OnOk result ((self.new.old_places ≡ self.old.old_places) × (self.new.new_places ≡ self.old.new_places)) }
+        ensures lists { OnOk result (self.new.held_lists ≡ self.old.held_lists) }
         ensures keeps { OnOk result (Keeps self.old.situations.keys self.new.situations.keys) }
         ensures ways { OnOk result (Keeps self.old.ways.items self.new.ways.items) }
         ensures count { length self.old.ways.items ≡ length self.old.situations.keys
@@ -149,13 +146,21 @@ impl Nodes {
         ensures added { OnOk result ((k : ℕ) (s : Situation) → slice_get self.new.situations.keys k ≡ Some s
             → (slice_get self.old.situations.keys k ≡ Some s)
             ⊎ (s ≡ situation) × (k ≡ length self.old.situations.keys) × (self.new.ways.items ≡ self.old.ways.items ++ way ∷ [])) }
-        ensures found { IfOk result (λ k. (s : Situation) × (slice_get self.new.situations.keys k ≡ Some s) × IsSame s situation) }
+        ensures found { IfOk result (λ k. (s : Situation) × (slice_get self.new.situations.keys k ≡ Some s) × (s ≡ situation)) }
     {
         let (index, is_new) = self.situations.insert_full(situation)?;
         if is_new {
             self.ways.push(way)?;
         }
         Ok(index)
+    }
+
+    /// The number of the list of answers that are held at a situation; 0 if there is none with this index.
+    fn list_at(&self, index: usize) -> usize {
+        match self.situations.get_index(index) {
+            Some(situation) => situation.held,
+            None => 0,
+        }
     }
 
     /// Adds the situation with these places and held answers, unless it is there.
@@ -178,10 +183,12 @@ impl Nodes {
     {
         let old_index = self.old_places.index_of(old_place)?;
         let new_index = self.new_places.index_of(new_place)?;
+        let near = self.list_at(way.parent);
+        let list = self.held_lists.number_after(near, &held)?;
         let situation = Situation {
             old: old_index,
             new: new_index,
-            held,
+            held: list,
         };
         self.add_situation(situation, way)?;
         Ok(())
@@ -196,7 +203,7 @@ impl Nodes {
         let Some(situation) = self.situations.get_index(index) else {
             unreachable!()
         };
-        let held = copied(alloc, &situation.held)?;
+        let held = self.held_lists.answers(alloc, situation.held)?;
         Ok(Node {
             old: self.old_places.at(situation.old),
             new: self.new_places.at(situation.new),

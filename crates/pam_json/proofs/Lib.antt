@@ -1,3 +1,4 @@
 pub mod AnswerLines
+pub mod CompareLines
 pub mod ItemLines
 pub mod PlainTexts

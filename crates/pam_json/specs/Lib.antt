@@ -1,5 +1,7 @@
+pub mod Compare
 pub mod Decide
 pub mod Header
+pub mod Heads
 pub mod Outcomes
 pub mod Show
 pub mod Steps

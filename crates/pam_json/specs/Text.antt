@@ -1,7 +1,8 @@
 -- The JSON of a reply.
 use Rattle.std.specs.Prelude.{◌≡◌, ℕ, List, Option, None, Some, Result}
 use Rattle.pam_codes.specs.Out.{Device, Out, WritesAndFlushes}
-use Rattle.pam_report.specs.Reply.{Reply, Stack, Run, Access, Time, Outcomes}
+use Rattle.pam_report.specs.Reply.{Reply, Stack, Run, Access, Time, Outcomes, Compared}
+use Rattle.pam_json.specs.Compare.{compare_json}
 use Rattle.pam_json.specs.Decide.{run_json}
 use Rattle.pam_json.specs.Outcomes.{outcomes_json}
 use Rattle.pam_json.specs.Show.{stack_json}
@@ -14,6 +15,7 @@ json_of (Run run) = Some (run_json run)
 json_of (Access found) = Some (access_json found)
 json_of (Time found) = Some (time_json found)
 json_of (Outcomes outcomes) = Some (outcomes_json outcomes)
+json_of (Compared changes) = Some (compare_json changes)
 json_of reply = None
 
 -- JSON is written in full and then flushed once, or up to some byte if the writer failed. Without JSON nothing is written

@@ -5,7 +5,11 @@ use Rattle.pam_json_lines.specs.Line.{strings}
 use Rattle.pam_parts.specs.Ways.{count_text}
 use Rattle.pam_paths.specs.Steps.{step_seen}
 use Rattle.serde_json.specs.Data.{Data, string}
+use Rattle.pam_report.specs.ReplyViews.{side_files}
+use Rattle.pam_json.specs.Compare.{arguments_array, fault_if_any, modules_array, steps_array as asked_array}
 use Rattle.pam_json.specs.Steps.{cursor_string, steps_array}
+use Rattle.pam_json.specs.declared.compare.values.ChangeValue.{ChangeValue}
+use Rattle.pam_json.specs.declared.compare.values.ChangeValue.TheVariants.{Arguments as ModuleArguments, Fault, Modules, Steps as AskedSteps}
 use Rattle.pam_json.specs.declared.show.ModuleValue.{ModuleValue}
 use Rattle.pam_json.specs.declared.show.ModuleValue.TheVariants.{Arguments, Control}
 use Rattle.pam_json.specs.declared.steps.PathValue.{PathValue}
@@ -19,3 +23,9 @@ abbrev pub path_value : PathValue → Data
 path_value (Cursor path) = cursor_string path.now
 path_value (Steps stack steps) = steps_array stack.now (map step_seen steps.now)
 path_value (Ways count) = string (count_text count)
+
+abbrev pub change_value : ChangeValue → Data
+change_value (Fault files fault) = fault_if_any (side_files files) fault.now
+change_value (ModuleArguments stack number) = arguments_array stack.now number
+change_value (Modules stack numbers) = modules_array stack.now numbers.now
+change_value (AskedSteps pair asked) = asked_array pair.now asked.now

@@ -3,6 +3,7 @@
 ghost use Rattle.pam_report.specs.ReplyViews.{reply_view};
 ghost use Rattle.pam_json.specs.Text.{PrintsIfAny, json_of};
 
+use crate::compare::write_compared;
 use crate::decide::write_run;
 use crate::outcomes::write_outcomes;
 use crate::show::write_stack;
@@ -26,6 +27,7 @@ pub fn print_if_any<W: Write>(
         Reply::Access(answer) => Some(write_access(*answer, out)),
         Reply::Time(answer) => Some(write_time(*answer, out)),
         Reply::Outcomes(outcomes) => Some(write_outcomes(outcomes, out)),
+        Reply::Compared(compared) => Some(write_compared(compared, out)),
         _ => None,
     }
 }

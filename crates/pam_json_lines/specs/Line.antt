@@ -29,6 +29,10 @@ number_or_null (Some n) = number (unsigned n)
 abbrev pub readable : List ℕ → Data
 readable bytes = string (utf8_lossy bytes)
 
+abbrev pub readable_or_null : Option (List ℕ) → Data
+readable_or_null None = null
+readable_or_null (Some bytes) = readable bytes
+
 -- texts as an array of strings
 abbrev pub strings : List (List ℕ) → Data
 strings texts = array (items_of (map readable texts))

@@ -1,6 +1,6 @@
 //! The objects of which an answer consists, a line each.
 
-ghost use Rattle.std.specs.Prelude.{◌≡◌, ◌++◌, false, map};
+ghost use Rattle.std.specs.Prelude.{◌≡◌, ◌++◌, false, map, option_map};
 ghost use Rattle.pam_text.specs.Out.{Writes};
 ghost use Rattle.serde_json.specs.Data.{object};
 ghost use Rattle.serde_json.specs.Written.{comma_if, compact_text, members_text};
@@ -62,7 +62,7 @@ impl<'x, V: Written> Member<'x, V> {
     ghost use Rattle.serde_json.specs.Data.{boolean as json_boolean, number as json_number, string, unsigned};
     ghost use Rattle.std.specs.Char.{to_ascii_lowercase};
     ghost use Rattle.std.specs.Str.Lossy.{utf8_lossy};
-    ghost use Rattle.pam_json_lines.specs.Line.{number_or_null};
+    ghost use Rattle.pam_json_lines.specs.Line.{number_or_null, readable_or_null};
 
     /// A string. The text is UTF-8.
     pub fn text(name: &'x str, text: &'x [u8]) -> Member<'x, V>
@@ -82,6 +82,17 @@ impl<'x, V: Written> Member<'x, V> {
             name,
             value: Value::Readable(bytes),
         }
+    }
+
+    /// The same, or `null`.
+    pub fn readable_if_any(name: &'x str, bytes: Option<&'x [u8]>) -> Member<'x, V>
+        ensures { member_of V.value result ≡ (name.now, readable_or_null (option_map (λ b. b.now) bytes.entry)) }
+    {
+        let value = match bytes {
+            Some(bytes) => Value::Readable(bytes),
+            None => Value::Null,
+        };
+        Member { name, value }
     }
 
     /// A string in lowercase. The text is UTF-8.

@@ -1,5 +1,5 @@
 -- Lines that are read in part.
-use Rattle.std.proofs.Common.{◌≡◌, ◌∙◌, ◌≤◌, ◌<◌, ◌+◌, ◌==◌, ℕ, zero, suc, List, [], ◌∷◌, Bool, true, false, Option, None, Some, arith, ap, cond, eqb, refl, sym, subst}
+use Rattle.std.proofs.Common.{◌≡◌, ◌∙◌, ◌≤◌, ◌<◌, ◌+◌, ℕ, zero, suc, List, [], ◌∷◌, Bool, true, false, None, Some, arith, eqb, refl, sym, subst}
 use Rattle.std.proofs.lemmas.Bool.{eq-eqb, eqb-false, eqb-true}
 use Rattle.pam_released.proofs.LineNumbers.{LinesRise, text_rises}
 use Rattle.pam_text.proofs.TextSteps.{unequal}

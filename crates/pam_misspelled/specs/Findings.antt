@@ -1,5 +1,5 @@
 -- The words that are wrong at findings.
-use Rattle.std.specs.Prelude.{ℕ, List, Option, Some, None}
+use Rattle.std.specs.Prelude.{Option, Some, None}
 use Rattle.std.specs.Option.{option_and_then}
 use Rattle.pam_conf.specs.Files.{Folder}
 use Rattle.pam_conf.specs.declared.error.FaultKind.{FaultKind}

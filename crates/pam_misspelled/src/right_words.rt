@@ -35,7 +35,10 @@ fn nearest_in_lowercase<'a>(
 ) -> Result<Option<&'a [u8]>, AllocError>
     ensures { IfOk result (λ found. option_map (λ w. w.now) found ≡ nearest (map (λ w. w.now) words.now) (map to_ascii_lowercase word.now)) }
 {
-    let lower: Vec<u8> = word.iter().map(|byte| byte.to_ascii_lowercase()).collect(alloc)?;
+    let lower: Vec<u8> = word
+        .iter()
+        .map(|byte| byte.to_ascii_lowercase())
+        .collect(alloc)?;
     Ok(nearest(words, &lower))
 }
 

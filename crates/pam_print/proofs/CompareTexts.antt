@@ -10,10 +10,11 @@ use Rattle.pam_changes.specs.declared.stacks.StackChange.TheVariants.{NoStack}
 use Rattle.pam_changes.specs.declared.steps.AskedModule.{AskedModule}
 use Rattle.pam_conf.specs.Stack.{Items}
 use Rattle.pam_conf.specs.declared.rule.Kind.TheVariants.{Auth}
+use Rattle.pam_parts.specs.Changes.{compared_count}
 use Rattle.pam_report.specs.Reply.{CompareValue}
 use Rattle.pam_text.proofs.TextSteps.{unequal}
 use Rattle.pam_print.specs.Check.{counted}
-use Rattle.pam_print.specs.Compare.{asked_text, asked_texts, compare_text, compared_count, has_any, last_line, lines_after, moved_text, next_asked}
+use Rattle.pam_print.specs.Compare.{asked_text, asked_texts, compare_text, has_any, last_line, lines_after, moved_text, next_asked}
 use Rattle.pam_print.specs.Compare.{next_stack, numbered, numbered_text, only_count}
 
 -- the first and the others of a list

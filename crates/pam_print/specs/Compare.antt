@@ -1,9 +1,8 @@
 -- The text of `compare`: a line for each change, and a last line with their numbers.
-use Rattle.std.specs.Prelude.{ℕ, zero, suc, ◌+◌, ◌==◌, ◌||◌, nat_lt, Bool, true, false, not, List, [], ◌∷◌, ◌++◌, codes, count_by, decimal, if◌then◌else◌}
-use Rattle.std.specs.Prelude.{is_some, Option, None, Some, slice_get}
+use Rattle.std.specs.Prelude.{ℕ, ◌==◌, ◌||◌, nat_lt, Bool, true, false, List, [], ◌∷◌, ◌++◌, codes, decimal, if◌then◌else◌}
+use Rattle.std.specs.Prelude.{Option, None, Some, slice_get}
 use Rattle.std.specs.List.{flat_map}
 use Rattle.std.specs.Option.{option_map_or}
-use Rattle.std.specs.Str.{bytes_eq}
 use Rattle.pam_changes.specs.Counts.{counts_of}
 use Rattle.pam_changes.specs.declared.counts.Counts.{Counts}
 use Rattle.pam_changes.specs.declared.modules.MatchedPair.{MatchedPair}
@@ -23,6 +22,7 @@ use Rattle.pam_conf.specs.Files.{Folder}
 use Rattle.pam_conf.specs.Stack.{Items, module_at}
 use Rattle.pam_conf.specs.declared.conf_error.ConfError.{ConfError}
 use Rattle.pam_conf.specs.declared.rule.Kind.{Kind}
+use Rattle.pam_parts.specs.Changes.{compared_count, is_grave, occurrence, service_at}
 use Rattle.pam_report.specs.Decide.{path_at}
 use Rattle.pam_report.specs.Fault.{file_at}
 use Rattle.pam_report.specs.FaultTable.{conf_row}
@@ -32,15 +32,6 @@ use Rattle.pam_sentences.specs.Shown.{shown_name}
 use Rattle.pam_print.specs.Header.{code_name, kind_name}
 
 -- MODULES
-
--- how many of the modules up to a number have a path
-abbrev pub with_path : Items → List ℕ → ℕ → ℕ
-with_path items path zero = 0
-with_path items path (suc number) = with_path items path number + (if bytes_eq (path_at (suc number) items) path then 1 else 0)
-
--- which of the modules with its path a module is, from 1
-abbrev pub occurrence : Items → ℕ → ℕ
-occurrence items number = with_path items (path_at number items) number
 
 abbrev pub occurrence_text : ℕ → List ℕ
 occurrence_text which = if nat_lt 1 which then codes "#" ++ decimal which else []
@@ -143,9 +134,6 @@ abbrev pub grave_text : Head → StackPair → ShownChanges → List ℕ
 grave_text head pair changes =
     change_if_any head pair (codes "admits") changes.admits ++ change_if_any head pair (codes "refuses") changes.refuses
 
-abbrev pub is_grave : ShownChanges → Bool
-is_grave changes = is_some changes.admits || is_some changes.refuses
-
 -- another failure only where nobody is let in and nobody no longer
 abbrev pub changes_text : Head → StackPair → ShownChanges → List ℕ
 changes_text head pair changes = if is_grave changes then grave_text head pair changes else tells_text head pair changes.tells
@@ -172,10 +160,6 @@ unfoldable pub pair_text : Head → StackPair → List ℕ
 pair_text head pair = flat_map (argument_line head pair) pair.modules.arguments.items ++ decisions_text head pair
 
 -- A STACK
-
--- the name of a service by its position, empty if there is none
-abbrev pub service_at : List ComparedService → ℕ → List ℕ
-service_at services position = option_map_or (λ s. s.name.items) (slice_get services position) []
 
 -- ` FILE:LINE`, if there is a file
 abbrev pub place_text : Option (List ℕ) → ℕ → List ℕ
@@ -246,14 +230,6 @@ lines_after value before [] = []
 lines_after value before (stack ∷ stacks) = next_stack value before stack ++ lines_after value (Some stack.service) stacks
 
 -- THE LAST LINE
-
-abbrev pub is_stack : StackChange → Bool
-is_stack changes.NoStack = false
-is_stack _ = true
-
--- the number of stacks that some configuration has
-abbrev pub compared_count : List ComparedStack → ℕ
-compared_count stacks = count_by (λ s. is_stack s.change) stacks
 
 -- `; N services WHERE`, but nothing for none
 abbrev pub only_count : ℕ → List ℕ → List ℕ

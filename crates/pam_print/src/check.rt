@@ -9,7 +9,7 @@ ghost use Rattle.pam_report.specs.Reply.{Check};
 ghost use Rattle.pam_report.specs.ReplyViews.{check_view};
 ghost use Rattle.pam_report.specs.TablePaths.{table_paths_view};
 ghost use Rattle.pam_print.specs.Check.{at_most, check_text, counted, counts_of, findings_text, is_level, last_line, levels_text, lines_text};
-ghost use Rattle.pam_print.specs.Check.{names_of_value, number_at, table_line, table_number_at, unused_line, word_at};
+ghost use Rattle.pam_print.specs.Check.{names_of_value, number_at, numbered_line, table_line, table_number_at, unused_line, word_at};
 ghost use Rattle.pam_print.specs.CheckNames.{names_view, word_of};
 ghost use Rattle.pam_print.specs.Leaves.{Prints};
 
@@ -165,6 +165,20 @@ fn word_at(words: &[Option<Misspelled>], position: usize) -> Option<&Misspelled>
     }
 }
 
+/// Writes the line of a finding, with the word that is wrong at its position.
+fn put_numbered<W: Write>(
+    names: &Names<'_>,
+    words: &[Option<Misspelled>],
+    position: usize,
+    entry: &(Place, Finding),
+    out: &mut Out<W>,
+) -> Result<(), Device>
+    ensures { Writes W.contents out.old out.new result
+        (numbered_line (names_view names.now) (map (option_map misspelled_view) words.now) (position, entry.now)) }
+{
+    put_finding(names, &entry.0, entry.1, word_at(words, position), out)
+}
+
 /// Writes the findings, each with the word that is wrong at its position.
 fn put_findings<W: Write>(
     names: &Names<'_>,
@@ -176,7 +190,7 @@ fn put_findings<W: Write>(
         (findings_text (names_view names.now) (map (option_map misspelled_view) words.now) found.now) }
 {
     for (position, entry) in found.iter().enumerate() {
-        put_finding(names, &entry.0, entry.1, word_at(words, position), out)?;
+        put_numbered(names, words, position, entry, out)?;
     }
     Ok(())
 }

@@ -1,10 +1,10 @@
 //! The text of `compare`: a line for each change, and a last line with their numbers.
 
-ghost use Rattle.std.specs.Prelude.{◌≡◌, ◌++◌, None};
+ghost use Rattle.std.specs.Prelude.{◌++◌, None};
 ghost use Rattle.pam_codes.specs.Out.{Writes, WritesAndFlushes};
 ghost use Rattle.pam_report.specs.ReplyViews.{compare_view};
 ghost use Rattle.pam_sentences.specs.Shown.{shown_name};
-ghost use Rattle.pam_print.specs.Compare.{compare_text, compared_count, if_first, is_stack, last_line, lines_after, next_stack};
+ghost use Rattle.pam_print.specs.Compare.{compare_text, if_first, last_line, lines_after, next_stack};
 ghost use Rattle.pam_print.specs.Compare.{only_text, presence};
 
 mod asked;
@@ -13,12 +13,13 @@ mod pair;
 mod parts;
 mod stack;
 
-use pam_changes::{ComparedService, ComparedStack, Counts, StackChange};
+use pam_changes::{ComparedService, ComparedStack, Counts};
 use pam_codes::{Device, Out};
+use pam_parts::compared_count;
 use pam_report::CompareReply;
+use pam_sentences::put_name;
 use parts::{Part, put_parts};
 use stack::put_stack;
-use pam_sentences::put_name;
 use std::io::Write;
 
 /// Writes `SERVICE` and where alone it is.
@@ -96,26 +97,6 @@ fn put_stacks<W: Write>(
         before = Some(stack.service);
     }
     Ok(())
-}
-
-/// Whether some configuration has the stack.
-fn is_stack(change: &StackChange) -> bool
-    ensures { result ≡ is_stack change.now }
-{
-    match change {
-        StackChange::NoStack => false,
-        _ => true,
-    }
-}
-
-/// Returns the number of stacks that some configuration has.
-fn compared_count(stacks: &[ComparedStack]) -> usize
-    ensures { result ≡ compared_count stacks.now }
-{
-    stacks
-        .iter()
-        .filter(|stack| is_stack(&stack.change))
-        .count()
 }
 
 /// Writes the last line.

@@ -81,10 +81,10 @@ sides_app =
     with_rule (with_rule (with_rule (with_rule (new_app (codes "compare"))
     (required_rule (codes "old"))) (required_rule (codes "new"))) (optional_rule (codes "service"))) (optional_rule (codes "kind"))
 
--- the same, with the form of OLD and NEW, the folders of modules, a facts file and a returns file
+-- the same, with the form of OLD and NEW, `--json`, the folders of modules, a facts file and a returns file
 unfoldable pub compare_app : App
 compare_app =
-    with_options (with_rule (with_rule (with_rule sides_app (flag_rule (codes "conf"))) (flag_rule (codes "root")))
+    with_options (with_rule (with_json (with_rule (with_rule sides_app (flag_rule (codes "conf"))) (flag_rule (codes "root"))))
     (repeated_option_rule (codes "modules"))) (codes "facts" ∷ codes "returns" ∷ [])
 
 -- `explain [NUMBER]`

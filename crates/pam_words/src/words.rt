@@ -67,6 +67,7 @@ static HOSTS: [CommandRow; 2] = [
             KIND_IF_NAMED,
             ARE_FILES,
             ARE_ROOTS,
+            JSON,
             MODULES,
             FACTS,
             RETURNS,

@@ -94,7 +94,7 @@ pub(super) fn table_files<R: std::rt::Files>(
     named: TableNames<'_>,
     looked_up: LookedUp,
 ) -> Result<TableFiles, InputError>
-    ensures ok { IfOk result (AreTables looked_up.entry.login looked_up.entry.moment source.entry named.entry) }
+    ensures ok { IfOk result (AreTables looked_up.login looked_up.moment source.entry named.entry) }
     ensures error { IfErr result (IsUnread (λ n. IsInSource source.entry n ⊎ IsOfTables named.entry n)) }
 {
     let groups = table_of(rt, alloc, source, named.groups, GROUPS, looked_up.login)?;

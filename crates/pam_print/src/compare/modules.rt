@@ -4,29 +4,16 @@ ghost use Rattle.std.specs.Prelude.{◌≡◌, ◌||◌, false, true};
 ghost use Rattle.std.specs.List.{flat_map};
 ghost use Rattle.pam_codes.specs.Out.{Writes};
 ghost use Rattle.pam_print.specs.Compare.{added_text, arguments_text, has_any, if_more, module_changes, module_text, moved_text};
-ghost use Rattle.pam_print.specs.Compare.{numbered, numbered_text, occurrence, occurrence_text, separator, spaced};
+ghost use Rattle.pam_print.specs.Compare.{numbered, numbered_text, occurrence_text, separator, spaced};
 
 use pam_changes::StackPair;
 use pam_codes::{Device, Out, Piece};
 use pam_conf::Stack;
+use pam_parts::occurrence;
 use pam_report::path_at;
 use pam_sentences::put_name;
 use pam_text::Texts;
 use std::io::Write;
-
-/// Returns which of the modules with its path a module is, from 1.
-fn occurrence(stack: &Stack, number: usize) -> usize
-    ensures { result ≡ occurrence stack.now number }
-{
-    let path = path_at(stack, number);
-    let mut count = 0;
-    for index in 0..number {
-        if path_at(stack, index + 1) == path {
-            count += 1;
-        }
-    }
-    count
-}
 
 fn put_occurrence<W: Write>(occurrence: usize, out: &mut Out<W>) -> Result<(), Device>
     ensures { Writes W.contents out.old out.new result (occurrence_text occurrence) }

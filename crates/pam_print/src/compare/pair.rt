@@ -1,9 +1,8 @@
 //! The lines of two stacks that are not the same.
 
-ghost use Rattle.std.specs.Prelude.{◌≡◌};
 ghost use Rattle.std.specs.List.{flat_map};
 ghost use Rattle.pam_codes.specs.Out.{Writes};
-ghost use Rattle.pam_print.specs.Compare.{argument_line, change_if_any, change_line, changes_text, decisions_text, grave_text, is_grave};
+ghost use Rattle.pam_print.specs.Compare.{argument_line, change_if_any, change_line, changes_text, decisions_text, grave_text};
 ghost use Rattle.pam_print.specs.Compare.{not_known_line, pair_text, same_line, tells_text};
 ghost use Rattle.pam_print.specs.CompareParts.{head_view};
 
@@ -12,6 +11,7 @@ use crate::decide::name_of;
 use pam_changes::{Decisions, MatchedPair, Shown, ShownChanges, StackPair};
 use pam_codes::{Device, Out};
 use pam_compare::MAX_SITUATIONS;
+use pam_parts::is_grave;
 use std::io::Write;
 
 /// Writes `SERVICE KIND CHANGE: CODE becomes CODE where MODULE CODE, MODULE CODE`.
@@ -78,13 +78,6 @@ fn put_same<'x, W: Write>(
         ],
         out,
     )
-}
-
-/// Whether somebody is let in now, or no longer.
-fn is_grave(changes: &ShownChanges) -> bool
-    ensures { result ≡ is_grave changes.now }
-{
-    changes.admits.is_some() || changes.refuses.is_some()
 }
 
 /// Writes who is let in now, and who is no longer.

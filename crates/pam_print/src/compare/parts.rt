@@ -1,12 +1,11 @@
 //! The parts of a line of `compare`.
 
-ghost use Rattle.std.specs.Prelude.{◌≡◌, Some, option_map};
+ghost use Rattle.std.specs.Prelude.{Some, option_map};
 ghost use Rattle.std.specs.List.{flat_map};
 ghost use Rattle.pam_codes.specs.Out.{Writes};
 ghost use Rattle.pam_print.specs.Compare.{fault_text, head_text, only_count, place_text, side_text};
 ghost use Rattle.pam_print.specs.CompareParts.{head_view, part_text};
 ghost use Rattle.pam_report.specs.ReplyViews.{side_files};
-ghost use Rattle.pam_report.specs.Fault.{file_at};
 
 use super::asked::put_all_asked;
 use super::modules::{put_arguments, put_module, put_module_changes};
@@ -14,6 +13,7 @@ use crate::check::put_counted;
 use pam_changes::{AskedModule, StackPair};
 use pam_codes::{Device, Out, Piece};
 use pam_conf::{ConfError, Files, Kind, Stack};
+use pam_parts::file_of;
 use pam_report::{conf_name, kind_name};
 use pam_sentences::put_name;
 use std::io::Write;
@@ -86,16 +86,6 @@ fn put_head<W: Write>(head: Head<'_>, out: &mut Out<W>) -> Result<(), Device>
     put_name(head.service, out)?;
     out.put(b" ")?;
     out.put(kind_name(head.kind).as_bytes())
-}
-
-/// Returns the name of the file of a fault, if it has one.
-fn file_of<'a>(files: Option<&'a Files>, fault: &ConfError) -> Option<&'a [u8]>
-    ensures { option_map (λ name. name.now) result ≡ file_at (side_files files.entry) fault.now.at }
-{
-    match (files, fault.at) {
-        (Some(files), Some(position)) => files.name(position),
-        _ => None,
-    }
 }
 
 /// Writes ` FILE:LINE`.

@@ -1,28 +1,18 @@
 //! What changes in the stack of a service.
 
-ghost use Rattle.std.specs.Prelude.{◌≡◌};
 ghost use Rattle.pam_codes.specs.Out.{Writes};
 ghost use Rattle.pam_report.specs.ReplyViews.{compare_view};
-ghost use Rattle.pam_print.specs.Compare.{as_line, pair_at, refused_line, service_at, stack_text};
+ghost use Rattle.pam_print.specs.Compare.{as_line, pair_at, refused_line, stack_text};
 ghost use Rattle.pam_print.specs.CompareParts.{head_view};
 
 use super::pair::put_pair;
 use super::parts::{Head, Part, put_parts};
-use pam_changes::{ComparedService, ComparedStack, StackChange, StackPair};
+use pam_changes::{ComparedStack, StackChange, StackPair};
 use pam_codes::{Device, Out};
 use pam_conf::ConfError;
+use pam_parts::service_at;
 use pam_report::CompareReply;
 use std::io::Write;
-
-/// Returns the name of a service by its position, empty if there is none.
-fn service_at(services: &[ComparedService], position: usize) -> &[u8]
-    ensures { result.now ≡ service_at services.now position }
-{
-    match services.get(position) {
-        Some(service) => service.name.as_slice(),
-        None => b"",
-    }
-}
 
 /// Writes `SERVICE KIND refused: old FAULT, new FAULT`.
 #[tactic(auto, unfolding(crate::specs::Compare::refused_line))]

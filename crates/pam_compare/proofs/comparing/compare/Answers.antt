@@ -41,4 +41,4 @@ returns-then-len-gt-MAX_SITUATIONS g c =
     many (g.K.Knowledge.allows c.args.old_known.now) (g.L.Knowledge.allows c.args.new_known.now) c.args.old.now c.args.new.now c.args.matching.now
     naming.names.items naming.possible.items told.names told.exact c.in_ok-searched.searched.nodes (by_code c.in-Some.usual.items) can found.nodes found.reached
     MAX_SITUATIONS (omega (arith, c.len.ensures.count, c.if-len-gt-MAX_SITUATIONS.true)) c.len.ensures.different c.len.ensures.old_places
-    c.len.ensures.new_places
+    c.len.ensures.new_places c.len.ensures.held_lists

@@ -12,10 +12,20 @@ use Rattle.pam_compare.proofs.held.held_after.Goals as goal
 
 pub loop-index-init : goal.loop-index-init
 unfolding Holds
-loop-index-init c = record {
-  holds = λ a h. holds-equal a [] _ (sym c.new-after.ensures.items) tt;
-  keeps = λ modules count last i h below. absurd (omega (arith, below));
-}
+loop-index-init c =
+    let first = c.in_ok-push_if.ensures in
+    let names = c.args.naming.now.names.items in
+    let count = c.args.naming.now.old_modules in
+    record {
+      holds = λ a h new. first.holds a (holds-equal a [] _ (sym c.new-after.ensures.items) tt) new;
+      adds = λ modules names_count last. elim c.is_ahead.result as (λ (b : Bool).
+          c.is_ahead.result ≡ b →
+          ((m : ℕ) × (slice_get c.push_if.new.held.items m ≡ Some c.args.answer)) ⊎ IsPast names count modules c.args.answer.name c.args.old c.args.new) [
+            | true ↦ λ yes. inl (first.pushed yes)
+            | false ↦ λ out. inr (c.is_ahead.ensures modules names_count last out)
+          ] refl;
+      keeps = λ modules names_count last i h below. absurd (omega (arith, below));
+    }
 
 pub loop-index-preserved : goal.loop-index-preserved
 loop-index-preserved c =
@@ -23,17 +33,21 @@ loop-index-preserved c =
     let held = c.args.held.now in
     let k = c.loop-index.index in
     let earlier = c.index-held-index.result in
-    let step = c.in_ok-push_if.ensures in
+    let step = c.in_ok-push_if-2.ensures in
     let names = c.args.naming.now.names.items in
     let count = c.args.naming.now.old_modules in
     let within : k < length held = omega arith in
     let there : slice_get held k ≡ Some earlier = slice_get-get_or held k earlier within ∙ ap (λ (x : HeldAnswer). Some x) (sym c.index-held-index.is) in
     record {
-      holds = λ a h. step.holds a (inv.holds a h)
+      holds = λ a h new. step.holds a (inv.holds a h new)
           (subst (λ (y : HeldAnswer). is_in (a y.name) y.codes ≡ true) (sym c.index-held-index.is) (holds-at a held k earlier within h));
+      adds = λ modules names_count last. elim (inv.adds modules names_count last) [
+        | inl m ↦ inl (m.0, kept _ _ m.0 c.args.answer step.keeps m.1)
+        | inr past ↦ inr past
+      ];
       keeps = λ modules names_count last i h below at other.
           let Kept : HeldAnswer → Type 0 = λ x.
-          ((m : ℕ) × (slice_get c.push_if.new.held.items m ≡ Some x)) ⊎ IsPast names count modules x.name c.args.old c.args.new in
+          ((m : ℕ) × (slice_get c.push_if-in-loop-index.new.held.items m ≡ Some x)) ⊎ IsPast names count modules x.name c.args.old c.args.new in
           elim (cases_lt i k) [
             | inl before ↦ elim (inv.keeps modules names_count last i h before at other) [
               | inl m ↦ inl (m.0, kept _ _ m.0 h step.keeps m.1)
@@ -54,24 +68,12 @@ loop-index-preserved c =
     }
 
 pub returns-clause-holds : goal.returns-clause-holds
-returns-clause-holds c a h new = c.in_ok-push_if-2.ensures.holds a (c.loop-index.invariant.holds a h) new
+returns-clause-holds c a h new = c.loop-index.invariant.holds a h new
 
 pub returns-clause-told : goal.returns-clause-told
-returns-clause-told c modules count last =
-    let step = c.in_ok-push_if-2.ensures in
-    let names = c.args.naming.now.names.items in
-    let old_count = c.args.naming.now.old_modules in
-    record {
-      keeps = λ i h at other.
-          let below = slice_get_within c.args.held.now i h at in
-          elim (c.loop-index.invariant.keeps modules count last i h (omega (arith, below)) at other) [
-            | inl m ↦ inl (m.0, kept _ _ m.0 h step.keeps m.1)
-            | inr past ↦ inr past
-          ];
-      adds = elim c.is_ahead.result as (λ (b : Bool).
-          c.is_ahead.result ≡ b →
-          ((m : ℕ) × (slice_get c.push_if-2.new.held.items m ≡ Some c.args.answer)) ⊎ IsPast names old_count modules c.args.answer.name c.args.old c.args.new) [
-            | true ↦ λ yes. inl (step.pushed yes)
-            | false ↦ λ out. inr (c.is_ahead.ensures modules count last out)
-          ] refl;
-    }
+returns-clause-told c modules count last = record {
+  keeps = λ i h at other.
+      let below = slice_get_within c.args.held.now i h at in
+      c.loop-index.invariant.keeps modules count last i h (omega (arith, below)) at other;
+  adds = c.loop-index.invariant.adds modules count last;
+}

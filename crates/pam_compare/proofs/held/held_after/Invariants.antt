@@ -1,5 +1,6 @@
 use Rattle.std.proofs.Common.{◌≡◌, ◌≢◌, ◌⊎◌, ◌+◌, ◌<◌, ℕ, Some, length}
-use Rattle.std.specs.Prelude.{slice_get}
+use Rattle.std.specs.Prelude.{IsTrue, slice_get}
+use Rattle.pam_codes.specs.Set.{is_in}
 use Rattle.pam_dispatch.specs.Runs.{Assignment}
 use Rattle.pam_compare.specs.declared.held.HeldAnswer.{HeldAnswer}
 use Rattle.pam_compare.specs.Held.{Holds}
@@ -9,8 +10,10 @@ use Rattle.pam_compare.proofs.held.held_after.Given as goal
 
 abbrev pub invariant-loop-index : goal.invariant-loop-index
 invariant-loop-index l = record {
-  holds : (a : Assignment) → Holds a l.held → Holds a l.after.items;
+  holds : (a : Assignment) → Holds a l.held → IsTrue (is_in (a l.fn.answer.name) l.fn.answer.codes) → Holds a l.after.items;
+  adds : (modules : ℕ) → length l.naming.names.items ≡ modules + 1 → AreLast l.naming.names.items l.naming.last.items →
+      ((k : ℕ) × (slice_get l.after.items k ≡ Some l.fn.answer)) ⊎ IsPast l.naming.names.items l.naming.old_modules modules l.fn.answer.name l.old l.new;
   keeps : (modules : ℕ) → length l.naming.names.items ≡ modules + 1 → AreLast l.naming.names.items l.naming.last.items →
-      (i : ℕ) (h : HeldAnswer) → i < l.index → slice_get l.held i ≡ Some h → h.name ≢ l.answer.name →
+      (i : ℕ) (h : HeldAnswer) → i < l.index → slice_get l.held i ≡ Some h → h.name ≢ l.fn.answer.name →
       ((k : ℕ) × (slice_get l.after.items k ≡ Some h)) ⊎ IsPast l.naming.names.items l.naming.old_modules modules h.name l.old l.new;
 }

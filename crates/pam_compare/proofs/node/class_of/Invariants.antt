@@ -6,6 +6,6 @@ use Rattle.pam_compare.proofs.node.class_of.Given as goal
 
 abbrev pub invariant-loop-number : goal.invariant-loop-number
 invariant-loop-number l = record {
-  alike : (d : ℕ) → d < 31 → is_in d l.class ≡ true → AreAlike l.turn (rest_of l.pair.old.now l.node.old) (rest_of l.pair.new.now l.node.new) l.code d;
-  own : l.code < 31 → is_in l.code l.class ≡ true;
+  alike : (d : ℕ) → d < 31 → is_in d l.class ≡ true → AreAlike l.turn (rest_of l.pair.old.now l.node.old) (rest_of l.pair.new.now l.node.new) l.fn.code d;
+  own : l.fn.code < 31 → is_in l.fn.code l.class ≡ true;
 }

@@ -7,11 +7,11 @@ use Rattle.pam_compare.proofs.Holding.{inserted, or-right}
 use Rattle.pam_compare.proofs.node.with_alike.Goals as goal
 
 pub returns-clause-alike : goal.returns-clause-alike
-returns-clause-alike c before =
+returns-clause-alike c code are before =
     let left = rest_of c.args.pair.now.old.now c.args.node.now.old in
     let right = rest_of c.args.pair.now.new.now c.args.node.now.new in
-    inserted (λ (d : ℕ). AreAlike c.args.turn left right c.args.code d) c.in-Some.other c.args.class _ c.insert.ensures
-    (c.are_alike.ensures c.if-not-are_alike.false) before
+    inserted (λ (d : ℕ). AreAlike c.args.turn left right code d) c.in-Some.other c.args.class _ c.insert.ensures
+    (c.are_alike.ensures code are c.if-not-are_alike.false) before
 
 pub returns-clause-more : goal.returns-clause-more
 returns-clause-more c d low h =

@@ -1,4 +1,4 @@
-use Rattle.std.proofs.Common.{◌≡◌, ◌∙◌, ◌++◌, ◌∷◌, [], Bor, List, Vec, ℕ, ap, arith, map}
+use Rattle.std.proofs.Common.{◌≡◌, ◌∙◌, ◌∷◌, [], Bor, List, Vec, ℕ, ap, arith, map}
 use Rattle.std.proofs.lemmas.List.{map-append}
 use Rattle.std.specs.Global.{Global}
 use Rattle.pam_misspelled.proofs.NearestNames.{all_names, one_name, some_name}

@@ -1,32 +1,27 @@
-use Rattle.std.proofs.Common.{◌+◌, Option, ap, drop, map, sym}
+use Rattle.std.proofs.Common.{◌+◌, drop, map, sym}
 use Rattle.std.specs.List.{enumerate_from, flat_map}
 use Rattle.std.specs.Option.{option_map}
 use Rattle.pam_codes.proofs.Writing.{all-is, all-then, err-front, front-is, front-longer, front-then}
 use Rattle.pam_drawing.proofs.Indices.{indexed-all, indexed-at, indexed-push}
-use Rattle.pam_misspelled.specs.Misspelled.{MisspelledText}
 use Rattle.pam_misspelled.specs.MisspelledView.{misspelled_view}
-use Rattle.pam_print.specs.Check.{finding_line, numbered_line}
+use Rattle.pam_print.specs.Check.{numbered_line}
 use Rattle.pam_print.specs.CheckNames.{names_view}
 use Rattle.pam_print.proofs.check.put_findings.Goals as goal
 
-pub returns-in_err-put_finding : goal.returns-in_err-put_finding
-returns-in_err-put_finding g c =
+pub returns-in_err-put_numbered : goal.returns-in_err-put_numbered
+returns-in_err-put_numbered g c =
     let found = c.args.found.now in
-    let names = names_view c.args.names.now in
-    let line = numbered_line names (map (option_map misspelled_view) c.args.words.now) in
+    let line = numbered_line (names_view c.args.names.now) (map (option_map misspelled_view) c.args.words.now) in
     let position = c.loop-position.position in
-    let item = ap (λ (word : Option MisspelledText). finding_line names _ word) c.word_at.ensures in
     err-front _ c.from_residual.ensures.0
     (front-is
     (front-longer (flat_map line (drop (position + 1) (enumerate_from 0 found)))
-    (front-then c.loop-position.invariant (front-is c.in_err-put_finding.ensures item))) (indexed-at line found position _ c.loop-position-test.true))
+    (front-then c.loop-position.invariant c.in_err-put_numbered.ensures)) (indexed-at line found position _ c.loop-position-test.true))
 
 pub loop-position-preserved : goal.loop-position-preserved
 loop-position-preserved g c =
-    let names = names_view c.args.names.now in
-    let line = numbered_line names (map (option_map misspelled_view) c.args.words.now) in
-    let item = ap (λ (word : Option MisspelledText). finding_line names _ word) c.word_at.ensures in
-    all-is (all-then c.loop-position.invariant (all-is c.in_ok-put_finding.ensures item))
+    let line = numbered_line (names_view c.args.names.now) (map (option_map misspelled_view) c.args.words.now) in
+    all-is (all-then c.loop-position.invariant c.in_ok-put_numbered.ensures)
     (sym (indexed-push line c.args.found.now c.loop-position.position _ c.loop-position-test.true))
 
 pub returns : goal.returns

@@ -6,5 +6,7 @@ pub returns-clause-nodes : goal.returns-clause-nodes
 returns-clause-nodes c old new = record {
   of_old = c.new.ensures old;
   of_new = c.new-2.ensures new;
-  within = λ k s at. let inside = slice_get_within _ k s at in absurd (omega (arith, inside, c.new-3.ensures.len));
+  links = c.new-3.ensures;
+  within = λ k s at. let inside = slice_get_within _ k s at in absurd (omega (arith, inside, c.new-4.ensures.len));
+  listed = λ k s at. let inside = slice_get_within _ k s at in absurd (omega (arith, inside, c.new-4.ensures.len));
 }

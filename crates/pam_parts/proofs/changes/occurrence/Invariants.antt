@@ -1,7 +1,7 @@
 -- the modules so far that have the path are counted
 use Rattle.std.proofs.Common.{◌≡◌, ◌≤◌}
-use Rattle.pam_print.specs.Compare.{with_path}
-use Rattle.pam_print.proofs.compare.modules.occurrence.Given as goal
+use Rattle.pam_parts.specs.Changes.{with_path}
+use Rattle.pam_parts.proofs.changes.occurrence.Given as goal
 
 abbrev pub invariant-loop-index : goal.invariant-loop-index
 invariant-loop-index l = record {

@@ -1,0 +1,36 @@
+-- What a comparison tells of services, stacks and modules.
+use Rattle.std.specs.Prelude.{ℕ, zero, suc, ◌+◌, ◌||◌, Bool, true, false, List, [], count_by, if◌then◌else◌, is_some, slice_get}
+use Rattle.std.specs.Option.{option_map_or}
+use Rattle.std.specs.Str.{bytes_eq}
+use Rattle.pam_changes.specs.declared.pair.ShownChanges.{ShownChanges}
+use Rattle.pam_changes.specs.declared.services.ComparedService.{ComparedService}
+use Rattle.pam_changes.specs.declared.stacks.ComparedStack.{ComparedStack}
+use Rattle.pam_changes.specs.declared.stacks.StackChange.{StackChange}
+use Rattle.pam_changes.specs.declared.stacks.StackChange.TheVariants as changes
+use Rattle.pam_conf.specs.Stack.{Items}
+use Rattle.pam_report.specs.Decide.{path_at}
+
+-- how many of the modules up to a number have a path
+abbrev pub with_path : Items → List ℕ → ℕ → ℕ
+with_path items path zero = 0
+with_path items path (suc number) = with_path items path number + (if bytes_eq (path_at (suc number) items) path then 1 else 0)
+
+-- which of the modules with its path a module is, from 1
+abbrev pub occurrence : Items → ℕ → ℕ
+occurrence items number = with_path items (path_at number items) number
+
+-- the name of a service by its position, empty if there is none
+abbrev pub service_at : List ComparedService → ℕ → List ℕ
+service_at services position = option_map_or (λ s. s.name.items) (slice_get services position) []
+
+-- somebody is let in now, or no longer
+abbrev pub is_grave : ShownChanges → Bool
+is_grave changes = is_some changes.admits || is_some changes.refuses
+
+abbrev pub is_stack : StackChange → Bool
+is_stack changes.NoStack = false
+is_stack _ = true
+
+-- the number of stacks that some configuration has
+abbrev pub compared_count : List ComparedStack → ℕ
+compared_count stacks = count_by (λ s. is_stack s.change) stacks
