@@ -19,16 +19,15 @@ abbrev pub release_text : ReleaseName → List ℕ
 release_text LinuxPam15 = codes "linux-pam-1.5"
 release_text LinuxPam17 = codes "linux-pam-1.7"
 
--- the number of rules, or that the file is refused
+-- `SERVICE KIND as RELEASE`, with the service in lowercase
+unfoldable pub release_front : List ℕ → Kind → ReleaseName → List ℕ
+release_front service kind release =
+    concat (map to_ascii_lowercase service ∷ codes " " ∷ kind_name kind ∷ codes " as " ∷ release_text release ∷ [])
+
+-- ` N rules`, or ` refused`
 abbrev pub count_text : Option (List NumberedRule) → List ℕ
 count_text None = codes " refused\n"
 count_text (Some rules) = concat (codes " " ∷ decimal (length rules) ∷ codes " rules\n" ∷ [])
-
--- `SERVICE KIND as RELEASE N rules`, or `SERVICE KIND as RELEASE refused`, with the service in lowercase
-unfoldable pub release_header : ReleasedValue → List ℕ
-release_header value =
-    map to_ascii_lowercase value.service ++ concat (codes " " ∷ kind_name value.kind ∷ codes " as " ∷ release_text value.release ∷ [])
-    ++ count_text value.rules
 
 -- the service of a rule of pam.conf, with a space before it
 abbrev pub service_text : Option (List ℕ) → List ℕ
@@ -75,4 +74,5 @@ rule_lines file (Some rules) = flat_map (rule_line file) rules
 
 -- THE TEXT of `show` with `--as`
 abbrev pub released_text : ReleasedValue → List ℕ
-released_text value = release_header value ++ rule_lines value.file value.rules
+released_text value =
+    release_front value.service value.kind value.release ++ count_text value.rules ++ rule_lines value.file value.rules

@@ -7,7 +7,7 @@ ghost use Rattle.pam_codes.specs.Out.{Writes, WritesAndFlushes};
 ghost use Rattle.pam_conf.specs.Rule.{body_view};
 ghost use Rattle.pam_released.specs.Readings.{numbered_view, reading_view, rule_view};
 ghost use Rattle.pam_report.specs.ReplyViews.{released_view};
-ghost use Rattle.pam_print.specs.Released.{body_text, count_text, include_text, kind_front, kind_text, reading_text, release_header, release_text};
+ghost use Rattle.pam_print.specs.Released.{body_text, count_text, include_text, kind_front, kind_text, reading_text, release_front, release_text};
 ghost use Rattle.pam_print.specs.Released.{released_text, rule_line, rule_lines, rule_text, service_text};
 
 use crate::header::put_lowercase;
@@ -29,10 +29,7 @@ fn release_text(release: ReleaseName) -> &'static [u8]
 }
 
 /// Writes the number of the rules, or that the file is refused.
-fn put_count<W: Write>(
-    rules: &Option<Vec<NumberedReading>>,
-    out: &mut Out<W>,
-) -> Result<(), Device>
+fn put_count<W: Write>(rules: &Option<Vec<NumberedReading>>, out: &mut Out<W>) -> Result<(), Device>
     ensures { Writes W.contents out.old out.new result (count_text (option_map (λ rules. map numbered_view rules.items) rules.now)) }
 {
     match rules {
@@ -45,13 +42,10 @@ fn put_count<W: Write>(
     }
 }
 
-/// Writes the first line of the answer.
-#[tactic(auto, unfolding(crate::specs::Released::release_header))]
-fn put_release_header<W: Write>(
-    reply: &ReleasedReply<'_>,
-    out: &mut Out<W>,
-) -> Result<(), Device>
-    ensures { Writes W.contents out.old out.new result (release_header (released_view reply.now)) }
+/// Writes the first line of the answer, up to the number of the rules.
+#[tactic(auto, unfolding(crate::specs::Released::release_front))]
+fn put_release_front<W: Write>(reply: &ReleasedReply<'_>, out: &mut Out<W>) -> Result<(), Device>
+    ensures { Writes W.contents out.old out.new result (release_front reply.now.service.now reply.now.kind reply.now.release) }
 {
     put_lowercase(reply.service.as_bytes(), out)?;
     out.put_line(&[
@@ -59,8 +53,7 @@ fn put_release_header<W: Write>(
         Piece::Bytes(kind_name(reply.kind).as_bytes()),
         Piece::Bytes(b" as "),
         Piece::Bytes(release_text(reply.release)),
-    ])?;
-    put_count(&reply.rules, out)
+    ])
 }
 
 /// Writes the service of a rule, if it names one.
@@ -84,11 +77,7 @@ fn put_kind<W: Write>(dashed: bool, kind: Option<Kind>, out: &mut Out<W>) -> Res
 fn kind_front(dashed: bool) -> &'static [u8]
     ensures { result.now ≡ kind_front dashed }
 {
-    if dashed {
-        b" -"
-    } else {
-        b" "
-    }
+    if dashed { b" -" } else { b" " }
 }
 
 fn kind_text(kind: Option<Kind>) -> &'static [u8]
@@ -180,10 +169,7 @@ fn put_rules<W: Write>(
     Ok(())
 }
 
-fn put_rules_if_any<W: Write>(
-    reply: &ReleasedReply<'_>,
-    out: &mut Out<W>,
-) -> Result<(), Device>
+fn put_rules_if_any<W: Write>(reply: &ReleasedReply<'_>, out: &mut Out<W>) -> Result<(), Device>
     ensures { Writes W.contents out.old out.new result (rule_lines reply.now.file.items (released_view reply.now).rules) }
 {
     match &reply.rules {
@@ -198,7 +184,8 @@ pub(crate) fn write_released<W: Write>(
 ) -> Result<(), Device>
     ensures { WritesAndFlushes W.contents out.old out.new result (released_text (released_view reply.now)) }
 {
-    put_release_header(reply, out)?;
+    put_release_front(reply, out)?;
+    put_count(&reply.rules, out)?;
     put_rules_if_any(reply, out)?;
     out.finish()
 }
