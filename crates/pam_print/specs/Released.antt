@@ -3,6 +3,7 @@ use Rattle.std.specs.Prelude.{ℕ, Bool, true, false, List, ◌∷◌, [], ◌++
 use Rattle.std.specs.Char.{to_ascii_lowercase}
 use Rattle.std.specs.List.{concat, flat_map}
 use Rattle.pam_codes.specs.ControlText.{control_text}
+use Rattle.pam_codes.specs.declared.action.Action.{Action}
 use Rattle.pam_conf.specs.Rule.{Include, Module, RuleBody, Sub}
 use Rattle.pam_conf.specs.declared.rule.Kind.{Kind}
 use Rattle.pam_released.specs.Readings.{NumberedRule}
@@ -49,14 +50,18 @@ abbrev pub include_text : Option Kind → List ℕ
 include_text None = []
 include_text (Some kind) = codes " include"
 
+-- `CONTROL PATH ARGUMENT...`, with a space before each word
+abbrev pub module_words : List Action → List ℕ → List (List ℕ) → List ℕ
+module_words control path arguments = codes " " ++ control_text control ++ (codes " " ++ word_text path) ++ words_text arguments
+
 -- the words after the kind: `CONTROL PATH ARGUMENT...`, `include TARGET` or `substack TARGET`
 abbrev pub body_text : Option Kind → RuleBody → List ℕ
-body_text kind (Module control path arguments) = codes " " ++ control_text control ++ (codes " " ++ word_text path) ++ words_text arguments
+body_text kind (Module control path arguments) = module_words control path arguments
 body_text kind (Include target) = include_text kind ++ (codes " " ++ word_text target)
 body_text kind (Sub target) = codes " substack" ++ (codes " " ++ word_text target)
 
 abbrev pub rule_text : LineRule → List ℕ
-rule_text rule = service_text rule.service ++ kind_front rule.dashed ++ kind_text rule.kind ++ body_text rule.kind rule.body
+rule_text rule = service_text rule.service ++ (kind_front rule.dashed ++ kind_text rule.kind) ++ body_text rule.kind rule.body
 
 -- a rule, or that the line cannot be read, and the rule fails
 abbrev pub reading_text : Reading → List ℕ

@@ -1,21 +1,23 @@
 //! The `show` command with `--as`: the rules of a file, as a release reads them.
 
-ghost use Rattle.std.specs.Prelude.{◌≡◌, ◌++◌, map};
+ghost use Rattle.std.specs.Prelude.{◌≡◌, ◌++◌, codes, map};
 ghost use Rattle.std.specs.List.{flat_map};
 ghost use Rattle.std.specs.Option.{option_map};
 ghost use Rattle.pam_codes.specs.Out.{Writes, WritesAndFlushes};
 ghost use Rattle.pam_conf.specs.Rule.{body_view};
 ghost use Rattle.pam_released.specs.Readings.{numbered_view, reading_view, rule_view};
 ghost use Rattle.pam_report.specs.ReplyViews.{released_view};
-ghost use Rattle.pam_print.specs.Released.{body_text, count_text, include_text, kind_front, kind_text, reading_text, release_front, release_text};
+ghost use Rattle.pam_print.specs.Released.{body_text, count_text, include_text, kind_front, kind_text, module_words, reading_text, release_front, release_text};
+ghost use Rattle.pam_print.specs.WordText.{word_text};
 ghost use Rattle.pam_print.specs.Released.{released_text, rule_line, rule_lines, rule_text, service_text};
 
 use crate::header::put_lowercase;
 use crate::show::{put_one_word, put_words};
-use pam_codes::{Device, Out, Piece};
+use pam_codes::{Control, Device, Out, Piece};
 use pam_conf::{Body, Kind};
 use pam_released::{LineRule, NumberedReading, Reading};
 use pam_report::{ReleasedReply, kind_name};
+use pam_text::Texts;
 use pam_words::ReleaseName;
 use std::io::Write;
 
@@ -98,25 +100,50 @@ fn include_text(kind: Option<Kind>) -> &'static [u8]
     }
 }
 
+/// Writes a control, a path and arguments, with a space before each.
+fn put_module<W: Write>(
+    control: &Control,
+    path: &[u8],
+    arguments: &Texts,
+    out: &mut Out<W>,
+) -> Result<(), Device>
+    ensures { Writes W.contents out.old out.new result (module_words control.now path.now arguments.now) }
+{
+    out.put(b" ")?;
+    control.write_text(out)?;
+    put_one_word(path, out)?;
+    put_words(arguments, out)
+}
+
+/// Writes a word, and a target after it.
+fn put_followed<W: Write>(word: &[u8], target: &[u8], out: &mut Out<W>) -> Result<(), Device>
+    ensures { Writes W.contents out.old out.new result (word.now ++ (codes " " ++ word_text target.now)) }
+{
+    out.put(word)?;
+    put_one_word(target, out)
+}
+
+fn put_include<W: Write>(kind: Option<Kind>, target: &[u8], out: &mut Out<W>) -> Result<(), Device>
+    ensures { Writes W.contents out.old out.new result (include_text kind ++ (codes " " ++ word_text target.now)) }
+{
+    put_followed(include_text(kind), target, out)
+}
+
+fn put_sub<W: Write>(target: &[u8], out: &mut Out<W>) -> Result<(), Device>
+    ensures { Writes W.contents out.old out.new result (codes " substack" ++ (codes " " ++ word_text target.now)) }
+{
+    out.put(b" substack")?;
+    put_one_word(target, out)
+}
+
 /// Writes the words after the kind.
 fn put_body<W: Write>(kind: Option<Kind>, body: &Body, out: &mut Out<W>) -> Result<(), Device>
     ensures { Writes W.contents out.old out.new result (body_text kind (body_view body.now)) }
 {
     match body {
-        Body::Module(control, path, arguments) => {
-            out.put(b" ")?;
-            control.write_text(out)?;
-            put_one_word(path, out)?;
-            put_words(arguments, out)
-        }
-        Body::Include(target) => {
-            out.put(include_text(kind))?;
-            put_one_word(target, out)
-        }
-        Body::Sub(target) => {
-            out.put(b" substack")?;
-            put_one_word(target, out)
-        }
+        Body::Module(control, path, arguments) => put_module(control, path, arguments, out),
+        Body::Include(target) => put_include(kind, target, out),
+        Body::Sub(target) => put_sub(target, out),
     }
 }
 
