@@ -115,7 +115,7 @@ fn put_module<W: Write>(
     put_words(arguments, out)
 }
 
-/// Writes a word, and a target after it.
+/// Writes a text, and a target after it.
 fn put_followed<W: Write>(word: &[u8], target: &[u8], out: &mut Out<W>) -> Result<(), Device>
     ensures { Writes W.contents out.old out.new result (word.now ++ (codes " " ++ word_text target.now)) }
 {
