@@ -140,7 +140,7 @@ stack_at service kind login inputs moment files = known_stack kind (login_at ser
 -- what a call gives that answers a task for a service, from these files and the tables of these inputs, if this is what it
 -- gives for an answer that satisfies a relation
 module _ (Gives : (Answer → Type 0) → Type 0) where
-  abbrev pub AnswersBy : List ℕ → Task → Folder → Inputs → Type 0
+  unfoldable pub AnswersBy : List ℕ → Task → Folder → Inputs → Type 0
   AnswersBy service (Show source kind release) files inputs = Gives (λ answer. shown_by release service kind files ≡ answer)
   AnswersBy service (Decide source kind answered) files inputs =
       Gives (λ answer. with_stack (resolved files service kind) (decided_by service kind answered.items) ≡ answer)
