@@ -13,6 +13,7 @@ import plain_graph
 import plain_host
 import plain_json
 import plain_outcomes
+import plain_readings
 import plain_sources
 import plain_stacks as stacks
 import plain_tables as tables
@@ -25,7 +26,7 @@ SOURCES = b"--dir --vendor-dir --conf --root --with"
 OPTIONS = {
     b"check": SOURCES + b" --modules --access --time --group --facts --accept --fail-on",
     b"compare": b"--conf --root --json --modules --facts --returns",
-    b"show": SOURCES + b" --json",
+    b"show": SOURCES + b" --as --json",
     b"decide": SOURCES + b" --json",
     b"paths": SOURCES + b" --limit --after --before --decision --asks" + KNOWING,
     b"outcomes": SOURCES + b" --json" + KNOWING,
@@ -144,6 +145,8 @@ class Request:
         self.decisions = decisions_of(self.options[b"--decision"]) if b"--decision" in self.options else set()
         if self.command in (*OF_PATHS, b"time"):
             self.judge_login_and_moment()
+        if b"--as" in self.options and (self.options[b"--as"] not in plain_readings.RELEASES or self.is_json()):
+            raise Fault("U16")
 
     def judge_sides(self):
         """Refuses both forms of the sides of a comparison, and a word that is no kind."""
@@ -197,6 +200,8 @@ class Request:
             return (b"granted\n", 0) if granted else (b"denied line %d\n" % line, 1)
         if self.command == b"check":
             return self.check(source, tree)
+        if b"--as" in self.options:
+            return plain_readings.shown(source.files, self.service, self.kind, self.options[b"--as"], word_text), 0
         items, modules = stacks.resolve(source.files, self.service, self.kind)
         header = b"%s %s %d modules\n" % (self.service, self.kind, len(modules))
         if self.is_json():

@@ -55,6 +55,7 @@ NAMES = dict(line.split() for line in """
     U12 FormatName
     U13 LevelName
     U15 CandidateForm
+    U16 ReleaseForm
     V1 Read
     V2 Write
 """.strip().splitlines())

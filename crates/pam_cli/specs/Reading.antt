@@ -87,7 +87,7 @@ HasSides old new given = ⊤
 abbrev pub HasSource : List (Text × Text) → Task → Inputs → Type 0
 HasSource candidates (Check source services fail_on named) given = HasFiles candidates source given × HasTables source named given
 HasSource candidates (Compare old new service kind named) given = HasSides old new given
-HasSource candidates (Show source kind) given = HasFiles candidates source given
+HasSource candidates (Show source kind release) given = HasFiles candidates source given
 HasSource candidates (Decide source kind answered) given = HasFiles candidates source given
 HasSource candidates (Paths source kind limit part filter knowledge) given = HasFiles candidates source given × HasKnownTables source knowledge given
 HasSource candidates (Outcomes source kind knowledge) given = HasFiles candidates source given × HasKnownTables source knowledge given
@@ -135,7 +135,7 @@ IsOfCompare old new named name =
 abbrev pub IsOfTask : Task → List ℕ → Type 0
 IsOfTask (Check source services fail_on named) name = IsInSource source name ⊎ IsOfCheck named name
 IsOfTask (Compare old new service kind named) name = IsOfCompare old new named name
-IsOfTask (Show source kind) name = IsInSource source name
+IsOfTask (Show source kind release) name = IsInSource source name
 IsOfTask (Decide source kind answered) name = IsInSource source name
 IsOfTask (Access table groups login arguments) name = IsNamed (option_copied groups) name ⊎ (name ≡ table.now)
 IsOfTask (Time table login moment) name = name ≡ table.now

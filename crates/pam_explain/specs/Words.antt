@@ -268,4 +268,19 @@ numbers_and_candidates =
           codes "write --with NAME=FILE, as --with sshd=/tmp/sshd, beside --dir or\n"
           ++ codes "--root.";
     }
+    ∷ record {
+      number = codes "U16";
+      name = codes "ReleaseForm";
+      level = Error;
+      meaning =
+          codes "The value of --as is not the name of a release of Linux-PAM, or it\n"
+          ++ codes "stands beside --json: these rules have no JSON.";
+      example =
+          codes "$ pamcheck show login auth --dir . --as linux-pam-1.6"
+          ∷ [];
+      linux_pam =
+          codes "this is a fault of the words that pamcheck was given.";
+      mending =
+          codes "write linux-pam-1.5 or linux-pam-1.7, without --json.";
+    }
     ∷ []

@@ -217,7 +217,7 @@ pub(crate) fn reads_and_writes() -> &'static [Explanation]
     &READS_AND_WRITES
 }
 
-static NUMBERS_AND_CANDIDATES: [Explanation; 2] = [
+static NUMBERS_AND_CANDIDATES: [Explanation; 3] = [
     Explanation {
         number: "U14",
         name: "NoSuchNumber",
@@ -241,6 +241,18 @@ static NUMBERS_AND_CANDIDATES: [Explanation; 2] = [
             "write --with NAME=FILE, as --with sshd=/tmp/sshd, beside --dir or\n",
             "--root."
         ),
+    },
+    Explanation {
+        number: "U16",
+        name: "ReleaseForm",
+        level: Level::Error,
+        meaning: concat!(
+            "The value of --as is not the name of a release of Linux-PAM, or it\n",
+            "stands beside --json: these rules have no JSON."
+        ),
+        example: &["$ pamcheck show login auth --dir . --as linux-pam-1.6"],
+        linux_pam: "this is a fault of the words that pamcheck was given.",
+        mending: "write linux-pam-1.5 or linux-pam-1.7, without --json.",
     },
 ];
 

@@ -4,15 +4,17 @@ use Rattle.std.specs.Prelude.{MatchResult}
 use Rattle.std.specs.Option.{option_copied}
 use Rattle.pam_codes.specs.Out.{Device, Out, WritesAndFlushes}
 use Rattle.pam_conf.specs.Files.{Folder}
+use Rattle.pam_conf.specs.Resolution.{resolved}
 use Rattle.pam_conf.specs.Stack.{Items}
 use Rattle.pam_conf.specs.declared.conf_error.ConfError.{ConfError}
 use Rattle.pam_conf.specs.declared.rule.Kind.{Kind}
 use Rattle.pam_explain.specs.Explanation.{Explanation}
 use Rattle.pam_explain.specs.Explanations.{explanation_of}
 use Rattle.pam_paths.specs.declared.cursor.CursorError.{CursorError}
-use Rattle.pam_report.specs.Answer.{AnswersBy, explained, explained_by, shown, with_stack}
+use Rattle.pam_report.specs.Answer.{AnswersBy, answer_of, explained, explained_by, shown, shown_by, with_stack}
 use Rattle.pam_report.specs.Finds.{Finds, Refuses}
 use Rattle.pam_report.specs.Memory.{IsWanting, Wants, wants as wants_of}
+use Rattle.pam_report.specs.Released.{ReleasedValue, released}
 use Rattle.pam_report.specs.Reply.{Answer, Reply, status_of, wants_memory}
 use Rattle.pam_report.specs.ReplyViews.{reply_view}
 use Rattle.pam_report.specs.declared.fault.Fault.{Fault}
@@ -21,6 +23,7 @@ use Rattle.pam_report.specs.declared.inputs.Inputs.{Inputs}
 use Rattle.pam_report.specs.declared.report.Status.{Status}
 use Rattle.pam_report.specs.declared.report.replies.Reply as declared
 use Rattle.pam_words.specs.declared.wanted.OutputForm.TheVariants.{Json}
+use Rattle.pam_words.specs.declared.wanted.ReleaseName.{ReleaseName}
 use Rattle.pam_words.specs.declared.wanted.Task.{Task}
 use Rattle.pam_words.specs.declared.wanted.Task.TheVariants.{Show, Decide, Access, Time, Paths, Outcomes, Graph, Check, Compare, Explain, Facts, Version}
 use Rattle.pam_print.specs.Leaves.{LeavesFault, LeavesSome, PrintsBy}
@@ -31,7 +34,7 @@ use Rattle.pam_print.specs.Text.{IsJsonOrText, IsText as IsPlainText, IsTextIn}
 pub answers-by : (One Other : (Answer → Type 0) → Type 0) → ((IsAnswer : Answer → Type 0) → One IsAnswer → Other IsAnswer)
     → (service : List ℕ) (task : Task) (files : Folder) (inputs : Inputs) → AnswersBy One service task files inputs → AnswersBy Other service task files inputs
 unfolding AnswersBy
-answers-by One Other go service (Show source kind) files inputs h = go _ h
+answers-by One Other go service (Show source kind release) files inputs h = go _ h
 answers-by One Other go service (Decide source kind answered) files inputs h = go _ h
 answers-by One Other go service (Access table groups login arguments) files inputs h = go _ h
 answers-by One Other go service (Time table login moment) files inputs h = (h.0, h.1, go _ h.2)
@@ -175,6 +178,14 @@ no_page : (service : List ℕ) (kind : Kind) (files : Folder) (given : Result It
 no_page service kind files (Err e) = refl
 no_page service kind files (Ok items) = refl
 
+no_rules : (given : Result ReleasedValue ConfError) → page_in (answer_of given) ≡ false
+no_rules (Err e) = refl
+no_rules (Ok value) = refl
+
+no_shown : (release : Option ReleaseName) (service : List ℕ) (kind : Kind) (files : Folder) → page_in (shown_by release service kind files) ≡ false
+no_shown None service kind files = no_page service kind files (resolved files service kind)
+no_shown (Some release) service kind files = no_rules (released service kind release files)
+
 no_explanation : (found : Option Explanation) → page_in (explained_by found) ≡ false
 no_explanation None = refl
 no_explanation (Some explanation) = refl
@@ -190,7 +201,8 @@ not_both both = cc
 pub page-wants : (service : List ℕ) (task : Task) (files : Folder) (inputs : Inputs) (reply : declared.Reply)
     → AnswersBy (Finds (Ok reply)) service task files inputs → wants_memory (reply_view reply) ≡ true → (wants_of task inputs).work ≡ true
 unfolding AnswersBy
-page-wants service (Show source kind) files inputs reply h page = absurd (not_both (sym page ∙ ap page_in (sym h) ∙ no_page service kind files _))
+page-wants service (Show source kind release) files inputs reply h page =
+    absurd (not_both (sym page ∙ ap page_in (sym h) ∙ no_shown release service kind files))
 page-wants service (Decide source kind answered) files inputs reply h page = refl
 page-wants service (Access table groups login arguments) files inputs reply h page = refl
 page-wants service (Time table login moment) files inputs reply h page = refl

@@ -12,6 +12,7 @@ pub mod Header
 pub mod Leaves
 pub mod Outcomes
 pub mod Page
+pub mod Released
 pub mod Show
 pub mod Tables
 pub mod Text

@@ -1,7 +1,7 @@
 -- The text of a reply.
 use Rattle.std.specs.Prelude.{◌≡◌, ℕ, List, Option, None, Some, Result, Ok}
 use Rattle.pam_paths.specs.declared.cursor.CursorError.{CursorError}
-use Rattle.pam_report.specs.Reply.{Reply, Stack, Run, Access, Time, Outcomes, Drawing, Page, Check, Compared, Explained, Explanations, Facts, Version}
+use Rattle.pam_report.specs.Reply.{Reply, Stack, Released, Run, Access, Time, Outcomes, Drawing, Page, Check, Compared, Explained, Explanations, Facts, Version}
 use Rattle.pam_facts.specs.Table.{table_text}
 use Rattle.pam_json.specs.Text.{json_of}
 use Rattle.pam_words.specs.declared.wanted.OutputForm.{OutputForm}
@@ -14,12 +14,14 @@ use Rattle.pam_print.specs.Drawing.{IsDrawingText}
 use Rattle.pam_print.specs.Explain.{explanation_text, explanations_text}
 use Rattle.pam_print.specs.Outcomes.{outcomes_text}
 use Rattle.pam_print.specs.Page.{IsPageText}
+use Rattle.pam_print.specs.Released.{released_text}
 use Rattle.pam_print.specs.Show.{stack_text}
 use Rattle.pam_print.specs.Tables.{access_text, time_text}
 
 -- THE TEXT of a reply. A page has none if its cursor is refused
 abbrev pub IsText : Reply → Result (List ℕ) CursorError → Type 0
 IsText (Stack stack) text = text ≡ Ok (stack_text stack)
+IsText (Released rules) text = text ≡ Ok (released_text rules)
 IsText (Run run) text = text ≡ Ok (run_text run)
 IsText (Access found) text = text ≡ Ok (access_text found)
 IsText (Time found) text = text ≡ Ok (time_text found)

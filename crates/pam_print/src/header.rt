@@ -10,7 +10,7 @@ use pam_conf::Kind;
 use pam_report::kind_name;
 use std::io::Write;
 
-fn put_lowercase<W: Write>(text: &[u8], out: &mut Out<W>) -> Result<(), Device>
+pub(crate) fn put_lowercase<W: Write>(text: &[u8], out: &mut Out<W>) -> Result<(), Device>
     ensures { Writes W.contents out.old out.new result (map to_ascii_lowercase text.now) }
 {
     for byte in text {

@@ -11,6 +11,7 @@ mod header;
 mod outcomes;
 mod paths;
 mod printing;
+mod released;
 mod show;
 mod tables;
 mod word;

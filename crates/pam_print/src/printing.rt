@@ -16,6 +16,7 @@ use crate::drawing::write_drawing;
 use crate::explain::{write_explanation, write_explanations};
 use crate::outcomes::write_outcomes;
 use crate::paths::write_page;
+use crate::released::write_released;
 use crate::show::write_stack;
 use crate::tables::{write_access, write_time};
 use pam_codes::{Device, Out};
@@ -59,6 +60,7 @@ fn print_text<W: Write>(alloc: Global, reply: &Reply<'_>, out: &mut Out<W>) -> R
 {
     match reply {
         Reply::Stack(stack) => told(write_stack(alloc, stack, out)),
+        Reply::Released(rules) => told(write_released(rules, out)),
         Reply::Run(run) => told(write_run(run, out)),
         Reply::Access(answer) => told(write_access(*answer, out)),
         Reply::Time(answer) => told(write_time(*answer, out)),

@@ -46,7 +46,7 @@ fn put_place<W: Write>(
 }
 
 /// Writes a word, with a space before it.
-fn put_one_word<W: Write>(word: &[u8], out: &mut Out<W>) -> Result<(), Device>
+pub(crate) fn put_one_word<W: Write>(word: &[u8], out: &mut Out<W>) -> Result<(), Device>
     ensures { Writes W.contents out.old out.new result (codes " " ++ word_text word.now) }
 {
     out.put(b" ")?;
@@ -54,7 +54,7 @@ fn put_one_word<W: Write>(word: &[u8], out: &mut Out<W>) -> Result<(), Device>
 }
 
 /// Writes words, with a space before each.
-fn put_words<W: Write>(words: &Texts, out: &mut Out<W>) -> Result<(), Device>
+pub(crate) fn put_words<W: Write>(words: &Texts, out: &mut Out<W>) -> Result<(), Device>
     ensures { Writes W.contents out.old out.new result (words_text words.now) }
 {
     for word in words.iter() {

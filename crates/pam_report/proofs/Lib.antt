@@ -6,6 +6,7 @@ pub mod Kept
 pub mod KnownStacks
 pub mod OutcomeLists
 pub mod PageParts
+pub mod ReleasedRules
 pub mod SilentChecks
 pub mod TraceSteps
 pub mod WalkPages

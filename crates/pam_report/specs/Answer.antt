@@ -27,6 +27,7 @@ use Rattle.pam_times.specs.declared.error.TimeError.{TimeError}
 use Rattle.pam_times.specs.declared.moments.MomentError.{MomentError}
 use Rattle.pam_times.specs.declared.times.TimeAnswer.{TimeAnswer}
 use Rattle.pam_words.specs.declared.wanted.Login.{Login}
+use Rattle.pam_words.specs.declared.wanted.ReleaseName.{ReleaseName}
 use Rattle.pam_words.specs.declared.wanted.Task.{Task}
 use Rattle.pam_words.specs.declared.wanted.Task.TheVariants.{Show, Decide, Access, Time, Paths, Outcomes, Graph, Check, Compare, Explain, Facts, Version}
 use Rattle.pam_report.specs.Check.{IsCheck}
@@ -40,7 +41,8 @@ use Rattle.pam_report.specs.Memory.{WantsOnly, wants}
 use Rattle.pam_report.specs.Moments.{IsGivenMoment, IsMoment}
 use Rattle.pam_report.specs.Outcomes.{IsOutcomes}
 use Rattle.pam_report.specs.Paths.{IsPage}
-use Rattle.pam_report.specs.Reply.{Answer, RunValue, Run, Stack}
+use Rattle.pam_report.specs.Released.{ReleasedValue, released}
+use Rattle.pam_report.specs.Reply.{Answer, RunValue, Released, Run, Stack}
 use Rattle.pam_report.specs.Reply.{Explained, Explanations}
 use Rattle.pam_report.specs.Reply.{Access as AccessReply, Facts as FactsReply, Time as TimeReply, Version as VersionReply}
 use Rattle.pam_report.specs.declared.inputs.Inputs.{Inputs}
@@ -55,6 +57,16 @@ with_stack (Ok items) next = next items
 
 abbrev pub shown : List ℕ → Kind → Folder → Items → Answer
 shown service kind files items = Ok (Stack (record { service = service; kind = kind; files = files; items = items }))
+
+-- the rules of a file, or its fault
+abbrev pub answer_of : Result ReleasedValue ConfError → Answer
+answer_of (Err e) = Err (faults.Conf e)
+answer_of (Ok value) = Ok (Released value)
+
+-- the stack, or the rules of the service's own file as a release reads them, if one is named
+abbrev pub shown_by : Option ReleaseName → List ℕ → Kind → Folder → Answer
+shown_by None service kind files = with_stack (resolved files service kind) (shown service kind files)
+shown_by (Some release) service kind files = answer_of (released service kind release files)
 
 -- the run of a stack whose modules return these codes
 abbrev pub run_of : List ℕ → Kind → List ℕ → Items → RunValue
@@ -129,7 +141,7 @@ stack_at service kind login inputs moment files = known_stack kind (login_at ser
 -- gives for an answer that satisfies a relation
 module _ (Gives : (Answer → Type 0) → Type 0) where
   unfoldable pub AnswersBy : List ℕ → Task → Folder → Inputs → Type 0
-  AnswersBy service (Show source kind) files inputs = Gives (λ answer. with_stack (resolved files service kind) (shown service kind files) ≡ answer)
+  AnswersBy service (Show source kind release) files inputs = Gives (λ answer. shown_by release service kind files ≡ answer)
   AnswersBy service (Decide source kind answered) files inputs =
       Gives (λ answer. with_stack (resolved files service kind) (decided_by service kind answered.items) ≡ answer)
   AnswersBy service (Access table groups login arguments) files inputs =

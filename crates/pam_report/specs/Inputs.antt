@@ -146,7 +146,7 @@ fits_compare named facts returns = beq (is_some facts) (is_some named.facts) && 
 abbrev pub fits_task : Task → Inputs → Bool
 fits_task (Check source services fail_on named) (inputs.Host files paths given) = has_paths files paths && fits_check named given
 fits_task (Compare old new service kind named) (inputs.Sides old_side new_side facts returns) = fits_compare named facts returns
-fits_task (Show source kind) (inputs.Stack files) = true
+fits_task (Show source kind release) (inputs.Stack files) = true
 fits_task (Decide source kind answered) (inputs.Stack files) = true
 fits_task (Access name groups_named login arguments) (inputs.Access table groups) = beq (is_some groups) (is_some groups_named)
 fits_task (Time name login moment) (inputs.Time table) = true

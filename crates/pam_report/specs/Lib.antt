@@ -19,6 +19,7 @@ pub mod OutcomeViews
 pub mod Outcomes
 pub mod PageView
 pub mod Paths
+pub mod Released
 pub mod Reply
 pub mod ReplyViews
 pub mod TablePaths

@@ -31,6 +31,7 @@ use Rattle.pam_words.specs.declared.wanted.LevelName.{LevelName}
 use Rattle.pam_words.specs.declared.wanted.LevelName.TheVariants as names
 use Rattle.pam_words.specs.declared.wanted.PagePart.{PagePart}
 use Rattle.pam_report.specs.Decide.{AskedModule}
+use Rattle.pam_report.specs.Released.{ReleasedValue}
 use Rattle.pam_report.specs.TablePaths.{TablePathsText, level_of_table_problem}
 use Rattle.pam_report.specs.declared.fault.Fault.{Fault}
 use Rattle.pam_report.specs.declared.report.Status.{Status}
@@ -110,6 +111,7 @@ pub record CompareValue : Type 0 where
 
 pub data Reply : Type 0 where
   Stack : StackValue → Reply
+  Released : ReleasedValue → Reply
   Run : RunValue → Reply
   Access : AccessAnswer → Reply
   Time : TimeAnswer → Reply

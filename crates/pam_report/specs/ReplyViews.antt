@@ -8,6 +8,8 @@ use Rattle.pam_misspelled.specs.MisspelledView.{misspelled_view}
 use Rattle.pam_report.specs.Decide.{AskedModule}
 use Rattle.pam_report.specs.Inputs.{no_files}
 use Rattle.pam_report.specs.PageView.{page_value}
+use Rattle.pam_released.specs.Readings.{numbered_view}
+use Rattle.pam_report.specs.Released.{ReleasedValue}
 use Rattle.pam_report.specs.Reply as spec
 use Rattle.pam_report.specs.TablePaths.{table_paths_view}
 use Rattle.pam_report.specs.declared.report.check.CheckReply.{CheckReply}
@@ -15,6 +17,7 @@ use Rattle.pam_report.specs.declared.report.compare.CompareReply.{CompareReply}
 use Rattle.pam_report.specs.declared.report.graph.GraphReply.{GraphReply}
 use Rattle.pam_report.specs.declared.report.outcomes.Outcome.{Outcome}
 use Rattle.pam_report.specs.declared.report.outcomes.OutcomesReply.{OutcomesReply}
+use Rattle.pam_report.specs.declared.report.released.ReleasedReply.{ReleasedReply}
 use Rattle.pam_report.specs.declared.report.replies.Reply.{Reply}
 use Rattle.pam_report.specs.declared.report.replies.Reply.TheVariants as replies
 use Rattle.pam_report.specs.declared.report.decide.RunReply.{RunReply}
@@ -33,6 +36,15 @@ stack_view s = record {
   kind = s.kind;
   files = unwrap_or (option_map (λ f. f.now) s.files) no_files;
   items = s.stack;
+}
+
+abbrev pub released_view : ReleasedReply → ReleasedValue
+released_view r = record {
+  service = r.service.now;
+  kind = r.kind;
+  release = r.release;
+  file = r.file.items;
+  rules = option_map (λ rules. map numbered_view rules.items) r.rules;
 }
 
 abbrev pub run_view : RunReply → spec.RunValue
@@ -81,6 +93,7 @@ compare_view c = record { old = side_files c.old; new = side_files c.new; change
 -- THE VALUE of a reply
 abbrev pub reply_view : Reply → spec.Reply
 reply_view (replies.Stack stack) = spec.Stack (stack_view stack)
+reply_view (replies.Released rules) = spec.Released (released_view rules)
 reply_view (replies.Run run) = spec.Run (run_view run)
 reply_view (replies.Access found) = spec.Access found
 reply_view (replies.Time found) = spec.Time found

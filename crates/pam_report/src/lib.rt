@@ -17,6 +17,7 @@ pub use inputs::{
 pub use names::{kind_name, problem_name, stack_of};
 pub use report::{
     AskedModule, CheckReply, CompareReply, GraphReply, Outcome, Outcomes, OutcomesReply,
-    PageRenderer, PathsPage, Reply, RunReply, StackReply, Status, Trace, path_at, reply_to,
+    PageRenderer, PathsPage, ReleasedReply, Reply, RunReply, StackReply, Status, Trace, path_at,
+    reply_to,
 };
 pub use tables::{TablePaths, table_problem_level, table_problem_name};

@@ -19,6 +19,7 @@ mod known_stack;
 mod login;
 mod outcomes;
 mod paths;
+mod released;
 mod renderer;
 mod replies;
 mod show;
@@ -45,10 +46,11 @@ use pam_conf::{Files, Form, Kind};
 use pam_words::{KnowledgeSource, Request, Task};
 pub use paths::PathsPage;
 use paths::{PageRequest, answer_paths};
+pub use released::ReleasedReply;
 pub use renderer::PageRenderer;
 pub use replies::Reply;
 pub use show::StackReply;
-use show::shown;
+use show::{ShowRequest, shown_by};
 use std::alloc::Global;
 use time::{answer_time, given_moment, moment_of};
 pub use trace::{AskedModule, Trace, path_at};
@@ -144,7 +146,14 @@ fn reply_from<'a>(
             };
             compared(alloc, asked, inputs)
         }
-        Task::Show { kind, .. } => shown(alloc, service, *kind, files, inputs.files()),
+        Task::Show { kind, release, .. } => {
+            let asked = ShowRequest {
+                service,
+                kind: *kind,
+                release: *release,
+            };
+            shown_by(alloc, asked, files, inputs.files())
+        }
         Task::Decide { kind, codes, .. } => decided(alloc, service, *kind, codes, files),
         Task::Access {
             login,

@@ -6,6 +6,7 @@ use Rattle.pam_words.specs.declared.wanted.GraphFormat.{GraphFormat}
 use Rattle.pam_words.specs.declared.wanted.LevelName.{LevelName}
 use Rattle.pam_words.specs.declared.wanted.OutputForm.{OutputForm}
 use Rattle.pam_words.specs.declared.wanted.PathFilter.{PathFilter}
+use Rattle.pam_words.specs.declared.wanted.ReleaseName.{ReleaseName}
 
 pub data SourceText : Type 0 where
   dir : Text → SourceText
@@ -90,10 +91,16 @@ pub record CompareTask : Type 0 where
   pub facts : Option Text
   pub returns : Option Text
 
+-- a release whose reading is shown may be named
+pub record ShowTask : Type 0 where
+  pub source : SourceText
+  pub kind : Kind
+  pub release : Option ReleaseName
+
 pub data TaskText : Type 0 where
   check : CheckTask → TaskText
   compare : CompareTask → TaskText
-  show : SourceText → Kind → TaskText
+  show : ShowTask → TaskText
   decide : SourceText → Kind → List ℕ → TaskText
   access : AccessTask → TaskText
   time : TimeTask → TaskText
@@ -112,7 +119,7 @@ pub record RequestText : Type 0 where
   pub candidates : List (Text × Text)
   pub output : OutputForm
 
--- U2 to U6, U8, U11 to U13, U15
+-- U2 to U6, U8, U11 to U13, U15, U16
 pub data Refusal : Type 0 where
   source : Refusal
   kind_name : Refusal
@@ -123,4 +130,5 @@ pub data Refusal : Type 0 where
   moment : Refusal
   both_ends : Refusal
   both_filters : Refusal
+  release_form : Refusal
   candidate_form : Refusal

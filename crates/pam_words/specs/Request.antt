@@ -6,10 +6,10 @@ use Rattle.clap.specs.Words.{Row, Text, all_of, first_of}
 use Rattle.pam_words.specs.Asked.{KnowledgeText, MomentText, Refusal, RequestText, SourceText, TaskText}
 use Rattle.pam_words.specs.Asked.{access, check, compare, decide, explain, facts, graph, outcomes, paths, show, time, version}
 use Rattle.pam_words.specs.Asked.{both_ends, both_filters, candidate_form, code_name, format_name, kind_name, level_name}
-use Rattle.pam_words.specs.Asked.{login, moment, source}
+use Rattle.pam_words.specs.Asked.{login, moment, release_form, source}
 use Rattle.pam_words.specs.Decisions.{decisions_of}
 use Rattle.pam_words.specs.Values.{asks_of, candidates_of, codes_of_rows, format_of, kind_if_named, kind_of_rows, lacks_user, level_of, limit_of, login_of}
-use Rattle.pam_words.specs.Values.{moment_of, needs_moment, one_filter, output_of, part_of, side_in, source_of, source_or_root, text_of, texts_of}
+use Rattle.pam_words.specs.Values.{moment_of, needs_moment, one_filter, output_of, part_of, release_of, side_in, source_of, source_or_root, text_of, texts_of}
 
 -- a refusal if there is no value
 abbrev pub or_refuse : {A B : Type 0} → Option A → Refusal → (A → Result B Refusal) → Result B Refusal
@@ -63,7 +63,10 @@ compare_task rows =
 
 -- `show SERVICE KIND`
 abbrev pub show_task : List Row → Result TaskText Refusal
-show_task rows = stack_of rows >>= λ stack. Ok (show stack.0 stack.1)
+show_task rows =
+    stack_of rows >>= λ stack.
+    or_refuse (release_of rows) release_form (λ release.
+    Ok (show (record { source = stack.0; kind = stack.1; release = release })))
 
 -- `decide SERVICE KIND [CODE]...`
 abbrev pub decide_task : List Row → Result TaskText Refusal

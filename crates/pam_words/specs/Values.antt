@@ -22,6 +22,8 @@ use Rattle.pam_words.specs.declared.wanted.OutputForm.{OutputForm}
 use Rattle.pam_words.specs.declared.wanted.OutputForm.TheVariants.{Json, PlainText}
 use Rattle.pam_words.specs.declared.wanted.PathFilter.{PathFilter}
 use Rattle.pam_words.specs.declared.wanted.PathFilter.TheVariants.{All, Decides, Asks}
+use Rattle.pam_words.specs.declared.wanted.ReleaseName.{ReleaseName}
+use Rattle.pam_words.specs.declared.wanted.ReleaseName.TheVariants.{LinuxPam15, LinuxPam17}
 
 -- the text of an id, empty if it has none
 abbrev pub text_of : Text → List Row → Text
@@ -191,3 +193,19 @@ lacks_user rows = (has (codes "access") rows || has (codes "time") rows) && not 
 -- a time table or an option of the moment is given
 abbrev pub needs_moment : List Row → Bool
 needs_moment rows = has (codes "time") rows || has (codes "at") rows || has (codes "at-unix") rows || has (codes "zone") rows
+
+abbrev pub release_named : Text → Option ReleaseName
+release_named name =
+    if bytes_eq name (codes "linux-pam-1.5") then Some LinuxPam15
+    else if bytes_eq name (codes "linux-pam-1.7") then Some LinuxPam17
+    else None
+
+-- a release that is named, which has no JSON
+abbrev pub release_in : OutputForm → Option Text → Option (Option ReleaseName)
+release_in output None = Some None
+release_in Json (Some name) = None
+release_in PlainText (Some name) = option_map (λ release. Some release) (release_named name)
+
+-- the release that `--as` names, if it is given
+abbrev pub release_of : List Row → Option (Option ReleaseName)
+release_of rows = release_in (output_of rows) (first_of (codes "as") rows)

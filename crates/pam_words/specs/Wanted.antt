@@ -77,7 +77,7 @@ task_view (Compare old new service kind given) = spec.compare (record {
   facts = option_copied given.facts;
   returns = option_copied given.returns;
 })
-task_view (Show source kind) = spec.show (source_view source) kind
+task_view (Show source kind release) = spec.show (record { source = source_view source; kind = kind; release = release })
 task_view (Decide source kind codes) = spec.decide (source_view source) kind codes.items
 task_view (Access table groups login arguments) = spec.access (record {
   table = table.now;
@@ -138,6 +138,7 @@ Gives view value (Err usage.Login) = value ≡ Err spec.login
 Gives view value (Err usage.Moment) = value ≡ Err spec.moment
 Gives view value (Err usage.BothEnds) = value ≡ Err spec.both_ends
 Gives view value (Err usage.BothFilters) = value ≡ Err spec.both_filters
+Gives view value (Err usage.ReleaseForm) = value ≡ Err spec.release_form
 Gives view value (Err usage.CandidateForm) = value ≡ Err spec.candidate_form
 Gives view value (Err usage.Memory) = ⊤
 Gives view value (Err (usage.Help error)) = ⊥

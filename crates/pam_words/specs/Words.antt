@@ -105,7 +105,7 @@ stack_app name = with_source (with_rule (service_app name) (required_rule (codes
 
 -- `show SERVICE KIND`
 unfoldable pub show_app : App
-show_app = with_json (stack_app (codes "show"))
+show_app = with_json (with_options (stack_app (codes "show")) (codes "as" ∷ []))
 
 -- `decide SERVICE KIND [CODE]...`
 unfoldable pub decide_app : App

@@ -122,6 +122,13 @@ pub(crate) const WITH: ArgRow = ArgRow {
     help: "A file to read in place of the file NAME of the folder; may be repeated",
 };
 
+pub(crate) const RELEASE: ArgRow = ArgRow {
+    form: ArgForm::Optional,
+    id: "as",
+    name: "RELEASE",
+    help: "linux-pam-1.5 or linux-pam-1.7: the rules of the file of the service, as this release reads them",
+};
+
 pub(crate) const MODULES: ArgRow = ArgRow {
     form: ArgForm::RepeatedOption,
     id: "modules",

@@ -12,6 +12,6 @@ mod words;
 pub use reading::request;
 pub use wanted::{
     Candidate, CheckFiles, CompareFiles, ConfSource, GraphFormat, KnowledgeSource, LevelName,
-    Login, Moment, OutputForm, PagePart, PathFilter, Request, TableNames, Task, Usage,
+    Login, Moment, OutputForm, PagePart, PathFilter, ReleaseName, Request, TableNames, Task, Usage,
 };
 pub use words::version;

@@ -5,7 +5,7 @@ ghost use Rattle.std.specs.Char.{is_ascii_digit};
 ghost use Rattle.std.specs.List.{list_all};
 ghost use Rattle.std.specs.Option.{option_copied};
 ghost use Rattle.clap.specs.Words.{found_of, rows_of, first_of, all_of, takes, fault_of, subcommand_of};
-ghost use Rattle.pam_words.specs.Request.{access_task, decide_task, request_of, show_task, stack_of, task_of, time_task};
+ghost use Rattle.pam_words.specs.Request.{access_task, decide_task, request_of, stack_of, task_of, time_task};
 ghost use Rattle.pam_words.specs.Decisions.{code_named as code_of_name, codes_named as codes_of_names};
 ghost use Rattle.pam_words.specs.Values.{codes_of_rows, is_on as is_on_in, output_of};
 ghost use Rattle.pam_words.specs.Values.{instant_of, kind_of_rows, login_of, moment_of, seconds_of, source_of, text_of, texts_of as texts_in};
@@ -20,6 +20,7 @@ mod decisions;
 mod graph;
 mod knowledge;
 mod paths;
+mod show;
 
 use crate::wanted::{ConfSource, Login, Moment, OutputForm, Request, Task, Usage};
 use crate::words::pamcheck_command;
@@ -204,13 +205,6 @@ fn stack<'a>(matches: &ArgMatches<'a>) -> Result<(ConfSource<'a>, Kind), Usage>
     Ok((source, kind))
 }
 
-fn show<'a>(matches: &ArgMatches<'a>) -> Result<Task<'a>, Usage>
-    ensures { GivesTask (show_task (rows_of (found_of matches.now))) result }
-{
-    let (source, kind) = stack(matches)?;
-    Ok(Task::Show { source, kind })
-}
-
 fn decide<'a>(alloc: Global, matches: &ArgMatches<'a>) -> Result<Task<'a>, Usage>
     ensures { GivesTask (decide_task (rows_of (found_of matches.now))) result }
 {
@@ -264,7 +258,7 @@ fn task<'a>(alloc: Global, command: &str, matches: &ArgMatches<'a>) -> Result<Ta
     } else if command == "compare" {
         compare::compare(alloc, matches)
     } else if command == "show" {
-        show(matches)
+        show::show(matches)
     } else if command == "decide" {
         decide(alloc, matches)
     } else if command == "paths" {

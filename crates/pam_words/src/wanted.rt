@@ -35,6 +35,15 @@ pub enum OutputForm {
     Json,
 }
 
+/// A release of Linux-PAM, whose reading of a file is shown.
+#[derive(Clone, Copy)]
+pub enum ReleaseName {
+    /// `linux-pam-1.5`: Linux-PAM 1.5.2.
+    LinuxPam15,
+    /// `linux-pam-1.7`: Linux-PAM 1.7.0.
+    LinuxPam17,
+}
+
 /// The moment of a login.
 #[derive(Clone, Copy)]
 pub enum Moment<'a> {
@@ -148,10 +157,11 @@ pub enum Task<'a> {
         kind: Option<Kind>,
         given: CompareFiles<'a>,
     },
-    /// Lists the stack.
+    /// Lists the stack, or the rules of the service's own file as a release reads them, if one is named.
     Show {
         source: ConfSource<'a>,
         kind: Kind,
+        release: Option<ReleaseName>,
     },
     /// Runs the stack with one code for each of its modules, in order.
     Decide {
@@ -260,6 +270,9 @@ pub enum Usage {
     /// U11: both `--decision` and `--asks` are given.
     #[error("more than one of --decision and --asks")]
     BothFilters,
+    /// U16: the value of `--as` is not the name of a release, or one is given beside `--json`.
+    #[error("a release that is unknown, or beside --json")]
+    ReleaseForm,
     /// U15: a value of `--with` is not NAME=FILE, or one is given beside `--conf`.
     #[error("a candidate that is not NAME=FILE, or beside --conf")]
     CandidateForm,

@@ -10,9 +10,9 @@ ghost use Rattle.pam_words.specs.Words.{bare_app, pamcheck_app, version};
 use crate::arguments::{
     ACCEPT, ACCESS, ACCESS_TABLE, AFTER, ARE_FILES, ARE_ROOTS, ARGUMENTS, ASKS, AT, AT_UNIX,
     ArgForm, ArgRow, BEFORE, CODES, CONF, DECISION, DIR, FACTS, FAIL_ON, FORMAT, GROUP,
-    HOST_ACCESS, HOST_TIME, JSON, KIND, KIND_IF_NAMED, LIMIT, MODULES, NEW, NUMBER, OLD, RETURNS,
-    RHOST, ROOT, SERVICE, SERVICE_IF_NAMED, SERVICES, TABLE_USER, TIME, TIME_TABLE, TTY, USER,
-    VENDOR_DIR, WITH, ZONE,
+    HOST_ACCESS, HOST_TIME, JSON, KIND, KIND_IF_NAMED, LIMIT, MODULES, NEW, NUMBER, OLD, RELEASE,
+    RETURNS, RHOST, ROOT, SERVICE, SERVICE_IF_NAMED, SERVICES, TABLE_USER, TIME, TIME_TABLE, TTY,
+    USER, VENDOR_DIR, WITH, ZONE,
 };
 use crate::examples::examples_of;
 use crate::number::number_parser;
@@ -80,7 +80,7 @@ static STACKS: [CommandRow; 2] = [
     CommandRow {
         name: "show",
         about: "Shows the modules of a stack",
-        args: &[SERVICE, KIND, DIR, VENDOR_DIR, CONF, ROOT, WITH, JSON],
+        args: &[SERVICE, KIND, DIR, VENDOR_DIR, CONF, ROOT, WITH, RELEASE, JSON],
     },
     CommandRow {
         name: "decide",

@@ -47,6 +47,7 @@ pub(super) fn usage_row(usage: &Usage) -> Row
         Usage::BothFilters => Row::of("U11 BothFilters", BAD_REQUEST),
         Usage::FormatName => Row::of("U12 FormatName", BAD_REQUEST),
         Usage::LevelName => Row::of("U13 LevelName", BAD_REQUEST),
+        Usage::ReleaseForm => Row::of("U16 ReleaseForm", BAD_REQUEST),
         Usage::CandidateForm => Row::of("U15 CandidateForm", BAD_REQUEST),
     }
 }

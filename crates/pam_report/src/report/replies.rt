@@ -11,6 +11,7 @@ use super::decide::RunReply;
 use super::graph::GraphReply;
 use super::outcomes::OutcomesReply;
 use super::paths::PathsPage;
+use super::released::ReleasedReply;
 use super::show::StackReply;
 use pam_dispatch::Decision;
 use pam_explain::Explanation;
@@ -22,6 +23,8 @@ use pam_times::TimeAnswer;
 pub enum Reply<'a> {
     /// Of `show`.
     Stack(StackReply<'a>),
+    /// Of `show` with `--as`.
+    Released(ReleasedReply<'a>),
     /// Of `decide`.
     Run(RunReply<'a>),
     /// Of `access`.
@@ -60,8 +63,8 @@ impl Reply<'_> {
             Reply::Time(answer) => status_of_time(*answer),
             Reply::Check(check) => check.status(),
             Reply::Compared(compared) => compared.status(),
-            Reply::Stack(_) | Reply::Paths(_) | Reply::Outcomes(_) | Reply::Graph(_) =>
-                Status::Success,
+            Reply::Stack(_) | Reply::Released(_) | Reply::Paths(_) => Status::Success,
+            Reply::Outcomes(_) | Reply::Graph(_) => Status::Success,
             Reply::Explained(_) | Reply::Explanations | Reply::Facts | Reply::Version =>
                 Status::Success,
         }

@@ -1,0 +1,208 @@
+//! The `show` command with `--as`: the rules of the service's own file, as a release of Linux-PAM reads them.
+
+ghost use Rattle.std.specs.Prelude.{◌≡◌, IfOk, false, filter, map, true};
+ghost use Rattle.std.specs.Option.{option_map, option_map_or};
+ghost use Rattle.std.specs.Str.{bytes_eq};
+ghost use Rattle.pam_conf.specs.Files.{position_of};
+ghost use Rattle.pam_conf.specs.Lines.{fault_of_source};
+ghost use Rattle.pam_conf.specs.Tells.{ErrorTells};
+ghost use Rattle.pam_conf.specs.Walk.{same_kind};
+ghost use Rattle.pam_released.specs.Readings.{numbered_rules, numbered_view, reading_view, rule_view};
+ghost use Rattle.pam_report.specs.Answer.{answer_of};
+ghost use Rattle.pam_report.specs.Finds.{Finds};
+ghost use Rattle.pam_report.specs.Memory.{WantsOnly, of_stack};
+ghost use Rattle.pam_report.specs.Released.{chosen, concerns, fault_in, own_file, reading_at, release_of_name, released};
+ghost use Rattle.pam_report.specs.ReplyViews.{released_view};
+ghost use Rattle.pam_text.specs.Gives.{Gives};
+
+use super::login::lowered;
+use super::replies::Reply;
+use crate::fault::Fault;
+use pam_conf::{ConfError, FaultKind, Files, Form, Kind};
+use pam_released::{LineRule, NumberedReading, Reading, Release, released_rules};
+use pam_text::{Source, SourceFault};
+use pam_words::ReleaseName;
+use std::alloc::{AllocError, Global};
+
+/// What a release reads for a service and a kind in the service's own file.
+#[derive(Drop)]
+pub struct ReleasedReply<'a> {
+    pub service: &'a str,
+    pub kind: Kind,
+    pub release: ReleaseName,
+    /// The name of the file.
+    pub file: Vec<u8>,
+    /// `None` where the release refuses the file.
+    pub rules: Option<Vec<NumberedReading>>,
+}
+
+/// What is asked of a release.
+#[derive(Clone, Copy)]
+pub(super) struct ReleaseRequest<'a> {
+    pub service: &'a str,
+    pub kind: Kind,
+    pub release: ReleaseName,
+}
+
+fn release_of_name(name: ReleaseName) -> Release
+    ensures { result ≡ release_of_name name }
+{
+    match name {
+        ReleaseName::LinuxPam15 => Release::Older,
+        ReleaseName::LinuxPam17 => Release::Newer,
+    }
+}
+
+/// The name of the file in which the rules of a service stand.
+fn own_file(alloc: Global, form: Form, service: &str) -> Result<Vec<u8>, AllocError>
+    ensures { IfOk result (λ name. name.items ≡ own_file form service.now) }
+{
+    match form {
+        Form::Dir => lowered(alloc, service),
+        Form::Single => b"pam.conf".to_vec(alloc),
+    }
+}
+
+/// The position of the file of this name.
+fn position(files: &Files, name: &[u8]) -> Option<usize>
+    ensures { result ≡ position_of name.now files.now.entries }
+{
+    for position in 0..files.len() {
+        let known = files.name(position).unwrap();
+        if name == known {
+            return Some(position);
+        }
+    }
+    None
+}
+
+fn is_of_service(rule: &LineRule, service: &[u8]) -> bool
+    ensures { result ≡ option_map_or (bytes_eq service.now) (rule_view rule.now).service true }
+{
+    match &rule.service {
+        Some(named) => service == named.as_slice(),
+        None => true,
+    }
+}
+
+fn is_of_kind(rule: &LineRule, kind: Kind) -> bool
+    ensures { result ≡ option_map_or (same_kind kind) rule.now.kind true }
+{
+    match rule.kind {
+        Some(named) => kind == named,
+        None => true,
+    }
+}
+
+/// Whether what is read concerns a service, in lowercase, and a kind.
+fn concerns(reading: &Reading, service: &[u8], kind: Kind) -> bool
+    ensures { result ≡ concerns service.now kind (reading_view reading.now) }
+{
+    match reading {
+        Reading::Rule(rule) => is_of_service(rule, service) && is_of_kind(rule, kind),
+        Reading::Fails => true,
+    }
+}
+
+/// Keeps the rules that concern a service, in lowercase, and a kind.
+fn keep_those_of(rules: &mut Vec<NumberedReading>, service: &[u8], kind: Kind)
+    ensures { map numbered_view rules.new.items
+        ≡ filter (λ rule. concerns service.now kind rule.1) (map numbered_view rules.old.items) }
+{
+    rules.retain(|rule| concerns(&rule.reading, service, kind));
+}
+
+/// The rules that a release reads for a service and a kind; `None` where it refuses the file.
+fn chosen_rules(
+    alloc: Global,
+    asked: ReleaseRequest<'_>,
+    form: Form,
+    source: Source<'_>,
+) -> Result<Option<Vec<NumberedReading>>, AllocError>
+    ensures { IfOk result (λ found. option_map (λ rules. map numbered_view rules.items) found
+        ≡ option_map (chosen asked.entry.service.now asked.entry.kind) (numbered_rules (release_of_name asked.entry.release) form source.entry.bytes.now)) }
+{
+    let release = release_of_name(asked.release);
+    let Some(mut rules) = released_rules(alloc, release, source, form)? else {
+        return Ok(None);
+    };
+    let service = lowered(alloc, asked.service)?;
+    keep_those_of(&mut rules, service.as_slice(), asked.kind);
+    Ok(Some(rules))
+}
+
+/// The fault of the file at a position.
+fn fault_in(at: usize, fault: SourceFault) -> ConfError
+    ensures { result ≡ fault_in at (fault_of_source fault) }
+{
+    let (kind, line) = match fault {
+        SourceFault::TooLong => (FaultKind::FileTooLong, 0),
+        SourceFault::NulByte(line) => (FaultKind::NulByte, line as usize),
+    };
+    ConfError {
+        kind,
+        at: Some(at),
+        line,
+    }
+}
+
+/// Reads the file at a position, of these bytes.
+fn read_at<'a>(
+    alloc: Global,
+    asked: ReleaseRequest<'a>,
+    form: Form,
+    at: usize,
+    bytes: &[u8],
+) -> Result<ReleasedReply<'a>, ConfError>
+    ensures { Gives ErrorTells released_view result (reading_at asked.entry.service.now asked.entry.kind asked.entry.release form at bytes.now) }
+{
+    let source = match Source::of(bytes) {
+        Ok(source) => source,
+        Err(fault) => return Err(fault_in(at, fault)),
+    };
+    let rules = chosen_rules(alloc, asked, form, source)?;
+    Ok(ReleasedReply {
+        service: asked.service,
+        kind: asked.kind,
+        release: asked.release,
+        file: own_file(alloc, form, asked.service)?,
+        rules,
+    })
+}
+
+/// Reads the own file of a service.
+fn read<'a>(
+    alloc: Global,
+    asked: ReleaseRequest<'a>,
+    files: &Files,
+) -> Result<ReleasedReply<'a>, ConfError>
+    ensures { Gives ErrorTells released_view result (released asked.entry.service.now asked.entry.kind asked.entry.release files.now) }
+{
+    let name = own_file(alloc, files.form(), asked.service)?;
+    match position(files, name.as_slice()) {
+        Some(at) => {
+            let bytes = files.bytes(at).unwrap_or(b"");
+            read_at(alloc, asked, files.form(), at, bytes)
+        }
+        None => Err(ConfError {
+            kind: FaultKind::NoService,
+            at: None,
+            line: 0,
+        }),
+    }
+}
+
+/// Returns the rules of the own file of a service, as a release reads them.
+pub(super) fn read_as<'a>(
+    alloc: Global,
+    asked: ReleaseRequest<'a>,
+    files: &Files,
+) -> Result<Reply<'a>, Fault>
+    ensures answer { Finds result (λ answer. answer_of (released asked.entry.service.now asked.entry.kind asked.entry.release files.now) ≡ answer) }
+    ensures wants { WantsOnly (of_stack false) result }
+{
+    match read(alloc, asked, files) {
+        Ok(reply) => Ok(Reply::Released(reply)),
+        Err(error) => Err(Fault::Conf(error)),
+    }
+}
