@@ -80,7 +80,9 @@ static STACKS: [CommandRow; 2] = [
     CommandRow {
         name: "show",
         about: "Shows the modules of a stack",
-        args: &[SERVICE, KIND, DIR, VENDOR_DIR, CONF, ROOT, WITH, RELEASE, JSON],
+        args: &[
+            SERVICE, KIND, DIR, VENDOR_DIR, CONF, ROOT, WITH, RELEASE, JSON,
+        ],
     },
     CommandRow {
         name: "decide",
