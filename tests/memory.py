@@ -45,13 +45,12 @@ TABLE_COMPARES = STACKS + [TE11, E17]
 DRAWINGS = PAGES + [KEPT, E17]
 TABLE_DRAWINGS = TABLE_PAGES + [KEPT, E17]
 
-# The facts and the findings; then the list of the services, by which findings are accepted; and to print, the lists of the paths
-# and of the services. These lists ask for room again where it is refused once.
-CHECKS = STACKS + [KEPT] * 3
-# Findings are listed after it.
-FOUND_CHECKS = STACKS + [KEPT, E17] + [KEPT] * 2
+# The facts and the findings; then the list of the services, by which findings are accepted; then the findings that are listed, and
+# the names of the files, among which the right words for wrong ones are; and to print, the lists of the paths and of the services.
+# The three lists ask for room again where it is refused once.
+CHECKS = STACKS + [KEPT, E17] + [KEPT] * 2
 # With more than four paths, their list grows.
-LONG_CHECKS = FOUND_CHECKS + [KEPT]
+LONG_CHECKS = CHECKS + [KEPT]
 
 TREE = {"d": FOLDER, "stack": {"login": STACK}, "pam.conf": b"login auth required a.so x\n" * 40, "access": ACCESS,
         "group": GROUP, "time": TIME, "returns": RETURNS, "facts": b"pam_own passes auth success\n", "accept": b"S6\nS2 login auth\n",
@@ -91,7 +90,7 @@ ASKED = [
     (["check", "LOGIN", "--dir", "d", "--vendor-dir", "stack"], LONG_CHECKS),
     (["check", "--conf", "pam.conf", "--fail-on", "note"], CHECKS),
     (["show", "login", "auth", "--dir", "d", "--with", "login=d/common", "--with=new=d/other"], STACKS),
-    (["check", "--dir", "stack", "--modules", "m", "--facts", "facts", "--accept", "accept"], FOUND_CHECKS),
+    (["check", "--dir", "stack", "--modules", "m", "--facts", "facts", "--accept", "accept"], CHECKS),
     (["compare", "old", "new"], COMPARES),
     (["compare", "new", "old", "LOGIN", "auth", "--modules", "m", "--facts", "facts", *RETURNS_FILE], TABLE_COMPARES),
     (["compare", "pam.conf", "pam.conf", "--conf"], COMPARES),

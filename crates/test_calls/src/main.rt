@@ -150,13 +150,24 @@ fn run(rt: &HostRuntime, words: &[String]) -> Result<(), Error> {
     test(rt, &words)
 }
 
+/// Whether the first word is `refusals`. Unlike `words` this takes no memory but for the words themselves.
+fn asks_for_refusals(rt: &HostRuntime) -> io::Result<bool> {
+    let words = env::args(rt)?;
+    match words.skip(1).next() {
+        Some(word) => Ok(word.as_str() == "refusals"),
+        None => Ok(false),
+    }
+}
+
 fn main(rt: HostRuntime) -> ExitCode {
+    match asks_for_refusals(&rt) {
+        Ok(true) => return refusals::status(&rt),
+        Ok(false) => {}
+        Err(_) => return ExitCode::from(6),
+    }
     let Ok(words) = words(&rt) else {
         return ExitCode::from(6);
     };
-    if words.len() == 1 && words[0].as_str() == "refusals" {
-        return refusals::status(&rt);
-    }
     match run(&rt, &words) {
         Ok(()) => ExitCode::from(0),
         Err(_) => ExitCode::from(1),
