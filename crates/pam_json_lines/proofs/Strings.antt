@@ -1,9 +1,10 @@
 -- The texts of strings, part by part.
-use Rattle.std.proofs.Common.{◌≡◌, ◌∙◌, ℕ, ◌<◌, List, [], ◌∷◌, ◌++◌, ap, append-nil, append_assoc, arith, drop, length, refl, sym}
+use Rattle.std.proofs.Common.{◌≡◌, ◌∙◌, ℕ, ◌<◌, List, [], ◌∷◌, ◌++◌, ap, append-nil, append_assoc, arith, Bor, codes, drop, length, map, refl, sym}
 use Rattle.std.proofs.lemmas.Grind.{flat_map-append}
 use Rattle.std.proofs.lemmas.Str.{utf8_lossy_chunk, utf8_lossy_empty, utf8_lossy_last_chunk}
+use Rattle.std.specs.List.{flat_map}
 use Rattle.std.specs.Str.Lossy.{replacement_bytes, utf8_invalid_len, utf8_lossy, utf8_valid_len}
-use Rattle.json.specs.Print.{escape, escape_byte}
+use Rattle.json.specs.Print.{escape, escape_byte, quoted}
 use Rattle.pam_json_lines.specs.Text.{invalid_text}
 
 escape-append : (a b : List ℕ) → escape (a ++ b) ≡ escape a ++ escape b
@@ -42,3 +43,16 @@ chunk-more front v i bytes valid invalid rest text v-is i-is steps h =
 -- nothing is left after the last chunk
 pub chunks-all : (front rest text : List ℕ) → length rest ≡ 0 → front ++ escape (utf8_lossy rest) ≡ text → front ≡ text
 chunks-all front rest text none h = sym (append-nil front) ∙ ap (λ l. front ++ escape l) (sym (utf8_lossy_empty rest none)) ∙ h
+
+-- TEXTS ONE AFTER ANOTHER
+
+each-escaped : (texts : List (Bor (List ℕ)))
+    → flat_map (λ text. escape (utf8_lossy text.now)) texts ≡ escape (flat_map utf8_lossy (map (λ text. text.now) texts))
+each-escaped [] = refl
+each-escaped (text ∷ texts) =
+    ap (λ l. escape (utf8_lossy text.now) ++ l) (each-escaped texts)
+    ∙ sym (escape-append (utf8_lossy text.now) (flat_map utf8_lossy (map (λ t. t.now) texts)))
+
+pub joined-is : (texts : List (Bor (List ℕ)))
+    → codes "\"" ++ (flat_map (λ text. escape (utf8_lossy text.now)) texts ++ codes "\"") ≡ quoted (flat_map utf8_lossy (map (λ text. text.now) texts))
+joined-is texts = ap (λ l. codes "\"" ++ (l ++ codes "\"")) (each-escaped texts)

@@ -1,0 +1,179 @@
+//! A line for a finding, a problem of a table, or a line of the accept file that accepts nothing.
+
+ghost use Rattle.std.specs.Prelude.{◌≡◌, map};
+ghost use Rattle.std.specs.Option.{option_map};
+ghost use Rattle.pam_codes.specs.Out.{Writes};
+ghost use Rattle.pam_parts.specs.Check.{text_at};
+ghost use Rattle.pam_parts.specs.CheckNames.{names_view, word_of};
+ghost use Rattle.pam_report.specs.TablePaths.{table_paths_view};
+ghost use Rattle.pam_json.specs.Check.{finding_json, line_if_any, met_unless, service_count, table_json, unused_json};
+ghost use Rattle.pam_json.specs.Header.{kind_name};
+
+use super::values::FindingValue;
+use crate::header::{name_in, number_in};
+use pam_codes::{Device, Out};
+use pam_conf::Kind;
+use pam_host::{Finding, Met, Place};
+use pam_json_lines::{Member, put_line};
+use pam_misspelled::Misspelled;
+use pam_parts::{Names, path_of, text_at};
+use pam_report::{
+    TablePaths, kind_name, problem_name, stack_of, table_problem_level, table_problem_name,
+};
+use pam_sentences::{UNUSED, level_name};
+use pam_table_check::TableFinding;
+use std::io::Write;
+
+/// Returns a line, but none for a file as a whole.
+fn line_if_any(line: usize) -> Option<u64>
+    ensures { result ≡ line_if_any line }
+{
+    if line == 0 { None } else { Some(line as u64) }
+}
+
+/// Returns the stacks that meet a problem, unless it is one of a whole stack.
+fn met_unless(met: Option<Met>, stack: Option<(usize, Kind)>) -> Option<Met>
+    ensures { result ≡ met_unless met stack }
+{
+    match stack {
+        Some(_) => None,
+        None => met,
+    }
+}
+
+fn service_count(met: Option<Met>) -> u64
+    ensures { result ≡ service_count met }
+{
+    match met {
+        Some(met) => met.services as u64,
+        None => 0,
+    }
+}
+
+/// Returns the name of the service of a stack.
+fn service_of<'x>(services: &[&'x [u8]], stack: Option<(usize, Kind)>) -> Option<&'x [u8]>
+    ensures { option_map (λ s. s.now) result ≡ option_map (λ s. text_at (map (λ t. t.now) services.now) s.0) stack }
+{
+    match stack {
+        Some((service, _)) => Some(text_at(services, service)),
+        None => None,
+    }
+}
+
+/// Returns the name of the kind of a stack.
+fn type_of(stack: Option<(usize, Kind)>) -> Option<&'static [u8]>
+    ensures { option_map (λ s. s.now) result ≡ option_map kind_name (option_map (λ s. s.1) stack) }
+{
+    match stack {
+        Some((_, kind)) => Some(kind_name(kind).as_bytes()),
+        None => None,
+    }
+}
+
+/// Writes the line of a finding, with the word that is wrong if it is known.
+#[tactic(auto, unfolding(crate::specs::Check::finding_json))]
+pub(super) fn put_finding<'x, W: Write>(
+    names: &'x Names<'x>,
+    place: &Place,
+    finding: Finding,
+    word: Option<&'x Misspelled>,
+    out: &mut Out<W>,
+) -> Result<(), Device>
+    ensures { Writes W.contents out.old out.new result (finding_json (names_view names.now) place.now finding (word_of word.entry)) }
+{
+    let problem = finding.problem;
+    let name = problem_name(problem);
+    let stack = stack_of(problem);
+    let met = met_unless(finding.met, stack);
+    let said = FindingValue::Said {
+        line: place.line,
+        problem,
+        word,
+    };
+    let services = FindingValue::Services {
+        services: &names.services,
+        met,
+    };
+    let answers = FindingValue::Answers {
+        ways: names.ways_in,
+        problem,
+    };
+    put_line(
+        &[
+            Member::text("kind", b"finding"),
+            Member::readable("file", path_of(names, place.file)),
+            Member::number_if_any("line", line_if_any(place.line)),
+            Member::text("level", level_name(problem.level()).as_bytes()),
+            Member::text("number", number_in(name).as_bytes()),
+            Member::text("name", name_in(name).as_bytes()),
+            Member::written("sentence", said),
+            Member::readable_if_any("service", service_of(&names.services, stack)),
+            Member::readable_if_any("type", type_of(stack)),
+            Member::written("types", FindingValue::Types(met)),
+            Member::written("services", services),
+            Member::number("service_count", service_count(met)),
+            Member::written("answers", answers),
+        ],
+        out,
+    )
+}
+
+/// Writes the line of a problem of a table.
+#[tactic(auto, unfolding(crate::specs::Check::table_json))]
+pub(super) fn put_table_finding<'x, W: Write>(
+    paths: &'x TablePaths<'x>,
+    finding: TableFinding,
+    out: &mut Out<W>,
+) -> Result<(), Device>
+    ensures { Writes W.contents out.old out.new result (table_json (table_paths_view paths.now) finding) }
+{
+    let problem = finding.problem;
+    let name = table_problem_name(problem);
+    put_line(
+        &[
+            Member::text("kind", b"finding"),
+            Member::readable("file", paths.of(finding.table)),
+            Member::number_if_any("line", line_if_any(finding.line as usize)),
+            Member::text("level", level_name(table_problem_level(problem)).as_bytes()),
+            Member::text("number", number_in(name).as_bytes()),
+            Member::text("name", name_in(name).as_bytes()),
+            Member::written("sentence", FindingValue::TableSaid(problem)),
+            Member::readable_if_any("service", None),
+            Member::readable_if_any("type", None),
+            Member::written("types", FindingValue::Types(None)),
+            Member::written("services", FindingValue::Types(None)),
+            Member::number("service_count", 0),
+            Member::written("answers", FindingValue::Types(None)),
+        ],
+        out,
+    )
+}
+
+/// Writes the line of S8, of a line of the accept file that accepts nothing.
+#[tactic(auto, unfolding(crate::specs::Check::unused_json))]
+pub(super) fn put_unused<'x, W: Write>(
+    accept: &'x [u8],
+    line: u32,
+    out: &mut Out<W>,
+) -> Result<(), Device>
+    ensures { Writes W.contents out.old out.new result (unused_json accept.now line) }
+{
+    put_line(
+        &[
+            Member::text("kind", b"finding"),
+            Member::readable("file", accept),
+            Member::number_if_any("line", line_if_any(line as usize)),
+            Member::text("level", b"warning"),
+            Member::text("number", b"S8"),
+            Member::text("name", b"NothingAccepted"),
+            Member::text("sentence", UNUSED),
+            Member::readable_if_any("service", None),
+            Member::readable_if_any("type", None),
+            Member::written("types", FindingValue::Types(None)),
+            Member::written("services", FindingValue::Types(None)),
+            Member::number("service_count", 0),
+            Member::written("answers", FindingValue::Types(None)),
+        ],
+        out,
+    )
+}
