@@ -116,25 +116,22 @@ numbered_json names words entry = finding_json names entry.1.0 entry.1.1 (word_a
 abbrev pub findings_json : Names → List (Option MisspelledText) → List (Place × Finding) → List ℕ
 findings_json names words found = flat_map (numbered_json names words) (enumerate_from 0 found)
 
--- no stack meets a problem of a table or of the accept file
+-- THE LINE of a problem that no stack meets
 abbrev pub no_stack_members : List (List ℕ × Data)
 no_stack_members = stack_members None None [] None (array no_items)
 
--- THE LINE of a problem of a table
-abbrev pub table_members : TablePathsText → TableFinding → List (List ℕ × Data)
-table_members paths finding =
-    place_members (path_of_table paths finding.table) finding.line (level_of_table_problem finding.problem) (table_problem_name finding.problem)
-    (joined (table_parts finding.problem)) no_stack_members
+unfoldable pub other_json : List ℕ → ℕ → Level → List ℕ → Data → List ℕ
+other_json file at level name said = line (place_members file at level name said no_stack_members)
 
-unfoldable pub table_json : TablePathsText → TableFinding → List ℕ
-table_json paths finding = line (table_members paths finding)
+-- that of a problem of a table
+abbrev pub table_json : TablePathsText → TableFinding → List ℕ
+table_json paths finding =
+    other_json (path_of_table paths finding.table) finding.line (level_of_table_problem finding.problem) (table_problem_name finding.problem)
+    (joined (table_parts finding.problem))
 
--- THE LINE of a line of the accept file that accepts nothing
-abbrev pub unused_members : List ℕ → ℕ → List (List ℕ × Data)
-unused_members accept at = place_members accept at Warning (codes "S8 NothingAccepted") (string unused_sentence) no_stack_members
-
-unfoldable pub unused_json : List ℕ → ℕ → List ℕ
-unused_json accept at = line (unused_members accept at)
+-- that of a line of the accept file that accepts nothing
+abbrev pub unused_json : List ℕ → ℕ → List ℕ
+unused_json accept at = other_json accept at Warning (codes "S8 NothingAccepted") (string unused_sentence)
 
 -- THE LAST LINE
 abbrev pub checked_members : ℕ → Counts → List (List ℕ × Data)

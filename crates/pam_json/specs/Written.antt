@@ -5,6 +5,7 @@ use Rattle.pam_codes.specs.ControlText.{control_text}
 use Rattle.pam_json_lines.specs.Line.{joined, strings}
 use Rattle.pam_parts.specs.Ways.{count_text}
 use Rattle.pam_paths.specs.Steps.{step_seen}
+use Rattle.pam_sentences.specs.Sentences.{unused_sentence}
 use Rattle.serde_json.specs.Data.{Data, string}
 use Rattle.pam_report.specs.ReplyViews.{side_files}
 use Rattle.pam_json.specs.Check.{answers_array, services_array, types_array}
@@ -12,7 +13,7 @@ use Rattle.pam_json.specs.Compare.{arguments_array, fault_if_any, modules_array,
 use Rattle.pam_json.specs.Sentences.{said_parts, table_parts}
 use Rattle.pam_json.specs.Steps.{cursor_string, steps_array}
 use Rattle.pam_json.specs.declared.check.values.FindingValue.{FindingValue}
-use Rattle.pam_json.specs.declared.check.values.FindingValue.TheVariants.{Answers, Said, Services, TableSaid, Types}
+use Rattle.pam_json.specs.declared.check.values.FindingValue.TheVariants.{Answers, Said, Services, TableSaid, Types, Unused}
 use Rattle.pam_json.specs.declared.compare.values.ChangeValue.{ChangeValue}
 use Rattle.pam_json.specs.declared.compare.values.ChangeValue.TheVariants.{Arguments as ModuleArguments, Fault, Modules, Steps as AskedSteps}
 use Rattle.pam_json.specs.declared.show.ModuleValue.{ModuleValue}
@@ -38,6 +39,7 @@ change_value (AskedSteps pair asked) = asked_array pair.now asked.now
 abbrev pub finding_value : FindingValue → Data
 finding_value (Said line problem word) = joined (said_parts line problem (word_of word))
 finding_value (TableSaid problem) = joined (table_parts problem)
+finding_value Unused = string unused_sentence
 finding_value (Types met) = types_array met
 finding_value (Services services met) = services_array (map (λ service. service.now) services.now) met
 finding_value (Answers ways problem) = answers_array ways.now problem

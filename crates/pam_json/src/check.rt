@@ -29,9 +29,9 @@ use std::alloc::Global;
 use std::io::Write;
 
 /// Writes the line of a finding, with the word that is wrong at its position.
-fn put_numbered<'x, W: Write>(
-    names: &'x Names<'x>,
-    words: &'x [Option<Misspelled>],
+fn put_numbered<W: Write>(
+    names: &Names<'_>,
+    words: &[Option<Misspelled>],
     position: usize,
     entry: &(Place, Finding),
     out: &mut Out<W>,
@@ -39,14 +39,14 @@ fn put_numbered<'x, W: Write>(
     ensures { Writes W.contents out.old out.new result
         (numbered_json (names_view names.now) (map (option_map misspelled_view) words.now) (position, entry.now)) }
 {
-    put_finding(names, &entry.0, entry.1, word_at(words, position), out)
+    put_finding(&*names, &entry.0, entry.1, word_at(words, position), out)
 }
 
 /// Writes the findings, each with the word that is wrong at its position.
-fn put_findings<'x, W: Write>(
-    names: &'x Names<'x>,
+fn put_findings<W: Write>(
+    names: &Names<'_>,
     found: &[(Place, Finding)],
-    words: &'x [Option<Misspelled>],
+    words: &[Option<Misspelled>],
     out: &mut Out<W>,
 ) -> Result<(), Device>
     ensures { Writes W.contents out.old out.new result
@@ -97,9 +97,9 @@ fn put_checked<W: Write>(services: usize, counts: Counts, out: &mut Out<W>) -> R
 }
 
 /// Writes the lines of findings, of problems of tables, and of lines of the accept file.
-fn put_lines<'x, W: Write>(
-    names: &'x Names<'x>,
-    reply: &'x CheckReply<'_>,
+fn put_lines<W: Write>(
+    names: &Names<'_>,
+    reply: &CheckReply<'_>,
     out: &mut Out<W>,
 ) -> Result<(), Device>
     requires { names_view names.now ≡ names_of_value (check_view reply.now) }
@@ -111,9 +111,9 @@ fn put_lines<'x, W: Write>(
 }
 
 /// Writes the findings, and flushes.
-fn write_report<'x, W: Write>(
-    names: &'x Names<'x>,
-    reply: &'x CheckReply<'_>,
+fn write_report<W: Write>(
+    names: &Names<'_>,
+    reply: &CheckReply<'_>,
     out: &mut Out<W>,
 ) -> Result<(), Device>
     requires { names_view names.now ≡ names_of_value (check_view reply.now) }
@@ -137,7 +137,7 @@ pub(crate) fn write_check<W: Write>(
         Ok(names) => names,
         Err(_) => return Err(Fault::Memory),
     };
-    match write_report(&names, &*reply, out) {
+    match write_report(&names, reply, out) {
         Ok(()) => Ok(()),
         Err(Device) => Err(Fault::Device),
     }

@@ -118,21 +118,25 @@ pub fn put_readable<W: Write>(bytes: &[u8], out: &mut Out<W>) -> Result<(), Devi
     out.put(b"\"")
 }
 
-fn put_each<W: Write>(texts: &[&[u8]], out: &mut Out<W>) -> Result<(), Device>
-    ensures { Writes W.contents out.old out.new result (flat_map (λ text. escape (utf8_lossy text.now)) texts.now) }
+/// A part of a string: bytes, with U+FFFD for what is no UTF-8.
+#[derive(Clone, Copy, Debug)]
+pub struct Part<'x>(pub &'x [u8]);
+
+fn put_parts<W: Write>(parts: &[Part<'_>], out: &mut Out<W>) -> Result<(), Device>
+    ensures { Writes W.contents out.old out.new result (flat_map (λ part. escape (utf8_lossy part.0.now)) parts.now) }
 {
-    for text in texts {
-        put_chunks(text, out)?;
+    for part in parts {
+        put_chunks(part.0, out)?;
     }
     Ok(())
 }
 
-/// Writes texts as one string, one after another, with U+FFFD for what is no UTF-8 in each.
-pub fn put_joined<W: Write>(texts: &[&[u8]], out: &mut Out<W>) -> Result<(), Device>
-    ensures { Writes W.contents out.old out.new result (compact_text (joined (map (λ text. text.now) texts.now))) }
+/// Writes parts as one string, one after another.
+pub fn put_joined<W: Write>(parts: &[Part<'_>], out: &mut Out<W>) -> Result<(), Device>
+    ensures { Writes W.contents out.old out.new result (compact_text (joined (map (λ part. part.0.now) parts.now))) }
 {
     out.put(b"\"")?;
-    put_each(texts, out)?;
+    put_parts(parts, out)?;
     out.put(b"\"")
 }
 

@@ -6,21 +6,22 @@ ghost use Rattle.pam_codes.specs.Out.{Writes};
 ghost use Rattle.pam_parts.specs.Check.{text_at};
 ghost use Rattle.pam_parts.specs.CheckNames.{names_view, word_of};
 ghost use Rattle.pam_report.specs.TablePaths.{table_paths_view};
-ghost use Rattle.pam_json.specs.Check.{finding_json, line_if_any, met_unless, service_count, table_json, unused_json};
+ghost use Rattle.pam_json.specs.Check.{finding_json, line_if_any, met_unless, other_json, service_count, table_json, unused_json};
 ghost use Rattle.pam_json.specs.Header.{kind_name};
+ghost use Rattle.pam_json.specs.Written.{finding_value};
 
 use super::values::FindingValue;
 use crate::header::{name_in, number_in};
 use pam_codes::{Device, Out};
 use pam_conf::Kind;
-use pam_host::{Finding, Met, Place};
+use pam_host::{Finding, Level, Met, Place};
 use pam_json_lines::{Member, put_line};
 use pam_misspelled::Misspelled;
 use pam_parts::{Names, path_of, text_at};
 use pam_report::{
     TablePaths, kind_name, problem_name, stack_of, table_problem_level, table_problem_name,
 };
-use pam_sentences::{UNUSED, level_name};
+use pam_sentences::level_name;
 use pam_table_check::TableFinding;
 use std::io::Write;
 
@@ -118,28 +119,29 @@ pub(super) fn put_finding<'x, W: Write>(
     )
 }
 
-/// Writes the line of a problem of a table.
-#[tactic(auto, unfolding(crate::specs::Check::table_json))]
-pub(super) fn put_table_finding<'x, W: Write>(
-    paths: &'x TablePaths<'x>,
-    finding: TableFinding,
+/// Writes the line of a problem that no stack meets.
+#[tactic(auto, unfolding(crate::specs::Check::other_json))]
+fn put_other<'x, W: Write>(
+    file: &'x [u8],
+    line: usize,
+    level: Level,
+    name: &'static str,
+    said: FindingValue<'x>,
     out: &mut Out<W>,
 ) -> Result<(), Device>
-    ensures { Writes W.contents out.old out.new result (table_json (table_paths_view paths.now) finding) }
+    ensures { Writes W.contents out.old out.new result (other_json file.now line level name.now (finding_value said)) }
 {
-    let problem = finding.problem;
-    let name = table_problem_name(problem);
     put_line(
         &[
             Member::text("kind", b"finding"),
-            Member::readable("file", paths.of(finding.table)),
-            Member::number_if_any("line", line_if_any(finding.line as usize)),
-            Member::text("level", level_name(table_problem_level(problem)).as_bytes()),
+            Member::readable("file", file),
+            Member::number_if_any("line", line_if_any(line)),
+            Member::text("level", level_name(level).as_bytes()),
             Member::text("number", number_in(name).as_bytes()),
             Member::text("name", name_in(name).as_bytes()),
-            Member::written("sentence", FindingValue::TableSaid(problem)),
-            Member::readable_if_any("service", None),
-            Member::readable_if_any("type", None),
+            Member::written("sentence", said),
+            Member::null("service"),
+            Member::null("type"),
             Member::written("types", FindingValue::Types(None)),
             Member::written("services", FindingValue::Types(None)),
             Member::number("service_count", 0),
@@ -149,31 +151,39 @@ pub(super) fn put_table_finding<'x, W: Write>(
     )
 }
 
+/// Writes the line of a problem of a table.
+pub(super) fn put_table_finding<W: Write>(
+    paths: &TablePaths<'_>,
+    finding: TableFinding,
+    out: &mut Out<W>,
+) -> Result<(), Device>
+    ensures { Writes W.contents out.old out.new result (table_json (table_paths_view paths.now) finding) }
+{
+    let problem = finding.problem;
+    put_other(
+        paths.of(finding.table),
+        finding.line as usize,
+        table_problem_level(problem),
+        table_problem_name(problem),
+        FindingValue::TableSaid(problem),
+        out,
+    )
+}
+
 /// Writes the line of S8, of a line of the accept file that accepts nothing.
-#[tactic(auto, unfolding(crate::specs::Check::unused_json))]
-pub(super) fn put_unused<'x, W: Write>(
-    accept: &'x [u8],
+pub(super) fn put_unused<W: Write>(
+    accept: &[u8],
     line: u32,
     out: &mut Out<W>,
 ) -> Result<(), Device>
     ensures { Writes W.contents out.old out.new result (unused_json accept.now line) }
 {
-    put_line(
-        &[
-            Member::text("kind", b"finding"),
-            Member::readable("file", accept),
-            Member::number_if_any("line", line_if_any(line as usize)),
-            Member::text("level", b"warning"),
-            Member::text("number", b"S8"),
-            Member::text("name", b"NothingAccepted"),
-            Member::text("sentence", UNUSED),
-            Member::readable_if_any("service", None),
-            Member::readable_if_any("type", None),
-            Member::written("types", FindingValue::Types(None)),
-            Member::written("services", FindingValue::Types(None)),
-            Member::number("service_count", 0),
-            Member::written("answers", FindingValue::Types(None)),
-        ],
+    put_other(
+        accept,
+        line as usize,
+        Level::Warning,
+        "S8 NothingAccepted",
+        FindingValue::Unused,
         out,
     )
 }

@@ -12,7 +12,7 @@ ghost use Rattle.pam_json.specs.Sentences.{fault_parts, naming_parts, problem_pa
 use pam_codes::{Device, Out};
 use pam_conf::{FaultKind, Kind};
 use pam_host::Problem;
-use pam_json_lines::put_joined;
+use pam_json_lines::{Part, put_joined};
 use pam_misspelled::Misspelled;
 use pam_old_tables::TableDifference;
 use pam_released::Difference;
@@ -26,7 +26,7 @@ use std::io::Write;
 fn put_one<W: Write>(text: &str, out: &mut Out<W>) -> Result<(), Device>
     ensures { Writes W.contents out.old out.new result (compact_text (joined (text.now ∷ []))) }
 {
-    put_joined(&[text.as_bytes()], out)
+    put_joined(&[Part(text.as_bytes())], out)
 }
 
 /// Writes what is wrong with a word, and the nearest right word, or else how to mend the word.
@@ -40,26 +40,26 @@ fn put_named<W: Write>(
     match &misspelled.nearest {
         Some(right) => put_joined(
             &[
-                naming.before.as_bytes(),
-                b"\"",
-                misspelled.word.as_slice(),
-                b"\"",
-                naming.after.as_bytes(),
-                b"; did you mean \"",
-                right.as_slice(),
-                b"\"?",
+                Part(naming.before.as_bytes()),
+                Part(b"\""),
+                Part(misspelled.word.as_slice()),
+                Part(b"\""),
+                Part(naming.after.as_bytes()),
+                Part(b"; did you mean \""),
+                Part(right.as_slice()),
+                Part(b"\"?"),
             ],
             out,
         ),
         None => put_joined(
             &[
-                naming.before.as_bytes(),
-                b"\"",
-                misspelled.word.as_slice(),
-                b"\"",
-                naming.after.as_bytes(),
-                b"; ",
-                naming.mending.as_bytes(),
+                Part(naming.before.as_bytes()),
+                Part(b"\""),
+                Part(misspelled.word.as_slice()),
+                Part(b"\""),
+                Part(naming.after.as_bytes()),
+                Part(b"; "),
+                Part(naming.mending.as_bytes()),
             ],
             out,
         ),
@@ -90,9 +90,9 @@ fn put_released<W: Write>(difference: Difference, out: &mut Out<W>) -> Result<()
 {
     put_joined(
         &[
-            difference.meaning().as_bytes(),
-            b"; ",
-            difference.mending().as_bytes(),
+            Part(difference.meaning().as_bytes()),
+            Part(b"; "),
+            Part(difference.mending().as_bytes()),
         ],
         out,
     )
@@ -107,9 +107,9 @@ fn put_table_difference<W: Write>(
 {
     put_joined(
         &[
-            difference.meaning().as_bytes(),
-            b"; ",
-            difference.mending().as_bytes(),
+            Part(difference.meaning().as_bytes()),
+            Part(b"; "),
+            Part(difference.mending().as_bytes()),
         ],
         out,
     )
@@ -131,8 +131,8 @@ fn put_problem<W: Write>(problem: Problem, out: &mut Out<W>) -> Result<(), Devic
 {
     put_joined(
         &[
-            subject_name(stack_of(problem)).as_bytes(),
-            problem_sentence(problem).as_bytes(),
+            Part(subject_name(stack_of(problem)).as_bytes()),
+            Part(problem_sentence(problem).as_bytes()),
         ],
         out,
     )

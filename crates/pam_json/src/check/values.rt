@@ -15,6 +15,7 @@ use pam_known::name_of_path;
 use pam_misspelled::Misspelled;
 use pam_parts::text_at;
 use pam_report::{kind_name, path_at};
+use pam_sentences::UNUSED;
 use pam_table_check::TableProblem;
 use std::io::Write;
 
@@ -178,6 +179,8 @@ pub(super) enum FindingValue<'x> {
     },
     /// What is said of a problem of a table.
     TableSaid(TableProblem),
+    /// What is said of a line of the accept file that accepts nothing.
+    Unused,
     /// The kinds of the stacks that meet a problem.
     Types(Option<Met>),
     /// The first services that meet a problem.
@@ -205,6 +208,7 @@ impl Written for FindingValue<'_> {
                 word,
             } => put_said(*line, *problem, *word, out),
             FindingValue::TableSaid(problem) => put_table_said(*problem, out),
+            FindingValue::Unused => put_quoted(UNUSED, out),
             FindingValue::Types(met) => put_types(*met, out),
             FindingValue::Services { services, met } => put_services(*services, *met, out),
             FindingValue::Answers { ways, problem } => put_answers(*ways, *problem, out),
