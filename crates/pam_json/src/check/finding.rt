@@ -129,7 +129,7 @@ fn put_other<'x, W: Write>(
     said: FindingValue<'x>,
     out: &mut Out<W>,
 ) -> Result<(), Device>
-    ensures { Writes W.contents out.old out.new result (other_json file.now line level name.now (finding_value said)) }
+    ensures { Writes W.contents out.old out.new result (other_json file.now line level name.now (finding_value said.entry)) }
 {
     put_line(
         &[
