@@ -1,12 +1,12 @@
 //! A line for a finding, a problem of a table, or a line of the accept file that accepts nothing.
 
-ghost use Rattle.std.specs.Prelude.{◌≡◌, map};
+ghost use Rattle.std.specs.Prelude.{◌≡◌};
 ghost use Rattle.std.specs.Option.{option_map};
 ghost use Rattle.pam_codes.specs.Out.{Writes};
 ghost use Rattle.pam_parts.specs.Check.{text_at};
 ghost use Rattle.pam_parts.specs.CheckNames.{names_view, word_of};
 ghost use Rattle.pam_report.specs.TablePaths.{table_paths_view};
-ghost use Rattle.pam_json.specs.Check.{finding_json, line_if_any, met_unless, other_json, service_count, table_json, unused_json};
+ghost use Rattle.pam_json.specs.Check.{finding_json, line_if_any, met_unless, other_json, service_count, services_array, table_json, unused_json};
 ghost use Rattle.pam_json.specs.Header.{kind_name};
 ghost use Rattle.pam_json.specs.Written.{finding_value};
 
@@ -52,12 +52,22 @@ fn service_count(met: Option<Met>) -> u64
 }
 
 /// Returns the name of the service of a stack.
-fn service_of<'x>(services: &[&'x [u8]], stack: Option<(usize, Kind)>) -> Option<&'x [u8]>
-    ensures { option_map (λ s. s.now) result ≡ option_map (λ s. text_at (map (λ t. t.now) services.now) s.0) stack }
+fn service_of<'x>(names: &Names<'x>, stack: Option<(usize, Kind)>) -> Option<&'x [u8]>
+    ensures { option_map (λ s. s.now) result ≡ option_map (λ s. text_at (names_view names.now).services s.0) stack }
 {
     match stack {
-        Some((service, _)) => Some(text_at(services, service)),
+        Some((service, _)) => Some(text_at(&names.services, service)),
         None => None,
+    }
+}
+
+/// Returns the first services that meet a problem as a value.
+fn services_of<'x>(names: &'x Names<'x>, met: Option<Met>) -> FindingValue<'x>
+    ensures { finding_value result ≡ services_array (names_view names.now).services met }
+{
+    FindingValue::Services {
+        services: &names.services,
+        met,
     }
 }
 
@@ -91,10 +101,6 @@ pub(super) fn put_finding<'x, W: Write>(
         problem,
         word,
     };
-    let services = FindingValue::Services {
-        services: &names.services,
-        met,
-    };
     let answers = FindingValue::Answers {
         ways: names.ways_in,
         problem,
@@ -108,10 +114,10 @@ pub(super) fn put_finding<'x, W: Write>(
             Member::text("number", number_in(name).as_bytes()),
             Member::text("name", name_in(name).as_bytes()),
             Member::written("sentence", said),
-            Member::readable_if_any("service", service_of(&names.services, stack)),
+            Member::readable_if_any("service", service_of(names, stack)),
             Member::readable_if_any("type", type_of(stack)),
             Member::written("types", FindingValue::Types(met)),
-            Member::written("services", services),
+            Member::written("services", services_of(names, met)),
             Member::number("service_count", service_count(met)),
             Member::written("answers", answers),
         ],
