@@ -177,11 +177,7 @@ pub(super) fn put_table_finding<W: Write>(
 }
 
 /// Writes the line of S8, of a line of the accept file that accepts nothing.
-pub(super) fn put_unused<W: Write>(
-    accept: &[u8],
-    line: u32,
-    out: &mut Out<W>,
-) -> Result<(), Device>
+pub(super) fn put_unused<W: Write>(accept: &[u8], line: u32, out: &mut Out<W>) -> Result<(), Device>
     ensures { Writes W.contents out.old out.new result (unused_json accept.now line) }
 {
     put_other(

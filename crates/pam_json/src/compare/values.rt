@@ -6,8 +6,8 @@ ghost use Rattle.pam_json.specs.Compare.{fault_if_any, fault_object};
 ghost use Rattle.pam_report.specs.ReplyViews.{side_files};
 ghost use Rattle.serde_json.specs.Written.{compact_text};
 
-use crate::header::{name_in, number_in};
 use super::modules::{put_arguments, put_modules, put_steps};
+use crate::header::{name_in, number_in};
 use pam_changes::{AskedModule, StackPair};
 use pam_codes::{Device, Out};
 use pam_conf::{ConfError, Files, Stack};
