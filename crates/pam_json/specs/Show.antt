@@ -9,7 +9,7 @@ use Rattle.pam_report.specs.Reply.{StackValue}
 use Rattle.serde_json.specs.Data.{Data, boolean, number, string, unsigned}
 use Rattle.pam_json.specs.Header.{stack_members}
 
--- a rule with a module, so many substacks deep
+-- a rule with a module, nested in this number of substacks
 abbrev pub module_members : Folder → ℕ → ModuleText → List (List ℕ × Data)
 module_members files depth m =
     kind (codes "module") ∷ (codes "depth", number (unsigned depth)) ∷ (codes "number", number (unsigned m.number))

@@ -1,4 +1,4 @@
--- For private contracts and proofs alone: what stands for bytes that are no UTF-8.
+-- For private contracts and proofs alone: the replacement of bytes that are no UTF-8.
 use Rattle.std.specs.Prelude.{ℕ, List, []}
 use Rattle.std.specs.Str.Lossy.{replacement_bytes}
 

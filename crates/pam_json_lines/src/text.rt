@@ -10,10 +10,10 @@ ghost use Rattle.pam_json_lines.specs.Text.{invalid_text};
 use pam_text::{Device, Out};
 use std::io::Write;
 
-/// The UTF-8 of U+FFFD, which stands for bytes that are no UTF-8.
+/// The UTF-8 of U+FFFD, which replaces invalid bytes.
 const REPLACEMENT: &[u8] = b"\xef\xbf\xbd";
 
-/// Returns the letter after a backslash that stands for a byte, or 0 if there is none.
+/// Returns the letter of the short escape of a byte, or 0 if it has none.
 fn escape_letter(byte: u8) -> u8
     ensures { result ≡ escape_letter byte }
 {

@@ -25,7 +25,7 @@ pub trait Written {
         ensures { Writes W.contents out.old out.new result (compact_text (value self.now)) };
 }
 
-/// `null`. It stands for the values of objects that have none of their own.
+/// `null`, for objects that have no values of a type of their own.
 impl Written for () {
     ghost use Rattle.serde_json.specs.Data.{null};
 

@@ -45,7 +45,7 @@ plain_sentence line fault = fault_sentence fault
 
 -- WITH THE WRONG WORD
 
--- what stands before and after the word in its sentence, and what to write where no right word is near
+-- the text before and after the word in its sentence, and what to write if no right word is near
 pub record Naming : Type 0 where
   pub before : List ℕ
   pub after : List ℕ

@@ -16,7 +16,7 @@ use pam_parts::file_of;
 use pam_report::conf_name;
 use std::io::Write;
 
-/// Returns the number of a fault, which stands before its name.
+/// Returns the number of a fault, as `E15`.
 #[tactic(auto, using(std::proofs::lemmas::Str::Pattern::split_once_first))]
 fn number_in(name: &str) -> &str
     ensures { result.now ≡ before_first is_space name.now }
@@ -27,7 +27,7 @@ fn number_in(name: &str) -> &str
     }
 }
 
-/// Returns the name of a fault, which stands after its number.
+/// Returns the name of a fault, as `NoService`.
 #[tactic(auto, using(std::proofs::lemmas::Str::Pattern::split_once_first))]
 fn name_in(name: &str) -> &str
     ensures { result.now ≡ after_first is_space name.now }
