@@ -1,6 +1,6 @@
 //! A digest of two stacks, by which an equal pair is found again.
 
-use pam_codes::{Action, Code, Control};
+use pam_codes::{Action, CODES, Code, Control};
 use pam_conf::{Item, Kind, Module, Stack};
 
 /// The prime of FNV-1a, of 64 bits.
@@ -40,7 +40,7 @@ impl Digest {
     }
 
     fn add_control(&mut self, control: &Control) {
-        for number in 0..31 {
+        for number in 0..CODES as u8 {
             if let Some(code) = Code::new(number) {
                 self.add(action_number(control.action(code)));
             }
