@@ -1,4 +1,4 @@
-use Rattle.std.proofs.Common.{inl, inr}
+use Rattle.std.proofs.Common.{inr}
 use Rattle.pam_compare.proofs.held.is_needed.Goals as goal
 
 pub returns : goal.returns

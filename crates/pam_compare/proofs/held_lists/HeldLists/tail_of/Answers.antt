@@ -1,4 +1,4 @@
-use Rattle.std.proofs.Common.{◌≡◌, ◌≤◌, ℕ, arith, drop, length, subst, sym}
+use Rattle.std.proofs.Common.{◌≡◌, ℕ, arith, drop, length, subst, sym}
 use Rattle.pam_compare.specs.HeldLists.{IsListed}
 use Rattle.pam_compare.proofs.Lists.{listed-none}
 use Rattle.pam_compare.proofs.Writing.{drop-past}
