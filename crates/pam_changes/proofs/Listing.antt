@@ -1,7 +1,6 @@
 -- The numbers of modules that pass a test, one by one.
-use Rattle.std.proofs.Common.{◌≡◌, ◌∙◌, ℕ, ◌+◌, Bool, true, false, List, [], ◌∷◌, ◌++◌, append-nil, cond, filter, filter_map, map, ap, arith, sym, refl}
+use Rattle.std.proofs.Common.{◌≡◌, ◌∙◌, ℕ, ◌+◌, Bool, true, false, List, [], ◌∷◌, ◌++◌, append-nil, cond, filter, filter_map, ap, sym, refl}
 use Rattle.std.proofs.Common.{Option, Some, None}
-use Rattle.std.proofs.lemmas.List.FromFn.{map-range_with_len_more}
 use Rattle.std.specs.List.{range_with_len}
 use Rattle.pam_compare.proofs.Ranges.{filter-more, range-more}
 

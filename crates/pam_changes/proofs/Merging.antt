@@ -1,9 +1,9 @@
 -- The modules that two stacks ask, one after another.
-use Rattle.std.proofs.Common.{◌≡◌, ◌∙◌, ℕ, ◌+◌, ◌<◌, ◌≤◌, Bool, true, false, List, [], ◌∷◌, ◌++◌, append-nil, append_assoc, cond, drop, get_or, length, ltb, map, ap, arith, sym, refl}
+use Rattle.std.proofs.Common.{◌≡◌, ◌∙◌, ℕ, ◌+◌, ◌<◌, ◌≤◌, Bool, List, [], ◌∷◌, ◌++◌, append-nil, append_assoc, cond, drop, get_or, length, map, ap, sym, refl}
 use Rattle.std.proofs.Common.{Option, Some, None}
 use Rattle.std.proofs.lemmas.Bool.{le-ltb, lt-ltb}
 use Rattle.std.proofs.lemmas.List.{drop_all, drop_more}
-use Rattle.pam_dispatch.specs.Runs.{Ask, Assignment, Runs, after_answer, asked_by, asked_module, next_ask}
+use Rattle.pam_dispatch.specs.Runs.{Ask, Assignment, Runs, after_answer, asked_module}
 use Rattle.pam_dispatch.proofs.Asking.{asked_by-end, asked_by-step, number-next_ask}
 use Rattle.pam_changes.specs.declared.steps.AskedModule.{AskedModule}
 use Rattle.pam_changes.specs.Steps.{as_old, asked_numbers, before, from, left_after, merged, one_with, step_of}

@@ -1,8 +1,7 @@
 -- Items that are the same, one by one.
-use Rattle.std.proofs.Common.{◌≡◌, ◌∙◌, ℕ, ◌+◌, ◌<◌, ◌&&◌, suc, zero, drop, get_or, Option, Some, None, slice_get, Bool, true, false, List, [], ◌∷◌, length, ap, sym, refl, inl, inr, arith}
-use Rattle.std.proofs.Common.{◌≤◌, eqb, eq-eqb}
+use Rattle.std.proofs.Common.{◌≡◌, ℕ, ◌&&◌, suc, Bool, true, false, List, [], ◌∷◌, length, ap, sym, refl, inl, inr}
+use Rattle.std.proofs.Common.{eqb, eq-eqb}
 use Rattle.std.proofs.lemmas.Bool.{and_from, and_parts, cases_Bool, false≢true}
-use Rattle.std.proofs.lemmas.List.{drop_all, drop_more}
 use Rattle.std.proofs.lemmas.Slice.Eq.{bytes_eq-Decides}
 use Rattle.std.specs.Str.{bytes_eq}
 use Rattle.pam_codes.specs.Action.{same_action}

@@ -1,6 +1,5 @@
 -- What changes from one configuration to another: pam.conf(5).
 use Rattle.std.specs.Prelude.{◌≡◌, ℕ, zero, suc, ◌+◌, ◌++◌, List, [], ◌∷◌, All, length, map, slice_get, unwrap_or, Option, Some, None, Result, Ok, Err}
-use Rattle.std.specs.Option.{option_map_or}
 use Rattle.pam_conf.specs.Resolution.{resolved}
 use Rattle.pam_conf.specs.Stack.{Items}
 use Rattle.pam_conf.specs.declared.conf_error.ConfError.{ConfError}
@@ -11,7 +10,7 @@ use Rattle.pam_changes.specs.Known.{AreThereAlike}
 use Rattle.pam_changes.specs.Pairs.{IsPair}
 use Rattle.pam_changes.specs.Same.{AreSame}
 use Rattle.pam_changes.specs.Services.{compared_names, compared_services, service_text}
-use Rattle.pam_changes.specs.Sides.{SideText, SidesText}
+use Rattle.pam_changes.specs.Sides.{SidesText}
 use Rattle.pam_changes.specs.declared.changes.HostChanges.{HostChanges}
 use Rattle.pam_changes.specs.declared.pair.StackPair.{StackPair}
 use Rattle.pam_changes.specs.declared.stacks.ComparedStack.{ComparedStack}

@@ -1,5 +1,5 @@
 -- How many stacks change.
-use Rattle.std.specs.Prelude.{ℕ, ◌&&◌, ◌||◌, Bool, true, false, not, List, filter, length, slice_get, is_some, if◌then◌else◌, Option, Some, None}
+use Rattle.std.specs.Prelude.{ℕ, ◌&&◌, ◌||◌, Bool, true, false, not, List, slice_get, is_some, if◌then◌else◌, Option, Some, None}
 use Rattle.std.specs.List.{count_by}
 use Rattle.pam_changes.specs.declared.changes.HostChanges.{HostChanges}
 use Rattle.pam_changes.specs.declared.counts.Counts.{Counts}

@@ -1,5 +1,5 @@
 -- For private contracts and proofs alone: what is found of stacks, one after another.
-use Rattle.std.specs.Prelude.{◌≡◌, ℕ, ◌++◌, ◌∷◌, [], All, List, map, slice_get, Option, Some, None}
+use Rattle.std.specs.Prelude.{◌≡◌, ℕ, All, List, map, slice_get, Option, Some, None}
 use Rattle.pam_conf.specs.Stack.{Items}
 use Rattle.pam_conf.specs.declared.rule.Kind.{Kind}
 use Rattle.pam_changes.specs.Changes.{HasItems, IsStack}

@@ -1,5 +1,5 @@
 -- How the modules of two stacks differ.
-use Rattle.std.specs.Prelude.{◌≡◌, ℕ, ◌&&◌, Bool, false, not, nat_lt, if◌then◌else◌, is_none, List, filter, filter_map, length, map, Option, Some, None}
+use Rattle.std.specs.Prelude.{◌≡◌, ℕ, ◌&&◌, Bool, not, nat_lt, if◌then◌else◌, is_none, List, filter, filter_map, length, map, Option}
 use Rattle.std.specs.List.{list_any, range_with_len}
 use Rattle.std.specs.Option.{option_map}
 use Rattle.pam_codes.specs.ControlText.{same_actions}

@@ -1,5 +1,5 @@
 -- Two stacks that are not the same, and how they differ: pam.conf(5), DESCRIPTION.
-use Rattle.std.specs.Prelude.{◌≡◌, ℕ, ◌<◌, List, Option, Some, None}
+use Rattle.std.specs.Prelude.{◌≡◌, ℕ, List, Option, Some, None}
 use Rattle.pam_compare.specs.Comparison.{IsWitness, NeverChanges}
 use Rattle.pam_compare.specs.Matching.{matching_of}
 use Rattle.pam_compare.specs.Situations.{HasMoreSituations}
@@ -18,7 +18,7 @@ use Rattle.pam_paths.specs.Listing.{Allowance}
 use Rattle.pam_paths.specs.declared.knowledge.Known.{Known}
 use Rattle.pam_changes.specs.Known.{alike_partners, known_codes}
 use Rattle.pam_changes.specs.Modules.{AreModuleChanges}
-use Rattle.pam_changes.specs.Sides.{SideText, SidesText}
+use Rattle.pam_changes.specs.Sides.{SidesText}
 use Rattle.pam_changes.specs.Steps.{asked_modules, asked_numbers}
 use Rattle.pam_changes.specs.declared.pair.Decisions.{Decisions}
 use Rattle.pam_changes.specs.declared.pair.Decisions.TheVariants as decisions

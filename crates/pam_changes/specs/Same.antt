@@ -1,5 +1,5 @@
 -- Two stacks with the same items: pam.conf(5).
-use Rattle.std.specs.Prelude.{ℕ, ◌==◌, ◌&&◌, Bool, true, false, IsTrue}
+use Rattle.std.specs.Prelude.{◌==◌, ◌&&◌, Bool, true, false, IsTrue}
 use Rattle.std.specs.Str.{bytes_eq}
 use Rattle.pam_codes.specs.ControlText.{same_actions}
 use Rattle.pam_compare.specs.Matching.{same_texts}

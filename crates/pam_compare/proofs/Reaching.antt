@@ -160,7 +160,7 @@ module _ (old new : List FlatItem) (names : List ℕ) (possible : List (List ℕ
     (all : length possible ≡ modules_of old + modules_of new + 1)
     (keeps : Keeps ways more) (at : slice_get more k ≡ Some w) (before : w.parent < k)
     (answer_name : w.name ≡ answer.name) (answer_codes : w.class ≡ answer.codes)
-    (held_after : IsHeldAfter names (modules_of old) (modules_of new) held after answer (asked_module (old_after turn left w.code))
+    (held_after : IsHeldAfter possible names (modules_of old) (modules_of new) held after answer (asked_module (old_after turn left w.code))
     (asked_module (new_after turn right w.code)))
     (holds_after : (a : Assignment) → Holds a held → is_in (a answer.name) answer.codes ≡ true → Holds a after) where
   way-trail : IsTrail more k (w ∷ way.trail)
@@ -170,16 +170,17 @@ module _ (old new : List FlatItem) (names : List ℕ) (possible : List (List ℕ
   way-follows : (base : Assignment) → Follows (answers_on base (w ∷ way.trail)) (w ∷ way.trail)
   way-follows base =
       follows-longer base w way.trail (way.follows base) step.member
-      (covered-suits names (modules_of old) (modules_of new) held (asked_module left) (asked_module right) w.name w.code way.trail
+      (covered-suits possible names (modules_of old) (modules_of new) held (asked_module left) (asked_module right) w.name w.code way.trail
       (λ i h there same. step.narrows i h there same w.code step.member)
       (λ past. not-past old new names left right way.old_low way.new_low way.old_rise way.new_rise turn step.turn_is
       (subst (λ (n : ℕ). IsPast names (modules_of old) (modules_of new) n (asked_module left) (asked_module right)) step.name past))
-      way.covered)
+      (step.low w.code step.member) (step.within w.code step.member) way.covered)
 
-  way-covered : IsCovered names (modules_of old) (modules_of new) after (asked_module (old_after turn left w.code)) (asked_module (new_after turn right w.code))
-      (w ∷ way.trail)
+  way-covered : IsCovered possible names (modules_of old) (modules_of new) after (asked_module (old_after turn left w.code))
+      (asked_module (new_after turn right w.code)) (w ∷ way.trail)
   way-covered =
-      longer-covered names (modules_of old) (modules_of new) held after (asked_module left) (asked_module right) _ _ answer held_after.keeps held_after.adds
+      longer-covered possible names (modules_of old) (modules_of new) held after (asked_module left) (asked_module right) _ _ answer held_after.keeps
+      held_after.adds
       (λ i h there same d member. step.narrows i h there (same ∙ sym answer_name) d (subst (λ (s : List ℕ). is_in d s ≡ true) (sym answer_codes) member))
       (λ name past. stays-past old new names left right way.old_low way.new_low way.old_rise way.new_rise turn w.code step.turn_is name past)
       w way.trail answer_name answer_codes way.covered

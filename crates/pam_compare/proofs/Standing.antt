@@ -1,5 +1,5 @@
 -- Different situations.
-use Rattle.std.proofs.Common.{◌≡◌, ◌≢◌, ◌<◌, ◌∙◌, ◌&&◌, ℕ, zero, suc, true, false, eqb, eq-eqb, List, [], ◌∷◌, Some}
+use Rattle.std.proofs.Common.{◌≡◌, ◌≢◌, ◌<◌, ◌∙◌, ◌&&◌, ℕ, zero, suc, false, eqb, eq-eqb, List, [], ◌∷◌, Some}
 use Rattle.std.proofs.Common.{get_or, length, map, ap, arith, refl, subst, sym}
 use Rattle.std.specs.List.{AllByRecursion, IsDistinct}
 use Rattle.std.specs.Prelude.{slice_get}

@@ -1,12 +1,13 @@
 -- Steps on the way to a node.
 use Rattle.std.proofs.Common.{◌≡◌, ◌⊎◌, ◌<◌, ◌∙◌, ◌≢◌, ℕ, true, false, cond, eqb, eq-eqb, List, [], ◌∷◌, Option, Some, ap, arith, inl, inr, refl, sym, subst}
-use Rattle.std.specs.Prelude.{slice_get}
+use Rattle.std.specs.Prelude.{slice_get, slice_index_or}
 use Rattle.std.proofs.lemmas.Bool.{cases_eq}
+use Rattle.pam_codes.specs.Code.{all_codes}
 use Rattle.pam_codes.specs.Set.{is_in}
 use Rattle.pam_dispatch.specs.Runs.{Assignment}
 use Rattle.pam_compare.specs.declared.held.HeldAnswer.{HeldAnswer}
 use Rattle.pam_compare.specs.declared.nodes.Way.{Way}
-use Rattle.pam_compare.specs.Trails.{IsCovered, IsKept, IsPast, IsTrail, Follows, answers_on, with_answer}
+use Rattle.pam_compare.specs.Trails.{IsCovered, IsKept, IsPast, IsSettled, IsTrail, Follows, answers_on, with_answer}
 
 some-way : (v w : Way) → Some v ≡ Some w → v ≡ w
 some-way v w e = cc
@@ -60,54 +61,71 @@ follows-longer base w trail f member s = (
   follows-with (answers_on base trail) w.name w.code trail f s,
 )
 
-module _ (names : List ℕ) (count modules : ℕ) where
+module _ (possible : List (List ℕ)) (names : List ℕ) (count modules : ℕ) where
   -- a code that what is held leaves to a module that is asked does for each step of its name
   pub covered-suits : (held : List HeldAnswer) (old new : Option ℕ) (name code : ℕ) (trail : List Way) →
       ((i : ℕ) (h : HeldAnswer) → slice_get held i ≡ Some h → h.name ≡ name → is_in code h.codes ≡ true) →
-      (IsPast names count modules name old new → ⊥) → IsCovered names count modules held old new trail → Suits name code trail
+      (IsPast names count modules name old new → ⊥) → code < 31 → is_in code (slice_index_or possible name all_codes) ≡ true →
+      IsCovered possible names count modules held old new trail → Suits name code trail
   unfolding IsCovered
-  covered-suits held old new name code [] leaves ahead c = tt
-  covered-suits held old new name code (w ∷ trail) leaves ahead c = (
+  covered-suits held old new name code [] leaves ahead low can c = tt
+  covered-suits held old new name code (w ∷ trail) leaves ahead low can c = (
     λ same. elim c.0 [
       | inl k ↦ k.4 code (leaves k.0 k.1 k.2 (k.3 ∙ same))
-      | inr past ↦ absurd (ahead (subst (λ (n : ℕ). IsPast names count modules n old new) same past))
+      | inr settled ↦ elim settled [
+        | inl all ↦ all code low (subst (λ (n : ℕ). is_in code (slice_index_or possible n all_codes) ≡ true) (sym same) can)
+        | inr past ↦ absurd (ahead (subst (λ (n : ℕ). IsPast names count modules n old new) same past))
+      ]
     ],
-    covered-suits held old new name code trail leaves ahead c.1,
+    covered-suits held old new name code trail leaves ahead low can c.1,
   )
 
   -- steps stay covered after an answer of this class
   module _ (held after : List HeldAnswer) (old new old' new' : Option ℕ) (answer : HeldAnswer)
       (keeps : (i : ℕ) (h : HeldAnswer) → slice_get held i ≡ Some h → h.name ≢ answer.name →
       ((k : ℕ) × (slice_get after k ≡ Some h)) ⊎ IsPast names count modules h.name old' new')
-      (adds : ((k : ℕ) × (slice_get after k ≡ Some answer)) ⊎ IsPast names count modules answer.name old' new')
+      (adds : ((k : ℕ) × (slice_get after k ≡ Some answer)) ⊎ IsSettled possible names count modules answer.name answer.codes old' new')
       (narrows : (i : ℕ) (h : HeldAnswer) → slice_get held i ≡ Some h → h.name ≡ answer.name → (c : ℕ) → is_in c answer.codes ≡ true → is_in c h.codes ≡ true)
       (stays : (name : ℕ) → IsPast names count modules name old new → IsPast names count modules name old' new') where
-    step-covered : (w : Way) → IsKept held w ⊎ IsPast names count modules w.name old new → IsKept after w ⊎ IsPast names count modules w.name old' new'
-    step-covered w (inr past) = inr (stays w.name past)
+    -- what is possible for the name of a step is possible for that of the answer
+    can-answer : (w : Way) → w.name ≡ answer.name → (c : ℕ) → is_in c (slice_index_or possible w.name all_codes) ≡ true →
+        is_in c (slice_index_or possible answer.name all_codes) ≡ true
+    can-answer w same c can = subst (λ (n : ℕ). is_in c (slice_index_or possible n all_codes) ≡ true) same can
+
+    step-covered : (w : Way) → IsKept held w ⊎ IsSettled possible names count modules w.name w.class old new →
+        IsKept after w ⊎ IsSettled possible names count modules w.name w.class old' new'
+    step-covered w (inr settled) = elim settled [ inl all ↦ inr (inl all) | inr past ↦ inr (inr (stays w.name past)) ]
     step-covered w (inl k) =
         elim (cases_eq k.1.name answer.name) [
           | inl same ↦ elim adds [
             | inl there ↦ inl (there.0, answer, there.1, sym same ∙ k.3, λ c member. k.4 c (narrows k.0 k.1 k.2 same c member))
-            | inr past ↦ inr (subst (λ (n : ℕ). IsPast names count modules n old' new') (sym same ∙ k.3) past)
+            | inr settled ↦ elim settled [
+              | inl all ↦ inr (inl (λ c low can. k.4 c (narrows k.0 k.1 k.2 same c (all c low (can-answer w (sym k.3 ∙ same) c can)))))
+              | inr past ↦ inr (inr (subst (λ (n : ℕ). IsPast names count modules n old' new') (sym same ∙ k.3) past))
+            ]
           ]
           | inr other ↦ elim (keeps k.0 k.1 k.2 other) [
             | inl there ↦ inl (there.0, k.1, there.1, k.3, k.4)
-            | inr past ↦ inr (subst (λ (n : ℕ). IsPast names count modules n old' new') k.3 past)
+            | inr past ↦ inr (inr (subst (λ (n : ℕ). IsPast names count modules n old' new') k.3 past))
           ]
         ]
 
-    pub still-covered : (trail : List Way) → IsCovered names count modules held old new trail → IsCovered names count modules after old' new' trail
+    pub still-covered : (trail : List Way) → IsCovered possible names count modules held old new trail →
+        IsCovered possible names count modules after old' new' trail
     unfolding IsCovered
     still-covered [] c = tt
     still-covered (w ∷ trail) c = (step-covered w c.0, still-covered trail c.1)
 
-    pub longer-covered : (w : Way) (trail : List Way) → w.name ≡ answer.name → w.class ≡ answer.codes → IsCovered names count modules held old new trail →
-        IsCovered names count modules after old' new' (w ∷ trail)
+    pub longer-covered : (w : Way) (trail : List Way) → w.name ≡ answer.name → w.class ≡ answer.codes →
+        IsCovered possible names count modules held old new trail → IsCovered possible names count modules after old' new' (w ∷ trail)
     unfolding IsCovered
     longer-covered w trail name class c = (
       elim adds [
         | inl there ↦ inl (there.0, answer, there.1, sym name, λ x member. subst (λ (s : List ℕ). is_in x s ≡ true) (sym class) member)
-        | inr past ↦ inr (subst (λ (n : ℕ). IsPast names count modules n old' new') (sym name) past)
+        | inr settled ↦ elim settled [
+          | inl all ↦ inr (inl (λ x low can. subst (λ (s : List ℕ). is_in x s ≡ true) (sym class) (all x low (can-answer w name x can))))
+          | inr past ↦ inr (inr (subst (λ (n : ℕ). IsPast names count modules n old' new') (sym name) past))
+        ]
       ],
       still-covered trail c,
     )

@@ -1,5 +1,5 @@
 -- Answers that one stack has had from modules which the other has still ahead.
-use Rattle.std.specs.Prelude.{◌≡◌, ◌<◌, ◌&&◌, ℕ, Bool, List, [], ◌∷◌, IsTrue, nat_eq, slice_get, unwrap_or}
+use Rattle.std.specs.Prelude.{◌&&◌, ℕ, Bool, List, [], ◌∷◌, IsTrue, nat_eq, slice_get, unwrap_or}
 use Rattle.pam_codes.specs.SetBits.{bits_of_codes, codes_of_bits}
 use Rattle.pam_codes.specs.Set.{is_in}
 use Rattle.pam_dispatch.specs.Runs.{Assignment}

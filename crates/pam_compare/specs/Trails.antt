@@ -40,17 +40,26 @@ pub record IsPast (names : List ℕ) (count modules name : ℕ) (old new : Optio
   pub of_old : (i : ℕ) → old ≡ Some i → (name < i) ⊎ (count < name)
   pub of_new : (j k : ℕ) → new ≡ Some j → 0 < k → k ≤ modules → name_of names k ≡ name → k < j
 
--- each step is still held, or past
-unfoldable pub IsCovered : List ℕ → ℕ → ℕ → List HeldAnswer → Option ℕ → Option ℕ → List Way → Type 0
-IsCovered names count modules held old new [] = Unit {0}
-IsCovered names count modules held old new (w ∷ trail) =
-    (IsKept held w ⊎ IsPast names count modules w.name old new) × IsCovered names count modules held old new trail
+-- these are all answers that are possible for a name, and so tell nothing of it
+abbrev pub AreAll : List (List ℕ) → ℕ → List ℕ → Type 0
+AreAll possible name codes = (c : ℕ) → c < 31 → IsTrue (is_in c (slice_index_or possible name all_codes)) → IsTrue (is_in c codes)
 
--- what is held after an answer: what was held of other modules, and this answer, unless the module is past
-pub record IsHeldAfter (names : List ℕ) (count modules : ℕ) (held after : List HeldAnswer) (answer : HeldAnswer) (old new : Option ℕ) : Type 0 where
+-- an answer of these codes tells nothing, or is past, and so need not be held
+abbrev pub IsSettled : List (List ℕ) → List ℕ → ℕ → ℕ → ℕ → List ℕ → Option ℕ → Option ℕ → Type 0
+IsSettled possible names count modules name codes old new = AreAll possible name codes ⊎ IsPast names count modules name old new
+
+-- each step is still held, or need not be
+unfoldable pub IsCovered : List (List ℕ) → List ℕ → ℕ → ℕ → List HeldAnswer → Option ℕ → Option ℕ → List Way → Type 0
+IsCovered possible names count modules held old new [] = Unit {0}
+IsCovered possible names count modules held old new (w ∷ trail) =
+    (IsKept held w ⊎ IsSettled possible names count modules w.name w.class old new) × IsCovered possible names count modules held old new trail
+
+-- what is held after an answer: what was held of other modules, unless they are past, and this answer, if need be
+pub record IsHeldAfter (possible : List (List ℕ)) (names : List ℕ) (count modules : ℕ) (held after : List HeldAnswer) (answer : HeldAnswer)
+    (old new : Option ℕ) : Type 0 where
   pub keeps : (i : ℕ) (h : HeldAnswer) → slice_get held i ≡ Some h → h.name ≢ answer.name →
       ((k : ℕ) × (slice_get after k ≡ Some h)) ⊎ IsPast names count modules h.name old new
-  pub adds : ((k : ℕ) × (slice_get after k ≡ Some answer)) ⊎ IsPast names count modules answer.name old new
+  pub adds : ((k : ℕ) × (slice_get after k ≡ Some answer)) ⊎ IsSettled possible names count modules answer.name answer.codes old new
 
 -- a step at a turn, with an answer of this class
 pub record IsStep (names : List ℕ) (possible : List (List ℕ)) (left right : Runs) (held : List HeldAnswer) (turn : Turn) (w : Way) : Type 0 where

@@ -48,7 +48,7 @@ pub record IsWayTo (old new : List FlatItem) (names : List ℕ) (possible : List
   pub new_rise : AsksRise new_low (modules_of new) right
   pub fits : AllByRecursion (IsFit possible) trail
   pub follows : (base : Assignment) → Follows (answers_on base trail) trail
-  pub covered : IsCovered names (modules_of old) (modules_of new) held (asked_module left) (asked_module right) trail
+  pub covered : IsCovered possible names (modules_of old) (modules_of new) held (asked_module left) (asked_module right) trail
   pub old_comes : (a : Assignment) → Follows a trail → Comes (runs_of old) a left
   pub new_comes : (a : Assignment) → Follows a trail → Comes (runs_of new) (by_name names a) right
   pub holds : (a : Assignment) → Follows a trail → Holds a held

@@ -8,9 +8,9 @@ ghost use Rattle.pam_compare.specs.declared.held.HeldAnswer.{HeldAnswer};
 ghost use Rattle.pam_compare.specs.Held.{Holds, least_of_bits};
 ghost use Rattle.pam_compare.specs.Naming.{AreLast};
 ghost use Rattle.pam_compare.specs.Nodes.{Keeps};
-ghost use Rattle.pam_compare.specs.Trails.{IsHeldAfter, IsPast};
+ghost use Rattle.pam_compare.specs.Trails.{AreAll, IsHeldAfter, IsPast, IsSettled};
 
-use crate::naming::{Naming, common, value_at};
+use crate::naming::{Naming, common, possible_at, value_at};
 use pam_codes::{CODES, CodeSet};
 use pam_dispatch::Memory;
 use std::alloc::Global;
@@ -95,6 +95,32 @@ fn is_ahead(naming: &Naming, name: usize, old: Option<usize>, new: Option<usize>
     may_ask(new, value_at(&naming.last, name))
 }
 
+/// Whether these codes leave out one that the module with this name may answer.
+fn tells(naming: &Naming, name: usize, codes: CodeSet) -> bool
+    ensures { result ≡ false → AreAll naming.now.possible.items name codes }
+{
+    let possible = possible_at(&naming.possible, name);
+    !possible.without(codes).is_empty()
+}
+
+/// Whether an answer of these codes is held, where the stacks then ask these modules next. One that tells nothing is not, so that
+/// what is held stays short, and situations that differ in nothing else are one.
+fn is_needed(
+    naming: &Naming,
+    name: usize,
+    codes: CodeSet,
+    old: Option<usize>,
+    new: Option<usize>,
+) -> bool
+    ensures { (modules : ℕ) → length naming.now.names.items ≡ modules + 1 → AreLast naming.now.names.items naming.now.last.items → result ≡ false
+        → IsSettled naming.now.possible.items naming.now.names.items naming.now.old_modules modules name codes old new }
+{
+    if !tells(naming, name, codes) {
+        return false;
+    }
+    is_ahead(naming, name, old, new)
+}
+
 /// Whether an answer of the module with this name is still held after that of `answered`.
 fn is_wanted(
     naming: &Naming,
@@ -136,11 +162,13 @@ pub(crate) fn held_after(
 ) -> Result<Vec<HeldAnswer>, Memory>
     ensures holds { IfOk result (λ after. (a : Assignment) → Holds a held.now → IsTrue (is_in (a answer.name) answer.codes) → Holds a after.items) }
     ensures told { (modules : ℕ) → length naming.now.names.items ≡ modules + 1 → AreLast naming.now.names.items naming.now.last.items
-        → IfOk result (λ after. IsHeldAfter naming.now.names.items naming.now.old_modules modules held.now after.items answer old new) }
+        → IfOk result (λ after. IsHeldAfter naming.now.possible.items naming.now.names.items naming.now.old_modules modules held.now after.items answer
+        old new) }
 {
     let name = answer.name;
     let mut after = Vec::new(alloc);
-    push_if(is_ahead(naming, name, old, new), answer, &mut after)?;
+    let is_needed = is_needed(naming, name, answer.codes, old, new);
+    push_if(is_needed, answer, &mut after)?;
     for index in 0..held.len() {
         let earlier = held[index];
         push_if(

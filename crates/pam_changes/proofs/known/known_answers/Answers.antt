@@ -3,7 +3,7 @@ use Rattle.std.specs.Option.{option_map}
 use Rattle.pam_codes.specs.Set.{is_in}
 use Rattle.pam_facts.specs.Answers.{free_answers}
 use Rattle.pam_changes.specs.Known.{known_codes, line_at}
-use Rattle.pam_changes.specs.Sides.{side_view, sides_view}
+use Rattle.pam_changes.specs.Sides.{side_view}
 use Rattle.pam_changes.proofs.Returns.{no-line}
 use Rattle.pam_changes.proofs.known.known_answers.Goals as goal
 

@@ -1,8 +1,7 @@
 use Rattle.std.proofs.Common.{◌≡◌, filter}
 use Rattle.std.specs.Prelude.{is_none}
 use Rattle.std.specs.List.{range_with_len}
-use Rattle.pam_compare.specs.Matching.{is_taken, partner_of}
-use Rattle.pam_changes.specs.Modules.{pair_of}
+use Rattle.pam_compare.specs.Matching.{partner_of}
 use Rattle.pam_changes.proofs.modules.added.Given as goal
 
 abbrev pub invariant-loop-index : goal.invariant-loop-index

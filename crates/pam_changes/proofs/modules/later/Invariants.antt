@@ -1,5 +1,5 @@
-use Rattle.std.proofs.Common.{◌≡◌, filter, take}
-use Rattle.pam_changes.specs.Modules.{comes_later, comes_sooner, differ, new_where, same_arguments, same_controls}
+use Rattle.std.proofs.Common.{◌≡◌, take}
+use Rattle.pam_changes.specs.Modules.{comes_later, new_where}
 use Rattle.pam_changes.proofs.modules.later.Given as goal
 
 abbrev pub invariant-loop-pair : goal.invariant-loop-pair

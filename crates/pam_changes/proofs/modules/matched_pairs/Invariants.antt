@@ -1,6 +1,5 @@
-use Rattle.std.proofs.Common.{◌≡◌, filter, filter_map, is_none, not}
+use Rattle.std.proofs.Common.{◌≡◌, filter_map}
 use Rattle.std.specs.List.{range_with_len}
-use Rattle.pam_compare.specs.Matching.{is_taken, partner_of}
 use Rattle.pam_changes.specs.Modules.{pair_of}
 use Rattle.pam_changes.proofs.modules.matched_pairs.Given as goal
 

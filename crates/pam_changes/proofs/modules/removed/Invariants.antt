@@ -1,7 +1,6 @@
-use Rattle.std.proofs.Common.{◌≡◌, filter, filter_map, is_none, not}
+use Rattle.std.proofs.Common.{◌≡◌, filter, not}
 use Rattle.std.specs.List.{range_with_len}
-use Rattle.pam_compare.specs.Matching.{is_taken, partner_of}
-use Rattle.pam_changes.specs.Modules.{pair_of}
+use Rattle.pam_compare.specs.Matching.{is_taken}
 use Rattle.pam_changes.proofs.modules.removed.Given as goal
 
 abbrev pub invariant-loop-index : goal.invariant-loop-index

@@ -1,5 +1,5 @@
 use Rattle.std.proofs.Common.{◌≡◌, filter, take}
-use Rattle.pam_changes.specs.Modules.{comes_later, comes_sooner, differ, new_where, same_arguments, same_controls}
+use Rattle.pam_changes.specs.Modules.{differ, same_arguments}
 use Rattle.pam_changes.proofs.modules.with_other_arguments.Given as goal
 
 abbrev pub invariant-loop-pair : goal.invariant-loop-pair

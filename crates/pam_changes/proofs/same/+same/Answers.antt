@@ -1,4 +1,4 @@
-use Rattle.std.proofs.Common.{◌∙◌, ap, sym}
+use Rattle.std.proofs.Common.{◌∙◌, ap}
 use Rattle.pam_conf.specs.ItemsOf.{items_of}
 use Rattle.pam_conf.specs.Stack.{Items, SubList}
 use Rattle.pam_changes.specs.Same.{same_items}

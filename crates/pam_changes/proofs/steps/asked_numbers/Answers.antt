@@ -1,8 +1,6 @@
-use Rattle.std.proofs.Common.{◌∙◌, ◌++◌, List, ℕ, ap, sym}
-use Rattle.pam_dispatch.specs.Flat.{rest_of, runs_of}
-use Rattle.pam_dispatch.specs.Runs.{Runs, answers_of}
+use Rattle.std.proofs.Common.{◌∙◌, sym}
+use Rattle.pam_dispatch.specs.Runs.{answers_of}
 use Rattle.pam_dispatch.proofs.Asking.{asked_by-follows}
-use Rattle.pam_changes.specs.Steps.{asked_numbers}
 use Rattle.pam_changes.proofs.Merging.{numbers-end, numbers-more}
 use Rattle.pam_changes.proofs.steps.asked_numbers.Goals as goal
 

@@ -32,7 +32,8 @@ returns-clause-reached c =
     let more = c.add.new.self.ways.items in
     let step = c.in_ok-add.ensures in
     let places = c.places_after.ensures in
-    let Told : ℕ → List HeldAnswer → Option ℕ → Option ℕ → Type 0 = λ count held x y. IsHeldAfter names count (modules_of new) held after answer x y in
+    let Told : ℕ → List HeldAnswer → Option ℕ → Option ℕ → Type 0 = λ count held x y.
+    IsHeldAfter possible names count (modules_of new) held after answer x y in
     let told =
     subst (λ (x : Option ℕ). Told (modules_of old) node.held.items (asked_module (old_after turn left way.code)) x)
     (c.module-2.ensures new places.new ∙ ap asked_module places.right)

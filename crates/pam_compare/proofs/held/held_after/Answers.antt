@@ -5,7 +5,7 @@ use Rattle.std.proofs.lemmas.Option.{slice_get-get_or, slice_get_within}
 use Rattle.pam_codes.specs.Set.{is_in}
 use Rattle.pam_compare.specs.declared.held.HeldAnswer.{HeldAnswer}
 use Rattle.pam_compare.specs.Held.{Holds}
-use Rattle.pam_compare.specs.Trails.{IsPast}
+use Rattle.pam_compare.specs.Trails.{IsPast, IsSettled}
 use Rattle.pam_compare.proofs.Growing.{kept}
 use Rattle.pam_compare.proofs.Holding.{holds-at, holds-equal, some-held}
 use Rattle.pam_compare.proofs.held.held_after.Goals as goal
@@ -15,14 +15,16 @@ unfolding Holds
 loop-index-init c =
     let first = c.in_ok-push_if.ensures in
     let names = c.args.naming.now.names.items in
+    let possible = c.args.naming.now.possible.items in
     let count = c.args.naming.now.old_modules in
     record {
       holds = λ a h new. first.holds a (holds-equal a [] _ (sym c.new-after.ensures.items) tt) new;
-      adds = λ modules names_count last. elim c.is_ahead.result as (λ (b : Bool).
-          c.is_ahead.result ≡ b →
-          ((m : ℕ) × (slice_get c.push_if.new.held.items m ≡ Some c.args.answer)) ⊎ IsPast names count modules c.args.answer.name c.args.old c.args.new) [
+      adds = λ modules names_count last. elim c.is_needed-is_needed.result as (λ (b : Bool).
+          c.is_needed-is_needed.result ≡ b →
+          ((m : ℕ) × (slice_get c.push_if.new.held.items m ≡ Some c.args.answer))
+          ⊎ IsSettled possible names count modules c.args.answer.name c.args.answer.codes c.args.old c.args.new) [
             | true ↦ λ yes. inl (first.pushed yes)
-            | false ↦ λ out. inr (c.is_ahead.ensures modules names_count last out)
+            | false ↦ λ out. inr (c.is_needed-is_needed.ensures modules names_count last out)
           ] refl;
       keeps = λ modules names_count last i h below. absurd (omega (arith, below));
     }

@@ -1,4 +1,4 @@
-use Rattle.std.proofs.Common.{◌∙◌, ap, sym}
+use Rattle.std.proofs.Common.{ap, sym}
 use Rattle.pam_changes.specs.Changes.{fault_in}
 use Rattle.pam_changes.specs.Sides.{sides_view}
 use Rattle.pam_changes.proofs.Stacked.{adds-none}

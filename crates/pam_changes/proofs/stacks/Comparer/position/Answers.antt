@@ -1,4 +1,3 @@
-use Rattle.std.proofs.Common.{◌∙◌}
 use Rattle.pam_changes.specs.Sides.{sides_view}
 use Rattle.pam_changes.proofs.Stacked.{adds-none, adds-one, has-items}
 use Rattle.pam_changes.proofs.stacks.Comparer.position.Goals as goal

@@ -1,4 +1,3 @@
-use Rattle.std.proofs.Common.{◌∙◌, drop, get_or, length, sym}
 use Rattle.pam_dispatch.specs.Runs.{answers_of}
 use Rattle.pam_changes.proofs.Merging.{merged-end, merged-more}
 use Rattle.pam_changes.proofs.steps.Answered.merged.Goals as goal

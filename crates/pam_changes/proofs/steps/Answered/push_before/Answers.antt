@@ -1,6 +1,6 @@
-use Rattle.std.proofs.Common.{◌∙◌, ◌<◌, ◌++◌, List, ap, append-nil, arith, drop, get_or, length, rules, sym}
+use Rattle.std.proofs.Common.{◌∙◌, arith, get_or, length, rules, sym}
 use Rattle.pam_dispatch.specs.Runs.{answers_of}
-use Rattle.pam_changes.specs.Steps.{as_old, before, from}
+use Rattle.pam_changes.specs.Steps.{as_old}
 use Rattle.pam_changes.proofs.Merging.{before-end, before-more, before-stops, from-end, from-more, from-stops, nothing-more, one-more}
 use Rattle.pam_changes.proofs.steps.Answered.push_before.Goals as goal
 

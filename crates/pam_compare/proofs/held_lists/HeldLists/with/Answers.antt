@@ -1,11 +1,5 @@
-use Rattle.std.proofs.Common.{◌≡◌, ◌<◌, ◌+◌, ◌-◌, ◌∙◌, ℕ, List, ap, arith, sym, subst}
-use Rattle.std.specs.Prelude.{slice_get}
-use Rattle.std.proofs.lemmas.Bool.{and_parts, eqb-true}
-use Rattle.pam_codes.specs.Set.{IsCodeSet}
-use Rattle.pam_compare.specs.declared.held.HeldAnswer.{HeldAnswer}
 use Rattle.pam_compare.specs.declared.held_lists.Link.{Link}
-use Rattle.pam_compare.specs.Held.{same_held}
-use Rattle.pam_compare.specs.HeldLists.{IsListed, same_link}
+use Rattle.pam_compare.specs.HeldLists.{same_link}
 use Rattle.pam_compare.proofs.Growing.{insert-keeps, links-inserted}
 use Rattle.pam_compare.proofs.Lists.{listed-after, listed-within}
 use Rattle.pam_compare.proofs.held_lists.HeldLists.with.Goals as goal

@@ -1,4 +1,4 @@
-use Rattle.std.proofs.Common.{◌∙◌, List, ap, inl, inr, refl, subst}
+use Rattle.std.proofs.Common.{List, inl, inr, subst}
 use Rattle.pam_compare.specs.declared.held.HeldAnswer.{HeldAnswer}
 use Rattle.pam_compare.specs.declared.node.Node.{Node}
 use Rattle.pam_compare.specs.HeldLists.{IsListed}

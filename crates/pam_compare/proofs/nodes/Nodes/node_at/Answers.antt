@@ -1,4 +1,4 @@
-use Rattle.std.proofs.Common.{◌∙◌, sym}
+use Rattle.std.proofs.Common.{sym}
 use Rattle.pam_compare.proofs.nodes.Nodes.node_at.Goals as goal
 
 pub returns : goal.returns
