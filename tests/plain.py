@@ -24,7 +24,7 @@ from plain_sources import found, listed, read
 KNOWING = b" --modules --access --time --group --returns --user --rhost --tty --at --at-unix --zone"
 SOURCES = b"--dir --vendor-dir --conf --root --with"
 OPTIONS = {
-    b"check": SOURCES + b" --modules --access --time --group --facts --accept --fail-on",
+    b"check": SOURCES + b" --modules --access --time --group --facts --accept --fail-on --json",
     b"compare": b"--conf --root --json --modules --facts --returns",
     b"show": SOURCES + b" --as --json",
     b"decide": SOURCES + b" --json",
@@ -38,7 +38,7 @@ OPTIONS = {
 }
 OF_PATHS = (b"paths", b"outcomes", b"graph")
 REPEATED = (b"--modules", b"--with")
-FLAGS = {b"compare": [b"--conf", b"--root", b"--json"], **dict.fromkeys([b"show", b"decide", b"outcomes", b"access", b"time"], [b"--json"])}
+FLAGS = {b"compare": [b"--conf", b"--root", b"--json"], **dict.fromkeys([b"check", b"show", b"decide", b"outcomes", b"access", b"time"], [b"--json"])}
 WITH_SOURCE = [name for name, options in OPTIONS.items() if options.startswith(SOURCES)]
 ABOUT = (b"facts", b"version")
 VERSION = b"pamcheck 1.0.0 (proved with rattle, logic dac8208d650f15bf)\n"
@@ -249,7 +249,10 @@ class Request:
         there = plain_given.there(self.options.get(b"--root"), folders, files.values(), lambda path: found(tree, path))
         host = plain_host.Host(form, files, self.arguments, there, facts)
         accept = self.options.get(b"--accept", b""), accepted
-        return plain_host.text(host, source.paths, self.options.get(b"--fail-on", b"warning"), accept, given)
+        status = plain_host.status(plain_host.levels_of(*plain_host.unaccepted(host, accept, given)), self.options.get(b"--fail-on", b"warning"))
+        if self.is_json():
+            return b"".join(plain_json.check(host, source.paths, accept, given)), status
+        return plain_host.text(host, source.paths, accept, given), status
 
     def side(self, name, tree):
         """The files of a side of a comparison, and the paths at which a module is there."""

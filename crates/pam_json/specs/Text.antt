@@ -1,7 +1,10 @@
 -- The JSON of a reply.
-use Rattle.std.specs.Prelude.{◌≡◌, ℕ, List, Option, None, Some, Result}
-use Rattle.pam_codes.specs.Out.{Device, Out, WritesAndFlushes}
-use Rattle.pam_report.specs.Reply.{Reply, Stack, Run, Access, Time, Outcomes, Compared}
+use Rattle.std.specs.Prelude.{◌≡◌, ℕ, List, Option, None, Some, Result, Ok, Err, true}
+use Rattle.pam_codes.specs.Out.{Out, TookFlushed, TookFront}
+use Rattle.pam_report.specs.Reply.{Reply, Stack, Run, Access, Time, Outcomes, Check, Compared, wants_memory}
+use Rattle.pam_report.specs.declared.fault.Fault.{Fault}
+use Rattle.pam_report.specs.declared.fault.Fault.TheVariants as faults
+use Rattle.pam_json.specs.Check.{check_json}
 use Rattle.pam_json.specs.Compare.{compare_json}
 use Rattle.pam_json.specs.Decide.{run_json}
 use Rattle.pam_json.specs.Outcomes.{outcomes_json}
@@ -15,11 +18,20 @@ json_of (Run run) = Some (run_json run)
 json_of (Access found) = Some (access_json found)
 json_of (Time found) = Some (time_json found)
 json_of (Outcomes outcomes) = Some (outcomes_json outcomes)
+json_of (Check found) = Some (check_json found)
 json_of (Compared changes) = Some (compare_json changes)
 json_of reply = None
 
--- JSON is written in full and then flushed once, or up to some byte if the writer failed. Without JSON nothing is written
-abbrev pub PrintsIfAny : {W : Type 0} → (W → Option (List ℕ)) → Out W → Out W → Option (Result (Unit {0}) Device) → Option (List ℕ) → Type 0
-PrintsIfAny contents old new (Some written) (Some json) = WritesAndFlushes contents old new written json
-PrintsIfAny contents old new None None = new ≡ old
-PrintsIfAny contents old new written json = ⊥
+-- JSON is written in full and then flushed once, or up to some byte if the writer failed. Nothing is written if an allocation
+-- for a check failed
+abbrev pub PrintsJson : {W : Type 0} → (W → Option (List ℕ)) → Out W → Out W → Result (Unit {0}) Fault → Reply → List ℕ → Type 0
+PrintsJson contents old new (Ok _) reply json = TookFlushed contents old new json
+PrintsJson contents old new (Err faults.Device) reply json = TookFront contents old new json
+PrintsJson contents old new (Err faults.Memory) reply json = (new ≡ old) × (wants_memory reply ≡ true)
+PrintsJson contents old new (Err fault) reply json = ⊥
+
+-- without JSON nothing is written
+abbrev pub PrintsIfAny : {W : Type 0} → (W → Option (List ℕ)) → Out W → Out W → Option (Result (Unit {0}) Fault) → Reply → Option (List ℕ) → Type 0
+PrintsIfAny contents old new (Some result) reply (Some json) = PrintsJson contents old new result reply json
+PrintsIfAny contents old new None reply None = new ≡ old
+PrintsIfAny contents old new result reply json = ⊥

@@ -1,3 +1,5 @@
 pub mod Changes
+pub mod Check
+pub mod CheckNames
 pub mod Files
 pub mod Ways

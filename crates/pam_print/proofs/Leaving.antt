@@ -27,7 +27,7 @@ use Rattle.pam_words.specs.declared.wanted.ReleaseName.{ReleaseName}
 use Rattle.pam_words.specs.declared.wanted.Task.{Task}
 use Rattle.pam_words.specs.declared.wanted.Task.TheVariants.{Show, Decide, Access, Time, Paths, Outcomes, Graph, Check, Compare, Explain, Facts, Version}
 use Rattle.pam_print.specs.Leaves.{LeavesFault, LeavesSome, PrintsBy}
-use Rattle.pam_json.specs.Text.{PrintsIfAny, json_of}
+use Rattle.pam_json.specs.Text.{PrintsIfAny, PrintsJson, json_of}
 use Rattle.pam_print.specs.Text.{IsJsonOrText, IsText as IsPlainText, IsTextIn}
 
 -- what a call gives that answers a task, if another gives as much for each relation
@@ -121,23 +121,40 @@ module _ {W : Type 0} (contents : W → Option (List ℕ)) (IsText : Reply → R
 
 module _ {W : Type 0} (contents : W → Option (List ℕ)) (old new : Out W) where
   -- what is written is JSON
-  written-is : (json : Option (List ℕ)) (written : Result (Unit {0}) Device) → PrintsIfAny contents old new (Some written) json
-      → (text : List ℕ) × (json ≡ Some text) × WritesAndFlushes contents old new written text
-  written-is (Some text) written h = (text, refl, h)
-  written-is None written h = absurd h
+  written-is : (reply : Reply) (json : Option (List ℕ)) (result : Result (Unit {0}) Fault) → PrintsIfAny contents old new (Some result) reply json
+      → (text : List ℕ) × (json ≡ Some text) × PrintsJson contents old new result reply text
+  written-is reply (Some text) result h = (text, refl, h)
+  written-is reply None result h = absurd h
 
   -- there is no JSON, and nothing is written
-  unwritten-is : (json : Option (List ℕ)) → PrintsIfAny contents old new None json → (json ≡ None) × (new ≡ old)
-  unwritten-is (Some text) h = absurd h
-  unwritten-is None h = (refl, h)
+  unwritten-is : (reply : Reply) (json : Option (List ℕ)) → PrintsIfAny contents old new None reply json → (json ≡ None) × (new ≡ old)
+  unwritten-is reply (Some text) h = absurd h
+  unwritten-is reply None h = (refl, h)
 
-  pub json-printed : (reply : Reply) (written : Result (Unit {0}) Device) (result : Result (Unit {0}) Fault)
-      → PrintsIfAny contents old new (Some written) (json_of reply)
-      → MatchResult written (λ none. result ≡ Ok none) (λ _. result ≡ Err faults.Device) → PrintsBy contents (IsTextIn Json) old new result reply
-  json-printed reply written result h told =
-      let is = written-is (json_of reply) written h in
+  -- JSON that is the text of a reply
+  json-is : (reply : Reply) (text : List ℕ) (result : Result (Unit {0}) Fault) → IsTextIn Json reply (Ok text)
+      → PrintsJson contents old new result reply text → PrintsBy contents (IsTextIn Json) old new result reply
+  json-is reply text (Ok none) is h = (text, is, h)
+  json-is reply text (Err faults.Device) is h = (text, is, h)
+  json-is reply text (Err faults.Memory) is h = h
+  json-is reply text (Err (faults.Cursor e)) is h = absurd h
+  json-is reply text (Err (faults.Conf e)) is h = absurd h
+  json-is reply text (Err (faults.Count e)) is h = absurd h
+  json-is reply text (Err faults.TooManyStates) is h = absurd h
+  json-is reply text (Err faults.NoSuchModule) is h = absurd h
+  json-is reply text (Err faults.NoSuchNumber) is h = absurd h
+  json-is reply text (Err (faults.Facts e)) is h = absurd h
+  json-is reply text (Err (faults.Accept e)) is h = absurd h
+  json-is reply text (Err (faults.Moment e)) is h = absurd h
+  json-is reply text (Err (faults.Table e)) is h = absurd h
+  json-is reply text (Err (faults.Time e)) is h = absurd h
+
+  pub json-printed : (reply : Reply) (result : Result (Unit {0}) Fault) → PrintsIfAny contents old new (Some result) reply (json_of reply)
+      → PrintsBy contents (IsTextIn Json) old new result reply
+  json-printed reply result h =
+      let is = written-is reply (json_of reply) result h in
       let text : IsTextIn Json reply (Ok is.0) = subst (λ (json : Option (List ℕ)). IsJsonOrText json reply (Ok is.0)) (sym is.1) refl in
-      text-printed contents (IsTextIn Json) old new reply is.0 written result text told is.2
+      json-is reply is.0 result text is.2
 
   -- the text of a reply that has no JSON
   text-as : (reply : Reply) → json_of reply ≡ None → (text : Result (List ℕ) CursorError) → IsPlainText reply text → IsTextIn Json reply text
@@ -162,10 +179,10 @@ module _ {W : Type 0} (contents : W → Option (List ℕ)) (old new : Out W) whe
 
 module _ {W : Type 0} (contents : W → Option (List ℕ)) (old mid new : Out W) where
   -- no JSON is written, and then the text
-  pub text-printed-instead : (reply : Reply) (result : Result (Unit {0}) Fault) → PrintsIfAny contents old mid None (json_of reply)
+  pub text-printed-instead : (reply : Reply) (result : Result (Unit {0}) Fault) → PrintsIfAny contents old mid None reply (json_of reply)
       → PrintsBy contents IsPlainText mid new result reply → PrintsBy contents (IsTextIn Json) old new result reply
   text-printed-instead reply result nothing h =
-      let is = unwritten-is contents old mid (json_of reply) nothing in
+      let is = unwritten-is contents old mid reply (json_of reply) nothing in
       text-instead contents old new reply result is.0 (subst (λ (out : Out W). PrintsBy contents IsPlainText out new result reply) is.1 h)
 
 -- ---- pages

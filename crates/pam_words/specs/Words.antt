@@ -73,7 +73,7 @@ with_check app =
 
 -- `check [SERVICE]...`
 unfoldable pub check_app : App
-check_app = with_rule (with_check (with_source (new_app (codes "check")))) (repeated_rule (codes "name"))
+check_app = with_rule (with_json (with_check (with_source (new_app (codes "check"))))) (repeated_rule (codes "name"))
 
 -- `compare OLD NEW [SERVICE [KIND]]`
 abbrev pub sides_app : App

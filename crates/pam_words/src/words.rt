@@ -54,6 +54,7 @@ static HOSTS: [CommandRow; 2] = [
             FACTS,
             ACCEPT,
             FAIL_ON,
+            JSON,
             SERVICES,
         ],
     },
