@@ -3,4 +3,3 @@ pub mod CheckLines
 pub mod CompareLines
 pub mod ItemLines
 pub mod PlainTexts
-pub mod Told

@@ -1,5 +1,5 @@
 -- For private contracts and proofs alone: the values that are written part by part.
-use Rattle.std.specs.Prelude.{map}
+use Rattle.std.specs.Prelude.{map, option_map}
 use Rattle.pam_parts.specs.CheckNames.{word_of}
 use Rattle.pam_codes.specs.ControlText.{control_text}
 use Rattle.pam_json_lines.specs.Line.{joined, strings}
@@ -10,6 +10,7 @@ use Rattle.serde_json.specs.Data.{Data, string}
 use Rattle.pam_report.specs.ReplyViews.{side_files}
 use Rattle.pam_json.specs.Check.{answers_array, services_array, types_array}
 use Rattle.pam_json.specs.Compare.{arguments_array, fault_if_any, modules_array, steps_array as asked_array}
+use Rattle.pam_json.specs.Paths.{next_or_null}
 use Rattle.pam_json.specs.Sentences.{said_parts, table_parts}
 use Rattle.pam_json.specs.Steps.{cursor_string, steps_array}
 use Rattle.pam_json.specs.declared.check.values.FindingValue.{FindingValue}
@@ -19,7 +20,7 @@ use Rattle.pam_json.specs.declared.compare.values.ChangeValue.TheVariants.{Argum
 use Rattle.pam_json.specs.declared.show.ModuleValue.{ModuleValue}
 use Rattle.pam_json.specs.declared.show.ModuleValue.TheVariants.{Arguments, Control}
 use Rattle.pam_json.specs.declared.steps.PathValue.{PathValue}
-use Rattle.pam_json.specs.declared.steps.PathValue.TheVariants.{Cursor, Steps, Ways}
+use Rattle.pam_json.specs.declared.steps.PathValue.TheVariants.{Cursor, Next, Steps, Ways}
 
 abbrev pub module_value : ModuleValue → Data
 module_value (Control control) = string (control_text control.now)
@@ -27,6 +28,7 @@ module_value (Arguments arguments) = strings arguments.now
 
 abbrev pub path_value : PathValue → Data
 path_value (Cursor path) = cursor_string path.now
+path_value (Next cursor) = next_or_null (option_map (λ c. c.now) cursor)
 path_value (Steps stack steps) = steps_array stack.now (map step_seen steps.now)
 path_value (Ways count) = string (count_text count)
 

@@ -7,11 +7,12 @@ ghost use Rattle.pam_codes.specs.Out.{Writes, WritesAndFlushes};
 ghost use Rattle.pam_misspelled.specs.MisspelledView.{misspelled_view};
 ghost use Rattle.pam_parts.specs.Check.{names_of_value};
 ghost use Rattle.pam_parts.specs.CheckNames.{names_view};
+ghost use Rattle.pam_parts.specs.Prints.{PrintsBy};
 ghost use Rattle.pam_report.specs.Reply.{Check};
 ghost use Rattle.pam_report.specs.ReplyViews.{check_view};
 ghost use Rattle.pam_report.specs.TablePaths.{table_paths_view};
 ghost use Rattle.pam_json.specs.Check.{check_json, checked_json, findings_json, lines_json, numbered_json, table_json, unused_json};
-ghost use Rattle.pam_json.specs.Text.{PrintsJson};
+ghost use Rattle.pam_json.specs.Text.{IsJson};
 
 mod finding;
 mod sentence;
@@ -131,7 +132,7 @@ pub(crate) fn write_check<W: Write>(
     reply: &CheckReply<'_>,
     out: &mut Out<W>,
 ) -> Result<(), Fault>
-    ensures { PrintsJson W.contents out.old out.new result (Check (check_view reply.now)) (check_json (check_view reply.now)) }
+    ensures { PrintsBy W.contents IsJson out.old out.new result (Check (check_view reply.now)) }
 {
     let names = match names_of(alloc, reply) {
         Ok(names) => names,

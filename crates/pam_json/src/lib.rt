@@ -6,6 +6,7 @@ mod compare;
 mod decide;
 mod header;
 mod outcomes;
+mod paths;
 mod printing;
 mod show;
 mod steps;

@@ -1,12 +1,13 @@
 //! Replies, written as JSON.
 
 ghost use Rattle.pam_report.specs.ReplyViews.{reply_view};
-ghost use Rattle.pam_json.specs.Text.{PrintsIfAny, json_of};
+ghost use Rattle.pam_json.specs.Text.{PrintsIfAny};
 
 use crate::check::write_check;
 use crate::compare::write_compared;
 use crate::decide::write_run;
 use crate::outcomes::write_outcomes;
+use crate::paths::write_page;
 use crate::show::write_stack;
 use crate::tables::{write_access, write_time};
 use pam_codes::Out;
@@ -17,13 +18,13 @@ use std::io::Write;
 
 /// Writes the JSON of a reply, and flushes once, at its end. Returns `None`, and writes nothing, for a reply that has no JSON.
 ///
-/// For a check, want of memory is found before the first byte is written.
+/// For a page of paths, a cursor that is refused is found before the first byte is written; for a page and a check, so is want of memory.
 pub fn print_if_any<W: Write>(
     alloc: Global,
     reply: &Reply<'_>,
     out: &mut Out<W>,
 ) -> Option<Result<(), Fault>>
-    ensures { PrintsIfAny W.contents out.old out.new result (reply_view reply.now) (json_of (reply_view reply.now)) }
+    ensures { PrintsIfAny W.contents out.old out.new result (reply_view reply.now) }
 {
     match reply {
         Reply::Stack(stack) => Some(told(write_stack(alloc, stack, out))),
@@ -31,6 +32,7 @@ pub fn print_if_any<W: Write>(
         Reply::Access(answer) => Some(told(write_access(*answer, out))),
         Reply::Time(answer) => Some(told(write_time(*answer, out))),
         Reply::Outcomes(outcomes) => Some(told(write_outcomes(outcomes, out))),
+        Reply::Paths(page) => Some(write_page(alloc, page, out)),
         Reply::Check(check) => Some(write_check(alloc, check, out)),
         Reply::Compared(compared) => Some(told(write_compared(compared, out))),
         _ => None,
