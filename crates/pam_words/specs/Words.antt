@@ -135,7 +135,7 @@ with_knowledge app = with_moment (with_tables (with_login (with_rule app (repeat
 
 -- `paths SERVICE KIND`
 unfoldable pub paths_app : App
-paths_app = with_knowledge (with_filter (with_page (stack_app (codes "paths"))))
+paths_app = with_knowledge (with_filter (with_page (with_json (stack_app (codes "paths")))))
 
 -- `outcomes SERVICE KIND`
 unfoldable pub outcomes_app : App
