@@ -20,7 +20,7 @@ _pamcheck_options() {
         compare) echo '--conf --root --json --modules --facts --returns --help' ;;
         show) echo "$source --as --json --help" ;;
         decide) echo "$source --json --help" ;;
-        paths) echo "$source --limit --after --before --decision --asks $known --help" ;;
+        paths) echo "$source --json --limit --after --before --decision --asks $known --help" ;;
         outcomes) echo "$source --json $known --help" ;;
         graph) echo "$source --format $known --help" ;;
         access) echo '--access --user --tty --group --rhost --json --help' ;;

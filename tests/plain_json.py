@@ -74,6 +74,13 @@ def total(count):
     return line("total", ways=ways(count))
 
 
+def page(paths, more, backward, modules):
+    """The paths of a page, and the cursor of its last one if others follow."""
+    lines = [line("path", cursor=cursor(taken), decision=text(code), steps=steps(taken, modules)) for taken, code in paths]
+    following = cursor(paths[-1][0]) if more else None
+    return b"".join(lines) + line("page", paths=len(paths), next=following, direction="before" if backward else "after")
+
+
 # The lines of `check`.
 
 def finding(path, line_number, level, name, sentence, stack=None, met=(), answers=()):
