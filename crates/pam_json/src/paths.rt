@@ -64,6 +64,7 @@ fn put_last<'x, W: Write>(
 }
 
 /// Writes the rest of a page that has room for one more path.
+#[tactic(auto, unfolding(pam_page::specs::Page::text_by))]
 fn put_rest<W: Write>(
     stack: &Stack,
     listing: &mut Listing<'_, Known>,
