@@ -16,11 +16,11 @@ _pamcheck_options() {
     local moment='--at --at-unix --zone'
     local known="--modules --user --rhost --tty --access --time --group --returns $moment"
     case $1 in
-        check) echo "$source --modules --access --time --group --facts --accept --fail-on --help" ;;
+        check) echo "$source --modules --access --time --group --facts --accept --fail-on --json --help" ;;
         compare) echo '--conf --root --json --modules --facts --returns --help' ;;
         show) echo "$source --as --json --help" ;;
         decide) echo "$source --json --help" ;;
-        paths) echo "$source --limit --after --before --decision --asks $known --help" ;;
+        paths) echo "$source --json --limit --after --before --decision --asks $known --help" ;;
         outcomes) echo "$source --json $known --help" ;;
         graph) echo "$source --format $known --help" ;;
         access) echo '--access --user --tty --group --rhost --json --help' ;;

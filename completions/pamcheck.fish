@@ -131,7 +131,7 @@ complete -c pamcheck -n '__pamcheck_in check compare paths outcomes graph' -l mo
 complete -c pamcheck -n '__pamcheck_in check compare' -l facts -rF -d 'What is known of more modules'
 complete -c pamcheck -n '__pamcheck_in check' -l accept -rF -d 'The findings that are meant to be'
 complete -c pamcheck -n '__pamcheck_in check' -l fail-on -xa 'error warning note' -d 'The least level that fails'
-complete -c pamcheck -n '__pamcheck_in compare show decide outcomes access time' -l json -d 'Answers in JSON Lines'
+complete -c pamcheck -n '__pamcheck_in check compare show decide paths outcomes access time' -l json -d 'Answers in JSON Lines'
 complete -c pamcheck -n '__pamcheck_in paths' -l limit -x -d 'The most paths to list'
 complete -c pamcheck -n '__pamcheck_in paths' -l after -x -d 'Lists the paths after this cursor'
 complete -c pamcheck -n '__pamcheck_in paths' -l before -x -d 'Lists the paths before this cursor'

@@ -15,9 +15,10 @@ TREE = {"d": {"login": b"auht required a.so\r\n@include common\n", "common": COM
         "s": {"login": COMMON}, "n": {"login": COMMON[:COMMON.index(b"\n") + 1] + b"auth optional pam_deny.so\n"}}
 STACK = ["login", "auth", "--dir", "s"]
 ASKED = [["check", "--dir", "d"], ["outcomes", *STACK], ["graph", *STACK], ["graph", *STACK, "--format", "mermaid"],
-         ["compare", "s", "n"], ["explain", "e15"], ["explain", "L2"], ["show", *STACK], ["decide", *STACK, "success", "ignore"]]
+         ["compare", "s", "n"], ["explain", "e15"], ["explain", "L2"], ["show", *STACK], ["decide", *STACK, "success", "ignore"],
+         ["check", "--dir", "d", "--json"]]
 # Answers of many bytes, of which not every one is tried.
-LONG = [["graph", *STACK, "--format", "svg"], ["explain"], ["facts"], ["paths", *STACK], ["help", "check"]]
+LONG = [["graph", *STACK, "--format", "svg"], ["explain"], ["facts"], ["paths", *STACK], ["paths", *STACK, "--json"], ["help", "check"]]
 STEP = 97
 EXPLAINED = [["explain"], ["explain", "s2"], ["facts"], ["help"]]
 

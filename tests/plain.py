@@ -24,11 +24,11 @@ from plain_sources import found, listed, read
 KNOWING = b" --modules --access --time --group --returns --user --rhost --tty --at --at-unix --zone"
 SOURCES = b"--dir --vendor-dir --conf --root --with"
 OPTIONS = {
-    b"check": SOURCES + b" --modules --access --time --group --facts --accept --fail-on",
+    b"check": SOURCES + b" --modules --access --time --group --facts --accept --fail-on --json",
     b"compare": b"--conf --root --json --modules --facts --returns",
     b"show": SOURCES + b" --as --json",
     b"decide": SOURCES + b" --json",
-    b"paths": SOURCES + b" --limit --after --before --decision --asks" + KNOWING,
+    b"paths": SOURCES + b" --json --limit --after --before --decision --asks" + KNOWING,
     b"outcomes": SOURCES + b" --json" + KNOWING,
     b"graph": SOURCES + b" --format" + KNOWING,
     b"access": b"--access --user --group --rhost --tty --json",
@@ -38,7 +38,8 @@ OPTIONS = {
 }
 OF_PATHS = (b"paths", b"outcomes", b"graph")
 REPEATED = (b"--modules", b"--with")
-FLAGS = {b"compare": [b"--conf", b"--root", b"--json"], **dict.fromkeys([b"show", b"decide", b"outcomes", b"access", b"time"], [b"--json"])}
+FLAGS = {b"compare": [b"--conf", b"--root", b"--json"],
+         **dict.fromkeys([b"check", b"show", b"decide", b"paths", b"outcomes", b"access", b"time"], [b"--json"])}
 WITH_SOURCE = [name for name, options in OPTIONS.items() if options.startswith(SOURCES)]
 ABOUT = (b"facts", b"version")
 VERSION = b"pamcheck 1.0.0 (proved with rattle, logic dac8208d650f15bf)\n"
@@ -249,7 +250,10 @@ class Request:
         there = plain_given.there(self.options.get(b"--root"), folders, files.values(), lambda path: found(tree, path))
         host = plain_host.Host(form, files, self.arguments, there, facts)
         accept = self.options.get(b"--accept", b""), accepted
-        return plain_host.text(host, source.paths, self.options.get(b"--fail-on", b"warning"), accept, given)
+        status = plain_host.status(plain_host.levels_of(*plain_host.unaccepted(host, accept, given)), self.options.get(b"--fail-on", b"warning"))
+        if self.is_json():
+            return b"".join(plain_json.check(host, source.paths, accept, given)), status
+        return plain_host.text(host, source.paths, accept, given), status
 
     def side(self, name, tree):
         """The files of a side of a comparison, and the paths at which a module is there."""
@@ -378,6 +382,8 @@ class Request:
         limit = int(self.options.get(b"--limit", b"1000"))
         printed = list(islice(paths, limit + 1))
         more = len(printed) > limit
+        if self.is_json():
+            return plain_json.page(printed[:limit], more, b"--before" in self.options, modules)
         text = b""
         for steps, decision in printed[:limit]:
             text += b"%s %s" % (cursor_text(stacks.key_of(steps)), decision)

@@ -2,6 +2,8 @@
 import json
 import re
 
+import plain_host as host
+import plain_host_tables as host_tables
 import plain_stacks as stacks
 
 MOST_COUNTED = 2 ** 128
@@ -70,6 +72,48 @@ def outcome(code, count, taken, modules):
 
 def total(count):
     return line("total", ways=ways(count))
+
+
+def page(paths, more, backward, modules):
+    """The paths of a page, and the cursor of its last one if others follow."""
+    lines = [line("path", cursor=cursor(taken), decision=text(code), steps=steps(taken, modules)) for taken, code in paths]
+    following = cursor(paths[-1][0]) if more else None
+    return b"".join(lines) + line("page", paths=len(paths), next=following, direction="before" if backward else "after")
+
+
+# The lines of `check`.
+
+def finding(path, line_number, level, name, sentence, stack=None, met=(), answers=()):
+    """A finding: where, how grave, what is wrong, and which stacks meet it."""
+    number, name = text(name).split(" ")
+    services = list(dict.fromkeys(text(service) for service, _ in met))
+    service, kind = map(text, stack) if stack else (None, None)
+    return line("finding", file=text(path), line=line_number or None, level=text(host.LEVELS[level]), number=number, name=name,
+                sentence=text(sentence), service=service, type=kind, types=[text(kind) for kind in stacks.KINDS if kind in {kind for _, kind in met}],
+                services=services[:2], service_count=len(services),
+                answers=[{"number": number, "module": text(module), "code": text(code)} for number, module, code in answers])
+
+
+def quoted(word):
+    """A word in a sentence, which is whole."""
+    return ('"%s"' % text(word)).encode()
+
+
+def check(checked, paths, accept=(b"", ()), given=()):
+    """What `check` prints of a host."""
+    found, of_tables, unused = host.unaccepted(checked, accept, given)
+    for (file, at, number, detail), met in found:
+        sentence = host.said(checked, file, at, number, detail, quoted)
+        stack = detail[:2] if isinstance(detail, tuple) else None
+        yield finding(paths[file], at, host.level_of(number, detail), host.name_of(number), sentence, stack, () if stack else met or (),
+                      host.way_in(number, detail))
+    for table, at, number in of_tables:
+        yield finding(given[table][0], at, host_tables.level_of(number), host_tables.name_of(number), host_tables.sentence(table, number))
+    for at in unused:
+        yield finding(accept[0], at, 1, b"S8 NothingAccepted", host.UNUSED)
+    levels = host.levels_of(found, of_tables, unused)
+    count = len(checked.services)
+    yield line("checked", services=count, stacks=4 * count, errors=levels.count(2), warnings=levels.count(1), notes=levels.count(0))
 
 
 # The lines of `compare`, from those of its text. No name in it may have a blank, a quote, or ` only in `.

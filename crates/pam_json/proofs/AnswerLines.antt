@@ -1,15 +1,18 @@
 -- The lines of whole answers, from what is read of their stacks.
-use Rattle.std.proofs.Common.{◌≡◌, ℕ, List, ◌++◌, Option, map, refl}
+use Rattle.std.proofs.Common.{◌≡◌, ℕ, List, ◌++◌, Option, map, max, refl}
 use Rattle.std.specs.List.{flat_map}
 use Rattle.pam_conf.specs.Files.{Folder}
 use Rattle.pam_conf.specs.Stack.{Items, module_count}
 use Rattle.pam_conf.specs.declared.rule.Kind.{Kind}
 use Rattle.pam_json_lines.specs.Line.{line}
-use Rattle.pam_report.specs.Reply.{StackValue}
+use Rattle.pam_page.specs.Page.{first_page, text_by}
+use Rattle.pam_paths.specs.Paths.{PathValue}
+use Rattle.pam_report.specs.Reply.{PageValue, StackValue}
 use Rattle.pam_report.specs.ReplyViews.{outcome_view}
 use Rattle.pam_report.specs.declared.report.outcomes.Outcome as declared
 use Rattle.pam_json.specs.Header.{stack_members}
 use Rattle.pam_json.specs.Outcomes.{outcome_json, total_members}
+use Rattle.pam_json.specs.Paths.{last_json, path_json}
 use Rattle.pam_json.specs.Show.{items_json}
 
 pub stack_line-is : (service : List ℕ) (kind : Kind) (items : Items) {modules : ℕ} → modules ≡ module_count items
@@ -23,3 +26,14 @@ items-are stack e f = rw (e, f) refl
 pub outcomes-are : (items : Items) {one other : List declared.Outcome} → one ≡ other
     → flat_map (outcome_json items) (map outcome_view one) ≡ flat_map (outcome_json items) (map outcome_view other)
 outcomes-are items e = rw e refl
+
+-- the lines of a page
+pub page_line-is : (page : PageValue) {service : List ℕ} {kind : Kind} {items : Items} {modules : ℕ} → service ≡ page.service → kind ≡ page.kind
+    → items ≡ page.items → modules ≡ module_count items
+    → line (stack_members service kind modules) ≡ line (stack_members page.service page.kind (module_count page.items))
+page_line-is page e f g h = rw (h, e, f, g) refl
+
+pub page-is : (page : PageValue) (side : List ℕ) (paths : List PathValue) {items : Items} {limit : ℕ} → items ≡ page.items → limit ≡ max page.limit 1
+    → text_by (path_json items) last_json side 0 (first_page limit paths)
+    ≡ text_by (path_json page.items) last_json side 0 (first_page (max page.limit 1) paths)
+page-is page side paths e f = rw (e, f) refl

@@ -1,4 +1,5 @@
 pub mod AnswerLines
+pub mod CheckLines
 pub mod CompareLines
 pub mod ItemLines
 pub mod PlainTexts

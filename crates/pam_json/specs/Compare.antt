@@ -28,7 +28,7 @@ use Rattle.pam_report.specs.Fault.{file_at}
 use Rattle.pam_report.specs.FaultTable.{conf_row}
 use Rattle.pam_report.specs.Reply.{CompareValue}
 use Rattle.serde_json.specs.Data.{Data, array, null, number, object, string, unsigned}
-use Rattle.pam_json.specs.Header.{code_name, kind_name}
+use Rattle.pam_json.specs.Header.{code_name, is_space, kind_name}
 
 -- A STACK
 
@@ -133,10 +133,6 @@ unfoldable pub pair_json : Head → StackPair → List ℕ
 pair_json head pair = flat_map (arguments_json head pair) pair.modules.arguments.items ++ decisions_json head pair pair.decisions
 
 -- STACKS
-
--- the number and the name of a fault, which a space separates
-abbrev pub is_space : ℕ → Bool
-is_space byte = byte == 32
 
 -- the first fault of a configuration, and where it is, if it is in a file
 unfoldable pub fault_object : Folder → ConfError → Data

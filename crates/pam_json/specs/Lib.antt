@@ -1,8 +1,11 @@
+pub mod Check
 pub mod Compare
 pub mod Decide
 pub mod Header
 pub mod Heads
 pub mod Outcomes
+pub mod Paths
+pub mod Sentences
 pub mod Show
 pub mod Steps
 pub mod Tables

@@ -1,19 +1,26 @@
 -- For private contracts and proofs alone: the values that are written part by part.
-use Rattle.std.specs.Prelude.{map}
+use Rattle.std.specs.Prelude.{map, option_map}
+use Rattle.pam_parts.specs.CheckNames.{word_of}
 use Rattle.pam_codes.specs.ControlText.{control_text}
-use Rattle.pam_json_lines.specs.Line.{strings}
+use Rattle.pam_json_lines.specs.Line.{joined, strings}
 use Rattle.pam_parts.specs.Ways.{count_text}
 use Rattle.pam_paths.specs.Steps.{step_seen}
+use Rattle.pam_sentences.specs.Sentences.{unused_sentence}
 use Rattle.serde_json.specs.Data.{Data, string}
 use Rattle.pam_report.specs.ReplyViews.{side_files}
+use Rattle.pam_json.specs.Check.{answers_array, services_array, types_array}
 use Rattle.pam_json.specs.Compare.{arguments_array, fault_if_any, modules_array, steps_array as asked_array}
+use Rattle.pam_json.specs.Paths.{next_or_null}
+use Rattle.pam_json.specs.Sentences.{said_parts, table_parts}
 use Rattle.pam_json.specs.Steps.{cursor_string, steps_array}
+use Rattle.pam_json.specs.declared.check.values.FindingValue.{FindingValue}
+use Rattle.pam_json.specs.declared.check.values.FindingValue.TheVariants.{Answers, Said, Services, TableSaid, Types, Unused}
 use Rattle.pam_json.specs.declared.compare.values.ChangeValue.{ChangeValue}
 use Rattle.pam_json.specs.declared.compare.values.ChangeValue.TheVariants.{Arguments as ModuleArguments, Fault, Modules, Steps as AskedSteps}
 use Rattle.pam_json.specs.declared.show.ModuleValue.{ModuleValue}
 use Rattle.pam_json.specs.declared.show.ModuleValue.TheVariants.{Arguments, Control}
 use Rattle.pam_json.specs.declared.steps.PathValue.{PathValue}
-use Rattle.pam_json.specs.declared.steps.PathValue.TheVariants.{Cursor, Steps, Ways}
+use Rattle.pam_json.specs.declared.steps.PathValue.TheVariants.{Cursor, Next, Steps, Ways}
 
 abbrev pub module_value : ModuleValue → Data
 module_value (Control control) = string (control_text control.now)
@@ -21,6 +28,7 @@ module_value (Arguments arguments) = strings arguments.now
 
 abbrev pub path_value : PathValue → Data
 path_value (Cursor path) = cursor_string path.now
+path_value (Next cursor) = next_or_null (option_map (λ c. c.now) cursor)
 path_value (Steps stack steps) = steps_array stack.now (map step_seen steps.now)
 path_value (Ways count) = string (count_text count)
 
@@ -29,3 +37,11 @@ change_value (Fault files fault) = fault_if_any (side_files files) fault.now
 change_value (ModuleArguments stack number) = arguments_array stack.now number
 change_value (Modules stack numbers) = modules_array stack.now numbers.now
 change_value (AskedSteps pair asked) = asked_array pair.now asked.now
+
+abbrev pub finding_value : FindingValue → Data
+finding_value (Said line problem word) = joined (said_parts line problem (word_of word))
+finding_value (TableSaid problem) = joined (table_parts problem)
+finding_value Unused = string unused_sentence
+finding_value (Types met) = types_array met
+finding_value (Services services met) = services_array (map (λ service. service.now) services.now) met
+finding_value (Answers ways problem) = answers_array ways.now problem

@@ -1,8 +1,9 @@
 //! The first line of an answer about a stack.
 
 ghost use Rattle.std.specs.Prelude.{◌≡◌};
+ghost use Rattle.std.specs.List.{after_first, before_first};
 ghost use Rattle.pam_codes.specs.Out.{Writes};
-ghost use Rattle.pam_json.specs.Header.{code_name, stack_members};
+ghost use Rattle.pam_json.specs.Header.{code_name, is_space, stack_members};
 ghost use Rattle.pam_json_lines.specs.Line.{line};
 
 use pam_codes::{Code, Device, Out};
@@ -16,6 +17,28 @@ pub(crate) fn name_of(code: Code) -> &'static [u8]
     ensures { result.now ≡ code_name code }
 {
     code.name().as_bytes()
+}
+
+/// Returns the number of what is wrong, which stands before its name.
+#[tactic(auto, using(std::proofs::lemmas::Str::Pattern::split_once_first))]
+pub(crate) fn number_in(name: &str) -> &str
+    ensures { result.now ≡ before_first is_space name.now }
+{
+    match name.split_once(' ') {
+        Some((number, _)) => number,
+        None => name,
+    }
+}
+
+/// Returns the name of what is wrong, which stands after its number.
+#[tactic(auto, using(std::proofs::lemmas::Str::Pattern::split_once_first))]
+pub(crate) fn name_in(name: &str) -> &str
+    ensures { result.now ≡ after_first is_space name.now }
+{
+    match name.split_once(' ') {
+        Some((_, after)) => after,
+        None => "",
+    }
 }
 
 /// Writes the line of a stack, with the service in lowercase.

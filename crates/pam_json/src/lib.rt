@@ -1,10 +1,12 @@
 //! Answers as JSON Lines: each reply of `pam_report` is written as lines of JSON, and nowhere else.
 #![tactic(auto)]
 
+mod check;
 mod compare;
 mod decide;
 mod header;
 mod outcomes;
+mod paths;
 mod printing;
 mod show;
 mod steps;

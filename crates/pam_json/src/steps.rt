@@ -1,6 +1,6 @@
-//! The steps of a path, as an array of objects, and its cursor.
+//! The steps of a path, as an array of objects, and cursors.
 
-ghost use Rattle.std.specs.Prelude.{◌++◌, false, map};
+ghost use Rattle.std.specs.Prelude.{◌++◌, false, map, option_map};
 ghost use Rattle.json.specs.Print.{quoted};
 ghost use Rattle.pam_codes.specs.Out.{Writes};
 ghost use Rattle.pam_parts.specs.Ways.{count_text};
@@ -8,6 +8,7 @@ ghost use Rattle.pam_paths.specs.CursorText.{cursor_text};
 ghost use Rattle.pam_paths.specs.Paths.{key};
 ghost use Rattle.pam_paths.specs.Steps.{step_seen};
 ghost use Rattle.pam_json_lines.specs.Line.{items_of};
+ghost use Rattle.pam_json.specs.Paths.{next_or_null};
 ghost use Rattle.pam_json.specs.Steps.{code_string, code_strings, step_object, steps_array};
 ghost use Rattle.serde_json.specs.Written.{comma_if, compact_text, items_text};
 
@@ -17,7 +18,7 @@ use pam_codes::{Code, CodeSet, Device, Out};
 use pam_conf::Stack;
 use pam_json_lines::{Elements, Member, Written, put_array, put_comma, put_object, put_quoted};
 use pam_known::name_of_path;
-use pam_paths::{Path, PathStep};
+use pam_paths::{Cursor, Path, PathStep};
 use pam_report::path_at;
 use std::io::Write;
 
@@ -48,7 +49,8 @@ fn put_codes<W: Write>(set: CodeSet, out: &mut Out<W>) -> Result<(), Device>
 struct CodeNames(CodeSet);
 
 impl Written for CodeNames {
-    ghost use Rattle.pam_json.specs.Steps.{code_strings};
+    ghost use Rattle.pam_json.specs.Paths.{next_or_null};
+ghost use Rattle.pam_json.specs.Steps.{code_strings};
 
     ghost value = { λ names. code_strings names.0 };
 
@@ -81,7 +83,8 @@ struct StepElements<'x> {
 
 impl Elements<PathStep> for StepElements<'_> {
     ghost use Rattle.pam_paths.specs.Steps.{step_seen};
-    ghost use Rattle.pam_json.specs.Steps.{step_object};
+    ghost use Rattle.pam_json.specs.Paths.{next_or_null};
+ghost use Rattle.pam_json.specs.Steps.{step_object};
 
     ghost element = { λ elements step. step_object elements.stack.now (step_seen step) };
 
@@ -96,14 +99,30 @@ fn put_steps<W: Write>(stack: &Stack, steps: &[PathStep], out: &mut Out<W>) -> R
     put_array(&StepElements { stack }, steps, out)
 }
 
-/// Writes the cursor of a path as a string. It has no byte to be escaped.
-fn put_cursor<W: Write>(path: &Path, out: &mut Out<W>) -> Result<(), Device>
-    ensures { Writes W.contents out.old out.new result (quoted (cursor_text (key path.now))) }
+/// Writes a cursor as a string. It has no byte to be escaped.
+fn put_cursor<W: Write>(cursor: &Cursor, out: &mut Out<W>) -> Result<(), Device>
+    ensures { Writes W.contents out.old out.new result (quoted (cursor_text cursor.now)) }
 {
-    let cursor = path.cursor();
     out.put(b"\"")?;
     cursor.write_text(out)?;
     out.put(b"\"")
+}
+
+/// Writes the cursor of a path as a string.
+fn put_cursor_of<W: Write>(path: &Path, out: &mut Out<W>) -> Result<(), Device>
+    ensures { Writes W.contents out.old out.new result (quoted (cursor_text (key path.now))) }
+{
+    put_cursor(&path.cursor(), out)
+}
+
+/// Writes a cursor, or `null`.
+fn put_next<W: Write>(cursor: Option<&Cursor>, out: &mut Out<W>) -> Result<(), Device>
+    ensures { Writes W.contents out.old out.new result (compact_text (next_or_null (option_map (λ c. c.now) cursor.entry))) }
+{
+    match cursor {
+        Some(cursor) => put_cursor(cursor, out),
+        None => out.put(b"null"),
+    }
 }
 
 /// Writes a number of ways as a string.
@@ -122,6 +141,8 @@ fn put_ways<W: Write>(count: Option<u128>, out: &mut Out<W>) -> Result<(), Devic
 pub(crate) enum PathValue<'x> {
     /// The cursor of a path.
     Cursor(&'x Path),
+    /// The cursor with which a listing goes on, if it does.
+    Next(Option<&'x Cursor>),
     Steps {
         stack: &'x Stack,
         steps: &'x [PathStep],
@@ -136,7 +157,8 @@ impl Written for PathValue<'_> {
 
     fn put<W: Write>(&self, out: &mut Out<W>) -> Result<(), Device> {
         match self {
-            PathValue::Cursor(path) => put_cursor(*path, out),
+            PathValue::Cursor(path) => put_cursor_of(*path, out),
+            PathValue::Next(cursor) => put_next(*cursor, out),
             PathValue::Steps { stack, steps } => put_steps(*stack, *steps, out),
             PathValue::Ways(count) => put_ways(*count, out),
         }

@@ -1,10 +1,12 @@
 -- The texts of strings, part by part.
-use Rattle.std.proofs.Common.{◌≡◌, ◌∙◌, ℕ, ◌<◌, List, [], ◌∷◌, ◌++◌, ap, append-nil, append_assoc, arith, drop, length, refl, sym}
+use Rattle.std.proofs.Common.{◌≡◌, ◌∙◌, ℕ, ◌<◌, List, [], ◌∷◌, ◌++◌, ap, append-nil, append_assoc, arith, codes, drop, length, map, refl, sym}
 use Rattle.std.proofs.lemmas.Grind.{flat_map-append}
 use Rattle.std.proofs.lemmas.Str.{utf8_lossy_chunk, utf8_lossy_empty, utf8_lossy_last_chunk}
+use Rattle.std.specs.List.{flat_map}
 use Rattle.std.specs.Str.Lossy.{replacement_bytes, utf8_invalid_len, utf8_lossy, utf8_valid_len}
-use Rattle.json.specs.Print.{escape, escape_byte}
+use Rattle.json.specs.Print.{escape, escape_byte, quoted}
 use Rattle.pam_json_lines.specs.Text.{invalid_text}
+use Rattle.pam_json_lines.specs.declared.text.Part.{Part}
 
 escape-append : (a b : List ℕ) → escape (a ++ b) ≡ escape a ++ escape b
 escape-append a b = flat_map-append escape_byte a b
@@ -42,3 +44,15 @@ chunk-more front v i bytes valid invalid rest text v-is i-is steps h =
 -- nothing is left after the last chunk
 pub chunks-all : (front rest text : List ℕ) → length rest ≡ 0 → front ++ escape (utf8_lossy rest) ≡ text → front ≡ text
 chunks-all front rest text none h = sym (append-nil front) ∙ ap (λ l. front ++ escape l) (sym (utf8_lossy_empty rest none)) ∙ h
+
+-- PARTS ONE AFTER ANOTHER
+
+parts-escaped : (parts : List Part) → flat_map (λ part. escape (utf8_lossy part.0.now)) parts ≡ escape (flat_map utf8_lossy (map (λ part. part.0.now) parts))
+parts-escaped [] = refl
+parts-escaped (part ∷ parts) =
+    ap (λ l. escape (utf8_lossy part.0.now) ++ l) (parts-escaped parts)
+    ∙ sym (escape-append (utf8_lossy part.0.now) (flat_map utf8_lossy (map (λ p. p.0.now) parts)))
+
+pub joined-is : (parts : List Part)
+    → codes "\"" ++ (flat_map (λ part. escape (utf8_lossy part.0.now)) parts ++ codes "\"") ≡ quoted (flat_map utf8_lossy (map (λ part. part.0.now) parts))
+joined-is parts = ap (λ l. codes "\"" ++ (l ++ codes "\"")) (parts-escaped parts)

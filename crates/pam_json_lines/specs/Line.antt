@@ -1,5 +1,6 @@
 -- A line of an answer: a JSON object (RFC 8259) with no space, and a line feed.
 use Rattle.std.specs.Prelude.{ℕ, List, [], ◌∷◌, ◌++◌, codes, map, None, Option, Some}
+use Rattle.std.specs.List.{flat_map}
 use Rattle.std.specs.Str.Lossy.{utf8_lossy}
 use Rattle.serde_json.specs.Data.{Data, Items, Members, array, item, member, no_items, no_members, null, number, object, string, unsigned}
 use Rattle.serde_json.specs.Written.{compact_text}
@@ -36,3 +37,7 @@ readable_or_null (Some bytes) = readable bytes
 -- texts as an array of strings
 abbrev pub strings : List (List ℕ) → Data
 strings texts = array (items_of (map readable texts))
+
+-- texts one after another as one string
+abbrev pub joined : List (List ℕ) → Data
+joined texts = string (flat_map utf8_lossy texts)

@@ -7,5 +7,5 @@ mod text;
 mod value;
 
 pub use array::{Elements, put_array, put_strings};
-pub use text::put_quoted;
+pub use text::{Part, put_joined, put_quoted, put_readable};
 pub use value::{Member, Written, put_comma, put_line, put_object};

@@ -2,10 +2,13 @@
 
 ghost use Rattle.std.specs.Prelude.{◌≡◌, ◌++◌, ◌<◌, map};
 ghost use Rattle.std.specs.Char.{digit_char, to_ascii_lowercase};
+ghost use Rattle.std.specs.List.{flat_map};
 ghost use Rattle.std.specs.Str.Lossy.{utf8_lossy};
 ghost use Rattle.json.specs.Print.{escape, escape_byte, escape_letter, quoted};
 ghost use Rattle.pam_text.specs.Out.{Writes};
 ghost use Rattle.pam_json_lines.specs.Text.{invalid_text};
+ghost use Rattle.serde_json.specs.Written.{compact_text};
+ghost use Rattle.pam_json_lines.specs.Line.{joined};
 
 use pam_text::{Device, Out};
 use std::io::Write;
@@ -107,11 +110,33 @@ pub fn put_quoted<W: Write>(text: &[u8], out: &mut Out<W>) -> Result<(), Device>
 }
 
 /// Writes bytes as a string, with U+FFFD for what is no UTF-8.
-pub(crate) fn put_readable<W: Write>(bytes: &[u8], out: &mut Out<W>) -> Result<(), Device>
+pub fn put_readable<W: Write>(bytes: &[u8], out: &mut Out<W>) -> Result<(), Device>
     ensures { Writes W.contents out.old out.new result (quoted (utf8_lossy bytes.now)) }
 {
     out.put(b"\"")?;
     put_chunks(bytes, out)?;
+    out.put(b"\"")
+}
+
+/// A part of a string: bytes, with U+FFFD for what is no UTF-8.
+#[derive(Clone, Copy, Debug)]
+pub struct Part<'x>(pub &'x [u8]);
+
+fn put_parts<W: Write>(parts: &[Part<'_>], out: &mut Out<W>) -> Result<(), Device>
+    ensures { Writes W.contents out.old out.new result (flat_map (λ part. escape (utf8_lossy part.0.now)) parts.now) }
+{
+    for part in parts {
+        put_chunks(part.0, out)?;
+    }
+    Ok(())
+}
+
+/// Writes parts as one string, one after another.
+pub fn put_joined<W: Write>(parts: &[Part<'_>], out: &mut Out<W>) -> Result<(), Device>
+    ensures { Writes W.contents out.old out.new result (compact_text (joined (map (λ part. part.0.now) parts.now))) }
+{
+    out.put(b"\"")?;
+    put_parts(parts, out)?;
     out.put(b"\"")
 }
 

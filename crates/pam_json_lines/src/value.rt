@@ -59,7 +59,7 @@ pub struct Member<'x, V> {
 }
 
 impl<'x, V: Written> Member<'x, V> {
-    ghost use Rattle.serde_json.specs.Data.{boolean as json_boolean, number as json_number, string, unsigned};
+    ghost use Rattle.serde_json.specs.Data.{boolean as json_boolean, null, number as json_number, string, unsigned};
     ghost use Rattle.std.specs.Char.{to_ascii_lowercase};
     ghost use Rattle.std.specs.Str.Lossy.{utf8_lossy};
     ghost use Rattle.pam_json_lines.specs.Line.{number_or_null, readable_or_null};
@@ -112,6 +112,15 @@ impl<'x, V: Written> Member<'x, V> {
         Member {
             name,
             value: Value::Written(value),
+        }
+    }
+
+    pub fn null(name: &'x str) -> Member<'x, V>
+        ensures { member_of V.value result ≡ (name.now, null) }
+    {
+        Member {
+            name,
+            value: Value::Null,
         }
     }
 

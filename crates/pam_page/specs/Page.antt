@@ -32,9 +32,13 @@ last_line side count None = concat (codes "end " ∷ decimal count ∷ codes " p
 last_line side count (Some cursor) =
     concat (codes "more " ∷ decimal count ∷ codes " paths " ∷ side ∷ codes " " ∷ []) ++ cursor_text cursor ++ codes "\n"
 
+-- a page, after `count` of its lines, in lines of some form: that of a path, and the last one
+unfoldable pub text_by : (PathValue → List ℕ) → (List ℕ → ℕ → Option (List ℕ) → List ℕ) → List ℕ → ℕ → Page → List ℕ
+text_by line last side count page = flat_map line page.paths ++ last side (count + length page.paths) page.more
+
 -- the text of a page, after `count` of its lines
-unfoldable pub text_after : List ℕ → ℕ → Page → List ℕ
-text_after side count page = flat_map path_line page.paths ++ last_line side (count + length page.paths) page.more
+abbrev pub text_after : List ℕ → ℕ → Page → List ℕ
+text_after = text_by path_line last_line
 
 -- THE TEXT of a page
 abbrev pub page_text : List ℕ → Page → List ℕ

@@ -71,7 +71,7 @@ fn put_lines<K: Knowledge, W: Write>(
 }
 
 /// Writes the rest of a page that has room for one more path.
-#[tactic(auto, unfolding(crate::specs::Page::text_after))]
+#[tactic(auto, unfolding(crate::specs::Page::text_by))]
 fn put_rest<K: Knowledge, W: Write>(
     listing: &mut Listing<'_, K>,
     count: u32,

@@ -2,7 +2,11 @@
 #![tactic(auto)]
 
 mod changes;
+mod check;
 mod files;
+mod writes;
 
 pub use changes::{compared_count, file_of, is_grave, occurrence, service_at};
+pub use check::{Counts, Names, counts_of, names_of, path_of, stacks_of, text_at, word_at};
 pub use files::name_at;
+pub use writes::told;

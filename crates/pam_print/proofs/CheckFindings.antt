@@ -11,7 +11,8 @@ use Rattle.pam_known.specs.Answers.{name_of_path}
 use Rattle.pam_misspelled.specs.Misspelled.{MisspelledText}
 use Rattle.pam_report.specs.Decide.{path_at}
 use Rattle.pam_report.specs.Names.{problem_name}
-use Rattle.pam_print.specs.Check.{Names, answer_text, answers_text, finding_line, next_answer, place_text, sentence}
+use Rattle.pam_print.specs.Check.{answer_text, answers_text, finding_line, next_answer, place_text, sentence}
+use Rattle.pam_parts.specs.Check.{Names}
 use Rattle.pam_sentences.specs.Shown.{shown_name}
 use Rattle.pam_print.specs.Header.{code_name}
 use Rattle.pam_sentences.specs.Sentences as say

@@ -7,7 +7,7 @@ use Rattle.pam_host.specs.declared.met.Kinds.{Kinds}
 use Rattle.pam_host.specs.declared.met.Met.{Met}
 use Rattle.pam_print.specs.Check.{after_comma, if_kind, kinds_text, met_text, others_if_any, others_text}
 use Rattle.pam_sentences.specs.Shown.{hex_digit, is_escaped}
-use Rattle.pam_print.specs.Check.{text_at}
+use Rattle.pam_parts.specs.Check.{text_at}
 use Rattle.pam_sentences.specs.Shown.{shown_byte, shown_name}
 
 -- KINDS

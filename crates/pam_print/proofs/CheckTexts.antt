@@ -10,14 +10,16 @@ use Rattle.pam_report.specs.Reply.{CheckValue}
 use Rattle.pam_report.specs.TablePaths.{level_of_table_problem, table_problem_name}
 use Rattle.pam_table_check.specs.declared.problem.TableFinding.{TableFinding}
 use Rattle.pam_text.proofs.TextSteps.{unequal}
-use Rattle.pam_print.specs.Check as spec
-use Rattle.pam_print.specs.Check.{check_text, counted, counts_of, findings_text, last_line, levels_text, lines_text, names_of_value}
+use Rattle.pam_parts.specs.Check as spec
+use Rattle.pam_print.specs.Check.{check_text, counted, findings_text, last_line, levels_text, lines_text}
+use Rattle.pam_parts.specs.Check.{counts_of, names_of_value}
 use Rattle.pam_sentences.specs.Shown.{shown_name}
-use Rattle.pam_print.specs.Check.{stacks_of, table_heading, table_line, unused_line}
-use Rattle.pam_print.specs.declared.check.Counts.{Counts}
+use Rattle.pam_print.specs.Check.{table_heading, table_line, unused_line}
+use Rattle.pam_parts.specs.Check.{stacks_of}
+use Rattle.pam_parts.specs.declared.check.Counts.{Counts}
 use Rattle.pam_sentences.specs.Sentences as say
-use Rattle.pam_print.specs.CheckNames.{names_view}
-use Rattle.pam_print.specs.declared.check.finding.Names.{Names}
+use Rattle.pam_parts.specs.CheckNames.{names_view}
+use Rattle.pam_parts.specs.declared.check.Names.{Names}
 
 -- NUMBERS
 

@@ -1,8 +1,7 @@
 -- What a call leaves that finds a reply and prints it.
 use Rattle.std.proofs.Common.{◌≡◌, ◌∙◌, ℕ, Bool, true, false, List, Option, None, Some, Result, Ok, Err, ap, refl, subst, sym}
-use Rattle.std.specs.Prelude.{MatchResult}
 use Rattle.std.specs.Option.{option_copied}
-use Rattle.pam_codes.specs.Out.{Device, Out, WritesAndFlushes}
+use Rattle.pam_codes.specs.Out.{Out}
 use Rattle.pam_conf.specs.Files.{Folder}
 use Rattle.pam_conf.specs.Resolution.{resolved}
 use Rattle.pam_conf.specs.Stack.{Items}
@@ -10,6 +9,9 @@ use Rattle.pam_conf.specs.declared.conf_error.ConfError.{ConfError}
 use Rattle.pam_conf.specs.declared.rule.Kind.{Kind}
 use Rattle.pam_explain.specs.Explanation.{Explanation}
 use Rattle.pam_explain.specs.Explanations.{explanation_of}
+use Rattle.pam_json.specs.Text.{IsJson, PrintsIfAny, has_json}
+use Rattle.pam_parts.proofs.Printed.{printed-as}
+use Rattle.pam_parts.specs.Prints.{PrintsBy}
 use Rattle.pam_paths.specs.declared.cursor.CursorError.{CursorError}
 use Rattle.pam_report.specs.Answer.{AnswersBy, answer_of, explained, explained_by, shown, shown_by, with_stack}
 use Rattle.pam_report.specs.Finds.{Finds, Refuses}
@@ -26,8 +28,7 @@ use Rattle.pam_words.specs.declared.wanted.OutputForm.TheVariants.{Json}
 use Rattle.pam_words.specs.declared.wanted.ReleaseName.{ReleaseName}
 use Rattle.pam_words.specs.declared.wanted.Task.{Task}
 use Rattle.pam_words.specs.declared.wanted.Task.TheVariants.{Show, Decide, Access, Time, Paths, Outcomes, Graph, Check, Compare, Explain, Facts, Version}
-use Rattle.pam_print.specs.Leaves.{LeavesFault, LeavesSome, PrintsBy}
-use Rattle.pam_json.specs.Text.{PrintsIfAny, json_of}
+use Rattle.pam_print.specs.Leaves.{LeavesFault, LeavesSome}
 use Rattle.pam_print.specs.Text.{IsJsonOrText, IsText as IsPlainText, IsTextIn}
 
 -- what a call gives that answers a task, if another gives as much for each relation
@@ -48,20 +49,6 @@ answers-by One Other go service Facts files inputs h = go _ h
 answers-by One Other go service Version files inputs h = go _ h
 
 module _ {W : Type 0} (contents : W → Option (List ℕ)) (IsText : Reply → Result (List ℕ) CursorError → Type 0) (old new : Out W) where
-  -- the text of a reply is written, and what is told of it is this
-  pub text-printed : (reply : Reply) (text : List ℕ) (written : Result (Unit {0}) Device) (result : Result (Unit {0}) Fault) → IsText reply (Ok text)
-      → MatchResult written (λ none. result ≡ Ok none) (λ _. result ≡ Err faults.Device) → WritesAndFlushes contents old new written text
-      → PrintsBy contents IsText old new result reply
-  text-printed reply text (Ok none) result is told h =
-      subst (λ (r : Result (Unit {0}) Fault). PrintsBy contents IsText old new r reply) (sym told) (text, is, h)
-  text-printed reply text (Err e) result is told h =
-      subst (λ (r : Result (Unit {0}) Fault). PrintsBy contents IsText old new r reply) (sym told) (text, is, h)
-
-  -- it is this reply that is printed
-  pub reply-is : (result : Result (Unit {0}) Fault) (one other : declared.Reply) → other ≡ one → PrintsBy contents IsText old new result (reply_view one)
-      → PrintsBy contents IsText old new result (reply_view other)
-  reply-is result one other same h = subst (λ (reply : declared.Reply). PrintsBy contents IsText old new result (reply_view reply)) (sym same) h
-
   -- a fault is found, and nothing is written
   pub refused : (fault : Fault) (IsAnswer : Answer → Type 0) → new ≡ old → Refuses IsAnswer fault → LeavesFault contents IsText old new IsAnswer fault
   refused faults.Device IsAnswer same h = absurd h
@@ -119,54 +106,23 @@ module _ {W : Type 0} (contents : W → Option (List ℕ)) (IsText : Reply → R
 
 -- ---- JSON
 
-module _ {W : Type 0} (contents : W → Option (List ℕ)) (old new : Out W) where
-  -- what is written is JSON
-  written-is : (json : Option (List ℕ)) (written : Result (Unit {0}) Device) → PrintsIfAny contents old new (Some written) json
-      → (text : List ℕ) × (json ≡ Some text) × WritesAndFlushes contents old new written text
-  written-is (Some text) written h = (text, refl, h)
-  written-is None written h = absurd h
+-- the text of a reply that has JSON is that, and it is plain if it has none
+as_json : (reply : Reply) → has_json reply ≡ true → (text : Result (List ℕ) CursorError) → IsJson reply text → IsTextIn Json reply text
+as_json reply has text is = subst (λ (given : Bool). IsJsonOrText given reply text) (sym has) is
 
-  -- there is no JSON, and nothing is written
-  unwritten-is : (json : Option (List ℕ)) → PrintsIfAny contents old new None json → (json ≡ None) × (new ≡ old)
-  unwritten-is (Some text) h = absurd h
-  unwritten-is None h = (refl, h)
+as_plain : (reply : Reply) → has_json reply ≡ false → (text : Result (List ℕ) CursorError) → IsPlainText reply text → IsTextIn Json reply text
+as_plain reply none text is = subst (λ (given : Bool). IsJsonOrText given reply text) (sym none) is
 
-  pub json-printed : (reply : Reply) (written : Result (Unit {0}) Device) (result : Result (Unit {0}) Fault)
-      → PrintsIfAny contents old new (Some written) (json_of reply)
-      → MatchResult written (λ none. result ≡ Ok none) (λ _. result ≡ Err faults.Device) → PrintsBy contents (IsTextIn Json) old new result reply
-  json-printed reply written result h told =
-      let is = written-is (json_of reply) written h in
-      let text : IsTextIn Json reply (Ok is.0) = subst (λ (json : Option (List ℕ)). IsJsonOrText json reply (Ok is.0)) (sym is.1) refl in
-      text-printed contents (IsTextIn Json) old new reply is.0 written result text told is.2
+module _ {W : Type 0} (contents : W → Option (List ℕ)) (old mid new : Out W) (reply : Reply) (result : Result (Unit {0}) Fault) where
+  pub json-printed : PrintsIfAny contents old new (Some result) reply → PrintsBy contents (IsTextIn Json) old new result reply
+  json-printed h = printed-as contents IsJson (IsTextIn Json) old new reply (as_json reply h.0) result h.1
 
-  -- the text of a reply that has no JSON
-  text-as : (reply : Reply) → json_of reply ≡ None → (text : Result (List ℕ) CursorError) → IsPlainText reply text → IsTextIn Json reply text
-  text-as reply none text is = subst (λ (json : Option (List ℕ)). IsJsonOrText json reply text) (sym none) is
-
-  text-instead : (reply : Reply) (result : Result (Unit {0}) Fault) → json_of reply ≡ None → PrintsBy contents IsPlainText old new result reply
-      → PrintsBy contents (IsTextIn Json) old new result reply
-  text-instead reply (Ok told) none h = (h.0, text-as reply none _ h.1, h.2)
-  text-instead reply (Err faults.Device) none h = (h.0, text-as reply none _ h.1, h.2)
-  text-instead reply (Err faults.Memory) none h = h
-  text-instead reply (Err (faults.Cursor e)) none h = (h.0, text-as reply none _ h.1)
-  text-instead reply (Err (faults.Conf e)) none h = absurd h
-  text-instead reply (Err (faults.Count e)) none h = absurd h
-  text-instead reply (Err faults.TooManyStates) none h = absurd h
-  text-instead reply (Err faults.NoSuchModule) none h = absurd h
-  text-instead reply (Err faults.NoSuchNumber) none h = absurd h
-  text-instead reply (Err (faults.Facts e)) none h = absurd h
-  text-instead reply (Err (faults.Accept e)) none h = absurd h
-  text-instead reply (Err (faults.Moment e)) none h = absurd h
-  text-instead reply (Err (faults.Table e)) none h = absurd h
-  text-instead reply (Err (faults.Time e)) none h = absurd h
-
-module _ {W : Type 0} (contents : W → Option (List ℕ)) (old mid new : Out W) where
   -- no JSON is written, and then the text
-  pub text-printed-instead : (reply : Reply) (result : Result (Unit {0}) Fault) → PrintsIfAny contents old mid None (json_of reply)
-      → PrintsBy contents IsPlainText mid new result reply → PrintsBy contents (IsTextIn Json) old new result reply
-  text-printed-instead reply result nothing h =
-      let is = unwritten-is contents old mid (json_of reply) nothing in
-      text-instead contents old new reply result is.0 (subst (λ (out : Out W). PrintsBy contents IsPlainText out new result reply) is.1 h)
+  pub text-printed-instead : PrintsIfAny contents old mid None reply → PrintsBy contents IsPlainText mid new result reply
+      → PrintsBy contents (IsTextIn Json) old new result reply
+  text-printed-instead nothing h =
+      subst (λ (out : Out W). PrintsBy contents (IsTextIn Json) out new result reply) nothing.1
+      (printed-as contents IsPlainText (IsTextIn Json) mid new reply (as_plain reply nothing.0) result h)
 
 -- ---- pages
 

@@ -22,6 +22,8 @@ use Rattle.pam_host.specs.declared.way_in.Answered.{Answered}
 use Rattle.pam_host.specs.declared.way_in.WayIn.{WayIn}
 use Rattle.pam_known.specs.Answers.{name_of_path}
 use Rattle.pam_misspelled.specs.Misspelled.{MisspelledText}
+use Rattle.pam_parts.specs.Check.{Names, counts_of, names_of_value, path_of, stacks_of, text_at, word_at}
+use Rattle.pam_parts.specs.declared.check.Counts.{Counts}
 use Rattle.pam_report.specs.Decide.{path_at}
 use Rattle.pam_report.specs.Names.{problem_name, stack_of}
 use Rattle.pam_report.specs.Reply.{CheckValue}
@@ -31,25 +33,8 @@ use Rattle.pam_print.specs.Header.{code_name, kind_name}
 use Rattle.pam_sentences.specs.Sentences as say
 use Rattle.pam_sentences.specs.Shown.{shown_name}
 use Rattle.pam_sentences.specs.Tables.{table_sentence}
-use Rattle.pam_print.specs.declared.check.Counts.{Counts}
-
--- the names and the ways in that sentences need
-pub record Names : Type 0 where
-  pub form : Form
-  pub paths : List (List ℕ)
-  pub services : List (List ℕ)
-  pub ways_in : List (Option WayIn)
 
 -- THE PLACE OF A FINDING
-
--- the text at a position, empty if there is none
-abbrev pub text_at : List (List ℕ) → ℕ → List ℕ
-text_at texts position = unwrap_or (slice_get texts position) []
-
--- the path of a file; that of the configuration as a whole comes first
-abbrev pub path_of : List (List ℕ) → Option ℕ → List ℕ
-path_of paths None = text_at paths 0
-path_of paths (Some file) = text_at paths (file + 1)
 
 -- a file as a whole has no line
 abbrev pub line_text : ℕ → List ℕ
@@ -146,10 +131,6 @@ finding_line names entry word =
     place_text names.paths entry.0 ++ say.level_name (level_of entry.1.problem) ++ codes ": " ++ problem_name entry.1.problem ++ codes ": "
     ++ sentence names entry.0.line entry.1.met entry.1.problem word ++ codes "\n"
 
--- the word that is wrong at a position, if there is one
-abbrev pub word_at : List (Option MisspelledText) → ℕ → Option MisspelledText
-word_at words position = unwrap_or (slice_get words position) None
-
 abbrev pub numbered_line : Names → List (Option MisspelledText) → ℕ × (Place × Finding) → List ℕ
 numbered_line names words entry = finding_line names entry.1 (word_at words entry.0)
 
@@ -170,45 +151,15 @@ table_line paths finding = table_place paths finding ++ table_heading finding ++
 
 -- THE LAST LINE
 
-abbrev pub is_level : Level → Level → Bool
-is_level levels.Note levels.Note = true
-is_level levels.Warning levels.Warning = true
-is_level levels.Error levels.Error = true
-is_level level other = false
-
--- the number of findings of a level
-abbrev pub number_at : Level → List (Place × Finding) → ℕ
-number_at level found = count_by (λ entry. is_level (level_of entry.1.problem) level) found
-
 -- `1 error`, `2 errors`
 abbrev pub counted : ℕ → List ℕ → List ℕ
 counted count name = decimal count ++ codes " " ++ name ++ (if count == 1 then [] else codes "s")
-
--- at most as much as a number of 64 bits can say
-abbrev pub at_most : ℕ → ℕ
-at_most count = min count 18446744073709551615
-
--- the number of problems of tables of a level
-abbrev pub table_number_at : Level → List TableFinding → ℕ
-table_number_at level tables = count_by (λ finding. is_level (level_of_table_problem finding.problem) level) tables
-
--- the numbers of findings and problems of tables of each level; a line of the accept file that accepts nothing is a warning (S8)
-abbrev pub counts_of : List (Place × Finding) → List TableFinding → List ℕ → Counts
-counts_of found tables unused = record {
-  errors = at_most (number_at levels.Error found + table_number_at levels.Error tables);
-  warnings = at_most (at_most (number_at levels.Warning found + table_number_at levels.Warning tables) + length unused);
-  notes = at_most (number_at levels.Note found + table_number_at levels.Note tables);
-}
 
 -- `ERRORS, WARNINGS, NOTES`
 abbrev pub levels_text : Counts → List ℕ
 levels_text counts =
     counted counts.errors (codes "error") ++ codes ", " ++ counted counts.warnings (codes "warning") ++ codes ", "
     ++ counted counts.notes (codes "note")
-
--- the stacks of services, one for each of the four kinds
-abbrev pub stacks_of : ℕ → ℕ
-stacks_of services = at_most (services * 4)
 
 -- `checked SERVICES, STACKS: ERRORS, WARNINGS, NOTES`
 unfoldable pub last_line : ℕ → Counts → List ℕ
@@ -219,9 +170,6 @@ last_line services counts =
 -- `FILE:LINE: warning: S8 NothingAccepted: SENTENCE`
 unfoldable pub unused_line : List ℕ → ℕ → List ℕ
 unused_line accept line = shown_name accept ++ codes ":" ++ decimal line ++ codes ": warning: S8 NothingAccepted: " ++ say.unused_sentence ++ codes "\n"
-
-abbrev pub names_of_value : CheckValue → Names
-names_of_value value = record { form = value.form; paths = value.paths; services = value.services; ways_in = value.ways_in }
 
 -- the lines of findings, of problems of tables, and of lines of the accept file
 abbrev pub lines_text : CheckValue → List ℕ

@@ -1,9 +1,10 @@
 -- The text that a call writes when it answers.
-use Rattle.std.specs.Prelude.{◌≡◌, ℕ, List, Option, Result, Ok, Err, true}
+use Rattle.std.specs.Prelude.{◌≡◌, ℕ, List, Option, Result, Ok, Err}
 use Rattle.pam_codes.specs.Out.{Out, TookFlushed, TookFront}
+use Rattle.pam_parts.specs.Prints.{PrintsBy}
 use Rattle.pam_paths.specs.declared.cursor.CursorError.{CursorError}
 use Rattle.pam_report.specs.Finds.{Refuses}
-use Rattle.pam_report.specs.Reply.{Answer, Reply, status_of, wants_memory}
+use Rattle.pam_report.specs.Reply.{Answer, Reply, status_of}
 use Rattle.pam_report.specs.declared.fault.Fault.{Fault}
 use Rattle.pam_report.specs.declared.fault.Fault.TheVariants as faults
 use Rattle.pam_report.specs.declared.report.Status.{Status}
@@ -11,16 +12,8 @@ use Rattle.pam_print.specs.Text.{IsText as IsPlainText}
 
 -- if this is the text of a reply
 module _ {W : Type 0} (contents : W → Option (List ℕ)) (IsText : Reply → Result (List ℕ) CursorError → Type 0) (old new : Out W) where
-  -- the text of a reply is written in full and then flushed once, or written up to some byte and not flushed if the writer
-  -- failed. Nothing is written if the cursor of a page is refused, or an allocation for a page or a drawing failed
-  abbrev pub PrintsBy : Result (Unit {0}) Fault → Reply → Type 0
-  PrintsBy (Ok _) reply = (text : List ℕ) × IsText reply (Ok text) × TookFlushed contents old new text
-  PrintsBy (Err faults.Device) reply = (text : List ℕ) × IsText reply (Ok text) × TookFront contents old new text
-  PrintsBy (Err faults.Memory) reply = (new ≡ old) × (wants_memory reply ≡ true)
-  PrintsBy (Err (faults.Cursor e)) reply = (new ≡ old) × IsText reply (Err e)
-  PrintsBy (Err fault) reply = ⊥
-
-  -- the same for the reply of an answer. Nothing is written if the answer is a fault, or an allocation failed
+  -- the text of the reply of an answer is written in full and then flushed once, or written up to some byte and not flushed if the
+  -- writer failed. Nothing is written if the answer is a fault, the cursor of a page is refused, or an allocation failed
   abbrev pub LeavesFault : (Answer → Type 0) → Fault → Type 0
   LeavesFault IsAnswer faults.Device = (reply : Reply) × (text : List ℕ) × IsAnswer (Ok reply) × IsText reply (Ok text) × TookFront contents old new text
   LeavesFault IsAnswer faults.Memory = new ≡ old

@@ -2,7 +2,6 @@ pub mod About
 pub mod Answer
 pub mod Canvas
 pub mod Check
-pub mod CheckNames
 pub mod Compare
 pub mod CompareParts
 pub mod Decide

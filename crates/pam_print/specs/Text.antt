@@ -1,9 +1,9 @@
 -- The text of a reply.
-use Rattle.std.specs.Prelude.{◌≡◌, ℕ, List, Option, None, Some, Result, Ok}
+use Rattle.std.specs.Prelude.{◌≡◌, ℕ, Bool, true, false, List, Result, Ok}
 use Rattle.pam_paths.specs.declared.cursor.CursorError.{CursorError}
 use Rattle.pam_report.specs.Reply.{Reply, Stack, Released, Run, Access, Time, Outcomes, Drawing, Page, Check, Compared, Explained, Explanations, Facts, Version}
 use Rattle.pam_facts.specs.Table.{table_text}
-use Rattle.pam_json.specs.Text.{json_of}
+use Rattle.pam_json.specs.Text.{IsJson, has_json}
 use Rattle.pam_words.specs.declared.wanted.OutputForm.{OutputForm}
 use Rattle.pam_words.specs.declared.wanted.OutputForm.TheVariants.{Json, PlainText}
 use Rattle.pam_print.specs.About.{version_text}
@@ -36,11 +36,11 @@ IsText Facts text = text ≡ Ok table_text
 IsText Version text = text ≡ Ok version_text
 
 -- the JSON of a reply, or its text if it has none
-abbrev pub IsJsonOrText : Option (List ℕ) → Reply → Result (List ℕ) CursorError → Type 0
-IsJsonOrText (Some json) reply text = text ≡ Ok json
-IsJsonOrText None reply text = IsText reply text
+abbrev pub IsJsonOrText : Bool → Reply → Result (List ℕ) CursorError → Type 0
+IsJsonOrText true reply text = IsJson reply text
+IsJsonOrText false reply text = IsText reply text
 
 -- THE TEXT of a reply in a form
 abbrev pub IsTextIn : OutputForm → Reply → Result (List ℕ) CursorError → Type 0
 IsTextIn PlainText reply text = IsText reply text
-IsTextIn Json reply text = IsJsonOrText (json_of reply) reply text
+IsTextIn Json reply text = IsJsonOrText (has_json reply) reply text

@@ -1,105 +1,34 @@
 //! The text of `check`: a line for each finding, and a last line with their numbers.
 
-ghost use Rattle.std.specs.Prelude.{◌≡◌, ◌+◌, [], IfOk, map};
+ghost use Rattle.std.specs.Prelude.{◌≡◌, map};
 ghost use Rattle.std.specs.List.{flat_map};
-ghost use Rattle.std.specs.Option.{option_map, option_map_or};
+ghost use Rattle.std.specs.Option.{option_map};
 ghost use Rattle.pam_misspelled.specs.MisspelledView.{misspelled_view};
 ghost use Rattle.pam_codes.specs.Out.{Writes, WritesAndFlushes};
+ghost use Rattle.pam_parts.specs.Check.{names_of_value};
+ghost use Rattle.pam_parts.specs.CheckNames.{names_view};
 ghost use Rattle.pam_report.specs.Reply.{Check};
 ghost use Rattle.pam_report.specs.ReplyViews.{check_view};
 ghost use Rattle.pam_report.specs.TablePaths.{table_paths_view};
-ghost use Rattle.pam_print.specs.Check.{at_most, check_text, counted, counts_of, findings_text, is_level, last_line, levels_text, lines_text};
-ghost use Rattle.pam_print.specs.Check.{names_of_value, number_at, numbered_line, table_line, table_number_at, unused_line, word_at};
-ghost use Rattle.pam_print.specs.CheckNames.{names_view, word_of};
+ghost use Rattle.pam_print.specs.Check.{check_text, counted, findings_text, last_line, levels_text, lines_text};
+ghost use Rattle.pam_print.specs.Check.{numbered_line, table_line, unused_line};
 ghost use Rattle.pam_print.specs.Leaves.{Prints};
 
 mod finding;
 mod met;
 mod table;
 
-use finding::{Names, put_finding};
+use finding::put_finding;
 use pam_codes::{Device, Out, Piece};
-use pam_host::{Finding, Level, Place};
+use pam_host::{Finding, Place};
 use pam_misspelled::Misspelled;
-use pam_report::{CheckReply, Fault, TablePaths, table_problem_level};
+use pam_parts::{Counts, Names, counts_of, names_of, stacks_of, word_at};
+use pam_report::{CheckReply, Fault, TablePaths};
 use pam_sentences::{UNUSED, put_name};
 use pam_table_check::TableFinding;
-use pam_text::Texts;
-use std::alloc::{AllocError, Global};
+use std::alloc::Global;
 use std::io::Write;
 use table::put_table_finding;
-
-/// The number of kinds: each service has a stack for each of them.
-const KINDS: usize = 4;
-
-/// Returns the texts of a list, by position.
-fn slices(alloc: Global, texts: &Texts) -> Result<Vec<&[u8]>, AllocError>
-    ensures { IfOk result (λ v. map (λ text. text.now) v.items ≡ texts.now) }
-{
-    texts.iter().collect(alloc)
-}
-
-/// Returns the paths of a check by position, if it has any.
-fn slices_if_any(alloc: Global, texts: Option<&Texts>) -> Result<Vec<&[u8]>, AllocError>
-    ensures { IfOk result (λ v. map (λ text. text.now) v.items ≡ option_map_or (λ t. t.now) texts.entry []) }
-{
-    match texts {
-        Some(texts) => slices(alloc, texts),
-        None => Ok(Vec::new(alloc)),
-    }
-}
-
-fn is_level(level: Level, other: Level) -> bool
-    ensures { result ≡ is_level level other }
-{
-    level == other
-}
-
-/// Returns the number of findings of a level.
-fn number_at(found: &[(Place, Finding)], level: Level) -> usize
-    ensures { result ≡ number_at level found.now }
-{
-    found
-        .iter()
-        .filter(|entry| is_level(entry.1.problem.level(), level))
-        .count()
-}
-
-/// Returns the number of problems of tables of a level.
-fn table_number_at(tables: &[TableFinding], level: Level) -> usize
-    ensures { result ≡ table_number_at level tables.now }
-{
-    tables
-        .iter()
-        .filter(|finding| is_level(table_problem_level(finding.problem), level))
-        .count()
-}
-
-/// The numbers of findings and problems of tables of each level.
-#[derive(Clone, Copy)]
-struct Counts {
-    errors: usize,
-    warnings: usize,
-    notes: usize,
-}
-
-/// Returns the number of findings and problems of tables of a level.
-fn number_of(found: &[(Place, Finding)], tables: &[TableFinding], level: Level) -> usize
-    ensures { result ≡ at_most (number_at level found.now + table_number_at level tables.now) }
-{
-    number_at(found, level).saturating_add(table_number_at(tables, level))
-}
-
-/// Counts by levels. Each line of the accept file that accepts nothing is a warning, S8.
-fn counts_of(found: &[(Place, Finding)], tables: &[TableFinding], unused: &[u32]) -> Counts
-    ensures { result ≡ counts_of found.now tables.now unused.now }
-{
-    Counts {
-        errors: number_of(found, tables, Level::Error),
-        warnings: number_of(found, tables, Level::Warning).saturating_add(unused.len()),
-        notes: number_of(found, tables, Level::Note),
-    }
-}
 
 /// Writes a number and what is counted, as `1 error` or `2 errors`.
 #[tactic(auto, unfolding(crate::specs::Check::counted))]
@@ -140,29 +69,10 @@ fn put_last_line<W: Write>(services: usize, counts: Counts, out: &mut Out<W>) ->
     out.put(b"checked ")?;
     put_counted(services, "service", out)?;
     out.put(b", ")?;
-    put_counted(services.saturating_mul(KINDS), "stack", out)?;
+    put_counted(stacks_of(services), "stack", out)?;
     out.put(b": ")?;
     put_levels(counts, out)?;
     out.put(b"\n")
-}
-
-fn lent(word: &Option<Misspelled>) -> Option<&Misspelled>
-    ensures { word_of result ≡ option_map misspelled_view word.now }
-{
-    match word {
-        Some(word) => Some(word),
-        None => None,
-    }
-}
-
-/// Returns the word that is wrong at a position, if there is one.
-fn word_at(words: &[Option<Misspelled>], position: usize) -> Option<&Misspelled>
-    ensures { word_of result ≡ word_at (map (option_map misspelled_view) words.now) position }
-{
-    match words.get(position) {
-        Some(word) => lent(word),
-        None => None,
-    }
 }
 
 /// Writes the line of a finding, with the word that is wrong at its position.
@@ -259,20 +169,6 @@ fn write_report<W: Write>(
     put_lines(names, reply, out)?;
     put_last_line(names.services.len(), counts, out)?;
     out.finish()
-}
-
-/// Returns the names of a check by position.
-fn names_of<'a>(alloc: Global, reply: &'a CheckReply<'_>) -> Result<Names<'a>, AllocError>
-    ensures { IfOk result (λ n. names_view n ≡ names_of_value (check_view reply.now)) }
-{
-    let paths = slices_if_any(alloc, reply.paths)?;
-    let services = slices(alloc, &reply.report.services)?;
-    Ok(Names {
-        form: reply.form,
-        paths,
-        services,
-        ways_in: &reply.report.ways_in,
-    })
 }
 
 /// Writes the findings of a check. Allocates lists of names before the first byte.

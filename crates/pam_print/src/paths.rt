@@ -1,14 +1,13 @@
 //! The text of `paths`: a page.
 
-ghost use Rattle.std.specs.Prelude.{◌++◌, Ok, max};
+ghost use Rattle.std.specs.Prelude.{Ok, max};
 ghost use Rattle.pam_codes.specs.Out.{WritesAndFlushes};
-ghost use Rattle.pam_dispatch.specs.Flat.{modules_of};
 ghost use Rattle.pam_page.specs.Coming.{coming, side};
 ghost use Rattle.pam_page.specs.Page.{first_page, page_text as lines_text};
 ghost use Rattle.pam_report.specs.PageView.{FindsPage, page_value};
 ghost use Rattle.pam_report.specs.Reply.{Page};
-ghost use Rattle.pam_print.specs.Header.{header_text};
 ghost use Rattle.pam_print.specs.Leaves.{Prints};
+ghost use Rattle.pam_print.specs.Page.{page_text};
 
 use crate::header::put_header;
 use pam_codes::{Device, Out};
@@ -38,11 +37,9 @@ fn write_listing<W: Write>(
     texts: LineTexts,
     out: &mut Out<W>,
 ) -> Result<(), Device>
-    ensures { let lines = lines_text (side listing.old) (first_page (max (page_value page.now).limit 1) (coming listing.old)) in
-        let header = header_text (page_value page.now).service (page_value page.now).kind (modules_of (page_value page.now).program) in
-        WritesAndFlushes W.contents out.old out.new result (header ++ lines) }
+    ensures { WritesAndFlushes W.contents out.old out.new result (page_text (page_value page.now) (side listing.old) (coming listing.old)) }
 {
-    put_header(page.service(), page.kind(), page.modules(), out)?;
+    put_header(page.service(), page.kind(), page.stack().modules(), out)?;
     write_lines(page, listing, texts, out)
 }
 

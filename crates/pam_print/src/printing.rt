@@ -1,10 +1,9 @@
 //! Replies, written as text.
 
-ghost use Rattle.std.specs.Prelude.{◌≡◌, Err, MatchResult, Ok};
+ghost use Rattle.pam_parts.specs.Prints.{PrintsBy};
 ghost use Rattle.pam_report.specs.ReplyViews.{reply_view};
-ghost use Rattle.pam_report.specs.declared.fault.Fault.TheVariants as faults;
 ghost use Rattle.pam_print.specs.Answer.{Answers};
-ghost use Rattle.pam_print.specs.Leaves.{Prints, PrintsBy};
+ghost use Rattle.pam_print.specs.Leaves.{Prints};
 ghost use Rattle.pam_print.specs.Text.{IsTextIn};
 ghost use Rattle.pam_words.specs.declared.wanted.OutputForm.TheVariants.{Json};
 
@@ -19,8 +18,9 @@ use crate::paths::write_page;
 use crate::released::write_released;
 use crate::show::write_stack;
 use crate::tables::{write_access, write_time};
-use pam_codes::{Device, Out};
+use pam_codes::Out;
 use pam_json::print_if_any;
+use pam_parts::told;
 use pam_report::{Fault, Inputs, Reply, Status, reply_to};
 use pam_words::{OutputForm, Request};
 use std::alloc::Global;
@@ -49,7 +49,7 @@ fn print_json<W: Write>(alloc: Global, reply: &Reply<'_>, out: &mut Out<W>) -> R
     ensures { PrintsBy W.contents (IsTextIn Json) out.old out.new result (reply_view reply.now) }
 {
     match print_if_any(alloc, reply, out) {
-        Some(written) => told(written),
+        Some(written) => written,
         None => print_text(alloc, reply, out),
     }
 }
@@ -73,16 +73,6 @@ fn print_text<W: Write>(alloc: Global, reply: &Reply<'_>, out: &mut Out<W>) -> R
         Reply::Version => told(write_version(out)),
         Reply::Graph(drawing) => write_drawing(alloc, drawing, out),
         Reply::Paths(page) => write_page(alloc, page, out),
-    }
-}
-
-/// Returns the fault of a write that failed.
-fn told(written: Result<(), Device>) -> Result<(), Fault>
-    ensures { MatchResult written (λ none. result ≡ Ok none) (λ _. result ≡ Err faults.Device) }
-{
-    match written {
-        Ok(()) => Ok(()),
-        Err(Device) => Err(Fault::Device),
     }
 }
 

@@ -1,4 +1,4 @@
--- For private contracts and proofs alone: how a fault names a word, as text.
+-- How a fault names a word, as text.
 use Rattle.pam_sentences.specs.Faults as spec
 use Rattle.pam_sentences.specs.declared.faults.Naming.{Naming}
 

@@ -73,7 +73,7 @@ fn fault_sentence(fault: FaultKind) -> &'static str
 }
 
 /// Returns what is wrong at this line, without the word that is wrong.
-fn plain_sentence(line: usize, fault: FaultKind) -> &'static str
+pub fn plain_sentence(line: usize, fault: FaultKind) -> &'static str
     ensures { result.now ≡ spec.plain_sentence line fault }
 {
     match fault {
@@ -92,10 +92,10 @@ fn put_plain<W: Write>(line: usize, fault: FaultKind, out: &mut Out<W>) -> Resul
 
 /// What stands before and after the word that is wrong, and what to write where no right word is near.
 #[derive(Clone, Copy)]
-struct Naming {
-    before: &'static str,
-    after: &'static str,
-    mending: &'static str,
+pub struct Naming {
+    pub before: &'static str,
+    pub after: &'static str,
+    pub mending: &'static str,
 }
 
 #[tactic(auto, unfolding(crate::specs::Faults::naming_of_control))]
@@ -117,7 +117,7 @@ fn naming_of_control(error: ControlError) -> Option<Naming>
 
 /// Returns how a fault names the word that is wrong, if it does.
 #[tactic(auto, unfolding(crate::specs::Faults::naming_of))]
-fn naming_of(fault: FaultKind) -> Option<Naming>
+pub fn naming_of(fault: FaultKind) -> Option<Naming>
     ensures { option_map naming_view result ≡ spec.naming_of fault }
 {
     match fault {

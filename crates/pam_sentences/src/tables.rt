@@ -11,8 +11,9 @@ use pam_tables::TableFault;
 use pam_times::TimeFault;
 use std::io::Write;
 
+/// Returns what is wrong with a group file or an access table, and how to mend it.
 #[tactic(auto, unfolding(crate::specs::Tables::table_fault_sentence))]
-fn table_fault_sentence(fault: TableFault) -> &'static str
+pub fn table_fault_sentence(fault: TableFault) -> &'static str
     ensures { result.now ≡ spec.table_fault_sentence fault }
 {
     match fault {
@@ -40,8 +41,9 @@ fn table_fault_sentence(fault: TableFault) -> &'static str
     }
 }
 
+/// Returns what is wrong with a time table, and how to mend it.
 #[tactic(auto, unfolding(crate::specs::Tables::time_fault_sentence))]
-fn time_fault_sentence(fault: TimeFault) -> &'static str
+pub fn time_fault_sentence(fault: TimeFault) -> &'static str
     ensures { result.now ≡ spec.time_fault_sentence fault }
 {
     match fault {

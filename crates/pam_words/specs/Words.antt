@@ -73,7 +73,7 @@ with_check app =
 
 -- `check [SERVICE]...`
 unfoldable pub check_app : App
-check_app = with_rule (with_check (with_source (new_app (codes "check")))) (repeated_rule (codes "name"))
+check_app = with_rule (with_json (with_check (with_source (new_app (codes "check"))))) (repeated_rule (codes "name"))
 
 -- `compare OLD NEW [SERVICE [KIND]]`
 abbrev pub sides_app : App
@@ -135,7 +135,7 @@ with_knowledge app = with_moment (with_tables (with_login (with_rule app (repeat
 
 -- `paths SERVICE KIND`
 unfoldable pub paths_app : App
-paths_app = with_knowledge (with_filter (with_page (stack_app (codes "paths"))))
+paths_app = with_knowledge (with_filter (with_page (with_json (stack_app (codes "paths")))))
 
 -- `outcomes SERVICE KIND`
 unfoldable pub outcomes_app : App

@@ -54,6 +54,7 @@ static HOSTS: [CommandRow; 2] = [
             FACTS,
             ACCEPT,
             FAIL_ON,
+            JSON,
             SERVICES,
         ],
     },
@@ -98,8 +99,8 @@ static LISTINGS: [CommandRow; 1] = [CommandRow {
     name: "paths",
     about: "Lists the paths through a stack",
     args: &[
-        SERVICE, KIND, DIR, VENDOR_DIR, CONF, ROOT, WITH, LIMIT, AFTER, BEFORE, DECISION, ASKS,
-        MODULES, USER, RHOST, TTY, ACCESS, TIME, GROUP, RETURNS, AT, AT_UNIX, ZONE,
+        SERVICE, KIND, DIR, VENDOR_DIR, CONF, ROOT, WITH, JSON, LIMIT, AFTER, BEFORE, DECISION,
+        ASKS, MODULES, USER, RHOST, TTY, ACCESS, TIME, GROUP, RETURNS, AT, AT_UNIX, ZONE,
     ],
 }];
 

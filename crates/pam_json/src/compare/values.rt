@@ -1,13 +1,13 @@
 //! The values of a line of `compare` that are written part by part.
 
 ghost use Rattle.std.specs.Prelude.{◌≡◌, option_map};
-ghost use Rattle.std.specs.List.{after_first, before_first};
 ghost use Rattle.pam_codes.specs.Out.{Writes};
-ghost use Rattle.pam_json.specs.Compare.{fault_if_any, fault_object, is_space};
+ghost use Rattle.pam_json.specs.Compare.{fault_if_any, fault_object};
 ghost use Rattle.pam_report.specs.ReplyViews.{side_files};
 ghost use Rattle.serde_json.specs.Written.{compact_text};
 
 use super::modules::{put_arguments, put_modules, put_steps};
+use crate::header::{name_in, number_in};
 use pam_changes::{AskedModule, StackPair};
 use pam_codes::{Device, Out};
 use pam_conf::{ConfError, Files, Stack};
@@ -15,28 +15,6 @@ use pam_json_lines::{Member, Written, put_object};
 use pam_parts::file_of;
 use pam_report::conf_name;
 use std::io::Write;
-
-/// Returns the number of a fault, as `E15`.
-#[tactic(auto, using(std::proofs::lemmas::Str::Pattern::split_once_first))]
-fn number_in(name: &str) -> &str
-    ensures { result.now ≡ before_first is_space name.now }
-{
-    match name.split_once(' ') {
-        Some((number, _)) => number,
-        None => name,
-    }
-}
-
-/// Returns the name of a fault, as `NoService`.
-#[tactic(auto, using(std::proofs::lemmas::Str::Pattern::split_once_first))]
-fn name_in(name: &str) -> &str
-    ensures { result.now ≡ after_first is_space name.now }
-{
-    match name.split_once(' ') {
-        Some((_, after)) => after,
-        None => "",
-    }
-}
 
 /// Returns a line, if there is a file.
 fn line_in(file: Option<&[u8]>, line: usize) -> Option<u64>

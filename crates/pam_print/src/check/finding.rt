@@ -4,9 +4,9 @@ ghost use Rattle.std.specs.Prelude.{◌≡◌, map};
 ghost use Rattle.std.specs.List.{flat_map};
 ghost use Rattle.pam_codes.specs.Out.{Writes};
 ghost use Rattle.pam_print.specs.Check.{answer_text, answers_text, finding_line, kind_of_service, line_text, next_answer};
-ghost use Rattle.pam_print.specs.Check.{met_unless, of_service, path_of, place_text, rest_text, sentence, subject_text, text_at};
+ghost use Rattle.pam_print.specs.Check.{met_unless, of_service, place_text, rest_text, sentence, subject_text};
 ghost use Rattle.pam_print.specs.Check.{way_in_at, way_text};
-ghost use Rattle.pam_print.specs.CheckNames.{names_view, word_of};
+ghost use Rattle.pam_parts.specs.CheckNames.{names_view, word_of};
 
 use super::met::put_met_if_any;
 use crate::decide::name_of;
@@ -15,43 +15,10 @@ use pam_conf::{Form, Kind, Stack};
 use pam_host::{Answered, Finding, Met, Place, Problem, WayIn};
 use pam_known::name_of_path;
 use pam_misspelled::Misspelled;
+use pam_parts::{Names, path_of, text_at};
 use pam_report::{kind_name, path_at, problem_name, stack_of};
 use pam_sentences::{level_name, put_name, put_said};
 use std::io::Write;
-
-/// The names that the lines of a check use.
-#[derive(Drop)]
-pub(super) struct Names<'a> {
-    pub form: Form,
-    /// The path of the configuration, and then that of each file by its position.
-    pub paths: Vec<&'a [u8]>,
-    pub services: Vec<&'a [u8]>,
-    /// The first way in of each service.
-    pub ways_in: &'a [Option<WayIn>],
-}
-
-/// Returns the text at a position, empty if there is none.
-pub(super) fn text_at<'a>(texts: &[&'a [u8]], position: usize) -> &'a [u8]
-    ensures { result.now ≡ text_at (map (λ t. t.now) texts.now) position }
-{
-    match texts.get(position) {
-        Some(text) => text,
-        None => b"",
-    }
-}
-
-/// Returns the path of a file, or of the configuration as a whole.
-fn path_of<'a>(names: &Names<'a>, file: Option<usize>) -> &'a [u8]
-    ensures { result.now ≡ path_of (names_view names.now).paths file }
-{
-    match file {
-        None => text_at(&names.paths, 0),
-        Some(file) => match names.paths.split_first() {
-            Some((_, files)) => text_at(files, file),
-            None => b"",
-        },
-    }
-}
 
 /// Writes `:LINE`, but nothing for a file as a whole.
 pub(super) fn put_line_number<W: Write>(line: usize, out: &mut Out<W>) -> Result<(), Device>

@@ -3,7 +3,6 @@
 ghost use Rattle.std.specs.Prelude.{◌≡◌, ◌≤◌, is_some, max};
 ghost use Rattle.jiff.specs.Types.{DateTime as CivilTime};
 ghost use Rattle.pam_conf.specs.Stack.{module_count};
-ghost use Rattle.pam_dispatch.specs.Flat.{modules_of};
 ghost use Rattle.pam_known.specs.Knowledge.{Agree};
 ghost use Rattle.pam_paths.specs.Known.{may_answer};
 ghost use Rattle.pam_paths.specs.Listing.{Allowance};
@@ -23,7 +22,7 @@ use super::replies::Reply;
 use crate::fault::Fault;
 use crate::inputs::Inputs;
 use jiff::civil::DateTime;
-use pam_conf::{Files, Kind};
+use pam_conf::{Files, Kind, Stack};
 use pam_dispatch::Program;
 use pam_graph::Goal;
 use pam_page::Listing;
@@ -74,11 +73,10 @@ impl<'a> PathsPage<'a> {
         self.kind
     }
 
-    /// Returns the number of modules of the stack.
-    pub fn modules(&self) -> usize
-        ensures { result ≡ modules_of (page_value self.now).program }
+    pub fn stack(&self) -> &Stack
+        ensures { result.now ≡ (page_value self.now).items }
     {
-        self.program.modules()
+        &self.found.stack
     }
 
     /// Returns the most paths that the page may have. It has room for at least one.

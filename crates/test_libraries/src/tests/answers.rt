@@ -65,6 +65,20 @@ end 1 paths
     status: 0,
 };
 
+static PATHS_AS_JSON: Command = Command {
+    words: &[
+        "pamcheck", "paths", "login", "auth", "--dir", "d", "--limit", "1", "--json",
+    ],
+    login: b"auth [success=ok default=5] a.so\n",
+    access: None,
+    time: None,
+    text: br#"{"kind":"stack","service":"login","type":"auth","modules":1}
+{"kind":"path","cursor":"0","decision":"success","steps":[{"number":1,"module":"a.so","codes":["success"]}]}
+{"kind":"page","paths":1,"next":"0","direction":"after"}
+"#,
+    status: 0,
+};
+
 static OUTCOMES: Command = Command {
     words: &["pamcheck", "outcomes", "login", "auth", "--dir", "d"],
     login: b"auth [success=ok default=5] a.so\nauth [default=ignore] b.so\n",
@@ -159,9 +173,18 @@ static TIME: Command = Command {
     status: 1,
 };
 
-fn commands() -> [&'static Command; 9] {
+fn commands() -> [&'static Command; 10] {
     [
-        &SHOW, &DECIDE, &PATHS, &OUTCOMES, &GRAPH, &DRAWN, &ACCESS, &TIME, &COMPARE,
+        &SHOW,
+        &DECIDE,
+        &PATHS,
+        &PATHS_AS_JSON,
+        &OUTCOMES,
+        &GRAPH,
+        &DRAWN,
+        &ACCESS,
+        &TIME,
+        &COMPARE,
     ]
 }
 

@@ -17,14 +17,15 @@ pub returns-in_default-clause-written : goal.returns-in_default-clause-written
 returns-in_default-clause-written g c =
     let l = c.loop-count in
     writes-is _ _ _ _ _ _ (writes-then _ _ _ (holds-written _ _ l.invariant.written c.in_ok-write_lines.ensures.written) c.put_end.ensures)
-    (page_none (side c.args.listing.now) _ (coming c.args.listing.now) l.count _ c.args.limit (omega (arith, c.loop-count-test.true)) l.invariant.within
-    (sym l.invariant.left ∙ c.in_default.ensures.path) (c.side.ensures ∙ c.in_default.ensures.side ∙ l.invariant.side) c.from.ensures)
+    (page_none path_line last_line (side c.args.listing.now) _ (coming c.args.listing.now) l.count _ c.args.limit
+    (omega (arith, c.loop-count-test.true)) l.invariant.within (sym l.invariant.left ∙ c.in_default.ensures.path)
+    (c.side.ensures ∙ c.in_default.ensures.side ∙ l.invariant.side) c.from.ensures)
 
 pub returns-in_err-add_line-clause-written : goal.returns-in_err-add_line-clause-written
 returns-in_err-add_line-clause-written g c =
     let l = c.loop-count in
-    let page = page_front (side c.args.listing.now) (coming c.args.listing.now) l.count c.args.limit (followed c.follow.new.self) (coming c.follow.new.self)
-    (omega (arith, c.loop-count-test.true)) (sym l.invariant.left ∙ c.in-Some.ensures.path) in
+    let page = page_front path_line last_line (side c.args.listing.now) (coming c.args.listing.now) l.count c.args.limit (followed c.follow.new.self)
+    (coming c.follow.new.self) (omega (arith, c.loop-count-test.true)) (sym l.invariant.left ∙ c.in-Some.ensures.path) in
     let line = ap path_line c.path-path.ensures in
     err-front _ c.from_residual-in_err-add_line.ensures.0
     (front-is (front-longer page.0 (front-is (holds-failed _ _ _ l.invariant.written c.in_err-add_line.ensures.added)
@@ -36,7 +37,7 @@ returns-in_err-write_lines-clause-written g c =
     let at = side c.args.listing.now in
     err-front _ c.from_residual.ensures.0
     (front-is (front-longer (last_line at l.count None) (holds-cut _ _ l.invariant.written c.in_err-write_lines.ensures.written))
-    (page_none at at (coming c.args.listing.now) l.count l.count c.args.limit (omega (arith, c.loop-count-test.true)) l.invariant.within
+    (page_none path_line last_line at at (coming c.args.listing.now) l.count l.count c.args.limit (omega (arith, c.loop-count-test.true)) l.invariant.within
     (sym l.invariant.left ∙ c.in_default.ensures.path) refl refl))
 
 pub returns-in_err-write_lines-2-clause-written : goal.returns-in_err-write_lines-2-clause-written
@@ -48,7 +49,7 @@ returns-in_err-write_lines-2-clause-written g c =
     err-front _ c.from_residual-in_err-write_lines-2.ensures.0
     (front-is
     (front-longer (text_after at (c.args.limit - 1) (first_page 1 left)) (holds-cut _ _ l.invariant.written c.in_err-write_lines-2.ensures.written))
-    (page_rest at at all left l.count (c.args.limit - 1) c.args.limit (omega (arith, c.requires.some))
+    (page_rest path_line last_line at at all left l.count (c.args.limit - 1) c.args.limit (omega (arith, c.requires.some))
     (omega (arith, c.loop-count-test.false, l.auto.count-end)) l.invariant.within refl refl))
 
 pub loop-count-preserved : goal.loop-count-preserved
@@ -75,8 +76,8 @@ pub returns-clause-written : goal.returns-clause-written
 returns-clause-written g c =
     let l = c.loop-count in
     writes-is _ _ _ _ _ _ (writes-then _ _ _ (holds-written _ _ l.invariant.written c.in_ok-write_lines-2.ensures.written) c.put_rest.ensures.written)
-    (page_rest (side c.args.listing.now) _ (coming c.args.listing.now) _ l.count (c.args.limit - 1) c.args.limit (omega (arith, c.requires.some))
-    (omega (arith, c.loop-count-test.false, l.auto.count-end)) l.invariant.within l.invariant.left l.invariant.side)
+    (page_rest path_line last_line (side c.args.listing.now) _ (coming c.args.listing.now) _ l.count (c.args.limit - 1) c.args.limit
+    (omega (arith, c.requires.some)) (omega (arith, c.loop-count-test.false, l.auto.count-end)) l.invariant.within l.invariant.left l.invariant.side)
 
 pub replace-requires : goal.replace-requires
 replace-requires g c =

@@ -5,7 +5,7 @@ use Rattle.pam_codes.proofs.Writing.{all-is, all-then, err-front, front-is, fron
 use Rattle.pam_drawing.proofs.Indices.{indexed-all, indexed-at, indexed-push}
 use Rattle.pam_misspelled.specs.MisspelledView.{misspelled_view}
 use Rattle.pam_print.specs.Check.{numbered_line}
-use Rattle.pam_print.specs.CheckNames.{names_view}
+use Rattle.pam_parts.specs.CheckNames.{names_view}
 use Rattle.pam_print.proofs.check.put_findings.Goals as goal
 
 pub returns-in_err-put_numbered : goal.returns-in_err-put_numbered

@@ -5,7 +5,7 @@ use Rattle.std.specs.Option.{option_map}
 use Rattle.pam_codes.specs.Out.{TookAll}
 use Rattle.pam_misspelled.specs.MisspelledView.{misspelled_view}
 use Rattle.pam_print.specs.Check.{numbered_line}
-use Rattle.pam_print.specs.CheckNames.{names_view}
+use Rattle.pam_parts.specs.CheckNames.{names_view}
 use Rattle.pam_print.proofs.check.put_findings.Given as goal
 
 abbrev pub invariant-loop-position : goal.invariant-loop-position

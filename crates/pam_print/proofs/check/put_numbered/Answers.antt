@@ -2,7 +2,7 @@ use Rattle.std.proofs.Common.{Option, ap}
 use Rattle.pam_codes.proofs.Writing.{writes-is}
 use Rattle.pam_misspelled.specs.Misspelled.{MisspelledText}
 use Rattle.pam_print.specs.Check.{finding_line}
-use Rattle.pam_print.specs.CheckNames.{names_view}
+use Rattle.pam_parts.specs.CheckNames.{names_view}
 use Rattle.pam_print.proofs.check.put_numbered.Goals as goal
 
 pub returns : goal.returns

@@ -1,8 +1,8 @@
 use Rattle.std.proofs.Common.{refl}
+use Rattle.pam_parts.proofs.Printed.{reply-is, text-printed}
 use Rattle.pam_report.specs.Reply as spec
 use Rattle.pam_report.specs.ReplyViews.{outcomes_view, run_view, stack_view}
 use Rattle.pam_report.specs.declared.report.replies.Reply.TheVariants as replies
-use Rattle.pam_print.proofs.Leaving.{reply-is, text-printed}
 use Rattle.pam_print.specs.Text.{IsText}
 use Rattle.pam_print.proofs.printing.print_text.Goals as goal
 

@@ -2,7 +2,7 @@ use Rattle.std.proofs.Common.{◌∙◌, codes, refl}
 use Rattle.pam_codes.proofs.Writing.{all-then, err-front, front-is, front-longer, front-then, writes-is, writes-then}
 use Rattle.pam_print.proofs.CheckFindings.{finding_line-is}
 use Rattle.pam_print.specs.Check.{sentence}
-use Rattle.pam_print.specs.CheckNames.{names_view, word_of}
+use Rattle.pam_parts.specs.CheckNames.{names_view, word_of}
 use Rattle.pam_print.proofs.check.finding.put_finding.Goals as goal
 
 pub returns-in_err-put_line : goal.returns-in_err-put_line

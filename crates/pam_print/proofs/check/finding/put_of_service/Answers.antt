@@ -2,9 +2,10 @@ use Rattle.std.proofs.Common.{◌≡◌, ℕ, List, ◌++◌, codes, refl}
 use Rattle.pam_codes.proofs.Writing.{err-front, front-is, front-longer, writes-is, writes-then}
 use Rattle.pam_conf.specs.declared.rule.Form.{Form}
 use Rattle.pam_conf.specs.declared.rule.Form.TheVariants.{Single}
-use Rattle.pam_print.specs.Check.{of_service, text_at}
+use Rattle.pam_print.specs.Check.{of_service}
+use Rattle.pam_parts.specs.Check.{text_at}
 use Rattle.pam_sentences.specs.Shown.{shown_name}
-use Rattle.pam_print.specs.CheckNames.{names_view}
+use Rattle.pam_parts.specs.CheckNames.{names_view}
 use Rattle.pam_print.proofs.check.finding.put_of_service.Goals as goal
 
 of_service-is : (form : Form) (services : List (List ℕ)) (service : ℕ) (name : List ℕ) → form ≡ Single → name ≡ text_at services service

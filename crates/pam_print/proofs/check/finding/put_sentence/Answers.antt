@@ -2,7 +2,7 @@ use Rattle.std.proofs.Common.{◌++◌, ℕ, Option, ap}
 use Rattle.pam_codes.proofs.Writing.{all-then, err-front, front-is, front-longer, front-then, writes-is, writes-then}
 use Rattle.pam_conf.specs.declared.rule.Kind.{Kind}
 use Rattle.pam_print.specs.Check.{rest_text, sentence, subject_text}
-use Rattle.pam_print.specs.CheckNames.{names_view, word_of}
+use Rattle.pam_parts.specs.CheckNames.{names_view, word_of}
 use Rattle.pam_sentences.specs.Sentences.{said}
 use Rattle.pam_print.proofs.check.finding.put_sentence.Goals as goal
 

@@ -1,6 +1,7 @@
 use Rattle.std.proofs.Common.{ℕ, List, Bor, codes, map, refl}
 use Rattle.pam_codes.proofs.Writing.{all-then, err-front, front-is, front-longer, front-then, writes-is, writes-then}
-use Rattle.pam_print.specs.Check.{kinds_text, others_if_any, text_at}
+use Rattle.pam_print.specs.Check.{kinds_text, others_if_any}
+use Rattle.pam_parts.specs.Check.{text_at}
 use Rattle.pam_sentences.specs.Shown.{shown_name}
 use Rattle.pam_print.proofs.CheckMet.{met-is}
 use Rattle.pam_print.proofs.check.met.put_met.Goals as goal

@@ -1,6 +1,6 @@
 use Rattle.std.proofs.Common.{ℕ, List, Bor, map, refl}
 use Rattle.pam_codes.proofs.Writing.{all-then, err-front, front-is, front-longer, front-then, writes-is, writes-then}
-use Rattle.pam_print.specs.Check.{text_at}
+use Rattle.pam_parts.specs.Check.{text_at}
 use Rattle.pam_sentences.specs.Shown.{shown_name}
 use Rattle.pam_print.proofs.CheckMet.{last_text, others-few, others-many}
 use Rattle.pam_print.proofs.check.met.put_others.Goals as goal

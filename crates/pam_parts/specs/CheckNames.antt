@@ -1,12 +1,12 @@
--- For private contracts and proofs alone: the names and the words of a check, as lists.
+-- The names and the words of a check, as lists.
 use Rattle.std.specs.Borrow.{Bor}
 use Rattle.std.specs.Prelude.{Option, map}
 use Rattle.std.specs.Option.{option_map}
 use Rattle.pam_misspelled.specs.Misspelled.{MisspelledText}
 use Rattle.pam_misspelled.specs.MisspelledView.{misspelled_view}
 use Rattle.pam_misspelled.specs.declared.word.Misspelled.{Misspelled}
-use Rattle.pam_print.specs.Check as spec
-use Rattle.pam_print.specs.declared.check.finding.Names.{Names}
+use Rattle.pam_parts.specs.Check as spec
+use Rattle.pam_parts.specs.declared.check.Names.{Names}
 
 abbrev pub names_view : Names → spec.Names
 names_view names = record {

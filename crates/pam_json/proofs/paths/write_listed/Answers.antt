@@ -1,0 +1,12 @@
+use Rattle.pam_parts.proofs.Printed.{listed, text-printed}
+use Rattle.pam_report.specs.PageView.{page_value}
+use Rattle.pam_report.specs.Reply.{Page}
+use Rattle.pam_json.specs.Paths.{page_json}
+use Rattle.pam_json.specs.Text.{IsJson}
+use Rattle.pam_json.proofs.paths.write_listed.Goals as goal
+
+pub returns : goal.returns
+returns g c =
+    let page = page_value c.args.page.now in
+    λ found. text-printed g.W.Write.contents IsJson _ _ (Page page) _ _ _ (listed page_json page c.args.listing.now found) c.told.ensures
+        c.write_listing.ensures

@@ -1,0 +1,62 @@
+-- What `check` says of each problem: the texts of which its sentence consists, with names and words whole.
+use Rattle.std.specs.Prelude.{ℕ, List, [], ◌∷◌, codes, Option, None, Some}
+use Rattle.std.specs.Option.{option_map_or}
+use Rattle.pam_conf.specs.declared.error.FaultKind.{FaultKind}
+use Rattle.pam_conf.specs.declared.rule.Kind.{Kind}
+use Rattle.pam_host.specs.declared.problem.Problem.{Problem}
+use Rattle.pam_host.specs.declared.problem.Problem.TheVariants as problems
+use Rattle.pam_misspelled.specs.Misspelled.{MisspelledText}
+use Rattle.pam_old_tables.specs.Meanings as tables
+use Rattle.pam_old_tables.specs.declared.difference.TableDifference.{TableDifference}
+use Rattle.pam_old_tables.specs.declared.difference.TableDifference.TheVariants.{EmptySeparator}
+use Rattle.pam_released.specs.Meanings.{meaning_of, mending_of}
+use Rattle.pam_released.specs.declared.difference.Difference.{Difference}
+use Rattle.pam_report.specs.Names.{kind_name, stack_of}
+use Rattle.pam_sentences.specs.Faults.{Naming, naming_of, plain_sentence}
+use Rattle.pam_sentences.specs.Sentences.{problem_sentence}
+use Rattle.pam_sentences.specs.Tables.{table_fault_sentence, time_fault_sentence}
+use Rattle.pam_table_check.specs.declared.problem.TableProblem.{TableProblem}
+use Rattle.pam_table_check.specs.declared.problem.TableProblem.TheVariants as wrong
+
+-- the nearest right word, or else how to mend the word
+abbrev pub mending_parts : Option (List ℕ) → List ℕ → List (List ℕ)
+mending_parts None mending = codes "; " ∷ mending ∷ []
+mending_parts (Some right) mending = codes "; did you mean \"" ∷ right ∷ codes "\"?" ∷ []
+
+abbrev pub naming_parts : MisspelledText → Naming → List (List ℕ)
+naming_parts misspelled naming =
+    naming.before ∷ codes "\"" ∷ misspelled.word ∷ codes "\"" ∷ naming.after ∷ mending_parts misspelled.nearest naming.mending
+
+-- of a fault at a line, with the word that is wrong if it is known
+abbrev pub fault_parts : ℕ → FaultKind → Option MisspelledText → List (List ℕ)
+fault_parts line fault None = plain_sentence line fault ∷ []
+fault_parts line fault (Some misspelled) = option_map_or (naming_parts misspelled) (naming_of fault) (plain_sentence line fault ∷ [])
+
+abbrev pub released_parts : Difference → List (List ℕ)
+released_parts difference = meaning_of difference ∷ codes "; " ∷ mending_of difference ∷ []
+
+abbrev pub table_difference_parts : TableDifference → List (List ℕ)
+table_difference_parts difference = tables.meaning_of difference ∷ codes "; " ∷ tables.mending_of difference ∷ []
+
+-- a problem of a whole stack begins with its kind
+abbrev pub subject_name : Option (ℕ × Kind) → List ℕ
+subject_name None = []
+subject_name (Some stack) = kind_name stack.1
+
+-- of a problem that is neither a fault nor a difference
+abbrev pub problem_parts : Problem → List (List ℕ)
+problem_parts problem = subject_name (stack_of problem) ∷ problem_sentence problem ∷ []
+
+-- WHAT IS SAID of a problem at a line, with the word that is wrong if it is known
+abbrev pub said_parts : ℕ → Problem → Option MisspelledText → List (List ℕ)
+said_parts line (problems.Fault fault) misspelled = fault_parts line fault misspelled
+said_parts line (problems.Walk fault) misspelled = fault_parts line fault misspelled
+said_parts line (problems.Released difference) misspelled = released_parts difference
+said_parts line problems.EmptySeparator misspelled = table_difference_parts EmptySeparator
+said_parts line problem misspelled = problem_parts problem
+
+-- of a problem of a table
+abbrev pub table_parts : TableProblem → List (List ℕ)
+table_parts (wrong.Fault fault) = table_fault_sentence fault ∷ []
+table_parts (wrong.TimeFault fault) = time_fault_sentence fault ∷ []
+table_parts (wrong.Released difference) = table_difference_parts difference
