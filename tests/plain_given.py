@@ -95,20 +95,20 @@ def tables(options, tree, of_root=("group", "access", "time")):
 # Modules
 
 def there(root, folders, files, found):
-    """The paths at which a module is there, or `None` if there is no folder of modules. `found` is what is at a path, or `None`."""
-    known = [found(folder) for folder in folders]
+    """The paths at which a module is there, in order, or `None` if there is no folder of modules. `found` is what is at a path, or `None`."""
+    known = []
     if root is not None:
         for library in LIBRARIES:
             path = joined(root, library)
             names = found(path) if isinstance(found(path), dict) else {}
-            inner = [path] + [joined(path, name.encode()) for name in names if "-linux-gnu" in name]
+            inner = [path] + [joined(path, name.encode()) for name in sorted(names) if "-linux-gnu" in name]
             known += [found(joined(folder, b"security")) for folder in inner]
-    known = [folder for folder in known if isinstance(folder, dict)]
+    known = [folder for folder in known + [found(folder) for folder in folders] if isinstance(folder, dict)]
     if not known:
         return None
-    paths = {name.encode() for folder in known for name in folder}
-    words = {word for data in files for word in re.split(rb"[ \t\r\n]", data) if word.startswith(b"/")}
-    return paths | {word for word in words if is_at(root, word, found)}
+    paths = [name for folder in known for name in sorted(name.encode() for name in folder)]
+    words = dict.fromkeys(word for data in files for word in re.split(rb"[ \t\r\n]", data) if word.startswith(b"/"))
+    return dict.fromkeys(paths + [word for word in words if is_at(root, word, found)])
 
 
 def is_at(root, path, found):

@@ -13,7 +13,7 @@ use Rattle.pam_released.specs.Meanings.{meaning_of, mending_of}
 use Rattle.pam_released.specs.declared.difference.Difference.{Difference}
 use Rattle.pam_report.specs.Names.{kind_name, stack_of}
 use Rattle.pam_sentences.specs.Faults.{Naming, naming_of, plain_sentence}
-use Rattle.pam_sentences.specs.Sentences.{problem_sentence}
+use Rattle.pam_sentences.specs.Sentences.{module_naming, problem_sentence}
 use Rattle.pam_sentences.specs.Tables.{table_fault_sentence, time_fault_sentence}
 use Rattle.pam_table_check.specs.declared.problem.TableProblem.{TableProblem}
 use Rattle.pam_table_check.specs.declared.problem.TableProblem.TheVariants as wrong
@@ -47,12 +47,18 @@ subject_name (Some stack) = kind_name stack.1
 abbrev pub problem_parts : Problem → List (List ℕ)
 problem_parts problem = subject_name (stack_of problem) ∷ problem_sentence problem ∷ []
 
+-- of a module that is not there, with its path if it is known
+abbrev pub module_parts : Problem → Option MisspelledText → List (List ℕ)
+module_parts problem None = problem_parts problem
+module_parts problem (Some misspelled) = naming_parts misspelled module_naming
+
 -- WHAT IS SAID of a problem at a line, with the word that is wrong if it is known
 abbrev pub said_parts : ℕ → Problem → Option MisspelledText → List (List ℕ)
 said_parts line (problems.Fault fault) misspelled = fault_parts line fault misspelled
 said_parts line (problems.Walk fault) misspelled = fault_parts line fault misspelled
 said_parts line (problems.Released difference) misspelled = released_parts difference
 said_parts line problems.EmptySeparator misspelled = table_difference_parts EmptySeparator
+said_parts line (problems.NoModule is_dashed) misspelled = module_parts (problems.NoModule is_dashed) misspelled
 said_parts line problem misspelled = problem_parts problem
 
 -- of a problem of a table

@@ -1,3 +1,4 @@
 pub mod NearestNames
 pub mod ReadLines
 pub mod Readers
+pub mod Thirds

@@ -1,14 +1,16 @@
 -- The right words.
-use Rattle.std.proofs.Common.{◌≡◌, ◌∙◌, ◌+◌, ◌<◌, ◌++◌, ℕ, Bool, true, false, List, [], ◌∷◌, Option, Some, None, Result, Bor, IfOk, arith, ap, codes, eqb, length}
+use Rattle.std.proofs.Common.{◌≡◌, ◌∙◌, ◌+◌, ◌<◌, ◌≤◌, ◌++◌, ℕ, Bool, true, false, List, [], ◌∷◌, Option, Some, None, Result, Bor, IfOk, append-nil, arith, ap, codes, eqb, length}
 use Rattle.std.proofs.Common.{map, min, refl, slice_get, subst, sym, take}
 use Rattle.std.proofs.lemmas.Bool.{eqb-false, eqb-true}
-use Rattle.std.proofs.lemmas.List.{length-map, take_all, take_more}
+use Rattle.std.proofs.lemmas.List.{length-map, take-append-le, take_all, take_more}
 use Rattle.std.proofs.lemmas.Option.{get_or_from_slice_get, slice_get-map, slice_get-get_or, slice_get_within}
 use Rattle.std.specs.Option.{option_map}
 use Rattle.std.specs.declared.alloc.AllocError.{AllocError}
+use Rattle.pam_codes.specs.Code.{code_names}
 use Rattle.pam_conf.specs.Files.{Named}
 use Rattle.pam_spelling.specs.Nearest.{nearest}
-use Rattle.pam_misspelled.specs.RightWords.{controls, kinds}
+use Rattle.pam_misspelled.specs.Pairs.{actions}
+use Rattle.pam_misspelled.specs.RightWords.{controls, kinds, values}
 
 -- KINDS AND CONTROLS
 
@@ -25,6 +27,33 @@ pub controls-are : (a b c d e f : List ℕ) → a ≡ codes "required" → b ≡
     → e ≡ codes "include" → f ≡ codes "substack" → a ∷ b ∷ c ∷ d ∷ e ∷ f ∷ [] ≡ controls
 controls-are a b c d e f p q r s t u = rw (p, q, r, s, t, u) refl
 
+pub actions-are : (a b c d e f : List ℕ) → a ≡ codes "ignore" → b ≡ codes "bad" → c ≡ codes "die" → d ≡ codes "ok" → e ≡ codes "done"
+    → f ≡ codes "reset" → a ∷ b ∷ c ∷ d ∷ e ∷ f ∷ [] ≡ actions
+actions-are a b c d e f p q r s t u = rw (p, q, r, s, t, u) refl
+
+pub values-are : (words : List (List ℕ)) (n : ℕ) (one other : List ℕ) → words ≡ take n code_names → n ≡ 31 → one ≡ codes "incomplete"
+    → other ≡ codes "default" → (words ++ one ∷ []) ++ other ∷ [] ≡ values
+unfolding code_names
+values-are words n one other e many f g = rw (e, many, f, g) refl
+
+-- LISTS OF WORDS
+
+-- one more word
+pub one_word : (words : List (List ℕ)) (position : ℕ) (before : List (List ℕ)) (word : List ℕ) → before ≡ take position words
+    → slice_get words position ≡ Some word → before ++ word ∷ [] ≡ take (position + 1) words
+one_word words position before word e got =
+    ap (λ (l : List (List ℕ)). l ++ word ∷ []) e
+    ∙ ap (λ (w : List ℕ). take position words ++ w ∷ []) (sym (get_or_from_slice_get words position word word got))
+    ∙ sym (take_more words position word (slice_get_within words position word got))
+
+-- the first words, where others follow or none
+pub first_words : (words others all : List (List ℕ)) (n : ℕ) → words ++ others ≡ all → length words ≡ n → words ≡ take n all
+first_words words others all n e long =
+    sym (take_all n words (omega (arith, long))) ∙ sym (take-append-le n words others (omega (arith, long))) ∙ ap (take n) e
+
+pub few_words : (words all : List (List ℕ)) (n : ℕ) → words ++ [] ≡ all → length words ≤ n → words ≡ take n all
+few_words words all n e few = sym (take_all n words few) ∙ ap (take n) (sym (append-nil words) ∙ e)
+
 -- NAMES
 
 module _ (entries : List Named) where
@@ -36,9 +65,7 @@ module _ (entries : List Named) where
       → Some name ≡ option_map (λ f. f.0) (slice_get entries position) → before ++ name ∷ [] ≡ take (position + 1) names_of
   one_name position before name e s =
       let got : slice_get names_of position ≡ Some name = slice_get-map (λ f. f.0) entries position ∙ sym s in
-      ap (λ (l : List (List ℕ)). l ++ name ∷ []) e
-      ∙ ap (λ (n : List ℕ). take position names_of ++ n ∷ []) (sym (get_or_from_slice_get names_of position name name got))
-      ∙ sym (take_more names_of position name (slice_get_within names_of position name got))
+      one_word names_of position before name e got
 
   -- each position has a name
   pub some_name : (position : ℕ) → position < length entries → None ≡ option_map (λ f. f.0) (slice_get entries position) → ⊥

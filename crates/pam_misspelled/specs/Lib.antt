@@ -2,5 +2,7 @@ pub mod Findings
 pub mod Lines
 pub mod Misspelled
 pub mod MisspelledView
+pub mod Pairs
+pub mod Paths
 pub mod Reading
 pub mod RightWords

@@ -2,6 +2,8 @@
 #![tactic(auto)]
 
 mod findings;
+mod pairs;
+mod path;
 mod reader;
 mod right_words;
 mod word;

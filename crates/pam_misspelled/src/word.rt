@@ -2,12 +2,31 @@
 
 ghost use Rattle.std.specs.Prelude.{◌≡◌, IfOk, map};
 ghost use Rattle.std.specs.Option.{option_map};
-ghost use Rattle.pam_misspelled.specs.Misspelled.{misspelled_in, with_nearest};
-ghost use Rattle.pam_misspelled.specs.MisspelledView.{misspelled_view};
+ghost use Rattle.pam_misspelled.specs.Misspelled.{fault_word, misspelled_in, nearest_to, with_nearest, wrong_word};
+ghost use Rattle.pam_misspelled.specs.MisspelledView.{misspelled_view, right_view};
 
-use crate::right_words::nearest_right;
+use crate::pairs::wrong_in;
+use crate::path::path_in;
+use crate::right_words::{nearest_module, nearest_right};
+use pam_codes::ControlError;
 use pam_conf::{FaultKind, Form, word_at_fault};
 use std::alloc::{AllocError, Global};
+
+/// Why a word is wrong.
+#[derive(Clone, Copy)]
+pub(crate) enum Wrong {
+    /// The line has this fault.
+    Fault(FaultKind),
+    /// The module that the line names is not there.
+    NoModule,
+}
+
+/// The names of files, and the modules that are there.
+#[derive(Drop)]
+pub(crate) struct RightNames<'a> {
+    pub files: Vec<&'a [u8]>,
+    pub modules: Vec<&'a [u8]>,
+}
 
 /// A word that is wrong in a line.
 #[derive(Drop)]
@@ -27,36 +46,83 @@ fn owned_if_any(alloc: Global, word: Option<&[u8]>) -> Result<Option<Vec<u8>>, A
     }
 }
 
-/// A word that is wrong by this fault, with the nearest right word, where these are the names of files.
+fn nearest_to<'a>(
+    alloc: Global,
+    right: &RightNames<'a>,
+    wrong: Wrong,
+    word: &[u8],
+) -> Result<Option<&'a [u8]>, AllocError>
+    ensures { IfOk result (λ found. option_map (λ w. w.now) found ≡ nearest_to (right_view right.now) wrong word.now) }
+{
+    match wrong {
+        Wrong::Fault(fault) => nearest_right(alloc, &right.files, fault, word),
+        Wrong::NoModule => Ok(nearest_module(&right.modules, word)),
+    }
+}
+
+/// A word that is wrong, with the nearest right word.
 fn with_nearest(
     alloc: Global,
-    names: &[&[u8]],
-    fault: FaultKind,
+    right: &RightNames<'_>,
+    wrong: Wrong,
     word: &[u8],
 ) -> Result<Misspelled, AllocError>
-    ensures { IfOk result (λ m. misspelled_view m ≡ with_nearest (map (λ name. name.now) names.now) fault word.now) }
+    ensures { IfOk result (λ m. misspelled_view m ≡ with_nearest (right_view right.now) wrong word.now) }
 {
-    let nearest = owned_if_any(alloc, nearest_right(alloc, names, fault, word)?)?;
+    let nearest = owned_if_any(alloc, nearest_to(alloc, right, wrong, word)?)?;
     Ok(Misspelled {
         word: Vec::from_slice(alloc, word)?,
         nearest,
     })
 }
 
-/// The word that is wrong in a line with this fault, where these are the names of files.
+/// The word of a fault, of one in brackets a word of the control. Its text may replace the contents of `inside`.
+fn fault_word<'a>(
+    form: Form,
+    line: &'a [u8],
+    fault: FaultKind,
+    inside: &'a mut Vec<u8>,
+) -> Result<Option<&'a [u8]>, AllocError>
+    ensures { IfOk result (λ w. option_map (λ t. t.now) w ≡ fault_word form fault line.now) }
+{
+    let FaultKind::Control(error) = fault else {
+        return word_at_fault(form, line, fault, inside);
+    };
+    // A control that is none at all is the whole word, as it is written.
+    let whole = FaultKind::Control(ControlError::BadControl);
+    match word_at_fault(form, line, whole, inside)? {
+        Some(control) => Ok(wrong_in(error, control)),
+        None => Ok(None),
+    }
+}
+
+fn wrong_word<'a>(
+    form: Form,
+    line: &'a [u8],
+    wrong: Wrong,
+    inside: &'a mut Vec<u8>,
+) -> Result<Option<&'a [u8]>, AllocError>
+    ensures { IfOk result (λ w. option_map (λ t. t.now) w ≡ wrong_word form wrong line.now) }
+{
+    match wrong {
+        Wrong::Fault(fault) => fault_word(form, line, fault, inside),
+        Wrong::NoModule => path_in(form, line, inside),
+    }
+}
+
+/// The word that is wrong in a line.
 pub(crate) fn misspelled_in(
     alloc: Global,
-    names: &[&[u8]],
+    right: &RightNames<'_>,
     form: Form,
     line: &[u8],
-    fault: FaultKind,
+    wrong: Wrong,
 ) -> Result<Option<Misspelled>, AllocError>
-    ensures { IfOk result (λ m. option_map misspelled_view m ≡
-        misspelled_in (map (λ name. name.now) names.now) form fault line.now) }
+    ensures { IfOk result (λ m. option_map misspelled_view m ≡ misspelled_in (right_view right.now) form wrong line.now) }
 {
     let mut inside = Vec::new(alloc);
-    match word_at_fault(form, line, fault, &mut inside)? {
-        Some(word) => Ok(Some(with_nearest(alloc, names, fault, word)?)),
+    match wrong_word(form, line, wrong, &mut inside)? {
+        Some(word) => Ok(Some(with_nearest(alloc, right, wrong, word)?)),
         None => Ok(None),
     }
 }

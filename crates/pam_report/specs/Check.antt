@@ -48,7 +48,7 @@ module _ (services : List (List ℕ)) (fail_on : LevelName) (named : CheckFiles)
     pub all_tables : BTreeMap TablePlace TableFinding
     pub table_report : IsTableReport files value.services (host_tables_given inputs) all_tables
     pub not_accepted : value.found ≡ not_accepted lines files value.services all.entries
-    pub misspelled : value.misspelled ≡ map (misspelled_at files) value.found
+    pub misspelled : value.misspelled ≡ map (misspelled_at files (there_given inputs)) value.found
     pub tables_not_accepted : value.tables ≡ tables_not_accepted lines value.table_paths (table_findings all_tables)
     pub unused : value.unused ≡ lines_without (all_keys files value.services all.entries value.table_paths (table_findings all_tables)) lines
     -- where no line accepts a finding, and all that are listed are notes, each stack that is checked is sound

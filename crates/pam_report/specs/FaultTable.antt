@@ -48,6 +48,7 @@ usage_row usage.BothFilters = row (codes "U11 BothFilters") 2
 usage_row usage.FormatName = row (codes "U12 FormatName") 2
 usage_row usage.LevelName = row (codes "U13 LevelName") 2
 usage_row usage.ReleaseForm = row (codes "U16 ReleaseForm") 2
+usage_row usage.SettingForm = row (codes "U17 SettingForm") 2
 usage_row usage.CandidateForm = row (codes "U15 CandidateForm") 2
 
 -- ---- the configuration

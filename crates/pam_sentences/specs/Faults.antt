@@ -57,6 +57,12 @@ naming_of_control BadControl = Some record {
   after = codes " is no control";
   mending = codes "write required, requisite, sufficient, optional, include, substack or pairs CODE=ACTION in one pair of brackets";
 }
+naming_of_control BadValue = Some record { before = []; after = codes " is no return code"; mending = codes "write one as success, or default" }
+naming_of_control BadAction = Some record {
+  before = [];
+  after = codes " is no action";
+  mending = codes "write ignore, bad, die, ok, done, reset or a number of at most 9 digits";
+}
 naming_of_control error = None
 
 -- the faults whose sentences name a word

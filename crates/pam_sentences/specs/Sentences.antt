@@ -1,5 +1,5 @@
 -- What `check` says of each problem: what is wrong, and how to mend it.
-use Rattle.std.specs.Prelude.{ℕ, List, [], ◌++◌, codes, Option}
+use Rattle.std.specs.Prelude.{ℕ, List, [], ◌++◌, codes, Option, None, Some}
 use Rattle.pam_host.specs.declared.level.Level.{Level}
 use Rattle.pam_host.specs.declared.level.Level.TheVariants.{Error, Note, Warning}
 use Rattle.pam_host.specs.declared.problem.Problem.{Problem}
@@ -8,7 +8,7 @@ use Rattle.pam_misspelled.specs.Misspelled.{MisspelledText}
 use Rattle.pam_old_tables.specs.declared.difference.TableDifference.TheVariants.{EmptySeparator}
 use Rattle.pam_released.specs.Meanings.{meaning_of, mending_of}
 use Rattle.pam_released.specs.declared.difference.Difference.{Difference}
-use Rattle.pam_sentences.specs.Faults.{fault_text}
+use Rattle.pam_sentences.specs.Faults.{Naming, fault_text, naming_text}
 use Rattle.pam_sentences.specs.Tables.{table_difference_sentence}
 
 abbrev pub level_name : Level → List ℕ
@@ -39,6 +39,19 @@ jump_sentence = codes "a jump past the end of the list, which fails the stack; j
 abbrev pub no_module_sentence : List ℕ
 no_module_sentence =
     codes "no folder of modules has this module, so it always answers module_unknown; install it, or remove the rule"
+
+-- the text before and after the path of the module, and what to do if no module that is there has a near name
+unfoldable pub module_naming : Naming
+module_naming = record {
+  before = codes "no folder of modules has ";
+  after = codes ", so it always answers module_unknown";
+  mending = codes "install it, or remove the rule";
+}
+
+-- with the path if it is known
+abbrev pub module_text : Option MisspelledText → List ℕ
+module_text None = no_module_sentence
+module_text (Some misspelled) = naming_text misspelled module_naming
 
 abbrev pub no_other_sentence : List ℕ
 no_other_sentence = codes "there is no file other, which decides for each service without a file; make one that denies"
@@ -95,4 +108,5 @@ said line (problems.Fault fault) misspelled = fault_text line fault misspelled
 said line (problems.Walk fault) misspelled = fault_text line fault misspelled
 said line (problems.Released difference) misspelled = released_sentence difference
 said line problems.EmptySeparator misspelled = separator_sentence
+said line (problems.NoModule is_dashed) misspelled = module_text misspelled
 said line problem misspelled = problem_sentence problem

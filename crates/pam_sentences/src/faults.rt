@@ -108,10 +108,17 @@ fn naming_of_control(error: ControlError) -> Option<Naming>
             after: " is no control",
             mending: "write required, requisite, sufficient, optional, include, substack or pairs CODE=ACTION in one pair of brackets",
         }),
-        ControlError::BadValue
-        | ControlError::BadAction
-        | ControlError::ZeroJump
-        | ControlError::OpenBracket => None,
+        ControlError::BadValue => Some(Naming {
+            before: "",
+            after: " is no return code",
+            mending: "write one as success, or default",
+        }),
+        ControlError::BadAction => Some(Naming {
+            before: "",
+            after: " is no action",
+            mending: "write ignore, bad, die, ok, done, reset or a number of at most 9 digits",
+        }),
+        ControlError::ZeroJump | ControlError::OpenBracket => None,
     }
 }
 
@@ -172,7 +179,7 @@ fn nearest_of(misspelled: &Misspelled) -> Option<&[u8]>
 }
 
 /// Writes what is wrong with a word.
-fn put_naming<W: Write>(
+pub(crate) fn put_naming<W: Write>(
     naming: Naming,
     misspelled: &Misspelled,
     out: &mut Out<W>,

@@ -1,5 +1,6 @@
 pub mod Named
 pub mod Numbers
 pub mod Refusals
+pub mod SettingSteps
 pub mod Subcommand
 pub mod Subcommands

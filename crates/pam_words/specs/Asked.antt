@@ -2,6 +2,7 @@
 use Rattle.std.specs.Prelude.{ℕ, ℤ, List, Option}
 use Rattle.pam_conf.specs.declared.Kind.{Kind}
 use Rattle.clap.specs.Words.{Text}
+use Rattle.pam_settings.specs.Settings.{SettingText}
 use Rattle.pam_words.specs.declared.wanted.GraphFormat.{GraphFormat}
 use Rattle.pam_words.specs.declared.wanted.LevelName.{LevelName}
 use Rattle.pam_words.specs.declared.wanted.OutputForm.{OutputForm}
@@ -48,6 +49,7 @@ pub record KnowledgeText : Type 0 where
   pub time : Option Text
   pub groups : Option Text
   pub returns : Option Text
+  pub settings : List SettingText
   pub moment : Option MomentText
 
 pub record PathsTask : Type 0 where
@@ -81,7 +83,8 @@ pub record CheckTask : Type 0 where
   pub facts : Option Text
   pub accept : Option Text
 
--- the service and the kind are all if none is named. The folders of modules, a facts file and a returns file may be named
+-- the service and the kind are all if none is named. The folders of modules, a facts file and a returns file may be named, and the codes
+-- of modules
 pub record CompareTask : Type 0 where
   pub old : SourceText
   pub new : SourceText
@@ -90,6 +93,7 @@ pub record CompareTask : Type 0 where
   pub modules : List Text
   pub facts : Option Text
   pub returns : Option Text
+  pub settings : List SettingText
 
 -- a release whose reading is shown may be named
 pub record ShowTask : Type 0 where
@@ -119,7 +123,7 @@ pub record RequestText : Type 0 where
   pub candidates : List (Text × Text)
   pub output : OutputForm
 
--- U2 to U6, U8, U11 to U13, U15, U16
+-- U2 to U6, U8, U11 to U13, U15 to U17
 pub data Refusal : Type 0 where
   source : Refusal
   kind_name : Refusal
@@ -131,4 +135,5 @@ pub data Refusal : Type 0 where
   both_ends : Refusal
   both_filters : Refusal
   release_form : Refusal
+  setting_form : Refusal
   candidate_form : Refusal

@@ -3,6 +3,7 @@ pub mod Building
 pub mod Candidates
 pub mod Decisions
 pub mod Request
+pub mod Settings
 pub mod Values
 pub mod Wanted
 pub mod Words

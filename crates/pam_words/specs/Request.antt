@@ -2,12 +2,13 @@
 use Rattle.std.specs.Prelude.{List, [], codes, Option, Some, None, Result, Ok, Err, if◌then◌else◌}
 use Rattle.std.specs.Str.{bytes_eq}
 use Rattle.pam_conf.specs.declared.Kind.{Kind}
-use Rattle.clap.specs.Words.{Row, Text, all_of, first_of}
+use Rattle.clap.specs.Words.{Row, Text, first_of}
 use Rattle.pam_words.specs.Asked.{KnowledgeText, MomentText, Refusal, RequestText, SourceText, TaskText}
 use Rattle.pam_words.specs.Asked.{access, check, compare, decide, explain, facts, graph, outcomes, paths, show, time, version}
 use Rattle.pam_words.specs.Asked.{both_ends, both_filters, candidate_form, code_name, format_name, kind_name, level_name}
 use Rattle.pam_words.specs.Asked.{login, moment, release_form, source}
 use Rattle.pam_words.specs.Decisions.{decisions_of}
+use Rattle.pam_words.specs.Settings.{settings_of}
 use Rattle.pam_words.specs.Values.{asks_of, candidates_of, codes_of_rows, format_of, kind_if_named, kind_of_rows, lacks_user, level_of, limit_of, login_of}
 use Rattle.pam_words.specs.Values.{moment_of, needs_moment, one_filter, output_of, part_of, release_of, side_in, source_of, source_or_root, text_of, texts_of}
 
@@ -51,6 +52,7 @@ compare_task rows =
     or_refuse (side_in (codes "old") rows) source (λ old.
     or_refuse (side_in (codes "new") rows) source (λ new.
     or_refuse (kind_if_named rows) kind_name (λ kind.
+    settings_of rows >>= λ settings.
     Ok (compare (record {
       old = old;
       new = new;
@@ -59,6 +61,7 @@ compare_task rows =
       modules = texts_of (codes "modules") rows;
       facts = first_of (codes "facts") rows;
       returns = first_of (codes "returns") rows;
+      settings = settings;
     })))))
 
 -- `show SERVICE KIND`
@@ -80,9 +83,10 @@ abbrev pub moment_if_needed : List Row → Result (Option MomentText) Refusal
 moment_if_needed rows =
     if needs_moment rows then or_refuse (moment_of rows) moment (λ at. Ok (Some at)) else Ok None
 
--- folders of modules, a login and a moment, tables and a returns file
+-- folders of modules, a login and a moment, tables, a returns file and the codes of modules
 abbrev pub knowledge_of : List Row → Result KnowledgeText Refusal
 knowledge_of rows =
+    settings_of rows >>= λ settings.
     if lacks_user rows then Err login else
     moment_if_needed rows >>= λ at.
     Ok (record {
@@ -92,6 +96,7 @@ knowledge_of rows =
       time = first_of (codes "time") rows;
       groups = first_of (codes "group") rows;
       returns = first_of (codes "returns") rows;
+      settings = settings;
       moment = at;
     })
 

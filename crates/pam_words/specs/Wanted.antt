@@ -5,6 +5,7 @@ use Rattle.clap.specs.Words.{IsAmong, Kinds, Row, Text, first_of, kind_of}
 use Rattle.clap.specs.declared.Error.{Error}
 use Rattle.clap.specs.declared.error.ErrorKind.TheVariants.{DisplayHelp, DisplayVersion, OutOfMemory}
 use Rattle.clap.specs.declared.error.ErrorKind.{ErrorKind}
+use Rattle.pam_settings.specs.Settings.{setting_view}
 use Rattle.pam_words.specs.Asked.{KnowledgeText, LoginText, MomentText, PartText, Refusal, RequestText, SourceText, TaskText}
 use Rattle.pam_words.specs.Asked as spec
 use Rattle.pam_words.specs.Values.{texts_of}
@@ -53,6 +54,7 @@ knowledge_view k = record {
   time = option_copied k.tables.time;
   groups = option_copied k.tables.groups;
   returns = option_copied k.returns;
+  settings = map setting_view k.settings.items;
   moment = option_map moment_view k.moment;
 }
 
@@ -76,6 +78,7 @@ task_view (Compare old new service kind given) = spec.compare (record {
   modules = map (λ s. s.now) given.modules.items;
   facts = option_copied given.facts;
   returns = option_copied given.returns;
+  settings = map setting_view given.settings.items;
 })
 task_view (Show source kind release) = spec.show (record { source = source_view source; kind = kind; release = release })
 task_view (Decide source kind codes) = spec.decide (source_view source) kind codes.items
@@ -140,6 +143,7 @@ Gives view value (Err usage.BothEnds) = value ≡ Err spec.both_ends
 Gives view value (Err usage.BothFilters) = value ≡ Err spec.both_filters
 Gives view value (Err usage.ReleaseForm) = value ≡ Err spec.release_form
 Gives view value (Err usage.CandidateForm) = value ≡ Err spec.candidate_form
+Gives view value (Err usage.SettingForm) = value ≡ Err spec.setting_form
 Gives view value (Err usage.Memory) = ⊤
 Gives view value (Err (usage.Help error)) = ⊥
 Gives view value (Err (usage.Words error)) = ⊥

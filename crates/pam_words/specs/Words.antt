@@ -56,6 +56,10 @@ with_options app (id ∷ ids) = with_options (with_rule app (option_rule id)) id
 abbrev pub with_json : App → App
 with_json app = with_rule app (flag_rule (codes "json"))
 
+-- the option that says which codes a module may return
+abbrev pub with_settings : App → App
+with_settings app = with_rule app (repeated_option_rule (codes "set"))
+
 -- `NAME SERVICE`
 abbrev pub service_app : Text → App
 service_app name = with_rule (new_app name) (required_rule (codes "service"))
@@ -81,11 +85,11 @@ sides_app =
     with_rule (with_rule (with_rule (with_rule (new_app (codes "compare"))
     (required_rule (codes "old"))) (required_rule (codes "new"))) (optional_rule (codes "service"))) (optional_rule (codes "kind"))
 
--- the same, with the form of OLD and NEW, `--json`, the folders of modules, a facts file and a returns file
+-- the same, with the form of OLD and NEW, `--json`, the folders of modules, a facts file, a returns file and the codes of modules
 unfoldable pub compare_app : App
 compare_app =
-    with_options (with_rule (with_json (with_rule (with_rule sides_app (flag_rule (codes "conf"))) (flag_rule (codes "root"))))
-    (repeated_option_rule (codes "modules"))) (codes "facts" ∷ codes "returns" ∷ [])
+    with_settings (with_options (with_rule (with_json (with_rule (with_rule sides_app (flag_rule (codes "conf"))) (flag_rule (codes "root"))))
+    (repeated_option_rule (codes "modules"))) (codes "facts" ∷ codes "returns" ∷ []))
 
 -- `explain [NUMBER]`
 unfoldable pub explain_app : App
@@ -131,7 +135,7 @@ with_moment app = with_options app (codes "at" ∷ codes "at-unix" ∷ codes "zo
 
 -- the options that say which codes modules may return
 abbrev pub with_knowledge : App → App
-with_knowledge app = with_moment (with_tables (with_login (with_rule app (repeated_option_rule (codes "modules")))))
+with_knowledge app = with_moment (with_settings (with_tables (with_login (with_rule app (repeated_option_rule (codes "modules"))))))
 
 -- `paths SERVICE KIND`
 unfoldable pub paths_app : App

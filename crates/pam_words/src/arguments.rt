@@ -276,6 +276,13 @@ pub(crate) const RETURNS: ArgRow = ArgRow {
     help: "The codes that other modules can return",
 };
 
+pub(crate) const SET: ArgRow = ArgRow {
+    form: ArgForm::RepeatedOption,
+    id: "set",
+    name: "KEY=CODES",
+    help: "The codes that a module can return, named by its name, its number or FILE:LINE; may be repeated",
+};
+
 pub(crate) const AT: ArgRow = ArgRow {
     form: ArgForm::Optional,
     id: "at",

@@ -20,6 +20,7 @@ mod decisions;
 mod graph;
 mod knowledge;
 mod paths;
+mod settings;
 mod show;
 
 use crate::wanted::{ConfSource, Login, Moment, OutputForm, Request, Task, Usage};

@@ -2,6 +2,7 @@
 
 use pam_codes::{Code, CodeSet};
 use pam_conf::Kind;
+use pam_settings::Setting;
 use pam_text::Texts;
 use thiserror::Error;
 
@@ -102,8 +103,8 @@ pub struct TableNames<'a> {
     pub time: Option<&'a str>,
 }
 
-/// What says which codes modules may return: the folders of modules, a returns file, and the tables in which they look up a login at
-/// a moment.
+/// What says which codes modules may return: the folders of modules, what is set for single modules, a returns file, and the tables in
+/// which they look up a login at a moment.
 #[derive(Drop)]
 pub struct KnowledgeSource<'a> {
     /// The folders of modules. With `ConfSource::Root`, those of the system are read too.
@@ -112,6 +113,8 @@ pub struct KnowledgeSource<'a> {
     /// With `ConfSource::Root`, those of the system are read where none is named and the login and the moment that they need are given.
     pub tables: TableNames<'a>,
     pub returns: Option<&'a str>,
+    /// In the order in which they are given: of several for one module, the last counts.
+    pub settings: Vec<Setting<'a>>,
     pub moment: Option<Moment<'a>>,
 }
 
@@ -137,6 +140,8 @@ pub struct CompareFiles<'a> {
     pub facts: Option<&'a str>,
     /// The codes that modules may return, in both configurations.
     pub returns: Option<&'a str>,
+    /// The same, for single modules, in the order in which they are given: of several for one module, the last counts.
+    pub settings: Vec<Setting<'a>>,
 }
 
 /// A command for a service or for all services, or about the program itself.
@@ -248,7 +253,7 @@ pub enum Usage {
     /// U3: KIND is not the name of a kind.
     #[error("unknown kind")]
     KindName,
-    /// U4: a CODE, also one of `--decision`, is not the name of a code.
+    /// U4: a CODE, also one of `--decision` or `--set`, is not the name of a code.
     #[error("unknown code")]
     CodeName,
     /// U12: the value of `--format` is not the name of a format.
@@ -276,6 +281,9 @@ pub enum Usage {
     /// U15: a value of `--with` is not NAME=FILE, or one is given beside `--conf`.
     #[error("a candidate that is not NAME=FILE, or beside --conf")]
     CandidateForm,
+    /// U17: a value of `--set` is not KEY=CODES.
+    #[error("a setting that is not KEY=CODES")]
+    SettingForm,
     /// U7: an allocation failed.
     #[error("out of memory")]
     Memory,

@@ -11,8 +11,8 @@ use crate::arguments::{
     ACCEPT, ACCESS, ACCESS_TABLE, AFTER, ARE_FILES, ARE_ROOTS, ARGUMENTS, ASKS, AT, AT_UNIX,
     ArgForm, ArgRow, BEFORE, CODES, CONF, DECISION, DIR, FACTS, FAIL_ON, FORMAT, GROUP,
     HOST_ACCESS, HOST_TIME, JSON, KIND, KIND_IF_NAMED, LIMIT, MODULES, NEW, NUMBER, OLD, RELEASE,
-    RETURNS, RHOST, ROOT, SERVICE, SERVICE_IF_NAMED, SERVICES, TABLE_USER, TIME, TIME_TABLE, TTY,
-    USER, VENDOR_DIR, WITH, ZONE,
+    RETURNS, RHOST, ROOT, SERVICE, SERVICE_IF_NAMED, SERVICES, SET, TABLE_USER, TIME, TIME_TABLE,
+    TTY, USER, VENDOR_DIR, WITH, ZONE,
 };
 use crate::examples::examples_of;
 use crate::number::number_parser;
@@ -72,6 +72,7 @@ static HOSTS: [CommandRow; 2] = [
             MODULES,
             FACTS,
             RETURNS,
+            SET,
         ],
     },
 ];
@@ -100,7 +101,7 @@ static LISTINGS: [CommandRow; 1] = [CommandRow {
     about: "Lists the paths through a stack",
     args: &[
         SERVICE, KIND, DIR, VENDOR_DIR, CONF, ROOT, WITH, JSON, LIMIT, AFTER, BEFORE, DECISION,
-        ASKS, MODULES, USER, RHOST, TTY, ACCESS, TIME, GROUP, RETURNS, AT, AT_UNIX, ZONE,
+        ASKS, MODULES, USER, RHOST, TTY, ACCESS, TIME, GROUP, RETURNS, SET, AT, AT_UNIX, ZONE,
     ],
 }];
 
@@ -111,7 +112,7 @@ static GRAPHS: [CommandRow; 2] = [
         about: "Counts the paths through a stack by their decisions",
         args: &[
             SERVICE, KIND, DIR, VENDOR_DIR, CONF, ROOT, WITH, JSON, MODULES, USER, RHOST, TTY,
-            ACCESS, TIME, GROUP, RETURNS, AT, AT_UNIX, ZONE,
+            ACCESS, TIME, GROUP, RETURNS, SET, AT, AT_UNIX, ZONE,
         ],
     },
     CommandRow {
@@ -119,7 +120,7 @@ static GRAPHS: [CommandRow; 2] = [
         about: "Draws the graph of a stack",
         args: &[
             SERVICE, KIND, DIR, VENDOR_DIR, CONF, ROOT, WITH, FORMAT, MODULES, USER, RHOST, TTY,
-            ACCESS, TIME, GROUP, RETURNS, AT, AT_UNIX, ZONE,
+            ACCESS, TIME, GROUP, RETURNS, SET, AT, AT_UNIX, ZONE,
         ],
     },
 ];

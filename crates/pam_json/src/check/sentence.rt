@@ -7,7 +7,7 @@ ghost use Rattle.pam_misspelled.specs.MisspelledView.{misspelled_view};
 ghost use Rattle.pam_parts.specs.CheckNames.{word_of};
 ghost use Rattle.pam_sentences.specs.NamingView.{naming_view};
 ghost use Rattle.serde_json.specs.Written.{compact_text};
-ghost use Rattle.pam_json.specs.Sentences.{fault_parts, naming_parts, problem_parts, released_parts, said_parts, subject_name, table_difference_parts, table_parts};
+ghost use Rattle.pam_json.specs.Sentences.{fault_parts, module_parts, naming_parts, problem_parts, released_parts, said_parts, subject_name, table_difference_parts, table_parts};
 
 use pam_codes::{Device, Out};
 use pam_conf::{FaultKind, Kind};
@@ -18,7 +18,8 @@ use pam_old_tables::TableDifference;
 use pam_released::Difference;
 use pam_report::{kind_name, stack_of};
 use pam_sentences::{
-    Naming, naming_of, plain_sentence, problem_sentence, table_fault_sentence, time_fault_sentence,
+    Naming, module_naming, naming_of, plain_sentence, problem_sentence, table_fault_sentence,
+    time_fault_sentence,
 };
 use pam_table_check::TableProblem;
 use std::io::Write;
@@ -138,6 +139,20 @@ fn put_problem<W: Write>(problem: Problem, out: &mut Out<W>) -> Result<(), Devic
     )
 }
 
+/// Writes that the module that a line names is not there, with its path if it is known.
+fn put_module<W: Write>(
+    problem: Problem,
+    word: Option<&Misspelled>,
+    out: &mut Out<W>,
+) -> Result<(), Device>
+    ensures { Writes W.contents out.old out.new result (compact_text (joined (module_parts problem (word_of word.entry)))) }
+{
+    match word {
+        Some(misspelled) => put_named(module_naming(), misspelled, out),
+        None => put_problem(problem, out),
+    }
+}
+
 /// Writes what is wrong at a line, and how to mend it, with the word that is wrong if it is known.
 pub(super) fn put_said<W: Write>(
     line: usize,
@@ -151,6 +166,7 @@ pub(super) fn put_said<W: Write>(
         Problem::Fault(fault) | Problem::Walk(fault) => put_fault(line, fault, word, out),
         Problem::Released(difference) => put_released(difference, out),
         Problem::EmptySeparator => put_table_difference(TableDifference::EmptySeparator, out),
+        Problem::NoModule { .. } => put_module(problem, word, out),
         _ => put_problem(problem, out),
     }
 }

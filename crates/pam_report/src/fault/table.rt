@@ -48,6 +48,7 @@ pub(super) fn usage_row(usage: &Usage) -> Row
         Usage::FormatName => Row::of("U12 FormatName", BAD_REQUEST),
         Usage::LevelName => Row::of("U13 LevelName", BAD_REQUEST),
         Usage::ReleaseForm => Row::of("U16 ReleaseForm", BAD_REQUEST),
+        Usage::SettingForm => Row::of("U17 SettingForm", BAD_REQUEST),
         Usage::CandidateForm => Row::of("U15 CandidateForm", BAD_REQUEST),
     }
 }

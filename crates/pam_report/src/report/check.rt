@@ -175,7 +175,7 @@ pub(super) fn checked<'a>(
     let Ok(listed) = list_findings(alloc, files, &report, &tables, paths, &accept) else {
         return Err(Fault::Memory);
     };
-    let Ok(misspelled) = misspelled_words(alloc, files, &listed.found) else {
+    let Ok(misspelled) = misspelled_words(alloc, files, inputs.there(), &listed.found) else {
         return Err(Fault::Memory);
     };
     Ok(Reply::Check(CheckReply {

@@ -7,10 +7,12 @@ ghost use Rattle.pam_words.specs.Values.{kind_if_named as kind_in, side_in, side
 ghost use Rattle.pam_words.specs.Wanted.{GivesTask, IsCompareGiven, source_view};
 
 use crate::reading::knowledge::folders;
+use crate::reading::settings::settings;
 use crate::reading::{is_on, text, value};
 use crate::wanted::{CompareFiles, ConfSource, Task, Usage};
 use clap::ArgMatches;
 use pam_conf::Kind;
+use pam_settings::Setting;
 use std::alloc::{AllocError, Global};
 
 /// Returns the source of this name, or `None` if both forms are given.
@@ -50,13 +52,19 @@ fn kind_if_named(matches: &ArgMatches<'_>) -> Option<Option<Kind>>
 }
 
 /// Reads the names of the folders and files that a comparison reads besides the two configurations.
-fn given<'a>(alloc: Global, matches: &ArgMatches<'a>) -> Result<CompareFiles<'a>, AllocError>
-    ensures { IfOk result (λ given. IsCompareGiven (rows_of (found_of matches.now)) given) }
+fn given<'a>(
+    alloc: Global,
+    matches: &ArgMatches<'a>,
+    settings: Vec<Setting<'a>>,
+) -> Result<CompareFiles<'a>, AllocError>
+    ensures given { IfOk result (λ given. IsCompareGiven (rows_of (found_of matches.now)) given) }
+    ensures settings { IfOk result (λ given. given.settings ≡ settings.entry) }
 {
     Ok(CompareFiles {
         modules: folders(alloc, matches)?,
         facts: value(matches, "facts"),
         returns: value(matches, "returns"),
+        settings,
     })
 }
 
@@ -72,7 +80,11 @@ pub(crate) fn compare<'a>(alloc: Global, matches: &ArgMatches<'a>) -> Result<Tas
     let Some(kind) = kind_if_named(matches) else {
         return Err(Usage::KindName);
     };
-    match given(alloc, matches) {
+    let settings = match settings(alloc, matches) {
+        Ok(settings) => settings,
+        Err(usage) => return Err(usage),
+    };
+    match given(alloc, matches, settings) {
         Ok(given) => Ok(Task::Compare {
             old,
             new,

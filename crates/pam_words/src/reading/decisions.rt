@@ -35,7 +35,7 @@ fn set_without(names: &[u8]) -> Option<CodeSet>
 
 /// Reads a set of codes in the form in which `paths` prints it. Returns `None` if a name is no code's name.
 #[tactic(auto, unfolding(crate::specs::Decisions::set_of_text))]
-fn set_in(text: &[u8]) -> Option<CodeSet>
+pub(crate) fn set_in(text: &[u8]) -> Option<CodeSet>
     ensures { result ≡ set_of_text text.now }
 {
     if text == b"any".as_slice() {

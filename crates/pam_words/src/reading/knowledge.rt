@@ -9,6 +9,7 @@ ghost use Rattle.pam_words.specs.Request.{moment_if_needed as moment_if_needed_i
 ghost use Rattle.pam_words.specs.Values.{needs_moment as needs_moment_in};
 ghost use Rattle.pam_words.specs.Wanted.{Gives, GivesTask, knowledge_view, moment_view};
 
+use crate::reading::settings::settings;
 use crate::reading::{login, moment, stack, value, values};
 use crate::wanted::{KnowledgeSource, Moment, TableNames, Task, Usage};
 use clap::ArgMatches;
@@ -73,13 +74,17 @@ pub(crate) fn tables<'a>(matches: &ArgMatches<'a>) -> TableNames<'a>
     }
 }
 
-/// Reads the login and the moment, and the names of the folders of modules, of the tables and of the returns file.
+/// Reads the codes of modules, the login and the moment, and the names of the folders of modules, of the tables and of the returns file.
 pub(crate) fn knowledge<'a>(
     alloc: Global,
     matches: &ArgMatches<'a>,
 ) -> Result<KnowledgeSource<'a>, Usage>
     ensures { Gives knowledge_view (knowledge_of (rows_of (found_of matches.now))) result }
 {
+    let settings = match settings(alloc, matches) {
+        Ok(settings) => settings,
+        Err(usage) => return Err(usage),
+    };
     if lacks_user(matches) {
         return Err(Usage::Login);
     }
@@ -92,6 +97,7 @@ pub(crate) fn knowledge<'a>(
         login: login(matches),
         tables: tables(matches),
         returns: value(matches, "returns"),
+        settings,
         moment,
     })
 }
