@@ -35,12 +35,12 @@ module _ {W : Type 0} (contents : W → Option (List ℕ)) (IsText : Reply → R
 
 -- the text of a reply is also that of another form
 module _ {W : Type 0} (contents : W → Option (List ℕ)) (One Other : Reply → Result (List ℕ) CursorError → Type 0) (old new : Out W) (reply : Reply)
-    (as : (text : Result (List ℕ) CursorError) → One reply text → Other reply text) where
+    (also : (text : Result (List ℕ) CursorError) → One reply text → Other reply text) where
   pub printed-as : (result : Result (Unit {0}) Fault) → PrintsBy contents One old new result reply → PrintsBy contents Other old new result reply
-  printed-as (Ok told) h = (h.0, as _ h.1, h.2)
-  printed-as (Err faults.Device) h = (h.0, as _ h.1, h.2)
+  printed-as (Ok told) h = (h.0, also _ h.1, h.2)
+  printed-as (Err faults.Device) h = (h.0, also _ h.1, h.2)
   printed-as (Err faults.Memory) h = h
-  printed-as (Err (faults.Cursor e)) h = (h.0, as _ h.1)
+  printed-as (Err (faults.Cursor e)) h = (h.0, also _ h.1)
   printed-as (Err (faults.Conf e)) h = absurd h
   printed-as (Err (faults.Count e)) h = absurd h
   printed-as (Err faults.TooManyStates) h = absurd h
@@ -64,10 +64,10 @@ module _ (text_of : PageValue → List ℕ → List PathValue → List ℕ) (pag
 
 module _ (K : Type 0) {W : Type 0} (contents : W → Option (List ℕ)) (IsText : Reply → Result (List ℕ) CursorError → Type 0)
     (text_of : PageValue → List ℕ → List PathValue → List ℕ) (page : PageValue)
-    (as : (text : Result (List ℕ) CursorError) → IsPageBy text_of page text → IsText (Page page) text) (old new : Out W) where
+    (also : (text : Result (List ℕ) CursorError) → IsPageBy text_of page text → IsText (Page page) text) (old new : Out W) where
   -- nothing is written of a page that is not listed
   pub listing-refused : (fault : Fault) → FindsPage {K = K} page (Err fault) → new ≡ old → PrintsBy contents IsText old new (Err fault) (Page page)
-  listing-refused (faults.Cursor e) h same = (same, as (Err e) (λ of_stack. (Err e, h page.items of_stack.0 of_stack.1, refl)))
+  listing-refused (faults.Cursor e) h same = (same, also (Err e) (λ of_stack. (Err e, h page.items of_stack.0 of_stack.1, refl)))
   listing-refused faults.Memory h same = (same, refl)
   listing-refused faults.Device h same = absurd h
   listing-refused faults.TooManyStates h same = absurd h

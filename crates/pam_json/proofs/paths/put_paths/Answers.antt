@@ -22,7 +22,7 @@ returns-in_err-put_path g c =
     let json = path_json c.args.stack.now in
     let page = page_front json last_json (side c.args.listing.now) all l.count c.args.limit (followed c.follow.new.self)
     (coming c.follow.new.self) (omega (arith, c.loop-count-test.true)) (sym l.invariant.left ∙ c.in-Some.ensures.path) in
-    let line = front-is c.in_err-put_path.ensures (ap json c.path-path.ensures) in
+    let line = front-is c.in_err-put_path.ensures (ap json c.path.ensures) in
     err-front _ c.from_residual.ensures.0 (front-is (front-longer page.0 (front-then l.invariant.written line)) page.1)
 
 pub loop-count-preserved : goal.loop-count-preserved
@@ -32,7 +32,7 @@ loop-count-preserved g c =
     let json = path_json c.args.stack.now in
     let next = goes all l.count (followed c.follow.new.self) (coming c.follow.new.self) (sym l.invariant.left ∙ c.in-Some.ensures.path) in
     let lines = ap (flat_map json) next.before ∙ flat_map-push json (take l.count all) (followed c.follow.new.self) in
-    let line = all-is c.in_ok-put_path.ensures (ap json c.path-path.ensures) in
+    let line = all-is c.in_ok-put_path.ensures (ap json c.path.ensures) in
     record {
       written = all-is (all-then l.invariant.written line) (sym lines);
       left = sym next.after;
