@@ -71,6 +71,7 @@ module _ {W : Type 0} (contents : W → Option (List ℕ)) (IsText : Reply → R
   refused (faults.Count e) IsAnswer same h = (same, h)
   refused faults.TooManyStates IsAnswer same h = (same, h)
   refused faults.NoSuchModule IsAnswer same h = (same, h)
+  refused faults.NoSuchKey IsAnswer same h = (same, h)
   refused faults.NoSuchNumber IsAnswer same h = (same, h)
   refused (faults.Facts e) IsAnswer same h = (same, h)
   refused (faults.Accept e) IsAnswer same h = (same, h)
@@ -93,6 +94,7 @@ module _ {W : Type 0} (contents : W → Option (List ℕ)) (IsText : Reply → R
   unprinted (faults.Count e) reply h IsAnswer is = absurd h
   unprinted faults.TooManyStates reply h IsAnswer is = absurd h
   unprinted faults.NoSuchModule reply h IsAnswer is = absurd h
+  unprinted faults.NoSuchKey reply h IsAnswer is = absurd h
   unprinted faults.NoSuchNumber reply h IsAnswer is = absurd h
   unprinted (faults.Facts e) reply h IsAnswer is = absurd h
   unprinted (faults.Accept e) reply h IsAnswer is = absurd h
@@ -110,6 +112,7 @@ module _ {W : Type 0} (contents : W → Option (List ℕ)) (IsText : Reply → R
   unprinted-wants wants (faults.Count e) reply h works = absurd h
   unprinted-wants wants faults.TooManyStates reply h works = absurd h
   unprinted-wants wants faults.NoSuchModule reply h works = absurd h
+  unprinted-wants wants faults.NoSuchKey reply h works = absurd h
   unprinted-wants wants faults.NoSuchNumber reply h works = absurd h
   unprinted-wants wants (faults.Facts e) reply h works = absurd h
   unprinted-wants wants (faults.Accept e) reply h works = absurd h
@@ -142,6 +145,7 @@ module _ {W : Type 0} (contents : W → Option (List ℕ)) (old new : Out W) whe
   json-is reply text (Err (faults.Count e)) is h = absurd h
   json-is reply text (Err faults.TooManyStates) is h = absurd h
   json-is reply text (Err faults.NoSuchModule) is h = absurd h
+  json-is reply text (Err faults.NoSuchKey) is h = absurd h
   json-is reply text (Err faults.NoSuchNumber) is h = absurd h
   json-is reply text (Err (faults.Facts e)) is h = absurd h
   json-is reply text (Err (faults.Accept e)) is h = absurd h
@@ -170,6 +174,7 @@ module _ {W : Type 0} (contents : W → Option (List ℕ)) (old new : Out W) whe
   text-instead reply (Err (faults.Count e)) none h = absurd h
   text-instead reply (Err faults.TooManyStates) none h = absurd h
   text-instead reply (Err faults.NoSuchModule) none h = absurd h
+  text-instead reply (Err faults.NoSuchKey) none h = absurd h
   text-instead reply (Err faults.NoSuchNumber) none h = absurd h
   text-instead reply (Err (faults.Facts e)) none h = absurd h
   text-instead reply (Err (faults.Accept e)) none h = absurd h

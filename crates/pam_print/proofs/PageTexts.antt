@@ -46,6 +46,7 @@ listing-refused K contents old new page faults.Memory h same = (same, refl)
 listing-refused K contents old new page faults.Device h same = absurd h
 listing-refused K contents old new page faults.TooManyStates h same = absurd h
 listing-refused K contents old new page faults.NoSuchModule h same = absurd h
+listing-refused K contents old new page faults.NoSuchKey h same = absurd h
 listing-refused K contents old new page (faults.Conf e) h same = absurd h
 listing-refused K contents old new page (faults.Count e) h same = absurd h
 listing-refused K contents old new page faults.NoSuchNumber h same = absurd h
