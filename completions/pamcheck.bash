@@ -7,17 +7,18 @@ _pamcheck_codes='success open_err symbol_err service_err system_err buf_err perm
     no_module_data conv_err authtok_err authtok_recover_err authtok_lock_busy authtok_disable_aging try_again ignore abort
     authtok_expired module_unknown bad_item conv_again'
 _pamcheck_numbers='E1 E2 E3 E4 E5 E6 E7 E8 E9 E10 E11 E12 E13 E14 E15 E16 E17 E18 E19 DE1 TE1 TE2 TE3 TE4 TE5 TE6 TE7
-    TE8 TE9 TE10 TE11 TE12 TE13 TE14 TE15 TE16 C1 C2 C3 C4 M1 M2 M4 U1 U2 U3 U4 U5 U6 U7 U8 U9 U11 U12 U13 U14 U15 U16 V1 V2
+    TE8 TE9 TE10 TE11 TE12 TE13 TE14 TE15 TE16 C1 C2 C3 C4 M1 M2 M4 U1 U2 U3 U4 U5 U6 U7 U8 U9 U10 U11 U12 U13 U14 U15 U16 U17 V1
+    V2
     L1 L2 L3 L4 L5 L6 L7 L8 L9 A1 A2 A3 A4 A5 A6 A7 T1 T2 T3 T4 S1 S2 S3 S4 S5 S6 S7 S8 S9 S10 S11 S12 S13 S14'
 
 # The options of a command.
 _pamcheck_options() {
     local source='--dir --vendor-dir --conf --root --with'
     local moment='--at --at-unix --zone'
-    local known="--modules --user --rhost --tty --access --time --group --returns $moment"
+    local known="--modules --user --rhost --tty --access --time --group --returns --set $moment"
     case $1 in
         check) echo "$source --modules --access --time --group --facts --accept --fail-on --json --help" ;;
-        compare) echo '--conf --root --json --modules --facts --returns --help' ;;
+        compare) echo '--conf --root --json --modules --facts --returns --set --help' ;;
         show) echo "$source --as --json --help" ;;
         decide) echo "$source --json --help" ;;
         paths) echo "$source --json --limit --after --before --decision --asks $known --help" ;;
@@ -107,6 +108,7 @@ _pamcheck() {
         --as) COMPREPLY=($(compgen -W 'linux-pam-1.5 linux-pam-1.7' -- "$cur")) ;;
         --format) COMPREPLY=($(compgen -W 'dot mermaid svg' -- "$cur")) ;;
         --decision) _pamcheck_set "$cur" ;;
+        --set) [[ $cur != *=* ]] || _pamcheck_set "${cur#*=}" ;;
         --user) COMPREPLY=($(compgen -u -- "$cur")) ;;
         --rhost) _known_hosts_real -- "$cur" ;;
     esac

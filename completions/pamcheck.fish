@@ -5,8 +5,8 @@ set -g __pamcheck_codes success open_err symbol_err service_err system_err buf_e
     cred_expired cred_err no_module_data conv_err authtok_err authtok_recover_err authtok_lock_busy \
     authtok_disable_aging try_again ignore abort authtok_expired module_unknown bad_item conv_again
 set -g __pamcheck_numbers E1 E2 E3 E4 E5 E6 E7 E8 E9 E10 E11 E12 E13 E14 E15 E16 E17 E18 E19 DE1 TE1 TE2 TE3 TE4 TE5 \
-    TE6 TE7 TE8 TE9 TE10 TE11 TE12 TE13 TE14 TE15 TE16 C1 C2 C3 C4 M1 M2 M4 U1 U2 U3 U4 U5 U6 U7 U8 U9 U11 U12 U13 \
-    U14 U15 U16 V1 V2 L1 L2 L3 L4 L5 L6 L7 L8 L9 A1 A2 A3 A4 A5 A6 A7 T1 T2 T3 T4 S1 S2 S3 S4 S5 S6 S7 S8 S9 S10 S11 S12 S13 S14
+    TE6 TE7 TE8 TE9 TE10 TE11 TE12 TE13 TE14 TE15 TE16 C1 C2 C3 C4 M1 M2 M4 U1 U2 U3 U4 U5 U6 U7 U8 U9 U10 U11 U12 U13 \
+    U14 U15 U16 U17 V1 V2 L1 L2 L3 L4 L5 L6 L7 L8 L9 A1 A2 A3 A4 A5 A6 A7 T1 T2 T3 T4 S1 S2 S3 S4 S5 S6 S7 S8 S9 S10 S11 S12 S13 S14
 
 # Whether the command is one of these.
 function __pamcheck_in
@@ -90,6 +90,17 @@ function __pamcheck_set
     printf '%s\n' $before$__pamcheck_codes
 end
 
+# What a module can return: its name, number or FILE:LINE, `=`, and a set of codes.
+function __pamcheck_settings
+    set -l parts (string replace -r -- '^--set=' '' (commandline -ct) | string split -m 1 =)
+    test (count $parts) = 2
+    or return
+    set -l before (string match -r -- '^((?:but:)?(?:[a-z_]+,)*)' "$parts[2]")[2]
+    test -n "$before"
+    or printf '%s\n' $parts[1]=any $parts[1]=but:
+    printf '%s\n' $parts[1]=$before$__pamcheck_codes
+end
+
 complete -c pamcheck -f
 complete -c pamcheck -s h -l help -d 'Print help'
 complete -c pamcheck -n __pamcheck_no_command -s V -l version -d 'Print version'
@@ -146,6 +157,7 @@ complete -c pamcheck -n '__pamcheck_in check paths outcomes graph access' -l acc
 complete -c pamcheck -n '__pamcheck_in check paths outcomes graph time' -l time -rF -d 'The time table of pam_time.so'
 complete -c pamcheck -n '__pamcheck_in check paths outcomes graph access' -l group -rF -d 'The file of groups'
 complete -c pamcheck -n '__pamcheck_in compare paths outcomes graph' -l returns -rF -d 'The codes that other modules can return'
+complete -c pamcheck -n '__pamcheck_in compare paths outcomes graph' -l set -xa '(__pamcheck_settings)' -d 'The codes that a module can return, as KEY=CODES'
 complete -c pamcheck -n '__pamcheck_in paths outcomes graph time' -l at -x -d 'The moment, as 2024-05-06T10:00'
 complete -c pamcheck -n '__pamcheck_in paths outcomes graph time' -l at-unix -x -d 'The moment, in seconds since 1970'
 complete -c pamcheck -n '__pamcheck_in paths outcomes graph time' -l zone -x -d 'The POSIX zone rule of --at-unix'

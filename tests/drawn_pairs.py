@@ -101,6 +101,8 @@ def cases(count):
             # What a module that is not there answers, one that is can answer too.
             more = [b"module_unknown"] if number % 8 == 7 else []
             words, files = words + [b"--returns", b"returns"], {"returns": drawing.returns(more)}
+        if number % 16 == 3:
+            words = words + [b"--set", drawing.of(MODULES).split(b" ")[0] + b"=" + drawing.of([b"success", b"auth_err", b"but:success,ignore"])]
         if number % 4 == 0:
             words = words + [b"--modules", b"m"]
             files["m"] = drawing.modules()

@@ -21,11 +21,11 @@ import plain_zones as zones
 from plain_faults import Fault
 from plain_sources import found, listed, read
 
-KNOWING = b" --modules --access --time --group --returns --user --rhost --tty --at --at-unix --zone"
+KNOWING = b" --modules --access --time --group --returns --set --user --rhost --tty --at --at-unix --zone"
 SOURCES = b"--dir --vendor-dir --conf --root --with"
 OPTIONS = {
     b"check": SOURCES + b" --modules --access --time --group --facts --accept --fail-on --json",
-    b"compare": b"--conf --root --json --modules --facts --returns",
+    b"compare": b"--conf --root --json --modules --facts --returns --set",
     b"show": SOURCES + b" --as --json",
     b"decide": SOURCES + b" --json",
     b"paths": SOURCES + b" --json --limit --after --before --decision --asks" + KNOWING,
@@ -37,7 +37,7 @@ OPTIONS = {
     b"version": b"",
 }
 OF_PATHS = (b"paths", b"outcomes", b"graph")
-REPEATED = (b"--modules", b"--with")
+REPEATED = (b"--modules", b"--with", b"--set")
 FLAGS = {b"compare": [b"--conf", b"--root", b"--json"],
          **dict.fromkeys([b"check", b"show", b"decide", b"paths", b"outcomes", b"access", b"time"], [b"--json"])}
 WITH_SOURCE = [name for name, options in OPTIONS.items() if options.startswith(SOURCES)]
@@ -129,6 +129,7 @@ class Request:
             raise Fault("U13")
         if self.command == b"compare":
             self.judge_sides()
+            self.settings = settings_of(self.options)
         if self.command in (b"check", b"compare", *ABOUT):
             return
         self.service = self.arguments[0].lower()
@@ -144,6 +145,7 @@ class Request:
         if self.format not in plain_graph.FORMATS:
             raise Fault("U12")
         self.decisions = decisions_of(self.options[b"--decision"]) if b"--decision" in self.options else set()
+        self.settings = settings_of(self.options)
         if self.command in (*OF_PATHS, b"time"):
             self.judge_login_and_moment()
         if b"--as" in self.options and (self.options[b"--as"] not in plain_readings.RELEASES or self.is_json()):
@@ -268,7 +270,9 @@ class Request:
         data = {name: read(tree, self.options[name]) if name in self.options else b"" for name in (b"--facts", b"--returns")}
         facts = plain_given.facts(data[b"--facts"])
         returns = tables.returns_of(data[b"--returns"])
-        old, new = [plain_compare.Side(files, there, facts, returns) for files, there in sides]
+        old, new = [plain_compare.Side(files, there, facts, returns, self.settings) for files, there in sides]
+        if any(not codes or not old.calls(key) and not new.calls(key) for key, codes in self.settings):
+            raise Fault("U10")
         return plain_compare.Comparison(old, new, self.arguments[2] if len(self.arguments) > 2 else None, self.kind_named())
 
 
@@ -346,6 +350,17 @@ class Request:
         for position, (name, module) in enumerate(zip(names, modules)):
             is_there = self.there is None or module.path in self.there
             known[position] = known[position] or returns.get(name, set(stacks.CODES)) if is_there else {b"module_unknown"}
+        return self.with_settings(names, modules, known)
+
+    def with_settings(self, names, modules, known):
+        """The codes that each module may answer, with what is set for it."""
+        keys = [{name, b"%d" % module.number, b"%s:%d" % (module.file, module.line)} for name, module in zip(names, modules)]
+        if any(not codes or not any(key in own for own in keys) for key, codes in self.settings):
+            raise Fault("U10")
+        for key, codes in self.settings:
+            for position, module in enumerate(modules):
+                if key in keys[position] and (self.there is None or module.path in self.there):
+                    known[position] = codes
         return known
 
     def outcomes(self, items, modules):
@@ -393,6 +408,17 @@ class Request:
         last = cursor_text(stacks.key_of(printed[limit - 1][0]))
         side = b"before" if b"--before" in self.options else b"after"
         return text + b"more %d paths %s %s\n" % (limit, side, last)
+
+
+def settings_of(options):
+    """The key and the codes of each value of `--set`."""
+    settings = []
+    for value in options.get(b"--set", []):
+        key, sign, codes = value.partition(b"=")
+        if not sign or not key:
+            raise Fault("U17")
+        settings.append((key, decisions_of(codes)))
+    return settings
 
 
 def decisions_of(text):

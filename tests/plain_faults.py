@@ -51,11 +51,13 @@ NAMES = dict(line.split() for line in """
     U6 Moment
     U8 BothEnds
     U9 NoSuchModule
+    U10 NoSuchKey
     U11 BothFilters
     U12 FormatName
     U13 LevelName
     U15 CandidateForm
     U16 ReleaseForm
+    U17 SettingForm
     V1 Read
     V2 Write
 """.strip().splitlines())

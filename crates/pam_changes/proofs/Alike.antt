@@ -3,7 +3,7 @@ use Rattle.std.proofs.Common.{◌≡◌, ◌∙◌, ℕ, ◌-◌, ◌≤◌, ◌
 use Rattle.std.proofs.Common.{not, subst, unwrap_or}
 use Rattle.std.proofs.lemmas.Bool.{and_parts, eqb-true, false≢true}
 use Rattle.std.proofs.lemmas.Slice.Eq.{bytes_eq-Decides}
-use Rattle.std.specs.Option.{option_map_or}
+use Rattle.std.specs.Option.{option_map_or, option_or}
 use Rattle.std.specs.Str.{bytes_eq}
 use Rattle.pam_codes.proofs.SameActions.{same_action-true}
 use Rattle.pam_codes.specs.Action.{same_action}
@@ -24,9 +24,10 @@ use Rattle.pam_facts.specs.Answers.{answers_at, free_answers, is_there, module_a
 use Rattle.pam_facts.specs.Facts.{module_unknown}
 use Rattle.pam_facts.specs.Rows.{Row}
 use Rattle.pam_known.specs.Answers.{name_of_path}
-use Rattle.pam_tables.specs.Returns.{ReturnLine, codes_for}
+use Rattle.pam_settings.specs.Settings.{SettingText}
+use Rattle.pam_tables.specs.Returns.{ReturnLine}
 use Rattle.pam_changes.specs.Changes.{AreEqual}
-use Rattle.pam_changes.specs.Known.{AreThereAlike, is_alike, is_alike_at, known_codes, line_at, line_of}
+use Rattle.pam_changes.specs.Known.{AreThereAlike, codes_listed, codes_set, codes_told, is_alike, is_alike_at, known_codes, told_at}
 use Rattle.pam_changes.specs.Same.{AreSame, same_items, same_module}
 use Rattle.pam_changes.specs.Sides.{SideText, SidesText}
 
@@ -166,10 +167,13 @@ module _ {X : Type 0} (f : ModuleText → X) (none : X) (alike : (m n : ModuleTe
   same-value None (Some n) h = absurd h
   same-value (Some m) None h = absurd h
 
-line-alike : (returns : Option (List ReturnLine)) (there : Option (List (List ℕ))) (m n : ModuleText) → Shared m n →
-    line_of returns there m ≡ line_of returns there n
-line-alike None there m n is = refl
-line-alike (Some lines) there m n is = ap (λ (p : List ℕ). cond (is_there there p) (codes_for lines (name_of_path p)) None) is.path
+-- what is told of a name
+abbrev named : Option (List ReturnLine) → List SettingText → List ℕ → Option (List ℕ)
+named returns settings name = option_or (codes_set name settings) (codes_listed returns name)
+
+told-alike : (returns : Option (List ReturnLine)) (settings : List SettingText) (there : Option (List (List ℕ))) (m n : ModuleText) → Shared m n →
+    codes_told returns settings there m ≡ codes_told returns settings there n
+told-alike returns settings there m n is = ap (λ (p : List ℕ). cond (is_there there p) (named returns settings (name_of_path p)) None) is.path
 
 -- what the facts say of a module with this path and these arguments, which is alone in its stack
 abbrev free_of : Kind → List Row → Option (List (List ℕ)) → List ℕ → List (List ℕ) → List ℕ
@@ -188,14 +192,14 @@ answers-alike kind rows there m n is =
 
 pub known-alike : (sides : SidesText) (side : SideText) (kind : Kind) (one other : Items) → AreSame one other → (number : ℕ) →
     known_codes sides side kind one number ≡ known_codes sides side kind other number
-unfolding answers_at known_codes line_at module_answers
+unfolding answers_at known_codes told_at module_answers
 known-alike sides side kind one other t number =
     let at = same-at number one other t in
-    let line : ModuleText → Option (List ℕ) = line_of sides.returns side.there in
+    let told : ModuleText → Option (List ℕ) = codes_told sides.returns sides.settings side.there in
     let free : ModuleText → List ℕ = free_at kind sides.facts side.there in
     ap (λ (l : Option (List ℕ)). unwrap_or l (option_map_or free (module_at number one) all_codes))
-    (same-value line None (line-alike sides.returns side.there) (module_at number one) (module_at number other) at)
-    ∙ ap (λ (codes : List ℕ). unwrap_or (option_map_or line (module_at number other) None) codes)
+    (same-value told None (told-alike sides.returns sides.settings side.there) (module_at number one) (module_at number other) at)
+    ∙ ap (λ (codes : List ℕ). unwrap_or (option_map_or told (module_at number other) None) codes)
     (same-value free all_codes (answers-alike kind sides.facts side.there) (module_at number one) (module_at number other) at)
 
 -- a module is there in both configurations, or in neither
@@ -205,11 +209,9 @@ both-there true false h = absurd (false≢true h)
 both-there false true h = absurd (false≢true h)
 both-there false false h = refl
 
-line-there : (sides : SidesText) (returns : Option (List ReturnLine)) (m : ModuleText) →
-    is_there sides.old.there m.path ≡ is_there sides.new.there m.path →
-    line_of returns sides.old.there m ≡ line_of returns sides.new.there m
-line-there sides None m e = refl
-line-there sides (Some lines) m e = ap (λ (b : Bool). cond b (codes_for lines (name_of_path m.path)) None) e
+told-there : (sides : SidesText) (m : ModuleText) → is_there sides.old.there m.path ≡ is_there sides.new.there m.path →
+    codes_told sides.returns sides.settings sides.old.there m ≡ codes_told sides.returns sides.settings sides.new.there m
+told-there sides m e = ap (λ (b : Bool). cond b (named sides.returns sides.settings (name_of_path m.path)) None) e
 
 answers-there : (sides : SidesText) (kind : Kind) (m : ModuleText) → is_there sides.old.there m.path ≡ is_there sides.new.there m.path →
     free_at kind sides.facts sides.old.there m ≡ free_at kind sides.facts sides.new.there m
@@ -219,19 +221,19 @@ answers-there sides kind m e = ap (λ (b : Bool). cond b (free_at kind sides.fac
 -- what is known of a module on a side
 abbrev value-in : SidesText → SideText → Kind → Option ModuleText → List ℕ
 value-in sides side kind o =
-    unwrap_or (option_map_or (line_of sides.returns side.there) o None) (option_map_or (free_at kind sides.facts side.there) o all_codes)
+    unwrap_or (option_map_or (codes_told sides.returns sides.settings side.there) o None) (option_map_or (free_at kind sides.facts side.there) o all_codes)
 
 value-there : (sides : SidesText) (kind : Kind) (o : Option ModuleText) → option_map_or (is_alike sides) o true ≡ true →
     value-in sides sides.old kind o ≡ value-in sides sides.new kind o
 value-there sides kind None h = refl
 value-there sides kind (Some m) h =
     let e = both-there (is_there sides.old.there m.path) (is_there sides.new.there m.path) h in
-    ap (λ (l : Option (List ℕ)). unwrap_or l (free_at kind sides.facts sides.old.there m)) (line-there sides sides.returns m e)
-    ∙ ap (λ (codes : List ℕ). unwrap_or (line_of sides.returns sides.new.there m) codes) (answers-there sides kind m e)
+    ap (λ (l : Option (List ℕ)). unwrap_or l (free_at kind sides.facts sides.old.there m)) (told-there sides m e)
+    ∙ ap (λ (codes : List ℕ). unwrap_or (codes_told sides.returns sides.settings sides.new.there m) codes) (answers-there sides kind m e)
 
 known-there : (sides : SidesText) (kind : Kind) (items : Items) (number : ℕ) → is_alike_at sides items number ≡ true →
     known_codes sides sides.old kind items number ≡ known_codes sides sides.new kind items number
-unfolding answers_at known_codes line_at module_answers
+unfolding answers_at known_codes told_at module_answers
 known-there sides kind items number h = value-there sides kind (module_at number items) h
 
 pub equal-alike : (sides : SidesText) (kind : Kind) (old new : Items) → AreEqual sides old new → (number : ℕ) → 1 ≤ number → number ≤ module_count old →

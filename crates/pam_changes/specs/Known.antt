@@ -1,7 +1,9 @@
 -- What is known of the answers of modules: pam.conf(5), DESCRIPTION.
-use Rattle.std.specs.Prelude.{◌≡◌, ℕ, ◌≤◌, Bool, true, not, List, ◌∷◌, if◌then◌else◌, map, unwrap_or, Option, Some, None}
+use Rattle.std.specs.Prelude.{◌≡◌, ℕ, ◌≤◌, ◌==◌, ◌&&◌, Bool, true, not, List, [], ◌∷◌, if◌then◌else◌, length, map, unwrap_or, Option, Some, None}
 use Rattle.std.specs.List.{range_with_len}
-use Rattle.std.specs.Option.{option_map_or}
+use Rattle.std.specs.Option.{option_map_or, option_or}
+use Rattle.std.specs.Str.{bytes_eq}
+use Rattle.pam_codes.specs.Code.{all_codes}
 use Rattle.pam_codes.specs.Set.{is_in}
 use Rattle.pam_compare.specs.Matching.{partner_of}
 use Rattle.pam_conf.specs.Stack.{Items, ModuleText, module_at, module_count}
@@ -9,21 +11,40 @@ use Rattle.pam_conf.specs.declared.rule.Kind.{Kind}
 use Rattle.pam_facts.specs.Answers.{free_answers, is_there}
 use Rattle.pam_known.specs.Answers.{name_of_path}
 use Rattle.pam_paths.specs.Listing.{Allowance}
+use Rattle.pam_settings.specs.Settings.{SettingText}
 use Rattle.pam_tables.specs.Returns.{ReturnLine, codes_for}
 use Rattle.pam_changes.specs.Sides.{SideText, SidesText}
 
--- the codes of a module's line in the returns file, if it has one and is there
-abbrev pub line_of : Option (List ReturnLine) → Option (List (List ℕ)) → ModuleText → Option (List ℕ)
-line_of None there m = None
-line_of (Some lines) there m = if is_there there m.path then codes_for lines (name_of_path m.path) else None
+-- some codes are set for the modules of a name
+abbrev pub sets : List ℕ → SettingText → Bool
+sets name setting = not (length setting.codes == 0) && bytes_eq setting.key name
 
-unfoldable pub line_at : Option (List ReturnLine) → Option (List (List ℕ)) → Items → ℕ → Option (List ℕ)
-line_at returns there items number = option_map_or (line_of returns there) (module_at number items) None
+abbrev pub codes_by : List ℕ → SettingText → Option (List ℕ)
+codes_by name setting = if sets name setting then Some setting.codes else None
 
--- THE ANSWERS of a module, by its number: the codes of its line, else what facts say, which is module_unknown if it is not there
+-- the codes that are set for them: by the last of several settings
+abbrev pub codes_set : List ℕ → List SettingText → Option (List ℕ)
+codes_set name [] = None
+codes_set name (setting ∷ settings) = option_or (codes_set name settings) (codes_by name setting)
+
+-- the codes of their line in the returns file, if there is one
+abbrev pub codes_listed : Option (List ReturnLine) → List ℕ → Option (List ℕ)
+codes_listed None name = None
+codes_listed (Some lines) name = codes_for lines name
+
+-- the codes that are set for a module, or else those of its line, if it is there
+abbrev pub codes_told : Option (List ReturnLine) → List SettingText → Option (List (List ℕ)) → ModuleText → Option (List ℕ)
+codes_told returns settings there m =
+    if is_there there m.path then option_or (codes_set (name_of_path m.path) settings) (codes_listed returns (name_of_path m.path)) else None
+
+unfoldable pub told_at : Option (List ReturnLine) → List SettingText → Option (List (List ℕ)) → Items → ℕ → Option (List ℕ)
+told_at returns settings there items number = option_map_or (codes_told returns settings there) (module_at number items) None
+
+-- THE ANSWERS of a module, by its number: the codes that are set for it, else those of its line in the returns file, else what facts say,
+-- which is module_unknown if it is not there
 unfoldable pub known_codes : SidesText → SideText → Kind → Items → ℕ → List ℕ
 known_codes sides side kind items number =
-    unwrap_or (line_at sides.returns side.there items number) (free_answers kind sides.facts side.there items number)
+    unwrap_or (told_at sides.returns sides.settings side.there items number) (free_answers kind sides.facts side.there items number)
 
 -- the knowledge that allows each module these codes
 abbrev pub known_by : SidesText → SideText → Kind → Items → Allowance

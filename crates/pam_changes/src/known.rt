@@ -1,12 +1,14 @@
 //! What is known of the answers of the modules of a stack.
 
-ghost use Rattle.std.specs.Prelude.{◌≡◌, ◌≢◌, ℕ, [], IfOk, IfSome, IsFalse, IsTrue, List, Some, unwrap_or};
+ghost use Rattle.std.specs.Prelude.{◌≡◌, ◌≢◌, ℕ, [], IfOk, IfSome, IsFalse, IsTrue, List, map, unwrap_or};
 ghost use Rattle.std.specs.Option.{option_map};
 ghost use Rattle.pam_conf.specs.ItemsOf.{module_text};
 ghost use Rattle.pam_conf.specs.Stack.{module_count};
 ghost use Rattle.pam_facts.specs.Answers.{Allows};
-ghost use Rattle.pam_changes.specs.Known.{AreThereAlike, alike_partner, alike_partners, is_alike, is_alike_at, known_codes, line_at, line_of};
+ghost use Rattle.pam_changes.specs.Known.{AreThereAlike, alike_partner, alike_partners, is_alike, is_alike_at};
+ghost use Rattle.pam_changes.specs.Known.{codes_listed, codes_set, codes_told, known_codes, sets, told_at};
 ghost use Rattle.pam_changes.specs.Sides.{side_view, sides_view};
+ghost use Rattle.pam_settings.specs.Settings.{setting_view};
 
 use crate::sides::{Side, Sides};
 use pam_codes::CodeSet;
@@ -15,45 +17,85 @@ use pam_conf::{Kind, Module, Stack};
 use pam_facts::is_there;
 use pam_known::name_of_path;
 use pam_paths::Known;
+use pam_settings::Setting;
 use pam_tables::ReturnTable;
 use pam_text::Texts;
 use std::alloc::{AllocError, Global};
 
-/// The codes of a module's line in the returns file, if it has one and is there.
-fn codes_of(there: Option<&Texts>, returns: &ReturnTable<'_>, module: &Module) -> Option<CodeSet>
-    ensures codes { result ≡ line_of (Some returns.now) (option_map (λ t. t.now) there.entry) (module_text «module».now) }
+/// Whether a setting sets codes for the modules of a name.
+fn sets(name: &[u8], setting: &Setting<'_>) -> bool
+    ensures { result ≡ sets name.now (setting_view setting.now) }
+{
+    setting.codes.len() != 0 && setting.key.as_bytes() == name
+}
+
+/// The codes that are set for the modules of a name.
+fn codes_set(name: &[u8], settings: &[Setting<'_>]) -> Option<CodeSet>
+    ensures codes { result ≡ codes_set name.now (map setting_view settings.now) }
+    ensures some { IfSome result (λ codes. codes ≢ []) }
+{
+    let mut found = None;
+    for setting in settings {
+        if sets(name, setting) {
+            found = Some(setting.codes);
+        }
+    }
+    found
+}
+
+/// The codes of their line in the returns file, if there is one.
+fn codes_listed(returns: Option<&ReturnTable<'_>>, name: &[u8]) -> Option<CodeSet>
+    ensures codes { result ≡ codes_listed (option_map (λ t. t.now) returns.entry) name.now }
+    ensures some { IfSome result (λ codes. codes ≢ []) }
+{
+    match returns {
+        Some(returns) => returns.codes(name),
+        None => None,
+    }
+}
+
+/// The codes that are set for a module, or else those of its line, if it is there.
+fn codes_told(sides: &Sides<'_, '_>, there: Option<&Texts>, module: &Module) -> Option<CodeSet>
+    ensures codes { let known = sides_view sides.now in
+        result ≡ codes_told known.returns known.settings (option_map (λ t. t.now) there.entry) (module_text «module».now) }
     ensures some { IfSome result (λ codes. codes ≢ []) }
 {
     if !is_there(there, &module.path) {
         return None;
     }
-    returns.codes(name_of_path(&module.path))
+    let name = name_of_path(&module.path);
+    match codes_set(name, sides.settings) {
+        Some(codes) => Some(codes),
+        None => codes_listed(sides.returns, name),
+    }
 }
 
 /// The same, by the number of the module.
-#[tactic(auto, unfolding(crate::specs::Known::line_at))]
-fn codes_at(
+#[tactic(auto, unfolding(crate::specs::Known::told_at))]
+fn told_at(
+    sides: &Sides<'_, '_>,
     there: Option<&Texts>,
-    returns: &ReturnTable<'_>,
     stack: &Stack,
     number: usize,
 ) -> Option<CodeSet>
-    ensures codes { result ≡ line_at (Some returns.now) (option_map (λ t. t.now) there.entry) stack.now number }
+    ensures codes { let known = sides_view sides.now in
+        result ≡ told_at known.returns known.settings (option_map (λ t. t.now) there.entry) stack.now number }
     ensures some { IfSome result (λ codes. codes ≢ []) }
 {
     match stack.module(number) {
-        Some(module) => codes_of(there, returns, module),
+        Some(module) => codes_told(sides, there, module),
         None => None,
     }
 }
 
-/// Sets the codes of the modules that have a line in the returns file.
-fn add_returns(there: Option<&Texts>, returns: &ReturnTable<'_>, stack: &Stack, known: &mut Known)
-    ensures { (base : ℕ → List ℕ) → Allows (module_count stack.now) known.old base → Allows (module_count stack.now) known.new
-        (λ number. unwrap_or (line_at (Some returns.now) (option_map (λ t. t.now) there.entry) stack.now number) (base number)) }
+/// Sets the codes of the modules for which codes are set, or that have a line in the returns file.
+fn add_told(sides: &Sides<'_, '_>, there: Option<&Texts>, stack: &Stack, known: &mut Known)
+    ensures { let told = sides_view sides.now in
+        (base : ℕ → List ℕ) → Allows (module_count stack.now) known.old base → Allows (module_count stack.now) known.new
+        (λ number. unwrap_or (told_at told.returns told.settings (option_map (λ t. t.now) there.entry) stack.now number) (base number)) }
 {
     for index in 0..stack.modules() {
-        if let Some(codes) = codes_at(there, returns, stack, index + 1) {
+        if let Some(codes) = told_at(sides, there, stack, index + 1) {
             // A set says with its length that its codes are in order.
             let _count = codes.len();
             known.set(index + 1, codes);
@@ -61,8 +103,8 @@ fn add_returns(there: Option<&Texts>, returns: &ReturnTable<'_>, stack: &Stack, 
     }
 }
 
-/// The codes that the modules of a stack may answer: `module_unknown` if a module is not there, else the codes of its line in the
-/// returns file, else what facts say.
+/// The codes that the modules of a stack may answer: `module_unknown` if a module is not there, else the codes that are set for it, else
+/// those of its line in the returns file, else what facts say.
 #[tactic(auto, unfolding(crate::specs::Known::known_codes))]
 pub(crate) fn known_answers(
     sides: &Sides<'_, '_>,
@@ -73,9 +115,7 @@ pub(crate) fn known_answers(
     ensures { Allows (module_count stack.now) result (known_codes (sides_view sides.now) (side_view side.now) kind stack.now) }
 {
     let mut known = sides.facts.answers(stack, kind, side.there);
-    if let Some(returns) = sides.returns {
-        add_returns(side.there, returns, stack, &mut known);
-    }
+    add_told(sides, side.there, stack, &mut known);
     known
 }
 

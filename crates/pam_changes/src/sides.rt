@@ -2,6 +2,7 @@
 
 use pam_conf::Files;
 use pam_facts::Facts;
+use pam_settings::Setting;
 use pam_tables::ReturnTable;
 use pam_text::Texts;
 
@@ -20,4 +21,7 @@ pub struct Sides<'x, 'f> {
     pub facts: &'x Facts<'f>,
     /// What modules are known to answer by a returns file, if one is given.
     pub returns: Option<&'x ReturnTable<'x>>,
+    /// What modules are known to answer by their names, whatever the returns file says of them. Of several for one module, the last
+    /// counts. One whose key is no name of a module, or that has no code, tells nothing.
+    pub settings: &'x [Setting<'x>],
 }

@@ -13,7 +13,7 @@ use Rattle.pam_explain.specs.Released.{continued_lines, controls_and_lengths, na
 use Rattle.pam_explain.specs.Rules.{broken_controls, broken_rules}
 use Rattle.pam_explain.specs.Stacks.{broken_includes, limits, missing_and_long_files}
 use Rattle.pam_explain.specs.Tables.{accept_and_facts_files, lists_and_groups, returns_files, table_lines, table_words}
-use Rattle.pam_explain.specs.Words.{filters_and_forms, numbers_and_candidates, questions, reads_and_writes, sources_and_names}
+use Rattle.pam_explain.specs.Words.{filters_and_forms, names_and_candidates, questions, settings_and_files, sources_and_names}
 
 abbrev pub has_rows : List Explanation → Bool
 has_rows [] = false
@@ -21,8 +21,8 @@ has_rows (row ∷ rows) = true
 
 pub all_have_rows : list_all has_rows families ≡ true
 unfolding families broken_controls broken_rules broken_includes limits missing_and_long_files lists_and_groups returns_files table_lines table_words
-    cursors moments filters_and_forms questions reads_and_writes sources_and_names continued_lines controls_and_lengths names_and_blanks
-    limits_and_rules modules_and_files whole_stacks accept_and_facts_files numbers_and_candidates access_lines access_masks time_lines
+    cursors moments filters_and_forms questions settings_and_files sources_and_names continued_lines controls_and_lengths names_and_blanks
+    limits_and_rules modules_and_files whole_stacks accept_and_facts_files names_and_candidates access_lines access_masks time_lines
 all_have_rows = refl
 
 pub are_few : length families ≡ 26

@@ -9,7 +9,7 @@ use Rattle.pam_explain.specs.Released.{continued_lines, controls_and_lengths, na
 use Rattle.pam_explain.specs.Rules.{broken_controls, broken_rules}
 use Rattle.pam_explain.specs.Stacks.{broken_includes, limits, missing_and_long_files}
 use Rattle.pam_explain.specs.Tables.{accept_and_facts_files, lists_and_groups, returns_files, table_lines, table_words}
-use Rattle.pam_explain.specs.Words.{filters_and_forms, numbers_and_candidates, questions, reads_and_writes, sources_and_names}
+use Rattle.pam_explain.specs.Words.{filters_and_forms, names_and_candidates, questions, settings_and_files, sources_and_names}
 
 -- in the order of the numbers
 unfoldable pub families : List (List Explanation)
@@ -18,7 +18,7 @@ families =
     ∷ broken_includes ∷ missing_and_long_files ∷ limits
     ∷ table_lines ∷ table_words ∷ lists_and_groups ∷ returns_files ∷ accept_and_facts_files
     ∷ cursors ∷ moments
-    ∷ sources_and_names ∷ questions ∷ filters_and_forms ∷ numbers_and_candidates ∷ reads_and_writes
+    ∷ sources_and_names ∷ questions ∷ filters_and_forms ∷ names_and_candidates ∷ settings_and_files
     ∷ continued_lines ∷ controls_and_lengths ∷ names_and_blanks
     ∷ access_lines ∷ access_masks ∷ time_lines
     ∷ whole_stacks ∷ modules_and_files ∷ limits_and_rules

@@ -153,6 +153,23 @@ filters_and_forms =
           codes "take the number from the lines that show prints.";
     }
     ∷ record {
+      number = codes "U10";
+      name = codes "NoSuchKey";
+      level = Error;
+      meaning =
+          codes "The KEY of a --set names no module: it is not the name of a module of the\n"
+          ++ codes "stack, nor its number, nor FILE:LINE of its rule. compare takes names alone.";
+      example =
+          codes "# login"
+          ∷ codes "auth required pam_unix.so"
+          ∷ codes "$ pamcheck paths login auth --dir . --set pam_unx.so=success"
+          ∷ [];
+      linux_pam =
+          codes "this is a fault of the words that pamcheck was given.";
+      mending =
+          codes "take the name, the number or the place from the lines that show prints.";
+    }
+    ∷ record {
       number = codes "U11";
       name = codes "BothFilters";
       level = Error;
@@ -181,26 +198,26 @@ filters_and_forms =
           codes "write dot or mermaid, in small letters. Graphviz makes a picture\n"
           ++ codes "of the first: dot -Tpng.";
     }
-    ∷ record {
-      number = codes "U13";
-      name = codes "LevelName";
+    ∷ []
+
+-- reads and writes
+unfoldable pub settings_and_files : List Explanation
+settings_and_files =
+    record {
+      number = codes "U17";
+      name = codes "SettingForm";
       level = Error;
       meaning =
-          codes "The word after --fail-on is not a level.";
+          codes "A value of --set does not have the form KEY=CODES.";
       example =
-          codes "$ pamcheck check --dir . --fail-on fatal"
+          codes "$ pamcheck paths login auth --dir . --set pam_unix.so"
           ∷ [];
       linux_pam =
           codes "this is a fault of the words that pamcheck was given.";
       mending =
-          codes "write error, warning or note, in small letters.";
+          codes "write --set KEY=CODES, as --set pam_unix.so=success,auth_err.";
     }
-    ∷ []
-
--- reads and writes
-unfoldable pub reads_and_writes : List Explanation
-reads_and_writes =
-    record {
+    ∷ record {
       number = codes "V1";
       name = codes "Read";
       level = Error;
@@ -236,9 +253,23 @@ reads_and_writes =
     ∷ []
 
 -- a number to explain, and candidates
-unfoldable pub numbers_and_candidates : List Explanation
-numbers_and_candidates =
+unfoldable pub names_and_candidates : List Explanation
+names_and_candidates =
     record {
+      number = codes "U13";
+      name = codes "LevelName";
+      level = Error;
+      meaning =
+          codes "The word after --fail-on is not a level.";
+      example =
+          codes "$ pamcheck check --dir . --fail-on fatal"
+          ∷ [];
+      linux_pam =
+          codes "this is a fault of the words that pamcheck was given.";
+      mending =
+          codes "write error, warning or note, in small letters.";
+    }
+    ∷ record {
       number = codes "U14";
       name = codes "NoSuchNumber";
       level = Error;

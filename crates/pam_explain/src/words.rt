@@ -140,6 +140,22 @@ static FILTERS_AND_FORMS: [Explanation; 4] = [
         mending: "take the number from the lines that show prints.",
     },
     Explanation {
+        number: "U10",
+        name: "NoSuchKey",
+        level: Level::Error,
+        meaning: concat!(
+            "The KEY of a --set names no module: it is not the name of a module of the\n",
+            "stack, nor its number, nor FILE:LINE of its rule. compare takes names alone."
+        ),
+        example: &[
+            "# login",
+            "auth required pam_unix.so",
+            "$ pamcheck paths login auth --dir . --set pam_unx.so=success",
+        ],
+        linux_pam: "this is a fault of the words that pamcheck was given.",
+        mending: "take the name, the number or the place from the lines that show prints.",
+    },
+    Explanation {
         number: "U11",
         name: "BothFilters",
         level: Level::Error,
@@ -160,15 +176,6 @@ static FILTERS_AND_FORMS: [Explanation; 4] = [
             "of the first: dot -Tpng."
         ),
     },
-    Explanation {
-        number: "U13",
-        name: "LevelName",
-        level: Level::Error,
-        meaning: "The word after --fail-on is not a level.",
-        example: &["$ pamcheck check --dir . --fail-on fatal"],
-        linux_pam: "this is a fault of the words that pamcheck was given.",
-        mending: "write error, warning or note, in small letters.",
-    },
 ];
 
 #[tactic(auto, unfolding(crate::specs::Words::filters_and_forms))]
@@ -178,7 +185,16 @@ pub(crate) fn filters_and_forms() -> &'static [Explanation]
     &FILTERS_AND_FORMS
 }
 
-static READS_AND_WRITES: [Explanation; 2] = [
+static SETTINGS_AND_FILES: [Explanation; 3] = [
+    Explanation {
+        number: "U17",
+        name: "SettingForm",
+        level: Level::Error,
+        meaning: "A value of --set does not have the form KEY=CODES.",
+        example: &["$ pamcheck paths login auth --dir . --set pam_unix.so"],
+        linux_pam: "this is a fault of the words that pamcheck was given.",
+        mending: "write --set KEY=CODES, as --set pam_unix.so=success,auth_err.",
+    },
     Explanation {
         number: "V1",
         name: "Read",
@@ -210,14 +226,23 @@ static READS_AND_WRITES: [Explanation; 2] = [
     },
 ];
 
-#[tactic(auto, unfolding(crate::specs::Words::reads_and_writes))]
-pub(crate) fn reads_and_writes() -> &'static [Explanation]
-    ensures { map explanation_view result.now ≡ spec.reads_and_writes }
+#[tactic(auto, unfolding(crate::specs::Words::settings_and_files))]
+pub(crate) fn settings_and_files() -> &'static [Explanation]
+    ensures { map explanation_view result.now ≡ spec.settings_and_files }
 {
-    &READS_AND_WRITES
+    &SETTINGS_AND_FILES
 }
 
-static NUMBERS_AND_CANDIDATES: [Explanation; 3] = [
+static NAMES_AND_CANDIDATES: [Explanation; 4] = [
+    Explanation {
+        number: "U13",
+        name: "LevelName",
+        level: Level::Error,
+        meaning: "The word after --fail-on is not a level.",
+        example: &["$ pamcheck check --dir . --fail-on fatal"],
+        linux_pam: "this is a fault of the words that pamcheck was given.",
+        mending: "write error, warning or note, in small letters.",
+    },
     Explanation {
         number: "U14",
         name: "NoSuchNumber",
@@ -256,9 +281,9 @@ static NUMBERS_AND_CANDIDATES: [Explanation; 3] = [
     },
 ];
 
-#[tactic(auto, unfolding(crate::specs::Words::numbers_and_candidates))]
-pub(crate) fn numbers_and_candidates() -> &'static [Explanation]
-    ensures { map explanation_view result.now ≡ spec.numbers_and_candidates }
+#[tactic(auto, unfolding(crate::specs::Words::names_and_candidates))]
+pub(crate) fn names_and_candidates() -> &'static [Explanation]
+    ensures { map explanation_view result.now ≡ spec.names_and_candidates }
 {
-    &NUMBERS_AND_CANDIDATES
+    &NAMES_AND_CANDIDATES
 }

@@ -120,6 +120,7 @@ module _ (IsAnswerOf : Items → Allowance → Answer → Type 0) (told : Result
   fault-found (faults.Count e) h = from-err (faults.Count e) h
   fault-found faults.TooManyStates h = from-err faults.TooManyStates h
   fault-found faults.NoSuchModule h = from-err faults.NoSuchModule h
+  fault-found faults.NoSuchKey h = from-err faults.NoSuchKey h
   fault-found (faults.Facts e) h = from-err (faults.Facts e) h
   fault-found (faults.Accept e) h = from-err (faults.Accept e) h
   fault-found faults.NoSuchNumber h = from-err faults.NoSuchNumber h

@@ -1,5 +1,6 @@
 pub mod CheckAnswers
 pub mod Civil
+pub mod ComparedSteps
 pub mod Drawings
 pub mod GoalPages
 pub mod Kept
@@ -7,6 +8,7 @@ pub mod KnownStacks
 pub mod OutcomeLists
 pub mod PageParts
 pub mod ReleasedRules
+pub mod SettingSteps
 pub mod SilentChecks
 pub mod TraceSteps
 pub mod WalkPages

@@ -36,6 +36,7 @@ module _ (paging : Paging) (graph : GraphValue) (goal : Goal) where
   part-listed (Err faults.Device) part listed to h are = absurd are
   part-listed (Err faults.TooManyStates) part listed to h are = absurd are
   part-listed (Err faults.NoSuchModule) part listed to h are = absurd are
+  part-listed (Err faults.NoSuchKey) part listed to h are = absurd are
   part-listed (Err faults.NoSuchNumber) part listed to h are = absurd are
   part-listed (Err (faults.Facts e)) part listed to h are = absurd are
   part-listed (Err (faults.Accept e)) part listed to h are = absurd are
@@ -105,6 +106,7 @@ module _ (paging : Paging) (graph : GraphValue) (goal : Goal) where
   refused-listed K part one faults.Device same h = absurd h
   refused-listed K part one faults.TooManyStates same h = absurd h
   refused-listed K part one faults.NoSuchModule same h = absurd h
+  refused-listed K part one faults.NoSuchKey same h = absurd h
   refused-listed K part one faults.NoSuchNumber same h = absurd h
   refused-listed K part one (faults.Facts e) same h = absurd h
   refused-listed K part one (faults.Accept e) same h = absurd h

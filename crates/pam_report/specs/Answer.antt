@@ -26,6 +26,7 @@ use Rattle.pam_times.specs.Times.{Rule, answer_of as time_answer_of}
 use Rattle.pam_times.specs.declared.error.TimeError.{TimeError}
 use Rattle.pam_times.specs.declared.moments.MomentError.{MomentError}
 use Rattle.pam_times.specs.declared.times.TimeAnswer.{TimeAnswer}
+use Rattle.pam_settings.specs.Settings.{SettingText, setting_view}
 use Rattle.pam_words.specs.declared.wanted.Login.{Login}
 use Rattle.pam_words.specs.declared.wanted.ReleaseName.{ReleaseName}
 use Rattle.pam_words.specs.declared.wanted.Task.{Task}
@@ -34,7 +35,7 @@ use Rattle.pam_report.specs.Check.{IsCheck}
 use Rattle.pam_report.specs.Compare.{IsCompare}
 use Rattle.pam_report.specs.Decide.{asked_modules}
 use Rattle.pam_report.specs.Graph.{IsGraphReply}
-use Rattle.pam_report.specs.Inputs.{access_given, files_given, group_file, groups_in, no_files, time_given}
+use Rattle.pam_report.specs.Inputs.{access_given, files_given, group_file, groups_in, no_files, there_given, time_given}
 use Rattle.pam_report.specs.KnownStack.{KnownItems, known_stack}
 use Rattle.pam_report.specs.Finds.{Finds, IsTableFault, IsTimeFault}
 use Rattle.pam_report.specs.Memory.{WantsOnly, wants}
@@ -45,6 +46,7 @@ use Rattle.pam_report.specs.Released.{ReleasedValue, released}
 use Rattle.pam_report.specs.Reply.{Answer, RunValue, Released, Run, Stack}
 use Rattle.pam_report.specs.Reply.{Explained, Explanations}
 use Rattle.pam_report.specs.Reply.{Access as AccessReply, Facts as FactsReply, Time as TimeReply, Version as VersionReply}
+use Rattle.pam_report.specs.Settings.{with_settings}
 use Rattle.pam_report.specs.declared.inputs.Inputs.{Inputs}
 use Rattle.pam_report.specs.declared.fault.Fault.{Fault}
 use Rattle.pam_report.specs.declared.fault.Fault.TheVariants as faults
@@ -134,8 +136,9 @@ abbrev pub login_at : List ℕ → Login → LoginText
 login_at service login = login_in (map to_ascii_lowercase service) login
 
 -- the stack of a service for a kind, from these files, with the codes that its modules may return to a login at a moment
-abbrev pub stack_at : List ℕ → Kind → Login → Inputs → Option (Result DateTime MomentError) → Folder → Result KnownItems Fault
-stack_at service kind login inputs moment files = known_stack kind (login_at service login) inputs moment (resolved files service kind)
+abbrev pub stack_at : List ℕ → Kind → Login → List SettingText → Inputs → Option (Result DateTime MomentError) → Folder → Result KnownItems Fault
+stack_at service kind login settings inputs moment files =
+    with_settings files (there_given inputs) settings (known_stack kind (login_at service login) inputs moment (resolved files service kind))
 
 -- what a call gives that answers a task for a service, from these files and the tables of these inputs, if this is what it
 -- gives for an answer that satisfies a relation
@@ -152,18 +155,19 @@ module _ (Gives : (Answer → Type 0) → Type 0) where
   AnswersBy service (Paths source kind limit part filter knowledge) files inputs =
       (at : Option (Result DateTime MomentError)) × IsGivenMoment knowledge.moment at
       × Gives
-      (IsPage (record { service = service; kind = kind; limit = limit; part = part; filter = filter }) (stack_at service kind knowledge.login inputs at files))
+      (IsPage (record { service = service; kind = kind; limit = limit; part = part; filter = filter }) (stack_at service kind knowledge.login (map setting_view knowledge.settings.items) inputs at files))
   AnswersBy service (Outcomes source kind knowledge) files inputs =
       (at : Option (Result DateTime MomentError)) × IsGivenMoment knowledge.moment at
-      × Gives (IsOutcomes service kind (stack_at service kind knowledge.login inputs at files))
+      × Gives (IsOutcomes service kind (stack_at service kind knowledge.login (map setting_view knowledge.settings.items) inputs at files))
   AnswersBy service (Check source services fail_on named) files inputs = Gives (IsCheck services fail_on named files inputs)
-  AnswersBy service (Compare old new named kind given) files inputs = Gives (IsCompare (option_copied named) kind inputs)
+  AnswersBy service (Compare old new named kind given) files inputs =
+      Gives (IsCompare (option_copied named) kind (map setting_view given.settings.items) inputs)
   AnswersBy service (Explain number) files inputs = Gives (λ answer. explained (option_copied number) ≡ answer)
   AnswersBy service Facts files inputs = Gives (λ answer. Ok FactsReply ≡ answer)
   AnswersBy service Version files inputs = Gives (λ answer. Ok VersionReply ≡ answer)
   AnswersBy service (Graph source kind format knowledge) files inputs =
       (at : Option (Result DateTime MomentError)) × IsGivenMoment knowledge.moment at
-      × Gives (IsGraphReply format service kind (stack_at service kind knowledge.login inputs at files))
+      × Gives (IsGraphReply format service kind (stack_at service kind knowledge.login (map setting_view knowledge.settings.items) inputs at files))
 
 -- THE REPLY to a task for a service, from these inputs
 abbrev pub Replies : Result Reply Fault → List ℕ → Task → Inputs → Type 0

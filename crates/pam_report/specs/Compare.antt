@@ -1,5 +1,6 @@
 -- The reply of `compare`: what changes from one configuration to another.
-use Rattle.std.specs.Prelude.{◌≡◌, ◌≢◌, ⊤, ℕ, List, [], ◌∷◌, Option, Some, None, Result, Ok, Err, is_some, true}
+use Rattle.std.specs.Prelude.{◌≡◌, ◌≢◌, ⊤, ℕ, Bool, List, [], ◌∷◌, Option, Some, None, Result, Ok, Err, is_some, false, true}
+use Rattle.std.specs.List.{list_all}
 use Rattle.pam_changes.specs.Changes.{AreChanges}
 use Rattle.pam_changes.specs.Sides.{SideText, SidesText}
 use Rattle.pam_changes.specs.declared.changes.HostChanges.{HostChanges}
@@ -8,11 +9,13 @@ use Rattle.pam_facts.specs.Reading.{known_rows}
 use Rattle.pam_facts.specs.Rows.{Row}
 use Rattle.pam_facts.specs.declared.error.FactsError.{FactsError}
 use Rattle.pam_facts.specs.declared.error.FactsFault.TheVariants as facts_faults
+use Rattle.pam_settings.specs.Settings.{SettingText}
 use Rattle.pam_tables.specs.Error.{FailsAt}
 use Rattle.pam_tables.specs.Returns.{ReturnLine, returns_of}
 use Rattle.pam_tables.specs.declared.error.Table.TheVariants as tables
 use Rattle.pam_tables.specs.declared.error.TableError.{TableError}
 use Rattle.pam_tables.specs.declared.error.TableFault.{TableFault}
+use Rattle.pam_report.specs.ComparedKeys.{names_module_in}
 use Rattle.pam_report.specs.Fault.{facts_fault}
 use Rattle.pam_report.specs.Inputs.{facts_given, new_given, no_files, old_given, returns_given}
 use Rattle.pam_report.specs.Reply.{Answer, Compared, CompareValue}
@@ -27,8 +30,18 @@ side_of None = record { folder = no_files; there = None }
 side_of (Some side) = record { folder = side.files; there = side.there }
 
 -- the two configurations of a comparison, and what is known of their modules
-abbrev pub sides_of : Inputs → List Row → Option (List ReturnLine) → SidesText
-sides_of inputs facts returns = record { old = side_of (old_given inputs); new = side_of (new_given inputs); facts = facts; returns = returns }
+abbrev pub sides_of : Inputs → List Row → Option (List ReturnLine) → List SettingText → SidesText
+sides_of inputs facts returns settings = record {
+  old = side_of (old_given inputs);
+  new = side_of (new_given inputs);
+  facts = facts;
+  returns = returns;
+  settings = settings;
+}
+
+-- each key of a setting is the name of a module of either configuration
+abbrev pub are_named : Inputs → List SettingText → Bool
+are_named inputs settings = list_all (names_module_in (side_of (old_given inputs)).folder (side_of (new_given inputs)).folder) settings
 
 -- the service that is named, if there is one
 abbrev pub names_of : Option (List ℕ) → List (List ℕ)
@@ -47,20 +60,25 @@ lines_of (Some bytes) = some_lines (returns_of bytes)
 abbrev pub returns_fault : TableFault × ℕ → Fault
 returns_fault e = faults.Table (record { table = tables.Returns; fault = e.0; line = e.1 })
 
--- what is compared: the service and the kind that are named, or all
-module _ (service : Option (List ℕ)) (kind : Option Kind) (inputs : Inputs) where
+-- what is compared: the service and the kind that are named, or all, with what is set for modules
+module _ (service : Option (List ℕ)) (kind : Option Kind) (settings : List SettingText) (inputs : Inputs) where
   -- the changes by these facts and returns
   pub record IsCompareOf (facts : List Row) (returns : Option (List ReturnLine)) (value : CompareValue) : Type 0 where
     pub old : value.old ≡ (side_of (old_given inputs)).folder
     pub new : value.new ≡ (side_of (new_given inputs)).folder
-    pub changes : AreChanges (sides_of inputs facts returns) (names_of service) kind value.changes
+    pub changes : AreChanges (sides_of inputs facts returns settings) (names_of service) kind value.changes
 
-  -- a fault of the facts file comes before one of the returns file
+  -- where each key names a module
+  abbrev pub IsComparedIf : Bool → List Row → Option (List ReturnLine) → Answer → Type 0
+  IsComparedIf false facts returns answer = answer ≡ Err faults.NoSuchKey
+  IsComparedIf true facts returns (Ok (Compared value)) = IsCompareOf facts returns value
+  IsComparedIf true facts returns answer = ⊥
+
+  -- a fault of the facts file comes before one of the returns file, and that before a key
   abbrev pub IsCompared : Result (List Row) FactsError → Result (Option (List ReturnLine)) (TableFault × ℕ) → Answer → Type 0
   IsCompared (Err e) returns answer = answer ≡ Err (facts_fault e)
   IsCompared (Ok facts) (Err e) answer = answer ≡ Err (returns_fault e)
-  IsCompared (Ok facts) (Ok returns) (Ok (Compared value)) = IsCompareOf facts returns value
-  IsCompared (Ok facts) (Ok returns) answer = ⊥
+  IsCompared (Ok facts) (Ok returns) answer = IsComparedIf (are_named inputs settings) facts returns answer
 
   -- THE REPLY of `compare`
   abbrev pub IsCompare : Answer → Type 0
@@ -69,12 +87,13 @@ module _ (service : Option (List ℕ)) (kind : Option Kind) (inputs : Inputs) wh
 -- ---- for private contracts and proofs alone
 
 -- changes by what the facts file and the returns file say
-pub record IsFound (service : Option (List ℕ)) (kind : Option Kind) (inputs : Inputs) (changes : HostChanges) : Type 0 where
+pub record IsFound (service : Option (List ℕ)) (kind : Option Kind) (settings : List SettingText) (inputs : Inputs) (changes : HostChanges) : Type 0 where
   pub facts : List Row
   pub returns : Option (List ReturnLine)
   pub known : known_rows (facts_given inputs) ≡ Ok facts
   pub lines : lines_of (returns_given inputs) ≡ Ok returns
-  pub are_changes : AreChanges (sides_of inputs facts returns) (names_of service) kind changes
+  pub named : are_named inputs settings ≡ true
+  pub are_changes : AreChanges (sides_of inputs facts returns settings) (names_of service) kind changes
 
 -- a fault of the returns file, which is given
 pub record IsReturnsFault (inputs : Inputs) (e : TableError) : Type 0 where
@@ -82,9 +101,18 @@ pub record IsReturnsFault (inputs : Inputs) (e : TableError) : Type 0 where
   pub table : e.table ≡ tables.Returns
   pub fault : FailsAt e.fault e.line (lines_of (returns_given inputs))
 
--- a fault of the facts file, or of the returns file if the facts file has none, or a failed allocation
-abbrev pub IsUnfound : Inputs → Fault → Type 0
-IsUnfound inputs (faults.Facts e) = (known_rows (facts_given inputs) ≡ Err e) × (e.fault ≢ facts_faults.Memory)
-IsUnfound inputs (faults.Table e) = ((facts : List Row) × (known_rows (facts_given inputs) ≡ Ok facts)) × IsReturnsFault inputs e
-IsUnfound inputs faults.Memory = ⊤
-IsUnfound inputs fault = ⊥
+-- a key that names no module, where the files have no fault
+pub record IsKeyFault (settings : List SettingText) (inputs : Inputs) : Type 0 where
+  pub facts : List Row
+  pub returns : Option (List ReturnLine)
+  pub known : known_rows (facts_given inputs) ≡ Ok facts
+  pub lines : lines_of (returns_given inputs) ≡ Ok returns
+  pub named : are_named inputs settings ≡ false
+
+-- a fault of the facts file, or of the returns file if the facts file has none, or a key, or a failed allocation
+abbrev pub IsUnfound : List SettingText → Inputs → Fault → Type 0
+IsUnfound settings inputs (faults.Facts e) = (known_rows (facts_given inputs) ≡ Err e) × (e.fault ≢ facts_faults.Memory)
+IsUnfound settings inputs (faults.Table e) = ((facts : List Row) × (known_rows (facts_given inputs) ≡ Ok facts)) × IsReturnsFault inputs e
+IsUnfound settings inputs faults.NoSuchKey = IsKeyFault settings inputs
+IsUnfound settings inputs faults.Memory = ⊤
+IsUnfound settings inputs fault = ⊥

@@ -15,8 +15,8 @@ use Rattle.pam_known.specs.declared.error.KnownError.{KnownError}
 use Rattle.pam_known.specs.declared.error.KnownError.TheVariants as known
 use Rattle.pam_paths.specs.declared.cursor.CursorError.{CursorError}
 use Rattle.pam_paths.specs.declared.cursor.CursorError.TheVariants as cursor
-use Rattle.pam_report.specs.FaultTable.{Row, accept_row, conf_row, count_row, cursor_row, facts_row, graph_row, input_row, memory_row, module_row, moment_row}
-use Rattle.pam_report.specs.FaultTable.{number_row, table_name, table_row, time_row, usage_row, write_row}
+use Rattle.pam_report.specs.FaultTable.{Row, accept_row, conf_row, count_row, cursor_row, facts_row, graph_row, input_row, key_row, memory_row, module_row}
+use Rattle.pam_report.specs.FaultTable.{moment_row, number_row, table_name, table_row, time_row, usage_row, write_row}
 use Rattle.pam_report.specs.declared.fault.Fault.{Fault}
 use Rattle.pam_report.specs.declared.fault.Fault.TheVariants as faults
 use Rattle.pam_report.specs.declared.inputs.InputError.{InputError}
@@ -60,6 +60,7 @@ row_of (faults.Moment e) = moment_row e
 row_of (faults.Count e) = count_row
 row_of faults.TooManyStates = graph_row
 row_of faults.NoSuchModule = module_row
+row_of faults.NoSuchKey = key_row
 row_of faults.NoSuchNumber = number_row
 row_of (faults.Cursor e) = cursor_row e
 row_of faults.Device = write_row

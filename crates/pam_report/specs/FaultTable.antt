@@ -88,6 +88,9 @@ graph_row = row (codes "E19 TooManyStates") 3
 abbrev pub module_row : Row
 module_row = row (codes "U9 NoSuchModule") 2
 
+abbrev pub key_row : Row
+key_row = row (codes "U10 NoSuchKey") 2
+
 abbrev pub number_row : Row
 number_row = row (codes "U14 NoSuchNumber") 2
 

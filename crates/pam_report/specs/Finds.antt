@@ -35,6 +35,7 @@ Refuses IsAnswer (faults.Conf e) = IsConfFault IsAnswer e e.kind
 Refuses IsAnswer (faults.Count e) = IsAnswer (Err (faults.Count e))
 Refuses IsAnswer faults.TooManyStates = IsAnswer (Err faults.TooManyStates)
 Refuses IsAnswer faults.NoSuchModule = IsAnswer (Err faults.NoSuchModule)
+Refuses IsAnswer faults.NoSuchKey = IsAnswer (Err faults.NoSuchKey)
 Refuses IsAnswer (faults.Facts e) = IsAnswer (Err (faults.Facts e))
 Refuses IsAnswer (faults.Accept e) = IsAnswer (Err (faults.Accept e))
 Refuses IsAnswer faults.NoSuchNumber = IsAnswer (Err faults.NoSuchNumber)

@@ -2,6 +2,7 @@ pub mod Accepting
 pub mod Answer
 pub mod Check
 pub mod Compare
+pub mod ComparedKeys
 pub mod Decide
 pub mod Fault
 pub mod FaultTable
@@ -22,5 +23,6 @@ pub mod Paths
 pub mod Released
 pub mod Reply
 pub mod ReplyViews
+pub mod Settings
 pub mod TablePaths
 pub mod TooLarge

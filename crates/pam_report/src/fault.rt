@@ -24,8 +24,9 @@ use pam_words::Usage;
 use row::Row;
 use std::alloc::{AllocError, Global};
 use table::{
-    accept_row, conf_row, count_row, cursor_row, facts_row, graph_row, input_row, memory_row,
-    module_row, moment_row, number_row, table_name, table_row, time_row, usage_row, write_row,
+    accept_row, conf_row, count_row, cursor_row, facts_row, graph_row, input_row, key_row,
+    memory_row, module_row, moment_row, number_row, table_name, table_row, time_row, usage_row,
+    write_row,
 };
 use thiserror::Error;
 
@@ -59,6 +60,9 @@ pub enum Fault {
     /// The stack has no module with the number that paths are to ask.
     #[error("the stack has no such module")]
     NoSuchModule,
+    /// The stack has no module with a key for which codes are set.
+    #[error("a key names no module of the stack")]
+    NoSuchKey,
     /// No fault or finding has the number that is to be explained.
     #[error("there is no such number")]
     NoSuchNumber,
@@ -117,6 +121,7 @@ fn row_of(fault: &Fault) -> Row
         Fault::Count(_) => count_row(),
         Fault::TooManyStates => graph_row(),
         Fault::NoSuchModule => module_row(),
+        Fault::NoSuchKey => key_row(),
         Fault::NoSuchNumber => number_row(),
         Fault::Cursor(error) => cursor_row(*error),
         Fault::Device => write_row(),
@@ -245,6 +250,7 @@ pub fn fault_text(alloc: Global, fault: &Fault, files: &Files) -> Result<Vec<u8>
         Fault::Moment(_)
         | Fault::TooManyStates
         | Fault::NoSuchModule
+        | Fault::NoSuchKey
         | Fault::NoSuchNumber
         | Fault::Device
         | Fault::Memory => line(alloc, row, &[]),

@@ -11,6 +11,7 @@ mod accepting;
 mod access;
 mod check;
 mod compare;
+mod compared_keys;
 mod decide;
 mod explain;
 mod goal_pages;
@@ -22,6 +23,7 @@ mod paths;
 mod released;
 mod renderer;
 mod replies;
+mod settings;
 mod show;
 mod table_keys;
 mod time;
@@ -139,10 +141,16 @@ fn reply_from<'a>(
             };
             checked(alloc, asked, files, inputs)
         }
-        Task::Compare { service, kind, .. } => {
+        Task::Compare {
+            service,
+            kind,
+            given,
+            ..
+        } => {
             let asked = CompareRequest {
                 service: *service,
                 kind: *kind,
+                settings: &given.settings,
             };
             compared(alloc, asked, inputs)
         }
@@ -179,7 +187,7 @@ fn reply_from<'a>(
                 filter: *filter,
             };
             let moment = given_moment(knowledge.moment);
-            answer_paths(alloc, &page, moment, files, inputs)
+            answer_paths(alloc, &page, moment, &knowledge.settings, files, inputs)
         }
         Task::Outcomes {
             kind,
@@ -188,7 +196,7 @@ fn reply_from<'a>(
         } => {
             let stack = stack_request(service, *kind, knowledge);
             let moment = given_moment(knowledge.moment);
-            answer_outcomes(alloc, &stack, moment, files, inputs)
+            answer_outcomes(alloc, &stack, moment, &knowledge.settings, files, inputs)
         }
         Task::Graph {
             kind,
@@ -201,7 +209,7 @@ fn reply_from<'a>(
                 format: *format,
             };
             let moment = given_moment(knowledge.moment);
-            answer_graph(alloc, &drawing, moment, files, inputs)
+            answer_graph(alloc, &drawing, moment, &knowledge.settings, files, inputs)
         }
         Task::Explain(number) => explained(*number),
         Task::Facts => Ok(Reply::Facts),

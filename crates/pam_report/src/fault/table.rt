@@ -109,6 +109,13 @@ pub(super) fn module_row() -> Row
     Row::of("U9 NoSuchModule", BAD_REQUEST)
 }
 
+/// The row of a key that names no module of the stack.
+pub(super) fn key_row() -> Row
+    ensures { row_view result ≡ spec.key_row }
+{
+    Row::of("U10 NoSuchKey", BAD_REQUEST)
+}
+
 /// The row of a number that no fault or finding has.
 pub(super) fn number_row() -> Row
     ensures { row_view result ≡ spec.number_row }

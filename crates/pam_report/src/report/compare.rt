@@ -1,23 +1,26 @@
 //! The `compare` command: what changes from one configuration to another.
 
-ghost use Rattle.std.specs.Prelude.{◌≡◌, IfOk, MatchResult, Ok, is_some, option_map};
+ghost use Rattle.std.specs.Prelude.{◌≡◌, IfOk, MatchResult, Ok, is_some, map, option_map};
 ghost use Rattle.std.specs.Option.{option_copied};
 ghost use Rattle.pam_changes.specs.Changes.{AreChanges};
 ghost use Rattle.pam_changes.specs.Sides.{side_view};
-ghost use Rattle.pam_report.specs.Compare.{IsCompare, IsFound, IsReturnsFault, IsUnfound, lines_of, names_of, side_of, sides_of};
+ghost use Rattle.pam_report.specs.Compare.{IsCompare, IsFound, IsReturnsFault, IsUnfound, are_named as are_named_in, lines_of, names_of, side_of, sides_of};
 ghost use Rattle.pam_report.specs.Finds.{Finds};
 ghost use Rattle.pam_report.specs.Inputs.{no_files, returns_given};
 ghost use Rattle.pam_report.specs.Memory.{WantsOnly, of_compare};
 ghost use Rattle.pam_report.specs.Reply.{compare_status};
 ghost use Rattle.pam_report.specs.ReplyViews.{compare_view, side_files};
+ghost use Rattle.pam_settings.specs.Settings.{setting_view};
 
 use super::Status;
+use super::compared_keys::are_keys;
 use super::replies::Reply;
 use crate::fault::{Fault, facts_fault};
 use crate::inputs::{Inputs, SideInputs};
 use pam_changes::{HostChanges, Side, Sides};
 use pam_conf::{Files, Form, Kind};
 use pam_facts::Facts;
+use pam_settings::Setting;
 use pam_tables::{ReturnTable, TableError};
 use pam_text::Texts;
 use std::alloc::{AllocError, Global};
@@ -31,11 +34,12 @@ pub struct CompareReply<'a> {
     pub changes: HostChanges,
 }
 
-/// The service and the kind that are compared, all if none is named.
+/// The service and the kind that are compared, all if none is named, and the codes that are set for modules.
 #[derive(Clone, Copy)]
 pub(super) struct CompareRequest<'x> {
     pub service: Option<&'x str>,
     pub kind: Option<Kind>,
+    pub settings: &'x [Setting<'x>],
 }
 
 impl CompareReply<'_> {
@@ -104,7 +108,8 @@ fn changes(
     returns: Option<&ReturnTable<'_>>,
 ) -> Result<HostChanges, AllocError>
     ensures { IfOk result
-        (AreChanges (sides_of inputs.now facts.now (option_map (λ t. t.now) returns.entry)) (names_of (option_copied asked.entry.service)) asked.entry.kind) }
+        (AreChanges (sides_of inputs.now facts.now (option_map (λ t. t.now) returns.entry) (map setting_view asked.entry.settings.now))
+        (names_of (option_copied asked.entry.service)) asked.entry.kind) }
 {
     let names = names(alloc, asked.service)?;
     let none = Files::new(alloc, Form::Dir);
@@ -113,13 +118,26 @@ fn changes(
         new: side(inputs.new_side(), &none),
         facts,
         returns,
+        settings: asked.settings,
     };
     HostChanges::of(alloc, &sides, &names, asked.kind)
 }
 
-/// Compares the two configurations, or returns the first fault: of the facts file, then of the returns file.
+/// Whether each key of a setting is the name of a module of either configuration.
+fn are_named(alloc: Global, inputs: &Inputs, settings: &[Setting<'_>]) -> Result<bool, AllocError>
+    ensures { IfOk result (λ all. all ≡ are_named_in inputs.now (map setting_view settings.now)) }
+{
+    let none = Files::new(alloc, Form::Dir);
+    let old = side(inputs.old_side(), &none);
+    let new = side(inputs.new_side(), &none);
+    are_keys(alloc, old.files, new.files, settings)
+}
+
+/// Compares the two configurations, or returns the first fault: of the facts file, then of the returns file, then that a key of a setting
+/// names no module.
 fn found(alloc: Global, asked: CompareRequest<'_>, inputs: &Inputs) -> Result<HostChanges, Fault>
-    ensures { MatchResult result (IsFound (option_copied asked.entry.service) asked.entry.kind inputs.now) (IsUnfound inputs.now) }
+    ensures { let settings = map setting_view asked.entry.settings.now in
+        MatchResult result (IsFound (option_copied asked.entry.service) asked.entry.kind settings inputs.now) (IsUnfound settings inputs.now) }
 {
     let facts = match Facts::read(alloc, inputs.facts_file()) {
         Ok(facts) => facts,
@@ -129,6 +147,11 @@ fn found(alloc: Global, asked: CompareRequest<'_>, inputs: &Inputs) -> Result<Ho
         Ok(returns) => returns,
         Err(error) => return Err(Fault::Table(error)),
     };
+    match are_named(alloc, inputs, asked.settings) {
+        Ok(true) => {}
+        Ok(false) => return Err(Fault::NoSuchKey),
+        Err(_) => return Err(Fault::Memory),
+    }
     match changes(alloc, asked, inputs, &facts, returns.as_ref()) {
         Ok(changes) => Ok(changes),
         Err(_) => Err(Fault::Memory),
@@ -150,7 +173,8 @@ pub(super) fn compared<'a>(
     asked: CompareRequest<'_>,
     inputs: &'a Inputs,
 ) -> Result<Reply<'a>, Fault>
-    ensures answer { Finds result (IsCompare (option_copied asked.entry.service) asked.entry.kind inputs.now) }
+    ensures answer { Finds result
+        (IsCompare (option_copied asked.entry.service) asked.entry.kind (map setting_view asked.entry.settings.now) inputs.now) }
     ensures wants { WantsOnly (of_compare (is_some (returns_given inputs.now))) result }
 {
     let changes = found(alloc, asked, inputs)?;

@@ -1,6 +1,6 @@
 //! The `graph` command: the graph of all runs of a stack.
 
-ghost use Rattle.std.specs.Prelude.{◌≡◌, is_some};
+ghost use Rattle.std.specs.Prelude.{◌≡◌, is_some, map};
 ghost use Rattle.pam_conf.specs.Stack.{module_count};
 ghost use Rattle.pam_known.specs.Knowledge.{Agree};
 ghost use Rattle.pam_paths.specs.Known.{may_answer};
@@ -10,6 +10,7 @@ ghost use Rattle.pam_report.specs.Finds.{Finds};
 ghost use Rattle.pam_report.specs.Graph.{IsGraphReply, IsGraphReplyOf, has_too_many};
 ghost use Rattle.pam_report.specs.GraphViews.{FindsGraph};
 ghost use Rattle.pam_report.specs.Memory.{WantsOnly, WantsWork, of_paths, paths_tables};
+ghost use Rattle.pam_settings.specs.Settings.{setting_view};
 
 use super::known_stack::{KnownStack, StackRequest, known_stack};
 use super::replies::Reply;
@@ -20,6 +21,7 @@ use pam_conf::{Files, Kind, Stack};
 use pam_dispatch::Program;
 use pam_graph::{Graph, GraphError};
 use pam_paths::Known;
+use pam_settings::Setting;
 use pam_times::MomentError;
 use pam_words::GraphFormat;
 use std::alloc::Global;
@@ -101,15 +103,16 @@ pub(super) fn answer_graph<'a>(
     alloc: Global,
     request: &DrawingRequest<'a>,
     moment: Option<Result<DateTime, MomentError>>,
+    settings: &[Setting<'_>],
     files: &Files,
     inputs: &Inputs,
 ) -> Result<Reply<'a>, Fault>
     ensures answer { let asked = request.now.stack in
-        let stack = stack_at asked.service.now asked.kind asked.login inputs.now moment files.now in
+        let stack = stack_at asked.service.now asked.kind asked.login (map setting_view settings.now) inputs.now moment files.now in
         Finds result (IsGraphReply request.now.format asked.service.now asked.kind stack) }
     ensures wants { WantsOnly (of_paths (paths_tables (is_some moment) inputs.now)) result }
 {
-    match known_stack(alloc, &request.stack, moment, files, inputs) {
+    match known_stack(alloc, &request.stack, moment, settings, files, inputs) {
         Ok(found) => answer_known(alloc, request, found),
         Err(fault) => Err(fault),
     }

@@ -1,25 +1,29 @@
 //! What the commands about paths begin with: the stack of a service, and what is known of the answers of its modules.
 
-ghost use Rattle.std.specs.Prelude.{◌≡◌, IfErr, None, is_some, option_map};
+ghost use Rattle.std.specs.Prelude.{◌≡◌, IfErr, None, is_some, map, option_map};
 ghost use Rattle.jiff.specs.Types.{DateTime as CivilTime};
 ghost use Rattle.pam_conf.specs.Resolution.{resolved};
 ghost use Rattle.pam_report.specs.Answer.{login_at};
 ghost use Rattle.pam_known.specs.Knowledge.{knowledge};
 ghost use Rattle.pam_known.specs.Reads.{tables_read};
 ghost use Rattle.pam_known.specs.Tables.{tables_view, timed_view};
-ghost use Rattle.pam_report.specs.Inputs.{tables_given as tables_in};
+ghost use Rattle.pam_report.specs.Inputs.{tables_given as tables_in, there_given};
 ghost use Rattle.pam_report.specs.Known.{FindsKnown, FindsStack, IsFaultOfRead, with_time};
 ghost use Rattle.pam_report.specs.KnownStack.{known_at as stack_at, known_items, known_stack as stack_known, known_then as stack_then};
 ghost use Rattle.pam_report.specs.Memory.{IsWanting, of_paths, paths_tables};
+ghost use Rattle.pam_report.specs.Settings.{with_settings as settled};
+ghost use Rattle.pam_settings.specs.Settings.{setting_view};
 ghost use Rattle.pam_tables.specs.Login.{login_view};
 
 use super::login::{login_to, lowered};
+use super::settings::with_settings;
 use crate::fault::{Fault, known_fault};
 use crate::inputs::{Inputs, tables_with, timed_given};
 use jiff::civil::DateTime;
 use pam_conf::{Files, Kind, Stack, resolve};
 use pam_known::{Tables, TimedTable, known_answers};
 use pam_paths::Known;
+use pam_settings::Setting;
 use pam_tables::Login as TableLogin;
 use pam_text::Texts;
 use pam_times::MomentError;
@@ -140,9 +144,9 @@ fn known_to(
     }
 }
 
-/// Returns the stack, and the codes that its modules may return, or the first fault: of the configuration, then of the
-/// moment, then of the tables.
-pub(super) fn known_stack(
+/// Returns the stack, and the codes that its modules may return by tables and the returns file, or the first fault: of the
+/// configuration, then of the moment, then of the tables.
+fn told_stack(
     alloc: Global,
     request: &StackRequest<'_>,
     moment: Option<Result<DateTime, MomentError>>,
@@ -159,6 +163,27 @@ pub(super) fn known_stack(
     };
     match known_to(alloc, request, moment, inputs, &stack) {
         Ok(known) => Ok(KnownStack { stack, known }),
+        Err(fault) => Err(fault),
+    }
+}
+
+/// Returns the stack, and the codes that its modules may return, or the first fault: of the configuration, then of the moment, then of
+/// the tables, then that a key of a setting names no module.
+pub(super) fn known_stack(
+    alloc: Global,
+    request: &StackRequest<'_>,
+    moment: Option<Result<DateTime, MomentError>>,
+    settings: &[Setting<'_>],
+    files: &Files,
+    inputs: &Inputs,
+) -> Result<KnownStack, Fault>
+    ensures stack { let told = stack_known request.now.kind (login_at request.now.service.now request.now.login) inputs.now moment
+        (resolved files.now request.now.service.now request.now.kind) in
+        FindsStack result (settled files.now (there_given inputs.now) (map setting_view settings.now) told) }
+    ensures wants { IfErr result (IsWanting (of_paths (paths_tables (is_some moment) inputs.now))) }
+{
+    match told_stack(alloc, request, moment, files, inputs) {
+        Ok(found) => with_settings(files, inputs.there(), settings, found),
         Err(fault) => Err(fault),
     }
 }

@@ -13,6 +13,7 @@ ghost use Rattle.pam_report.specs.Memory.{WantsOnly, WantsWork, of_paths, paths_
 ghost use Rattle.pam_report.specs.OutcomeViews.{AreOutcomes, FindsOutcomes, as_list};
 ghost use Rattle.pam_report.specs.Outcomes.{IsOutcomes, IsOutcomesOf, outcome_among};
 ghost use Rattle.pam_report.specs.ReplyViews.{outcome_view};
+ghost use Rattle.pam_settings.specs.Settings.{setting_view};
 
 use super::known_stack::{KnownStack, StackRequest, known_stack};
 use super::replies::Reply;
@@ -24,6 +25,7 @@ use pam_conf::{Files, Kind, Stack};
 use pam_dispatch::Program;
 use pam_graph::{Decisions, Goal, Graph, GraphError};
 use pam_paths::{Known, Path};
+use pam_settings::Setting;
 use pam_times::MomentError;
 use std::alloc::Global;
 
@@ -147,14 +149,15 @@ pub(super) fn answer_outcomes<'a>(
     alloc: Global,
     request: &StackRequest<'a>,
     moment: Option<Result<DateTime, MomentError>>,
+    settings: &[Setting<'_>],
     files: &Files,
     inputs: &Inputs,
 ) -> Result<Reply<'a>, Fault>
-    ensures answer { let stack = stack_at request.now.service.now request.now.kind request.now.login inputs.now moment files.now in
+    ensures answer { let stack = stack_at request.now.service.now request.now.kind request.now.login (map setting_view settings.now) inputs.now moment files.now in
         Finds result (IsOutcomes request.now.service.now request.now.kind stack) }
     ensures wants { WantsOnly (of_paths (paths_tables (is_some moment) inputs.now)) result }
 {
-    match known_stack(alloc, request, moment, files, inputs) {
+    match known_stack(alloc, request, moment, settings, files, inputs) {
         Ok(found) => answer_known(alloc, request, found),
         Err(fault) => Err(fault),
     }

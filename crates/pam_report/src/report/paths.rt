@@ -1,6 +1,6 @@
 //! The `paths` command: a page of the paths through a stack.
 
-ghost use Rattle.std.specs.Prelude.{◌≡◌, ◌≤◌, is_some, max};
+ghost use Rattle.std.specs.Prelude.{◌≡◌, ◌≤◌, is_some, map, max};
 ghost use Rattle.jiff.specs.Types.{DateTime as CivilTime};
 ghost use Rattle.pam_conf.specs.Stack.{module_count};
 ghost use Rattle.pam_known.specs.Knowledge.{Agree};
@@ -13,6 +13,7 @@ ghost use Rattle.pam_report.specs.PageView.{FindsPage, ListsPart, Renders, goal_
 ghost use Rattle.pam_report.specs.Paths.{IsPage, IsPageOf, IsProgramOf, page_of};
 ghost use Rattle.pam_report.specs.Reply.{Page};
 ghost use Rattle.pam_report.specs.ReplyViews.{reply_view};
+ghost use Rattle.pam_settings.specs.Settings.{setting_view};
 ghost use Rattle.pam_words.specs.declared.wanted.PagePart.TheVariants.{After, Before, Whole};
 
 use super::goal_pages::{GoalGraph, answer_asking, answer_goal, render_walks};
@@ -27,6 +28,7 @@ use pam_dispatch::Program;
 use pam_graph::Goal;
 use pam_page::Listing;
 use pam_paths::{Cursor, Explorer, Known};
+use pam_settings::Setting;
 use pam_times::MomentError;
 use pam_words::{PagePart, PathFilter};
 use std::alloc::Global;
@@ -244,15 +246,16 @@ pub(super) fn answer_paths<'a>(
     alloc: Global,
     request: &PageRequest<'a>,
     moment: Option<Result<DateTime, MomentError>>,
+    settings: &[Setting<'_>],
     files: &Files,
     inputs: &Inputs,
 ) -> Result<Reply<'a>, Fault>
     ensures answer { let asked = request.now.stack in
-        let stack = stack_at asked.service.now asked.kind asked.login inputs.now moment files.now in
+        let stack = stack_at asked.service.now asked.kind asked.login (map setting_view settings.now) inputs.now moment files.now in
         Finds result (IsPage (page_view request.now) stack) }
     ensures wants { WantsOnly (of_paths (paths_tables (is_some moment) inputs.now)) result }
 {
-    match known_stack(alloc, &request.stack, moment, files, inputs) {
+    match known_stack(alloc, &request.stack, moment, settings, files, inputs) {
         Ok(found) => answer_known(alloc, request, found),
         Err(fault) => Err(fault),
     }

@@ -1,6 +1,7 @@
-use Rattle.std.proofs.Common.{◌∙◌, ap, map, refl}
+use Rattle.std.proofs.Common.{◌∙◌, List, Option, ap, map, refl, ℕ}
 use Rattle.pam_misspelled.specs.Findings.{misspelled_at}
 use Rattle.pam_report.proofs.CheckAnswers.{check-of}
+use Rattle.pam_report.specs.Inputs.{there_given}
 use Rattle.pam_report.proofs.SilentChecks.{silent-check}
 use Rattle.pam_report.proofs.report.check.checked.Goals as goal
 
@@ -22,7 +23,9 @@ returns-clause-answer c =
       all_tables = c.in_ok-tables.tables.found;
       table_report = c.in_ok-tables.ensures.ok;
       not_accepted = listed.found;
-      misspelled = c.in-Ok-misspelled_words.ensures ∙ ap (map (misspelled_at c.args.files.now (there_given c.args.inputs.now))) c.deref.ensures.value;
+      misspelled = c.in-Ok-misspelled_words.ensures
+          ∙ ap (λ (there : Option (List (List ℕ))). map (misspelled_at c.args.files.now there) c.deref.result.now) c.there.ensures
+          ∙ ap (map (misspelled_at c.args.files.now (there_given c.args.inputs.now))) c.deref.ensures.value;
       tables_not_accepted = listed.tables_found;
       unused = listed.unused;
       silence = silent-check c.a_silent_host_is_sound.ensures c.args.files.now c.args.asked.services.now reported.facts _ c.in_ok-report.report.found
