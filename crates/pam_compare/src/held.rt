@@ -1,6 +1,6 @@
 //! Answers that one stack has had from modules which the other stack has still ahead.
 
-ghost use Rattle.std.specs.Prelude.{◌≡◌, ◌⊎◌, ◌+◌, ◌<◌, ℕ, false, true, IfOk, IsTrue, OnOk, Some, length, slice_get};
+ghost use Rattle.std.specs.Prelude.{◌≡◌, ◌⊎◌, ◌+◌, ◌<◌, [], ℕ, false, true, IfOk, IsTrue, OnOk, Some, length, slice_get};
 ghost use Rattle.pam_codes.specs.Set.{is_in};
 ghost use Rattle.pam_codes.specs.SetBits.{bits_of_codes};
 ghost use Rattle.pam_dispatch.specs.Runs.{Assignment};
@@ -151,6 +151,16 @@ fn push_if(is_wanted: bool, answer: HeldAnswer, held: &mut Vec<HeldAnswer>) -> R
     Ok(())
 }
 
+/// A list with room for this many answers.
+fn with_room(alloc: Global, count: usize) -> Result<Vec<HeldAnswer>, Memory>
+    ensures { IfOk result (λ held. held.items ≡ []) }
+{
+    match Vec::with_capacity(alloc, count) {
+        Ok(held) => Ok(held),
+        Err(_) => Err(Memory),
+    }
+}
+
 /// What is held after an answer of this class, where the stacks then ask these modules next: the last answer comes first.
 pub(crate) fn held_after(
     alloc: Global,
@@ -166,7 +176,7 @@ pub(crate) fn held_after(
         old new) }
 {
     let name = answer.name;
-    let mut after = Vec::new(alloc);
+    let mut after = with_room(alloc, held.len() + 1)?;
     let is_needed = is_needed(naming, name, answer.codes, old, new);
     push_if(is_needed, answer, &mut after)?;
     for index in 0..held.len() {

@@ -18,7 +18,7 @@ loop-index-init c =
     let possible = c.args.naming.now.possible.items in
     let count = c.args.naming.now.old_modules in
     record {
-      holds = λ a h new. first.holds a (holds-equal a [] _ (sym c.new-after.ensures.items) tt) new;
+      holds = λ a h new. first.holds a (holds-equal a [] _ (sym c.in_ok-after.ensures) tt) new;
       adds = λ modules names_count last. elim c.is_needed-is_needed.result as (λ (b : Bool).
           c.is_needed-is_needed.result ≡ b →
           ((m : ℕ) × (slice_get c.push_if.new.held.items m ≡ Some c.args.answer))
