@@ -45,6 +45,7 @@ module _ {W : Type 0} (contents : W → Option (List ℕ)) (One Other : Reply �
   printed-as (Err (faults.Count e)) h = absurd h
   printed-as (Err faults.TooManyStates) h = absurd h
   printed-as (Err faults.NoSuchModule) h = absurd h
+  printed-as (Err faults.NoSuchKey) h = absurd h
   printed-as (Err faults.NoSuchNumber) h = absurd h
   printed-as (Err (faults.Facts e)) h = absurd h
   printed-as (Err (faults.Accept e)) h = absurd h
@@ -72,6 +73,7 @@ module _ (K : Type 0) {W : Type 0} (contents : W → Option (List ℕ)) (IsText 
   listing-refused faults.Device h same = absurd h
   listing-refused faults.TooManyStates h same = absurd h
   listing-refused faults.NoSuchModule h same = absurd h
+  listing-refused faults.NoSuchKey h same = absurd h
   listing-refused (faults.Conf e) h same = absurd h
   listing-refused (faults.Count e) h same = absurd h
   listing-refused faults.NoSuchNumber h same = absurd h

@@ -58,6 +58,7 @@ module _ {W : Type 0} (contents : W → Option (List ℕ)) (IsText : Reply → R
   refused (faults.Count e) IsAnswer same h = (same, h)
   refused faults.TooManyStates IsAnswer same h = (same, h)
   refused faults.NoSuchModule IsAnswer same h = (same, h)
+  refused faults.NoSuchKey IsAnswer same h = (same, h)
   refused faults.NoSuchNumber IsAnswer same h = (same, h)
   refused (faults.Facts e) IsAnswer same h = (same, h)
   refused (faults.Accept e) IsAnswer same h = (same, h)
@@ -80,6 +81,7 @@ module _ {W : Type 0} (contents : W → Option (List ℕ)) (IsText : Reply → R
   unprinted (faults.Count e) reply h IsAnswer is = absurd h
   unprinted faults.TooManyStates reply h IsAnswer is = absurd h
   unprinted faults.NoSuchModule reply h IsAnswer is = absurd h
+  unprinted faults.NoSuchKey reply h IsAnswer is = absurd h
   unprinted faults.NoSuchNumber reply h IsAnswer is = absurd h
   unprinted (faults.Facts e) reply h IsAnswer is = absurd h
   unprinted (faults.Accept e) reply h IsAnswer is = absurd h
@@ -97,6 +99,7 @@ module _ {W : Type 0} (contents : W → Option (List ℕ)) (IsText : Reply → R
   unprinted-wants wants (faults.Count e) reply h works = absurd h
   unprinted-wants wants faults.TooManyStates reply h works = absurd h
   unprinted-wants wants faults.NoSuchModule reply h works = absurd h
+  unprinted-wants wants faults.NoSuchKey reply h works = absurd h
   unprinted-wants wants faults.NoSuchNumber reply h works = absurd h
   unprinted-wants wants (faults.Facts e) reply h works = absurd h
   unprinted-wants wants (faults.Accept e) reply h works = absurd h
