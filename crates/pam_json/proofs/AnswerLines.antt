@@ -1,5 +1,5 @@
 -- The lines of whole answers, from what is read of their stacks.
-use Rattle.std.proofs.Common.{◌≡◌, ℕ, List, ◌++◌, Option, map, max, refl}
+use Rattle.std.proofs.Common.{◌≡◌, ℕ, List, map, max, refl}
 use Rattle.std.specs.List.{flat_map}
 use Rattle.pam_conf.specs.Files.{Folder}
 use Rattle.pam_conf.specs.Stack.{Items, module_count}
@@ -11,7 +11,7 @@ use Rattle.pam_report.specs.Reply.{PageValue, StackValue}
 use Rattle.pam_report.specs.ReplyViews.{outcome_view}
 use Rattle.pam_report.specs.declared.report.outcomes.Outcome as declared
 use Rattle.pam_json.specs.Header.{stack_members}
-use Rattle.pam_json.specs.Outcomes.{outcome_json, total_members}
+use Rattle.pam_json.specs.Outcomes.{outcome_json}
 use Rattle.pam_json.specs.Paths.{last_json, path_json}
 use Rattle.pam_json.specs.Show.{items_json}
 

@@ -16,7 +16,7 @@ use Rattle.pam_host.specs.declared.problem.Problem.TheVariants as problems
 use Rattle.pam_host.specs.declared.report.Finding.{Finding}
 use Rattle.pam_host.specs.declared.way_in.Answered.{Answered}
 use Rattle.pam_host.specs.declared.way_in.WayIn.{WayIn}
-use Rattle.pam_json_lines.specs.Line.{items_of, joined, kind, line, members_of, number_or_null, readable, readable_or_null, strings}
+use Rattle.pam_json_lines.specs.Line.{items_of, joined, kind, line, members_of, number_or_null, readable, readable_or_null}
 use Rattle.pam_known.specs.Answers.{name_of_path}
 use Rattle.pam_misspelled.specs.Misspelled.{MisspelledText}
 use Rattle.pam_parts.specs.Check.{Names, counts_of, names_of_value, path_of, stacks_of, text_at, word_at}

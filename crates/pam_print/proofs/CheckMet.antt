@@ -1,14 +1,13 @@
 -- The stacks that meet a problem, part by part.
-use Rattle.std.proofs.Common.{◌≡◌, ℕ, ◌-◌, ◌/◌, ◌%◌, ◌<◌, ◌≤◌, ◌||◌, Bool, true, false, List, [], ◌∷◌, ◌++◌, codes, refl, sym, ap, ◌∙◌}
+use Rattle.std.proofs.Common.{◌≡◌, ℕ, ◌-◌, ◌<◌, ◌≤◌, ◌||◌, Bool, true, false, List, [], ◌++◌, codes, refl, sym, ap, ◌∙◌}
 use Rattle.std.proofs.Common.{append_assoc, append-nil}
 use Rattle.std.proofs.lemmas.Bool.{le-ltb, lt-ltb}
 use Rattle.std.specs.Prelude.{decimal, if◌then◌else◌}
 use Rattle.pam_host.specs.declared.met.Kinds.{Kinds}
 use Rattle.pam_host.specs.declared.met.Met.{Met}
 use Rattle.pam_print.specs.Check.{after_comma, if_kind, kinds_text, met_text, others_if_any, others_text}
-use Rattle.pam_sentences.specs.Shown.{hex_digit, is_escaped}
 use Rattle.pam_parts.specs.Check.{text_at}
-use Rattle.pam_sentences.specs.Shown.{shown_byte, shown_name}
+use Rattle.pam_sentences.specs.Shown.{shown_name}
 
 -- KINDS
 

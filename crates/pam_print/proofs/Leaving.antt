@@ -116,14 +116,14 @@ as_json reply has text is = subst (λ (given : Bool). IsJsonOrText given reply t
 as_plain : (reply : Reply) → has_json reply ≡ false → (text : Result (List ℕ) CursorError) → IsPlainText reply text → IsTextIn Json reply text
 as_plain reply none text is = subst (λ (given : Bool). IsJsonOrText given reply text) (sym none) is
 
-module _ {W : Type 0} (contents : W → Option (List ℕ)) (old mid new : Out W) (reply : Reply) (result : Result (Unit {0}) Fault) where
-  pub json-printed : PrintsIfAny contents old new (Some result) reply → PrintsBy contents (IsTextIn Json) old new result reply
-  json-printed h = printed-as contents IsJson (IsTextIn Json) old new reply (as_json reply h.0) result h.1
+module _ {W : Type 0} (contents : W → Option (List ℕ)) (reply : Reply) (result : Result (Unit {0}) Fault) where
+  pub json-printed : (old new : Out W) → PrintsIfAny contents old new (Some result) reply → PrintsBy contents (IsTextIn Json) old new result reply
+  json-printed old new h = printed-as contents IsJson (IsTextIn Json) old new reply (as_json reply h.0) result h.1
 
   -- no JSON is written, and then the text
-  pub text-printed-instead : PrintsIfAny contents old mid None reply → PrintsBy contents IsPlainText mid new result reply
+  pub text-printed-instead : (old mid new : Out W) → PrintsIfAny contents old mid None reply → PrintsBy contents IsPlainText mid new result reply
       → PrintsBy contents (IsTextIn Json) old new result reply
-  text-printed-instead nothing h =
+  text-printed-instead old mid new nothing h =
       subst (λ (out : Out W). PrintsBy contents (IsTextIn Json) out new result reply) nothing.1
       (printed-as contents IsPlainText (IsTextIn Json) mid new reply (as_plain reply nothing.0) result h)
 

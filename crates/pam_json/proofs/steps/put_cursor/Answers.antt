@@ -1,6 +1,6 @@
-use Rattle.std.proofs.Common.{◌≡◌, ◌∙◌, ◌∷◌, ◌++◌, [], List, ℕ, codes, sym}
+use Rattle.std.proofs.Common.{◌≡◌, ◌++◌, List, ℕ, codes, sym}
 use Rattle.json.specs.Print.{quoted}
-use Rattle.pam_codes.proofs.Writing.{all-then, err-front, front-is, front-longer, front-then, writes-is, writes-then}
+use Rattle.pam_codes.proofs.Writing.{err-front, front-is, front-longer, front-then, writes-is, writes-then}
 use Rattle.pam_json_lines.proofs.Plain.{quoted-plain}
 use Rattle.pam_json.proofs.PlainTexts.{cursor-plain}
 use Rattle.pam_paths.specs.CursorText.{cursor_text}

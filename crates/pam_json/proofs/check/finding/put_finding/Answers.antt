@@ -8,7 +8,6 @@ use Rattle.pam_host.specs.declared.met.Met.{Met}
 use Rattle.pam_json_lines.specs.Line.{line, number_or_null, readable, readable_or_null}
 use Rattle.pam_parts.specs.Check.{text_at}
 use Rattle.pam_parts.specs.CheckNames.{names_view}
-use Rattle.pam_report.specs.Names.{stack_of}
 use Rattle.pam_sentences.specs.Sentences.{level_name}
 use Rattle.serde_json.specs.Data.{Data, number, string, unsigned}
 use Rattle.pam_json.specs.Check.{finding_json, met_unless, service_count, services_array, types_array}
