@@ -50,7 +50,7 @@ struct CodeNames(CodeSet);
 
 impl Written for CodeNames {
     ghost use Rattle.pam_json.specs.Paths.{next_or_null};
-ghost use Rattle.pam_json.specs.Steps.{code_strings};
+    ghost use Rattle.pam_json.specs.Steps.{code_strings};
 
     ghost value = { λ names. code_strings names.0 };
 
@@ -84,7 +84,7 @@ struct StepElements<'x> {
 impl Elements<PathStep> for StepElements<'_> {
     ghost use Rattle.pam_paths.specs.Steps.{step_seen};
     ghost use Rattle.pam_json.specs.Paths.{next_or_null};
-ghost use Rattle.pam_json.specs.Steps.{step_object};
+    ghost use Rattle.pam_json.specs.Steps.{step_object};
 
     ghost element = { λ elements step. step_object elements.stack.now (step_seen step) };
 

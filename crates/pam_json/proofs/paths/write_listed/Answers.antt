@@ -9,4 +9,4 @@ pub returns : goal.returns
 returns g c =
     let page = page_value c.args.page.now in
     λ found. text-printed g.W.Write.contents IsJson _ _ (Page page) _ _ _ (listed page_json page c.args.listing.now found) c.told.ensures
-        c.write_listing.ensures
+    c.write_listing.ensures
