@@ -167,7 +167,7 @@ filters_and_forms =
       linux_pam =
           codes "this is a fault of the words that pamcheck was given.";
       mending =
-          codes "take the name, the number or the place from the lines that show prints.";
+          codes "take the name, number or place from the lines that show prints.";
     }
     ∷ record {
       number = codes "U11";

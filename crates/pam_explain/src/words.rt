@@ -153,7 +153,7 @@ static FILTERS_AND_FORMS: [Explanation; 4] = [
             "$ pamcheck paths login auth --dir . --set pam_unx.so=success",
         ],
         linux_pam: "this is a fault of the words that pamcheck was given.",
-        mending: "take the name, the number or the place from the lines that show prints.",
+        mending: "take the name, number or place from the lines that show prints.",
     },
     Explanation {
         number: "U11",
