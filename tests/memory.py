@@ -100,9 +100,9 @@ ASKED = [
     (["access", "login", *ACCESS_TABLE, "--rhost", "10.1.2.3", "--json"], TABLES),
     (["time", "login", *TIME_TABLE, "--user", "alice", "--json"], TABLES),
     (["compare", "new", "old", "--json", *RETURNS_FILE], TABLE_COMPARES),
-    # A release reads one file, and its rules are kept.
-    (["show", "login", "auth", "--dir", "big", "--as", "linux-pam-1.5"], STACKS),
-    (["show", "login", "auth", "--conf", "pam.conf", "--as", "linux-pam-1.7"], STACKS),
+    # The service is put into lower case, and fitted; then a release reads one file, and its rules are kept.
+    (["show", "login", "auth", "--dir", "big", "--as", "linux-pam-1.5"], PAGES),
+    (["show", "login", "auth", "--conf", "pam.conf", "--as", "linux-pam-1.7"], PAGES),
     (["version"], WORDS),
     (["show", "login"], WORDS),
     (["show", "login", "atuh", "--dir", "d"], [*WORDS, UNSAID]),
