@@ -19,7 +19,7 @@ pub(crate) fn name_of(code: Code) -> &'static [u8]
     code.name().as_bytes()
 }
 
-/// Returns the number of what is wrong, which stands before its name.
+/// Returns the number in a text of a number and a name, as `E15` in `E15 NoService`.
 #[tactic(auto, using(std::proofs::lemmas::Str::Pattern::split_once_first))]
 pub(crate) fn number_in(name: &str) -> &str
     ensures { result.now ≡ before_first is_space name.now }
@@ -30,7 +30,7 @@ pub(crate) fn number_in(name: &str) -> &str
     }
 }
 
-/// Returns the name of what is wrong, which stands after its number.
+/// Returns the name after the number, as `NoService` in `E15 NoService`; empty if there is none.
 #[tactic(auto, using(std::proofs::lemmas::Str::Pattern::split_once_first))]
 pub(crate) fn name_in(name: &str) -> &str
     ensures { result.now ≡ after_first is_space name.now }

@@ -155,7 +155,8 @@ module _ (Gives : (Answer → Type 0) → Type 0) where
   AnswersBy service (Paths source kind limit part filter knowledge) files inputs =
       (at : Option (Result DateTime MomentError)) × IsGivenMoment knowledge.moment at
       × Gives
-      (IsPage (record { service = service; kind = kind; limit = limit; part = part; filter = filter }) (stack_at service kind knowledge.login (map setting_view knowledge.settings.items) inputs at files))
+      (IsPage (record { service = service; kind = kind; limit = limit; part = part; filter = filter })
+      (stack_at service kind knowledge.login (map setting_view knowledge.settings.items) inputs at files))
   AnswersBy service (Outcomes source kind knowledge) files inputs =
       (at : Option (Result DateTime MomentError)) × IsGivenMoment knowledge.moment at
       × Gives (IsOutcomes service kind (stack_at service kind knowledge.login (map setting_view knowledge.settings.items) inputs at files))
