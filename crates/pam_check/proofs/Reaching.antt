@@ -4,10 +4,9 @@ use Rattle.std.proofs.lemmas.Bool.{cases_eq, eqb-true, false≢true, or_cases}
 use Rattle.std.specs.Prelude.{◌==◌}
 use Rattle.pam_conf.specs.Stack.{Items}
 use Rattle.pam_dispatch.specs.declared.flat_item.FlatItem.{FlatItem}
-use Rattle.pam_dispatch.specs.declared.key.PlaceKey.{PlaceKey}
 use Rattle.pam_dispatch.specs.declared.place.Place.{Place}
 use Rattle.pam_dispatch.specs.Flat.{IsPlaceOf, modules_of, rest_of, runs_of}
-use Rattle.pam_dispatch.specs.Keys.{first_states, key_of, rest_at}
+use Rattle.pam_dispatch.specs.Keys.{KeyValue, key_of, rest_at}
 use Rattle.pam_dispatch.specs.Representatives.{representative_of}
 use Rattle.pam_dispatch.specs.Runs.{Ask, Assignment, AsksRise, Runs, asked_by, asked_module, asks, ends, outcome_of}
 use Rattle.pam_dispatch.specs.Tree.{asked}
@@ -103,7 +102,7 @@ unfolding IsPlaceOf rest_of rest_at key_of representative_of
 same-module program place valid = sym (place_module program place valid) ∙ place_module program padded valid
   where
     padded : Place
-    padded = record place { entered = record { states = first_states place.depth (representative_of program place).entered.states } }
+    padded = representative_of program place
 
 module _ (allows : Allowance) (program : List FlatItem) (items : Items) (of : IsProgramOf program items)
     (rise : AsksRise 0 (modules_of program) (runs_of program)) (b : Assignment) (ok : IsAllowed allows (modules_of program) b) where
@@ -121,16 +120,16 @@ module _ (allows : Allowance) (program : List FlatItem) (items : Items) (of : Is
   }
 
   -- so is the module of a node at a place that is reached
-  key-asked : (key : PlaceKey) (number code : ℕ) → IsReachedKey allows program key → asked_module (rest_at program key) ≡ Some number →
+  key-asked : (key : KeyValue) (number code : ℕ) → IsReachedKey allows program key → asked_module (rest_at program key) ≡ Some number →
       code < 31 → allows number code ≡ true → AsksWith allows items number code
   key-asked key number code reached asked small may =
       let way = reached.reached in
       let here : asked_module (after_answers (runs_of program) way.0) ≡ Some number =
       ap asked_module (sym way.2) ∙ same-module program reached.place reached.is_place
-      ∙ ap (λ (k : PlaceKey). asked_module (rest_at program k)) (sym reached.is_key) ∙ asked in
+      ∙ ap (λ (k : KeyValue). asked_module (rest_at program k)) (sym reached.is_key) ∙ asked in
       on-tree number code (reach allows 0 (modules_of program) (runs_of program) way.0 number code b rise ok way.1 here small may)
 
-  pub node-asked : (keys : List PlaceKey) (nodes : List Node) (walks : List (List PathValue)) (number code : ℕ) →
+  pub node-asked : (keys : List KeyValue) (nodes : List Node) (walks : List (List PathValue)) (number code : ℕ) →
       AreNodesAt allows program keys nodes walks → has_number number nodes ≡ true → code < 31 → allows number code ≡ true →
       AsksWith allows items number code
   unfolding AreNodesAt

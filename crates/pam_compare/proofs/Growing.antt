@@ -8,10 +8,9 @@ use Rattle.std.proofs.lemmas.List.{length_push}
 use Rattle.std.proofs.lemmas.Option.{slice_get-get_or, slice_get_within}
 use Rattle.pam_codes.specs.Set.{IsCodeSet}
 use Rattle.pam_dispatch.specs.declared.flat_item.FlatItem.{FlatItem}
-use Rattle.pam_dispatch.specs.declared.key.PlaceKey.{PlaceKey}
 use Rattle.pam_dispatch.specs.declared.place.Place.{Place}
 use Rattle.pam_dispatch.specs.Flat.{IsPlaceOf, rest_of}
-use Rattle.pam_dispatch.specs.Keys.{key_of, rest_at}
+use Rattle.pam_dispatch.specs.Keys.{KeyValue, key_of, rest_at}
 use Rattle.pam_dispatch.specs.Runs.{Assignment, Runs}
 use Rattle.pam_compare.specs.declared.change.Change.{Change}
 use Rattle.pam_compare.specs.declared.node.Node.{Node}
@@ -90,28 +89,28 @@ longer {X} xs ys k keeps within = go xs within (λ x at. kept xs ys k x keeps at
 
 -- PLACES
 
-pub places-none : (program : List FlatItem) (places : List Place) (keys : List PlaceKey) → places ≡ [] → keys ≡ [] → ArePlaces program places keys
+pub places-none : (program : List FlatItem) (places : List Place) (keys : List KeyValue) → places ≡ [] → keys ≡ [] → ArePlaces program places keys
 places-none program places keys e f = record {
-  count = ap (λ (l : List Place). length l) e ∙ sym (ap (λ (l : List PlaceKey). length l) f);
+  count = ap (λ (l : List Place). length l) e ∙ sym (ap (λ (l : List KeyValue). length l) f);
   stored = λ k p at. absurd (nothing p (sym (ap (λ (l : List Place). slice_get l k) e) ∙ at));
 }
 
-pub places-push : (program : List FlatItem) (places : List Place) (keys : List PlaceKey) (place : Place) (places' : List Place) (keys' : List PlaceKey) →
+pub places-push : (program : List FlatItem) (places : List Place) (keys : List KeyValue) (place : Place) (places' : List Place) (keys' : List KeyValue) →
     places' ≡ places ++ place ∷ [] → keys' ≡ keys ++ key_of place ∷ [] → ArePlaces program places keys → IsPlaceOf program place →
     rest_at program (key_of place) ≡ rest_of program place → ArePlaces program places' keys'
 places-push program places keys place places' keys' e f are here rest =
     let short = are.count in record {
       count = ap (λ (l : List Place). length l) e ∙ length_push places place ∙ ap (λ (n : ℕ). n + 1) short ∙ sym (length_push keys (key_of place))
-          ∙ sym (ap (λ (l : List PlaceKey). length l) f);
+          ∙ sym (ap (λ (l : List KeyValue). length l) f);
       stored = λ k p at. elim (append-cases places place k p (sym (ap (λ (l : List Place). slice_get l k) e) ∙ at)) [
         | inl was ↦ let old = are.stored k p was in record {
           place = old.place;
-          key = ap (λ (l : List PlaceKey). slice_get l k) f ∙ append-left keys (key_of place ∷ []) k (key_of p) old.key;
+          key = ap (λ (l : List KeyValue). slice_get l k) f ∙ append-left keys (key_of place ∷ []) k (key_of p) old.key;
           rest = old.rest;
         }
         | inr new ↦ subst (λ (q : Place). IsStored program keys' k q) new.0 (record {
           place = here;
-          key = ap (λ (l : List PlaceKey). slice_get l k) f
+          key = ap (λ (l : List KeyValue). slice_get l k) f
               ∙ ap (λ (n : ℕ). slice_get (keys ++ key_of place ∷ []) n) (new.1 ∙ short) ∙ at-end keys (key_of place);
           rest = rest;
         })
@@ -119,7 +118,7 @@ places-push program places keys place places' keys' e f are here rest =
     }
 
 -- a place that has a key is found
-pub place-found : (program : List FlatItem) (places : List Place) (keys : List PlaceKey) (place : Place) (k : ℕ) → ArePlaces program places keys →
+pub place-found : (program : List FlatItem) (places : List Place) (keys : List KeyValue) (place : Place) (k : ℕ) → ArePlaces program places keys →
     slice_get keys k ≡ Some (key_of place) → rest_at program (key_of place) ≡ rest_of program place →
     (p : Place) × (slice_get places k ≡ Some p) × (rest_of program p ≡ rest_of program place)
 place-found program places keys place k are at rest =

@@ -5,10 +5,9 @@ use Rattle.std.specs.Prelude.{slice_get}
 use Rattle.std.proofs.lemmas.List.{length-map}
 use Rattle.std.proofs.lemmas.Option.{slice_get-get_or, slice_get_within}
 use Rattle.pam_dispatch.specs.declared.flat_item.FlatItem.{FlatItem}
-use Rattle.pam_dispatch.specs.declared.key.PlaceKey.{PlaceKey}
 use Rattle.pam_dispatch.specs.declared.place.Place.{Place}
 use Rattle.pam_dispatch.specs.Flat.{modules_of, rest_of, runs_of}
-use Rattle.pam_dispatch.specs.Keys.{AreDifferent, key_of, rest_at}
+use Rattle.pam_dispatch.specs.Keys.{AreDifferent, KeyValue, key_of, rest_at}
 use Rattle.pam_dispatch.specs.Runs.{Assignment}
 use Rattle.pam_paths.specs.Listing.{Allowance, IsAllowed}
 use Rattle.pam_compare.specs.declared.nodes.Nodes.{Nodes}
@@ -31,7 +30,7 @@ head-of [] h = absurd (omega arith)
 head-of (x ∷ xs) h = (x, refl)
 
 -- the key of a place in a table
-key-at : (program : List FlatItem) (places : List Place) (keys : List PlaceKey) (k : ℕ) (p : Place) (d : PlaceKey) → ArePlaces program places keys →
+key-at : (program : List FlatItem) (places : List Place) (keys : List KeyValue) (k : ℕ) (p : Place) (d : KeyValue) → ArePlaces program places keys →
     slice_get places k ≡ Some p → rest_of program p ≡ rest_at program (get_or keys k d)
 key-at program places keys k p d are at =
     let stored = are.stored k p at in
@@ -55,7 +54,7 @@ module _ (old_allows new_allows : Allowance) (old new : List FlatItem) (partners
 
   module _ (nodes : Nodes) (base : Assignment) (can : IsPossible possible base) (are : AreNodes old new nodes)
       (reached : AreReached old new names possible nodes) where
-    standing-reached : (d : PlaceKey) (k : ℕ) (s : Situation) → slice_get nodes.situations.keys k ≡ Some s →
+    standing-reached : (d : KeyValue) (k : ℕ) (s : Situation) → slice_get nodes.situations.keys k ≡ Some s →
         IsReached old_allows new_allows old new partners (stand nodes.old_places.keys nodes.new_places.keys nodes.held_lists.links.keys d s)
     standing-reached d k s at =
         let r = reached.reached k s at in
@@ -82,7 +81,7 @@ module _ (old_allows new_allows : Allowance) (old new : List FlatItem) (partners
         let news = nodes.new_places.keys in
         let links = nodes.held_lists.links.keys in
         let first = head-of keys (omega (arith, more)) in
-        let d : PlaceKey = key_of (reached.reached 0 first.0 first.1).node.old in
+        let d : KeyValue = key_of (reached.reached 0 first.0 first.1).node.old in
         let inside : AllByRecursion (IsInside olds news links d) keys =
         all-at (IsInside olds news links d) keys (λ k s at.
         let within = are.within k s at in

@@ -5,8 +5,7 @@ use Rattle.std.specs.List.{AllByRecursion, IsDistinct}
 use Rattle.std.specs.Prelude.{slice_get}
 use Rattle.std.proofs.lemmas.Bool.{and_from, false≢true}
 use Rattle.std.proofs.lemmas.Map.Keys.{IsDistinct-head, IsDistinct-tail}
-use Rattle.pam_dispatch.specs.declared.key.PlaceKey.{PlaceKey}
-use Rattle.pam_dispatch.specs.Keys.{AreDifferent, DiffersFrom}
+use Rattle.pam_dispatch.specs.Keys.{AreDifferent, DiffersFrom, KeyValue}
 use Rattle.pam_compare.specs.declared.held.HeldAnswer.{HeldAnswer}
 use Rattle.pam_compare.specs.declared.held_lists.Link.{Link}
 use Rattle.pam_compare.specs.declared.situation.Situation.{Situation}
@@ -26,13 +25,13 @@ all-map P Q f h (x ∷ xs) all = (h x all.0, all-map P Q f h xs all.1)
 
 -- KEYS
 
-differs-at : (key d : PlaceKey) (keys : List PlaceKey) (j : ℕ) → DiffersFrom key keys → j < length keys → key ≢ get_or keys j d
+differs-at : (key d : KeyValue) (keys : List KeyValue) (j : ℕ) → DiffersFrom key keys → j < length keys → key ≢ get_or keys j d
 unfolding DiffersFrom
 differs-at key d [] j differs below = absurd (omega arith)
 differs-at key d (other ∷ keys) zero differs below = differs.0
 differs-at key d (other ∷ keys) (suc j) differs below = differs-at key d keys j differs.1 (omega (arith, below))
 
-one-index : (d : PlaceKey) (keys : List PlaceKey) (i j : ℕ) → AreDifferent keys → i < length keys → j < length keys → get_or keys i d ≡ get_or keys j d →
+one-index : (d : KeyValue) (keys : List KeyValue) (i j : ℕ) → AreDifferent keys → i < length keys → j < length keys → get_or keys i d ≡ get_or keys j d →
     i ≡ j
 unfolding AreDifferent
 one-index d [] i j different first second e = absurd (omega arith)
@@ -44,7 +43,7 @@ one-index d (key ∷ keys) (suc i) (suc j) different first second e =
 
 -- SITUATIONS
 
-module _ (olds news : List PlaceKey) (links : List Link) (d : PlaceKey) where
+module _ (olds news : List KeyValue) (links : List Link) (d : KeyValue) where
   abbrev pub stand : Situation → Standing
   stand s = record { old = get_or olds s.old d; new = get_or news s.new d; held = list_for links s.held s.held }
 

@@ -2,10 +2,9 @@
 -- answers as the other.
 use Rattle.std.specs.Prelude.{◌≡◌, ◌⊎◌, ◌<◌, ◌++◌, ◌∷◌, [], ℕ, List, Option, None, Some, IsSome, length, slice_get}
 use Rattle.pam_dispatch.specs.declared.flat_item.FlatItem.{FlatItem}
-use Rattle.pam_dispatch.specs.declared.key.PlaceKey.{PlaceKey}
 use Rattle.pam_dispatch.specs.declared.place.Place.{Place}
 use Rattle.pam_dispatch.specs.Flat.{IsPlaceOf, rest_of, runs_of}
-use Rattle.pam_dispatch.specs.Keys.{key_of, rest_at}
+use Rattle.pam_dispatch.specs.Keys.{KeyValue, key_of, rest_at}
 use Rattle.pam_dispatch.specs.Runs.{Assignment, Runs, asked_module}
 use Rattle.pam_compare.specs.declared.change.Change.{Change}
 use Rattle.pam_compare.specs.declared.change.Change.TheVariants.{Admits, Refuses, Tells}
@@ -24,12 +23,12 @@ use Rattle.pam_compare.specs.Naming.{IsPossible, by_name}
 use Rattle.pam_compare.specs.Turn.{IsTurn, turn_name, old_after, new_after}
 
 -- a place in a table, of this program, with its key
-pub record IsStored (program : List FlatItem) (keys : List PlaceKey) (k : ℕ) (p : Place) : Type 0 where
+pub record IsStored (program : List FlatItem) (keys : List KeyValue) (k : ℕ) (p : Place) : Type 0 where
   pub place : IsPlaceOf program p
   pub key : slice_get keys k ≡ Some (key_of p)
   pub rest : rest_at program (key_of p) ≡ rest_of program p
 
-pub record ArePlaces (program : List FlatItem) (places : List Place) (keys : List PlaceKey) : Type 0 where
+pub record ArePlaces (program : List FlatItem) (places : List Place) (keys : List KeyValue) : Type 0 where
   pub count : length places ≡ length keys
   pub stored : (k : ℕ) (p : Place) → slice_get places k ≡ Some p → IsStored program keys k p
 

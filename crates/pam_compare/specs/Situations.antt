@@ -2,9 +2,8 @@
 use Rattle.std.specs.Prelude.{◌≡◌, ◌≢◌, ◌<◌, ℕ, zero, suc, List, [], ◌∷◌, Option, length}
 use Rattle.std.specs.List.{AllByRecursion}
 use Rattle.pam_dispatch.specs.declared.flat_item.FlatItem.{FlatItem}
-use Rattle.pam_dispatch.specs.declared.key.PlaceKey.{PlaceKey}
 use Rattle.pam_dispatch.specs.Flat.{modules_of, runs_of}
-use Rattle.pam_dispatch.specs.Keys.{rest_at}
+use Rattle.pam_dispatch.specs.Keys.{KeyValue, rest_at}
 use Rattle.pam_dispatch.specs.Runs.{Assignment, Runs, ends, asks, outcome_of}
 use Rattle.pam_paths.specs.Listing.{Allowance, IsAllowed}
 use Rattle.pam_compare.specs.declared.held.HeldAnswer.{HeldAnswer}
@@ -23,8 +22,8 @@ Comes runs a rest = (n : ℕ) × (rest ≡ after_steps n runs a)
 
 -- where both stacks are, and the answers that one has had from modules which the other has still ahead
 pub record Standing : Type 0 where
-  pub old : PlaceKey
-  pub new : PlaceKey
+  pub old : KeyValue
+  pub new : KeyValue
   pub held : List HeldAnswer
 
 -- no two are equal

@@ -26,8 +26,8 @@ all_zipped_at (x ∷ xs) (y ∷ ys) zero c p h within = h.0
 all_zipped_at (x ∷ xs) (y ∷ ys) (suc index) c p h within = all_zipped_at xs ys index c p h.1 (omega (arith, within))
 
 -- each module of a program has a position
-pub length-positions : (flat_items program : List FlatItem) (positions : List ℕ) {parts : List (List Part)} {flat tail : ℕ} {levels : List (List Bool)} →
-    IsProgram flat_items positions parts flat tail levels → flat_items ≡ program →
+pub length-positions : (flat_items program : List FlatItem) (positions : List ℕ) {parts : List (List Part)} {stretches : List ℕ} {tail : ℕ} {levels : List (List Bool)} →
+    IsProgram flat_items positions parts stretches tail levels → flat_items ≡ program →
     length positions ≡ modules_of program
 length-positions flat_items program positions p is =
     ap (λ (x : List ℕ). length x) p.found ∙ length-positions_from 0 flat_items ∙ ap (λ (ts : List FlatItem). modules_of ts) is
@@ -62,8 +62,8 @@ place-control program place number numbered valid asked =
     at_item program place number numbered valid asked (place_within program place valid (ap is_some asked))
     (get_or program place.position (Substack 0)) refl
 
-module _ (flat_items program : List FlatItem) (positions : List ℕ) {parts : List (List Part)} {flat tail : ℕ} {levels : List (List Bool)}
-    (p : IsProgram flat_items positions parts flat tail levels)
+module _ (flat_items program : List FlatItem) (positions : List ℕ) {parts : List (List Part)} {stretches : List ℕ} {tail : ℕ} {levels : List (List Bool)}
+    (p : IsProgram flat_items positions parts stretches tail levels)
     (is : flat_items ≡ program) (number : ℕ) (first : 1 ≤ number) (last : number ≤ modules_of program) where
   index_within : number - 1 < modules_of flat_items
   index_within = omega (arith, first, last, ap (λ (ts : List FlatItem). modules_of ts) is)

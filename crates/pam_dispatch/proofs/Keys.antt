@@ -5,34 +5,12 @@ use Rattle.std.proofs.lemmas.Bool.{and_from, cases_lt, cond-false, cond-true, eq
 use Rattle.std.specs.List.{AllByRecursion, IsDistinct, list_any, position, position_or_len}
 use Rattle.std.specs.Option.{is_some}
 use Rattle.std.specs.Prelude.{IfNone, IfSome, nat_lt, not}
-use denote.Enum.Bare.{sameb, true_same}
-use lib.Pointwise.{pointwise}
-use Rattle.pam_dispatch.specs.contracts.state.Impression.{the_type}
-use Rattle.pam_dispatch.specs.declared.key.PlaceKey.{PlaceKey}
-use Rattle.pam_dispatch.specs.declared.state.State.{State}
-use Rattle.pam_dispatch.specs.Hashing.{same_key, same_key-true, same_state}
-use Rattle.pam_dispatch.specs.Keys.{AreDifferent, DiffersFrom}
-
--- KEYS WITH THE SAME PARTS
-
-same_state-self : (a : State) → same_state a a ≡ true
-same_state-self a =
-    and_from (sameb the_type a.impression a.impression) (eqb a.status a.status) (true_same the_type a.impression a.impression refl)
-    (eq-eqb a.status a.status refl)
-
-states-self : (xs : List State) → pointwise same_state xs xs ≡ true
-states-self [] = refl
-states-self (x ∷ xs) = and_from (same_state x x) (pointwise same_state xs xs) (same_state-self x) (states-self xs)
-
-same_key-self : (a : PlaceKey) → same_key a a ≡ true
-same_key-self a =
-    and_from (eqb a.position a.position) _ (eq-eqb a.position a.position refl)
-    (and_from (eqb a.depth a.depth) _ (eq-eqb a.depth a.depth refl)
-    (and_from (same_state a.state a.state) (pointwise same_state a.entered.states a.entered.states) (same_state-self a.state) (states-self a.entered.states)))
+use Rattle.pam_dispatch.specs.Hashing.{same_key, same_key-self, same_key-true}
+use Rattle.pam_dispatch.specs.Keys.{AreDifferent, DiffersFrom, KeyValue}
 
 -- KEYS IN A LIST
 
-apart : (k other : PlaceKey) → same_key k other ≡ false → k ≢ other
+apart : (k other : KeyValue) → same_key k other ≡ false → k ≢ other
 apart k other h e = false≢true (sym h ∙ ap (same_key k) (sym e) ∙ same_key-self k)
 
 or-first : (a b : Bool) → (a || b) ≡ false → a ≡ false
@@ -43,24 +21,24 @@ or-second : (a b : Bool) → (a || b) ≡ false → b ≡ false
 or-second true b e = absurd (false≢true (sym e))
 or-second false b e = e
 
-differs-none : (k : PlaceKey) (ks : List PlaceKey) → list_any (same_key k) ks ≡ false → DiffersFrom k ks
+differs-none : (k : KeyValue) (ks : List KeyValue) → list_any (same_key k) ks ≡ false → DiffersFrom k ks
 unfolding DiffersFrom
 differs-none k [] h = tt
 differs-none k (other ∷ ks) h =
     (apart k other (or-first (same_key k other) (list_any (same_key k) ks) h), differs-none k ks (or-second (same_key k other) (list_any (same_key k) ks) h))
 
-differs-all : (k : PlaceKey) (ks : List PlaceKey) → AllByRecursion (λ other. same_key k other ≡ false) ks → DiffersFrom k ks
+differs-all : (k : KeyValue) (ks : List KeyValue) → AllByRecursion (λ other. same_key k other ≡ false) ks → DiffersFrom k ks
 unfolding DiffersFrom
 differs-all k [] h = tt
 differs-all k (other ∷ ks) h = (apart k other h.0, differs-all k ks h.1)
 
-pub distinct-different : (ks : List PlaceKey) → IsDistinct same_key ks → AreDifferent ks
+pub distinct-different : (ks : List KeyValue) → IsDistinct same_key ks → AreDifferent ks
 unfolding IsDistinct AreDifferent
 distinct-different [] h = tt
 distinct-different (k ∷ ks) h = (differs-all k ks h.0, distinct-different ks h.1)
 
 -- a key that differs from all is not found
-pub differs-any : (k : PlaceKey) (ks : List PlaceKey) → DiffersFrom k ks → list_any (same_key k) ks ≡ false
+pub differs-any : (k : KeyValue) (ks : List KeyValue) → DiffersFrom k ks → list_any (same_key k) ks ≡ false
 unfolding DiffersFrom
 differs-any k [] h = refl
 differs-any k (other ∷ ks) h =
@@ -70,26 +48,26 @@ differs-any k (other ∷ ks) h =
     ] refl
 
 -- what a search gives
-pub none-differs : (r : Option ℕ) (k : PlaceKey) (ks : List PlaceKey) → is_some r ≡ list_any (same_key k) ks → IfNone r (DiffersFrom k ks)
+pub none-differs : (r : Option ℕ) (k : KeyValue) (ks : List KeyValue) → is_some r ≡ list_any (same_key k) ks → IfNone r (DiffersFrom k ks)
 none-differs None k ks h = differs-none k ks (sym h)
 none-differs (Some i) k ks h = tt
 
-at-next : (other : PlaceKey) (ks : List PlaceKey) (n : ℕ) → slice_get (other ∷ ks) (1 + n) ≡ slice_get ks n
+at-next : (other : KeyValue) (ks : List KeyValue) (n : ℕ) → slice_get (other ∷ ks) (1 + n) ≡ slice_get ks n
 at-next other ks n = ap (slice_get (other ∷ ks)) (one_more n)
   where
     one_more : (n : ℕ) → 1 + n ≡ suc n
     one_more n = omega arith
 
-first-at : (k : PlaceKey) (ks : List PlaceKey) → position_or_len (same_key k) ks < length ks → slice_get ks (position_or_len (same_key k) ks) ≡ Some k
+first-at : (k : KeyValue) (ks : List KeyValue) → position_or_len (same_key k) ks < length ks → slice_get ks (position_or_len (same_key k) ks) ≡ Some k
 first-at k [] l = absurd (omega arith)
 first-at k (other ∷ ks) l =
     elim (same_key k other) as (λ (t : Bool). same_key k other ≡ t → cond (not t) (1 + position_or_len (same_key k) ks) 0 < length (other ∷ ks)
     → slice_get (other ∷ ks) (cond (not t) (1 + position_or_len (same_key k) ks) 0) ≡ Some k) [
-      | true ↦ λ e m. ap (λ (x : PlaceKey). Some x) (sym (same_key-true k other e))
+      | true ↦ λ e m. ap (λ (x : KeyValue). Some x) (sym (same_key-true k other e))
       | false ↦ λ e m. at-next other ks (position_or_len (same_key k) ks) ∙ first-at k ks (omega (arith, m))
     ] refl l
 
-pub found-at : (r : Option ℕ) (k : PlaceKey) (ks : List PlaceKey) → r ≡ position (same_key k) ks → IfSome r (λ i. slice_get ks i ≡ Some k)
+pub found-at : (r : Option ℕ) (k : KeyValue) (ks : List KeyValue) → r ≡ position (same_key k) ks → IfSome r (λ i. slice_get ks i ≡ Some k)
 found-at None k ks h = tt
 found-at (Some i) k ks h =
     elim (cases_lt (position_or_len (same_key k) ks) (length ks)) [

@@ -13,4 +13,5 @@ pub mod ReadTables
 pub mod Resume
 pub mod Retelling
 pub mod SettledRuns
+pub mod Skipping
 pub mod StackLists

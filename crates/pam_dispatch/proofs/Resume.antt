@@ -11,7 +11,7 @@ use Rattle.pam_dispatch.specs.declared.flat_item.FlatItem.{FlatItem}
 use Rattle.pam_dispatch.specs.declared.flat_item.FlatItem.TheVariants.{Module, Substack}
 use Rattle.pam_dispatch.specs.State.{start_state}
 use Rattle.pam_dispatch.specs.Runs.{Runs, asks, asked_module}
-use Rattle.pam_dispatch.specs.Flat.{AreOutermost, level_of, resume}
+use Rattle.pam_dispatch.specs.Flat.{level_of, resume}
 
 pub take-take : {X : Type 0} (m d : ℕ) (xs : List X) → m ≤ d → take m (take d xs) ≡ take m xs
 take-take zero d xs h = refl
@@ -124,32 +124,3 @@ module _ (program : List FlatItem) (at : ℕ) (d : FlatItem) (here m : ℕ) (con
       resume (drop at program) (here + 1) 0 (take (here + 1) held) s ≡ resume (drop at program) level skip (take depth held) s
   at_module depth level skip low stays deep =
       at_module-asks (here + 1) (here + 1) 0 (omega arith) (λ e l. omega arith) (omega arith) ∙ sym (at_module-asks depth level skip low stays (omega arith))
-
--- of items of the outermost list, any number is skipped in one step: `skip` of them, or all if there are fewer
-pub resume-flat : (l : List FlatItem) (skip skipped : ℕ) (es : List State) (s : State) → AreOutermost l → skipped ≤ skip
-    → (skipped < skip → length l ≤ skipped) → resume (drop skipped l) 0 0 es s ≡ resume l 0 skip es s
-unfolding resume
-resume-flat [] skip zero es s flat less all = refl
-resume-flat [] skip (suc skipped) es s flat less all = refl
-resume-flat (e ∷ l) zero zero es s flat less all = refl
-resume-flat (e ∷ l) zero (suc skipped) es s flat less all = absurd (omega (arith, less))
-resume-flat (e ∷ l) (suc skip) zero es s flat less all = absurd (omega (arith, all (omega arith)))
-resume-flat (e ∷ l) (suc skip) (suc skipped) es s flat less all =
-    let one : skip ≡ suc skip - 1 = omega arith in
-    resume-flat l skip skipped es s (λ i d within. flat (suc i) d (omega (arith, within))) (omega (arith, less))
-    (λ fewer. omega (arith, all (omega (arith, fewer))))
-    ∙ ap (λ (n : ℕ). resume l 0 n es s) one
-    ∙ sym (resume-item e l 0 (suc skip) es s (flat zero e (omega arith)) (omega arith))
-
--- the same, from a place of a program on
-pub resume-outermost : (program : List FlatItem) (flat from skip skipped : ℕ) (es : List State) (s : State) → AreOutermost (drop flat program)
-    → flat ≤ from → from ≤ length program → skipped ≡ min skip (length program - from)
-    → resume (drop (from + skipped) program) 0 0 es s ≡ resume (drop from program) 0 skip es s
-resume-outermost program flat from skip skipped es s outermost after within least =
-    let left : length (drop from program) ≡ length program - from = length-drop from program in
-    let at : flat + (from - flat) ≡ from = omega (arith, after) in
-    let here : AreOutermost (drop from program) =
-    subst AreOutermost (drop-drop (from - flat) flat program ∙ ap (λ (n : ℕ). drop n program) at)
-    (All-drop (λ (e : FlatItem). level_of e ≡ 0) (from - flat) _ outermost) in
-    ap (λ (x : List FlatItem). resume x 0 0 es s) (sym (drop-drop skipped from program))
-    ∙ resume-flat (drop from program) skip skipped es s here (omega (arith, least)) (λ fewer. omega (arith, least, left, fewer))

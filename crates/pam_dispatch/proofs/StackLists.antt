@@ -14,10 +14,11 @@ use Rattle.pam_conf.specs.declared.stack.TheConstants.{MAX_MODULES}
 use Rattle.pam_dispatch.specs.declared.flat_item.FlatItem.{FlatItem}
 use Rattle.pam_dispatch.specs.declared.flat_item.FlatItem.TheVariants.{Module, Substack}
 use Rattle.pam_dispatch.specs.Tree.{count, controls_of}
-use Rattle.pam_dispatch.specs.Flat.{AreOutermost, flat_list, controls_in, control_at, modules_of, positions_from, IsBounded, IsNumbered}
+use Rattle.pam_dispatch.specs.Flat.{flat_list, controls_in, control_at, modules_of, positions_from, IsBounded, IsNumbered}
 use Rattle.pam_dispatch.specs.Program.{IsProgram}
 use Rattle.pam_dispatch.specs.ReadLevels.{IsReadTable}
 use Rattle.pam_dispatch.specs.Settled.{KeepFailure}
+use Rattle.pam_dispatch.specs.Stretches.{IsStretchTable}
 
 -- LEVELS AND NUMBERS
 
@@ -145,12 +146,12 @@ control_at-flat_list items number h =
 
 -- A STACK'S PROGRAM
 
-pub program-flat_list : (items : Items) (positions : List ℕ) (parts : List (List Part)) (flat tail : ℕ) (table : List (List Bool)) →
+pub program-flat_list : (items : Items) (positions : List ℕ) (parts : List (List Part)) (stretches : List ℕ) (tail : ℕ) (table : List (List Bool)) →
     module_count items ≤ MAX_MODULES → depth items ≤ 16 → IsNumberedFrom 1 items →
     positions ≡ positions_from 0 (flat_list 0 items) → AllZip IsParts (controls_in (flat_list 0 items)) parts →
-    AreOutermost (drop flat (flat_list 0 items)) → KeepFailure (drop tail (flat_list 0 items)) → IsReadTable (flat_list 0 items) table →
-    IsProgram (flat_list 0 items) positions parts flat tail table
-program-flat_list items positions parts flat tail table few shallow numbered found divided outermost settled read =
+    IsStretchTable (flat_list 0 items) stretches → KeepFailure (drop tail (flat_list 0 items)) → IsReadTable (flat_list 0 items) table →
+    IsProgram (flat_list 0 items) positions parts stretches tail table
+program-flat_list items positions parts stretches tail table few shallow numbered found divided stretched settled read =
     let levels : 0 + depth items ≤ 16 = omega (arith, shallow) in
     let first : 1 ≡ 0 + 1 = omega arith in
     record {
@@ -159,7 +160,7 @@ program-flat_list items positions parts flat tail table few shallow numbered fou
       few = omega (arith, few, modules_of-flat_list 0 items);
       found = found;
       divided = divided;
-      outermost = outermost;
+      stretched = stretched;
       settled = settled;
       read = read;
     }

@@ -24,10 +24,6 @@ abbrev pub level_of : FlatItem → ℕ
 level_of (Module level number control after) = level
 level_of (Substack level) = level
 
--- items of the outermost list
-abbrev pub AreOutermost : List FlatItem → Type 0
-AreOutermost flat_items = All (λ item. level_of item ≡ 0) flat_items
-
 -- the controls of the modules, from the left
 unfoldable pub controls_in : List FlatItem → List (List Action)
 controls_in [] = []

@@ -11,4 +11,5 @@ pub mod Runs
 pub mod Settled
 pub mod Situations
 pub mod State
+pub mod Stretches
 pub mod Tree

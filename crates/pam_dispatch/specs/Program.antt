@@ -5,20 +5,21 @@ use Rattle.std.specs.List.{AllZip}
 use Rattle.pam_codes.specs.declared.parts.Part.{Part}
 use Rattle.pam_codes.specs.Parts.{IsParts}
 use Rattle.pam_dispatch.specs.declared.flat_item.FlatItem.{FlatItem}
-use Rattle.pam_dispatch.specs.Flat.{AreOutermost, IsNumbered, IsBounded, controls_in, modules_of, positions_from}
+use Rattle.pam_dispatch.specs.Flat.{IsNumbered, IsBounded, controls_in, modules_of, positions_from}
 use Rattle.pam_dispatch.specs.ReadLevels.{IsReadTable}
 use Rattle.pam_dispatch.specs.Settled.{KeepFailure}
+use Rattle.pam_dispatch.specs.Stretches.{IsStretchTable}
 
--- a flat list of a stack's items, with the positions of its modules and the parts of their controls; from `outermost_from` on the
--- items are items of the outermost list, and from `harmless_from` on no item changes a failed stack; of each position, the levels of
--- the lists whose entry states a reset can still read
-pub record IsProgram (flat_items : List FlatItem) (positions : List ℕ) (parts : List (List Part)) (outermost_from harmless_from : ℕ)
-    (read_levels : List (List Bool)) : Type 0 where
+-- a flat list of a stack's items, with the positions of its modules and the parts of their controls; of each position, the length of
+-- the stretch of items on one level, and the levels of the lists whose entry states a reset can still read; from `harmless_from` on no
+-- item changes a failed stack
+pub record IsProgram (flat_items : List FlatItem) (positions : List ℕ) (parts : List (List Part)) (stretches : List ℕ)
+    (harmless_from : ℕ) (read_levels : List (List Bool)) : Type 0 where
   pub bounded : All IsBounded flat_items
   pub numbered : IsNumbered 0 flat_items
   pub few : modules_of flat_items ≤ MAX_MODULES
   pub found : positions ≡ positions_from 0 flat_items
   pub divided : AllZip IsParts (controls_in flat_items) parts
-  pub outermost : AreOutermost (drop outermost_from flat_items)
+  pub stretched : IsStretchTable flat_items stretches
   pub settled : KeepFailure (drop harmless_from flat_items)
   pub read : IsReadTable flat_items read_levels

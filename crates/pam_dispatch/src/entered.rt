@@ -1,8 +1,7 @@
 //! The states in which the open lists were entered.
 
-ghost use Rattle.std.specs.Prelude.{◌≡◌, ◌<◌, ◌≤◌, List, slice_index_or, slice_set, take};
+ghost use Rattle.std.specs.Prelude.{◌≡◌, ◌<◌, List, slice_index_or, slice_set};
 ghost use Rattle.pam_dispatch.specs.declared.flat_item.FlatItem.{FlatItem};
-ghost use Rattle.pam_dispatch.specs.Keys.{first_states};
 ghost use Rattle.pam_dispatch.specs.ReadLevels.{AreReadLevels};
 ghost use Rattle.pam_dispatch.specs.Representatives.{read_states};
 
@@ -16,17 +15,6 @@ pub(crate) const LISTS: usize = 16;
 #[derive(Clone, Copy, Debug, PartialEq, Eq)]
 pub struct Entered {
     pub(crate) states: [State; LISTS],
-}
-
-/// Keeps the first `depth` states; the others become the state in which a run begins.
-fn clear_from(states: &mut [State; LISTS], depth: usize)
-    requires { depth ≤ LISTS }
-    ensures states { states.new ≡ first_states depth states.old }
-    ensures front { take depth states.new ≡ take depth states.old }
-{
-    for level in depth..LISTS {
-        states[level] = State::start();
-    }
 }
 
 /// Keeps the states of the lists at some levels; the others become the state in which a run begins.
@@ -49,17 +37,6 @@ impl Entered {
         ensures { result ≡ slice_index_or self.now.states level start_state }
     {
         self.states[level]
-    }
-
-    /// The states of the first `depth` lists, and then the state in which a run begins.
-    pub(crate) fn first(&self, depth: usize) -> Entered
-        requires { depth ≤ LISTS }
-        ensures states { result.states ≡ first_states depth self.now.states }
-        ensures front { take depth result.states ≡ take depth self.now.states }
-    {
-        let mut kept = *self;
-        clear_from(&mut kept.states, depth);
-        kept
     }
 
     /// The states of the lists at some levels; for each other list the state in which a run begins.

@@ -9,18 +9,60 @@ use crate::entered::{Entered, LISTS};
 use crate::place::Place;
 use crate::state::State;
 use std::hash::{Hash, Hasher};
+use std::marker::Model;
 
 /// What the rest of a run from a place depends on: places with one key have the same rest.
-#[derive(Clone, Copy, Debug, PartialEq, Eq)]
+#[derive(Debug, Drop)]
 pub struct PlaceKey {
-    pub(crate) position: usize,
-    pub(crate) depth: usize,
-    pub(crate) state: State,
-    /// The states in which the open lists were entered, outermost first, and then the state in which a run begins.
-    pub(crate) entered: Entered,
+    position: usize,
+    depth: usize,
+    state: State,
+    /// Only the states of the open lists belong to the key.
+    entered: Entered,
 }
 
-/// Only the states of the open lists are fed: the others are those in which a run begins.
+impl Model for PlaceKey {
+    ghost use Rattle.std.specs.Prelude.{min, take};
+    ghost use Rattle.pam_dispatch.specs.declared.entered.TheConstants.{LISTS};
+    ghost use Rattle.pam_dispatch.specs.Keys.{KeyValue};
+
+    ghost Value = { KeyValue };
+
+    ghost view = { λ k. record { position = k.position; depth = k.depth; state = k.state; entered = take (min k.depth LISTS) k.entered.states } };
+}
+
+impl PlaceKey {
+    /// The states in which the open lists were entered, outermost first.
+    fn open_states(&self) -> &[State]
+        ensures { result.now ≡ self.now.entered }
+    {
+        &self.entered.states[..self.depth.min(LISTS)]
+    }
+}
+
+impl PartialEq for PlaceKey {
+    ghost use Rattle.pam_dispatch.specs.Hashing.{same_key, same_key-equivalence};
+    ghost use Rattle.std.specs.Cmp.{partial_equiv_from_equiv};
+
+    ghost eq = { same_key };
+
+    ghost laws = { partial_equiv_from_equiv same_key-equivalence };
+
+    fn eq(&self, other: &PlaceKey) -> bool {
+        self.position == other.position
+            && self.depth == other.depth
+            && self.state == other.state
+            && self.open_states() == other.open_states()
+    }
+}
+
+impl Eq for PlaceKey {
+    ghost use Rattle.pam_dispatch.specs.Hashing.{same_key-equivalence};
+
+    ghost laws = { same_key-equivalence };
+}
+
+/// The depth says nothing more than the number of the states.
 impl Hash for PlaceKey {
     ghost use Rattle.pam_dispatch.specs.Hashing.{key_input};
     ghost use Rattle.pam_dispatch.specs.Hashing.{same-key_input};
@@ -32,8 +74,7 @@ impl Hash for PlaceKey {
     fn hash<H: Hasher>(&self, state: &mut H) {
         state.write_usize(self.position);
         self.state.hash(state);
-        let open = self.depth.min(LISTS);
-        State::hash_slice(&self.entered.states[..open], state);
+        State::hash_slice(self.open_states(), state);
     }
 }
 
@@ -43,12 +84,11 @@ impl Place {
         ensures key { result ≡ key_of self.now }
         ensures rest { (program : List FlatItem) → rest_at program result ≡ rest_of program self.now }
     {
-        let depth = usize::from(self.depth);
         PlaceKey {
             position: self.position,
-            depth,
+            depth: usize::from(self.depth),
             state: self.state,
-            entered: self.entered.first(depth),
+            entered: self.entered,
         }
     }
 }

@@ -19,6 +19,7 @@ mod seek;
 mod settled;
 mod state;
 mod step;
+mod stretches;
 mod work;
 
 pub use asked::{Question, Question as Asked, Situation};

@@ -5,11 +5,9 @@ ghost use Rattle.pam_dispatch.specs.declared.flat_item.FlatItem.{FlatItem};
 ghost use Rattle.pam_dispatch.specs.Flat.{rest_of};
 ghost use Rattle.pam_dispatch.specs.Keys.{AreDifferent, DiffersFrom, key_of, rest_at};
 
-use crate::entered::Entered;
 use crate::error::Memory;
 use crate::key::PlaceKey;
 use crate::place::Place;
-use crate::state::State;
 use indexmap::IndexSet;
 use std::alloc::Global;
 use std::marker::Model;
@@ -22,23 +20,11 @@ pub struct PlaceTable {
 
 impl Model for PlaceTable {
     ghost use Rattle.std.specs.Prelude.{List};
-    ghost use Rattle.pam_dispatch.specs.declared.key.PlaceKey.{PlaceKey};
+    ghost use Rattle.pam_dispatch.specs.Keys.{KeyValue};
 
-    ghost Value = { List PlaceKey };
+    ghost Value = { List KeyValue };
 
     ghost view = { λ p. p.keys.keys };
-}
-
-/// A key of these parts.
-fn key_from(position: usize, depth: usize, state: State, entered: Entered) -> PlaceKey
-    ensures { result ≡ record { position = position; depth = depth; state = state; entered = entered } }
-{
-    PlaceKey {
-        position,
-        depth,
-        state,
-        entered,
-    }
 }
 
 impl PlaceTable {
@@ -76,9 +62,7 @@ impl PlaceTable {
         ensures added { OnOk result (self.new ≡ self.old ++ key_of place.now ∷ []) }
         ensures unchanged { OnErr result (self.new ≡ self.old) }
     {
-        let key = place.key();
-        let key = key_from(key.position, key.depth, key.state, key.entered);
-        self.keys.insert(key)?;
+        self.keys.insert(place.key())?;
         Ok(())
     }
 }

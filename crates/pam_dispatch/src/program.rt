@@ -2,14 +2,16 @@
 
 ghost use Rattle.std.specs.Prelude.{◌≡◌, ◌≢◌, ◌∷◌, ◌+◌, ◌-◌, ◌≤◌, ◌^◌, ◌<◌, ℕ, All, drop, length, min, slice_get, take};
 ghost use Rattle.std.specs.Prelude.{IfErr, IfNone, IfOk, IfSome, IsSome, None, OnOk, Some};
-ghost use Rattle.std.specs.List.{AllZip};
+ghost use Rattle.std.specs.List.{AllZip, list_any};
 ghost use Rattle.pam_codes.specs.Parts.{IsParts};
 ghost use Rattle.pam_conf.specs.Stack.{Items, module_at, module_count};
 ghost use Rattle.pam_conf.specs.declared.stack.TheConstants.{MAX_MODULES};
 ghost use Rattle.pam_dispatch.specs.Decision.{decision_of};
-ghost use Rattle.pam_dispatch.specs.Flat.{AreOutermost, IsBounded, IsPlaceOf, control_at, controls_in, modules_of, positions_from, resume, rest_of, runs_of};
+ghost use Rattle.pam_dispatch.specs.Flat.{IsBounded, IsPlaceOf, control_at, controls_in, modules_of, positions_from, resume, rest_of, runs_of};
+ghost use Rattle.pam_dispatch.specs.Representatives.{is_reset};
 ghost use Rattle.pam_dispatch.specs.Runs.{AsksRise, Assignment, after_answer, answers_of, asked_by, asked_module, final_state, next_ask, outcome_in, state_in};
 ghost use Rattle.pam_dispatch.specs.Settled.{IsSettled};
+ghost use Rattle.pam_dispatch.specs.Stretches.{IsStretchTable};
 ghost use Rattle.pam_dispatch.specs.Tree.{decided, runs_of_stack};
 
 use crate::asked::{Question, Situation};
@@ -19,11 +21,12 @@ use crate::error::{Memory, WrongCount};
 use crate::flat_item::FlatItem;
 use crate::flatten::flatten;
 use crate::place::Place;
-use crate::read_levels::{ReadLevels, read_table};
+use crate::read_levels::{ReadLevels, has_reset, read_table};
 use crate::seek::seek;
-use crate::settled::{SettledRun, first_harmless, first_outermost};
+use crate::settled::{SettledRun, first_harmless};
 use crate::state::State;
 use crate::step::{Outcome, Step};
+use crate::stretches::stretch_table;
 use crate::work::Work;
 use pam_codes::{Action, Code, Control, Parts};
 use pam_conf::Stack;
@@ -38,8 +41,8 @@ pub struct Program {
     positions: Vec<usize>,
     /// The parts of the modules' controls, in the same order.
     parts: Vec<Parts>,
-    /// The index in `items` from which on all are items of the outermost list.
-    outermost_from: usize,
+    /// The length of the stretch of items on one level, from each index in `items` on, the last index first.
+    stretches: Vec<usize>,
     /// The index in `items` from which on no answer changes a failed stack.
     harmless_from: usize,
     /// The levels of the lists whose entry states a reset can still read, from each index in `items` on, the last index first.
@@ -56,7 +59,7 @@ impl Model for Program {
 
     ghost view = { λ p. p.flat_items.items };
 
-    ghost invariant = { λ p. IsProgram p.flat_items.items p.positions.items p.parts.items p.outermost_from p.harmless_from p.read_levels.items };
+    ghost invariant = { λ p. IsProgram p.flat_items.items p.positions.items p.parts.items p.stretches.items p.harmless_from p.read_levels.items };
 }
 
 /// The indices of the modules in a flat list.
@@ -150,14 +153,9 @@ fn answer_at(flat_items: &[FlatItem], place: &Place, code: Code) -> Answered
 
 /// Makes the step from `place` with the answer `code`.
 #[inline(always)]
-fn step_in(
-    flat_items: &[FlatItem],
-    outermost_from: usize,
-    place: &mut Place,
-    code: Code,
-) -> Answered
+fn step_in(flat_items: &[FlatItem], stretches: &[usize], place: &mut Place, code: Code) -> Answered
     requires flat_items { All IsBounded flat_items.now }
-    requires outermost { AreOutermost (drop outermost_from flat_items.now) }
+    requires stretches { IsStretchTable flat_items.now stretches.now }
     requires place { IsPlaceOf flat_items.now place.old }
     requires asking { IsSome (asked_module (rest_of flat_items.now place.old)) }
     ensures place { IsPlaceOf flat_items.now place.new }
@@ -170,13 +168,7 @@ fn step_in(
     let outcome = answered.outcome;
     place.position = place.position + 1;
     place.state = outcome.state;
-    seek(
-        flat_items,
-        outermost_from,
-        place,
-        answered.level,
-        answered.skip,
-    );
+    seek(flat_items, stretches, place, answered.level, answered.skip);
     answered
 }
 
@@ -191,14 +183,14 @@ impl Program {
         flatten(stack.items(), 0, &mut flat_items)?;
         let positions = module_positions(alloc, &flat_items)?;
         let parts = module_parts(alloc, &flat_items)?;
-        let outermost_from = first_outermost(&flat_items);
+        let stretches = stretch_table(alloc, &flat_items)?;
         let harmless_from = first_harmless(&flat_items);
         let read_levels = read_table(alloc, &flat_items)?;
         Ok(Program {
             flat_items,
             positions,
             parts,
-            outermost_from,
+            stretches,
             harmless_from,
             read_levels,
         })
@@ -227,6 +219,15 @@ impl Program {
             FlatItem::Module { control, .. } => control,
             FlatItem::Substack { .. } => unreachable!(),
         }
+    }
+
+    /// Whether the control of the module with this number, from 1, has the action reset for some code.
+    pub fn has_reset(&self, number: usize) -> bool
+        requires first { 1 ≤ number }
+        requires last { number ≤ modules_of self.now }
+        ensures { result ≡ list_any is_reset (control_at self.now number) }
+    {
+        has_reset(self.control(number))
     }
 
     /// The parts of the control of the module with this number, from 1.
@@ -261,7 +262,7 @@ impl Program {
             state: start,
             depth: 1,
         };
-        seek(&self.flat_items, self.outermost_from, &mut place, 0, 0);
+        seek(&self.flat_items, &self.stretches, &mut place, 0, 0);
         place
     }
 
@@ -339,7 +340,7 @@ impl Program {
         ensures outcome { outcome_in (rest_of self.now place.old) code ≡ result.outcome }
         ensures state { place.new.state ≡ result.outcome.state }
     {
-        step_in(&self.flat_items, self.outermost_from, place, code)
+        step_in(&self.flat_items, &self.stretches, place, code)
     }
 
     /// The rest of the run from `place`, if it is settled: it is at its end, or the stack has failed and no remaining

@@ -1,17 +1,17 @@
 //! Moves to the next module that is asked.
 
 ghost use Rattle.std.specs.Prelude.{◌≡◌, ◌<◌, ◌≤◌, All, drop, length, take};
-ghost use Rattle.pam_dispatch.specs.Flat.{AreOutermost, IsBounded, IsPlaceOf, resume, rest_of};
+ghost use Rattle.pam_dispatch.specs.Flat.{IsBounded, IsPlaceOf, resume, rest_of};
+ghost use Rattle.pam_dispatch.specs.Stretches.{IsStretchTable};
 
 use crate::flat_item::FlatItem;
 use crate::place::Place;
 
 /// Moves `place` from its position to the next module asked, or to the end. Skips the items deeper than `level` and
-/// `skip` items of that level, and then enters substacks. The items from `outermost_from` on are items of the outermost list, of
-/// which any number is skipped in one step.
+/// `skip` items of that level, and then enters substacks. Items of one stretch are skipped in one step.
 pub(crate) fn seek(
     program: &[FlatItem],
-    outermost_from: usize,
+    stretches: &[usize],
     place: &mut Place,
     mut level: usize,
     mut skip: usize,
@@ -19,17 +19,13 @@ pub(crate) fn seek(
     requires below { level < place.old.depth }
     requires within { place.old.position ≤ length program.now }
     requires flat_items { All IsBounded program.now }
-    requires outermost { AreOutermost (drop outermost_from program.now) }
+    requires stretches { IsStretchTable program.now stretches.now }
     ensures place { IsPlaceOf program.now place.new }
     ensures state { place.new.state ≡ place.old.state }
     ensures rest { rest_of program.now place.new
         ≡ resume (drop place.old.position program.now) level skip (take place.old.depth place.old.entered.states) place.old.state }
 {
     let mut position = place.position;
-    if skip > 0 && level == 0 && position >= outermost_from {
-        position += skip.min(program.len() - position);
-        skip = 0;
-    }
     let mut depth = usize::from(place.depth);
     while position < program.len() {
         let flat_item = &program[position];
@@ -37,8 +33,9 @@ pub(crate) fn seek(
         if here > level {
             position += 1;
         } else if here == level && skip > 0 {
-            skip -= 1;
-            position += 1;
+            let skipped = skip.min(stretches[program.len() - position]);
+            skip -= skipped;
+            position += skipped;
         } else {
             match flat_item {
                 FlatItem::Module { number, .. } => {

@@ -1,7 +1,6 @@
 //! The end of a run that no answer changes.
 
 ghost use Rattle.std.specs.Prelude.{◌≡◌, [], ◌∷◌, IsTrue, drop};
-ghost use Rattle.pam_dispatch.specs.Flat.{AreOutermost};
 ghost use Rattle.pam_dispatch.specs.Settled.{AllKeepFailure, KeepFailure, keeps_failure};
 
 use crate::decision::Decision;
@@ -57,17 +56,6 @@ pub(crate) fn first_harmless(flat_items: &[FlatItem]) -> usize
 {
     let mut position = flat_items.len();
     while position > 0 && is_harmless(&flat_items[position - 1]) {
-        position -= 1;
-    }
-    position
-}
-
-/// The position from which on all items are items of the outermost list.
-pub(crate) fn first_outermost(flat_items: &[FlatItem]) -> usize
-    ensures { AreOutermost (drop result flat_items.now) }
-{
-    let mut position = flat_items.len();
-    while position > 0 && flat_items[position - 1].level() == 0 {
         position -= 1;
     }
     position

@@ -115,13 +115,13 @@ impl Hash for State {
     ghost respects_eq = { same-state_input };
 
     fn hash<H: Hasher>(&self, state: &mut H) {
-        let status = u16::from(self.status.number());
+        let status = self.status.number();
         let impression = match self.impression {
             Impression::Undef => 0,
             Impression::Positive => 1,
             Impression::Negative => 2,
         };
-        state.write_u16(status * 4 + impression);
+        state.write_u8(status * 4 + impression);
     }
 }
 

@@ -7,11 +7,10 @@ use Rattle.std.proofs.Math.ListN.{get_or-append}
 use Rattle.std.proofs.Math.Seq.{get_or-append_seam}
 use Rattle.std.specs.List.{flat_map}
 use Rattle.pam_dispatch.specs.declared.flat_item.FlatItem.{FlatItem}
-use Rattle.pam_dispatch.specs.declared.key.PlaceKey.{PlaceKey}
 use Rattle.pam_dispatch.specs.declared.state.State.{State}
 use Rattle.pam_dispatch.specs.Decision.{decision_of}
 use Rattle.pam_dispatch.specs.Flat.{modules_of, rest_of}
-use Rattle.pam_dispatch.specs.Keys.{rest_at}
+use Rattle.pam_dispatch.specs.Keys.{KeyValue, rest_at}
 use Rattle.pam_dispatch.specs.Runs.{AsksRise, Runs, asked_module, asks, ends, state_in}
 use Rattle.pam_graph.specs.declared.error.GraphError.{GraphError}
 use Rattle.pam_graph.specs.declared.node.Edge.{Edge}
@@ -144,17 +143,17 @@ listing-end allows (asks ask next) code e is = absurd (let k : ⊥ = cc in k)
 -- BUILT GRAPHS
 
 module _ (allows : Allowance) (program : List FlatItem) where
-  abbrev paths_at : List PlaceKey → List (List PathValue)
+  abbrev paths_at : List KeyValue → List (List PathValue)
   paths_at places = map (listing allows) (map (rest_at program) places)
 
   -- as many places as nodes
-  pub built-length : (nodes : List Node) (places : List PlaceKey) → IsBuilt allows program nodes places → length nodes ≡ length places
+  pub built-length : (nodes : List Node) (places : List KeyValue) → IsBuilt allows program nodes places → length nodes ≡ length places
   built-length nodes places built =
       sym (length-walks_of nodes) ∙ ap length built.walks
       ∙ length-map (map (rest_at program) places) (listing allows) ∙ length-map places (rest_at program)
 
   -- the walks from a node that is found
-  pub built-found : (nodes : List Node) (places : List PlaceKey) (index : ℕ) (other : PlaceKey) (r : Runs) → IsBuilt allows program nodes places →
+  pub built-found : (nodes : List Node) (places : List KeyValue) (index : ℕ) (other : KeyValue) (r : Runs) → IsBuilt allows program nodes places →
       index < length places → rest_at program (slice_index_or places index other) ≡ r → walks_to (walks_of nodes) (At index) ≡ listing allows r
   built-found nodes places index other r built l is =
       ap (λ (x : List (List PathValue)). slice_index_or x index []) built.walks
@@ -163,7 +162,7 @@ module _ (allows : Allowance) (program : List FlatItem) where
       ∙ ap (listing allows) (get_or-map (rest_at program) places index other (rest_at program other) l ∙ is)
 
   -- the number of the module of a node that is found
-  pub number-found : (nodes : List Node) (places : List PlaceKey) (index : ℕ) (other : PlaceKey) (r : Runs) → IsBuilt allows program nodes places →
+  pub number-found : (nodes : List Node) (places : List KeyValue) (index : ℕ) (other : KeyValue) (r : Runs) → IsBuilt allows program nodes places →
       index < length places → rest_at program (slice_index_or places index other) ≡ r → slice_index_or (numbers_of nodes) index 0 ≡ next_number r
   number-found nodes places index other r built l is =
       ap (λ (x : List ℕ). slice_index_or x index 0) built.numbers
@@ -171,7 +170,7 @@ module _ (allows : Allowance) (program : List FlatItem) where
       (subst (λ n. index < n) (sym (length-map places (rest_at program))) l)
       ∙ ap next_number (get_or-map (rest_at program) places index other (rest_at program other) l ∙ is)
 
-  pub found-above : (nodes : List Node) (places : List PlaceKey) (index low n m : ℕ) (other : PlaceKey) (r : Runs) → IsBuilt allows program nodes places →
+  pub found-above : (nodes : List Node) (places : List KeyValue) (index low n m : ℕ) (other : KeyValue) (r : Runs) → IsBuilt allows program nodes places →
       index < length places → rest_at program (slice_index_or places index other) ≡ r → asked_module r ≡ Some m → AsksRise low n r →
       IsAbove (numbers_of nodes) low (At index)
   found-above nodes places index low n m other r built l is asked rise =
@@ -180,7 +179,7 @@ module _ (allows : Allowance) (program : List FlatItem) where
       (omega (arith, long, same, l), subst (λ (x : ℕ). low < x) (sym (number-found nodes places index other r built l is)) (number-above low n m r asked rise))
 
   -- a node is added
-  pub built-push : (old new : List Node) (places after : List PlaceKey) (node : Node) (r : Runs) → IsBuilt allows program old places →
+  pub built-push : (old new : List Node) (places after : List KeyValue) (node : Node) (r : Runs) → IsBuilt allows program old places →
       new ≡ old ++ node ∷ [] → map (rest_at program) after ≡ map (rest_at program) places ++ r ∷ [] → IsNode (numbers_of old) node →
       IsNodeFor (modules_of program) r node → walks_at (walks_of old) node ≡ listing allows r → IsBuilt allows program new after
   built-push old new places after node r built is at valid here same = record {
@@ -245,15 +244,15 @@ module _ (allows : Allowance) (program : List FlatItem) where
       sym (append-nil edges) ∙ ap (λ (x : List PathValue). edges ++ x) (sym none) ∙ is
 
   -- a graph without nodes
-  pub built-empty : (nodes : List Node) (places : List PlaceKey) → nodes ≡ [] → places ≡ [] → IsBuilt allows program nodes places
+  pub built-empty : (nodes : List Node) (places : List KeyValue) → nodes ≡ [] → places ≡ [] → IsBuilt allows program nodes places
   unfolding table AreAsking AreNodes
   built-empty nodes places e f =
       subst (λ (x : List Node). IsBuilt allows program x places) (sym e)
-      (subst (λ (x : List PlaceKey). IsBuilt allows program [] x) (sym f)
+      (subst (λ (x : List KeyValue). IsBuilt allows program [] x) (sym f)
       (record { walks = refl; numbers = refl; states = refl; asking = tt; order = tt }))
 
   -- what is added to a graph keeps it built
-  pub added-built : (old new : List Node) (places after : List PlaceKey) (node : Node) (r : Runs) (result : Result Target GraphError) →
+  pub added-built : (old new : List Node) (places after : List KeyValue) (node : Node) (r : Runs) (result : Result Target GraphError) →
       IsBuilt allows program old places → IsNode (numbers_of old) node → IsNodeFor (modules_of program) r node →
       walks_at (walks_of old) node ≡ listing allows r →
       OnOk result (new ≡ old ++ node ∷ []) → OnOk result (map (rest_at program) after ≡ map (rest_at program) places ++ r ∷ []) →

@@ -1,9 +1,8 @@
 -- Nodes at their places.
 use Rattle.std.proofs.Common.{◌≡◌, List, [], ◌∷◌, Some, map, sym, ◌∙◌, ap, subst}
 use Rattle.pam_dispatch.specs.declared.flat_item.FlatItem.{FlatItem}
-use Rattle.pam_dispatch.specs.declared.key.PlaceKey.{PlaceKey}
 use Rattle.pam_dispatch.specs.Flat.{modules_of}
-use Rattle.pam_dispatch.specs.Keys.{rest_at}
+use Rattle.pam_dispatch.specs.Keys.{KeyValue, rest_at}
 use Rattle.pam_dispatch.specs.Runs.{Assignment, state_in}
 use Rattle.pam_graph.specs.declared.node.Node.{Node}
 use Rattle.pam_graph.specs.Building.{AreAsking, IsAsking, IsBuilt, next_number, states_of}
@@ -17,7 +16,7 @@ use Rattle.pam_paths.specs.Paths.{PathValue, path_of}
 use Rattle.pam_paths.proofs.Listings.{listing-is}
 
 module _ (allows : Allowance) (program : List FlatItem) (b : Assignment) (ok : IsAllowed allows (modules_of program) b) where
-  node-at : (key : PlaceKey) (node : Node) (walks : List PathValue) → IsReachedKey allows program key → IsAsking (modules_of program) (rest_at program key) →
+  node-at : (key : KeyValue) (node : Node) (walks : List PathValue) → IsReachedKey allows program key → IsAsking (modules_of program) (rest_at program key) →
       node.module_number ≡ next_number (rest_at program key) → node.state ≡ state_in (rest_at program key) → walks ≡ listing allows (rest_at program key) →
       IsNodeAt allows program key node walks
   node-at key node walks reached asking number state is = record {
@@ -28,7 +27,7 @@ module _ (allows : Allowance) (program : List FlatItem) (b : Assignment) (ok : I
         (listing-is allows (modules_of program) (rest_at program key) asking.rise b ok);
   }
 
-  nodes-at : (keys : List PlaceKey) (nodes : List Node) (walks : List (List PathValue)) → AreReachedKeys allows program keys →
+  nodes-at : (keys : List KeyValue) (nodes : List Node) (walks : List (List PathValue)) → AreReachedKeys allows program keys →
       AreAsking (modules_of program) (map (rest_at program) keys) → numbers_of nodes ≡ map next_number (map (rest_at program) keys) →
       states_of nodes ≡ map state_in (map (rest_at program) keys) → walks ≡ map (listing allows) (map (rest_at program) keys) →
       AreNodesAt allows program keys nodes walks
@@ -48,6 +47,6 @@ module _ (allows : Allowance) (program : List FlatItem) (b : Assignment) (ok : I
       (node-at key node x h.0 a.0 number state first, nodes-at keys nodes walks h.1 a.1 numbers states others)
 
   -- the nodes of a graph that is built are at its places
-  pub built-at : (nodes : List Node) (keys : List PlaceKey) → IsBuilt allows program nodes keys → AreReachedKeys allows program keys →
+  pub built-at : (nodes : List Node) (keys : List KeyValue) → IsBuilt allows program nodes keys → AreReachedKeys allows program keys →
       AreNodesAt allows program keys nodes (walks_of nodes)
   built-at nodes keys built reached = nodes-at keys nodes (walks_of nodes) reached built.asking built.numbers built.states built.walks

@@ -4,10 +4,9 @@ use Rattle.std.proofs.Common.{Err, map, refl, sym, ◌∙◌, ap, subst, arith, 
 use Rattle.std.proofs.lemmas.List.{map-append}
 use Rattle.std.specs.Prelude.{IfErr, OnOk}
 use Rattle.pam_dispatch.specs.declared.flat_item.FlatItem.{FlatItem}
-use Rattle.pam_dispatch.specs.declared.key.PlaceKey.{PlaceKey}
 use Rattle.pam_dispatch.specs.declared.place.Place.{Place}
 use Rattle.pam_dispatch.specs.Flat.{rest_of, runs_of}
-use Rattle.pam_dispatch.specs.Keys.{AreDifferent, DiffersFrom, rest_at}
+use Rattle.pam_dispatch.specs.Keys.{AreDifferent, DiffersFrom, KeyValue, rest_at}
 use Rattle.pam_dispatch.specs.Runs.{AsksRise, Runs, after_answer, asked_module, asks, ends, outcome_of}
 use Rattle.pam_graph.specs.declared.error.GraphError.{GraphError}
 use Rattle.pam_graph.specs.declared.error.GraphError.TheVariants.{Memory, TooManyNodes}
@@ -37,11 +36,11 @@ before-self (ends s) h = h
 before-self (asks ask next) h = omega (arith, h)
 
 -- the key of an earlier place is another one
-pub key-apart : (program : List FlatItem) (key other : PlaceKey) → IsBefore (rest_at program key) (rest_at program other) → key ≢ other
+pub key-apart : (program : List FlatItem) (key other : KeyValue) → IsBefore (rest_at program key) (rest_at program other) → key ≢ other
 key-apart program key other before same =
-    before-self (rest_at program other) (subst (λ (k : PlaceKey). IsBefore (rest_at program k) (rest_at program other)) same before)
+    before-self (rest_at program other) (subst (λ (k : KeyValue). IsBefore (rest_at program k) (rest_at program other)) same before)
 
-pub DiffersFrom-push : (key other : PlaceKey) (keys : List PlaceKey) → DiffersFrom key keys → key ≢ other → DiffersFrom key (keys ++ other ∷ [])
+pub DiffersFrom-push : (key other : KeyValue) (keys : List KeyValue) → DiffersFrom key keys → key ≢ other → DiffersFrom key (keys ++ other ∷ [])
 unfolding DiffersFrom
 DiffersFrom-push key other [] h k = (k, tt)
 DiffersFrom-push key other (x ∷ keys) h k = (h.0, DiffersFrom-push key other keys h.1 k)
@@ -73,7 +72,7 @@ reached-on allows program m code place after h asked low may is =
       is ∙ ap (λ (r : Runs). after_answer r code) h.2 ∙ sym (answers-push runs h.0 code),
     )
 
-AreReachedKeys-push : (allows : Allowance) (program : List FlatItem) (keys : List PlaceKey) (key : PlaceKey) → AreReachedKeys allows program keys →
+AreReachedKeys-push : (allows : Allowance) (program : List FlatItem) (keys : List KeyValue) (key : KeyValue) → AreReachedKeys allows program keys →
     IsReachedKey allows program key → AreReachedKeys allows program (keys ++ key ∷ [])
 unfolding AreReachedKeys
 AreReachedKeys-push allows program [] key h k = (k, tt)
@@ -81,19 +80,19 @@ AreReachedKeys-push allows program (x ∷ keys) key h k = (h.0, AreReachedKeys-p
 
 module _ (limit : ℕ) (allows : Allowance) (program : List FlatItem) where
   -- a place is added
-  pub added-keys : (old new : List PlaceKey) (key : PlaceKey) (result : Result Target GraphError) → AreReachedKeys allows program old →
+  pub added-keys : (old new : List KeyValue) (key : KeyValue) (result : Result Target GraphError) → AreReachedKeys allows program old →
       IsReachedKey allows program key → OnOk result (new ≡ old ++ key ∷ []) → OnOk result (AreReachedKeys allows program new)
   added-keys old new key (Ok target) h k is = subst (AreReachedKeys allows program) (sym is) (AreReachedKeys-push allows program old key h k)
   added-keys old new key (Err e) h k is = tt
 
-  pub added-apart : (old new : List PlaceKey) (key other : PlaceKey) (result : Result Target GraphError) → DiffersFrom key old → key ≢ other →
+  pub added-apart : (old new : List KeyValue) (key other : KeyValue) (result : Result Target GraphError) → DiffersFrom key old → key ≢ other →
       OnOk result (new ≡ old ++ other ∷ []) → OnOk result (DiffersFrom key new)
   added-apart old new key other (Ok target) h k is = subst (DiffersFrom key) (sym is) (DiffersFrom-push key other old h k)
   added-apart old new key other (Err e) h k is = tt
 
-  pub added-reason : (old : List PlaceKey) (key : PlaceKey) (result : Result Target GraphError) → AreReachedKeys allows program old →
+  pub added-reason : (old : List KeyValue) (key : KeyValue) (result : Result Target GraphError) → AreReachedKeys allows program old →
       IsReachedKey allows program key →
-      IfErr result (λ e. e ≡ TooManyNodes → (keys : List PlaceKey) × (keys ≡ old ++ key ∷ []) × (limit < length keys) × AreDifferent keys) →
+      IfErr result (λ e. e ≡ TooManyNodes → (keys : List KeyValue) × (keys ≡ old ++ key ∷ []) × (limit < length keys) × AreDifferent keys) →
       IfErr result (IsReason limit allows program)
   added-reason old key (Ok target) h k many = tt
   added-reason old key (Err Memory) h k many = tt
@@ -103,12 +102,12 @@ module _ (limit : ℕ) (allows : Allowance) (program : List FlatItem) where
 
 -- FOUND AND ADDED KEYS
 
-pub get-at : (keys : List PlaceKey) (i : ℕ) (key : PlaceKey) → slice_get keys i ≡ Some key → (i < length keys) × (slice_index_or keys i key ≡ key)
+pub get-at : (keys : List KeyValue) (i : ℕ) (key : KeyValue) → slice_get keys i ≡ Some key → (i < length keys) × (slice_index_or keys i key ≡ key)
 get-at [] i key h = absurd (let k : ⊥ = cc in k)
 get-at (x ∷ keys) zero key h = (omega arith, let is : x ≡ key = cc in is)
 get-at (x ∷ keys) (suc i) key h = let k = get-at keys i key h in (omega (arith, k.0), k.1)
 
-pub added-rests : (program : List FlatItem) (old new : List PlaceKey) (key : PlaceKey) (result : Result Target GraphError) →
+pub added-rests : (program : List FlatItem) (old new : List KeyValue) (key : KeyValue) (result : Result Target GraphError) →
     OnOk result (new ≡ old ++ key ∷ []) → OnOk result (map (rest_at program) new ≡ map (rest_at program) old ++ rest_at program key ∷ [])
 added-rests program old new key (Ok target) at = ap (map (rest_at program)) at ∙ map-append (rest_at program) old (key ∷ [])
 added-rests program old new key (Err e) at = tt

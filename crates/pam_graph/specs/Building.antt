@@ -1,9 +1,8 @@
 -- For private contracts and proofs alone: a graph while it is built.
 use Rattle.std.specs.Prelude.{◌≡◌, ℕ, ◌+◌, ◌-◌, ◌<◌, List, [], ◌∷◌, ◌++◌, Some, map}
 use Rattle.pam_dispatch.specs.declared.flat_item.FlatItem.{FlatItem}
-use Rattle.pam_dispatch.specs.declared.key.PlaceKey.{PlaceKey}
 use Rattle.pam_dispatch.specs.Flat.{modules_of}
-use Rattle.pam_dispatch.specs.Keys.{rest_at}
+use Rattle.pam_dispatch.specs.Keys.{KeyValue, rest_at}
 use Rattle.pam_dispatch.specs.Runs.{AsksRise, Runs, asked_module, ends, asks, state_in}
 use Rattle.pam_dispatch.specs.declared.state.State.{State}
 use Rattle.pam_graph.specs.declared.node.Node.{Node}
@@ -41,7 +40,7 @@ pub record IsNodeFor (n : ℕ) (runs : Runs) (node : Node) : Type 0 where
   pub asking : IsAsking n runs
 
 -- the walks from each node on are the paths from its place on
-pub record IsBuilt (allows : Allowance) (program : List FlatItem) (nodes : List Node) (places : List PlaceKey) : Type 0 where
+pub record IsBuilt (allows : Allowance) (program : List FlatItem) (nodes : List Node) (places : List KeyValue) : Type 0 where
   pub walks : walks_of nodes ≡ map (listing allows) (map (rest_at program) places)
   pub numbers : numbers_of nodes ≡ map next_number (map (rest_at program) places)
   pub states : states_of nodes ≡ map state_in (map (rest_at program) places)

@@ -3,9 +3,8 @@
 ghost use Rattle.std.specs.Prelude.{◌≡◌, ◌∷◌, ◌++◌, ◌≤◌, ◌<◌, [], IfErr, IfNone, IfOk, IfSome, List, OnOk, Some, ℕ, length, slice_get};
 ghost use Rattle.pam_conf.specs.Stack.{Items};
 ghost use Rattle.pam_conf.specs.declared.stack.TheConstants.{MAX_MODULES};
-ghost use Rattle.pam_dispatch.specs.declared.key.PlaceKey.{PlaceKey};
 ghost use Rattle.pam_dispatch.specs.Flat.{IsPlaceOf, modules_of, rest_of, runs_of};
-ghost use Rattle.pam_dispatch.specs.Keys.{AreDifferent, DiffersFrom, rest_at};
+ghost use Rattle.pam_dispatch.specs.Keys.{AreDifferent, DiffersFrom, KeyValue, rest_at};
 ghost use Rattle.pam_dispatch.specs.Representatives.{AreEqualRests};
 ghost use Rattle.pam_dispatch.specs.Runs.{AsksRise};
 ghost use Rattle.pam_dispatch.specs.Tree.{runs_of_stack};
@@ -67,7 +66,7 @@ fn add(
     ensures node { OnOk result (draft.new.nodes.items ≡ draft.old.nodes.items ++ node ∷ []) }
     ensures place { OnOk result (draft.new.places ≡ draft.old.places ++ node_key program.now place.now ∷ []) }
     ensures cache { draft.new.cache ≡ draft.old.cache }
-    ensures many { IfErr result (λ e. e ≡ TooManyNodes → (keys : List PlaceKey) × (keys ≡ draft.old.places ++ node_key program.now place.now ∷ [])
+    ensures many { IfErr result (λ e. e ≡ TooManyNodes → (keys : List KeyValue) × (keys ≡ draft.old.places ++ node_key program.now place.now ∷ [])
         × (limit < length keys) × AreDifferent keys) }
 {
     let representative = program.representative(place);
@@ -102,7 +101,7 @@ pub(crate) fn target_of<K: Knowledge>(
     ensures keys { OnOk result (AreReachedKeys (K.allows knowledge.now) program.now draft.new.places) }
 
     // Places of modules that are asked earlier are not added.
-    ensures apart { (key : PlaceKey) → DiffersFrom key draft.old.places → IsBefore (rest_at program.now key) (rest_of program.now place.now)
+    ensures apart { (key : KeyValue) → DiffersFrom key draft.old.places → IsBefore (rest_at program.now key) (rest_of program.now place.now)
         → OnOk result (DiffersFrom key draft.new.places) }
     ensures reason { IfErr result (IsReason limit (K.allows knowledge.now) program.now) }
     ensures built { OnOk result (IsBuilt (K.allows knowledge.now) program.now draft.new.nodes.items draft.new.places) }

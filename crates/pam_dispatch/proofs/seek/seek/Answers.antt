@@ -3,21 +3,15 @@ use Rattle.std.proofs.lemmas.List.{drop_all, length-set}
 use Rattle.pam_dispatch.specs.declared.state.State.{State}
 use Rattle.pam_dispatch.specs.declared.flat_item.FlatItem.TheVariants.{Module, Substack}
 use Rattle.pam_dispatch.specs.Flat.{IsBounded, IsPlaceOf, level_of, resume, rest_of}
-use Rattle.pam_dispatch.proofs.Resume.{resume-outermost, at_index, at_index-deeper, at_index-item, at_substack, at_module}
+use Rattle.pam_dispatch.proofs.Resume.{at_index, at_index-deeper, at_substack, at_module}
+use Rattle.pam_dispatch.proofs.Skipping.{resume-from, stored-some, stored-within}
 use Rattle.pam_dispatch.proofs.seek.seek.Goals as goal
-use Rattle.pam_dispatch.proofs.seek.seek.Goals.{then-skip-gt0+then-level-eq0+then-position-outermost_from, else-skip-gt0}
-use Rattle.pam_dispatch.proofs.seek.seek.Goals.{else-here-level-2-via-then-here-level-2+else-skip-gt0-2, else-here-level-2-via-else-here-level-2}
+use Rattle.pam_dispatch.proofs.seek.seek.Goals.{else-here-level-2-via-then-here-level-2+else-skip-gt0, else-here-level-2-via-else-here-level-2}
 
 pub loop-position-init : goal.loop-position-init
 loop-position-init c =
     record {
-      rest = elim c.if-skip-gt0.branch [
-        | then-skip-gt0+then-level-eq0+then-position-outermost_from w ↦ rw (w.position-is, w.skip-is, c.from-depth.ensures, w.if-level-eq0.true)
-            (resume-outermost c.args.program.now c.args.outermost_from c.args.place.now.position c.args.skip w.min-position.result
-            (take c.args.place.now.depth c.args.place.now.entered.states) c.args.place.now.state
-            c.requires.outermost w.if-position-outermost_from.true c.requires.within w.min-position.ensures)
-        | else-skip-gt0 w ↦ rw (w.position-is, w.skip-is, c.from-depth.ensures) refl
-      ];
+      rest = rw (c.from-depth.ensures) refl;
       state = refl;
       below = omega (arith, c.from-depth.ensures, c.requires.below);
       shallow = omega (arith, c.from-depth.ensures, c.args.place.now.shallow);
@@ -38,18 +32,32 @@ loop-position-preserved-then-here-level c =
       full = l.invariant.full;
     }
 
-pub loop-position-preserved-then-skip-gt0-2 : goal.loop-position-preserved-then-skip-gt0-2
-loop-position-preserved-then-skip-gt0-2 c =
+pub loop-position-preserved-then-skip-gt0 : goal.loop-position-preserved-then-skip-gt0
+loop-position-preserved-then-skip-gt0 c =
     let l = c.loop-position in
     record {
-      rest = at_index-item c.args.program.now l.position c.index-program-position.result c.index-program-position.result c.loop-position-test.true
-          (sym c.index-program-position.is) l.level l.skip _ l.place.state (omega (arith, c.level-here.ensures)) c.if-skip-gt0-2.true
+      rest = resume-from c.args.program.now c.args.stretches.now l.position c.min-skipped.result l.level l.skip c.index-program-position.result
+          c.index-program-position.result _ l.place.state c.requires.stretches c.loop-position-test.true (sym c.index-program-position.is)
+          (sym c.level-here.ensures ∙ c.if-here-level-2.true) (omega (arith, c.min-skipped.ensures)) (omega (arith, c.min-skipped.ensures))
           ∙ l.invariant.rest;
       state = l.invariant.state;
       below = l.invariant.below;
       shallow = l.invariant.shallow;
       full = l.invariant.full;
     }
+
+pub overflow_add-position-then-skip-gt0 : goal.overflow_add-position-then-skip-gt0
+overflow_add-position-then-skip-gt0 c =
+    let l = c.loop-position in
+    let within = c.loop-position-test.true in
+    omega (arith, c.min-skipped.ensures, stored-within c.args.program.now c.args.stretches.now l.position c.requires.stretches (omega (arith, within)), within)
+
+pub loop-position-smaller-then-skip-gt0 : goal.loop-position-smaller-then-skip-gt0
+loop-position-smaller-then-skip-gt0 c =
+    let l = c.loop-position in
+    let within = c.loop-position-test.true in
+    let some = stored-some c.args.program.now c.args.stretches.now l.position c.requires.stretches within in
+    omega (arith, c.min-skipped.ensures, c.if-skip-gt0.true, some, within)
 
 pub loop-position-preserved : goal.loop-position-preserved
 loop-position-preserved c =
@@ -61,7 +69,7 @@ loop-position-preserved c =
     let fits : here + 1 < 16 = subst IsBounded is (c.requires.flat_items l.position c.index-program-position.result c.loop-position-test.true) in
     let stays : here ≡ l.level → 0 < l.skip → ⊥ =
     elim c.else-here-level-2.branch [
-      | else-here-level-2-via-then-here-level-2+else-skip-gt0-2 w ↦ λ e p. omega arith
+      | else-here-level-2-via-then-here-level-2+else-skip-gt0 w ↦ λ e p. omega arith
       | else-here-level-2-via-else-here-level-2 w ↦ λ e p. w.if-here-level-2.false e
     ] in
     record {
@@ -94,7 +102,7 @@ returns-in-Module-clause-rest c =
     let is = sym c.index-program-position.is ∙ m.is ∙ ap (λ (x : ℕ). Module x m.number m.control m.items_after) (sym h) in
     let stays : here ≡ l.level → 0 < l.skip → ⊥ =
     elim c.else-here-level-2.branch [
-      | else-here-level-2-via-then-here-level-2+else-skip-gt0-2 w ↦ λ e p. omega arith
+      | else-here-level-2-via-then-here-level-2+else-skip-gt0 w ↦ λ e p. omega arith
       | else-here-level-2-via-else-here-level-2 w ↦ λ e p. w.if-here-level-2.false e
     ] in
     at_module c.args.program.now l.position c.index-program-position.result here m.number m.control m.items_after c.loop-position-test.true is

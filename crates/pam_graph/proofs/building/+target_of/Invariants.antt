@@ -1,8 +1,7 @@
 use Rattle.std.proofs.Common.{◌≡◌, ◌-◌, ◌≤◌, ◌++◌}
 use Rattle.std.specs.List.{flat_map}
 use Rattle.pam_dispatch.specs.Flat.{modules_of, rest_of}
-use Rattle.pam_dispatch.specs.declared.key.PlaceKey.{PlaceKey}
-use Rattle.pam_dispatch.specs.Keys.{DiffersFrom, rest_at}
+use Rattle.pam_dispatch.specs.Keys.{DiffersFrom, KeyValue, rest_at}
 use Rattle.pam_graph.specs.Building.{IsBefore, IsBuilt, IsExtended, modules_left}
 use Rattle.pam_graph.specs.Order.{AreAbove, LeastRise, numbers_of}
 use Rattle.pam_graph.specs.Reached.{AreReachedKeys, node_key}
@@ -27,7 +26,7 @@ invariant-loop-choice g l =
       cached : IsCacheFor allows l.program l.draft.cache;
       keys : AreReachedKeys allows l.program l.draft.places;
       new : DiffersFrom (node_key l.program l.place) l.draft.places;
-      apart : (key : PlaceKey) → DiffersFrom key l.fn.draft.places → IsBefore (rest_at l.program key) (rest_of l.program l.place)
+      apart : (key : KeyValue) → DiffersFrom key l.fn.draft.places → IsBefore (rest_at l.program key) (rest_of l.program l.place)
           → DiffersFrom key l.draft.places;
       walks : flat_map (walks_by (walks_of l.draft.nodes.items) l.module_number) l.edges.items ++ paths_from allows l.program l.fork l.bound
           ≡ listing allows (rest_of l.program l.place);

@@ -1,20 +1,19 @@
 use Rattle.std.proofs.Common.{◌≡◌, ◌∙◌, Some, ap, slice_get, subst, sym}
 use Rattle.std.specs.Prelude.{IfNone, IfSome}
-use Rattle.pam_dispatch.specs.declared.key.PlaceKey.{PlaceKey}
 use Rattle.pam_dispatch.specs.Flat.{rest_of}
-use Rattle.pam_dispatch.specs.Keys.{DiffersFrom, key_of, rest_at}
+use Rattle.pam_dispatch.specs.Keys.{DiffersFrom, KeyValue, key_of, rest_at}
 use Rattle.pam_dispatch.specs.Representatives.{AreEqualRests}
 use Rattle.pam_dispatch.specs.Runs.{Runs}
 use Rattle.pam_graph.proofs.building.find.Goals as goal
 
 pub returns-clause-found : goal.returns-clause-found
 returns-clause-found c =
-    subst (λ (k : PlaceKey). IfSome c.find.result (λ index. slice_get c.args.places.now index ≡ Some k))
+    subst (λ (k : KeyValue). IfSome c.find.result (λ index. slice_get c.args.places.now index ≡ Some k))
     (ap key_of c.representative-representative.ensures.representative) c.find.ensures.found
 
 pub returns-clause-none : goal.returns-clause-none
 returns-clause-none c =
-    subst (λ (k : PlaceKey). IfNone c.find.result (DiffersFrom k c.args.places.now)) (ap key_of c.representative-representative.ensures.representative)
+    subst (λ (k : KeyValue). IfNone c.find.result (DiffersFrom k c.args.places.now)) (ap key_of c.representative-representative.ensures.representative)
     c.find.ensures.none
 
 pub returns-clause-rests : goal.returns-clause-rests

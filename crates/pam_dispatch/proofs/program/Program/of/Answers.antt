@@ -4,7 +4,8 @@ use Rattle.pam_codes.specs.Parts.{IsParts}
 use Rattle.pam_dispatch.specs.declared.flat_item.FlatItem.{FlatItem}
 use Rattle.pam_dispatch.specs.ReadLevels.{IsReadTable}
 use Rattle.pam_dispatch.specs.Settled.{KeepFailure}
-use Rattle.pam_dispatch.specs.Flat.{AreOutermost, IsBounded, controls_in, flat_list, positions_from}
+use Rattle.pam_dispatch.specs.Stretches.{IsStretchTable}
+use Rattle.pam_dispatch.specs.Flat.{IsBounded, controls_in, flat_list, positions_from}
 use Rattle.pam_dispatch.proofs.Flattening.{runs_of-flat_list}
 use Rattle.pam_dispatch.proofs.StackLists.{bounded-flat_list, control_at-flat_list, modules_of-flat_list, program-flat_list, whole_list}
 use Rattle.pam_dispatch.proofs.program.Program.of.Goals as goal
@@ -23,14 +24,13 @@ pub invariant_of-result : goal.invariant_of-result
 invariant_of-result c =
     let made : c.flatten.new.flat_items.items ≡ flat_list 0 c.args.stack.now =
     whole_list _ _ _ _ c.new-flat_items.ensures.items c.items.ensures.items c.in_ok-flatten.ensures in
-    let outermost = c.first_outermost-outermost_from in
     let harmless = c.first_harmless-harmless_from in
-    rw made (program-flat_list c.args.stack.now c.in_ok-positions.positions.items c.in_ok-parts.parts.items outermost.result harmless.result
+    rw made (program-flat_list c.args.stack.now c.in_ok-positions.positions.items c.in_ok-parts.parts.items c.in_ok-stretches.stretches.items harmless.result
     c.in_ok-read_levels.read_levels.items
     c.items.ensures.few c.items.ensures.shallow c.items.ensures.numbered
     (c.in_ok-positions.ensures ∙ ap (positions_from 0) (c.deref.ensures.value ∙ made))
     (subst (λ (ts : List FlatItem). AllZip IsParts (controls_in ts) c.in_ok-parts.parts.items) (c.deref-2.ensures.value ∙ made) c.in_ok-parts.ensures)
-    (subst (λ (ts : List FlatItem). AreOutermost (drop outermost.result ts)) (c.deref-3.ensures.value ∙ made) outermost.ensures)
+    (subst (λ (ts : List FlatItem). IsStretchTable ts c.in_ok-stretches.stretches.items) (c.deref-3.ensures.value ∙ made) c.in_ok-stretches.ensures)
     (subst (λ (ts : List FlatItem). KeepFailure (drop harmless.result ts)) (c.deref-4.ensures.value ∙ made) harmless.ensures.harmless)
     (subst (λ (ts : List FlatItem). IsReadTable ts c.in_ok-read_levels.read_levels.items) (c.deref-5.ensures.value ∙ made) c.in_ok-read_levels.ensures))
 

@@ -1,0 +1,19 @@
+-- For private contracts and proofs alone: the stretches of items on one level, as they are stored.
+use Rattle.std.specs.Prelude.{◌≡◌, ℕ, ◌+◌, ◌-◌, ◌≤◌, ◌==◌, Bool, false, if◌then◌else◌, List, [], ◌∷◌, drop, length, slice_index_or}
+use Rattle.pam_dispatch.specs.declared.flat_item.FlatItem.{FlatItem}
+use Rattle.pam_dispatch.specs.Flat.{level_of}
+
+-- whether the first item is on a level
+abbrev pub begins_on : ℕ → List FlatItem → Bool
+begins_on level [] = false
+begins_on level (item ∷ rest) = level_of item == level
+
+-- the number of items at the front, one directly after another, that are on one level
+unfoldable pub stretch_of : List FlatItem → ℕ
+stretch_of [] = 0
+stretch_of (item ∷ rest) = 1 + (if begins_on (level_of item) rest then stretch_of rest else 0)
+
+-- that number from each position on, the last position first
+pub record IsStretchTable (program : List FlatItem) (table : List ℕ) : Type 0 where
+  pub long : length table ≡ length program + 1
+  pub each : (left : ℕ) → left ≤ length program → slice_index_or table left 0 ≡ stretch_of (drop (length program - left) program)
