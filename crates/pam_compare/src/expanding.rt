@@ -13,7 +13,7 @@ ghost use Rattle.pam_compare.specs.Trails.{IsStep};
 ghost use Rattle.pam_compare.specs.Turn.{IsTurn, old_after, new_after, turn_name};
 ghost use Rattle.pam_compare.specs.Ways.{AreReached, IsNaming, IsWayTo};
 
-use crate::held::{HeldAnswer, held_after, held_codes};
+use crate::held::{HeldAnswer, Step, held_after, held_codes};
 use crate::naming::{common, possible_at};
 use crate::node::{Node, Pair, class_of, places_after};
 use crate::nodes::{Nodes, Way};
@@ -64,14 +64,12 @@ fn follow(
         name: way.name,
         codes: way.class,
     };
-    let after = held_after(
-        alloc,
-        pair.naming,
-        &fork.node.held,
-        answer,
-        old.module(),
-        new.module(),
-    )?;
+    let step = Step {
+        turn: fork.turn,
+        old: old.module(),
+        new: new.module(),
+    };
+    let after = held_after(alloc, pair.naming, &fork.node.held, answer, step)?;
     nodes.add(&old, &new, &after, way)?;
     Ok(())
 }

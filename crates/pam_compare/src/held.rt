@@ -11,6 +11,7 @@ ghost use Rattle.pam_compare.specs.Nodes.{Keeps};
 ghost use Rattle.pam_compare.specs.Trails.{AreAll, IsHeldAfter, IsPast, IsSettled};
 
 use crate::naming::{Naming, common, possible_at, value_at};
+use crate::turn::Turn;
 use pam_codes::{CODES, CodeSet};
 use pam_dispatch::Memory;
 use std::alloc::Global;
@@ -160,7 +161,7 @@ fn push_if(is_wanted: bool, answer: HeldAnswer, held: &mut Vec<HeldAnswer>) -> R
 }
 
 /// A list with room for this many answers.
-fn with_room(alloc: Global, count: usize) -> Result<Vec<HeldAnswer>, Memory>
+pub(crate) fn with_room(alloc: Global, count: usize) -> Result<Vec<HeldAnswer>, Memory>
     ensures { IfOk result (λ held. held.items ≡ []) }
 {
     match Vec::with_capacity(alloc, count) {
@@ -169,51 +170,85 @@ fn with_room(alloc: Global, count: usize) -> Result<Vec<HeldAnswer>, Memory>
     }
 }
 
-/// The index from which on all these answers are still held after that of the module with this name.
-fn kept_from(
-    naming: &Naming,
-    held: &[HeldAnswer],
-    name: usize,
-    old: Option<usize>,
-    new: Option<usize>,
-) -> usize
+/// A step: whose turn it was, and the modules that the stacks ask next.
+#[derive(Clone, Copy, Debug)]
+pub(crate) struct Step {
+    pub(crate) turn: Turn,
+    pub(crate) old: Option<usize>,
+    pub(crate) new: Option<usize>,
+}
+
+/// Whether a stack asks the module after this one next.
+fn goes_on(number: usize, next: Option<usize>) -> bool {
+    match next {
+        Some(next) => number < next && next - number == 1,
+        None => false,
+    }
+}
+
+/// Whether the stacks have passed only the modules that were asked, and so no other answer need be let go.
+fn passes_no_other(step: Step) -> bool {
+    match step.turn {
+        Turn::Old(number) => goes_on(number, step.old),
+        Turn::New(number) => goes_on(number, step.new),
+        Turn::Both(number, other) => goes_on(number, step.old) && goes_on(other, step.new),
+    }
+}
+
+/// The index from which on none of these answers is that of the module with this name.
+fn without_name(held: &[HeldAnswer], name: usize) -> usize
     ensures { result ≤ length held.now }
 {
     for back in 0..held.len() {
         let index = held.len() - 1 - back;
         let earlier = held[index];
-        if !is_wanted(naming, earlier.name, name, old, new) {
+        if earlier.name == name {
             return index + 1;
         }
     }
     0
 }
 
-/// What is held after an answer of this class, where the stacks then ask these modules next. The end that stays as it is, mostly
-/// all of it, is not copied.
+/// The index from which on all these answers are still held after that of the module with this name.
+fn kept_from(naming: &Naming, held: &[HeldAnswer], name: usize, step: Step) -> usize
+    ensures { result ≤ length held.now }
+{
+    if passes_no_other(step) {
+        return without_name(held, name);
+    }
+    for back in 0..held.len() {
+        let index = held.len() - 1 - back;
+        let earlier = held[index];
+        if !is_wanted(naming, earlier.name, name, step.old, step.new) {
+            return index + 1;
+        }
+    }
+    0
+}
+
+/// What is held after a step with an answer of this class. The end that stays as it is, mostly all of it, is not copied.
 pub(crate) fn held_after(
     alloc: Global,
     naming: &Naming,
     held: &[HeldAnswer],
     answer: HeldAnswer,
-    old: Option<usize>,
-    new: Option<usize>,
+    step: Step,
 ) -> Result<HeldAfter, Memory>
     ensures holds { IfOk result (λ after. (a : Assignment) → Holds a held.now → IsTrue (is_in (a answer.name) answer.codes)
         → Holds a (held_in after held.now)) }
     ensures told { (modules : ℕ) → length naming.now.names.items ≡ modules + 1 → AreLast naming.now.names.items naming.now.last.items
         → IfOk result (λ after. IsHeldAfter naming.now.possible.items naming.now.names.items naming.now.old_modules modules held.now
-        (held_in after held.now) answer old new) }
+        (held_in after held.now) answer step.old step.new) }
 {
     let name = answer.name;
-    let start = kept_from(naming, held, name, old, new);
+    let start = kept_from(naming, held, name, step);
     let mut latest = with_room(alloc, start)?;
-    let is_needed = is_needed(naming, name, answer.codes, old, new);
+    let is_needed = is_needed(naming, name, answer.codes, step.old, step.new);
     push_if(is_needed, answer, &mut latest)?;
     for index in 0..start {
         let earlier = held[index];
         push_if(
-            is_wanted(naming, earlier.name, name, old, new),
+            is_wanted(naming, earlier.name, name, step.old, step.new),
             earlier,
             &mut latest,
         )?;

@@ -7,10 +7,14 @@ ghost use Rattle.pam_compare.specs.Held.{held_in};
 ghost use Rattle.pam_compare.specs.HeldLists.{AreLinks, IsListed, same_link};
 ghost use Rattle.pam_compare.specs.Nodes.{Keeps};
 
-use crate::held::{HeldAfter, HeldAnswer};
+use crate::held::{HeldAfter, HeldAnswer, with_room};
 use indexmap::IndexSet;
 use pam_dispatch::Memory;
 use std::alloc::Global;
+
+/// The number of answers for which there is room at first where those of a list are listed. More are rarely held, and room that is
+/// moved costs more than room that stays empty.
+const ROOM: usize = 256;
 
 /// The last answer of a list, and the number of the list before it.
 #[derive(Clone, Copy, Debug, PartialEq, Eq, Hash)]
@@ -128,7 +132,7 @@ impl HeldLists {
         requires { (held : List HeldAnswer) × IsListed self.now.links.keys number held }
         ensures { IfOk result (λ held. IsListed self.now.links.keys number held.items) }
     {
-        let mut held = Vec::new(alloc);
+        let mut held = with_room(alloc, ROOM)?;
         let mut at = number;
         while at > 0 {
             let link = self.last(at);

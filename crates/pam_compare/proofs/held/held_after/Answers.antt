@@ -22,7 +22,7 @@ loop-index-init c =
       adds = λ modules names_count last. elim c.is_needed-is_needed.result as (λ (b : Bool).
           c.is_needed-is_needed.result ≡ b →
           ((m : ℕ) × (slice_get c.push_if.new.held.items m ≡ Some c.args.answer))
-          ⊎ IsSettled possible names count modules c.args.answer.name c.args.answer.codes c.args.old c.args.new) [
+          ⊎ IsSettled possible names count modules c.args.answer.name c.args.answer.codes c.args.step.old c.args.step.new) [
             | true ↦ λ yes. inl (first.pushed yes)
             | false ↦ λ out. inr (c.is_needed-is_needed.ensures modules names_count last out)
           ] refl;
@@ -49,7 +49,7 @@ loop-index-preserved c =
       ];
       keeps = λ modules names_count last i h below at other.
           let Kept : HeldAnswer → Type 0 = λ x.
-          ((m : ℕ) × (slice_get c.push_if-in-loop-index.new.held.items m ≡ Some x)) ⊎ IsPast names count modules x.name c.args.old c.args.new in
+          ((m : ℕ) × (slice_get c.push_if-in-loop-index.new.held.items m ≡ Some x)) ⊎ IsPast names count modules x.name c.args.step.old c.args.step.new in
           elim (cases_lt i k) [
             | inl before ↦ elim (inv.keeps modules names_count last i h before at other) [
               | inl m ↦ inl (m.0, kept _ _ m.0 h step.keeps m.1)
