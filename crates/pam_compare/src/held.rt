@@ -186,7 +186,8 @@ fn goes_on(number: usize, next: Option<usize>) -> bool {
     }
 }
 
-/// Whether the stacks have passed only the modules that were asked, and so no other answer need be let go.
+/// Whether the stacks have passed only the modules that were asked. All that was held was ahead, and then all of it still is, but for
+/// the answer of the module that was asked.
 fn passes_no_other(step: Step) -> bool {
     match step.turn {
         Turn::Old(number) => goes_on(number, step.old),

@@ -12,9 +12,14 @@ use indexmap::IndexSet;
 use pam_dispatch::Memory;
 use std::alloc::Global;
 
-/// The number of answers for which there is room at first where those of a list are listed. More are rarely held, and room that is
-/// moved costs more than room that stays empty.
+/// Room at first for the answers of a list that is not empty. More are rarely held, and room that grows costs more than room that
+/// stays empty.
 const ROOM: usize = 256;
+
+/// The number of answers for which there is room at first where those of the list with this number are listed.
+fn room_for(number: usize) -> usize {
+    if number == 0 { 0 } else { ROOM }
+}
 
 /// The last answer of a list, and the number of the list before it.
 #[derive(Clone, Copy, Debug, PartialEq, Eq, Hash)]
@@ -132,7 +137,7 @@ impl HeldLists {
         requires { (held : List HeldAnswer) × IsListed self.now.links.keys number held }
         ensures { IfOk result (λ held. IsListed self.now.links.keys number held.items) }
     {
-        let mut held = with_room(alloc, ROOM)?;
+        let mut held = with_room(alloc, room_for(number))?;
         let mut at = number;
         while at > 0 {
             let link = self.last(at);

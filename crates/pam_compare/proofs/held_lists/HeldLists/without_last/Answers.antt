@@ -1,5 +1,4 @@
-use Rattle.std.proofs.Common.{◌≡◌, ◌≤◌, ◌+◌, ◌-◌, ℕ, List, arith, drop, subst, sym}
-use Rattle.pam_compare.specs.declared.held.HeldAnswer.{HeldAnswer}
+use Rattle.std.proofs.Common.{◌≡◌, ◌+◌, ◌-◌, ℕ, arith, drop, subst}
 use Rattle.pam_compare.specs.HeldLists.{IsListed}
 use Rattle.pam_compare.proofs.Lists.{drop-more}
 use Rattle.pam_compare.proofs.held_lists.HeldLists.without_last.Goals as goal
