@@ -72,8 +72,8 @@ pub expand-requires-clause-way : goal.expand-requires-clause-way
 expand-requires-clause-way c =
     let n = c.in_ok-node.ensures in
     let naming = c.args.pair.now.naming.now in
-    way-at c.args.pair.now.old.now c.args.pair.now.new.now naming.names.items naming.possible.items c.args.nodes.now c.args.index n.0 (stop_of c.in_ok-node.node)
-    (c.requires.reached.reached c.args.index n.0 n.1) n.2
+    way-at c.args.pair.now.old.now c.args.pair.now.new.now naming.names.items naming.possible.items c.args.nodes.now c.args.index n.0
+    (stop_of c.in_ok-node.node) (c.requires.reached.reached c.args.index n.0 n.1) n.2
 
 pub returns-clause-ends : goal.returns-clause-ends
 returns-clause-ends c = ends-kept c.args.pair.now.old.now c.args.pair.now.new.now _ _ c.args.found.now c.in_ok-expand.ensures.keeps c.requires.ends

@@ -15,8 +15,8 @@ returns-clause-nodes c old new held are is here there =
     let q = second.found new are.of_new in
     let node : Stop = record { old = p.0; new = q.0; held = held_in c.args.after.now held } in
     let near = subst (λ (n : ℕ). IsListed c.args.self.now.held_lists.links.keys n held) (sym c.list_at-before.ensures) is in
-    nodes-added old new c.args.self.now _ _ _ _ _ node are (first.places old are.of_old here) (second.places new are.of_new there) (lists.links held are.links near)
-    first.keeps second.keeps lists.keeps added.places.0 added.places.1 added.lists
+    nodes-added old new c.args.self.now _ _ _ _ _ node are (first.places old are.of_old here) (second.places new are.of_new there)
+    (lists.links held are.links near) first.keeps second.keeps lists.keeps added.places.0 added.places.1 added.lists
     (λ k s at. elim (added.added k s at) [ inl was ↦ inl was | inr n ↦ inr n.0 ]) p.1 q.1
     (lists.listed held are.links near)
 
