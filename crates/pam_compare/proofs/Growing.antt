@@ -1,6 +1,6 @@
 -- Lists of places and situations that grow.
 use Rattle.std.proofs.Common.{◌≡◌, ◌<◌, ◌≤◌, ◌+◌, ◌⊎◌, ◌∙◌, inl, inr, ℕ, zero, suc, Bool, true, false, cond, List, [], ◌∷◌, ◌++◌, Option, Some, None}
-use Rattle.std.proofs.Common.{get_or, length, ap, arith, refl, sym, subst}
+use Rattle.std.proofs.Common.{drop, get_or, length, ap, arith, refl, sym, subst}
 use Rattle.std.specs.List.{list_any}
 use Rattle.std.specs.Prelude.{not, slice_get}
 use Rattle.std.proofs.lemmas.Bool.{false≢true}
@@ -13,7 +13,6 @@ use Rattle.pam_dispatch.specs.Flat.{IsPlaceOf, rest_of}
 use Rattle.pam_dispatch.specs.Keys.{KeyValue, key_of, rest_at}
 use Rattle.pam_dispatch.specs.Runs.{Assignment, Runs}
 use Rattle.pam_compare.specs.declared.change.Change.{Change}
-use Rattle.pam_compare.specs.declared.node.Node.{Node}
 use Rattle.pam_compare.specs.declared.nodes.Found.{Found}
 use Rattle.pam_compare.specs.declared.nodes.Nodes.{Nodes}
 use Rattle.pam_compare.specs.declared.nodes.Places.{Places}
@@ -24,7 +23,7 @@ use Rattle.pam_compare.specs.declared.held_lists.Link.{Link}
 use Rattle.pam_compare.specs.declared.situation.Situation.{Situation}
 use Rattle.pam_compare.specs.Held.{Holds}
 use Rattle.pam_compare.specs.HeldLists.{AreLinks, IsListed}
-use Rattle.pam_compare.specs.Nodes.{AreNodes, ArePlaces, IsAt, IsDone, IsMet, IsNew, IsNoted, IsStored, IsVisited, Keeps, KeepsNodes}
+use Rattle.pam_compare.specs.Nodes.{AreHeldAt, AreNodes, ArePlaces, IsAt, IsDone, IsMet, IsNew, IsNoted, IsStored, IsVisited, Keeps, KeepsNodes, Stop, list_of}
 use Rattle.pam_compare.proofs.Lists.{listed-kept}
 
 pub nothing : {X : Type 0} (x : X) → None ≡ Some x → ⊥
@@ -33,7 +32,7 @@ nothing x e = cc
 pub same-some : {X : Type 0} (x y : X) → Some x ≡ Some y → x ≡ y
 same-some x y e = cc
 
-append-left : {X : Type 0} (xs ys : List X) (k : ℕ) (x : X) → slice_get xs k ≡ Some x → slice_get (xs ++ ys) k ≡ Some x
+pub append-left : {X : Type 0} (xs ys : List X) (k : ℕ) (x : X) → slice_get xs k ≡ Some x → slice_get (xs ++ ys) k ≡ Some x
 append-left [] ys k x at = absurd (nothing x at)
 append-left (y ∷ xs) ys zero x at = at
 append-left (y ∷ xs) ys (suc k) x at = append-left xs ys k x at
@@ -52,6 +51,21 @@ append-cases (z ∷ xs) y (suc k) x at =
       | inl was ↦ inl was
       | inr new ↦ inr (new.0, omega (arith, new.1))
     ]
+
+pub there-after : {X : Type 0} (xs ys : List X) (k : ℕ) (y : X) → slice_get ys k ≡ Some y → (m : ℕ) × (slice_get (xs ++ ys) m ≡ Some y)
+there-after [] ys k y at = (k, at)
+there-after (x ∷ xs) ys k y at = let later = there-after xs ys k y at in (suc later.0, later.1)
+
+pub there-dropped : {X : Type 0} (xs : List X) (start i : ℕ) (y : X) → start ≤ i → slice_get xs i ≡ Some y →
+    (m : ℕ) × (slice_get (drop start xs) m ≡ Some y)
+there-dropped xs zero i y low at = (i, at)
+there-dropped [] (suc start) i y low at = absurd (nothing y at)
+there-dropped (x ∷ xs) (suc start) zero y low at = absurd (omega (arith, low))
+there-dropped (x ∷ xs) (suc start) (suc i) y low at = there-dropped xs start i y (omega (arith, low)) at
+
+pub nothing-at : {X : Type 0} (xs : List X) (k : ℕ) → length xs ≡ 0 → slice_get xs k ≡ None
+nothing-at [] k e = refl
+nothing-at (x ∷ xs) k e = absurd (omega (arith, e))
 
 pub keeps-same : {X : Type 0} (xs : List X) → Keeps xs xs
 unfolding Keeps
@@ -149,11 +163,11 @@ nodes-both a b c f g = record {
 pub nodes-same : (a : Nodes) → KeepsNodes a a
 nodes-same a = record { of_old = keeps-same _; of_new = keeps-same _; held_lists = keeps-same _; situations = keeps-same _; ways = keeps-same _ }
 
-pub at-kept : (before after : Nodes) (s : Situation) (n : Node) → KeepsNodes before after → IsAt before s n → IsAt after s n
+pub at-kept : (before after : Nodes) (s : Situation) (n : Stop) → KeepsNodes before after → IsAt before s n → IsAt after s n
 at-kept before after s n keeps is = record {
   old = kept _ _ _ _ keeps.of_old is.old;
   new = kept _ _ _ _ keeps.of_new is.new;
-  held = listed-kept _ _ s.held n.held.items keeps.held_lists is.held;
+  held = listed-kept _ _ s.held n.held keeps.held_lists is.held;
 }
 
 pub met-kept : (old new : List FlatItem) (before after : Nodes) (a : Assignment) (left right : Runs) → KeepsNodes before after →
@@ -168,6 +182,15 @@ met-kept old new before after a left right keeps m = record {
   right_is = m.right_is;
   holds = m.holds;
 }
+
+pub held-kept : (before after : Nodes) (index : ℕ) (held : List HeldAnswer) → KeepsNodes before after → index < length before.situations.keys →
+    AreHeldAt before index held → AreHeldAt after index held
+held-kept before after index held keeps within is =
+    let nowhere : Situation = record { old = 0; new = 0; held = 0 } in
+    let s = get_or before.situations.keys index nowhere in
+    let there = slice_get-get_or before.situations.keys index nowhere within in
+    subst (λ (o : Option Situation). IsListed after.held_lists.links.keys (list_of o) held) (sym (kept _ _ index s keeps.situations there))
+    (listed-kept _ _ s.held held keeps.held_lists (subst (λ (o : Option Situation). IsListed before.held_lists.links.keys (list_of o) held) there is))
 
 -- what is visited stays visited
 pub visited-kept : (old new : List FlatItem) (names : List ℕ) (possible : List (List ℕ)) (before after : Nodes) (found more : Found) (s : Situation) →
@@ -219,21 +242,21 @@ pushed-cases keys after value e p k s at =
     ]
 
 -- a situation and its node, where its places and its list are stored
-stored-at : (after : Nodes) (op np : Places) (lists : HeldLists) (situation s : Situation) (n : Node) → after.old_places ≡ op → after.new_places ≡ np →
+stored-at : (after : Nodes) (op np : Places) (lists : HeldLists) (situation s : Situation) (n : Stop) → after.old_places ≡ op → after.new_places ≡ np →
     after.held_lists ≡ lists → s ≡ situation → slice_get op.places.items situation.old ≡ Some n.old → slice_get np.places.items situation.new ≡ Some n.new →
-    IsListed lists.links.keys situation.held n.held.items → IsAt after s n
+    IsListed lists.links.keys situation.held n.held → IsAt after s n
 stored-at after op np lists situation s n e f g same at_old at_new listed = record {
   old = ap (λ (x : Places). slice_get x.places.items s.old) e ∙ ap (λ (x : Situation). slice_get op.places.items x.old) same ∙ at_old;
   new = ap (λ (x : Places). slice_get x.places.items s.new) f ∙ ap (λ (x : Situation). slice_get np.places.items x.new) same ∙ at_new;
-  held = subst (λ (x : HeldLists). IsListed x.links.keys s.held n.held.items) (sym g)
-      (subst (λ (x : Situation). IsListed lists.links.keys x.held n.held.items) (sym same) listed);
+  held = subst (λ (x : HeldLists). IsListed x.links.keys s.held n.held) (sym g)
+      (subst (λ (x : Situation). IsListed lists.links.keys x.held n.held) (sym same) listed);
 }
 
-pub new-added : (old new : List FlatItem) (before after : Nodes) (op np : Places) (lists : HeldLists) (situation s : Situation) (n : Node) (k : ℕ)
+pub new-added : (old new : List FlatItem) (before after : Nodes) (op np : Places) (lists : HeldLists) (situation s : Situation) (n : Stop) (k : ℕ)
     (left right : Runs) (way : Way) → after.old_places ≡ op → after.new_places ≡ np → after.held_lists ≡ lists → s ≡ situation →
     slice_get op.places.items situation.old ≡ Some n.old → slice_get np.places.items situation.new ≡ Some n.new →
-    IsListed lists.links.keys situation.held n.held.items → rest_of old n.old ≡ left → rest_of new n.new ≡ right →
-    k ≡ length before.situations.keys → after.ways.items ≡ before.ways.items ++ way ∷ [] → IsNew old new before after left right n.held.items way k s
+    IsListed lists.links.keys situation.held n.held → rest_of old n.old ≡ left → rest_of new n.new ≡ right →
+    k ≡ length before.situations.keys → after.ways.items ≡ before.ways.items ++ way ∷ [] → IsNew old new before after left right n.held way k s
 new-added old new before after op np lists situation s n k left right way e f g same at_old at_new listed l r index ways = record {
   node = n;
   is_at = stored-at after op np lists situation s n e f g same at_old at_new listed;
@@ -244,7 +267,7 @@ new-added old new before after op np lists situation s n k left right way e f g 
   ways = ways;
 }
 
-pub nodes-added : (old new : List FlatItem) (before after : Nodes) (op np : Places) (lists : HeldLists) (situation : Situation) (n : Node) →
+pub nodes-added : (old new : List FlatItem) (before after : Nodes) (op np : Places) (lists : HeldLists) (situation : Situation) (n : Stop) →
     AreNodes old new before →
     ArePlaces old op.places.items op.keys → ArePlaces new np.places.items np.keys → AreLinks lists.links.keys →
     Keeps before.old_places.places.items op.places.items → Keeps before.new_places.places.items np.places.items →
@@ -252,7 +275,7 @@ pub nodes-added : (old new : List FlatItem) (before after : Nodes) (op np : Plac
     after.old_places ≡ op → after.new_places ≡ np → after.held_lists ≡ lists →
     ((k : ℕ) (s : Situation) → slice_get after.situations.keys k ≡ Some s → (slice_get before.situations.keys k ≡ Some s) ⊎ (s ≡ situation)) →
     slice_get op.places.items situation.old ≡ Some n.old → slice_get np.places.items situation.new ≡ Some n.new →
-    IsListed lists.links.keys situation.held n.held.items → AreNodes old new after
+    IsListed lists.links.keys situation.held n.held → AreNodes old new after
 nodes-added old new before after op np lists situation n are is_old is_new is_links keeps_old keeps_new keeps_lists e f g only at_old at_new listed =
     let into : (k n : ℕ) → k < length op.places.items → n < length np.places.items →
     (k < length after.old_places.places.items) × (n < length after.new_places.places.items) =
@@ -276,16 +299,16 @@ nodes-added old new before after op np lists situation n are is_old is_new is_li
       ];
       listed = λ k s at. elim (only k s at) [
         | inl was ↦ let w = are.listed k s was in in_lists s.held w.0 (listed-kept _ _ s.held w.0 keeps_lists w.1)
-        | inr same ↦ in_lists s.held n.held.items (subst (λ (x : Situation). IsListed lists.links.keys x.held n.held.items) (sym same) listed)
+        | inr same ↦ in_lists s.held n.held (subst (λ (x : Situation). IsListed lists.links.keys x.held n.held) (sym same) listed)
       ];
     }
 
-pub met-added : (old new : List FlatItem) (after : Nodes) (op np : Places) (lists : HeldLists) (situation s : Situation) (n : Node) (k : ℕ)
+pub met-added : (old new : List FlatItem) (after : Nodes) (op np : Places) (lists : HeldLists) (situation s : Situation) (n : Stop) (k : ℕ)
     (a : Assignment) (left right : Runs) → after.old_places ≡ op → after.new_places ≡ np → after.held_lists ≡ lists →
     slice_get after.situations.keys k ≡ Some s → s ≡ situation →
     slice_get op.places.items situation.old ≡ Some n.old → slice_get np.places.items situation.new ≡ Some n.new →
-    IsListed lists.links.keys situation.held n.held.items → rest_of old n.old ≡ left → rest_of new n.new ≡ right →
-    Holds a n.held.items → IsMet old new after a left right
+    IsListed lists.links.keys situation.held n.held → rest_of old n.old ≡ left → rest_of new n.new ≡ right →
+    Holds a n.held → IsMet old new after a left right
 met-added old new after op np lists situation s n k a left right e f g at same at_old at_new listed l r h = record {
   index = k;
   situation = s;

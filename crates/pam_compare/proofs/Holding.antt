@@ -1,6 +1,6 @@
 -- Answers that are held.
 use Rattle.std.proofs.Common.{◌≡◌, ◌⊎◌, ◌<◌, ◌+◌, ◌∙◌, ◌||◌, ◌&&◌, ℕ, zero, suc, Bool, true, false, cond, eqb, List, [], ◌∷◌, ◌++◌, Some, None}
-use Rattle.std.proofs.Common.{get_or, length, filter, ap, arith, inl, inr, refl, subst, sym}
+use Rattle.std.proofs.Common.{drop, get_or, length, filter, ap, arith, inl, inr, refl, subst, sym}
 use Rattle.std.specs.Prelude.{not, slice_get}
 use Rattle.std.specs.List.{range_with_len}
 use Rattle.std.proofs.lemmas.Bool.{eqb-true, false≢true}
@@ -22,6 +22,17 @@ pub holds-push : (a : Assignment) (held : List HeldAnswer) (x : HeldAnswer) → 
 unfolding Holds
 holds-push a [] x h new = (new, tt)
 holds-push a (y ∷ ys) x h new = (h.0, holds-push a ys x h.1 new)
+
+pub holds-append : (a : Assignment) (latest held : List HeldAnswer) → Holds a latest → Holds a held → Holds a (latest ++ held)
+unfolding Holds
+holds-append a [] held new h = h
+holds-append a (x ∷ latest) held new h = (new.0, holds-append a latest held new.1 h)
+
+pub holds-drop : (a : Assignment) (held : List HeldAnswer) (start : ℕ) → Holds a held → Holds a (drop start held)
+unfolding Holds
+holds-drop a held zero h = h
+holds-drop a [] (suc start) h = h
+holds-drop a (x ∷ held) (suc start) h = holds-drop a held start h.1
 
 pub holds-equal : (a : Assignment) (held other : List HeldAnswer) → held ≡ other → Holds a held → Holds a other
 holds-equal a held other e h = subst (Holds a) e h

@@ -1,9 +1,10 @@
 -- Lists of held answers, by their numbers.
 use Rattle.std.proofs.Common.{◌≡◌, ◌<◌, ◌≤◌, ◌+◌, ◌-◌, ◌∙◌, ℕ, zero, suc, true, false, eqb, eq-eqb, List, [], ◌∷◌, Option, Some, None}
-use Rattle.std.proofs.Common.{ap, arith, length, refl, subst, sym}
+use Rattle.std.proofs.Common.{ap, arith, drop, length, refl, subst, sym}
 use Rattle.std.specs.List.{AllByRecursion, IsDistinct}
 use Rattle.std.specs.Prelude.{slice_get}
 use Rattle.std.proofs.lemmas.Bool.{and_from, and_parts, eqb-true, false≢true}
+use Rattle.std.proofs.lemmas.List.{drop-drop}
 use Rattle.std.proofs.lemmas.Map.Keys.{IsDistinct-head, IsDistinct-tail}
 use Rattle.std.proofs.lemmas.Option.{slice_get_within}
 use Rattle.pam_codes.specs.Set.{IsCodeSet}
@@ -160,12 +161,6 @@ listed-after links more before answer index held link keeps are set at same is =
       listed-kept links more before held keeps is,
     )
 
--- the list before, and the last answer
-pub listed-push : (links : List Link) (n before : ℕ) (answer : HeldAnswer) (rest : List HeldAnswer) → IsLast links n before answer →
-    IsListed links before rest → IsListed links n (answer ∷ rest)
-unfolding IsListed
-listed-push links n before answer rest last is = (before, last, is)
-
 -- a list that goes on from another
 pub listed-step : (links : List Link) (n : ℕ) (held : List HeldAnswer) → 0 < n → IsListed links n held →
     (l : Link) × (rest : List HeldAnswer) × (slice_get links (n - 1) ≡ Some l) × (l.before < n) × IsListed links l.before rest × (held ≡ l.answer ∷ rest)
@@ -190,3 +185,14 @@ listed-start links (h ∷ rest) is = let within = is.1.within in absurd (omega (
 pub listed-none : (links : List Link) → IsListed links 0 []
 unfolding IsListed
 listed-none links = refl
+
+-- the list before the last answer
+pub listed-rest : (links : List Link) (n : ℕ) (held : List HeldAnswer) (link : Link) → 0 < n → IsListed links n held → slice_get links (n - 1) ≡ Some link →
+    IsListed links link.before (drop 1 held)
+listed-rest links n held link positive is at =
+    let step = listed-step links n held positive is in
+    let same : step.0 ≡ link = some-link step.0 link (sym step.2 ∙ at) in
+    subst (λ (l : List HeldAnswer). IsListed links link.before (drop 1 l)) (sym step.5) (subst (λ (x : Link). IsListed links x.before step.1) same step.4)
+
+pub drop-more : {X : Type 0} (xs : List X) (n m : ℕ) → m ≡ n + 1 → drop 1 (drop n xs) ≡ drop m xs
+drop-more xs n m e = drop-drop 1 n xs ∙ sym (ap (λ k. drop k xs) e)

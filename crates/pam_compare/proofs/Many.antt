@@ -70,7 +70,7 @@ module _ (old_allows new_allows : Allowance) (old new : List FlatItem) (partners
           agree = names-agree a;
           old_comes = subst (Comes (runs_of old) a) (key-at old _ _ s.old r.node.old d are.of_old r.is_at.old) (way.old_comes a follows);
           new_comes = subst (Comes (runs_of new) (by_name names a)) (key-at new _ _ s.new r.node.new d are.of_new r.is_at.new) (way.new_comes a follows);
-          holds = subst (Holds a) (sym (listed-for _ s.held s.held r.node.held.items (omega arith) r.is_at.held)) (way.holds a follows);
+          holds = subst (Holds a) (sym (listed-for _ s.held s.held r.node.held (omega arith) r.is_at.held)) (way.holds a follows);
         }
 
     pub many : (limit : ℕ) → limit < length nodes.situations.keys → IsDistinct same_situation nodes.situations.keys → AreDifferent nodes.old_places.keys →

@@ -7,7 +7,6 @@ use Rattle.pam_dispatch.specs.Decision.{decision_of}
 use Rattle.pam_dispatch.specs.Flat.{rest_of, runs_of}
 use Rattle.pam_dispatch.specs.Runs.{Assignment, Runs, after_answer, asked_by, asked_module, final_state}
 use Rattle.pam_dispatch.proofs.Asking.{asked_by-follows, final_state-follows}
-use Rattle.pam_compare.specs.declared.node.Node.{Node}
 use Rattle.pam_compare.specs.declared.nodes.Found.{Found}
 use Rattle.pam_compare.specs.declared.nodes.Nodes.{Nodes}
 use Rattle.pam_compare.specs.declared.situation.Situation.{Situation}
@@ -16,7 +15,7 @@ use Rattle.pam_compare.specs.declared.turn.Turn.TheVariants.{Old, New, Both}
 use Rattle.pam_compare.specs.Changes.{change_of}
 use Rattle.pam_compare.specs.Comparison.{decision_in}
 use Rattle.pam_compare.specs.Naming.{IsPossible, by_name, name_of}
-use Rattle.pam_compare.specs.Nodes.{IsAt, IsBegun, IsDecided, IsDone, IsMet, IsNoted, IsSearched, IsVisited}
+use Rattle.pam_compare.specs.Nodes.{IsAt, IsBegun, IsDecided, IsDone, IsMet, IsNoted, IsSearched, IsVisited, Stop}
 use Rattle.pam_compare.specs.Turn.{IsTurn, new_after, old_after, turn_name}
 use Rattle.pam_compare.proofs.Growing.{same-some}
 use Rattle.pam_compare.proofs.Holding.{holds-equal}
@@ -55,8 +54,8 @@ module _ (names : List ℕ) (a : Assignment) where
       (one_ends a left i (a i) is.0 refl, one_ends (by_name names a) right j (a i) is.1 same, omega arith)
 
 -- a situation is that of one node
-pub same-node : (nodes : Nodes) (s : Situation) (n m : Node) → IsAt nodes s n → IsAt nodes s m →
-    (n.old ≡ m.old) × (n.new ≡ m.new) × (n.held.items ≡ m.held.items)
+pub same-node : (nodes : Nodes) (s : Situation) (n m : Stop) → IsAt nodes s n → IsAt nodes s m →
+    (n.old ≡ m.old) × (n.new ≡ m.new) × (n.held ≡ m.held)
 same-node nodes s n m one other =
     (same-some n.old m.old (sym one.old ∙ other.old), same-some n.new m.new (sym one.new ∙ other.new), one-listed _ s.held _ _ one.held other.held)
 

@@ -11,7 +11,6 @@ use Rattle.pam_dispatch.specs.Flat.{modules_of, rest_of, runs_of}
 use Rattle.pam_dispatch.specs.Runs.{Assignment, AsksRise, Runs, after_answer, asked_module}
 use Rattle.pam_dispatch.proofs.Asking.{AsksRise-step}
 use Rattle.pam_compare.specs.declared.held.HeldAnswer.{HeldAnswer}
-use Rattle.pam_compare.specs.declared.node.Node.{Node}
 use Rattle.pam_compare.specs.declared.nodes.Found.{Found}
 use Rattle.pam_compare.specs.declared.nodes.Nodes.{Nodes}
 use Rattle.pam_compare.specs.declared.nodes.Way.{Way}
@@ -20,7 +19,7 @@ use Rattle.pam_compare.specs.declared.turn.Turn.{Turn}
 use Rattle.pam_compare.specs.declared.turn.Turn.TheVariants.{Old, New, Both}
 use Rattle.pam_compare.specs.Held.{Holds}
 use Rattle.pam_compare.specs.Naming.{IsPossible, by_name, name_of}
-use Rattle.pam_compare.specs.Nodes.{IsAt, Keeps, KeepsNodes}
+use Rattle.pam_compare.specs.Nodes.{IsAt, Keeps, KeepsNodes, Stop}
 use Rattle.pam_compare.specs.Situations.{Comes, after_steps}
 use Rattle.pam_compare.specs.Trails.{Follows, IsCovered, IsHeldAfter, IsPast, IsStep, IsTrail, answers_on}
 use Rattle.pam_compare.specs.Turn.{AreAlike, IsTurn, new_after, old_after, turn_name}
@@ -218,14 +217,14 @@ module _ (old new : List FlatItem) (names : List ℕ) (possible : List (List ℕ
 -- NODES
 
 -- the way to a node that has a situation
-pub way-at : (old new : List FlatItem) (names : List ℕ) (possible : List (List ℕ)) (nodes : Nodes) (k : ℕ) (s : Situation) (n : Node) →
+pub way-at : (old new : List FlatItem) (names : List ℕ) (possible : List (List ℕ)) (nodes : Nodes) (k : ℕ) (s : Situation) (n : Stop) →
     IsReachedAt old new names possible nodes k s → IsAt nodes s n →
-    IsWayTo old new names possible nodes.ways.items k (rest_of old n.old) (rest_of new n.new) n.held.items
+    IsWayTo old new names possible nodes.ways.items k (rest_of old n.old) (rest_of new n.new) n.held
 way-at old new names possible nodes k s n r at =
     let same = same-node nodes s r.node n r.is_at at in
     subst (λ (l : List HeldAnswer). IsWayTo old new names possible nodes.ways.items k (rest_of old n.old) (rest_of new n.new) l) same.2
-    (subst (λ (p : Place). IsWayTo old new names possible nodes.ways.items k (rest_of old n.old) (rest_of new p) r.node.held.items) same.1
-    (subst (λ (p : Place). IsWayTo old new names possible nodes.ways.items k (rest_of old p) (rest_of new r.node.new) r.node.held.items) same.0 r.way))
+    (subst (λ (p : Place). IsWayTo old new names possible nodes.ways.items k (rest_of old n.old) (rest_of new p) r.node.held) same.1
+    (subst (λ (p : Place). IsWayTo old new names possible nodes.ways.items k (rest_of old p) (rest_of new r.node.new) r.node.held) same.0 r.way))
 
 pub reached-kept : (old new : List FlatItem) (names : List ℕ) (possible : List (List ℕ)) (before after : Nodes) (k : ℕ) (s : Situation) →
     KeepsNodes before after → IsReachedAt old new names possible before k s → IsReachedAt old new names possible after k s

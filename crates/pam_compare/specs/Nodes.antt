@@ -53,20 +53,38 @@ pub record KeepsNodes (before after : Nodes) : Type 0 where
   pub situations : Keeps before.situations.keys after.situations.keys
   pub ways : Keeps before.ways.items after.ways.items
 
--- a situation is that of a node, whose places and held answers it names
-pub record IsAt (nodes : Nodes) (s : Situation) (n : Node) : Type 0 where
+-- where both stacks are, and the answers that are held there
+pub record Stop : Type 0 where
+  pub old : Place
+  pub new : Place
+  pub held : List HeldAnswer
+
+abbrev pub stop_of : Node → Stop
+stop_of node = record { old = node.old; new = node.new; held = node.held.items }
+
+-- a situation is that of a stop, whose places and held answers it names
+pub record IsAt (nodes : Nodes) (s : Situation) (n : Stop) : Type 0 where
   pub old : slice_get nodes.old_places.places.items s.old ≡ Some n.old
   pub new : slice_get nodes.new_places.places.items s.new ≡ Some n.new
-  pub held : IsListed nodes.held_lists.links.keys s.held n.held.items
+  pub held : IsListed nodes.held_lists.links.keys s.held n.held
+
+-- the number of the list that is held at a situation, if there is one
+abbrev pub list_of : Option Situation → ℕ
+list_of None = 0
+list_of (Some s) = s.held
+
+-- these answers are held at the situation with an index
+abbrev pub AreHeldAt : Nodes → ℕ → List HeldAnswer → Type 0
+AreHeldAt nodes index held = IsListed nodes.held_lists.links.keys (list_of (slice_get nodes.situations.keys index)) held
 
 -- node k is a new one, to which the last way leads
 pub record IsNew (old new : List FlatItem) (before after : Nodes) (left right : Runs) (held : List HeldAnswer) (way : Way) (k : ℕ)
     (s : Situation) : Type 0 where
-  pub node : Node
+  pub node : Stop
   pub is_at : IsAt after s node
   pub left_is : rest_of old node.old ≡ left
   pub right_is : rest_of new node.new ≡ right
-  pub held_is : node.held.items ≡ held
+  pub held_is : node.held ≡ held
   pub index : k ≡ length before.situations.keys
   pub ways : after.ways.items ≡ before.ways.items ++ way ∷ []
 
@@ -80,12 +98,12 @@ AreAdded old new before after left right held way =
 pub record IsMet (old new : List FlatItem) (nodes : Nodes) (a : Assignment) (left right : Runs) : Type 0 where
   pub index : ℕ
   pub situation : Situation
-  pub node : Node
+  pub node : Stop
   pub is_there : slice_get nodes.situations.keys index ≡ Some situation
   pub is_at : IsAt nodes situation node
   pub left_is : rest_of old node.old ≡ left
   pub right_is : rest_of new node.new ≡ right
-  pub holds : Holds a node.held.items
+  pub holds : Holds a node.held
 
 -- this change has been found, or there is none
 abbrev pub IsNoted : Found → Option Change → Type 0
@@ -105,14 +123,14 @@ IsFollowed old new names nodes a left right =
     × IsMet old new nodes a (old_after turn left (a (turn_name names turn))) (new_after turn right (a (turn_name names turn)))
 
 -- one or the other, whatever the modules answer
-unfoldable pub IsDone : List FlatItem → List FlatItem → List ℕ → List (List ℕ) → Nodes → Found → Node → Type 0
+unfoldable pub IsDone : List FlatItem → List FlatItem → List ℕ → List (List ℕ) → Nodes → Found → Stop → Type 0
 IsDone old new names possible nodes found n =
-    (a : Assignment) → IsPossible possible a → Holds a n.held.items →
+    (a : Assignment) → IsPossible possible a → Holds a n.held →
     IsDecided found names a (rest_of old n.old) (rest_of new n.new)
     ⊎ IsFollowed old new names nodes a (rest_of old n.old) (rest_of new n.new)
 
 pub record IsVisited (old new : List FlatItem) (names : List ℕ) (possible : List (List ℕ)) (nodes : Nodes) (found : Found) (s : Situation) : Type 0 where
-  pub node : Node
+  pub node : Stop
   pub is_at : IsAt nodes s node
   pub done : IsDone old new names possible nodes found node
 

@@ -10,7 +10,6 @@ use Rattle.pam_compare.specs.declared.change.Change.{Change}
 use Rattle.pam_compare.specs.declared.change.Change.TheVariants.{Admits, Refuses, Tells}
 use Rattle.pam_compare.specs.declared.held.HeldAnswer.{HeldAnswer}
 use Rattle.pam_compare.specs.declared.naming.Naming.{Naming}
-use Rattle.pam_compare.specs.declared.node.Node.{Node}
 use Rattle.pam_compare.specs.declared.nodes.Found.{Found}
 use Rattle.pam_compare.specs.declared.nodes.Nodes.{Nodes}
 use Rattle.pam_compare.specs.declared.nodes.Way.{Way}
@@ -19,7 +18,7 @@ use Rattle.pam_compare.specs.Changes.{change_of}
 use Rattle.pam_compare.specs.Comparison.{decision_in}
 use Rattle.pam_compare.specs.Held.{Holds}
 use Rattle.pam_compare.specs.Naming.{AreLast, by_name, name_of}
-use Rattle.pam_compare.specs.Nodes.{IsAt}
+use Rattle.pam_compare.specs.Nodes.{IsAt, Stop}
 use Rattle.pam_compare.specs.Situations.{Comes}
 use Rattle.pam_compare.specs.Trails.{Follows, IsCovered, IsTrail, answers_on}
 
@@ -55,9 +54,9 @@ pub record IsWayTo (old new : List FlatItem) (names : List ℕ) (possible : List
 
 -- the same of a situation that is among the nodes
 pub record IsReachedAt (old new : List FlatItem) (names : List ℕ) (possible : List (List ℕ)) (nodes : Nodes) (k : ℕ) (s : Situation) : Type 0 where
-  pub node : Node
+  pub node : Stop
   pub is_at : IsAt nodes s node
-  pub way : IsWayTo old new names possible nodes.ways.items k (rest_of old node.old) (rest_of new node.new) node.held.items
+  pub way : IsWayTo old new names possible nodes.ways.items k (rest_of old node.old) (rest_of new node.new) node.held
 
 -- each node has its way
 pub record AreReached (old new : List FlatItem) (names : List ℕ) (possible : List (List ℕ)) (nodes : Nodes) : Type 0 where
@@ -73,7 +72,7 @@ found_at found Tells = found.tells
 -- both runs end at node k, with this change
 pub record IsEnd (old new : List FlatItem) (nodes : Nodes) (k : ℕ) (change : Change) : Type 0 where
   pub situation : Situation
-  pub node : Node
+  pub node : Stop
   pub is_there : slice_get nodes.situations.keys k ≡ Some situation
   pub is_at : IsAt nodes situation node
   pub change_is : (a b : Assignment) → change_of (decision_in (rest_of old node.old) a) (decision_in (rest_of new node.new) b) ≡ Some change

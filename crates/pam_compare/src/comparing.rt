@@ -15,6 +15,7 @@ ghost use Rattle.pam_compare.specs.Ways.{AreEnds, AreReached, IsNaming};
 
 use crate::change::Change;
 use crate::expanding::{Fork, expand};
+use crate::held::HeldAfter;
 use crate::matching::Matching;
 use crate::naming::Naming;
 use crate::node::{Node, Pair};
@@ -130,7 +131,11 @@ fn begin(alloc: Global, pair: &Pair<'_>) -> Result<Nodes, Memory>
     };
     let old = pair.old.first();
     let new = pair.new.first();
-    nodes.add(&old, &new, Vec::new(alloc), way)?;
+    let nothing = HeldAfter {
+        latest: Vec::new(alloc),
+        start: 0,
+    };
+    nodes.add(&old, &new, &nothing, way)?;
     Ok(nodes)
 }
 

@@ -8,12 +8,12 @@ ghost use Rattle.pam_dispatch.specs.Runs.{Assignment, asked_module};
 ghost use Rattle.pam_compare.specs.declared.held.HeldAnswer.{HeldAnswer};
 ghost use Rattle.pam_compare.specs.Held.{Holds};
 ghost use Rattle.pam_compare.specs.Naming.{IsPossible};
-ghost use Rattle.pam_compare.specs.Nodes.{AreNodes, IsFollowed, IsMet, KeepsNodes};
+ghost use Rattle.pam_compare.specs.Nodes.{AreHeldAt, AreNodes, IsFollowed, IsMet, KeepsNodes};
 ghost use Rattle.pam_compare.specs.Trails.{IsStep};
 ghost use Rattle.pam_compare.specs.Turn.{IsTurn, old_after, new_after, turn_name};
 ghost use Rattle.pam_compare.specs.Ways.{AreReached, IsNaming, IsWayTo};
 
-use crate::held::{HeldAnswer, held_after, held_codes};
+use crate::held::{HeldAnswer, Step, held_after, held_codes};
 use crate::naming::{common, possible_at};
 use crate::node::{Node, Pair, class_of, places_after};
 use crate::nodes::{Nodes, Way};
@@ -47,6 +47,7 @@ fn follow(
     requires within { way.parent < length nodes.old.situations.keys }
     requires way { IsWayTo pair.now.old.now pair.now.new.now pair.now.naming.now.names.items pair.now.naming.now.possible.items nodes.old.ways.items way.parent
         (rest_of pair.now.old.now fork.now.node.now.old) (rest_of pair.now.new.now fork.now.node.now.new) fork.now.node.now.held.items }
+    requires held { AreHeldAt nodes.old way.parent fork.now.node.now.held.items }
     requires step { IsStep pair.now.naming.now.names.items pair.now.naming.now.possible.items (rest_of pair.now.old.now fork.now.node.now.old)
         (rest_of pair.now.new.now fork.now.node.now.new) fork.now.node.now.held.items fork.now.turn way }
     ensures keeps { OnOk result (KeepsNodes nodes.old nodes.new) }
@@ -63,15 +64,13 @@ fn follow(
         name: way.name,
         codes: way.class,
     };
-    let held = held_after(
-        alloc,
-        pair.naming,
-        &fork.node.held,
-        answer,
-        old.module(),
-        new.module(),
-    )?;
-    nodes.add(&old, &new, held, way)?;
+    let step = Step {
+        turn: fork.turn,
+        old: old.module(),
+        new: new.module(),
+    };
+    let after = held_after(alloc, pair.naming, &fork.node.held, answer, step)?;
+    nodes.add(&old, &new, &after, way)?;
     Ok(())
 }
 
@@ -109,6 +108,7 @@ pub(crate) fn expand(
     requires within { fork.now.index < length nodes.old.situations.keys }
     requires way { IsWayTo pair.now.old.now pair.now.new.now pair.now.naming.now.names.items pair.now.naming.now.possible.items nodes.old.ways.items
         fork.now.index (rest_of pair.now.old.now fork.now.node.now.old) (rest_of pair.now.new.now fork.now.node.now.new) fork.now.node.now.held.items }
+    requires held { AreHeldAt nodes.old fork.now.index fork.now.node.now.held.items }
     ensures keeps { OnOk result (KeepsNodes nodes.old nodes.new) }
     ensures nodes { OnOk result (AreNodes pair.now.old.now pair.now.new.now nodes.new) }
     ensures reached { OnOk result (AreReached pair.now.old.now pair.now.new.now pair.now.naming.now.names.items pair.now.naming.now.possible.items nodes.new) }

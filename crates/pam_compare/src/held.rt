@@ -1,16 +1,17 @@
 //! Answers that one stack has had from modules which the other stack has still ahead.
 
-ghost use Rattle.std.specs.Prelude.{◌≡◌, ◌⊎◌, ◌+◌, ◌<◌, [], ℕ, false, true, IfOk, IsTrue, OnOk, Some, length, slice_get};
+ghost use Rattle.std.specs.Prelude.{◌≡◌, ◌⊎◌, ◌+◌, ◌<◌, ◌≤◌, [], ℕ, false, true, IfOk, IsTrue, OnOk, Some, length, slice_get};
 ghost use Rattle.pam_codes.specs.Set.{is_in};
 ghost use Rattle.pam_codes.specs.SetBits.{bits_of_codes};
 ghost use Rattle.pam_dispatch.specs.Runs.{Assignment};
 ghost use Rattle.pam_compare.specs.declared.held.HeldAnswer.{HeldAnswer};
-ghost use Rattle.pam_compare.specs.Held.{Holds, least_of_bits};
+ghost use Rattle.pam_compare.specs.Held.{Holds, held_in, least_of_bits};
 ghost use Rattle.pam_compare.specs.Naming.{AreLast};
 ghost use Rattle.pam_compare.specs.Nodes.{Keeps};
 ghost use Rattle.pam_compare.specs.Trails.{AreAll, IsHeldAfter, IsPast, IsSettled};
 
 use crate::naming::{Naming, common, possible_at, value_at};
+use crate::turn::Turn;
 use pam_codes::{CODES, CodeSet};
 use pam_dispatch::Memory;
 use std::alloc::Global;
@@ -21,6 +22,14 @@ use std::hash::{Hash, Hasher};
 pub(crate) struct HeldAnswer {
     pub(crate) name: usize,
     pub(crate) codes: CodeSet,
+}
+
+/// What is held after an answer: the latest answers, the last one first, and then those that were held before it, from index `start`
+/// on.
+#[derive(Drop)]
+pub(crate) struct HeldAfter {
+    pub(crate) latest: Vec<HeldAnswer>,
+    pub(crate) start: usize,
 }
 
 /// The least of the codes, by which sets that share none are told apart; the number of all codes if there is none.
@@ -152,7 +161,7 @@ fn push_if(is_wanted: bool, answer: HeldAnswer, held: &mut Vec<HeldAnswer>) -> R
 }
 
 /// A list with room for this many answers.
-fn with_room(alloc: Global, count: usize) -> Result<Vec<HeldAnswer>, Memory>
+pub(crate) fn with_room(alloc: Global, count: usize) -> Result<Vec<HeldAnswer>, Memory>
     ensures { IfOk result (λ held. held.items ≡ []) }
 {
     match Vec::with_capacity(alloc, count) {
@@ -161,31 +170,89 @@ fn with_room(alloc: Global, count: usize) -> Result<Vec<HeldAnswer>, Memory>
     }
 }
 
-/// What is held after an answer of this class, where the stacks then ask these modules next: the last answer comes first.
+/// A step: whose turn it was, and the modules that the stacks ask next.
+#[derive(Clone, Copy, Debug)]
+pub(crate) struct Step {
+    pub(crate) turn: Turn,
+    pub(crate) old: Option<usize>,
+    pub(crate) new: Option<usize>,
+}
+
+/// Whether a stack asks the module after this one next.
+fn goes_on(number: usize, next: Option<usize>) -> bool {
+    match next {
+        Some(next) => number < next && next - number == 1,
+        None => false,
+    }
+}
+
+/// Whether the stacks have passed only the modules that were asked. All that was held was ahead, and then all of it still is, but for
+/// the answer of the module that was asked.
+fn passes_no_other(step: Step) -> bool {
+    match step.turn {
+        Turn::Old(number) => goes_on(number, step.old),
+        Turn::New(number) => goes_on(number, step.new),
+        Turn::Both(number, other) => goes_on(number, step.old) && goes_on(other, step.new),
+    }
+}
+
+/// The index from which on none of these answers is that of the module with this name.
+fn without_name(held: &[HeldAnswer], name: usize) -> usize
+    ensures { result ≤ length held.now }
+{
+    for back in 0..held.len() {
+        let index = held.len() - 1 - back;
+        let earlier = held[index];
+        if earlier.name == name {
+            return index + 1;
+        }
+    }
+    0
+}
+
+/// The index from which on all these answers are still held after that of the module with this name.
+fn kept_from(naming: &Naming, held: &[HeldAnswer], name: usize, step: Step) -> usize
+    ensures { result ≤ length held.now }
+{
+    if passes_no_other(step) {
+        return without_name(held, name);
+    }
+    for back in 0..held.len() {
+        let index = held.len() - 1 - back;
+        let earlier = held[index];
+        if !is_wanted(naming, earlier.name, name, step.old, step.new) {
+            return index + 1;
+        }
+    }
+    0
+}
+
+/// What is held after a step with an answer of this class. The end that stays as it is, mostly all of it, is not copied.
 pub(crate) fn held_after(
     alloc: Global,
     naming: &Naming,
     held: &[HeldAnswer],
     answer: HeldAnswer,
-    old: Option<usize>,
-    new: Option<usize>,
-) -> Result<Vec<HeldAnswer>, Memory>
-    ensures holds { IfOk result (λ after. (a : Assignment) → Holds a held.now → IsTrue (is_in (a answer.name) answer.codes) → Holds a after.items) }
+    step: Step,
+) -> Result<HeldAfter, Memory>
+    ensures holds { IfOk result (λ after. (a : Assignment) → Holds a held.now → IsTrue (is_in (a answer.name) answer.codes)
+        → Holds a (held_in after held.now)) }
     ensures told { (modules : ℕ) → length naming.now.names.items ≡ modules + 1 → AreLast naming.now.names.items naming.now.last.items
-        → IfOk result (λ after. IsHeldAfter naming.now.possible.items naming.now.names.items naming.now.old_modules modules held.now after.items answer
-        old new) }
+        → IfOk result (λ after. IsHeldAfter naming.now.possible.items naming.now.names.items naming.now.old_modules modules held.now
+        (held_in after held.now) answer step.old step.new) }
 {
     let name = answer.name;
-    let mut after = with_room(alloc, held.len() + 1)?;
-    let is_needed = is_needed(naming, name, answer.codes, old, new);
-    push_if(is_needed, answer, &mut after)?;
-    for index in 0..held.len() {
+    let start = kept_from(naming, held, name, step);
+    let mut latest = with_room(alloc, start)?;
+    let is_needed = is_needed(naming, name, answer.codes, step.old, step.new);
+    push_if(is_needed, answer, &mut latest)?;
+    for index in 0..start {
         let earlier = held[index];
         push_if(
-            is_wanted(naming, earlier.name, name, old, new),
+            is_wanted(naming, earlier.name, name, step.old, step.new),
             earlier,
-            &mut after,
+            &mut latest,
         )?;
     }
-    Ok(after)
+    Ok(HeldAfter { latest, start })
 }

@@ -1,28 +1,31 @@
 //! Lists of held answers, each stored once: a list is its last answer and the list before it.
 
-ghost use Rattle.std.specs.Prelude.{◌≡◌, ◌<◌, ◌≤◌, ◌+◌, ◌-◌, ◌^◌, ◌∷◌, List, ℕ, IfOk, IfSome, IsTrue, OnOk, Some, drop, length, slice_get};
+ghost use Rattle.std.specs.Prelude.{◌≡◌, ◌<◌, ◌≤◌, ◌+◌, ◌-◌, ◌^◌, ◌∷◌, ◌++◌, List, ℕ, IfOk, OnOk, Some, drop, length, slice_get};
 ghost use Rattle.std.specs.List.{IsDistinct};
 ghost use Rattle.pam_compare.specs.declared.held.HeldAnswer.{HeldAnswer};
-ghost use Rattle.pam_compare.specs.HeldLists.{AreLinks, IsLast, IsListed, same_link};
+ghost use Rattle.pam_compare.specs.Held.{held_in};
+ghost use Rattle.pam_compare.specs.HeldLists.{AreLinks, IsListed, same_link};
 ghost use Rattle.pam_compare.specs.Nodes.{Keeps};
 
-use crate::held::HeldAnswer;
+use crate::held::{HeldAfter, HeldAnswer, with_room};
 use indexmap::IndexSet;
 use pam_dispatch::Memory;
 use std::alloc::Global;
+
+/// Room at first for the answers of a list that is not empty. More are rarely held, and room that grows costs more than room that
+/// stays empty.
+const ROOM: usize = 256;
+
+/// The number of answers for which there is room at first where those of the list with this number are listed.
+fn room_for(number: usize) -> usize {
+    if number == 0 { 0 } else { ROOM }
+}
 
 /// The last answer of a list, and the number of the list before it.
 #[derive(Clone, Copy, Debug, PartialEq, Eq, Hash)]
 pub(crate) struct Link {
     pub(crate) before: usize,
     pub(crate) answer: HeldAnswer,
-}
-
-/// The end of a list of answers, which is stored: the answers from index `start` on are the list with this number.
-#[derive(Clone, Copy, Debug)]
-struct Tail {
-    start: usize,
-    list: usize,
 }
 
 /// Lists of held answers, by their numbers. List 0 is empty, and each other list has the link whose index is one less.
@@ -63,112 +66,58 @@ impl HeldLists {
         Ok(index + 1)
     }
 
-    /// The number of a list, whose last answer comes first. What it has in common with the end of the list `near` is not looked up.
-    pub(crate) fn number_after(&mut self, near: usize, held: &[HeldAnswer]) -> Result<usize, Memory>
+    /// The number of the list that is held after an answer, where the list `before` was held before it.
+    pub(crate) fn number_after(&mut self, before: usize, after: &HeldAfter) -> Result<usize, Memory>
         ensures keeps { OnOk result (Keeps self.old.links.keys self.new.links.keys) }
-        ensures links { AreLinks self.old.links.keys → OnOk result (AreLinks self.new.links.keys) }
-        ensures listed { AreLinks self.old.links.keys → IfOk result (λ number. IsListed self.new.links.keys number held.now) }
+        ensures links { (held : List HeldAnswer) → AreLinks self.old.links.keys → IsListed self.old.links.keys before held
+            → OnOk result (AreLinks self.new.links.keys) }
+        ensures listed { (held : List HeldAnswer) → AreLinks self.old.links.keys → IsListed self.old.links.keys before held
+            → IfOk result (λ number. IsListed self.new.links.keys number (held_in after.now held)) }
     {
-        let tail = self.tail_of(near, held);
-        self.extended(tail, held)
+        let kept = self.without_last(before, after.start);
+        self.extended(kept, &after.latest)
     }
 
-    /// The number of a list whose end is stored: stores the answers before it.
-    fn extended(&mut self, tail: Tail, held: &[HeldAnswer]) -> Result<usize, Memory>
-        requires { tail.start ≤ length held.now }
+    /// The number of a list that goes on from the list `before` with these answers, of which the last comes first.
+    fn extended(&mut self, before: usize, latest: &[HeldAnswer]) -> Result<usize, Memory>
         ensures keeps { OnOk result (Keeps self.old.links.keys self.new.links.keys) }
-        ensures links { AreLinks self.old.links.keys → IsListed self.old.links.keys tail.list (drop tail.start held.now)
+        ensures links { (held : List HeldAnswer) → AreLinks self.old.links.keys → IsListed self.old.links.keys before held
             → OnOk result (AreLinks self.new.links.keys) }
-        ensures listed { AreLinks self.old.links.keys → IsListed self.old.links.keys tail.list (drop tail.start held.now)
-            → IfOk result (λ number. IsListed self.new.links.keys number held.now) }
+        ensures listed { (held : List HeldAnswer) → AreLinks self.old.links.keys → IsListed self.old.links.keys before held
+            → IfOk result (λ number. IsListed self.new.links.keys number (latest.now ++ held)) }
     {
-        let mut number = tail.list;
-        for back in 0..tail.start {
-            let index = tail.start - 1 - back;
-            number = self.with(number, held[index])?;
+        let mut number = before;
+        for back in 0..latest.len() {
+            let index = latest.len() - 1 - back;
+            number = self.with(number, latest[index])?;
         }
         Ok(number)
     }
 
-    /// The longest end of these answers without the first that is an end of the list `near`, found in one walk along both; the empty
-    /// one if the walk leaves the end of neither.
-    fn tail_of(&self, near: usize, held: &[HeldAnswer]) -> Tail
-        ensures within { result.start ≤ length held.now }
-        ensures listed { AreLinks self.now.links.keys → IsListed self.now.links.keys result.list (drop result.start held.now) }
+    /// The number of the list before the last `count` answers of a list.
+    fn without_last(&self, number: usize, count: usize) -> usize
+        ensures { (held : List HeldAnswer) → IsListed self.now.links.keys number held → IsListed self.now.links.keys result (drop count held) }
     {
-        let mut tail = Tail {
-            start: 1,
-            list: near,
-        };
-        let mut index: usize = 1;
-        let mut at = near;
-        let mut left = self.len();
-        while at > 0 && left > 0 {
+        let mut at = number;
+        let mut left = count;
+        while left > 0 {
+            at = self.rest(at);
             left -= 1;
-            match self.before_at(at, held, index) {
-                Some(before) => {
-                    at = before;
-                    index += 1;
-                }
-                None => {
-                    at = self.rest(at);
-                    tail = Tail {
-                        start: index,
-                        list: at,
-                    };
-                }
-            }
         }
-        if at > 0 || index < held.len() || tail.start > held.len() {
-            return Tail {
-                start: held.len(),
-                list: 0,
-            };
-        }
-        tail
-    }
-
-    /// The number of the list before the last answer of a list, if that is the answer at `index`.
-    fn before_at(&self, number: usize, held: &[HeldAnswer], index: usize) -> Option<usize>
-        ensures within { IfSome result (λ before. index < length held.now) }
-        ensures listed { AreLinks self.now.links.keys → IfSome result (λ before. IsListed self.now.links.keys before (drop (index + 1) held.now)
-            → IsListed self.now.links.keys number (drop index held.now)) }
-    {
-        if index >= held.len() {
-            return None;
-        }
-        let answer = held[index];
-        let Some(before) = self.before(number, answer) else {
-            return None;
-        };
-        Some(before)
+        at
     }
 
     /// The number of the list before the last answer of a list; 0 if there is none.
-    fn rest(&self, number: usize) -> usize {
-        match self.links.get_index(number.saturating_sub(1)) {
+    fn rest(&self, number: usize) -> usize
+        ensures { (held : List HeldAnswer) → IsListed self.now.links.keys number held → IsListed self.now.links.keys result (drop 1 held) }
+    {
+        if number == 0 {
+            return 0;
+        }
+        match self.links.get_index(number - 1) {
             Some(link) => link.before,
             None => 0,
         }
-    }
-
-    /// The number of the list before the last answer of a list, if that is this answer.
-    fn before(&self, number: usize, answer: HeldAnswer) -> Option<usize>
-        ensures { AreLinks self.now.links.keys → IfSome result (λ before. IsLast self.now.links.keys number before answer) }
-    {
-        if number == 0 {
-            return None;
-        }
-        if number > self.len() {
-            return None;
-        }
-        // A set says with its least code that it is one of codes.
-        let _least = answer.codes.least();
-        let link = self.last(number);
-        if link.answer == answer {
-            return Some(link.before);
-        }
-        None
     }
 
     /// The link of a list that is not empty.
@@ -188,7 +137,7 @@ impl HeldLists {
         requires { (held : List HeldAnswer) × IsListed self.now.links.keys number held }
         ensures { IfOk result (λ held. IsListed self.now.links.keys number held.items) }
     {
-        let mut held = Vec::new(alloc);
+        let mut held = with_room(alloc, room_for(number))?;
         let mut at = number;
         while at > 0 {
             let link = self.last(at);

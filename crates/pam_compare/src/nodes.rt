@@ -5,17 +5,18 @@ ghost use Rattle.pam_dispatch.specs.declared.flat_item.FlatItem.{FlatItem};
 ghost use Rattle.pam_dispatch.specs.declared.place.Place.{Place};
 ghost use Rattle.pam_dispatch.specs.Flat.{IsPlaceOf, rest_of};
 ghost use Rattle.pam_dispatch.specs.Runs.{Assignment};
+ghost use Rattle.pam_compare.specs.declared.held.HeldAnswer.{HeldAnswer};
 ghost use Rattle.pam_compare.specs.declared.situation.Situation.{Situation};
 ghost use Rattle.pam_compare.specs.declared.change.Change.{Change};
-ghost use Rattle.pam_compare.specs.Held.{Holds, same_situation};
+ghost use Rattle.pam_compare.specs.Held.{Holds, held_in, same_situation};
 ghost use Rattle.pam_compare.specs.HeldLists.{same_link};
 ghost use Rattle.pam_compare.specs.Ways.{found_at};
 ghost use Rattle.pam_dispatch.specs.Keys.{AreDifferent};
 ghost use Rattle.std.specs.List.{IsDistinct};
-ghost use Rattle.pam_compare.specs.Nodes.{AreAdded, AreNodes, ArePlaces, IsAt, IsMet, IsNoted, Keeps, KeepsNodes};
+ghost use Rattle.pam_compare.specs.Nodes.{AreAdded, AreHeldAt, AreNodes, ArePlaces, IsAt, IsMet, IsNoted, Keeps, KeepsNodes, list_of, stop_of};
 
 use crate::change::Change;
-use crate::held::HeldAnswer;
+use crate::held::HeldAfter;
 use crate::held_lists::HeldLists;
 use crate::node::Node;
 use crate::situation::Situation;
@@ -156,35 +157,38 @@ impl Nodes {
     }
 
     /// The number of the list of answers that are held at a situation; 0 if there is none with this index.
-    fn list_at(&self, index: usize) -> usize {
+    fn list_at(&self, index: usize) -> usize
+        ensures { result ≡ list_of (slice_get self.now.situations.keys index) }
+    {
         match self.situations.get_index(index) {
             Some(situation) => situation.held,
             None => 0,
         }
     }
 
-    /// Adds the situation with these places and held answers, unless it is there.
+    /// Adds the situation with these places and what is held there after the one before it on the way, unless it is there.
     pub(crate) fn add(
         &mut self,
         old_place: &Place,
         new_place: &Place,
-        held: Vec<HeldAnswer>,
+        after: &HeldAfter,
         way: Way,
     ) -> Result<(), Memory>
         ensures keeps { OnOk result (KeepsNodes self.old self.new) }
-        ensures nodes { (old new : List FlatItem) → AreNodes old new self.old → IsPlaceOf old old_place.now → IsPlaceOf new new_place.now
-            → OnOk result (AreNodes old new self.new) }
+        ensures nodes { (old new : List FlatItem) (held : List HeldAnswer) → AreNodes old new self.old → AreHeldAt self.old way.parent held
+            → IsPlaceOf old old_place.now → IsPlaceOf new new_place.now → OnOk result (AreNodes old new self.new) }
         ensures count { length self.old.ways.items ≡ length self.old.situations.keys
             → OnOk result (length self.new.ways.items ≡ length self.new.situations.keys) }
-        ensures added { (old new : List FlatItem) → AreNodes old new self.old
-            → OnOk result (AreAdded old new self.old self.new (rest_of old old_place.now) (rest_of new new_place.now) held.items way) }
-        ensures met { (old new : List FlatItem) (a : Assignment) → AreNodes old new self.old → ((name : ℕ) → a name < 31) → Holds a held.items
+        ensures added { (old new : List FlatItem) (held : List HeldAnswer) → AreNodes old new self.old → AreHeldAt self.old way.parent held
+            → OnOk result (AreAdded old new self.old self.new (rest_of old old_place.now) (rest_of new new_place.now) (held_in after.now held) way) }
+        ensures met { (old new : List FlatItem) (held : List HeldAnswer) (a : Assignment) → AreNodes old new self.old
+            → AreHeldAt self.old way.parent held → ((name : ℕ) → a name < 31) → Holds a (held_in after.now held)
             → OnOk result (IsMet old new self.new a (rest_of old old_place.now) (rest_of new new_place.now)) }
     {
         let old_index = self.old_places.index_of(old_place)?;
         let new_index = self.new_places.index_of(new_place)?;
-        let near = self.list_at(way.parent);
-        let list = self.held_lists.number_after(near, &held)?;
+        let before = self.list_at(way.parent);
+        let list = self.held_lists.number_after(before, after)?;
         let situation = Situation {
             old: old_index,
             new: new_index,
@@ -198,7 +202,7 @@ impl Nodes {
     pub(crate) fn node_at(&self, alloc: Global, index: usize) -> Result<Node, Memory>
         requires within { index < length self.now.situations.keys }
         requires nodes { (old new : List FlatItem) × AreNodes old new self.now }
-        ensures { IfOk result (λ n. (s : Situation) × (slice_get self.now.situations.keys index ≡ Some s) × IsAt self.now s n) }
+        ensures { IfOk result (λ n. (s : Situation) × (slice_get self.now.situations.keys index ≡ Some s) × IsAt self.now s (stop_of n)) }
     {
         let Some(situation) = self.situations.get_index(index) else {
             unreachable!()

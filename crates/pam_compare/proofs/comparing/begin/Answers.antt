@@ -1,27 +1,50 @@
-use Rattle.std.proofs.Common.{◌∙◌, ℕ, List, [], arith, inl, inr, subst, sym}
+use Rattle.std.proofs.Common.{◌≡◌, ◌∙◌, ◌++◌, ℕ, zero, suc, List, [], Option, ap, arith, drop, inl, inr, length, refl, subst, sym}
 use Rattle.std.proofs.lemmas.Option.{slice_get_within}
+use Rattle.pam_compare.specs.declared.held.HeldAfter.{HeldAfter}
 use Rattle.pam_compare.specs.declared.held.HeldAnswer.{HeldAnswer}
+use Rattle.pam_compare.specs.declared.nodes.Nodes.{Nodes}
+use Rattle.pam_compare.specs.declared.situation.Situation.{Situation}
 use Rattle.pam_compare.specs.Ways.{IsWayTo}
 use Rattle.pam_compare.proofs.Reaching.{way-begun}
 use Rattle.pam_dispatch.specs.Flat.{rest_of, runs_of}
 use Rattle.pam_dispatch.specs.Runs.{Runs}
-use Rattle.pam_compare.specs.Held.{Holds}
-use Rattle.pam_compare.specs.Nodes.{IsMet}
+use Rattle.pam_compare.specs.Held.{Holds, held_in}
+use Rattle.pam_compare.specs.HeldLists.{IsListed}
+use Rattle.pam_compare.specs.Nodes.{AreHeldAt, IsMet, list_of}
+use Rattle.pam_compare.proofs.Growing.{nothing-at}
+use Rattle.pam_compare.proofs.Lists.{listed-none}
 use Rattle.pam_compare.proofs.Holding.{holds-equal}
 use Rattle.pam_compare.proofs.comparing.begin.Goals as goal
+
+no-end : (start : ℕ) → drop {A = HeldAnswer} start [] ≡ []
+no-end zero = refl
+no-end (suc start) = refl
+
+-- nothing is held after no answers
+none-after : (after : HeldAfter) → after.latest.items ≡ [] → held_in after [] ≡ []
+none-after after e = ap (λ (l : List HeldAnswer). l ++ drop after.start []) e ∙ no-end after.start
+
+-- nothing is held where there is no situation before
+none-held : (nodes : Nodes) → length nodes.situations.keys ≡ 0 → AreHeldAt nodes 0 []
+none-held nodes none =
+    subst (λ (o : Option Situation). IsListed nodes.held_lists.links.keys (list_of o) []) (sym (nothing-at nodes.situations.keys 0 none))
+    (listed-none nodes.held_lists.links.keys)
 
 pub returns-clause-nodes : goal.returns-clause-nodes
 returns-clause-nodes c =
     let old = c.args.pair.now.old.now in
     let new = c.args.pair.now.new.now in
-    c.in_ok-add.ensures.nodes old new (c.new-nodes.ensures.nodes old new) c.first-old.ensures.place c.first-new.ensures.place
+    c.in_ok-add.ensures.nodes old new [] (c.new-nodes.ensures.nodes old new) (none-held c.new-nodes.result c.new-nodes.ensures.none)
+    c.first-old.ensures.place c.first-new.ensures.place
 
 pub returns-clause-begun : goal.returns-clause-begun
 unfolding Holds
 returns-clause-begun c a low =
     let old = c.args.pair.now.old.now in
     let new = c.args.pair.now.new.now in
-    let met = c.in_ok-add.ensures.met old new a (c.new-nodes.ensures.nodes old new) low (holds-equal a [] _ (sym c.new.ensures.items) tt) in
+    let none = none-after (record { latest = c.new.result; start = 0 }) c.new.ensures.items in
+    let met = c.in_ok-add.ensures.met old new [] a (c.new-nodes.ensures.nodes old new) (none-held c.new-nodes.result c.new-nodes.ensures.none) low
+    (holds-equal a [] _ (sym none) tt) in
     subst (λ (r : Runs). IsMet old new c.add.new.self a r (runs_of new)) c.first-old.ensures.whole
     (subst (λ (r : Runs). IsMet old new c.add.new.self a (rest_of old c.first-old.result) r) c.first-new.ensures.whole met)
 
@@ -34,19 +57,20 @@ returns-clause-reached c =
     let step = c.in_ok-add.ensures in
     let start = c.new-nodes.ensures in
     let more = c.add.new.self.ways.items in
+    let none = none-after (record { latest = c.new.result; start = 0 }) c.new.ensures.items in
     record {
       count = step.count (start.ways ∙ sym start.none);
-      reached = λ k s at. elim (step.added old new (start.nodes old new) k s at) [
+      reached = λ k s at. elim (step.added old new [] (start.nodes old new) (none-held c.new-nodes.result start.none) k s at) [
         | inl was ↦ let inside = slice_get_within _ k s was in absurd (omega (arith, inside, start.none))
         | inr n ↦
             let begun = way-begun old new names possible more c.first-old.ensures.rise c.first-new.ensures.rise in
             record {
               node = n.node;
               is_at = n.is_at;
-              way = subst (λ (r : Runs). IsWayTo old new names possible more k r (rest_of new n.node.new) n.node.held.items)
+              way = subst (λ (r : Runs). IsWayTo old new names possible more k r (rest_of new n.node.new) n.node.held)
                   (sym (n.left_is ∙ c.first-old.ensures.whole))
-                  (subst (λ (r : Runs). IsWayTo old new names possible more k (runs_of old) r n.node.held.items) (sym (n.right_is ∙ c.first-new.ensures.whole))
-                  (subst (λ (l : List HeldAnswer). IsWayTo old new names possible more k (runs_of old) (runs_of new) l) (sym (n.held_is ∙ c.new.ensures.items))
+                  (subst (λ (r : Runs). IsWayTo old new names possible more k (runs_of old) r n.node.held) (sym (n.right_is ∙ c.first-new.ensures.whole))
+                  (subst (λ (l : List HeldAnswer). IsWayTo old new names possible more k (runs_of old) (runs_of new) l) (sym (n.held_is ∙ none))
                   (subst (λ (m : ℕ). IsWayTo old new names possible more m (runs_of old) (runs_of new) []) (sym (n.index ∙ start.none)) begun)));
             }
       ];

@@ -2,8 +2,9 @@ use Rattle.std.proofs.Common.{◌∙◌, ℕ, Option, ap, inl, inr, subst, sym}
 use Rattle.std.specs.Prelude.{slice_get}
 use Rattle.pam_compare.specs.declared.change.Change.{Change}
 use Rattle.pam_compare.specs.declared.situation.Situation.{Situation}
+use Rattle.pam_compare.specs.HeldLists.{IsListed}
 use Rattle.pam_compare.specs.Naming.{by_name}
-use Rattle.pam_compare.specs.Nodes.{IsAt, IsDone, IsNoted}
+use Rattle.pam_compare.specs.Nodes.{IsAt, IsDone, IsNoted, list_of, stop_of}
 use Rattle.pam_compare.proofs.Growing.{at-kept, nodes-same, same-some}
 use Rattle.pam_compare.specs.Ways.{AreEnds}
 use Rattle.pam_compare.proofs.Reaching.{ends-kept, way-at}
@@ -36,8 +37,8 @@ returns-in_default-clause-visited c s at =
     let n = c.in_ok-node.ensures in
     let names = c.args.pair.now.naming.now.names.items in
     record {
-      node = c.in_ok-node.node;
-      is_at = subst (λ (x : Situation). IsAt c.args.nodes.now x c.in_ok-node.node) (same-some n.0 s (sym n.1 ∙ at)) n.2;
+      node = stop_of c.in_ok-node.node;
+      is_at = subst (λ (x : Situation). IsAt c.args.nodes.now x (stop_of c.in_ok-node.node)) (same-some n.0 s (sym n.1 ∙ at)) n.2;
       done = λ a can holds. inl (subst (λ (o : Option Change). IsNoted c.note.new.self o) (c.change_at.ensures a (by_name names a)) c.note.ensures.noted);
     }
 
@@ -47,8 +48,8 @@ returns-clause-visited c s at =
     let n = c.in_ok-node.ensures in
     let step = c.in_ok-expand.ensures in
     record {
-      node = c.in_ok-node.node;
-      is_at = at-kept _ _ s _ step.keeps (subst (λ (x : Situation). IsAt c.args.nodes.now x c.in_ok-node.node) (same-some n.0 s (sym n.1 ∙ at)) n.2);
+      node = stop_of c.in_ok-node.node;
+      is_at = at-kept _ _ s _ step.keeps (subst (λ (x : Situation). IsAt c.args.nodes.now x (stop_of c.in_ok-node.node)) (same-some n.0 s (sym n.1 ∙ at)) n.2);
       done = λ a can holds. inr (step.done a can holds);
     }
 
@@ -60,7 +61,7 @@ returns-in_default-clause-ends c change k is =
       | inl was ↦ c.requires.ends change k was
       | inr noted ↦ record {
         situation = n.0;
-        node = c.in_ok-node.node;
+        node = stop_of c.in_ok-node.node;
         is_there = ap (λ (m : ℕ). slice_get c.args.nodes.now.situations.keys m) noted.1 ∙ n.1;
         is_at = n.2;
         change_is = λ a b. sym (c.change_at.ensures a b) ∙ noted.0;
@@ -71,8 +72,13 @@ pub expand-requires-clause-way : goal.expand-requires-clause-way
 expand-requires-clause-way c =
     let n = c.in_ok-node.ensures in
     let naming = c.args.pair.now.naming.now in
-    way-at c.args.pair.now.old.now c.args.pair.now.new.now naming.names.items naming.possible.items c.args.nodes.now c.args.index n.0 c.in_ok-node.node
-    (c.requires.reached.reached c.args.index n.0 n.1) n.2
+    way-at c.args.pair.now.old.now c.args.pair.now.new.now naming.names.items naming.possible.items c.args.nodes.now c.args.index n.0
+    (stop_of c.in_ok-node.node) (c.requires.reached.reached c.args.index n.0 n.1) n.2
 
 pub returns-clause-ends : goal.returns-clause-ends
 returns-clause-ends c = ends-kept c.args.pair.now.old.now c.args.pair.now.new.now _ _ c.args.found.now c.in_ok-expand.ensures.keeps c.requires.ends
+
+pub expand-requires-clause-held : goal.expand-requires-clause-held
+expand-requires-clause-held c =
+    let n = c.in_ok-node.ensures in
+    subst (λ (o : Option Situation). IsListed c.args.nodes.now.held_lists.links.keys (list_of o) c.in_ok-node.node.held.items) (sym n.1) n.2.held

@@ -9,7 +9,7 @@ use Rattle.pam_compare.specs.Naming.{IsPossible}
 use Rattle.pam_compare.specs.Nodes.{IsMet}
 use Rattle.pam_compare.specs.Turn.{new_after, old_after, turn_name}
 use Rattle.pam_compare.proofs.Fewer.{fewer-left}
-use Rattle.pam_compare.proofs.Growing.{longer, met-kept, nodes-both, nodes-same}
+use Rattle.pam_compare.proofs.Growing.{held-kept, longer, met-kept, nodes-both, nodes-same}
 use Rattle.pam_compare.proofs.Holding.{taken-out, where-low, where-passes}
 use Rattle.pam_compare.proofs.Possible.{in-common}
 use Rattle.pam_compare.proofs.Reaching.{way-kept}
@@ -29,6 +29,9 @@ follow-requires-clause-within c = longer _ _ c.args.fork.now.index c.loop-code.i
 
 pub follow-requires-clause-way : goal.follow-requires-clause-way
 follow-requires-clause-way c = way-kept _ _ _ _ _ _ _ _ _ _ c.loop-code.invariant.keeps.ways c.requires.way
+
+pub follow-requires-clause-held : goal.follow-requires-clause-held
+follow-requires-clause-held c = held-kept _ _ c.args.fork.now.index _ c.loop-code.invariant.keeps c.requires.within c.requires.held
 
 pub follow-requires-clause-step : goal.follow-requires-clause-step
 follow-requires-clause-step c =

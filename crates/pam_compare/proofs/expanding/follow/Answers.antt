@@ -5,7 +5,7 @@ use Rattle.pam_dispatch.specs.Flat.{modules_of, rest_of}
 use Rattle.pam_dispatch.specs.Runs.{Runs, asked_module}
 use Rattle.pam_compare.specs.declared.held.HeldAnswer.{HeldAnswer}
 use Rattle.pam_compare.specs.declared.nodes.Way.{Way}
-use Rattle.pam_compare.specs.Held.{Holds}
+use Rattle.pam_compare.specs.Held.{Holds, held_in}
 use Rattle.pam_compare.specs.Nodes.{IsMet}
 use Rattle.pam_compare.specs.Trails.{IsHeldAfter}
 use Rattle.pam_compare.specs.Turn.{new_after, old_after, turn_name}
@@ -26,24 +26,24 @@ returns-clause-reached c =
     let left = rest_of old node.old in
     let right = rest_of new node.new in
     let way = c.args.way in
-    let after = c.in_ok-held.held.items in
+    let after = held_in c.in_ok-after.after node.held.items in
     let answer : HeldAnswer = record { name = way.name; codes = way.class } in
     let ways = c.args.nodes.now.ways.items in
     let more = c.add.new.self.ways.items in
     let step = c.in_ok-add.ensures in
     let places = c.places_after.ensures in
     let Told : ℕ → List HeldAnswer → Option ℕ → Option ℕ → Type 0 = λ count held x y.
-    IsHeldAfter possible names count (modules_of new) held after answer x y in
+    IsHeldAfter possible names count (modules_of new) held (held_in c.in_ok-after.after held) answer x y in
     let told =
     subst (λ (x : Option ℕ). Told (modules_of old) node.held.items (asked_module (old_after turn left way.code)) x)
     (c.module-2.ensures new places.new ∙ ap asked_module places.right)
     (subst (λ (x : Option ℕ). Told (modules_of old) node.held.items x c.module-2.result) (c.module.ensures old places.old ∙ ap asked_module places.left)
     (subst (λ (l : List HeldAnswer). Told (modules_of old) l c.module.result c.module-2.result) c.deref.ensures.value
     (subst (λ (n : ℕ). Told n c.deref.result.now c.module.result c.module-2.result) c.requires.naming.old_modules
-    (c.in_ok-held.ensures.told (modules_of new) c.requires.naming.names c.requires.naming.last)))) in
+    (c.in_ok-after.ensures.told (modules_of new) c.requires.naming.names c.requires.naming.last)))) in
     record {
       count = step.count c.requires.reached.count;
-      reached = λ k s at. elim (step.added old new c.requires.nodes k s at) [
+      reached = λ k s at. elim (step.added old new node.held.items c.requires.nodes c.requires.held k s at) [
         | inl was ↦ reached-kept old new names possible _ _ k s step.keeps (c.requires.reached.reached k s was)
         | inr n ↦
             let there : slice_get more k ≡ Some way =
@@ -51,12 +51,13 @@ returns-clause-reached c =
             ∙ at-end ways way in
             let longer = way-longer old new names possible ways more left right node.held.items after turn way k answer c.requires.way c.requires.step
             c.requires.naming.low c.requires.naming.possible step.keeps.ways there (omega (arith, n.index, c.requires.within)) refl refl told
-            (λ a h member. c.in_ok-held.ensures.holds a (subst (Holds a) (sym c.deref.ensures.value) h) member) in
+            (λ a h member. subst (λ (l : List HeldAnswer). Holds a (held_in c.in_ok-after.after l)) c.deref.ensures.value
+            (c.in_ok-after.ensures.holds a (subst (Holds a) (sym c.deref.ensures.value) h) member)) in
             record {
               node = n.node;
               is_at = n.is_at;
-              way = subst (λ (r : Runs). IsWayTo old new names possible more k r (rest_of new n.node.new) n.node.held.items) (sym (n.left_is ∙ places.left))
-                  (subst (λ (r : Runs). IsWayTo old new names possible more k (old_after turn left way.code) r n.node.held.items)
+              way = subst (λ (r : Runs). IsWayTo old new names possible more k r (rest_of new n.node.new) n.node.held) (sym (n.left_is ∙ places.left))
+                  (subst (λ (r : Runs). IsWayTo old new names possible more k (old_after turn left way.code) r n.node.held)
                   (sym (n.right_is ∙ places.right))
                   (subst (λ (l : List HeldAnswer). IsWayTo old new names possible more k (old_after turn left way.code) (new_after turn right way.code) l)
                   (sym n.held_is) longer));
@@ -71,8 +72,9 @@ returns-clause-met c a low holds member =
     let code = a (turn_name c.args.pair.now.naming.now.names.items c.args.fork.now.turn) in
     let alike = c.requires.step.alike code member in
     let named = subst (λ (n : ℕ). is_in (a n) c.args.way.class ≡ true) (sym c.requires.step.name) member in
-    let held = c.in_ok-held.ensures.holds a (subst (Holds a) (sym c.deref.ensures.value) holds) named in
-    let met = c.in_ok-add.ensures.met old new a c.requires.nodes low held in
+    let held = subst (λ (l : List HeldAnswer). Holds a (held_in c.in_ok-after.after l)) c.deref.ensures.value
+    (c.in_ok-after.ensures.holds a (subst (Holds a) (sym c.deref.ensures.value) holds) named) in
+    let met = c.in_ok-add.ensures.met old new _ a c.requires.nodes c.requires.held low held in
     subst (λ (r : Runs). IsMet old new c.add.new.self a r (new_after c.args.fork.now.turn (rest_of new c.args.fork.now.node.now.new) code))
     (c.places_after.ensures.left ∙ alike.0)
     (subst (λ (r : Runs). IsMet old new c.add.new.self a (rest_of old c.places_after.result.0) r) (c.places_after.ensures.right ∙ alike.1) met)

@@ -1,13 +1,13 @@
-use Rattle.std.proofs.Common.{◌≡◌, ◌⊎◌, ◌<◌, ◌∙◌, ℕ, Bool, [], true, false, Some, ap, arith, inl, inr, length, refl, subst, sym}
+use Rattle.std.proofs.Common.{◌≡◌, ◌⊎◌, ◌<◌, ◌∙◌, ℕ, Bool, [], true, false, Some, ap, arith, drop, inl, inr, length, refl, subst, sym}
 use Rattle.std.specs.Prelude.{slice_get}
 use Rattle.std.proofs.lemmas.Bool.{cases_lt}
-use Rattle.std.proofs.lemmas.Option.{slice_get-get_or, slice_get_within}
+use Rattle.std.proofs.lemmas.Option.{slice_get-get_or}
 use Rattle.pam_codes.specs.Set.{is_in}
 use Rattle.pam_compare.specs.declared.held.HeldAnswer.{HeldAnswer}
 use Rattle.pam_compare.specs.Held.{Holds}
 use Rattle.pam_compare.specs.Trails.{IsPast, IsSettled}
-use Rattle.pam_compare.proofs.Growing.{kept}
-use Rattle.pam_compare.proofs.Holding.{holds-at, holds-equal, some-held}
+use Rattle.pam_compare.proofs.Growing.{append-left, kept, there-after, there-dropped}
+use Rattle.pam_compare.proofs.Holding.{holds-append, holds-at, holds-drop, holds-equal, some-held}
 use Rattle.pam_compare.proofs.held.held_after.Goals as goal
 
 pub loop-index-init : goal.loop-index-init
@@ -18,11 +18,11 @@ loop-index-init c =
     let possible = c.args.naming.now.possible.items in
     let count = c.args.naming.now.old_modules in
     record {
-      holds = λ a h new. first.holds a (holds-equal a [] _ (sym c.in_ok-after.ensures) tt) new;
+      holds = λ a h new. first.holds a (holds-equal a [] _ (sym c.in_ok-latest.ensures) tt) new;
       adds = λ modules names_count last. elim c.is_needed-is_needed.result as (λ (b : Bool).
           c.is_needed-is_needed.result ≡ b →
           ((m : ℕ) × (slice_get c.push_if.new.held.items m ≡ Some c.args.answer))
-          ⊎ IsSettled possible names count modules c.args.answer.name c.args.answer.codes c.args.old c.args.new) [
+          ⊎ IsSettled possible names count modules c.args.answer.name c.args.answer.codes c.args.step.old c.args.step.new) [
             | true ↦ λ yes. inl (first.pushed yes)
             | false ↦ λ out. inr (c.is_needed-is_needed.ensures modules names_count last out)
           ] refl;
@@ -49,7 +49,7 @@ loop-index-preserved c =
       ];
       keeps = λ modules names_count last i h below at other.
           let Kept : HeldAnswer → Type 0 = λ x.
-          ((m : ℕ) × (slice_get c.push_if-in-loop-index.new.held.items m ≡ Some x)) ⊎ IsPast names count modules x.name c.args.old c.args.new in
+          ((m : ℕ) × (slice_get c.push_if-in-loop-index.new.held.items m ≡ Some x)) ⊎ IsPast names count modules x.name c.args.step.old c.args.step.new in
           elim (cases_lt i k) [
             | inl before ↦ elim (inv.keeps modules names_count last i h before at other) [
               | inl m ↦ inl (m.0, kept _ _ m.0 h step.keeps m.1)
@@ -70,12 +70,28 @@ loop-index-preserved c =
     }
 
 pub returns-clause-holds : goal.returns-clause-holds
-returns-clause-holds c a h new = c.loop-index.invariant.holds a h new
+returns-clause-holds c a h new =
+    holds-append a c.loop-index.latest.items _ (c.loop-index.invariant.holds a h new) (holds-drop a c.args.held.now c.kept_from-start.result h)
 
 pub returns-clause-told : goal.returns-clause-told
-returns-clause-told c modules count last = record {
-  keeps = λ i h at other.
-      let below = slice_get_within c.args.held.now i h at in
-      c.loop-index.invariant.keeps modules count last i h (omega (arith, below)) at other;
-  adds = c.loop-index.invariant.adds modules count last;
-}
+returns-clause-told c modules count last =
+    let inv = c.loop-index.invariant in
+    let held = c.args.held.now in
+    let start = c.kept_from-start.result in
+    let latest = c.loop-index.latest.items in
+    let kept_end = drop start held in
+    record {
+      keeps = λ i h at other. elim (cases_lt i start) [
+        | inl early ↦ elim (inv.keeps modules count last i h (omega (arith, early)) at other) [
+          | inl m ↦ inl (m.0, append-left latest kept_end m.0 h m.1)
+          | inr past ↦ inr past
+        ]
+        | inr late ↦
+            let there = there-dropped held start i h (omega arith) at in
+            inl (there-after latest kept_end there.0 h there.1)
+      ];
+      adds = elim (inv.adds modules count last) [
+        | inl m ↦ inl (m.0, append-left latest kept_end m.0 c.args.answer m.1)
+        | inr settled ↦ inr settled
+      ];
+    }

@@ -10,11 +10,11 @@ use Rattle.pam_compare.proofs.held.held_after.Given as goal
 
 abbrev pub invariant-loop-index : goal.invariant-loop-index
 invariant-loop-index l = record {
-  holds : (a : Assignment) → Holds a l.held → IsTrue (is_in (a l.fn.answer.name) l.fn.answer.codes) → Holds a l.after.items;
+  holds : (a : Assignment) → Holds a l.held → IsTrue (is_in (a l.fn.answer.name) l.fn.answer.codes) → Holds a l.latest.items;
   adds : (modules : ℕ) → length l.naming.names.items ≡ modules + 1 → AreLast l.naming.names.items l.naming.last.items →
-      ((k : ℕ) × (slice_get l.after.items k ≡ Some l.fn.answer))
-      ⊎ IsSettled l.naming.possible.items l.naming.names.items l.naming.old_modules modules l.fn.answer.name l.fn.answer.codes l.old l.new;
+      ((k : ℕ) × (slice_get l.latest.items k ≡ Some l.fn.answer))
+      ⊎ IsSettled l.naming.possible.items l.naming.names.items l.naming.old_modules modules l.fn.answer.name l.fn.answer.codes l.step.old l.step.new;
   keeps : (modules : ℕ) → length l.naming.names.items ≡ modules + 1 → AreLast l.naming.names.items l.naming.last.items →
       (i : ℕ) (h : HeldAnswer) → i < l.index → slice_get l.held i ≡ Some h → h.name ≢ l.fn.answer.name →
-      ((k : ℕ) × (slice_get l.after.items k ≡ Some h)) ⊎ IsPast l.naming.names.items l.naming.old_modules modules h.name l.old l.new;
+      ((k : ℕ) × (slice_get l.latest.items k ≡ Some h)) ⊎ IsPast l.naming.names.items l.naming.old_modules modules h.name l.step.old l.step.new;
 }

@@ -12,7 +12,7 @@ pub loop-at-init : goal.loop-at-init
 loop-at-init c = record {
   rest = c.requires.0;
   is_rest = c.requires.1;
-  whole = subst (λ (l : List HeldAnswer). IsListed c.args.self.now.links.keys c.args.number (l ++ c.requires.0)) (sym c.new-held.ensures.items) c.requires.1;
+  whole = subst (λ (l : List HeldAnswer). IsListed c.args.self.now.links.keys c.args.number (l ++ c.requires.0)) (sym c.in_ok-held.ensures) c.requires.1;
 }
 
 pub last-link-requires-clause-within : goal.last-link-requires-clause-within
