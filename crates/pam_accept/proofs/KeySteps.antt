@@ -7,7 +7,8 @@ use Rattle.std.proofs.lemmas.Slice.Eq.{bytes_eq-Decides}
 use Rattle.std.specs.List.{join_with_byte, list_any}
 use Rattle.std.specs.Str.{bytes_eq}
 use Rattle.indexmap.specs.IndexSet.{insert_key}
-use Rattle.pam_accept.specs.Views.{HasKeys, line_view}
+use Rattle.pam_accept.specs.Views.{line_view}
+use Rattle.pam_accept.specs.inner.Views.{HasKeys}
 use Rattle.pam_accept.specs.declared.lines.AcceptLine.{AcceptLine}
 use Rattle.pam_accept.proofs.WordSteps.{texts}
 

@@ -14,7 +14,8 @@ use Rattle.pam_text.specs.declared.source.SourceFault.{SourceFault}
 use Rattle.pam_text.specs.declared.source.SourceFault.TheVariants as source
 use Rattle.pam_accept.specs.Error.{TellsFault, bad_line, no_memory, source_error}
 use Rattle.pam_accept.specs.Keys.{is_finding}
-use Rattle.pam_accept.specs.Lines.{Accepted, AddsLine, accepted_lines, before_lines, lines_from, physical_lines, onto_accepted, onto_lines}
+use Rattle.pam_accept.specs.Lines.{Accepted, accepted_lines, lines_from, physical_lines, onto_accepted, onto_lines}
+use Rattle.pam_accept.specs.inner.Lines.{AddsLine, before_lines}
 use Rattle.pam_accept.specs.Words.{words_of}
 use Rattle.pam_accept.proofs.WordSteps.{texts}
 use Rattle.pam_accept.specs.declared.error.AcceptError.{AcceptError}

@@ -3,3 +3,4 @@ pub mod Keys
 pub mod Lines
 pub mod Views
 pub mod Words
+pub mod inner

@@ -1,9 +1,9 @@
 -- The lines of an accept file.
-use Rattle.std.specs.Prelude.{◌≡◌, ℕ, ◌+◌, ◌==◌, List, [], ◌∷◌, ◌++◌, Result, Ok, Err, MatchResult, if◌then◌else◌}
+use Rattle.std.specs.Prelude.{ℕ, ◌+◌, ◌==◌, List, [], ◌∷◌, Result, Ok, Err, if◌then◌else◌}
 use Rattle.std.specs.List.{join_with_byte, slice_split}
 use Rattle.std.specs.Option.{option_map_or}
 use Rattle.pam_text.specs.Source.{source_fault}
-use Rattle.pam_accept.specs.Error.{TellsFault, bad_line, source_error}
+use Rattle.pam_accept.specs.Error.{bad_line, source_error}
 use Rattle.pam_accept.specs.Keys.{is_finding}
 use Rattle.pam_accept.specs.Words.{words_of}
 use Rattle.pam_accept.specs.declared.error.AcceptError.{AcceptError}
@@ -35,15 +35,3 @@ physical_lines bytes = slice_split (λ b. b == 10) bytes
 unfoldable pub accepted_lines : List ℕ → Result (List Accepted) AcceptError
 accepted_lines bytes =
     option_map_or (λ fault. Err (source_error fault)) (source_fault bytes) (lines_from 1 (physical_lines bytes))
-
--- for private contracts and proofs alone: lines that are read, and those that are left
-abbrev pub before_lines : List Accepted → Result (List Accepted) AcceptError → Result (List Accepted) AcceptError
-before_lines lines (Ok others) = Ok (lines ++ others)
-before_lines lines (Err e) = Err e
-
--- for private contracts and proofs alone: a line is read, or its fault stands before those of all others
-abbrev pub AddsLine : ℕ → List ℕ → List Accepted → List Accepted → Result (Unit {0}) AcceptError → Type 0
-AddsLine number line old new result =
-    (others : Result (List Accepted) AcceptError) → MatchResult result
-    (λ _. before_lines new others ≡ before_lines old (onto_lines number (words_of line) others))
-    (λ e. TellsFault e.fault e (before_lines old (onto_lines number (words_of line) others)))

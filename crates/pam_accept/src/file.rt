@@ -5,7 +5,8 @@ ghost use Rattle.std.specs.List.{list_any};
 ghost use Rattle.std.specs.Str.{bytes_eq};
 ghost use Rattle.pam_accept.specs.Error.{Gives};
 ghost use Rattle.pam_accept.specs.Lines.{accepted_lines};
-ghost use Rattle.pam_accept.specs.Views.{HasKeys, line_view};
+ghost use Rattle.pam_accept.specs.Views.{line_view};
+ghost use Rattle.pam_accept.specs.inner.Views.{HasKeys};
 
 use crate::error::AcceptError;
 use crate::lines::{AcceptLine, read_lines};
@@ -27,7 +28,8 @@ pub struct AcceptFile {
 
 impl Model for AcceptFile {
     ghost use Rattle.std.specs.Prelude.{ℕ, List, map};
-    ghost use Rattle.pam_accept.specs.Views.{HasKeys, line_view};
+    ghost use Rattle.pam_accept.specs.Views.{line_view};
+    ghost use Rattle.pam_accept.specs.inner.Views.{HasKeys};
 
     ghost Value = { List (ℕ × List ℕ) };
 

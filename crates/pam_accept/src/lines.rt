@@ -2,7 +2,8 @@
 
 ghost use Rattle.std.specs.Prelude.{◌≡◌, MatchResult, map};
 ghost use Rattle.pam_accept.specs.Error.{Gives};
-ghost use Rattle.pam_accept.specs.Lines.{AddsLine, accepted_lines, lines_from, physical_lines};
+ghost use Rattle.pam_accept.specs.Lines.{accepted_lines, lines_from, physical_lines};
+ghost use Rattle.pam_accept.specs.inner.Lines.{AddsLine};
 ghost use Rattle.pam_accept.specs.Views.{line_view};
 
 use crate::error::{AcceptError, AcceptFault};

@@ -14,7 +14,7 @@ use Rattle.pam_conf.specs.Survey.{SurveyText, surveyed}
 use Rattle.pam_conf.specs.declared.conf_error.ConfError.{ConfError}
 use Rattle.pam_conf.specs.declared.rule.Kind.{Kind}
 use Rattle.pam_changes.specs.Changes.{AreChanges, AreEqual, IsChange, IsOfPair, IsStack, fault_in, kinds_asked, stacks_asked}
-use Rattle.pam_changes.specs.Finding.{AddsPairs, HasItemsAt, IsFound, KeepsPairs, asked_of}
+use Rattle.pam_changes.specs.inner.Finding.{AddsPairs, HasItemsAt, IsFound, KeepsPairs, asked_of}
 use Rattle.pam_changes.specs.Pairs.{IsPair}
 use Rattle.pam_changes.specs.Same.{same_items}
 use Rattle.pam_changes.specs.Services.{ServiceText, compared_names, compared_services, presence_in, service_text, services_of}

@@ -4,13 +4,11 @@ use Rattle.std.specs.List.{range_with_len}
 use Rattle.std.specs.Option.{option_map_or, option_or}
 use Rattle.std.specs.Str.{bytes_eq}
 use Rattle.pam_codes.specs.Code.{all_codes}
-use Rattle.pam_codes.specs.Set.{is_in}
 use Rattle.pam_compare.specs.Matching.{partner_of}
 use Rattle.pam_conf.specs.Stack.{Items, ModuleText, module_at, module_count}
 use Rattle.pam_conf.specs.declared.rule.Kind.{Kind}
 use Rattle.pam_facts.specs.Answers.{free_answers, is_there}
 use Rattle.pam_known.specs.Answers.{name_of_path}
-use Rattle.pam_paths.specs.Listing.{Allowance}
 use Rattle.pam_settings.specs.Settings.{SettingText}
 use Rattle.pam_tables.specs.Returns.{ReturnLine, codes_for}
 use Rattle.pam_changes.specs.Sides.{SideText, SidesText}
@@ -45,10 +43,6 @@ told_at returns settings there items number = option_map_or (codes_told returns 
 unfoldable pub known_codes : SidesText → SideText → Kind → Items → ℕ → List ℕ
 known_codes sides side kind items number =
     unwrap_or (told_at sides.returns sides.settings side.there items number) (free_answers kind sides.facts side.there items number)
-
--- the knowledge that allows each module these codes
-abbrev pub known_by : SidesText → SideText → Kind → Items → Allowance
-known_by sides side kind items number code = is_in code (known_codes sides side kind items number)
 
 -- a module is there in both configurations, or in neither
 abbrev pub is_alike : SidesText → ModuleText → Bool

@@ -1,6 +1,5 @@
 pub mod Changes
 pub mod Counts
-pub mod Finding
 pub mod Known
 pub mod Laws
 pub mod Modules
@@ -9,3 +8,4 @@ pub mod Same
 pub mod Services
 pub mod Sides
 pub mod Steps
+pub mod inner

@@ -2,7 +2,7 @@
 
 ghost use Rattle.std.specs.Prelude.{◌≡◌, ◌<◌, IfOk, Some, length, map, slice_get};
 ghost use Rattle.pam_changes.specs.Changes.{AreChanges, stacks_asked};
-ghost use Rattle.pam_changes.specs.Finding.{IsFound};
+ghost use Rattle.pam_changes.specs.inner.Finding.{IsFound};
 ghost use Rattle.pam_changes.specs.Services.{service_text};
 ghost use Rattle.pam_changes.specs.Sides.{sides_view};
 

@@ -5,7 +5,7 @@ ghost use Rattle.pam_conf.specs.Resolution.{resolved};
 ghost use Rattle.pam_conf.specs.Stack.{Items};
 ghost use Rattle.pam_conf.specs.declared.conf_error.ConfError.{ConfError as ConfErrorText};
 ghost use Rattle.pam_changes.specs.Changes.{HasItems, IsChange, fault_in, kinds_asked, no_service};
-ghost use Rattle.pam_changes.specs.Finding.{AddsPairs, HasItemsAt, IsFound};
+ghost use Rattle.pam_changes.specs.inner.Finding.{AddsPairs, HasItemsAt, IsFound};
 ghost use Rattle.pam_changes.specs.Sides.{SidesText, sides_view};
 ghost use Rattle.pam_changes.specs.declared.pair.StackPair.{StackPair as PairText};
 ghost use Rattle.pam_conf.specs.declared.rule.Kind.{Kind as KindText};

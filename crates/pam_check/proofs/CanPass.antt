@@ -12,7 +12,7 @@ use Rattle.pam_codes.specs.Set.{is_in}
 use Rattle.pam_dispatch.specs.State.{action_of}
 use Rattle.pam_paths.proofs.Alike.{Member-codes}
 use Rattle.pam_check.specs.Asked.{is_past_end}
-use Rattle.pam_check.specs.PastEnd.{can_pass}
+use Rattle.pam_check.specs.inner.PastEnd.{can_pass}
 use Rattle.pam_check.proofs.WaysIn.{passing-any}
 
 abbrev pub passes-at : List Action → List ℕ → ℕ → ℕ → Bool

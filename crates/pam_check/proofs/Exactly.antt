@@ -8,7 +8,7 @@ use Rattle.pam_dispatch.specs.Tree.{count}
 use Rattle.pam_paths.specs.Classes.{Member}
 use Rattle.pam_check.specs.Asked.{RiseAbove}
 use Rattle.pam_check.specs.Laws.{RisingListsAreOne}
-use Rattle.pam_check.specs.PastEnd.{numbers_where}
+use Rattle.pam_check.specs.inner.PastEnd.{numbers_where}
 use Rattle.pam_check.proofs.Placed.{placed-range, where-passing}
 
 rise-lower : (low above : ℕ) (numbers : List ℕ) → low ≤ above → RiseAbove above numbers → RiseAbove low numbers

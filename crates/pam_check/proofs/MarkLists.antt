@@ -4,7 +4,7 @@ use Rattle.std.proofs.Common.{inl, inr, get_or, slice_set, replicate}
 use Rattle.std.proofs.lemmas.Bool.{cases_eq, eq-eqb, ne_eqb}
 use Rattle.std.proofs.lemmas.List.{get_or-set_same, get_or-set_other}
 use Rattle.pam_graph.specs.declared.node.Node.{Node}
-use Rattle.pam_check.specs.Marks.{has_number, mark_of}
+use Rattle.pam_check.specs.inner.Marks.{has_number, mark_of}
 
 or-false : (a : Bool) → (a || false) ≡ a
 or-false true = refl

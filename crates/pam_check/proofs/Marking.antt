@@ -12,7 +12,7 @@ use Rattle.pam_graph.specs.Walks.{walks_of, walks_to}
 use Rattle.pam_paths.specs.Listing.{Allowance, IsLawful, IsListing}
 use Rattle.pam_paths.specs.Paths.{path_through}
 use Rattle.pam_paths.proofs.Listings.{some_assignment}
-use Rattle.pam_check.specs.Marks.{IsProgramOf, SaysAsked, has_number}
+use Rattle.pam_check.specs.inner.Marks.{IsProgramOf, SaysAsked, has_number}
 use Rattle.pam_check.proofs.Reaching.{node-asked}
 use Rattle.pam_check.proofs.Walking.{asked-has}
 

@@ -5,15 +5,15 @@ use Rattle.std.specs.List.{range_with_len}
 use Rattle.pam_codes.specs.Code.{all_codes}
 use Rattle.pam_codes.specs.declared.action.Action.{Action}
 use Rattle.pam_codes.specs.Set.{codes_where, is_in}
-use Rattle.pam_codes.specs.SetBits.{is_in-codes_where}
+use Rattle.pam_codes.specs.inner.SetBits.{is_in-codes_where}
 use Rattle.pam_conf.specs.Stack.{Items, IsNumbered, IsNumberedFrom, ModuleText, module_count}
 use Rattle.pam_dispatch.specs.State.{action_of, start_state}
 use Rattle.pam_paths.specs.Classes.{Member}
 use Rattle.pam_paths.specs.Listing.{Allowance, IsLawful}
 use Rattle.pam_paths.proofs.Alike.{Member-codes, Member-codes_back, Member-filter, Member-filter_back}
 use Rattle.pam_check.specs.Asked.{AreExactly, Asks, IsNeverAsked, JumpsPastEnd, is_past_end}
-use Rattle.pam_check.specs.Marks.{AreMarks, SaysAsked, mark_of}
-use Rattle.pam_check.specs.PastEnd.{can_pass, numbers_where, passes}
+use Rattle.pam_check.specs.inner.Marks.{AreMarks, SaysAsked, mark_of}
+use Rattle.pam_check.specs.inner.PastEnd.{can_pass, numbers_where, passes}
 use Rattle.pam_check.proofs.Exactly.{range-rises, where-rises}
 use Rattle.pam_check.proofs.Placed.{Passing, asked-placed, passing-where, placed-one, placed-range, where-passing}
 use Rattle.pam_check.proofs.WaysIn.{passing-any, some-passing}

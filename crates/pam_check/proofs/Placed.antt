@@ -9,7 +9,7 @@ use Rattle.pam_dispatch.specs.Runs.{Ask, Assignment, outcome_of}
 use Rattle.pam_dispatch.specs.Tree.{ask_of, asked_after, count, run_after}
 use Rattle.pam_paths.specs.Classes.{Member}
 use Rattle.pam_paths.proofs.Listings.{Member-cases, Member-left, Member-right}
-use Rattle.pam_check.specs.PastEnd.{IsPlaced, numbers_where}
+use Rattle.pam_check.specs.inner.PastEnd.{IsPlaced, numbers_where}
 
 number-same : (m other : ModuleText) → m ≡ other → m.number ≡ other.number
 number-same m other e = ap (λ (x : ModuleText). x.number) e

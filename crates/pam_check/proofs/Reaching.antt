@@ -19,7 +19,7 @@ use Rattle.pam_paths.specs.Classes.{Member}
 use Rattle.pam_paths.specs.Listing.{Allowance, IsAllowed}
 use Rattle.pam_paths.specs.Paths.{PathValue}
 use Rattle.pam_paths.proofs.Listings.{with_answer, with_answer-at, with_answer-other}
-use Rattle.pam_check.specs.Marks.{AsksWith, IsProgramOf, has_number}
+use Rattle.pam_check.specs.inner.Marks.{AsksWith, IsProgramOf, has_number}
 
 -- an allowed answer in place of another
 changed-allowed : (allows : Allowance) (n m code : ℕ) (answers : Assignment) → IsAllowed allows n answers → code < 31 → allows m code ≡ true →

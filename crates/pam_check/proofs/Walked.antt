@@ -8,7 +8,7 @@ use Rattle.pam_conf.specs.Stack.{Items, ModuleText, SubList}
 use Rattle.pam_conf.specs.ItemsOf.{items_of, module_text}
 use Rattle.pam_conf.proofs.StackTree.{items_of-drop_module, items_of-drop_sub}
 use Rattle.pam_dispatch.specs.Tree.{count}
-use Rattle.pam_check.specs.PastEnd.{numbers_where}
+use Rattle.pam_check.specs.inner.PastEnd.{numbers_where}
 
 count-items_of : (items : List Item) → count (items_of items) ≡ length items
 unfolding count

@@ -17,7 +17,7 @@ use Rattle.pam_paths.specs.Listing.{Allowance, IsListing}
 use Rattle.pam_paths.specs.Paths.{PathValue, StepValue, path_through, step_by}
 use Rattle.pam_paths.proofs.Listings.{Member-cases, Member-map, Member-map_back}
 use Rattle.pam_check.specs.Asked.{Asks}
-use Rattle.pam_check.specs.Marks.{has_number}
+use Rattle.pam_check.specs.inner.Marks.{has_number}
 
 module _ (Holds : ℕ → Type 0) where
   -- each step of the walks asks a module of which it holds

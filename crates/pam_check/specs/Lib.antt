@@ -1,5 +1,4 @@
 pub mod Asked
 pub mod Laws
-pub mod Marks
-pub mod PastEnd
 pub mod Soundness
+pub mod inner

@@ -9,7 +9,7 @@ ghost use Rattle.pam_graph.specs.declared.graph.TheConstants.{MAX_NODES};
 ghost use Rattle.pam_graph.specs.Order.{AreNodes};
 ghost use Rattle.pam_graph.specs.Reached.{IsReason};
 ghost use Rattle.pam_paths.specs.Known.{may_answer};
-ghost use Rattle.pam_check.specs.Marks.{AreMarks, IsProgramOf, has_number, mark_of};
+ghost use Rattle.pam_check.specs.inner.Marks.{AreMarks, IsProgramOf, has_number, mark_of};
 ghost use Rattle.pam_check.specs.Soundness.{SaysNobody};
 
 use crate::way_in::success;

@@ -5,8 +5,8 @@ ghost use Rattle.pam_conf.specs.ItemsOf.{items_of, module_text};
 ghost use Rattle.pam_graph.specs.declared.error.GraphError.TheVariants.{Memory};
 ghost use Rattle.pam_paths.specs.Known.{may_answer};
 ghost use Rattle.pam_check.specs.Asked.{AreExactly, JumpsPastEnd, is_past_end};
-ghost use Rattle.pam_check.specs.Marks.{AreMarks};
-ghost use Rattle.pam_check.specs.PastEnd.{can_pass, numbers_where, passes};
+ghost use Rattle.pam_check.specs.inner.Marks.{AreMarks};
+ghost use Rattle.pam_check.specs.inner.PastEnd.{can_pass, numbers_where, passes};
 
 use crate::asked::{Marks, is_marked};
 use pam_codes::{Action, CODES, Code, CodeSet, Control};

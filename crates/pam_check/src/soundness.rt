@@ -3,7 +3,7 @@
 ghost use Rattle.std.specs.Prelude.{IfErr, IfOk};
 ghost use Rattle.pam_paths.specs.Known.{may_answer};
 ghost use Rattle.pam_check.specs.Asked.{AreExactly, IsNeverAsked, JumpsPastEnd};
-ghost use Rattle.pam_check.specs.Marks.{AreMarks};
+ghost use Rattle.pam_check.specs.inner.Marks.{AreMarks};
 ghost use Rattle.pam_check.specs.Soundness.{IsReasonFor, SaysNobody, SaysWayIn};
 
 use crate::asked::{Reached, unmarked};

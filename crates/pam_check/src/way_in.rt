@@ -7,7 +7,7 @@ ghost use Rattle.pam_graph.specs.declared.goal.Goal.TheVariants.{Decides};
 ghost use Rattle.pam_graph.specs.declared.graph.TheConstants.{MAX_NODES};
 ghost use Rattle.pam_graph.specs.Reached.{IsReason};
 ghost use Rattle.pam_paths.specs.Known.{may_answer};
-ghost use Rattle.pam_check.specs.Marks.{IsProgramOf};
+ghost use Rattle.pam_check.specs.inner.Marks.{IsProgramOf};
 ghost use Rattle.pam_check.specs.Soundness.{SaysWayIn};
 
 use pam_codes::{Code, CodeSet};

@@ -6,7 +6,8 @@ use Rattle.std.specs.List.{list_any}
 use Rattle.std.specs.Str.{bytes_eq}
 use Rattle.indexmap.specs.IndexSet.{insert_key}
 use Rattle.pam_conf.specs.Files.{Folder, Named, put_file}
-use Rattle.pam_cli.specs.Sources.{AddsFile, AddsFiles, HasNames, IsThen, is_given, path_in}
+use Rattle.pam_cli.specs.Sources.{IsThen, is_given, path_in}
+use Rattle.pam_cli.specs.inner.Sources.{AddsFile, AddsFiles, HasNames}
 use Rattle.pam_cli.specs.declared.reading.sources.SourceFiles.{SourceFiles}
 
 any-map : {A : Type 0} (text : A → List ℕ) (name : List ℕ) (xs : List A) → list_any (λ x. bytes_eq name (text x)) xs ≡ list_any (bytes_eq name) (map text xs)

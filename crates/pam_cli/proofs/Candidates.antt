@@ -8,7 +8,8 @@ use Rattle.std.proofs.lemmas.List.Elements.{filter-append}
 use Rattle.std.proofs.lemmas.Slice.Eq.{bytes_eq-Decides}
 use Rattle.std.specs.List.{filter, list_any}
 use Rattle.std.specs.Str.{bytes_eq}
-use Rattle.pam_cli.specs.Sources.{AddsCandidate, AddsFile, HasCandidates, HasNames, firsts_of, is_given}
+use Rattle.pam_cli.specs.Sources.{firsts_of, is_given}
+use Rattle.pam_cli.specs.inner.Sources.{AddsCandidate, AddsFile, HasCandidates, HasNames}
 use Rattle.pam_cli.specs.declared.reading.sources.SourceFiles.{SourceFiles}
 use Rattle.pam_cli.proofs.Added.{among_names}
 

@@ -1,3 +1,4 @@
 pub mod Reading
 pub mod Run
 pub mod Sources
+pub mod inner

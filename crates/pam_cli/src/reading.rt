@@ -2,8 +2,9 @@
 
 ghost use Rattle.std.specs.Prelude.{◌≡◌, ◌⊎◌, ◌&&◌, IfErr, IfOk, MatchResult, is_some, map};
 ghost use Rattle.std.specs.Option.{option_copied};
-ghost use Rattle.pam_cli.specs.Reading.{IsAccessReading, IsCheckReading, IsGiven, IsGivenReading, IsKnowledgeReading, IsKnownReading, IsNamed};
-ghost use Rattle.pam_cli.specs.Reading.{has_user, IsCompareReading, IsOfSide, IsReading, IsSide};
+ghost use Rattle.pam_cli.specs.Reading.{IsNamed, has_user, IsReading, IsSide};
+ghost use Rattle.pam_cli.specs.inner.Reading.{IsAccessReading, IsCheckReading, IsGiven, IsGivenReading, IsKnowledgeReading, IsKnownReading};
+ghost use Rattle.pam_cli.specs.inner.Reading.{IsCompareReading, IsOfSide};
 ghost use Rattle.pam_cli.specs.Sources.{IsUnread};
 ghost use Rattle.pam_words.specs.Wanted.{candidate_view};
 

@@ -6,7 +6,8 @@ use Rattle.std.proofs.lemmas.Bool.{eqb-true, false≢true, lt-ltb}
 use Rattle.std.proofs.lemmas.List.{drop_all}
 use Rattle.std.proofs.Math.Seq.{drop-cons}
 use Rattle.memchr.specs.Find.{IsFirstByte, is_byte}
-use Rattle.pam_codes.specs.Control.{closing_at, escaped_at}
+use Rattle.pam_codes.specs.Control.{closing_at}
+use Rattle.pam_codes.specs.inner.Control.{escaped_at}
 
 drop_here : (text : List ℕ) (i : ℕ) → i < length text → drop i text ≡ get_or text i 0 ∷ drop (i + 1) text
 drop_here text i h = rw (add-one, drop-cons text i 0) refl

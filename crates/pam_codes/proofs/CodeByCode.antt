@@ -3,7 +3,7 @@ use Rattle.std.proofs.Common.{◌≡◌, ◌≢◌, ℕ, ◌+◌, ◌≤◌, ◌
 use Rattle.std.proofs.lemmas.Bool.{eq-eqb, ne_eqb, lt-ltb, le-ltb, cases_lt, cases_eq, and_from, or_left}
 use Rattle.pam_codes.specs.Code.{all_codes}
 use Rattle.pam_codes.specs.Set.{codes_where, is_in}
-use Rattle.pam_codes.specs.SetBits.{is_in-codes_where, codes_where-same}
+use Rattle.pam_codes.specs.inner.SetBits.{is_in-codes_where, codes_where-same}
 
 both_false : (x y : Bool) → (x && false) ≡ (y && false)
 both_false true true = refl

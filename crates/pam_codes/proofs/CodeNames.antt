@@ -8,7 +8,8 @@ use Rattle.std.proofs.lemmas.Bool.{eqb-false}
 use Rattle.std.proofs.lemmas.List.{length-map}
 use Rattle.std.proofs.lemmas.Slice.Eq.{bytes_eq-Decides}
 use Rattle.std.proofs.lemmas.Iterator.Adapters.{position_from-zero}
-use Rattle.pam_codes.specs.Code.{all_codes, code_names, has_len, same_name}
+use Rattle.pam_codes.specs.Code.{all_codes, code_names, same_name}
+use Rattle.pam_codes.specs.inner.Code.{has_len}
 use Rattle.pam_codes.specs.Set.{codes_where}
 use Rattle.pam_codes.proofs.CodeSets.{all_codes-within}
 

@@ -16,7 +16,8 @@ use Rattle.std.proofs.Math.Pow.{pow-lt}
 use Rattle.std.proofs.lemmas.Simd.{ones-mask_l}
 use Rattle.pam_codes.specs.Code.{all_codes}
 use Rattle.pam_codes.specs.Set.{codes_where, is_in, IsCodeSet}
-use Rattle.pam_codes.specs.SetBits.{codes_of_bits, bits_of_codes, bits_of_codes-codes_of_bits, is_in-codes_where, codes_where-same, eqb-other}
+use Rattle.pam_codes.specs.SetBits.{codes_of_bits}
+use Rattle.pam_codes.specs.inner.SetBits.{bits_of_codes, bits_of_codes-codes_of_bits, is_in-codes_where, codes_where-same, eqb-other}
 
 -- every bit below 31
 pub codes_of_bits-ones : codes_of_bits 2147483647 ≡ all_codes

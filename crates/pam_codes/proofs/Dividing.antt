@@ -14,7 +14,7 @@ use Rattle.pam_codes.specs.Action.{same_action}
 use Rattle.pam_codes.specs.Code.{all_codes}
 use Rattle.pam_codes.specs.Parts.{IsPart, IsParts, least_of}
 use Rattle.pam_codes.specs.Set.{codes_where, is_in, IsCodeSet}
-use Rattle.pam_codes.specs.SetBits.{is_in-codes_where}
+use Rattle.pam_codes.specs.inner.SetBits.{is_in-codes_where}
 use Rattle.pam_codes.proofs.CodeSets.{codes_where-is_set}
 use Rattle.pam_codes.proofs.Firsts.{FirstIn, first_at, first_of, none_first, past_codes}
 use Rattle.pam_codes.proofs.SameActions.{same_action-self, same_action-true}

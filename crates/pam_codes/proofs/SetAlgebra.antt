@@ -9,7 +9,8 @@ use Rattle.std.proofs.lemmas.Nat.{and_le_l, pow_below}
 use Rattle.std.proofs.lemmas.Nat.Bits.{bit_at-lt, bit_at-trailing_zeros, bit_at-zero, bit_at_above, bit_at_and, bit_at_or, bit_at_not, bit_at_ones}
 use Rattle.std.proofs.lemmas.Nat.Bits.{bit_at_ones_above}
 use Rattle.pam_codes.specs.Set.{codes_where, is_in}
-use Rattle.pam_codes.specs.SetBits.{codes_of_bits, codes_where-same, is_in-codes_where}
+use Rattle.pam_codes.specs.SetBits.{codes_of_bits}
+use Rattle.pam_codes.specs.inner.SetBits.{codes_where-same, is_in-codes_where}
 use Rattle.pam_codes.proofs.CodeSets.{lowest_below}
 use Rattle.pam_codes.proofs.Firsts.{FirstIn, first_of, past_codes}
 

@@ -8,7 +8,7 @@ use Rattle.pam_text.specs.declared.out.Out.{Out}
 use Rattle.pam_codes.specs.Code.{all_codes, code_names}
 use Rattle.pam_text.specs.Out.{TookAll, TookFront}
 use Rattle.pam_codes.specs.Set.{codes_where, is_in, IsCodeSet}
-use Rattle.pam_codes.specs.SetBits.{codes_where-same, is_in-codes_where}
+use Rattle.pam_codes.specs.inner.SetBits.{codes_where-same, is_in-codes_where}
 use Rattle.pam_codes.specs.SetText.{name_of, names_text, set_text}
 use Rattle.pam_codes.proofs.Firsts.{first_and_rest, none_first, rest_of_set}
 use Rattle.pam_text.proofs.Writing.{all-is, all-none, all-then, front-is, front-longer, front-then}

@@ -19,7 +19,7 @@ use Rattle.pam_codes.specs.Code.{code_names}
 use Rattle.pam_codes.specs.Control.{◌>>=◌, IsControl, Pairs, last_named, first_default, action_of, actions_of, keywords, keyword_pairs, closing_at}
 use Rattle.pam_codes.specs.Control.{pairs_of, with_front, token_actions, closed_actions, bracket_actions, control_of}
 use Rattle.pam_codes.specs.ControlText.{same_actions, keyword_of, default_of, mentions, list_text, control_text}
-use Rattle.pam_codes.specs.SetBits.{eqb-self, eqb-other}
+use Rattle.pam_codes.specs.inner.SetBits.{eqb-self, eqb-other}
 use Rattle.pam_codes.specs.Subject.{subject_of}
 use Rattle.pam_codes.specs.Tokens.{is_word_byte, tokens_of}
 use Rattle.pam_codes.proofs.ControlParts.{text_of_keyword, text_of_list}

@@ -12,7 +12,7 @@ use Rattle.pam_codes.specs.declared.action.Action.TheVariants.{Ignore, Ok as Acc
 use Rattle.pam_codes.specs.declared.subject.Subject.{Subject}
 use Rattle.pam_codes.specs.Action.{IsAction, decimal_value, is_jump_text, action_named, action_text}
 use Rattle.pam_codes.specs.Control.{pairs_of, with_front}
-use Rattle.pam_codes.specs.SetBits.{eqb-other}
+use Rattle.pam_codes.specs.inner.SetBits.{eqb-other}
 use Rattle.pam_codes.specs.Subject.{subject_of}
 use Rattle.pam_codes.specs.Tokens.{is_word_byte, begins_word, tokens_of}
 use Rattle.pam_codes.proofs.PairSteps.{whole_pair}

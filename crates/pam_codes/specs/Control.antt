@@ -1,6 +1,6 @@
 -- The control of a rule (pam.conf(5), "control": the keywords, and "[value1=action1 value2=action2 ...]").
-use Rattle.std.specs.Prelude.{◌≡◌, ℕ, ◌+◌, ◌-◌, ◌==◌, ◌&&◌, nat_lt, Bool, false, not, if◌then◌else◌, codes}
-use Rattle.std.specs.Prelude.{List, [], ◌∷◌, length, slice_index, take, map, find, All, Option, Some, None, unwrap_or, Result, Ok, Err}
+use Rattle.std.specs.Prelude.{◌≡◌, ℕ, ◌+◌, ◌==◌, ◌&&◌, nat_lt, Bool, false, not, if◌then◌else◌, codes}
+use Rattle.std.specs.Prelude.{List, [], ◌∷◌, length, take, map, find, All, Option, Some, None, unwrap_or, Result, Ok, Err}
 use Rattle.std.specs.Option.{option_map, option_map_or}
 use Rattle.std.specs.Str.{bytes_eq}
 use Rattle.pam_codes.specs.declared.action.Action.{Action}
@@ -64,10 +64,6 @@ keywords =
     ∷ (codes "optional", (Named success, Accept) ∷ (Named new_authtok_reqd, Accept) ∷ (Default, Ignore) ∷ [])
     ∷ []
 
--- `granted` for success and new_authtok_reqd, ignore for ignore, and `other` for the other codes
-abbrev pub granting_pairs : Action → Action → Pairs
-granting_pairs granted other = (Named success, granted) ∷ (Named new_authtok_reqd, granted) ∷ (Named ignored, Ignore) ∷ (Default, other) ∷ []
-
 -- the pairs of a word, if it is a keyword
 unfoldable pub keyword_pairs : List ℕ → Option Pairs
 keyword_pairs word = option_map (λ k. k.1) (find (λ k. same_name k.0 word) keywords)
@@ -82,10 +78,6 @@ keyword_actions word = option_map_or (λ ps. Ok (actions_of ps)) (keyword_pairs 
 unfoldable pub closing_at : Bool → List ℕ → Option ℕ
 closing_at escaped [] = None
 closing_at escaped (b ∷ bs) = if b == 93 && not escaped then Some 0 else option_map (λ n. n + 1) (closing_at (b == 92) bs)
-
--- for private contracts and proofs alone: whether a backslash is directly before an index
-abbrev pub escaped_at : List ℕ → ℕ → Bool
-escaped_at bytes i = nat_lt 0 i && slice_index bytes (i - 1) == 92
 
 -- the token `=`
 abbrev pub equals_sign : List ℕ → Result (Unit {0}) ControlError

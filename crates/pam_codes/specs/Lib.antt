@@ -11,3 +11,4 @@ pub mod SetBits
 pub mod SetText
 pub mod Subject
 pub mod Tokens
+pub mod inner

@@ -1,7 +1,8 @@
 //! Return codes and their names.
 
 ghost use Rattle.std.specs.Prelude.{◌≡◌, ◌<◌, ◌^◌, Some, None, position, option_and_then, slice_get, nat_lt, if◌then◌else◌};
-ghost use Rattle.pam_codes.specs.Code.{code_names, has_len, same_name};
+ghost use Rattle.pam_codes.specs.Code.{code_names, same_name};
+ghost use Rattle.pam_codes.specs.inner.Code.{has_len};
 ghost use Rattle.pam_codes.specs.Set.{codes_where};
 
 use std::marker::Model;

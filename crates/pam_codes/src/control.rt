@@ -5,8 +5,9 @@ ghost use Rattle.std.specs.Prelude.{false, length, map, slice_get, slice_index_o
 ghost use Rattle.std.specs.Option.{option_map};
 ghost use Rattle.pam_codes.specs.Action.{IsAction};
 ghost use Rattle.pam_codes.specs.Code.{all_codes, code_names};
-ghost use Rattle.pam_codes.specs.Control.{IsControl, actions_of, bracket_actions, closing_at, control_of, equals_sign as equals_sign_of, escaped_at, fault_of};
-ghost use Rattle.pam_codes.specs.Control.{granting_pairs, keyword_pairs, pairs_of, token_actions, with_front};
+ghost use Rattle.pam_codes.specs.Control.{IsControl, actions_of, bracket_actions, closing_at, control_of, equals_sign as equals_sign_of, fault_of};
+ghost use Rattle.pam_codes.specs.inner.Control.{escaped_at, granting_pairs};
+ghost use Rattle.pam_codes.specs.Control.{keyword_pairs, pairs_of, token_actions, with_front};
 ghost use Rattle.pam_codes.specs.ControlText.{control_text, default_of, keyword_of, list_text, mention, mentions, same_actions};
 ghost use Rattle.pam_text.specs.Out.{Writes};
 ghost use Rattle.pam_codes.specs.Tokens.{tokens_of};

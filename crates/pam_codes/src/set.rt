@@ -18,7 +18,8 @@ impl Model for CodeSet {
     ghost use Rattle.std.specs.Prelude.{ℕ, List, ◌<◌, ◌^◌};
     ghost use Rattle.std.proofs.Common.{ap};
     ghost use Rattle.pam_codes.specs.declared.code.TheConstants.{CODES};
-    ghost use Rattle.pam_codes.specs.SetBits.{codes_of_bits, bits_of_codes, bits_of_codes-codes_of_bits};
+    ghost use Rattle.pam_codes.specs.SetBits.{codes_of_bits};
+    ghost use Rattle.pam_codes.specs.inner.SetBits.{bits_of_codes, bits_of_codes-codes_of_bits};
 
     ghost Value = { List ℕ };
 

@@ -15,8 +15,8 @@ use Rattle.pam_compare.specs.declared.witness.Witness.{Witness}
 use Rattle.pam_compare.specs.Changes.{change_of}
 use Rattle.pam_compare.specs.Comparison.{IsShown, IsWitness, NeverChanges, decision_in}
 use Rattle.pam_compare.specs.Agreement.{Agree}
-use Rattle.pam_compare.specs.Naming.{AreNames, IsKnown, IsPossible, by_name, name_of}
-use Rattle.pam_compare.specs.Nodes.{IsNoted, IsSearched}
+use Rattle.pam_compare.specs.inner.Naming.{AreNames, IsKnown, IsPossible, by_name, name_of}
+use Rattle.pam_compare.specs.inner.Nodes.{IsNoted, IsSearched}
 
 -- a run looks at the answers of its modules alone
 pub same-final : (a b : Assignment) (low high : ℕ) (runs : Runs) → AsksRise low high runs →

@@ -4,7 +4,7 @@ use Rattle.std.specs.Prelude.{not}
 use Rattle.std.proofs.lemmas.Bool.{eqb-true, false≢true}
 use Rattle.pam_codes.specs.Code.{all_codes}
 use Rattle.pam_codes.specs.Set.{codes_where, is_in}
-use Rattle.pam_codes.specs.SetBits.{codes_where-same, is_in-codes_where}
+use Rattle.pam_codes.specs.inner.SetBits.{codes_where-same, is_in-codes_where}
 
 module _ (p q : ℕ → Bool) (less : (c : ℕ) → q c ≡ true → p c ≡ true) where
   no-more-by : (x : ℕ) (xs : List ℕ) (s t : Bool) → (t ≡ true → s ≡ true) → length (filter q xs) ≤ length (filter p xs) →

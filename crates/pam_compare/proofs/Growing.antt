@@ -22,8 +22,9 @@ use Rattle.pam_compare.specs.declared.held_lists.HeldLists.{HeldLists}
 use Rattle.pam_compare.specs.declared.held_lists.Link.{Link}
 use Rattle.pam_compare.specs.declared.situation.Situation.{Situation}
 use Rattle.pam_compare.specs.Held.{Holds}
-use Rattle.pam_compare.specs.HeldLists.{AreLinks, IsListed}
-use Rattle.pam_compare.specs.Nodes.{AreHeldAt, AreNodes, ArePlaces, IsAt, IsDone, IsMet, IsNew, IsNoted, IsStored, IsVisited, Keeps, KeepsNodes, Stop, list_of}
+use Rattle.pam_compare.specs.inner.HeldLists.{AreLinks, IsListed}
+use Rattle.pam_compare.specs.inner.Nodes.{AreHeldAt, AreNodes, ArePlaces, IsAt, IsDone, IsMet, IsNew, IsNoted, IsStored, IsVisited, Keeps, KeepsNodes}
+use Rattle.pam_compare.specs.inner.Nodes.{Stop, list_of}
 use Rattle.pam_compare.proofs.Lists.{listed-kept}
 
 pub nothing : {X : Type 0} (x : X) → None ≡ Some x → ⊥

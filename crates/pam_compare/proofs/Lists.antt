@@ -8,12 +8,12 @@ use Rattle.std.proofs.lemmas.List.{drop-drop}
 use Rattle.std.proofs.lemmas.Map.Keys.{IsDistinct-head, IsDistinct-tail}
 use Rattle.std.proofs.lemmas.Option.{slice_get_within}
 use Rattle.pam_codes.specs.Set.{IsCodeSet}
-use Rattle.pam_codes.specs.SetBits.{bits_of_codes}
+use Rattle.pam_codes.specs.inner.SetBits.{bits_of_codes}
 use Rattle.pam_compare.specs.declared.held.HeldAnswer.{HeldAnswer}
 use Rattle.pam_compare.specs.declared.held_lists.Link.{Link}
-use Rattle.pam_compare.specs.Held.{same_held}
-use Rattle.pam_compare.specs.HeldLists.{AreLinks, IsLast, IsListed, same_link}
-use Rattle.pam_compare.specs.Nodes.{Keeps}
+use Rattle.pam_compare.specs.inner.Held.{same_held}
+use Rattle.pam_compare.specs.inner.HeldLists.{AreLinks, IsLast, IsListed, same_link}
+use Rattle.pam_compare.specs.inner.Nodes.{Keeps}
 use Rattle.pam_compare.proofs.Sameness.{answers-same}
 
 some-link : (l m : Link) → Some l ≡ Some m → l ≡ m

@@ -13,13 +13,14 @@ use Rattle.pam_paths.specs.Listing.{Allowance, IsAllowed}
 use Rattle.pam_compare.specs.declared.nodes.Nodes.{Nodes}
 use Rattle.pam_compare.specs.declared.situation.Situation.{Situation}
 use Rattle.pam_compare.specs.Agreement.{Agree}
-use Rattle.pam_compare.specs.Held.{Holds, same_situation}
-use Rattle.pam_compare.specs.HeldLists.{same_link}
-use Rattle.pam_compare.specs.Naming.{AreNames, IsKnown, IsPossible, by_name, name_of}
-use Rattle.pam_compare.specs.Nodes.{AreNodes, ArePlaces}
+use Rattle.pam_compare.specs.Held.{Holds}
+use Rattle.pam_compare.specs.inner.Held.{same_situation}
+use Rattle.pam_compare.specs.inner.HeldLists.{same_link}
+use Rattle.pam_compare.specs.inner.Naming.{AreNames, IsKnown, IsPossible, by_name, name_of}
+use Rattle.pam_compare.specs.inner.Nodes.{AreNodes, ArePlaces}
 use Rattle.pam_compare.specs.Situations.{Comes, HasMoreSituations, IsReached, Standing}
-use Rattle.pam_compare.specs.Trails.{answers_on}
-use Rattle.pam_compare.specs.Ways.{AreReached}
+use Rattle.pam_compare.specs.inner.Trails.{answers_on}
+use Rattle.pam_compare.specs.inner.Ways.{AreReached}
 use Rattle.pam_compare.proofs.Growing.{same-some}
 use Rattle.pam_compare.proofs.Lists.{listed-for}
 use Rattle.pam_compare.proofs.Reaching.{possible-on}

@@ -1,11 +1,11 @@
 -- The names of modules that are tied, and of others.
 use Rattle.std.proofs.Common.{◌≡◌, ◌⊎◌, ◌<◌, ◌≤◌, ◌+◌, ◌∙◌, ℕ, Bool, true, List, Option, Some, None, ap, arith, inl, inr, refl, sym, subst}
 use Rattle.pam_codes.specs.Set.{codes_where, is_in}
-use Rattle.pam_codes.specs.SetBits.{is_in-codes_where}
+use Rattle.pam_codes.specs.inner.SetBits.{is_in-codes_where}
 use Rattle.pam_paths.specs.Listing.{Allowance}
 use Rattle.pam_compare.specs.Agreement.{AreTied, HaveCommonCode}
 use Rattle.pam_compare.specs.Matching.{partner_of}
-use Rattle.pam_compare.specs.Naming.{IsName}
+use Rattle.pam_compare.specs.inner.Naming.{IsName}
 
 -- a code in both sets is one that passes both tests
 pub common-passes : (p q : ℕ → Bool) (s t : List ℕ) → s ≡ codes_where p → t ≡ codes_where q →

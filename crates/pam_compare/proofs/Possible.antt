@@ -6,9 +6,9 @@ use Rattle.std.proofs.lemmas.Bool.{and_from, and_parts, cases_eq, cases_lt}
 use Rattle.std.proofs.lemmas.List.{get_or-set_other, get_or-set_same, get_or_append_left, get_or_past, get_or_push, length_push}
 use Rattle.pam_codes.specs.Code.{all_codes}
 use Rattle.pam_codes.specs.Set.{codes_where, is_in}
-use Rattle.pam_codes.specs.SetBits.{codes_where-same, is_in-codes_where}
+use Rattle.pam_codes.specs.inner.SetBits.{codes_where-same, is_in-codes_where}
 use Rattle.pam_dispatch.specs.Runs.{Assignment}
-use Rattle.pam_compare.specs.Naming.{IsPossible}
+use Rattle.pam_compare.specs.inner.Naming.{IsPossible}
 
 -- COMMON CODES
 

@@ -18,12 +18,12 @@ use Rattle.pam_compare.specs.declared.situation.Situation.{Situation}
 use Rattle.pam_compare.specs.declared.turn.Turn.{Turn}
 use Rattle.pam_compare.specs.declared.turn.Turn.TheVariants.{Old, New, Both}
 use Rattle.pam_compare.specs.Held.{Holds}
-use Rattle.pam_compare.specs.Naming.{IsPossible, by_name, name_of}
-use Rattle.pam_compare.specs.Nodes.{IsAt, Keeps, KeepsNodes, Stop}
+use Rattle.pam_compare.specs.inner.Naming.{IsPossible, by_name, name_of}
+use Rattle.pam_compare.specs.inner.Nodes.{IsAt, Keeps, KeepsNodes, Stop}
 use Rattle.pam_compare.specs.Situations.{Comes, after_steps}
-use Rattle.pam_compare.specs.Trails.{Follows, IsCovered, IsHeldAfter, IsPast, IsStep, IsTrail, answers_on}
-use Rattle.pam_compare.specs.Turn.{AreAlike, IsTurn, new_after, old_after, turn_name}
-use Rattle.pam_compare.specs.Ways.{AreEnds, IsFit, IsReachedAt, IsWayTo}
+use Rattle.pam_compare.specs.inner.Trails.{Follows, IsCovered, IsHeldAfter, IsPast, IsStep, IsTrail, answers_on}
+use Rattle.pam_compare.specs.inner.Turn.{AreAlike, IsTurn, new_after, old_after, turn_name}
+use Rattle.pam_compare.specs.inner.Ways.{AreEnds, IsFit, IsReachedAt, IsWayTo}
 use Rattle.pam_compare.proofs.Coming.{comes-on}
 use Rattle.pam_compare.proofs.Growing.{at-kept, kept}
 use Rattle.pam_compare.proofs.Meeting.{same-node}

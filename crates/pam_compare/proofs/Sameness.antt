@@ -8,10 +8,11 @@ use Rattle.std.proofs.lemmas.Simd.{bit_mask_l}
 use Rattle.std.specs.Prelude.{map}
 use Rattle.pam_codes.specs.Code.{all_codes}
 use Rattle.pam_codes.specs.Set.{IsCodeSet, is_in}
-use Rattle.pam_codes.specs.SetBits.{bits_of_codes, codes_of_bits, codes_where-same}
+use Rattle.pam_codes.specs.SetBits.{codes_of_bits}
+use Rattle.pam_codes.specs.inner.SetBits.{bits_of_codes, codes_where-same}
 use Rattle.pam_compare.specs.declared.held.HeldAnswer.{HeldAnswer}
 use Rattle.pam_compare.specs.declared.situation.Situation.{Situation}
-use Rattle.pam_compare.specs.Held.{same_held, same_situation}
+use Rattle.pam_compare.specs.inner.Held.{same_held, same_situation}
 
 bit-in : (codes : List ℕ) (c : ℕ) → c < 31 → bit_at (bits_of_codes codes) c ≡ cond (is_in c codes) 1 0
 unfolding bits_of_codes all_codes

@@ -10,8 +10,8 @@ use Rattle.pam_compare.specs.declared.held.HeldAnswer.{HeldAnswer}
 use Rattle.pam_compare.specs.declared.held_lists.Link.{Link}
 use Rattle.pam_compare.specs.declared.situation.Situation.{Situation}
 use Rattle.pam_compare.specs.Situations.{AreApart, Standing}
-use Rattle.pam_compare.specs.Held.{same_situation}
-use Rattle.pam_compare.specs.HeldLists.{IsListed, same_link}
+use Rattle.pam_compare.specs.inner.Held.{same_situation}
+use Rattle.pam_compare.specs.inner.HeldLists.{IsListed, same_link}
 use Rattle.pam_compare.proofs.Lists.{list_for, listed-for, one-number}
 
 pub all-at : {X : Type 0} (P : X → Type 0) (xs : List X) → ((k : ℕ) (x : X) → slice_get xs k ≡ Some x → P x) → AllByRecursion P xs

@@ -7,7 +7,7 @@ use Rattle.pam_codes.specs.Set.{is_in}
 use Rattle.pam_dispatch.specs.Runs.{Assignment}
 use Rattle.pam_compare.specs.declared.held.HeldAnswer.{HeldAnswer}
 use Rattle.pam_compare.specs.declared.nodes.Way.{Way}
-use Rattle.pam_compare.specs.Trails.{IsCovered, IsKept, IsPast, IsSettled, IsTrail, Follows, answers_on, with_answer}
+use Rattle.pam_compare.specs.inner.Trails.{IsCovered, IsKept, IsPast, IsSettled, IsTrail, Follows, answers_on, with_answer}
 
 some-way : (v w : Way) → Some v ≡ Some w → v ≡ w
 some-way v w e = cc

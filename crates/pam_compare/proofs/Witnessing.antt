@@ -13,7 +13,7 @@ use Rattle.pam_compare.specs.declared.witness.Witness.{Witness}
 use Rattle.pam_compare.specs.Agreement.{Agree}
 use Rattle.pam_compare.specs.Changes.{change_of}
 use Rattle.pam_compare.specs.Comparison.{IsWitness, decision_in}
-use Rattle.pam_compare.specs.Naming.{AreNames, IsKnown, IsPossible, by_name, name_of}
+use Rattle.pam_compare.specs.inner.Naming.{AreNames, IsKnown, IsPossible, by_name, name_of}
 use Rattle.pam_compare.specs.Situations.{Comes}
 use Rattle.pam_compare.proofs.Agreeing.{same-final}
 use Rattle.pam_compare.proofs.Coming.{comes-end}

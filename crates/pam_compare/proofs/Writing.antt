@@ -3,7 +3,7 @@ use Rattle.std.proofs.Common.{◌≡◌, ◌≢◌, ◌<◌, ◌≤◌, ◌∙�
 use Rattle.std.proofs.Math.Seq.{drop-cons}
 use Rattle.pam_dispatch.specs.Runs.{Assignment}
 use Rattle.pam_compare.specs.declared.nodes.Way.{Way}
-use Rattle.pam_compare.specs.Trails.{answers_on, with_answer}
+use Rattle.pam_compare.specs.inner.Trails.{answers_on, with_answer}
 use Rattle.pam_compare.proofs.Trails.{with-other, with-same}
 
 -- the answers of the last steps of a trail, and of one more

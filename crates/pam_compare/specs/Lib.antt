@@ -2,13 +2,6 @@ pub mod Agreement
 pub mod Changes
 pub mod Comparison
 pub mod Held
-pub mod HeldLists
-pub mod Likeness
 pub mod Matching
-pub mod Naming
-pub mod Nodes
-pub mod Outcomes
 pub mod Situations
-pub mod Trails
-pub mod Turn
-pub mod Ways
+pub mod inner

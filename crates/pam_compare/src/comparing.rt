@@ -7,11 +7,11 @@ ghost use Rattle.pam_compare.specs.declared.change.Change.{Change};
 ghost use Rattle.pam_compare.specs.declared.situation.Situation.{Situation};
 ghost use Rattle.pam_compare.specs.Changes.{change_of};
 ghost use Rattle.pam_compare.specs.Comparison.{AreChanges, IsComparison, decision_in};
-ghost use Rattle.pam_compare.specs.Naming.{AreNames, IsKnown, IsPossible, by_code};
+ghost use Rattle.pam_compare.specs.inner.Naming.{AreNames, IsKnown, IsPossible, by_code};
 ghost use Rattle.pam_paths.specs.Listing.{Allowance};
-ghost use Rattle.pam_compare.specs.Nodes.{AreNodes, IsBegun, IsNoted, IsSearched, IsVisited, KeepsNodes};
-ghost use Rattle.pam_compare.specs.Turn.{IsTurn};
-ghost use Rattle.pam_compare.specs.Ways.{AreEnds, AreReached, IsNaming};
+ghost use Rattle.pam_compare.specs.inner.Nodes.{AreNodes, IsBegun, IsNoted, IsSearched, IsVisited, KeepsNodes};
+ghost use Rattle.pam_compare.specs.inner.Turn.{IsTurn};
+ghost use Rattle.pam_compare.specs.inner.Ways.{AreEnds, AreReached, IsNaming};
 
 use crate::change::Change;
 use crate::expanding::{Fork, expand};

@@ -7,11 +7,11 @@ ghost use Rattle.pam_dispatch.specs.Flat.{IsPlaceOf, rest_of};
 ghost use Rattle.pam_dispatch.specs.Runs.{Assignment, asked_module};
 ghost use Rattle.pam_compare.specs.declared.held.HeldAnswer.{HeldAnswer};
 ghost use Rattle.pam_compare.specs.Held.{Holds};
-ghost use Rattle.pam_compare.specs.Naming.{IsPossible};
-ghost use Rattle.pam_compare.specs.Nodes.{AreHeldAt, AreNodes, IsFollowed, IsMet, KeepsNodes};
-ghost use Rattle.pam_compare.specs.Trails.{IsStep};
-ghost use Rattle.pam_compare.specs.Turn.{IsTurn, old_after, new_after, turn_name};
-ghost use Rattle.pam_compare.specs.Ways.{AreReached, IsNaming, IsWayTo};
+ghost use Rattle.pam_compare.specs.inner.Naming.{IsPossible};
+ghost use Rattle.pam_compare.specs.inner.Nodes.{AreHeldAt, AreNodes, IsFollowed, IsMet, KeepsNodes};
+ghost use Rattle.pam_compare.specs.inner.Trails.{IsStep};
+ghost use Rattle.pam_compare.specs.inner.Turn.{IsTurn, old_after, new_after, turn_name};
+ghost use Rattle.pam_compare.specs.inner.Ways.{AreReached, IsNaming, IsWayTo};
 
 use crate::held::{HeldAnswer, Step, held_after, held_codes};
 use crate::naming::{common, possible_at};

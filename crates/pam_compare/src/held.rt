@@ -2,13 +2,14 @@
 
 ghost use Rattle.std.specs.Prelude.{◌≡◌, ◌⊎◌, ◌+◌, ◌<◌, ◌≤◌, [], ℕ, false, true, IfOk, IsTrue, OnOk, Some, length, slice_get};
 ghost use Rattle.pam_codes.specs.Set.{is_in};
-ghost use Rattle.pam_codes.specs.SetBits.{bits_of_codes};
+ghost use Rattle.pam_codes.specs.inner.SetBits.{bits_of_codes};
 ghost use Rattle.pam_dispatch.specs.Runs.{Assignment};
 ghost use Rattle.pam_compare.specs.declared.held.HeldAnswer.{HeldAnswer};
-ghost use Rattle.pam_compare.specs.Held.{Holds, held_in, least_of_bits};
-ghost use Rattle.pam_compare.specs.Naming.{AreLast};
-ghost use Rattle.pam_compare.specs.Nodes.{Keeps};
-ghost use Rattle.pam_compare.specs.Trails.{AreAll, IsHeldAfter, IsPast, IsSettled};
+ghost use Rattle.pam_compare.specs.Held.{Holds};
+ghost use Rattle.pam_compare.specs.inner.Held.{held_in, least_of_bits};
+ghost use Rattle.pam_compare.specs.inner.Naming.{AreLast};
+ghost use Rattle.pam_compare.specs.inner.Nodes.{Keeps};
+ghost use Rattle.pam_compare.specs.inner.Trails.{AreAll, IsHeldAfter, IsPast, IsSettled};
 
 use crate::naming::{Naming, common, possible_at, value_at};
 use crate::turn::Turn;

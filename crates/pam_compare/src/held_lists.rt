@@ -3,9 +3,9 @@
 ghost use Rattle.std.specs.Prelude.{◌≡◌, ◌<◌, ◌≤◌, ◌+◌, ◌-◌, ◌^◌, ◌∷◌, ◌++◌, List, ℕ, IfOk, OnOk, Some, drop, length, slice_get};
 ghost use Rattle.std.specs.List.{IsDistinct};
 ghost use Rattle.pam_compare.specs.declared.held.HeldAnswer.{HeldAnswer};
-ghost use Rattle.pam_compare.specs.Held.{held_in};
-ghost use Rattle.pam_compare.specs.HeldLists.{AreLinks, IsListed, same_link};
-ghost use Rattle.pam_compare.specs.Nodes.{Keeps};
+ghost use Rattle.pam_compare.specs.inner.Held.{held_in};
+ghost use Rattle.pam_compare.specs.inner.HeldLists.{AreLinks, IsListed, same_link};
+ghost use Rattle.pam_compare.specs.inner.Nodes.{Keeps};
 
 use crate::held::{HeldAfter, HeldAnswer, with_room};
 use indexmap::IndexSet;

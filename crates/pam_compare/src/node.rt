@@ -4,8 +4,8 @@ ghost use Rattle.std.specs.Prelude.{◌≡◌, ◌<◌, ℕ, IsSome, IsTrue};
 ghost use Rattle.pam_codes.specs.Set.{is_in};
 ghost use Rattle.pam_dispatch.specs.Flat.{IsPlaceOf, rest_of};
 ghost use Rattle.pam_dispatch.specs.Runs.{after_answer, asked_module, outcome_in};
-ghost use Rattle.pam_compare.specs.Outcomes.{AreOutcomes};
-ghost use Rattle.pam_compare.specs.Turn.{AreAlike, IsTurn, old_after, new_after};
+ghost use Rattle.pam_compare.specs.inner.Outcomes.{AreOutcomes};
+ghost use Rattle.pam_compare.specs.inner.Turn.{AreAlike, IsTurn, old_after, new_after};
 
 use crate::held::HeldAnswer;
 use crate::naming::Naming;

@@ -8,12 +8,13 @@ ghost use Rattle.pam_dispatch.specs.Runs.{Assignment};
 ghost use Rattle.pam_compare.specs.declared.held.HeldAnswer.{HeldAnswer};
 ghost use Rattle.pam_compare.specs.declared.situation.Situation.{Situation};
 ghost use Rattle.pam_compare.specs.declared.change.Change.{Change};
-ghost use Rattle.pam_compare.specs.Held.{Holds, held_in, same_situation};
-ghost use Rattle.pam_compare.specs.HeldLists.{same_link};
-ghost use Rattle.pam_compare.specs.Ways.{found_at};
+ghost use Rattle.pam_compare.specs.Held.{Holds};
+ghost use Rattle.pam_compare.specs.inner.Held.{held_in, same_situation};
+ghost use Rattle.pam_compare.specs.inner.HeldLists.{same_link};
+ghost use Rattle.pam_compare.specs.inner.Ways.{found_at};
 ghost use Rattle.pam_dispatch.specs.Keys.{AreDifferent};
 ghost use Rattle.std.specs.List.{IsDistinct};
-ghost use Rattle.pam_compare.specs.Nodes.{AreAdded, AreHeldAt, AreNodes, ArePlaces, IsAt, IsMet, IsNoted, Keeps, KeepsNodes, list_of, stop_of};
+ghost use Rattle.pam_compare.specs.inner.Nodes.{AreAdded, AreHeldAt, AreNodes, ArePlaces, IsAt, IsMet, IsNoted, Keeps, KeepsNodes, list_of, stop_of};
 
 use crate::change::Change;
 use crate::held::HeldAfter;

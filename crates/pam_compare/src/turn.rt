@@ -1,7 +1,7 @@
 //! Whose module is asked next.
 
 ghost use Rattle.std.specs.Prelude.{◌≡◌, IfNone, IfSome, None};
-ghost use Rattle.pam_compare.specs.Turn.{IsTurn, turn_name};
+ghost use Rattle.pam_compare.specs.inner.Turn.{IsTurn, turn_name};
 
 use crate::naming::{Naming, value_at};
 

@@ -7,9 +7,9 @@ ghost use Rattle.pam_paths.specs.Listing.{Allowance};
 ghost use Rattle.pam_compare.specs.declared.change.Change.{Change};
 ghost use Rattle.pam_compare.specs.declared.nodes.Way.{Way};
 ghost use Rattle.pam_compare.specs.Comparison.{IsWitness, decision_in};
-ghost use Rattle.pam_compare.specs.Naming.{AreNames, IsKnown, IsPossible, by_code, name_of};
-ghost use Rattle.pam_compare.specs.Trails.{IsTrail, answers_on};
-ghost use Rattle.pam_compare.specs.Ways.{AreReached, IsEnd, IsNaming};
+ghost use Rattle.pam_compare.specs.inner.Naming.{AreNames, IsKnown, IsPossible, by_code, name_of};
+ghost use Rattle.pam_compare.specs.inner.Trails.{IsTrail, answers_on};
+ghost use Rattle.pam_compare.specs.inner.Ways.{AreReached, IsEnd, IsNaming};
 
 use crate::naming::{Naming, possible_at, value_at};
 use crate::node::Pair;

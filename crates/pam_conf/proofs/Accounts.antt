@@ -2,7 +2,7 @@
 use Rattle.std.proofs.Common.{◌≡◌, ◌+◌, ℕ, Bool, true, false, cond, eqb, fold, List, [], ◌∷◌, ◌++◌, Option, Some, None, append-nil, append_assoc, ap}
 use Rattle.std.proofs.Common.{refl, ◌∙◌, sym}
 use Rattle.std.proofs.lemmas.Bool.{false≢true}
-use Rattle.pam_conf.specs.Progress.{Account, Count, account, ended_by, with_fault, with_follow, with_module}
+use Rattle.pam_conf.specs.inner.Progress.{Account, Count, account, ended_by, with_fault, with_follow, with_module}
 use Rattle.pam_conf.specs.Stack.{Items}
 use Rattle.pam_conf.specs.Survey.{SurveyText, is_over, survey_of, targets, told, with_file}
 use Rattle.pam_conf.specs.Walk.{Event, Met, Followed, Failed, Walk, fault_at, numbered, refusal}

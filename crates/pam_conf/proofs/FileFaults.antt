@@ -12,11 +12,11 @@ use Rattle.std.specs.declared.alloc.AllocError.{AllocError}
 use Rattle.pam_text.specs.Source.{source_fault}
 use Rattle.pam_text.specs.Text.{text_of, lines_of}
 use Rattle.pam_text.specs.declared.source.SourceFault.{SourceFault}
-use Rattle.pam_conf.specs.FileRules.{LineResult, faults_among, file_results, file_text, files_read, good_rules, line_results, own_faults, rules_among}
-use Rattle.pam_conf.specs.FileRules.{unless_faulty}
+use Rattle.pam_conf.specs.FileRules.{LineResult, faults_among, file_results, good_rules, line_results, own_faults, rules_among, unless_faulty}
+use Rattle.pam_conf.specs.inner.FileRules.{file_text, files_read}
 use Rattle.pam_conf.specs.Files.{Folder, Named, bytes_at}
-use Rattle.pam_conf.specs.FilesRead.{file_view}
-use Rattle.pam_conf.specs.Kept.{kept_view}
+use Rattle.pam_conf.specs.inner.FilesRead.{file_view}
+use Rattle.pam_conf.specs.inner.Kept.{kept_view}
 use Rattle.pam_conf.specs.Laws.{FirstFaultOrRules}
 use Rattle.pam_conf.specs.Lines.{fault_of_source, onto_rules, rules_in, rules_of}
 use Rattle.pam_conf.specs.Rule.{RuleText}

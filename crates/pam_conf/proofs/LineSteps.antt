@@ -3,7 +3,8 @@ use Rattle.std.proofs.Common.{◌≤◌, zero, suc, arith, length}
 use Rattle.std.proofs.Common.{Some, None, Result, Ok, Err}
 use Rattle.pam_text.specs.declared.text.Line.{Line}
 use Rattle.std.specs.Prelude.{IfOk, MatchOption, OnOk}
-use Rattle.pam_text.specs.Text.{FileByte, text_of, lines_of, first_line, first_bytes, after_line, text_lines, after_blanks, filled_lines}
+use Rattle.pam_text.specs.Text.{FileByte, text_of, lines_of, first_line, after_line, text_lines, after_blanks, filled_lines}
+use Rattle.pam_text.specs.inner.Text.{first_bytes}
 use Rattle.pam_text.proofs.TextLines.{HeadIs, head_is, bytes_of_first, split_first, first_of}
 use Rattle.std.specs.List.{cons_option, list_all}
 use Rattle.std.specs.Result.{result_transpose}
@@ -13,9 +14,10 @@ use Rattle.pam_conf.specs.Words.{Between, words_in, words_or_fault, or_open}
 use Rattle.pam_conf.specs.Rule.{RuleText, rule_of, ◌>>=◌}
 use Rattle.pam_conf.specs.FileRules.{LineResult, line_results}
 use Rattle.pam_conf.specs.Lines.{line_rule_of, rule_at, at_line, rules_in, onto_rules}
-use Rattle.pam_conf.specs.Progress.{only}
-use Rattle.pam_conf.specs.Wanted.{wants, only_wanted, with_rule}
-use Rattle.pam_conf.specs.Tells.{FailsAs, KindTells}
+use Rattle.pam_conf.specs.inner.Progress.{only}
+use Rattle.pam_conf.specs.inner.Wanted.{wants, only_wanted, with_rule}
+use Rattle.pam_conf.specs.Tells.{FailsAs}
+use Rattle.pam_conf.specs.inner.Tells.{KindTells}
 use Rattle.pam_conf.specs.declared.error.FaultKind.{FaultKind}
 use Rattle.pam_conf.specs.declared.error.FaultKind.TheVariants as faults
 use Rattle.pam_conf.specs.declared.error.RuleFault.{RuleFault}

@@ -9,7 +9,7 @@ use Rattle.pam_text.specs.Source.{source_fault}
 use Rattle.pam_text.specs.Text.{file_bytes, joined, uncommented}
 use Rattle.pam_conf.specs.FileRules.{file_results, good_rules, line_results}
 use Rattle.pam_conf.specs.Files.{Folder, bytes_at}
-use Rattle.pam_conf.specs.Kept.{kept_view}
+use Rattle.pam_conf.specs.inner.Kept.{kept_view}
 use Rattle.pam_conf.specs.Listed.{ListedText, file_listed, further, listed, rule_listed, rules_listed}
 use Rattle.pam_conf.specs.Lines.{line_rule_of}
 use Rattle.pam_conf.specs.Rule.{RuleText, rule_of}

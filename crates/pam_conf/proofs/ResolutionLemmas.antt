@@ -9,14 +9,14 @@ use Rattle.std.specs.Option.{option_map}
 use Rattle.std.proofs.lemmas.Bool.{and_parts, false≢true}
 use Rattle.pam_conf.specs.Files.{Folder, position_of}
 use Rattle.pam_conf.specs.ItemsOf.{items_of}
-use Rattle.pam_conf.specs.Progress.{Count, Passes, Refuses, IsRead, account, in_file, only}
+use Rattle.pam_conf.specs.inner.Progress.{Count, Passes, Refuses, IsRead, account, in_file, only}
 use Rattle.pam_conf.specs.Resolution.{StartText, stack_from, from_starts, unless_empty, carried, start_read, start_in, resolved}
-use Rattle.pam_conf.specs.StartOf.{IsReadStart, start_text}
+use Rattle.pam_conf.specs.inner.StartOf.{IsReadStart, start_text}
 use Rattle.pam_conf.specs.declared.resolution.Start.{Start}
 use Rattle.pam_conf.specs.declared.rule.Form.{Form}
 use Rattle.pam_conf.specs.declared.rule.Form.TheVariants.{Single}
 use Rattle.pam_conf.specs.Tells.{UnlessMemory}
-use Rattle.pam_conf.specs.Kept.{kept_view}
+use Rattle.pam_conf.specs.inner.Kept.{kept_view}
 use Rattle.pam_conf.specs.Rule.{RuleText}
 use Rattle.pam_conf.specs.Stack.{Items, End, joined, module_count, depth, IsNumbered}
 use Rattle.pam_conf.specs.Walk.{Walk, Event, Reads, carries, is_of_kind, walk, refusal, numbered, rules_at, fault_at, deeper, read_walk}

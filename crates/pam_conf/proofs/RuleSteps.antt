@@ -13,13 +13,13 @@ use Rattle.pam_codes.specs.Control.{Pairs, actions_of, bracket_actions, control_
 use Rattle.pam_codes.specs.declared.action.Action.{Action}
 use Rattle.pam_codes.specs.declared.error.ControlError.{ControlError}
 use Rattle.pam_codes.specs.declared.error.ControlError.TheVariants.{BadControl}
-use Rattle.pam_conf.specs.FirstWord.{words_from}
+use Rattle.pam_conf.specs.inner.FirstWord.{words_from}
 use Rattle.pam_text.proofs.TextSteps.{unequal}
 use Rattle.pam_conf.specs.Lines.{at_line, line_rule_of}
 use Rattle.pam_conf.specs.Rule.{RuleText, RuleBody, body_of, in_rule, kind_named, module_of, ◌>>=◌}
 use Rattle.pam_conf.specs.Rule.{dashed_kind_of, rule_of, first_rule_of, plain_rule_of, kind_rule_of}
 use Rattle.pam_conf.specs.Walk.{carries, same_kind}
-use Rattle.pam_conf.specs.Wanted.{kind_name, wants, with_rule}
+use Rattle.pam_conf.specs.inner.Wanted.{kind_name, wants, with_rule}
 use Rattle.pam_conf.specs.Words.{or_open, text_of_word, words_of, words_or_fault}
 use Rattle.pam_conf.specs.declared.error.FaultKind.{FaultKind}
 use Rattle.pam_conf.specs.declared.rule.Form.{Form}

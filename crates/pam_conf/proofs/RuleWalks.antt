@@ -4,7 +4,7 @@ use Rattle.std.proofs.Common.{sym, refl, ◌∙◌, arith}
 use Rattle.std.proofs.lemmas.Bool.{ne_eqb}
 use Rattle.pam_codes.specs.declared.action.Action.{Action}
 use Rattle.pam_conf.specs.Files.{Folder, position_of}
-use Rattle.pam_conf.specs.Progress.{Count, Passes, Refuses, account, with_module}
+use Rattle.pam_conf.specs.inner.Progress.{Count, Passes, Refuses, account, with_module}
 use Rattle.pam_conf.specs.Rule.{RuleText, Module, Include, Sub}
 use Rattle.pam_conf.specs.Stack.{Items, End, ThenModule, ThenSub, joined}
 use Rattle.pam_conf.specs.Walk.{Walk, Deeper, Reads, numbered, failed, followed, fault_at, target_walk, include_walk, sub_walk, rule_walk, counts}

@@ -9,7 +9,7 @@ use Rattle.std.proofs.lemmas.Bool.{eqb-true, false≢true}
 use Rattle.std.proofs.lemmas.List.Elements.{All-from_recursion, recursion_from_All}
 use Rattle.pam_conf.specs.Files.{Folder, position_of}
 use Rattle.pam_conf.specs.Laws.{FaultlessHasStack, StackIsSoundSurvey}
-use Rattle.pam_conf.specs.Progress.{in_file}
+use Rattle.pam_conf.specs.inner.Progress.{in_file}
 use Rattle.pam_conf.specs.Resolution.{StartText, carried, from_starts, resolved, stack_from, start_in, start_of, start_read, unless_empty}
 use Rattle.pam_conf.specs.Rule.{RuleText}
 use Rattle.pam_conf.specs.Stack.{Items, End, ThenModule, ThenSub}

@@ -1,7 +1,7 @@
 -- The words of a line are the one way to write it as blanks and spellings of words.
 use Rattle.std.proofs.Math.Seq.{drop-cons}
 use Rattle.std.proofs.Common.{◌<◌, ◌+◌, add-one, arith, drop, get_or, length}
-use Rattle.pam_conf.specs.FirstWord.{words_from}
+use Rattle.pam_conf.specs.inner.FirstWord.{words_from}
 use Rattle.pam_conf.proofs.WordSteps.{option_map_twice}
 use Rattle.std.proofs.Common.{◌≡◌, ◌&&◌, ◌||◌, ◌++◌, ℕ, Bool, true, false, not, List, [], ◌∷◌, Option, Some, None, cond, eqb, ap, ◌∙◌, sym, refl, subst}
 use Rattle.std.specs.Option.{option_map}

@@ -5,7 +5,7 @@ use Rattle.std.specs.List.{list_any}
 use Rattle.std.specs.declared.alloc.AllocError.{AllocError}
 use Rattle.pam_conf.specs.Files.{Folder, position_of}
 use Rattle.pam_conf.specs.ItemsOf.{items_of}
-use Rattle.pam_conf.specs.Progress.{Count, Passes, Refuses}
+use Rattle.pam_conf.specs.inner.Progress.{Count, Passes, Refuses}
 use Rattle.pam_conf.specs.Resolution.{StartText, carried, start_in, start_of, start_read}
 use Rattle.pam_conf.specs.Rule.{RuleText}
 use Rattle.pam_conf.specs.Stack.{Items, End}

@@ -7,11 +7,12 @@ use Rattle.std.proofs.lemmas.List.{length-map}
 use Rattle.std.proofs.Math.ListN.{length-set}
 use Rattle.std.specs.Option.{option_map, unwrap_or}
 use Rattle.std.specs.Slice.{IsItemAt}
-use Rattle.pam_conf.specs.FileRules.{file_text, files_read, good_rules}
+use Rattle.pam_conf.specs.FileRules.{good_rules}
+use Rattle.pam_conf.specs.inner.FileRules.{file_text, files_read}
 use Rattle.pam_conf.specs.Files.{Folder, bytes_at}
-use Rattle.pam_conf.specs.FilesRead.{file_view}
-use Rattle.pam_conf.specs.Kept.{kept_view}
-use Rattle.pam_conf.specs.Progress.{Before, HasRules, IsTable, IsKept, in_file, of_kind, reads_by}
+use Rattle.pam_conf.specs.inner.FilesRead.{file_view}
+use Rattle.pam_conf.specs.inner.Kept.{kept_view}
+use Rattle.pam_conf.specs.inner.Progress.{Before, HasRules, IsTable, IsKept, in_file, of_kind, reads_by}
 use Rattle.pam_conf.specs.Rule.{RuleText}
 use Rattle.pam_conf.specs.Survey.{good_at}
 use Rattle.pam_conf.specs.Tells.{UnlessMemory}

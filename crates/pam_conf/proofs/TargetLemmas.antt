@@ -1,9 +1,9 @@
 -- The targets of rules, as the code stores them.
 use Rattle.std.proofs.Common.{◌≡◌, ◌||◌, ◌∙◌, ℕ, Bool, List, [], ◌∷◌, map, ap, refl, sym}
 use Rattle.std.specs.List.{list_any}
-use Rattle.pam_conf.specs.FileRules.{FileText, file_text, files_read}
+use Rattle.pam_conf.specs.inner.FileRules.{FileText, file_text, files_read}
 use Rattle.pam_conf.specs.Files.{Folder}
-use Rattle.pam_conf.specs.FilesRead.{file_view}
+use Rattle.pam_conf.specs.inner.FilesRead.{file_view}
 use Rattle.pam_conf.specs.Targets.{is_target, names_target}
 use Rattle.pam_conf.specs.declared.rule_files.FileRules.{FileRules}
 

@@ -9,9 +9,9 @@ use Rattle.std.proofs.Math.Seq.{drop-cons}
 use Rattle.std.proofs.lemmas.Option.{cond_some}
 use Rattle.std.proofs.lemmas.Bool.{and_parts, false≢true, ne_eqb, ltb-true}
 use Rattle.pam_conf.specs.Files.{Folder, position_of}
-use Rattle.pam_conf.specs.Progress.{Count, Passes, Refuses, IsRead, account, ended_by, of_kind, only, in_file, with_fault, with_follow}
+use Rattle.pam_conf.specs.inner.Progress.{Count, Passes, Refuses, IsRead, account, ended_by, of_kind, only, in_file, with_fault, with_follow}
 use Rattle.pam_conf.specs.Tells.{UnlessMemory}
-use Rattle.pam_conf.specs.Kept.{kept_view}
+use Rattle.pam_conf.specs.inner.Kept.{kept_view}
 use Rattle.pam_conf.specs.Rule.{RuleText}
 use Rattle.pam_conf.specs.Stack.{Items, End, ThenModule, ThenSub, joined, module_count}
 use Rattle.pam_conf.specs.Walk.{Walk, Event, Deeper, Reads, walk, deeper, numbered, failed, nothing, ◌then◌, followed, fault_at, target_walk, include_walk}

@@ -1,10 +1,9 @@
 -- The rules and the faults of a file, where each line is read by itself: pam.conf(5), on comments, continued lines and rules.
-use Rattle.std.specs.Prelude.{ℕ, List, [], ◌∷◌, map, filter_map, Result, Ok, Err}
+use Rattle.std.specs.Prelude.{ℕ, List, [], ◌∷◌, filter_map, Result, Ok, Err}
 use Rattle.std.specs.Option.{option_map_or}
 use Rattle.std.specs.Result.{result_err, result_ok, result_transpose}
 use Rattle.pam_text.specs.Source.{source_fault}
 use Rattle.pam_text.specs.Text.{FileByte, text_of, lines_of}
-use Rattle.pam_conf.specs.Files.{Folder, Named}
 use Rattle.pam_conf.specs.Lines.{fault_of_source, rule_at}
 use Rattle.pam_conf.specs.Rule.{RuleText}
 use Rattle.pam_conf.specs.declared.error.RuleFault.{RuleFault}
@@ -41,15 +40,3 @@ own_faults form bytes = faults_among (file_results form bytes)
 abbrev pub unless_faulty : List RuleFault → List RuleText → Result (List RuleText) RuleFault
 unless_faulty [] rules = Ok rules
 unless_faulty (first ∷ faults) rules = Err first
-
--- a file as it was read
-pub record FileText : Type 0 where
-  pub rules : List RuleText
-  pub faults : List RuleFault
-
--- the rules and the faults of the files, in order
-abbrev pub file_text : Form → Named → FileText
-file_text form f = record { rules = good_rules form f.1; faults = own_faults form f.1 }
-
-abbrev pub files_read : Folder → List FileText
-files_read folder = map (file_text folder.form) folder.entries

@@ -1,5 +1,5 @@
 -- A list of items as a tree: pam.conf(5).
-use Rattle.std.specs.Prelude.{ℕ, ◌+◌, List, [], ◌∷◌}
+use Rattle.std.specs.Prelude.{List, [], ◌∷◌}
 use Rattle.pam_conf.specs.declared.stack.Module.{Module}
 use Rattle.pam_conf.specs.declared.stack.Item.{Item}
 use Rattle.pam_conf.specs.declared.stack.Item.TheVariants.{Module as ModuleItem, Sub as SubItem}
@@ -28,9 +28,3 @@ items_of (SubItem s ∷ rest) = ThenSub s.text s.inner (items_of rest)
 -- a substack: its rule, and the tree of its items
 abbrev pub sub_list : Inside → SubList
 sub_list s = record { text = record { file = s.file; line = s.line; target = s.target }; inner = items_of s.items.items }
-
--- the number of substacks, nested ones included
-abbrev pub sub_count : Items → ℕ
-sub_count End = 0
-sub_count (ThenModule m rest) = sub_count rest
-sub_count (ThenSub s inner rest) = sub_count inner + sub_count rest + 1

@@ -26,11 +26,6 @@ abbrev pub at_line : {A : Type 0} → ℕ → Result A FaultKind → Result A Ru
 at_line line (Ok x) = Ok x
 at_line line (Err kind) = Err record { kind = kind; line = line }
 
--- a fault with its line; a failed allocation has line 0
-abbrev pub fault_at : ℕ → FaultKind → RuleFault
-fault_at line faults.Memory = record { kind = faults.Memory; line = 0 }
-fault_at line kind = record { kind = kind; line = line }
-
 -- the rule of a line, if it has one, or its fault
 abbrev pub rule_at : Form → List FileByte → Result (Option RuleText) RuleFault
 rule_at form line = at_line (line_number line) (line_rule_of form (line_number line) (map (λ m. m.1) line))

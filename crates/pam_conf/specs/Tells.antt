@@ -6,11 +6,6 @@ use Rattle.pam_conf.specs.declared.error.FaultKind.{FaultKind}
 use Rattle.pam_conf.specs.declared.error.FaultKind.TheVariants as faults
 use Rattle.pam_conf.specs.declared.error.RuleFault.{RuleFault}
 
--- the fault of one line, without its number
-abbrev pub KindTells : {Y : Type 0} → FaultKind → Result Y FaultKind → Type 0
-KindTells faults.Memory meant = Unit {0}
-KindTells kind meant = meant ≡ Err kind
-
 -- the fault of a file, of this kind; a failed allocation has line 0
 abbrev pub FailsAs : {Y : Type 0} → RuleFault → FaultKind → Result Y RuleFault → Type 0
 FailsAs fault faults.Memory meant = fault.line ≡ 0

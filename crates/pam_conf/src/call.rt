@@ -1,7 +1,7 @@
 //! The call of a module by a rule, kept as it is written: in one piece, and small.
 ghost use Rattle.std.specs.Prelude.{◌≡◌, IfOk, true};
-ghost use Rattle.pam_conf.specs.Calls.{arguments_in, control_in, is_call, path_in};
-ghost use Rattle.pam_conf.specs.Owned.{owned_words};
+ghost use Rattle.pam_conf.specs.inner.Calls.{arguments_in, control_in, is_call, path_in};
+ghost use Rattle.pam_conf.specs.inner.Owned.{owned_words};
 ghost use Rattle.pam_conf.specs.Remaining.{words_to_come};
 
 use crate::words::{OwnedWords, Words, word_text};

@@ -1,7 +1,7 @@
 //! Rules as a walk keeps them: small, with the words of a call in one piece, which is cut when the module is met.
 ghost use Rattle.std.specs.Prelude.{◌≡◌, IfOk, map};
 ghost use Rattle.std.specs.Option.{option_map};
-ghost use Rattle.pam_conf.specs.Kept.{kept_body, kept_view};
+ghost use Rattle.pam_conf.specs.inner.Kept.{kept_body, kept_view};
 ghost use Rattle.pam_conf.specs.Rule.{body_view, rule_view};
 ghost use Rattle.pam_conf.specs.Walk.{carries, is_of_kind};
 

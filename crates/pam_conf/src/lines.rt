@@ -7,13 +7,14 @@ ghost use Rattle.pam_codes.specs.Tokens.{is_blank};
 ghost use Rattle.pam_text.specs.Left.{text_left};
 ghost use Rattle.pam_text.specs.Text.{text_of, lines_of};
 ghost use Rattle.pam_text.specs.Gives.{Gives};
-ghost use Rattle.pam_conf.specs.Tells.{FaultTells, KindTells};
+ghost use Rattle.pam_conf.specs.Tells.{FaultTells};
+ghost use Rattle.pam_conf.specs.inner.Tells.{KindTells};
 ghost use Rattle.pam_conf.specs.FileRules.{line_results};
-ghost use Rattle.pam_conf.specs.Kept.{kept_view};
+ghost use Rattle.pam_conf.specs.inner.Kept.{kept_view};
 ghost use Rattle.pam_conf.specs.Lines.{at_line, fault_of_source, line_rule_of, rules_in, rules_of};
-ghost use Rattle.pam_conf.specs.Lines.{fault_at as fault_at_line};
+ghost use Rattle.pam_conf.specs.inner.Lines.{fault_at as fault_at_line};
 ghost use Rattle.pam_conf.specs.Rule.{rule_view};
-ghost use Rattle.pam_conf.specs.Wanted.{with_rule, only_wanted, wants};
+ghost use Rattle.pam_conf.specs.inner.Wanted.{with_rule, only_wanted, wants};
 
 use crate::error::{FaultKind, RuleFault};
 use crate::kept::{KeptRule, whole_rules};

@@ -1,6 +1,6 @@
 //! The list of a file: its items, each with the includes by which it came in.
 ghost use Rattle.std.specs.Prelude.{◌≡◌, ◌<◌, ◌∷◌, ◌++◌, [], OnOk, IfOk, length, map};
-ghost use Rattle.pam_conf.specs.Kept.{kept_view};
+ghost use Rattle.pam_conf.specs.inner.Kept.{kept_view};
 ghost use Rattle.pam_conf.specs.Listed.{file_listed, further, included, listed, rule_listed};
 ghost use Rattle.pam_conf.specs.ListedText.{listed_text};
 ghost use Rattle.pam_conf.specs.Files.{position_of};

@@ -30,7 +30,7 @@ pub(crate) struct Progress {
 
 impl Progress {
     ghost use Rattle.std.specs.Prelude.{◌∷◌, [], IfOk};
-    ghost use Rattle.pam_conf.specs.Progress.{IsTable, count_of};
+    ghost use Rattle.pam_conf.specs.inner.Progress.{IsTable, count_of};
 
     /// The progress at the start of a walk over `files`.
     pub(crate) fn new(alloc: Global, files: &Files, kind: Kind) -> Result<Progress, AllocError>

@@ -3,12 +3,12 @@ ghost use Rattle.std.specs.Prelude.{◌≡◌, ◌<◌, IfOk, IfSome, None, OnOk
 ghost use Rattle.std.specs.Char.{to_ascii_lowercase};
 ghost use Rattle.std.specs.List.{list_any};
 ghost use Rattle.std.specs.Option.{option_map};
-ghost use Rattle.pam_conf.specs.Progress.{IsTable};
+ghost use Rattle.pam_conf.specs.inner.Progress.{IsTable};
 ghost use Rattle.pam_conf.specs.Resolution.{carried, from_starts, resolved, stack_from, start_in};
-ghost use Rattle.pam_conf.specs.Kept.{kept_view};
+ghost use Rattle.pam_conf.specs.inner.Kept.{kept_view};
 ghost use Rattle.pam_conf.specs.Tells.{ErrorTells};
 ghost use Rattle.pam_text.specs.Gives.{Gives};
-ghost use Rattle.pam_conf.specs.StartOf.{IsReadStart, start_text};
+ghost use Rattle.pam_conf.specs.inner.StartOf.{IsReadStart, start_text};
 ghost use Rattle.pam_conf.specs.Walk.{carries, rules_at};
 ghost use Rattle.pam_conf.specs.declared.rule.Form.TheVariants.{Dir, Single};
 

@@ -3,12 +3,12 @@ ghost use Rattle.std.specs.Prelude.{◌≡◌, ◌∷◌, IfOk, map};
 ghost use Rattle.std.specs.Char.{to_ascii_lowercase};
 ghost use Rattle.std.specs.Option.{option_map};
 ghost use Rattle.pam_text.specs.Gives.{Gives};
-ghost use Rattle.pam_conf.specs.Tells.{KindTells};
+ghost use Rattle.pam_conf.specs.inner.Tells.{KindTells};
 ghost use Rattle.pam_conf.specs.Rule.{kind_named, kind_or_fault_of, dashed_kind_of};
 ghost use Rattle.pam_conf.specs.Rule.{file_name_of, without_folder_of, target_of};
 ghost use Rattle.pam_conf.specs.Rule.{control_body_of, body_of};
 ghost use Rattle.pam_conf.specs.Rule.{kind_rule_of, include_rule_of, plain_rule_of, first_rule_of, rule_of};
-ghost use Rattle.pam_conf.specs.Kept.{kept_body, kept_view};
+ghost use Rattle.pam_conf.specs.inner.Kept.{kept_body, kept_view};
 ghost use Rattle.pam_conf.specs.Remaining.{words_to_come};
 ghost use Rattle.pam_conf.specs.Walk.{same_kind};
 

@@ -6,8 +6,8 @@ ghost use Rattle.std.specs.Result.{result_transpose};
 ghost use Rattle.pam_text.specs.Text.{text_of, lines_of};
 ghost use Rattle.pam_conf.specs.FileRules.{faults_among, file_results, good_rules, line_results, own_faults, rules_among};
 ghost use Rattle.pam_conf.specs.Files.{bytes_at};
-ghost use Rattle.pam_conf.specs.FilesRead.{file_view};
-ghost use Rattle.pam_conf.specs.Kept.{kept_view};
+ghost use Rattle.pam_conf.specs.inner.FilesRead.{file_view};
+ghost use Rattle.pam_conf.specs.inner.Kept.{kept_view};
 ghost use Rattle.pam_conf.specs.Lines.{at_line, line_rule_of};
 ghost use Rattle.pam_conf.specs.Rule.{rule_view};
 ghost use Rattle.pam_conf.specs.Targets.{is_target, names_target};
@@ -147,8 +147,8 @@ pub struct RuleFiles<'a> {
 impl<'a> Model for RuleFiles<'a> {
     ghost use Rattle.std.specs.Prelude.{◌≡◌, map};
     ghost use Rattle.pam_conf.specs.Files.{Folder};
-    ghost use Rattle.pam_conf.specs.FileRules.{files_read};
-    ghost use Rattle.pam_conf.specs.FilesRead.{file_view};
+    ghost use Rattle.pam_conf.specs.inner.FileRules.{files_read};
+    ghost use Rattle.pam_conf.specs.inner.FilesRead.{file_view};
 
     ghost Value = { Folder };
 

@@ -43,19 +43,20 @@ impl Model for Sub {
     ghost use Rattle.std.specs.Prelude.{◌+◌};
     ghost use Rattle.std.proofs.Common.{arith};
     ghost use Rattle.pam_conf.specs.Stack.{SubList};
-    ghost use Rattle.pam_conf.specs.StackCode.{sub_code};
+    ghost use Rattle.pam_conf.specs.inner.StackCode.{sub_code};
 
     ghost Value = { SubList };
 
     ghost coded = { sub_code };
 
-    ghost use Rattle.pam_conf.specs.ItemsOf.{sub_list, sub_count};
+    ghost use Rattle.pam_conf.specs.ItemsOf.{sub_list};
+    ghost use Rattle.pam_conf.specs.inner.ItemsOf.{sub_count};
 
     ghost view = { sub_list };
 
     ghost size = { λ s. sub_count s.inner + 1 };
 
-    ghost use Rattle.pam_conf.specs.SubFalls.{most_le-sub_count};
+    ghost use Rattle.pam_conf.specs.inner.SubFalls.{most_le-sub_count};
 
     ghost size_decreases = { λ a h. omega (arith, most_le-sub_count a.items.items) };
 }
@@ -78,7 +79,7 @@ pub struct Stack {
 impl Model for Stack {
     ghost use Rattle.std.specs.Prelude.{◌≡◌, ◌≤◌};
     ghost use Rattle.pam_conf.specs.Stack.{Items, depth, module_count, IsNumbered};
-    ghost use Rattle.pam_conf.specs.StackCode.{items_code};
+    ghost use Rattle.pam_conf.specs.inner.StackCode.{items_code};
     ghost use Rattle.pam_conf.specs.declared.stack.TheConstants.{MAX_MODULES};
     ghost use Rattle.pam_conf.specs.declared.trail.TheConstants.{MAX_OPEN_FILES};
 

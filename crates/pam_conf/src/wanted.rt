@@ -1,10 +1,10 @@
 //! The rules that a reader of a file keeps: pam.conf(5), on `service` and `type`.
 ghost use Rattle.std.specs.Prelude.{◌≡◌, IfSome, IsOk, IsOkAnd, IsTrue, List, Ok, Some, ℕ};
-ghost use Rattle.pam_conf.specs.FirstWord.{words_from};
-ghost use Rattle.pam_conf.specs.Kept.{kept_view};
+ghost use Rattle.pam_conf.specs.inner.FirstWord.{words_from};
+ghost use Rattle.pam_conf.specs.inner.Kept.{kept_view};
 ghost use Rattle.pam_conf.specs.Lines.{at_line, line_rule_of};
 ghost use Rattle.pam_conf.specs.Rule.{RuleText, body_of};
-ghost use Rattle.pam_conf.specs.Wanted.{kind_name, wants, with_rule};
+ghost use Rattle.pam_conf.specs.inner.Wanted.{kind_name, wants, with_rule};
 ghost use Rattle.pam_conf.specs.Words.{text_of_word, words_of, words_or_fault};
 
 use crate::kept::{KeptRule, has_service, is_of};

@@ -5,7 +5,7 @@ ghost use Rattle.std.specs.List.{list_any, prefix_len, onto_first};
 ghost use Rattle.std.specs.Option.{option_map};
 ghost use Rattle.pam_codes.specs.Tokens.{is_blank};
 ghost use Rattle.pam_conf.specs.Words.{Between, Bracket, has_no_blank, words_in, words_of, words_or_fault};
-ghost use Rattle.pam_conf.specs.FirstWord.{words_from};
+ghost use Rattle.pam_conf.specs.inner.FirstWord.{words_from};
 ghost use Rattle.pam_conf.specs.Words.{unescaped, text_of_word};
 
 use crate::error::FaultKind;
@@ -190,7 +190,7 @@ pub(crate) struct OwnedWords {
 }
 
 impl OwnedWords {
-    ghost use Rattle.pam_conf.specs.Owned.{owned_words};
+    ghost use Rattle.pam_conf.specs.inner.Owned.{owned_words};
     ghost use Rattle.pam_conf.specs.Remaining.{words_to_come};
 
     /// Copies words, as they are written.

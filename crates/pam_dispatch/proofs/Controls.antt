@@ -11,8 +11,9 @@ use Rattle.pam_dispatch.specs.declared.flat_item.FlatItem.{FlatItem}
 use Rattle.pam_dispatch.specs.declared.flat_item.FlatItem.TheVariants.{Module, Substack}
 use Rattle.pam_dispatch.specs.declared.place.Place.{Place}
 use Rattle.pam_dispatch.specs.Runs.{Runs, asked_module, next_ask}
-use Rattle.pam_dispatch.specs.Flat.{IsNumbered, IsPlaceOf, controls_in, control_at, modules_of, rest_of}
-use Rattle.pam_dispatch.specs.Program.{IsProgram}
+use Rattle.pam_dispatch.specs.Flat.{IsPlaceOf, controls_in, control_at, modules_of, rest_of}
+use Rattle.pam_dispatch.specs.inner.Flat.{IsNumbered}
+use Rattle.pam_dispatch.specs.inner.Program.{IsProgram}
 use Rattle.pam_dispatch.proofs.Asking.{number-next_ask}
 use Rattle.pam_dispatch.proofs.Numbering.{ModuleAt, control_of, at_positions_from, control_in-module, length-positions_from}
 use Rattle.pam_dispatch.proofs.Places.{place_asks, place_no_substack, place_within}

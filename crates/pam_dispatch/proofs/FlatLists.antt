@@ -11,7 +11,7 @@ use Rattle.pam_conf.proofs.StackTree.{items_of-drop_module, items_of-drop_sub}
 use Rattle.pam_dispatch.specs.declared.flat_item.FlatItem.{FlatItem}
 use Rattle.pam_dispatch.specs.declared.flat_item.FlatItem.TheVariants.{Module as FlatModule, Substack}
 use Rattle.pam_dispatch.specs.Tree.{count}
-use Rattle.pam_dispatch.specs.Flat.{flat_list}
+use Rattle.pam_dispatch.specs.inner.Flat.{flat_list}
 
 count-items_of : (xs : List Item) → count (items_of xs) ≡ length xs
 unfolding count

@@ -9,7 +9,8 @@ use Rattle.pam_dispatch.specs.declared.flat_item.FlatItem.TheVariants.{Module, S
 use Rattle.pam_dispatch.specs.Runs.{Runs, asks}
 use Rattle.pam_dispatch.specs.Tree.{count, runs_after, runs_of_stack}
 use Rattle.pam_conf.specs.Stack.{Items, End, ThenModule, ThenSub}
-use Rattle.pam_dispatch.specs.Flat.{level_of, resume, flat_list, runs_of}
+use Rattle.pam_dispatch.specs.Flat.{level_of, resume, runs_of}
+use Rattle.pam_dispatch.specs.inner.Flat.{flat_list}
 use Rattle.pam_dispatch.specs.State.{start_state}
 use Rattle.pam_dispatch.proofs.Resume.{resume-deeper, resume-item, resume-sub, resume-module, ask_at}
 

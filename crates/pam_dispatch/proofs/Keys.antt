@@ -5,7 +5,8 @@ use Rattle.std.proofs.lemmas.Bool.{and_from, cases_lt, cond-false, cond-true, eq
 use Rattle.std.specs.List.{AllByRecursion, IsDistinct, list_any, position, position_or_len}
 use Rattle.std.specs.Option.{is_some}
 use Rattle.std.specs.Prelude.{IfNone, IfSome, nat_lt, not}
-use Rattle.pam_dispatch.specs.Hashing.{same_key, same_key-self, same_key-true}
+use Rattle.pam_dispatch.specs.Hashing.{same_key}
+use Rattle.pam_dispatch.specs.inner.Hashing.{same_key-self, same_key-true}
 use Rattle.pam_dispatch.specs.Keys.{AreDifferent, DiffersFrom, KeyValue}
 
 -- KEYS IN A LIST

@@ -7,7 +7,8 @@ use Rattle.pam_dispatch.specs.declared.state.State.{State}
 use Rattle.pam_dispatch.specs.declared.flat_item.FlatItem.{FlatItem}
 use Rattle.pam_dispatch.specs.declared.flat_item.FlatItem.TheVariants.{Module, Substack}
 use Rattle.pam_dispatch.specs.Runs.{Runs, ends, asks, AsksRise}
-use Rattle.pam_dispatch.specs.Flat.{flat_list, resume, runs_of, controls_in, modules_of, positions_from, IsNumbered}
+use Rattle.pam_dispatch.specs.Flat.{resume, runs_of, controls_in, modules_of}
+use Rattle.pam_dispatch.specs.inner.Flat.{flat_list, positions_from, IsNumbered}
 use Rattle.pam_dispatch.specs.Tree.{runs_of_stack}
 use Rattle.pam_dispatch.proofs.Flattening.{runs_of-flat_list}
 use Rattle.pam_dispatch.proofs.StackLists.{modules_of-flat_list, numbered-flat_list}

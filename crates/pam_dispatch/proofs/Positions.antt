@@ -4,7 +4,7 @@ use Rattle.std.proofs.lemmas.List.{drop_all}
 use Rattle.pam_codes.specs.declared.action.Action.{Action}
 use Rattle.pam_dispatch.specs.declared.flat_item.FlatItem.{FlatItem}
 use Rattle.pam_dispatch.specs.declared.flat_item.FlatItem.TheVariants.{Module, Substack}
-use Rattle.pam_dispatch.specs.Flat.{positions_from}
+use Rattle.pam_dispatch.specs.inner.Flat.{positions_from}
 use Rattle.pam_dispatch.proofs.Resume.{at_index}
 
 module _ (ts : List FlatItem) (at : ℕ) (before : List ℕ) where

@@ -11,8 +11,9 @@ use Rattle.pam_dispatch.specs.declared.flat_item.FlatItem.{FlatItem}
 use Rattle.pam_dispatch.specs.declared.flat_item.FlatItem.TheVariants.{Module, Substack}
 use Rattle.pam_dispatch.specs.declared.state.State.{State}
 use Rattle.pam_dispatch.specs.State.{start_state}
-use Rattle.pam_dispatch.specs.Flat.{IsBounded, level_of}
-use Rattle.pam_dispatch.specs.ReadLevels.{AreReadLevels, IsReadTable}
+use Rattle.pam_dispatch.specs.Flat.{level_of}
+use Rattle.pam_dispatch.specs.inner.Flat.{IsBounded}
+use Rattle.pam_dispatch.specs.inner.ReadLevels.{AreReadLevels, IsReadTable}
 use Rattle.pam_dispatch.specs.Representatives.{is_read, is_reset, resets}
 
 -- RESETS

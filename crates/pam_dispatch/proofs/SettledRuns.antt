@@ -15,11 +15,13 @@ use Rattle.pam_dispatch.specs.declared.state.Impression.{Impression}
 use Rattle.pam_dispatch.specs.declared.state.Impression.TheVariants.{Negative}
 use Rattle.pam_dispatch.specs.declared.state.State.{State}
 use Rattle.pam_dispatch.specs.declared.step.Outcome.{Outcome}
-use Rattle.pam_dispatch.specs.Flat.{IsNumbered, IsPlaceOf, controls_in, modules_of, resume, rest_of}
+use Rattle.pam_dispatch.specs.Flat.{IsPlaceOf, controls_in, modules_of, resume, rest_of}
+use Rattle.pam_dispatch.specs.inner.Flat.{IsNumbered}
 use Rattle.pam_dispatch.specs.Laws.{AnswerCodes, SettledAsks, SettledEnds}
 use Rattle.pam_dispatch.specs.Runs.{Ask, Assignment, Runs, ends, asks, asked_by, asked_module, final_state, outcome_of, state_in}
 use Rattle.pam_dispatch.specs.State.{act, action_of, left_of, start_state, state_with}
-use Rattle.pam_dispatch.specs.Settled.{IsSettled, KeepFailure, keeps_failure, unchanged}
+use Rattle.pam_dispatch.specs.Settled.{IsSettled, keeps_failure, unchanged}
+use Rattle.pam_dispatch.specs.inner.Settled.{KeepFailure}
 use Rattle.pam_dispatch.proofs.Places.{place_state}
 use Rattle.pam_dispatch.proofs.Resume.{ask_at, resume-module}
 

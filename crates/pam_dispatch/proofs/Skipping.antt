@@ -6,7 +6,7 @@ use Rattle.std.proofs.lemmas.List.{drop-drop, get_or_append_left, get_or_push, l
 use Rattle.pam_dispatch.specs.declared.flat_item.FlatItem.{FlatItem}
 use Rattle.pam_dispatch.specs.declared.state.State.{State}
 use Rattle.pam_dispatch.specs.Flat.{level_of, resume}
-use Rattle.pam_dispatch.specs.Stretches.{IsStretchTable, begins_on, stretch_of}
+use Rattle.pam_dispatch.specs.inner.Stretches.{IsStretchTable, begins_on, stretch_of}
 use Rattle.pam_dispatch.proofs.Resume.{at_index, resume-item}
 
 -- HOW LONG A STRETCH IS

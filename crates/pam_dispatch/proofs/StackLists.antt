@@ -13,12 +13,14 @@ use Rattle.pam_conf.proofs.StackTree.{depth-pos, numbered-module_parts, numbered
 use Rattle.pam_conf.specs.declared.stack.TheConstants.{MAX_MODULES}
 use Rattle.pam_dispatch.specs.declared.flat_item.FlatItem.{FlatItem}
 use Rattle.pam_dispatch.specs.declared.flat_item.FlatItem.TheVariants.{Module, Substack}
-use Rattle.pam_dispatch.specs.Tree.{count, controls_of}
-use Rattle.pam_dispatch.specs.Flat.{flat_list, controls_in, control_at, modules_of, positions_from, IsBounded, IsNumbered}
-use Rattle.pam_dispatch.specs.Program.{IsProgram}
-use Rattle.pam_dispatch.specs.ReadLevels.{IsReadTable}
-use Rattle.pam_dispatch.specs.Settled.{KeepFailure}
-use Rattle.pam_dispatch.specs.Stretches.{IsStretchTable}
+use Rattle.pam_dispatch.specs.Tree.{count}
+use Rattle.pam_dispatch.specs.inner.Tree.{controls_of}
+use Rattle.pam_dispatch.specs.Flat.{controls_in, control_at, modules_of}
+use Rattle.pam_dispatch.specs.inner.Flat.{flat_list, positions_from, IsBounded, IsNumbered}
+use Rattle.pam_dispatch.specs.inner.Program.{IsProgram}
+use Rattle.pam_dispatch.specs.inner.ReadLevels.{IsReadTable}
+use Rattle.pam_dispatch.specs.inner.Settled.{KeepFailure}
+use Rattle.pam_dispatch.specs.inner.Stretches.{IsStretchTable}
 
 -- LEVELS AND NUMBERS
 

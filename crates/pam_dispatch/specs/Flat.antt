@@ -1,23 +1,13 @@
 -- The flat list of a stack's items, each with its level, in the order of pam.conf(5), DESCRIPTION.
-use Rattle.std.specs.Prelude.{◌≡◌, ℕ, ◌+◌, ◌-◌, ◌<◌, ◌≤◌, ◌==◌, nat_lt, ◌&&◌, if◌then◌else◌}
+use Rattle.std.specs.Prelude.{◌≡◌, ℕ, ◌+◌, ◌-◌, ◌==◌, nat_lt, ◌&&◌, if◌then◌else◌}
 use Rattle.std.specs.Prelude.{All, List, [], ◌∷◌, ◌++◌, length, take, drop, slice_index_or, Option, Some, None}
 use Rattle.pam_codes.specs.declared.action.Action.{Action}
-use Rattle.pam_conf.specs.Stack.{Items, End, ThenModule, ThenSub}
-use Rattle.pam_conf.specs.declared.stack.TheConstants.{MAX_MODULES}
 use Rattle.pam_dispatch.specs.declared.state.State.{State}
 use Rattle.pam_dispatch.specs.declared.flat_item.FlatItem.{FlatItem}
 use Rattle.pam_dispatch.specs.declared.flat_item.FlatItem.TheVariants.{Module, Substack}
-use Rattle.pam_dispatch.specs.declared.entered.TheConstants.{LISTS}
 use Rattle.pam_dispatch.specs.declared.place.Place.{Place}
 use Rattle.pam_dispatch.specs.State.{start_state}
 use Rattle.pam_dispatch.specs.Runs.{Runs, ends, asks}
-use Rattle.pam_dispatch.specs.Tree.{count}
-
--- each item with its level, a substack before its items
-unfoldable pub flat_list : ℕ → Items → List FlatItem
-flat_list level End = []
-flat_list level (ThenModule m rest) = Module level m.number m.control (count rest) ∷ flat_list level rest
-flat_list level (ThenSub sub inner rest) = Substack level ∷ (flat_list (level + 1) inner ++ flat_list level rest)
 
 -- the number of substacks around an item
 abbrev pub level_of : FlatItem → ℕ
@@ -37,23 +27,6 @@ modules_of program = length (controls_in program)
 -- the control of the module with this number, from 1
 abbrev pub control_at : List FlatItem → ℕ → List Action
 control_at program number = slice_index_or (controls_in program) (number - 1) []
-
--- the positions of the modules, from the left, if `before` items come before the list
-unfoldable pub positions_from : ℕ → List FlatItem → List ℕ
-positions_from before [] = []
-positions_from before (Module level number control after ∷ rest) = before ∷ positions_from (before + 1) rest
-positions_from before (Substack level ∷ rest) = positions_from (before + 1) rest
-
--- the modules are numbered from the left, if `before` modules come before the list
-unfoldable pub IsNumbered : ℕ → List FlatItem → Type 0
-IsNumbered before [] = Unit {0}
-IsNumbered before (Module level number control after ∷ rest) = (number ≡ before + 1) × IsNumbered (before + 1) rest
-IsNumbered before (Substack level ∷ rest) = IsNumbered before rest
-
--- at most 16 lists are open at a module, or in a substack, and a module's number is at most that of modules in a stack
-abbrev pub IsBounded : FlatItem → Type 0
-IsBounded (Module level number control after) = (level < LISTS) × (number ≤ MAX_MODULES)
-IsBounded (Substack level) = level + 1 < LISTS
 
 -- the open run of a flat list: skips the items deeper than `level` and `skip` items of that level; `entered` has
 -- the entry states of the open lists, outermost first, and `s` is the state

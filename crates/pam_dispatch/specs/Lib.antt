@@ -4,12 +4,10 @@ pub mod Flat
 pub mod Hashing
 pub mod Keys
 pub mod Laws
-pub mod Program
-pub mod ReadLevels
 pub mod Representatives
 pub mod Runs
 pub mod Settled
 pub mod Situations
 pub mod State
-pub mod Stretches
 pub mod Tree
+pub mod inner

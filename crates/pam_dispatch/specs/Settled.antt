@@ -1,14 +1,11 @@
 -- The end of a run that no answer changes: pam.conf(5), DESCRIPTION, the actions of a control.
-use Rattle.std.specs.Prelude.{◌≡◌, ℕ, ◌+◌, ◌-◌, ◌<◌, Bool, true, false, IsTrue, List, [], ◌∷◌}
+use Rattle.std.specs.Prelude.{◌≡◌, ℕ, ◌+◌, ◌-◌, ◌<◌, Bool, true, false}
 use Rattle.pam_codes.specs.declared.action.Action.{Action}
 use Rattle.pam_codes.specs.declared.action.Action.TheVariants.{Ignore, Ok, Done, Bad, Die, Reset, Jump}
 use Rattle.pam_codes.specs.declared.code.TheConstants.{CODES}
-use Rattle.pam_dispatch.specs.declared.flat_item.FlatItem.{FlatItem}
-use Rattle.pam_dispatch.specs.declared.flat_item.FlatItem.TheVariants.{Module, Substack}
 use Rattle.pam_dispatch.specs.declared.state.State.{State}
 use Rattle.pam_dispatch.specs.declared.step.Outcome.{Outcome}
 use Rattle.pam_dispatch.specs.Runs.{Ask, Runs, ends, asks, outcome_of}
-use Rattle.pam_dispatch.specs.State.{action_of}
 
 -- the outcome that changes nothing: the state stays, and all items are left
 abbrev pub unchanged : Ask → State → Outcome
@@ -30,13 +27,3 @@ keeps_failure Bad = true
 keeps_failure Die = false
 keeps_failure Reset = false
 keeps_failure (Jump items) = false
-
--- the actions of all codes do
-abbrev pub AllKeepFailure : List Action → Type 0
-AllKeepFailure control = (code : ℕ) → code < CODES → IsTrue (keeps_failure (action_of control code))
-
--- modules of the outermost list, none of which changes a failed stack
-unfoldable pub KeepFailure : List FlatItem → Type 0
-KeepFailure [] = Unit {0}
-KeepFailure (Module level number control after ∷ rest) = (level ≡ 0) × AllKeepFailure control × KeepFailure rest
-KeepFailure (Substack level ∷ rest) = ⊥

@@ -1,7 +1,6 @@
 -- The run of a stack, over its tree of items: pam.conf(5), DESCRIPTION.
 use Rattle.std.specs.Prelude.{ℕ, ◌-◌, List, [], ◌∷◌, ◌++◌}
 use Rattle.std.proofs.Common.{zero, suc}
-use Rattle.pam_codes.specs.declared.action.Action.{Action}
 use Rattle.pam_conf.specs.Stack.{Items, End, ThenModule, ThenSub, ModuleText}
 use Rattle.pam_dispatch.specs.declared.state.State.{State}
 use Rattle.pam_dispatch.specs.State.{start_state}
@@ -13,12 +12,6 @@ unfoldable pub count : Items → ℕ
 count End = 0
 count (ThenModule m rest) = suc (count rest)
 count (ThenSub sub inner rest) = suc (count rest)
-
--- the controls of all modules, from the left
-unfoldable pub controls_of : Items → List (List Action)
-controls_of End = []
-controls_of (ThenModule m rest) = m.control ∷ controls_of rest
-controls_of (ThenSub sub inner rest) = controls_of inner ++ controls_of rest
 
 -- the items after the first `skip`
 unfoldable pub items_after : ℕ → Items → Items

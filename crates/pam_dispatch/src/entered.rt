@@ -2,7 +2,7 @@
 
 ghost use Rattle.std.specs.Prelude.{◌≡◌, ◌<◌, List, slice_index_or, slice_set};
 ghost use Rattle.pam_dispatch.specs.declared.flat_item.FlatItem.{FlatItem};
-ghost use Rattle.pam_dispatch.specs.ReadLevels.{AreReadLevels};
+ghost use Rattle.pam_dispatch.specs.inner.ReadLevels.{AreReadLevels};
 ghost use Rattle.pam_dispatch.specs.Representatives.{read_states};
 
 use crate::read_levels::ReadLevels;

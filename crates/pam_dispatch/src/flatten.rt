@@ -3,7 +3,7 @@
 ghost use Rattle.std.specs.Prelude.{◌≡◌, ◌+◌, ◌≤◌, ◌++◌, OnOk};
 ghost use Rattle.pam_conf.specs.Stack.{depth};
 ghost use Rattle.pam_conf.specs.ItemsOf.{items_of};
-ghost use Rattle.pam_dispatch.specs.Flat.{flat_list};
+ghost use Rattle.pam_dispatch.specs.inner.Flat.{flat_list};
 ghost use Rattle.pam_dispatch.specs.declared.entered.TheConstants.{LISTS};
 
 use crate::error::Memory;

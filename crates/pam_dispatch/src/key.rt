@@ -41,7 +41,8 @@ impl PlaceKey {
 }
 
 impl PartialEq for PlaceKey {
-    ghost use Rattle.pam_dispatch.specs.Hashing.{same_key, same_key-equivalence};
+    ghost use Rattle.pam_dispatch.specs.Hashing.{same_key};
+    ghost use Rattle.pam_dispatch.specs.inner.Hashing.{same_key-equivalence};
     ghost use Rattle.std.specs.Cmp.{partial_equiv_from_equiv};
 
     ghost eq = { same_key };
@@ -57,7 +58,7 @@ impl PartialEq for PlaceKey {
 }
 
 impl Eq for PlaceKey {
-    ghost use Rattle.pam_dispatch.specs.Hashing.{same_key-equivalence};
+    ghost use Rattle.pam_dispatch.specs.inner.Hashing.{same_key-equivalence};
 
     ghost laws = { same_key-equivalence };
 }
@@ -65,7 +66,7 @@ impl Eq for PlaceKey {
 /// The depth says nothing more than the number of the states.
 impl Hash for PlaceKey {
     ghost use Rattle.pam_dispatch.specs.Hashing.{key_input};
-    ghost use Rattle.pam_dispatch.specs.Hashing.{same-key_input};
+    ghost use Rattle.pam_dispatch.specs.inner.Hashing.{same-key_input};
 
     ghost hash_input = { key_input };
 

@@ -7,11 +7,12 @@ ghost use Rattle.pam_codes.specs.Parts.{IsParts};
 ghost use Rattle.pam_conf.specs.Stack.{Items, module_at, module_count};
 ghost use Rattle.pam_conf.specs.declared.stack.TheConstants.{MAX_MODULES};
 ghost use Rattle.pam_dispatch.specs.Decision.{decision_of};
-ghost use Rattle.pam_dispatch.specs.Flat.{IsBounded, IsPlaceOf, control_at, controls_in, modules_of, positions_from, resume, rest_of, runs_of};
+ghost use Rattle.pam_dispatch.specs.Flat.{IsPlaceOf, control_at, controls_in, modules_of, resume, rest_of, runs_of};
+ghost use Rattle.pam_dispatch.specs.inner.Flat.{IsBounded, positions_from};
 ghost use Rattle.pam_dispatch.specs.Representatives.{is_reset};
 ghost use Rattle.pam_dispatch.specs.Runs.{AsksRise, Assignment, after_answer, answers_of, asked_by, asked_module, final_state, next_ask, outcome_in, state_in};
 ghost use Rattle.pam_dispatch.specs.Settled.{IsSettled};
-ghost use Rattle.pam_dispatch.specs.Stretches.{IsStretchTable};
+ghost use Rattle.pam_dispatch.specs.inner.Stretches.{IsStretchTable};
 ghost use Rattle.pam_dispatch.specs.Tree.{decided, runs_of_stack};
 
 use crate::asked::{Question, Situation};
@@ -55,7 +56,7 @@ impl Model for Program {
 
     ghost Value = { List FlatItem };
 
-    ghost use Rattle.pam_dispatch.specs.Program.{IsProgram};
+    ghost use Rattle.pam_dispatch.specs.inner.Program.{IsProgram};
 
     ghost view = { λ p. p.flat_items.items };
 

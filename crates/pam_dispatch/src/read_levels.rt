@@ -4,8 +4,9 @@ ghost use Rattle.std.specs.Prelude.{◌≡◌, ◌∷◌, ◌<◌, All, IfOk, Li
 ghost use Rattle.std.specs.List.{list_any};
 ghost use Rattle.pam_dispatch.specs.declared.entered.TheConstants.{LISTS};
 ghost use Rattle.pam_dispatch.specs.declared.flat_item.FlatItem.{FlatItem};
-ghost use Rattle.pam_dispatch.specs.Flat.{IsBounded, level_of};
-ghost use Rattle.pam_dispatch.specs.ReadLevels.{AreReadLevels, IsReadTable};
+ghost use Rattle.pam_dispatch.specs.Flat.{level_of};
+ghost use Rattle.pam_dispatch.specs.inner.Flat.{IsBounded};
+ghost use Rattle.pam_dispatch.specs.inner.ReadLevels.{AreReadLevels, IsReadTable};
 ghost use Rattle.pam_dispatch.specs.Representatives.{is_reset, resets};
 
 use crate::entered::LISTS;

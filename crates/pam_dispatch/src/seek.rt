@@ -1,8 +1,9 @@
 //! Moves to the next module that is asked.
 
 ghost use Rattle.std.specs.Prelude.{◌≡◌, ◌<◌, ◌≤◌, All, drop, length, take};
-ghost use Rattle.pam_dispatch.specs.Flat.{IsBounded, IsPlaceOf, resume, rest_of};
-ghost use Rattle.pam_dispatch.specs.Stretches.{IsStretchTable};
+ghost use Rattle.pam_dispatch.specs.Flat.{IsPlaceOf, resume, rest_of};
+ghost use Rattle.pam_dispatch.specs.inner.Flat.{IsBounded};
+ghost use Rattle.pam_dispatch.specs.inner.Stretches.{IsStretchTable};
 
 use crate::flat_item::FlatItem;
 use crate::place::Place;

@@ -1,7 +1,8 @@
 //! The end of a run that no answer changes.
 
 ghost use Rattle.std.specs.Prelude.{◌≡◌, [], ◌∷◌, IsTrue, drop};
-ghost use Rattle.pam_dispatch.specs.Settled.{AllKeepFailure, KeepFailure, keeps_failure};
+ghost use Rattle.pam_dispatch.specs.Settled.{keeps_failure};
+ghost use Rattle.pam_dispatch.specs.inner.Settled.{AllKeepFailure, KeepFailure};
 
 use crate::decision::Decision;
 use crate::flat_item::FlatItem;

@@ -108,7 +108,7 @@ impl State {
 /// A state is one number: places are looked up often.
 impl Hash for State {
     ghost use Rattle.pam_dispatch.specs.Hashing.{state_input};
-    ghost use Rattle.pam_dispatch.specs.Hashing.{same-state_input};
+    ghost use Rattle.pam_dispatch.specs.inner.Hashing.{same-state_input};
 
     ghost hash_input = { state_input };
 

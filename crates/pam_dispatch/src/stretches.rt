@@ -1,7 +1,7 @@
 //! Stretches of items on one level, which are skipped in one step.
 
 ghost use Rattle.std.specs.Prelude.{IfOk};
-ghost use Rattle.pam_dispatch.specs.Stretches.{IsStretchTable};
+ghost use Rattle.pam_dispatch.specs.inner.Stretches.{IsStretchTable};
 
 use crate::error::Memory;
 use crate::flat_item::FlatItem;

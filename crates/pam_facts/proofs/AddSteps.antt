@@ -2,8 +2,10 @@
 use Rattle.std.proofs.Common.{◌≡◌, ◌∙◌, ◌++◌, ◌≤◌, ℕ, zero, suc, List, [], ◌∷◌, Option, Some, None, Result, Ok, Err, refl, sym, ap, append-nil}
 use Rattle.std.proofs.Common.{Bor, arith, drop, length, map}
 use Rattle.std.specs.Prelude.{OnOk}
-use Rattle.pam_facts.specs.Error.{FailsIn, TellsFault, error_at}
-use Rattle.pam_facts.specs.Reading.{after_rows, rows_from, rows_in, table_rows, unless_memory, with_row}
+use Rattle.pam_facts.specs.Error.{TellsFault, error_at}
+use Rattle.pam_facts.specs.inner.Error.{FailsIn}
+use Rattle.pam_facts.specs.Reading.{after_rows, rows_from, rows_in, table_rows}
+use Rattle.pam_facts.specs.inner.Reading.{unless_memory, with_row}
 use Rattle.pam_facts.specs.Rows.{Row, row_of}
 use Rattle.pam_facts.specs.Table.{table}
 use Rattle.pam_facts.specs.declared.error.FactsError.{FactsError}

@@ -6,7 +6,7 @@ use Rattle.std.proofs.lemmas.List.{nil_from_length}
 use Rattle.std.proofs.lemmas.Bool.{cases_eq, cond-true, cond-false, cond_both, eq-eqb, ne_eqb}
 use Rattle.pam_codes.specs.Code.{all_codes}
 use Rattle.pam_codes.specs.Set.{codes_where, is_in, IsCodeSet}
-use Rattle.pam_codes.specs.SetBits.{codes_where-same, is_in-codes_where}
+use Rattle.pam_codes.specs.inner.SetBits.{codes_where-same, is_in-codes_where}
 use Rattle.pam_conf.specs.Stack.{Items, ModuleText, module_at}
 use Rattle.pam_conf.specs.declared.rule.Kind.{Kind}
 use Rattle.pam_paths.specs.Known.{answers_by}

@@ -4,7 +4,7 @@ use Rattle.std.proofs.Common.{[], ◌∷◌, cond, eqb, Option, Some, None, if�
 use Rattle.std.specs.Option.{option_map_or}
 use Rattle.pam_codes.specs.Code.{all_codes}
 use Rattle.pam_codes.specs.Set.{codes_where, is_in, IsCodeSet}
-use Rattle.pam_codes.specs.SetBits.{codes_where-same, is_in-codes_where}
+use Rattle.pam_codes.specs.inner.SetBits.{codes_where-same, is_in-codes_where}
 use Rattle.pam_conf.specs.declared.rule.Kind.{Kind}
 use Rattle.pam_conf.specs.declared.rule.Kind.TheVariants.{Auth, Account, Password, Session}
 use Rattle.pam_facts.specs.Codes.{are_complete, begin_with_kinds, code_named, codes_said, names_code, say_code}

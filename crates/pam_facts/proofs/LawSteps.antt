@@ -3,7 +3,7 @@ use Rattle.std.proofs.Common.{◌≡◌, ◌∙◌, ◌<◌, ◌==◌, ◌&&◌,
 use Rattle.std.proofs.lemmas.Bool.{cond_both, eqb-true}
 use Rattle.pam_codes.specs.Code.{all_codes}
 use Rattle.pam_codes.specs.Set.{codes_where, is_in}
-use Rattle.pam_codes.specs.SetBits.{is_in-codes_where}
+use Rattle.pam_codes.specs.inner.SetBits.{is_in-codes_where}
 use Rattle.pam_conf.specs.Stack.{ModuleText}
 use Rattle.pam_conf.specs.declared.rule.Kind.{Kind}
 use Rattle.pam_facts.specs.Answers.{answers_of, is_there, left_out, module_answers, or_failure}

@@ -28,11 +28,3 @@ TellsFault fault error meant = meant ≡ Err error
 -- what the bytes of a facts file give, or their fault, unless an allocation failed
 abbrev pub Gives : {X Y : Type 0} → (X → Y) → Result X FactsError → Result Y FactsError → Type 0
 Gives view result meant = GivesAs (λ (e : FactsError). TellsFault e.fault e) view result meant
-
-abbrev pub FailsIn : {Y : Type 0} → FactsFault → Result Y FactsFault → Type 0
-FailsIn Memory read = Unit {0}
-FailsIn fault read = read ≡ Err fault
-
--- for private contracts and proofs alone: a part of a file or its fault, unless an allocation failed
-abbrev pub GivesPart : {X Y : Type 0} → (X → Y) → Result X FactsFault → Result Y FactsFault → Type 0
-GivesPart view result read = GivesAs FailsIn view result read

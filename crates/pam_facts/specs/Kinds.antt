@@ -1,7 +1,7 @@
 -- The kinds that a word names, as `auth,account`.
 use Rattle.std.specs.Prelude.{ℕ, ◌||◌, Bool, true, false, List, [], ◌∷◌, Option, Some, None}
 use Rattle.std.specs.List.{slice_split}
-use Rattle.std.specs.Option.{option_map, option_map_or}
+use Rattle.std.specs.Option.{option_map}
 use Rattle.pam_conf.specs.Rule.{kind_named}
 use Rattle.pam_conf.specs.declared.rule.Kind.{Kind}
 use Rattle.pam_conf.specs.declared.rule.Kind.TheVariants.{Auth, Account, Password, Session}
@@ -40,7 +40,3 @@ names_in word = slice_split (is_among (44 ∷ [])) word
 -- THE KINDS that a word names, if each text between its commas is the name of one
 unfoldable pub kinds_named : List ℕ → Option Kinds
 kinds_named word = kinds_of_names (names_in word)
-
--- for private contracts and proofs alone: the names that are left, of which there are none after the last
-abbrev pub names_left : Option (List ℕ) → List (List ℕ)
-names_left rest = option_map_or names_in rest []

@@ -12,3 +12,4 @@ pub mod Rows
 pub mod Table
 pub mod Views
 pub mod Words
+pub mod inner

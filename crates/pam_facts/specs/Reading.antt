@@ -4,12 +4,11 @@ use Rattle.std.specs.List.{filter_map}
 use Rattle.std.specs.Option.{option_map_or}
 use Rattle.pam_tables.specs.Lines.{lines_from}
 use Rattle.pam_text.specs.Source.{source_fault}
-use Rattle.pam_facts.specs.Error.{error_at, no_memory, source_error}
+use Rattle.pam_facts.specs.Error.{error_at, source_error}
 use Rattle.pam_facts.specs.Rows.{Row, row_of}
 use Rattle.pam_facts.specs.Table.{table}
 use Rattle.pam_facts.specs.declared.error.FactsError.{FactsError}
 use Rattle.pam_facts.specs.declared.error.FactsFault.{FactsFault}
-use Rattle.pam_facts.specs.declared.error.FactsFault.TheVariants.{Memory}
 
 -- the row of a line, if it has one, before those of the other lines; its fault comes before theirs
 abbrev pub onto_rows : ℕ → Result (Option Row) FactsFault → Result (List Row) FactsError → Result (List Row) FactsError
@@ -48,14 +47,3 @@ after_rows first (Err e) = Err e
 -- THE ROWS that are known: those of the program's table, and then those of a facts file
 unfoldable pub known_rows : List ℕ → Result (List Row) FactsError
 known_rows bytes = after_rows table_rows (rows_of bytes)
-
--- for private contracts and proofs alone: rows, and that of one more line
-abbrev pub with_row : List Row → Result (Option Row) FactsFault → Result (List Row) FactsFault
-with_row rows (Ok None) = Ok rows
-with_row rows (Ok (Some row)) = Ok (rows ++ row ∷ [])
-with_row rows (Err fault) = Err fault
-
--- for private contracts and proofs alone: an error only where an allocation failed
-abbrev pub unless_memory : FactsFault → Result (Unit {0}) FactsError
-unless_memory Memory = Err no_memory
-unless_memory fault = Ok tt

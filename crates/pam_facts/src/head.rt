@@ -3,7 +3,7 @@
 ghost use Rattle.std.specs.Prelude.{◌≡◌};
 ghost use Rattle.std.specs.Option.{option_map};
 ghost use Rattle.pam_facts.specs.Rows.{class_named, head_of, with_argument};
-ghost use Rattle.pam_facts.specs.Views.{head_view};
+ghost use Rattle.pam_facts.specs.inner.Views.{head_view};
 ghost use Rattle.pam_facts.specs.Words.{words_of};
 
 use crate::row::Class;

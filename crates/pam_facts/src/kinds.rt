@@ -3,7 +3,8 @@
 ghost use Rattle.std.specs.Prelude.{◌≡◌};
 ghost use Rattle.std.specs.Option.{option_map};
 ghost use Rattle.std.specs.Iterator.{YieldsFirstRef, item_count};
-ghost use Rattle.pam_facts.specs.Kinds.{kinds_named, names_in, names_left, no_kinds, with_kind};
+ghost use Rattle.pam_facts.specs.Kinds.{kinds_named, names_in, no_kinds, with_kind};
+ghost use Rattle.pam_facts.specs.inner.Kinds.{names_left};
 
 use pam_conf::Kind;
 use pam_text::cut;

@@ -3,8 +3,10 @@
 ghost use Rattle.std.specs.Prelude.{◌≡◌, ◌∷◌, ◌++◌, [], IfErr, MatchResult, Ok, Err, OnErr, OnOk, map, not};
 ghost use Rattle.std.specs.Option.{option_map};
 ghost use Rattle.pam_facts.specs.Codes.{codes_said};
-ghost use Rattle.pam_facts.specs.Error.{Gives, GivesPart, no_memory};
-ghost use Rattle.pam_facts.specs.Reading.{after_rows, rows_in, rows_of, table_rows, unless_memory, with_row};
+ghost use Rattle.pam_facts.specs.Error.{Gives, no_memory};
+ghost use Rattle.pam_facts.specs.inner.Error.{GivesPart};
+ghost use Rattle.pam_facts.specs.Reading.{after_rows, rows_in, rows_of, table_rows};
+ghost use Rattle.pam_facts.specs.inner.Reading.{unless_memory, with_row};
 ghost use Rattle.pam_facts.specs.Rows.{is_name, row_of};
 ghost use Rattle.pam_facts.specs.Views.{row_view};
 ghost use Rattle.pam_facts.specs.Words.{words_of};

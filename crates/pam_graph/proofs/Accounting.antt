@@ -17,9 +17,9 @@ use Rattle.pam_graph.specs.declared.node.Node.{Node}
 use Rattle.pam_graph.specs.declared.node.Target.{Target}
 use Rattle.pam_graph.specs.declared.node.Target.TheVariants.{At, End}
 use Rattle.pam_graph.specs.Goals.{fit, meeting, meets}
-use Rattle.pam_graph.specs.Tallies.{plus}
+use Rattle.pam_graph.specs.inner.Tallies.{plus}
 use Rattle.pam_graph.specs.Walks.{walks_at, walks_by, walks_of, walks_to}
-use Rattle.pam_graph.specs.Accounts.{Accounts, AreCounts, deciders, dot}
+use Rattle.pam_graph.specs.inner.Accounts.{Accounts, AreCounts, deciders, dot}
 use Rattle.pam_graph.proofs.Counting.{ended, plus-fit, wanted-stepped}
 use Rattle.pam_graph.proofs.Tables.{length-walks_of, table-push}
 use Rattle.pam_paths.specs.Computed.{after_step}

@@ -17,10 +17,11 @@ use Rattle.pam_graph.specs.declared.node.Target.{Target}
 use Rattle.pam_graph.specs.declared.node.Target.TheVariants.{At, End}
 use Rattle.pam_graph.specs.declared.tally.Tally.{Tally}
 use Rattle.pam_graph.specs.Goals.{fit, meets}
-use Rattle.pam_graph.specs.Tallies.{count_to, has_walks, met_at_end, met_by, number, plus, step_by}
-use Rattle.pam_graph.specs.Tallies.{sum_from, tallies_of, tally_at, tally_by, tally_of, wanted, wanted_of}
+use Rattle.pam_graph.specs.inner.Tallies.{count_to, has_walks, met_at_end, met_by, number, plus, step_by}
+use Rattle.pam_graph.specs.Tallies.{wanted, wanted_of}
+use Rattle.pam_graph.specs.inner.Tallies.{sum_from, tallies_of, tally_at, tally_by, tally_of}
 use Rattle.pam_graph.specs.Walks.{table, walks_at, walks_by, walks_of, walks_to}
-use Rattle.pam_graph.specs.Within.{IsWithin}
+use Rattle.pam_graph.specs.inner.Within.{IsWithin}
 use Rattle.pam_graph.proofs.Tables.{length-walks_of}
 use Rattle.pam_paths.specs.Computed.{after_step}
 use Rattle.pam_paths.specs.Paths.{PathValue, StepValue}

@@ -12,7 +12,7 @@ use Rattle.std.specs.Option.{option_map}
 use Rattle.std.specs.Prelude.{slice_get, ◌==◌}
 use Rattle.pam_codes.specs.Code.{all_codes}
 use Rattle.pam_codes.specs.Set.{codes_where, is_in}
-use Rattle.pam_codes.specs.SetBits.{codes_where-same, is_in-codes_where}
+use Rattle.pam_codes.specs.inner.SetBits.{codes_where-same, is_in-codes_where}
 use Rattle.pam_conf.specs.declared.stack.TheConstants.{MAX_MODULES}
 use Rattle.pam_graph.specs.declared.direction.Direction.TheVariants.{Forward}
 use Rattle.pam_graph.specs.declared.frames.Frame.{Frame}
@@ -21,12 +21,12 @@ use Rattle.pam_graph.specs.declared.node.Edge.{Edge}
 use Rattle.pam_graph.specs.declared.node.Node.{Node}
 use Rattle.pam_graph.specs.declared.node.Target.{Target}
 use Rattle.pam_graph.specs.declared.node.Target.TheVariants.{At, End}
-use Rattle.pam_graph.specs.Deciding.{after_steps, decided_by, decided_of, first_deciding, leads_to, with_edges, with_target}
+use Rattle.pam_graph.specs.inner.Deciding.{after_steps, decided_by, decided_of, first_deciding, leads_to, with_edges, with_target}
 use Rattle.pam_graph.specs.Goals.{decided, is_decided, meeting, meets}
 use Rattle.pam_graph.specs.Walks.{table, walks_at, walks_by, walks_of, walks_to}
-use Rattle.pam_graph.specs.Within.{AreWithin, IsWithin, height}
+use Rattle.pam_graph.specs.inner.Within.{AreWithin, IsWithin, height}
 use Rattle.pam_graph.specs.Order.{AreAbove, AreNodes, IsAbove, numbers_of}
-use Rattle.pam_graph.specs.Frames.{IsFrame}
+use Rattle.pam_graph.specs.inner.Frames.{IsFrame}
 use Rattle.pam_graph.proofs.Counting.{ended, table-map, wanted-stepped}
 use Rattle.pam_graph.proofs.FrameLists.{frame-above, frame-room, node-framed, node-inside}
 use Rattle.pam_graph.proofs.Sides.{node-lower, node-valid, walks-node}

@@ -8,7 +8,8 @@ use Rattle.pam_graph.specs.declared.frames.Frame.{Frame}
 use Rattle.pam_graph.specs.declared.frames.Way.{Way}
 use Rattle.pam_graph.specs.declared.goal.Goal.{Goal}
 use Rattle.pam_graph.specs.declared.node.Node.{Node}
-use Rattle.pam_graph.specs.Frames.{AreFirstSteps, AreFrames, ahead, along, coming, step_in, under, walk_to}
+use Rattle.pam_graph.specs.Frames.{ahead, along, coming, step_in, under}
+use Rattle.pam_graph.specs.inner.Frames.{AreFirstSteps, AreFrames, walk_to}
 use Rattle.pam_graph.specs.Order.{AreNodes, numbers_of}
 use Rattle.pam_graph.proofs.FrameLists.{under-nil}
 use Rattle.pam_paths.specs.Paths.{PathValue, StepValue}

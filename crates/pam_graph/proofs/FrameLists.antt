@@ -11,7 +11,8 @@ use Rattle.pam_graph.specs.declared.node.Edge.{Edge}
 use Rattle.pam_graph.specs.declared.node.Node.{Node}
 use Rattle.pam_graph.specs.declared.node.Target.{Target}
 use Rattle.pam_graph.specs.declared.node.Target.TheVariants.{At, End}
-use Rattle.pam_graph.specs.Frames.{AreFrames, IsFrame, ahead, along, edges_at, edges_in, edges_of, known_in, left_at, step_in, under, walk_to, wanted_by}
+use Rattle.pam_graph.specs.Frames.{ahead, along, edges_at, edges_in, edges_of, known_in, left_at, step_in, under, wanted_by}
+use Rattle.pam_graph.specs.inner.Frames.{AreFrames, IsFrame, walk_to}
 use Rattle.pam_graph.specs.Order.{AreAbove, AreNodes, IsAbove, number_of, numbers_of}
 use Rattle.pam_graph.specs.Tallies.{wanted, wanted_of}
 use Rattle.pam_graph.specs.Walks.{walks_to}

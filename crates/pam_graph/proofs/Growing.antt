@@ -17,7 +17,7 @@ use Rattle.pam_graph.specs.declared.node.Edge.{Edge}
 use Rattle.pam_graph.specs.declared.node.Node.{Node}
 use Rattle.pam_graph.specs.declared.node.Target.{Target}
 use Rattle.pam_graph.specs.declared.node.Target.TheVariants.{At, End}
-use Rattle.pam_graph.specs.Building.{AreAsking, IsAsking, IsBuilt, IsExtended, IsNodeFor, modules_left, next_number, state_of, states_of}
+use Rattle.pam_graph.specs.inner.Building.{AreAsking, IsAsking, IsBuilt, IsExtended, IsNodeFor, modules_left, next_number, state_of, states_of}
 use Rattle.pam_graph.specs.Order.{AreAbove, AreNodes, IsAbove, IsNode, LeastRise, number_of, numbers_of}
 use Rattle.pam_graph.specs.Walks.{table, walks_at, walks_by, walks_of, walks_to}
 use Rattle.pam_graph.proofs.Tables.{edges-added, length-walks_of, table-push}

@@ -5,7 +5,7 @@ use Rattle.pam_dispatch.specs.Flat.{modules_of}
 use Rattle.pam_dispatch.specs.Keys.{KeyValue, rest_at}
 use Rattle.pam_dispatch.specs.Runs.{Assignment, state_in}
 use Rattle.pam_graph.specs.declared.node.Node.{Node}
-use Rattle.pam_graph.specs.Building.{AreAsking, IsAsking, IsBuilt, next_number, states_of}
+use Rattle.pam_graph.specs.inner.Building.{AreAsking, IsAsking, IsBuilt, next_number, states_of}
 use Rattle.pam_graph.specs.Order.{numbers_of}
 use Rattle.pam_graph.specs.Places.{AreNodesAt, IsNodeAt}
 use Rattle.pam_graph.specs.Reached.{AreReachedKeys, IsReachedKey}

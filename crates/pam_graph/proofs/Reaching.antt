@@ -11,7 +11,7 @@ use Rattle.pam_dispatch.specs.Runs.{AsksRise, Runs, after_answer, asked_module, 
 use Rattle.pam_graph.specs.declared.error.GraphError.{GraphError}
 use Rattle.pam_graph.specs.declared.error.GraphError.TheVariants.{Memory, TooManyNodes}
 use Rattle.pam_graph.specs.declared.node.Target.{Target}
-use Rattle.pam_graph.specs.Building.{IsBefore}
+use Rattle.pam_graph.specs.inner.Building.{IsBefore}
 use Rattle.pam_graph.specs.Reached.{AreAllowed, AreReachedKeys, IsReached, IsReachedKey, IsReason, after_answers}
 use Rattle.pam_paths.specs.Listing.{Allowance}
 

@@ -8,7 +8,7 @@ use Rattle.pam_dispatch.specs.declared.step.Outcome.{Outcome}
 use Rattle.pam_dispatch.specs.Decision.{decision_of}
 use Rattle.pam_dispatch.specs.Representatives.{AreEqualRests}
 use Rattle.pam_dispatch.specs.Runs.{Ask, AsksRise, Runs, asked_module, asks, ends, outcome_of, state_in}
-use Rattle.pam_graph.specs.Building.{IsBefore}
+use Rattle.pam_graph.specs.inner.Building.{IsBefore}
 use Rattle.pam_paths.specs.Classes.{class_at, class_of, least, same_outcome}
 use Rattle.pam_paths.specs.Computed.{after_step, branches, is_offered, listing}
 use Rattle.pam_paths.specs.Listing.{Allowance}

@@ -18,9 +18,10 @@ use Rattle.pam_graph.specs.declared.tally.Tally.{Tally}
 use Rattle.pam_graph.specs.Frames.{edges_in, known_in, ordered, wanted_by}
 use Rattle.pam_graph.specs.Goals.{fit}
 use Rattle.pam_graph.specs.Order.{AreAbove, AreNodes, IsAbove, IsNode, number_of, numbers_of}
-use Rattle.pam_graph.specs.Tallies.{met_by, number, step_by, tallies_of, tally_of, wanted, wanted_of}
+use Rattle.pam_graph.specs.Tallies.{wanted, wanted_of}
+use Rattle.pam_graph.specs.inner.Tallies.{met_by, number, step_by, tallies_of, tally_of}
 use Rattle.pam_graph.specs.Walks.{table, walks_at, walks_by, walks_of, walks_to}
-use Rattle.pam_graph.specs.Within.{AreWithin, IsWithin, height}
+use Rattle.pam_graph.specs.inner.Within.{AreWithin, IsWithin, height}
 use Rattle.pam_graph.proofs.Counting.{wanted-stepped}
 use Rattle.pam_graph.proofs.Growing.{AreAbove-more}
 use Rattle.pam_graph.proofs.Tables.{edges-added, length-walks_of, table-append, table-begins}

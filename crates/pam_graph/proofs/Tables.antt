@@ -8,7 +8,7 @@ use Rattle.pam_graph.specs.declared.node.Node.{Node}
 use Rattle.pam_graph.specs.declared.node.Target.{Target}
 use Rattle.pam_graph.specs.declared.node.Target.TheVariants.{At, End}
 use Rattle.pam_graph.specs.Walks.{table, walks_at, walks_by, walks_of, walks_to}
-use Rattle.pam_graph.specs.Within.{AreWithin, IsWithin}
+use Rattle.pam_graph.specs.inner.Within.{AreWithin, IsWithin}
 use Rattle.pam_paths.specs.Computed.{after_step}
 use Rattle.pam_paths.specs.Paths.{PathValue}
 

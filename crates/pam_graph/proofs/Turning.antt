@@ -7,7 +7,7 @@ use Rattle.std.proofs.lemmas.List.{get_or_default, length-map, reverse-append}
 use Rattle.std.proofs.lemmas.List.Elements.{filter-append}
 use Rattle.std.specs.List.{flat_map}
 use Rattle.std.specs.Prelude.{nat_lt}
-use Rattle.pam_codes.specs.SetBits.{eqb-self}
+use Rattle.pam_codes.specs.inner.SetBits.{eqb-self}
 use Rattle.pam_graph.specs.declared.direction.Direction.{Direction}
 use Rattle.pam_graph.specs.declared.direction.Direction.TheVariants.{Forward, Backward}
 use Rattle.pam_graph.specs.declared.frames.Frame.{Frame}
@@ -21,8 +21,9 @@ use Rattle.pam_graph.specs.declared.retrace.Turn.{Turn}
 use Rattle.pam_graph.specs.Frames.{ahead, along, coming, edges_in, known_in, under, wanted_by}
 use Rattle.pam_graph.specs.Goals.{meeting, meets}
 use Rattle.pam_graph.specs.Order.{AreNodes, IsAbove, LeastRise, number_of, numbers_of}
-use Rattle.pam_graph.specs.Parts.{IsTurn, is_beyond, is_past, is_past_end, part, part_by}
-use Rattle.pam_graph.specs.Tallies.{met_by, wanted, wanted_of}
+use Rattle.pam_graph.specs.inner.Parts.{IsTurn, is_beyond, is_past, is_past_end, part, part_by}
+use Rattle.pam_graph.specs.Tallies.{wanted, wanted_of}
+use Rattle.pam_graph.specs.inner.Tallies.{met_by}
 use Rattle.pam_graph.specs.Walks.{walks_by, walks_to}
 use Rattle.pam_graph.specs.WalksLeft.{WalksLeft}
 use Rattle.pam_graph.proofs.Counting.{ended, filter-map, wanted-stepped}

@@ -6,7 +6,7 @@ use Rattle.pam_graph.specs.declared.node.Node.{Node}
 use Rattle.pam_graph.specs.declared.node.Target.{Target}
 use Rattle.pam_graph.specs.declared.node.Target.TheVariants.{At, End}
 use Rattle.pam_graph.specs.Order.{AreAbove, AreNodes, IsAbove, number_of, numbers_of}
-use Rattle.pam_graph.specs.Within.{AreWithin, IsWithin}
+use Rattle.pam_graph.specs.inner.Within.{AreWithin, IsWithin}
 
 pub IsAbove-within : (numbers : List ℕ) (low : ℕ) (t : Target) → IsAbove numbers low t → IsWithin (length numbers) t
 IsAbove-within numbers low (At index) h = h.0

@@ -1,17 +1,15 @@
--- For private contracts and proofs alone: the part of the walks that is left, by the frames of the walk that was followed last.
-use Rattle.std.specs.Prelude.{◌≡◌, ℕ, ◌<◌, ◌+◌, Bool, List, [], ◌∷◌, ◌++◌, drop, length, map, reverse, slice_index_or, take}
-use Rattle.std.specs.Prelude.{IfSome, Option, None, Some}
+-- The part of the walks that is left, by the frames of the walk that was followed last.
+use Rattle.std.specs.Prelude.{ℕ, ◌+◌, Bool, List, [], ◌∷◌, ◌++◌, drop, map, reverse, slice_index_or}
+use Rattle.std.specs.Prelude.{Option, None, Some}
 use Rattle.std.specs.List.{flat_map}
 use Rattle.pam_graph.specs.declared.direction.Direction.{Direction}
 use Rattle.pam_graph.specs.declared.direction.Direction.TheVariants.{Forward, Backward}
 use Rattle.pam_graph.specs.declared.frames.Frame.{Frame}
-use Rattle.pam_graph.specs.declared.frames.Search.{Search}
 use Rattle.pam_graph.specs.declared.frames.Way.{Way}
 use Rattle.pam_graph.specs.declared.goal.Goal.{Goal}
 use Rattle.pam_graph.specs.declared.node.Edge.{Edge}
 use Rattle.pam_graph.specs.declared.node.Node.{Node}
-use Rattle.pam_graph.specs.Order.{AreNodes, IsAbove, numbers_of}
-use Rattle.pam_graph.specs.Tallies.{tallies_of, wanted_of}
+use Rattle.pam_graph.specs.Tallies.{wanted_of}
 use Rattle.pam_graph.specs.Walks.{walks_by, walks_of, walks_to}
 use Rattle.pam_paths.specs.Computed.{after_step}
 use Rattle.pam_paths.specs.Paths.{PathValue, StepValue}
@@ -65,37 +63,8 @@ ahead direction goal nodes [] = []
 ahead direction goal nodes (frame ∷ frames) =
     map (after_step (step_in frame)) (ahead direction goal nodes frames) ++ left_at direction goal nodes frame
 
--- the walk along frames, to a decision
-abbrev pub walk_to : List Frame → ℕ → PathValue
-walk_to frames decision = record { steps = map step_in frames; decision = decision }
-
--- steps are those of the frames, as far as there are both
-abbrev pub AreFirstSteps : List Frame → List StepValue → Type 0
-AreFirstSteps frames steps = take (length frames) steps ≡ take (length steps) (map step_in frames)
-
--- a frame is at a node, whose module has a number above `low`
-pub record IsFrame (nodes : List Node) (low : ℕ) (frame : Frame) : Type 0 where
-  pub node : frame.node < length nodes
-  pub number : frame.module_number ≡ slice_index_or (numbers_of nodes) frame.node 0
-  pub above : low < frame.module_number
-
--- frames of a walk, after `low` frames
-unfoldable pub AreFrames : List Node → ℕ → List Frame → Type 0
-AreFrames nodes low [] = Unit {0}
-AreFrames nodes low (frame ∷ frames) = IsFrame nodes low frame × AreFrames nodes (low + 1) frames
-
--- a search through the nodes of a graph, with the numbers of walks that belong to it
-pub record IsSearch (search : Search) : Type 0 where
-  pub order : AreNodes [] search.nodes.now
-  pub tallies : search.tallies.now ≡ tallies_of search.goal.now search.nodes.now
-
 -- the walks that are left: those on a way after the steps of the frames, if there is one, then those after all that begin
 -- with these steps
 unfoldable pub coming : Direction → Goal → List Node → Option Way → List Frame → List PathValue
 coming direction goal nodes None frames = ahead direction goal nodes frames
 coming direction goal nodes (Some way) frames = under frames (along direction goal nodes way) ++ ahead direction goal nodes frames
-
--- frames of a walk, and a way on after them, if there is one
-pub record IsExploring (nodes : List Node) (pending : Option Way) (frames : List Frame) : Type 0 where
-  pub valid : AreFrames nodes 0 frames
-  pub way : IfSome pending (λ way. IsAbove (numbers_of nodes) (length frames) way.target)

@@ -1,15 +1,11 @@
-pub mod Accounts
-pub mod Building
-pub mod Deciding
 pub mod Frames
 pub mod Goals
 pub mod Laws
 pub mod Order
-pub mod Parts
 pub mod PastEnds
 pub mod Places
 pub mod Reached
 pub mod Tallies
 pub mod Walks
 pub mod WalksLeft
-pub mod Within
+pub mod inner

@@ -11,7 +11,7 @@ ghost use Rattle.pam_dispatch.specs.Tree.{runs_of_stack};
 ghost use Rattle.pam_graph.specs.declared.node.Target.TheVariants.{At};
 ghost use Rattle.pam_graph.specs.declared.error.GraphError.TheVariants.{TooManyNodes};
 ghost use Rattle.pam_graph.specs.declared.graph.TheConstants.{MAX_NODES};
-ghost use Rattle.pam_graph.specs.Building.{IsBefore, IsBuilt, IsExtended};
+ghost use Rattle.pam_graph.specs.inner.Building.{IsBefore, IsBuilt, IsExtended};
 ghost use Rattle.pam_graph.specs.Order.{IsAbove, numbers_of};
 ghost use Rattle.pam_graph.specs.Places.{AreNodesOf};
 ghost use Rattle.pam_graph.specs.Reached.{AreReachedKeys, IsReached, IsReason, node_key};

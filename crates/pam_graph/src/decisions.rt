@@ -4,11 +4,11 @@ ghost use Rattle.std.specs.Prelude.{◌≡◌, ◌≢◌, ◌<◌, [], ◌∷◌
 ghost use Rattle.std.specs.List.{flat_map};
 ghost use Rattle.std.specs.Option.{option_map};
 ghost use Rattle.pam_codes.specs.declared.code.TheConstants.{CODES};
-ghost use Rattle.pam_graph.specs.Deciding.{decided_of, first_deciding, leads_to, with_edges, with_target};
+ghost use Rattle.pam_graph.specs.inner.Deciding.{decided_of, first_deciding, leads_to, with_edges, with_target};
 ghost use Rattle.pam_graph.specs.Goals.{decided, fit, meeting};
 ghost use Rattle.pam_graph.specs.Order.{AreAbove, AreNodes, IsAbove, IsStart};
 ghost use Rattle.pam_graph.specs.Walks.{walks, walks_by, walks_of, walks_to};
-ghost use Rattle.pam_graph.specs.Within.{AreWithin, IsWithin};
+ghost use Rattle.pam_graph.specs.inner.Within.{AreWithin, IsWithin};
 ghost use Rattle.pam_graph.specs.declared.goal.Goal.TheVariants.{Decides};
 ghost use Rattle.pam_paths.specs.Computed.{after_step};
 ghost use Rattle.pam_paths.specs.Paths.{PathValue};
@@ -34,8 +34,8 @@ pub struct Decisions<'a> {
 
 /// Contracts see the walks of the graph.
 impl<'a> Model for Decisions<'a> {
-    ghost use Rattle.pam_graph.specs.Accounts.{AreCounts};
-    ghost use Rattle.pam_graph.specs.Deciding.{decided_of};
+    ghost use Rattle.pam_graph.specs.inner.Accounts.{AreCounts};
+    ghost use Rattle.pam_graph.specs.inner.Deciding.{decided_of};
     ghost use Rattle.pam_graph.specs.Walks.{walks};
     ghost use Rattle.pam_paths.specs.Paths.{PathValue};
     ghost use Rattle.std.specs.Prelude.{◌≡◌, List};

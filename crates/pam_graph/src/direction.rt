@@ -2,7 +2,7 @@
 
 ghost use Rattle.std.specs.Prelude.{◌≡◌, ◌<◌, length, slice_index_or};
 ghost use Rattle.pam_graph.specs.Frames.{edges_in};
-ghost use Rattle.pam_graph.specs.Parts.{is_beyond, is_past_end};
+ghost use Rattle.pam_graph.specs.inner.Parts.{is_beyond, is_past_end};
 
 use crate::node::{Edge, Target};
 

@@ -2,11 +2,13 @@
 
 ghost use Rattle.std.specs.Prelude.{◌≡◌, ◌≢◌, ◌-◌, ◌<◌, ◌∷◌, ◌++◌, ◌||◌, [], Bool, false, IfNone, IfSome, List, Some, ℕ, drop, length, map, take};
 ghost use Rattle.pam_conf.specs.declared.stack.TheConstants.{MAX_MODULES};
-ghost use Rattle.pam_graph.specs.Frames.{AreFrames, IsSearch, ahead, along, edges_in, under, walk_to, wanted_by};
+ghost use Rattle.pam_graph.specs.Frames.{ahead, along, edges_in, under, wanted_by};
+ghost use Rattle.pam_graph.specs.inner.Frames.{AreFrames, IsSearch, walk_to};
 ghost use Rattle.pam_graph.specs.Order.{AreAbove, IsAbove, numbers_of};
-ghost use Rattle.pam_graph.specs.Tallies.{tally_of, wanted_of};
+ghost use Rattle.pam_graph.specs.Tallies.{wanted_of};
+ghost use Rattle.pam_graph.specs.inner.Tallies.{tally_of};
 ghost use Rattle.pam_graph.specs.Walks.{walks_to};
-ghost use Rattle.pam_graph.specs.Within.{AreWithin, IsWithin, height};
+ghost use Rattle.pam_graph.specs.inner.Within.{AreWithin, IsWithin, height};
 ghost use Rattle.pam_graph.specs.declared.node.Target.TheVariants.{At};
 ghost use Rattle.pam_paths.specs.Computed.{after_step};
 ghost use Rattle.pam_paths.specs.Paths.{PathValue};

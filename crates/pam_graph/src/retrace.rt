@@ -1,9 +1,10 @@
 //! The frames from which the walks past a cursor follow.
 
 ghost use Rattle.std.specs.Prelude.{◌≡◌, ℕ, ◌∷◌, ◌++◌, if◌then◌else◌, [], IfSome, List, None, Some, false, length};
-ghost use Rattle.pam_graph.specs.Frames.{AreFrames, IsExploring, ahead, along, coming, under};
+ghost use Rattle.pam_graph.specs.Frames.{ahead, along, coming, under};
+ghost use Rattle.pam_graph.specs.inner.Frames.{AreFrames, IsExploring};
 ghost use Rattle.pam_graph.specs.Order.{AreAbove, AreNodes, IsAbove, IsStart, LeastRise, numbers_of};
-ghost use Rattle.pam_graph.specs.Parts.{IsTurn, is_past_end, part, part_along};
+ghost use Rattle.pam_graph.specs.inner.Parts.{IsTurn, is_past_end, part, part_along};
 ghost use Rattle.pam_graph.specs.declared.node.Target.TheVariants.{At};
 
 use crate::direction::Direction;

@@ -4,9 +4,9 @@ ghost use Rattle.std.specs.Prelude.{◌≡◌, ◌||◌, [], IfOk, Some, length}
 ghost use Rattle.std.specs.List.{list_any};
 ghost use Rattle.pam_graph.specs.Goals.{fit, meeting, meets};
 ghost use Rattle.pam_graph.specs.Order.{AreNodes};
-ghost use Rattle.pam_graph.specs.Tallies.{count_to, has_walks, met_at_end, met_by, plus, step_by, sum_from, tallies_of, tally_by};
+ghost use Rattle.pam_graph.specs.inner.Tallies.{count_to, has_walks, met_at_end, met_by, plus, step_by, sum_from, tallies_of, tally_by};
 ghost use Rattle.pam_graph.specs.Walks.{walks};
-ghost use Rattle.pam_graph.specs.Within.{AreWithin, IsWithin};
+ghost use Rattle.pam_graph.specs.inner.Within.{AreWithin, IsWithin};
 
 use crate::error::GraphError;
 use crate::goal::Goal;

@@ -2,10 +2,11 @@
 
 ghost use Rattle.std.specs.Prelude.{◌≡◌, ◌≢◌, ◌-◌, ◌≤◌, ◌∷◌, ◌++◌, [], All, IfNone, IfOk, IfSome, MatchOption, None, length, map, slice_get, take};
 ghost use Rattle.pam_conf.specs.declared.stack.TheConstants.{MAX_MODULES};
-ghost use Rattle.pam_graph.specs.Frames.{AreFirstSteps, AreFrames, IsExploring, IsSearch, ahead, along, coming, ordered, step_in, under};
+ghost use Rattle.pam_graph.specs.Frames.{ahead, along, coming, ordered, step_in, under};
+ghost use Rattle.pam_graph.specs.inner.Frames.{AreFirstSteps, AreFrames, IsExploring, IsSearch};
 ghost use Rattle.pam_graph.specs.Goals.{meeting};
 ghost use Rattle.pam_graph.specs.Order.{IsAbove, numbers_of};
-ghost use Rattle.pam_graph.specs.Parts.{part};
+ghost use Rattle.pam_graph.specs.inner.Parts.{part};
 ghost use Rattle.pam_graph.specs.Walks.{walks};
 ghost use Rattle.pam_paths.specs.Pages.{after, before};
 
@@ -37,8 +38,9 @@ pub struct Walks<'a> {
 }
 
 impl<'a> Model for Walks<'a> {
-    ghost use Rattle.pam_graph.specs.Frames.{AreFirstSteps, IsExploring, coming};
-    ghost use Rattle.pam_graph.specs.Tallies.{tallies_of};
+    ghost use Rattle.pam_graph.specs.Frames.{coming};
+    ghost use Rattle.pam_graph.specs.inner.Frames.{AreFirstSteps, IsExploring};
+    ghost use Rattle.pam_graph.specs.inner.Tallies.{tallies_of};
     ghost use Rattle.pam_graph.specs.WalksLeft.{WalksLeft};
     ghost use Rattle.std.specs.Prelude.{◌≡◌, []};
 

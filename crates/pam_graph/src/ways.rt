@@ -6,8 +6,8 @@ ghost use Rattle.pam_codes.specs.declared.code.TheConstants.{CODES};
 ghost use Rattle.pam_graph.specs.Goals.{fit};
 ghost use Rattle.pam_graph.specs.Order.{AreNodes, IsStart};
 ghost use Rattle.pam_graph.specs.Walks.{walks_by, walks_of, walks_to};
-ghost use Rattle.pam_graph.specs.Accounts.{Accounts, AreCounts, deciders};
-ghost use Rattle.pam_graph.specs.Within.{AreWithin, IsWithin};
+ghost use Rattle.pam_graph.specs.inner.Accounts.{Accounts, AreCounts, deciders};
+ghost use Rattle.pam_graph.specs.inner.Within.{AreWithin, IsWithin};
 ghost use Rattle.pam_paths.specs.Paths.{PathValue};
 
 use crate::error::GraphError;

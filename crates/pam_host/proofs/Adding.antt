@@ -8,10 +8,10 @@ use Rattle.pam_conf.specs.declared.conf_error.ConfError.{ConfError}
 use Rattle.pam_conf.specs.declared.rule.Kind.{Kind}
 use Rattle.pam_conf.proofs.StackTree.{module_at-range}
 use Rattle.pam_paths.specs.Classes.{Member}
-use Rattle.pam_host.specs.Looked.{OfModule, OfModules, OfNumber, OfRule, walk_spot}
+use Rattle.pam_host.specs.inner.Looked.{OfModule, OfModules, OfNumber, OfRule, walk_spot}
 use Rattle.pam_host.specs.Modules.{Modules}
 use Rattle.pam_host.specs.StackProblems.{InItems, InWalk}
-use Rattle.pam_host.specs.Table.{Adds}
+use Rattle.pam_host.specs.inner.Table.{Adds}
 use Rattle.pam_host.specs.Verdicts.{HasOther, is_other}
 use Rattle.pam_host.specs.declared.problem.Problem.{Problem}
 use Rattle.pam_host.specs.declared.problem.Problem.TheVariants as problems

@@ -6,8 +6,8 @@ use Rattle.std.proofs.lemmas.Bool.{eq-eqb, eqb-true, false≢true}
 use Rattle.pam_conf.specs.Stack.{Items}
 use Rattle.pam_paths.specs.Classes.{Member}
 use Rattle.pam_paths.proofs.Alike.{list_any_back, list_any_from}
-use Rattle.pam_host.specs.Looked.{OfModule}
-use Rattle.pam_host.specs.Table.{Adds}
+use Rattle.pam_host.specs.inner.Looked.{OfModule}
+use Rattle.pam_host.specs.inner.Table.{Adds}
 use Rattle.pam_host.specs.declared.problem.Problem.{Problem}
 use Rattle.pam_host.specs.declared.problem.Spot.{Spot}
 use Rattle.pam_host.proofs.Adding.{adds-if, adds-unless}

@@ -9,9 +9,9 @@ use Rattle.std.proofs.lemmas.Option.{slice_get-map, slice_get_within}
 use Rattle.pam_conf.specs.Files.{Folder, Named}
 use Rattle.pam_conf.specs.declared.rule.Form.TheVariants.{Dir}
 use Rattle.pam_host.specs.FolderProblems.{folder_has, has_file, is_folder, is_of_folder, is_unreachable, names_in, none_is_named}
-use Rattle.pam_host.specs.OfFolder.{HasNameProblem, IsNameProblem, LacksOther, problem_of_name}
+use Rattle.pam_host.specs.inner.OfFolder.{HasNameProblem, IsNameProblem, LacksOther, problem_of_name}
 use Rattle.pam_host.specs.Services.{has_capital, is_left_over}
-use Rattle.pam_host.specs.Table.{Puts, Table, with_met}
+use Rattle.pam_host.specs.inner.Table.{Puts, Table, with_met}
 use Rattle.pam_host.specs.declared.problem.Problem.{Problem}
 use Rattle.pam_host.specs.declared.problem.Problem.TheVariants as problems
 use Rattle.pam_host.specs.declared.problem.Spot.{Spot}

@@ -25,8 +25,8 @@ use Rattle.pam_dispatch.specs.State.{action_of}
 use Rattle.pam_paths.specs.Classes.{Member}
 use Rattle.pam_paths.proofs.Alike.{Member-codes}
 use Rattle.pam_host.specs.Inside.{HasJumpInside, action_lands, begins_by, control_lands, is_inside, item_lands, jumping, lands_inside, share_other}
-use Rattle.pam_host.specs.Insides.{jump_spot, jumps_from, jumps_from_all}
-use Rattle.pam_host.specs.Table.{Adds}
+use Rattle.pam_host.specs.inner.Insides.{jump_spot, jumps_from, jumps_from_all}
+use Rattle.pam_host.specs.inner.Table.{Adds}
 use Rattle.pam_host.specs.declared.problem.Spot.{Spot}
 use Rattle.pam_host.proofs.Adding.{adds-iff, adds-list}
 use Rattle.pam_host.proofs.Meeting.{from_both, to_back, to_front}

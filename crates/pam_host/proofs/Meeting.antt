@@ -6,7 +6,7 @@ use Rattle.std.proofs.lemmas.Bool.{cases_Bool, eqb-true, eq-eqb, false≢true}
 use Rattle.pam_conf.specs.declared.rule.Kind.{Kind}
 use Rattle.pam_conf.specs.declared.rule.Kind.TheVariants.{Auth, Account, Password, Session}
 use Rattle.pam_paths.specs.Classes.{Member}
-use Rattle.pam_host.specs.Meeting.{Changes, MetSoFar, also_met, no_kinds, with_kind}
+use Rattle.pam_host.specs.inner.Meeting.{Changes, MetSoFar, also_met, no_kinds, with_kind}
 use Rattle.pam_host.specs.Met.{AreMet, IsMetByNone, RiseFrom, has_kind}
 use Rattle.pam_host.specs.declared.met.Kinds.{Kinds}
 use Rattle.pam_host.specs.declared.met.Met.{Met}

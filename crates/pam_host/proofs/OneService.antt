@@ -6,13 +6,13 @@ use Rattle.std.proofs.lemmas.Bool.{cases_eq}
 use Rattle.std.proofs.lemmas.List.{get_or-replicate, get_or_append_left, get_or_push, length-replicate}
 use Rattle.pam_conf.specs.declared.rule.Kind.{Kind}
 use Rattle.pam_conf.specs.declared.rule.Kind.TheVariants.{Auth, Account, Password, Session}
-use Rattle.pam_host.specs.Checking.{AddsService}
+use Rattle.pam_host.specs.inner.Checking.{AddsService}
 use Rattle.pam_paths.specs.Classes.{Member}
 use Rattle.pam_host.specs.Host.{Host, reads_at, service_at}
-use Rattle.pam_host.specs.Meeting.{MetSoFar}
-use Rattle.pam_host.specs.SoFar.{InStackAt, Shows, SoFar, Taken}
+use Rattle.pam_host.specs.inner.Meeting.{MetSoFar}
+use Rattle.pam_host.specs.inner.SoFar.{InStackAt, Shows, SoFar, Taken}
 use Rattle.pam_host.specs.StackProblems.{HasWayIn}
-use Rattle.pam_host.specs.Table.{ArePlaced, finding_at}
+use Rattle.pam_host.specs.inner.Table.{ArePlaced, finding_at}
 use Rattle.pam_host.specs.Verdicts.{Refused}
 use Rattle.pam_host.specs.declared.met.Met.{Met}
 use Rattle.pam_host.specs.declared.problem.Spot.{Spot}

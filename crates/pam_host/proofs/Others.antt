@@ -5,7 +5,7 @@ use Rattle.pam_conf.specs.Survey.{surveyed}
 use Rattle.pam_conf.specs.declared.rule.Kind.{Kind}
 use Rattle.pam_host.specs.Inside.{HasJumpInside}
 use Rattle.pam_host.specs.OtherAnswers.{HasOtherAnswer, OtherAnswers}
-use Rattle.pam_host.specs.Table.{Adds, Puts, Table, with_stack}
+use Rattle.pam_host.specs.inner.Table.{Adds, Puts, Table, with_stack}
 use Rattle.pam_host.specs.declared.problem.Problem.{Problem}
 use Rattle.pam_host.specs.declared.problem.Problem.TheVariants as problems
 use Rattle.pam_host.specs.declared.problem.Spot.{Spot}

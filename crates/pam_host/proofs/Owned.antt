@@ -9,8 +9,8 @@ use Rattle.pam_conf.specs.declared.error.RuleFault.{RuleFault}
 use Rattle.pam_conf.specs.declared.rule.Form.{Form}
 use Rattle.pam_paths.specs.Classes.{Member}
 use Rattle.pam_host.specs.FileProblems.{BytesHave, released_in}
-use Rattle.pam_host.specs.Own.{IsOwn, IsRead, fault_spot, met_in, read_by, released_spot}
-use Rattle.pam_host.specs.Table.{Puts, Table, with_met}
+use Rattle.pam_host.specs.inner.Own.{IsOwn, IsRead, fault_spot, met_in, read_by, released_spot}
+use Rattle.pam_host.specs.inner.Table.{Puts, Table, with_met}
 use Rattle.pam_host.specs.declared.met.Met.{Met}
 use Rattle.pam_host.specs.declared.problem.Problem.{Problem}
 use Rattle.pam_host.specs.declared.problem.Problem.TheVariants as problems

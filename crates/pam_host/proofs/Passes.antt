@@ -7,8 +7,8 @@ use Rattle.std.specs.List.{range_with_len}
 use Rattle.pam_conf.specs.declared.rule.Kind.{Kind}
 use Rattle.pam_paths.specs.Classes.{Member}
 use Rattle.pam_paths.proofs.Alike.{Member-codes}
-use Rattle.pam_host.specs.Meeting.{also_met}
-use Rattle.pam_host.specs.Table.{Notes, Puts, Table, finding_at, met_of, with_met, with_stack}
+use Rattle.pam_host.specs.inner.Meeting.{also_met}
+use Rattle.pam_host.specs.inner.Table.{Notes, Puts, Table, finding_at, met_of, with_met, with_stack}
 use Rattle.pam_host.specs.declared.met.Met.{Met}
 use Rattle.pam_host.specs.declared.problem.Spot.{Spot}
 use Rattle.pam_host.specs.declared.report.Finding.{Finding}

@@ -20,7 +20,7 @@ use Rattle.pam_released.specs.declared.difference.Difference.{Difference}
 use Rattle.pam_released.specs.declared.difference.Difference.TheVariants.{CarriageReturn, ContinuedOverBlank, BackslashBlank, BackslashComment}
 use Rattle.pam_released.specs.declared.difference.Difference.TheVariants.{EndsInContinuation, CapitalInBrackets, LongLine, EmptyModuleName, DroppedBlank}
 use Rattle.pam_host.specs.Problems.{compare_places, kind_of, number_of_kind, place_of, rank_of, rank_of_difference, rank_of_fault, service_of}
-use Rattle.pam_host.specs.Table.{Puts, Removes, Table, finding_at}
+use Rattle.pam_host.specs.inner.Table.{Puts, Removes, Table, finding_at}
 use Rattle.pam_host.specs.declared.problem.Place.{Place}
 use Rattle.pam_host.specs.declared.problem.Problem.{Problem}
 use Rattle.pam_host.specs.declared.problem.Problem.TheVariants as problems

@@ -1,7 +1,7 @@
 -- Findings that are removed.
 use Rattle.std.proofs.Common.{◌≡◌, ◌⊎◌, ◌↔◌, ℕ, ◌+◌, ◌<◌, ◌≤◌, List, take, length, get_or, refl, ◌∙◌, inl, inr}
 use Rattle.pam_paths.specs.Classes.{Member}
-use Rattle.pam_host.specs.Table.{Removes, Table}
+use Rattle.pam_host.specs.inner.Table.{Removes, Table}
 use Rattle.pam_host.specs.declared.problem.Spot.{Spot}
 use Rattle.pam_host.proofs.Passes.{all_so_far, none_yet, one_more}
 

@@ -15,15 +15,15 @@ use Rattle.pam_paths.specs.Classes.{Member}
 use Rattle.pam_host.specs.FileProblems.{BytesHave, FileHas}
 use Rattle.pam_host.specs.FolderProblems.{is_of_folder}
 use Rattle.pam_host.specs.Host.{Host, IsAsked, Meets, Verdicts, reads_at, service_at, survey_at}
-use Rattle.pam_host.specs.Meeting.{MetSoFar}
+use Rattle.pam_host.specs.inner.Meeting.{MetSoFar}
 use Rattle.pam_host.specs.Met.{AreMet}
-use Rattle.pam_host.specs.Own.{IsOwn, IsRead, met_in, read_by}
+use Rattle.pam_host.specs.inner.Own.{IsOwn, IsRead, met_in, read_by}
 use Rattle.pam_host.specs.Problems.{compare_places, place_of}
 use Rattle.pam_host.specs.Report.{IsFound, IsMetFinding, IsPlaced, IsReportOn}
-use Rattle.pam_host.specs.SoFar.{InStackAt, Shows, SoFar}
+use Rattle.pam_host.specs.inner.SoFar.{InStackAt, Shows, SoFar}
 use Rattle.pam_host.specs.Modules.{Modules}
 use Rattle.pam_host.specs.StackProblems.{ByVerdict, InItems, InWalk}
-use Rattle.pam_host.specs.Table.{ArePlaced, Puts, Removes, Table, finding_at, with_met}
+use Rattle.pam_host.specs.inner.Table.{ArePlaced, Puts, Removes, Table, finding_at, with_met}
 use Rattle.pam_host.specs.Verdicts.{Verdict}
 use Rattle.pam_host.specs.declared.met.Met.{Met}
 use Rattle.pam_host.specs.declared.problem.Place.{Place}

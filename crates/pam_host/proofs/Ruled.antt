@@ -3,10 +3,10 @@ use Rattle.std.proofs.Common.{◌≡◌, ◌⊎◌, ℕ, Bool, true, List, [], �
 use Rattle.pam_conf.specs.Stack.{ModuleText}
 use Rattle.pam_conf.specs.declared.rule.Kind.{Kind}
 use Rattle.pam_host.specs.Callers.{caller_is_root}
-use Rattle.pam_host.specs.Looked.{OfRule, spot_at}
+use Rattle.pam_host.specs.inner.Looked.{OfRule, spot_at}
 use Rattle.pam_host.specs.Modules.{Modules}
 use Rattle.pam_host.specs.Separators.{lacks_separator}
-use Rattle.pam_host.specs.Table.{Adds}
+use Rattle.pam_host.specs.inner.Table.{Adds}
 use Rattle.pam_host.specs.Verdicts.{has_no_function, is_missing, is_other}
 use Rattle.pam_host.specs.declared.problem.Problem.{Problem}
 use Rattle.pam_host.specs.declared.problem.Problem.TheVariants as problems

@@ -12,15 +12,15 @@ use Rattle.pam_conf.specs.Survey.{SurveyText, surveyed}
 use Rattle.pam_conf.specs.declared.rule.Kind.{Kind}
 use Rattle.pam_conf.specs.declared.rule.Form.{Form}
 use Rattle.pam_paths.specs.Classes.{Member}
-use Rattle.pam_host.specs.Checking.{AddsStack}
+use Rattle.pam_host.specs.inner.Checking.{AddsStack}
 use Rattle.pam_host.specs.FileProblems.{files_read}
 use Rattle.pam_host.specs.Host.{InStackOf}
 use Rattle.pam_host.specs.Inside.{HasJumpInside}
 use Rattle.pam_host.specs.OtherAnswers.{HasOtherAnswer}
-use Rattle.pam_host.specs.Looked.{Asks, Judges, Looks, OfModules}
+use Rattle.pam_host.specs.inner.Looked.{Asks, Judges, Looks, OfModules}
 use Rattle.pam_host.specs.Modules.{Modules}
 use Rattle.pam_host.specs.StackProblems.{ByVerdict, InItems, InStack, InWalk}
-use Rattle.pam_host.specs.Table.{Adds, Notes, Puts, Table, with_stack}
+use Rattle.pam_host.specs.inner.Table.{Adds, Notes, Puts, Table, with_stack}
 use Rattle.pam_host.specs.Verdicts.{IsVerdict, Refused, Verdict, never_asked_in}
 use Rattle.pam_host.specs.declared.judging.Stacked.{Stacked}
 use Rattle.pam_host.specs.declared.problem.Problem.{Problem}

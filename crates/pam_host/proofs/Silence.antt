@@ -36,7 +36,7 @@ use Rattle.pam_host.specs.Levels.{level_of, level_of_fault}
 use Rattle.pam_host.specs.Problems.{compare_places, place_of}
 use Rattle.pam_host.specs.Report.{IsFound, IsReportOn}
 use Rattle.pam_host.specs.StackProblems.{InWalk}
-use Rattle.pam_host.specs.Table.{Table}
+use Rattle.pam_host.specs.inner.Table.{Table}
 use Rattle.pam_host.specs.Verdicts.{IsJudgement, IsVerdict, Judged, Judgement, LetsNobody, Refused, TooLarge, Verdict, way_in_of}
 use Rattle.pam_host.specs.declared.level.Level.TheVariants.{Note, Warning}
 use Rattle.pam_host.specs.declared.problem.Place.{Place}

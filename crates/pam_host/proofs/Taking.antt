@@ -6,16 +6,16 @@ use Rattle.std.proofs.lemmas.Bool.{and_from, and_parts, cases_Bool, eqb-true, eq
 use Rattle.pam_conf.specs.declared.rule.Kind.{Kind}
 use Rattle.pam_conf.specs.declared.rule.Kind.TheVariants.{Auth, Account, Password, Session}
 use Rattle.pam_paths.specs.Classes.{Member}
-use Rattle.pam_host.specs.Checking.{AddsStack}
+use Rattle.pam_host.specs.inner.Checking.{AddsStack}
 use Rattle.pam_host.specs.Host.{Host, InStackOf, Verdicts, reads_at, service_at, survey_at}
-use Rattle.pam_host.specs.Looked.{Asks}
-use Rattle.pam_host.specs.Meeting.{MetSoFar}
+use Rattle.pam_host.specs.inner.Looked.{Asks}
+use Rattle.pam_host.specs.inner.Meeting.{MetSoFar}
 use Rattle.pam_host.specs.Met.{AreMet}
 use Rattle.pam_host.specs.Problems.{number_of_kind}
 use Rattle.pam_host.specs.Report.{IsMetFinding}
-use Rattle.pam_host.specs.SoFar.{AsksAt, InStackAt, Shows, Taken, with_verdict}
+use Rattle.pam_host.specs.inner.SoFar.{AsksAt, InStackAt, Shows, Taken, with_verdict}
 use Rattle.pam_host.specs.StackProblems.{HasWayIn}
-use Rattle.pam_host.specs.Table.{finding_at, met_of, with_stack}
+use Rattle.pam_host.specs.inner.Table.{finding_at, met_of, with_stack}
 use Rattle.pam_host.specs.Verdicts.{IsVerdict, Verdict}
 use Rattle.pam_host.specs.declared.met.Met.{Met}
 use Rattle.pam_host.specs.declared.problem.Spot.{Spot}

@@ -2,9 +2,9 @@
 use Rattle.std.proofs.Common.{◌≡◌, ◌⊎◌, ◌↔◌, ℕ, Bool, true, false, List, [], ◌∷◌, ◌++◌, refl, sym, ◌∙◌, ap, subst, inl, inr, Option, IsSome}
 use Rattle.pam_conf.specs.declared.rule.Kind.TheVariants.{Auth}
 use Rattle.pam_paths.specs.Classes.{Member}
-use Rattle.pam_host.specs.Looked.{OfModules}
+use Rattle.pam_host.specs.inner.Looked.{OfModules}
 use Rattle.pam_host.specs.StackProblems.{ByVerdict}
-use Rattle.pam_host.specs.Table.{Adds}
+use Rattle.pam_host.specs.inner.Table.{Adds}
 use Rattle.pam_host.specs.Verdicts.{HasOther, Judged, Judgement}
 use Rattle.pam_host.specs.declared.judging.Stacked.{Stacked}
 use Rattle.pam_host.specs.declared.problem.Problem.{Problem}

@@ -2,8 +2,8 @@
 
 ghost use Rattle.std.specs.Prelude.{◌≡◌, ◌⊎◌, OnOk, None, codes, length, true};
 ghost use Rattle.pam_host.specs.FolderProblems.{has_file, is_of_folder, names_in};
-ghost use Rattle.pam_host.specs.OfFolder.{HasNameProblem, IsNameProblem, LacksOther, problem_of_name};
-ghost use Rattle.pam_host.specs.Table.{Puts, with_met};
+ghost use Rattle.pam_host.specs.inner.OfFolder.{HasNameProblem, IsNameProblem, LacksOther, problem_of_name};
+ghost use Rattle.pam_host.specs.inner.Table.{Puts, with_met};
 
 use crate::names::{is_left_over, is_unreachable};
 use crate::problem::{Problem, Spot};

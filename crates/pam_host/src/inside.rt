@@ -3,7 +3,7 @@
 ghost use Rattle.std.specs.Prelude.{◌≡◌, ◌++◌, IfOk, OnOk, drop, map};
 ghost use Rattle.pam_conf.specs.ListedText.{listed_text};
 ghost use Rattle.pam_host.specs.Inside.{action_lands, begins_by, control_lands, is_same, item_lands, jumping, lands_inside, share_other};
-ghost use Rattle.pam_host.specs.Insides.{jump_spot, jumps_from, jumps_from_all};
+ghost use Rattle.pam_host.specs.inner.Insides.{jump_spot, jumps_from, jumps_from_all};
 
 use crate::problem::{Problem, Spot};
 use pam_codes::{Action, CODES, Code, Control};

@@ -4,9 +4,9 @@ ghost use Rattle.std.specs.Prelude.{◌≡◌, IfOk, IsFalse, IsSome, IsTrue, Li
 ghost use Rattle.pam_conf.specs.Files.{Folder};
 ghost use Rattle.pam_conf.specs.Resolution.{resolved};
 ghost use Rattle.pam_paths.specs.declared.knowledge.Known.{Known as KnownText};
-ghost use Rattle.pam_host.specs.Looked.{Judges, judgement_of};
+ghost use Rattle.pam_host.specs.inner.Looked.{Judges, judgement_of};
 ghost use Rattle.pam_host.specs.StackProblems.{ByVerdict, HasWayIn};
-ghost use Rattle.pam_host.specs.Table.{Adds};
+ghost use Rattle.pam_host.specs.inner.Table.{Adds};
 ghost use Rattle.pam_host.specs.Verdicts.{HasOther, Judged};
 
 use crate::known_modules::Modules;

@@ -1,7 +1,7 @@
 //! The stacks that meet a problem.
 
 ghost use Rattle.std.specs.Prelude.{◌≡◌, IfOk, None};
-ghost use Rattle.pam_host.specs.Meeting.{also_met, no_kinds, with_kind};
+ghost use Rattle.pam_host.specs.inner.Meeting.{also_met, no_kinds, with_kind};
 
 use pam_conf::Kind;
 use std::alloc::AllocError;

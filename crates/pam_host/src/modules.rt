@@ -6,9 +6,9 @@ ghost use Rattle.std.specs.Option.{option_map_or};
 ghost use Rattle.pam_conf.specs.ItemsOf.{module_text};
 ghost use Rattle.pam_conf.specs.Stack.{module_at};
 ghost use Rattle.pam_paths.specs.Classes.{Member};
-ghost use Rattle.pam_host.specs.Looked.{OfModule, OfModules, OfNumber, OfRule, spot_at};
+ghost use Rattle.pam_host.specs.inner.Looked.{OfModule, OfModules, OfNumber, OfRule, spot_at};
 ghost use Rattle.pam_host.specs.StackProblems.{InItems};
-ghost use Rattle.pam_host.specs.Table.{Adds};
+ghost use Rattle.pam_host.specs.inner.Table.{Adds};
 ghost use Rattle.pam_host.specs.Verdicts.{HasOther, denies_or_warns, is_other};
 
 use crate::callers::caller_is_root;

@@ -2,8 +2,8 @@
 
 ghost use Rattle.std.specs.Prelude.{◌≡◌, ◌++◌, IfOk, OnOk, length, map};
 ghost use Rattle.pam_host.specs.FileProblems.{released_in};
-ghost use Rattle.pam_host.specs.Own.{IsOwn, IsRead, fault_spot, read_by, released_spot};
-ghost use Rattle.pam_host.specs.Table.{Puts, with_met};
+ghost use Rattle.pam_host.specs.inner.Own.{IsOwn, IsRead, fault_spot, read_by, released_spot};
+ghost use Rattle.pam_host.specs.inner.Table.{Puts, with_met};
 
 use crate::met::Met;
 use crate::problem::{Problem, Spot};

@@ -4,7 +4,7 @@ ghost use Rattle.std.specs.Prelude.{◌≡◌, OnOk, length};
 ghost use Rattle.std.specs.List.{range_with_len};
 ghost use Rattle.pam_paths.specs.Classes.{Member};
 ghost use Rattle.pam_host.specs.FileProblems.{files_read};
-ghost use Rattle.pam_host.specs.Table.{Notes};
+ghost use Rattle.pam_host.specs.inner.Table.{Notes};
 
 use crate::met::Met;
 use pam_conf::{Form, Kind};

@@ -6,11 +6,11 @@ ghost use Rattle.pam_conf.specs.Laws.{IsSound};
 ghost use Rattle.pam_conf.specs.Survey.{faults_at, surveyed};
 ghost use Rattle.pam_conf.specs.SurveyText.{survey_text};
 ghost use Rattle.pam_host.specs.declared.problem.Spot.{Spot as SpotText};
-ghost use Rattle.pam_host.specs.Table.{Adds, ArePlaced, Puts, finding_at, with_stack};
-ghost use Rattle.pam_host.specs.SoFar.{SoFar, host_with};
-ghost use Rattle.pam_host.specs.Checking.{AddsService, AddsStack};
+ghost use Rattle.pam_host.specs.inner.Table.{Adds, ArePlaced, Puts, finding_at, with_stack};
+ghost use Rattle.pam_host.specs.inner.SoFar.{SoFar, host_with};
+ghost use Rattle.pam_host.specs.inner.Checking.{AddsService, AddsStack};
 ghost use Rattle.pam_host.specs.Inside.{HasJumpInside};
-ghost use Rattle.pam_host.specs.Looked.{Looks};
+ghost use Rattle.pam_host.specs.inner.Looked.{Looks};
 ghost use Rattle.pam_host.specs.OtherAnswers.{HasOtherAnswer, OtherAnswers, partner};
 
 use crate::inside::jumps_inside;

@@ -1,7 +1,7 @@
 //! The faults of the walk of a stack.
 
 ghost use Rattle.std.specs.Prelude.{◌≡◌, ◌++◌, OnOk, map};
-ghost use Rattle.pam_host.specs.Looked.{walk_spot};
+ghost use Rattle.pam_host.specs.inner.Looked.{walk_spot};
 
 use crate::problem::{Problem, Spot};
 use pam_conf::ConfError;

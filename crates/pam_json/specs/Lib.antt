@@ -2,7 +2,6 @@ pub mod Check
 pub mod Compare
 pub mod Decide
 pub mod Header
-pub mod Heads
 pub mod Outcomes
 pub mod Paths
 pub mod Sentences
@@ -10,4 +9,4 @@ pub mod Show
 pub mod Steps
 pub mod Tables
 pub mod Text
-pub mod Written
+pub mod inner

@@ -36,7 +36,7 @@ enum ModuleValue<'x> {
 }
 
 impl Written for ModuleValue<'_> {
-    ghost use Rattle.pam_json.specs.Written.{module_value};
+    ghost use Rattle.pam_json.specs.inner.Written.{module_value};
 
     ghost value = { module_value };
 

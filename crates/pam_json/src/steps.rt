@@ -151,7 +151,7 @@ pub(crate) enum PathValue<'x> {
 }
 
 impl Written for PathValue<'_> {
-    ghost use Rattle.pam_json.specs.Written.{path_value};
+    ghost use Rattle.pam_json.specs.inner.Written.{path_value};
 
     ghost value = { path_value };
 

@@ -5,7 +5,8 @@ use Rattle.json.specs.Print.{quoted}
 use Rattle.serde_json.specs.Data.{Data}
 use Rattle.serde_json.specs.Written.{comma_if, compact_text, members_text}
 use Rattle.pam_json_lines.specs.Line.{members_of}
-use Rattle.pam_json_lines.specs.Values.{data_of, member_of, member_text}
+use Rattle.pam_json_lines.specs.Values.{data_of, member_of}
+use Rattle.pam_json_lines.specs.inner.Values.{member_text}
 use Rattle.pam_json_lines.specs.declared.value.Member.{Member}
 
 -- the text of members, with the closing brace

@@ -5,7 +5,7 @@ use Rattle.std.proofs.lemmas.Str.{utf8_lossy_chunk, utf8_lossy_empty, utf8_lossy
 use Rattle.std.specs.List.{flat_map}
 use Rattle.std.specs.Str.Lossy.{replacement_bytes, utf8_invalid_len, utf8_lossy, utf8_valid_len}
 use Rattle.json.specs.Print.{escape, escape_byte, quoted}
-use Rattle.pam_json_lines.specs.Text.{invalid_text}
+use Rattle.pam_json_lines.specs.inner.Text.{invalid_text}
 use Rattle.pam_json_lines.specs.declared.text.Part.{Part}
 
 escape-append : (a b : List ℕ) → escape (a ++ b) ≡ escape a ++ escape b

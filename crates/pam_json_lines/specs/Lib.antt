@@ -1,4 +1,4 @@
 pub mod Laws
 pub mod Line
-pub mod Text
 pub mod Values
+pub mod inner

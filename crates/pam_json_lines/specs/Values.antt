@@ -1,10 +1,8 @@
 -- The name and the value of a member.
-use Rattle.std.specs.Prelude.{ℕ, List, ◌++◌, ◌∷◌, map}
+use Rattle.std.specs.Prelude.{ℕ, List, map}
 use Rattle.std.specs.Char.{to_ascii_lowercase}
 use Rattle.std.specs.Str.Lossy.{utf8_lossy}
-use Rattle.json.specs.Print.{quoted}
 use Rattle.serde_json.specs.Data.{Data, boolean, null, number, string, unsigned}
-use Rattle.serde_json.specs.Written.{compact_text}
 use Rattle.pam_json_lines.specs.declared.value.Member.{Member}
 use Rattle.pam_json_lines.specs.declared.value.Value.{Value}
 use Rattle.pam_json_lines.specs.declared.value.Value.TheVariants as values
@@ -21,6 +19,3 @@ data_of value (values.Written v) = value v
 
 abbrev pub member_of : {V : Type 0} → (V → Data) → Member V → List ℕ × Data
 member_of value m = (m.name.now, data_of value m.value)
-
-abbrev pub member_text : {V : Type 0} → (V → Data) → Member V → List ℕ
-member_text value m = quoted m.name.now ++ 58 ∷ compact_text (data_of value m.value)

@@ -6,7 +6,7 @@ ghost use Rattle.std.specs.List.{flat_map};
 ghost use Rattle.std.specs.Str.Lossy.{utf8_lossy};
 ghost use Rattle.json.specs.Print.{escape, escape_byte, escape_letter, quoted};
 ghost use Rattle.pam_text.specs.Out.{Writes};
-ghost use Rattle.pam_json_lines.specs.Text.{invalid_text};
+ghost use Rattle.pam_json_lines.specs.inner.Text.{invalid_text};
 ghost use Rattle.serde_json.specs.Written.{compact_text};
 ghost use Rattle.pam_json_lines.specs.Line.{joined};
 

@@ -5,7 +5,8 @@ ghost use Rattle.pam_text.specs.Out.{Writes};
 ghost use Rattle.serde_json.specs.Data.{object};
 ghost use Rattle.serde_json.specs.Written.{comma_if, compact_text, members_text};
 ghost use Rattle.pam_json_lines.specs.Line.{line, members_of};
-ghost use Rattle.pam_json_lines.specs.Values.{data_of, member_of, member_text};
+ghost use Rattle.pam_json_lines.specs.Values.{data_of, member_of};
+ghost use Rattle.pam_json_lines.specs.inner.Values.{member_text};
 
 use crate::text::{put_lowercase, put_quoted, put_readable};
 use pam_text::{Device, Out};

@@ -12,7 +12,7 @@ use Rattle.pam_times.specs.declared.error.TimeFault.{TimeFault}
 use Rattle.pam_times.specs.declared.error.TimeFault.TheVariants as times
 use Rattle.pam_known.specs.Answers.{IsFault, IsTableFault, IsTimeFault, read_as}
 use Rattle.pam_known.specs.Knowledge.{fault_told, first_fault}
-use Rattle.pam_known.specs.Sets.{TellsIfAny}
+use Rattle.pam_known.specs.inner.Sets.{TellsIfAny}
 use Rattle.pam_known.specs.declared.error.KnownError.{KnownError}
 use Rattle.pam_known.specs.declared.error.KnownError.TheVariants as known
 

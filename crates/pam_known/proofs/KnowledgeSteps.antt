@@ -16,7 +16,7 @@ use Rattle.pam_tables.specs.declared.error.TableError.{TableError}
 use Rattle.pam_known.specs.Answers.{IsFault, read_as}
 use Rattle.pam_known.specs.Knowledge.{◌>>=◌, Knows, codes_by, first_fault, groups_read, knowledge, line_at, numbers, returns_read}
 use Rattle.pam_known.specs.Knowledge.{told_at, told_knowledge, unless}
-use Rattle.pam_known.specs.Sets.{Lets}
+use Rattle.pam_known.specs.inner.Sets.{Lets}
 use Rattle.pam_known.specs.Tables.{TablesText}
 use Rattle.pam_known.specs.declared.error.KnownError.{KnownError}
 use Rattle.pam_known.specs.declared.error.KnownError.TheVariants as known

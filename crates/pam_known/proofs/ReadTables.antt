@@ -11,7 +11,7 @@ use Rattle.pam_tables.specs.declared.error.TableError.{TableError}
 use Rattle.pam_known.specs.Answers.{access_read, time_read}
 use Rattle.pam_known.specs.Knowledge.{numbers, reads_access}
 use Rattle.pam_known.specs.Reads.{IsOfRead, TablesRead, is_read, reads_time, tables_read}
-use Rattle.pam_known.specs.Sets.{all_given, number_reads, of_groups, of_module, some_read}
+use Rattle.pam_known.specs.inner.Sets.{all_given, number_reads, of_groups, of_module, some_read}
 use Rattle.pam_known.specs.Tables.{TablesText, tables_view}
 use Rattle.pam_known.specs.declared.error.KnownError.{KnownError}
 use Rattle.pam_known.specs.declared.error.KnownError.TheVariants as known

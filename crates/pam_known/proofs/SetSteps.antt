@@ -7,12 +7,12 @@ use Rattle.std.proofs.lemmas.Bool.{cases_eq, cond-true, cond-false, eq-eqb, ne_e
 use Rattle.std.proofs.lemmas.List.{nil_from_length}
 use Rattle.pam_codes.specs.Code.{all_codes}
 use Rattle.pam_codes.specs.Set.{is_in, IsCodeSet}
-use Rattle.pam_codes.specs.SetBits.{is_in-codes_where}
+use Rattle.pam_codes.specs.inner.SetBits.{is_in-codes_where}
 use Rattle.pam_paths.specs.Known.{answers_by}
 use Rattle.pam_paths.proofs.KnownCodes.{nothing_set, something_set}
 use Rattle.pam_known.specs.declared.error.KnownError.{KnownError}
 use Rattle.pam_known.specs.Knowledge.{codes_by}
-use Rattle.pam_known.specs.Sets.{Adds, AreDone, Lets}
+use Rattle.pam_known.specs.inner.Sets.{Adds, AreDone, Lets}
 
 -- ---- one module after another
 

@@ -44,10 +44,6 @@ abbrev pub IsFault : KnownError → Type 0 → Type 0
 IsFault (known.Table e) exact = IsTableFault e.fault e.line exact
 IsFault (known.Time e) exact = IsTimeFault e.fault e.line exact
 
--- an error is that of the definition, unless an allocation failed
-abbrev pub TellsError : {Y : Type 0} → KnownError → Result Y KnownError → Type 0
-TellsError e told = IsFault e (told ≡ Err e)
-
 -- a table, or its fault together with the kind of the table
 abbrev pub read_as : {T : Type 0} → Table → Result T (TableFault × ℕ) → Result T KnownError
 read_as table (Ok t) = Ok t

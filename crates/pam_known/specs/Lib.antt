@@ -2,5 +2,5 @@ pub mod Answers
 pub mod Knowledge
 pub mod Laws
 pub mod Reads
-pub mod Sets
 pub mod Tables
+pub mod inner

@@ -4,10 +4,11 @@ ghost use Rattle.std.specs.Prelude.{◌≡◌, ◌≤◌, ◌==◌, IfErr, false
 ghost use Rattle.std.specs.List.{list_any, starts_with, suffix_len};
 ghost use Rattle.std.specs.Option.{option_map};
 ghost use Rattle.pam_conf.specs.ItemsOf.{module_text};
-ghost use Rattle.pam_known.specs.Answers.{TellsError, access_code, access_read, is_access_reader, is_reader, is_time_reader};
+ghost use Rattle.pam_known.specs.Answers.{access_code, access_read, is_access_reader, is_reader, is_time_reader};
+ghost use Rattle.pam_known.specs.inner.Answers.{TellsError};
 ghost use Rattle.pam_known.specs.Answers.{name_of_path, time_code, time_read, time_told};
 ghost use Rattle.pam_known.specs.Reads.{IsOfRead};
-ghost use Rattle.pam_known.specs.Sets.{of_module, told_under};
+ghost use Rattle.pam_known.specs.inner.Sets.{of_module, told_under};
 ghost use Rattle.pam_known.specs.Tables.{tables_view, timed_view};
 ghost use Rattle.pam_tables.specs.Login.{login_view};
 ghost use Rattle.pam_text.specs.Gives.{Gives};

@@ -4,11 +4,12 @@ ghost use Rattle.std.specs.Prelude.{◌≡◌, ◌≤◌, ℕ, IfErr, IfSome, So
 ghost use Rattle.std.specs.List.{list_any};
 ghost use Rattle.pam_conf.specs.ItemsOf.{module_text};
 ghost use Rattle.pam_conf.specs.Stack.{module_count};
-ghost use Rattle.pam_known.specs.Answers.{TellsError, access_told, name_of_path, time_told};
+ghost use Rattle.pam_known.specs.Answers.{access_told, name_of_path, time_told};
+ghost use Rattle.pam_known.specs.inner.Answers.{TellsError};
 ghost use Rattle.pam_known.specs.Knowledge.{Knows, groups_read, knowledge, line_at, numbers, reads_access, told_knowledge};
 ghost use Rattle.pam_known.specs.Reads.{IsOfRead, tables_read};
-ghost use Rattle.pam_known.specs.Sets.{module_reads, number_reads, of_groups, of_module, some_read};
-ghost use Rattle.pam_known.specs.Sets.{Adds, IsKept, TellsAll, TellsIfAny, IsAccessCode, IsLineSet, IsTableSet, told_of, told_of_number};
+ghost use Rattle.pam_known.specs.inner.Sets.{module_reads, number_reads, of_groups, of_module, some_read};
+ghost use Rattle.pam_known.specs.inner.Sets.{Adds, IsKept, TellsAll, TellsIfAny, IsAccessCode, IsLineSet, IsTableSet, told_of, told_of_number};
 ghost use Rattle.pam_known.specs.Tables.{tables_view, timed_view};
 ghost use Rattle.pam_paths.specs.Known.{set_for};
 ghost use Rattle.pam_tables.specs.Login.{login_view};

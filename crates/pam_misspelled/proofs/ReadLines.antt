@@ -5,7 +5,7 @@ use Rattle.pam_released.proofs.LineNumbers.{LinesRise, text_rises}
 use Rattle.pam_text.proofs.TextSteps.{unequal}
 use Rattle.pam_text.specs.Text.{FileByte, text_lines, text_of}
 use Rattle.pam_misspelled.specs.Lines.{Lines, line_at}
-use Rattle.pam_misspelled.specs.Reading.{AreRead, Rise, if_last, last_line}
+use Rattle.pam_misspelled.specs.inner.Reading.{AreRead, Rise, if_last, last_line}
 
 -- THE NUMBERS RISE
 

@@ -1,7 +1,7 @@
 -- A reader that goes on to the next line.
 use Rattle.std.proofs.Common.{◌≡◌, ◌≤◌, ◌<◌, ◌∷◌, ℕ, Bool, true, false, subst}
 use Rattle.pam_misspelled.specs.Lines.{Lines, line_of, lines_in}
-use Rattle.pam_misspelled.specs.Reading.{AreRead, IsNext, IsReading, if_last, left_of}
+use Rattle.pam_misspelled.specs.inner.Reading.{AreRead, IsNext, IsReading, if_last, left_of}
 use Rattle.pam_misspelled.specs.declared.reader.Reader.{Reader}
 use Rattle.pam_misspelled.proofs.ReadLines.{at_next, one_more}
 

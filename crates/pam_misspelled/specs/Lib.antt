@@ -4,5 +4,5 @@ pub mod Misspelled
 pub mod MisspelledView
 pub mod Pairs
 pub mod Paths
-pub mod Reading
 pub mod RightWords
+pub mod inner

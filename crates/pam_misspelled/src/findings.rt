@@ -3,8 +3,9 @@
 ghost use Rattle.std.specs.Prelude.{◌≡◌, ℕ, IfOk, List, OnOk, Option, map};
 ghost use Rattle.std.specs.Option.{option_map};
 ghost use Rattle.pam_misspelled.specs.Findings.{misspelled_at, right_names, wrong_of};
-ghost use Rattle.pam_misspelled.specs.MisspelledView.{misspelled_view, right_view};
-ghost use Rattle.pam_misspelled.specs.Reading.{IsReading};
+ghost use Rattle.pam_misspelled.specs.MisspelledView.{misspelled_view};
+ghost use Rattle.pam_misspelled.specs.inner.MisspelledView.{right_view};
+ghost use Rattle.pam_misspelled.specs.inner.Reading.{IsReading};
 
 use crate::reader::Reader;
 use crate::right_words::{first_modules, first_names};

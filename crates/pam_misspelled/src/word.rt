@@ -3,7 +3,8 @@
 ghost use Rattle.std.specs.Prelude.{◌≡◌, IfOk, map};
 ghost use Rattle.std.specs.Option.{option_map};
 ghost use Rattle.pam_misspelled.specs.Misspelled.{fault_word, misspelled_in, nearest_to, with_nearest, wrong_word};
-ghost use Rattle.pam_misspelled.specs.MisspelledView.{misspelled_view, right_view};
+ghost use Rattle.pam_misspelled.specs.MisspelledView.{misspelled_view};
+ghost use Rattle.pam_misspelled.specs.inner.MisspelledView.{right_view};
 
 use crate::pairs::wrong_in;
 use crate::path::path_in;

@@ -7,7 +7,7 @@ use Rattle.pam_text.specs.Cut.{cut_at, is_among}
 use Rattle.pam_tables.proofs.Cutting.{split_found, split_none}
 use Rattle.pam_released.specs.Laws.{ManualLines}
 use Rattle.pam_released.specs.Lines.{before_hash, continued, ends_in_backslash, has_hash, last_is_space, manual_lines_of, onto_line, pieces}
-use Rattle.pam_old_tables.specs.Pieces.{filled_after, front_of, is_filled_by}
+use Rattle.pam_old_tables.specs.inner.Pieces.{filled_after, front_of, is_filled_by}
 use Rattle.pam_old_tables.specs.Times.{ends_in_rule, has_word, last_of}
 
 -- whether the last of some lines has a word, where the first has one before it

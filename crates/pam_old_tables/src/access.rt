@@ -7,7 +7,7 @@ ghost use Rattle.pam_tables.specs.Tokens.{tokens_of};
 ghost use Rattle.pam_old_tables.specs.Access.{access_findings, access_tests, has_empty_separator, has_mask_digits, has_zero_mask};
 ghost use Rattle.pam_old_tables.specs.Access.{is_empty_separator, is_loopback, last_line, origins_of, rule_fields, users_of};
 ghost use Rattle.pam_old_tables.specs.Findings.{found_at};
-ghost use Rattle.pam_old_tables.specs.Separators.{options_with};
+ghost use Rattle.pam_old_tables.specs.inner.Separators.{options_with};
 
 use crate::difference::TableDifference;
 use crate::finding::{TableFinding, push_those};

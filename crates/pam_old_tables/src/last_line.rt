@@ -4,7 +4,7 @@ ghost use Rattle.std.specs.Prelude.{◌≡◌, ◌==◌, ◌≤◌, ◌∷◌, [
 ghost use Rattle.std.specs.List.{list_all, prefix_len};
 ghost use Rattle.pam_text.specs.Blanks.{is_text_blank};
 ghost use Rattle.pam_released.specs.Lines.{before_hash, ends_in_backslash, has_hash};
-ghost use Rattle.pam_old_tables.specs.Pieces.{filled_after, front_of, is_filled_by};
+ghost use Rattle.pam_old_tables.specs.inner.Pieces.{filled_after, front_of, is_filled_by};
 ghost use Rattle.pam_old_tables.specs.Times.{ends_in_rule, has_word};
 
 use pam_released::laws::manual_lines;
@@ -70,7 +70,7 @@ fn has_hash(line: &[u8]) -> bool
 }
 
 /// Whether the last physical line has no comment, and its line has a word, where it has one before if `filled`.
-#[tactic(auto, unfolding(crate::specs::Pieces::is_filled_by))]
+#[tactic(auto, unfolding(crate::specs::inner::Pieces::is_filled_by))]
 fn is_filled_by(filled: bool, last: &[u8]) -> bool
     ensures { result ≡ is_filled_by filled (last.now ∷ []) }
 {

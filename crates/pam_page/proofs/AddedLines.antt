@@ -2,7 +2,7 @@
 use Rattle.std.proofs.Common.{◌≡◌, ℕ, List, [], ◌++◌, Option, Result, Ok, Err, ap, sym, ◌∙◌, append_assoc, append-nil}
 use Rattle.pam_codes.proofs.Writing.{all-is, all-then, front-is, front-then}
 use Rattle.pam_codes.specs.Out.{Device, Out, TookAll, TookFront, Writes}
-use Rattle.pam_page.specs.Lines.{Adds, Holds}
+use Rattle.pam_page.specs.inner.Lines.{Adds, Holds}
 
 module _ {W : Type 0} {contents : W → Option (List ℕ)} where
   -- the earlier lines are written, and then the line

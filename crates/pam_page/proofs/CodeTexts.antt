@@ -4,7 +4,7 @@ use Rattle.std.proofs.Common.{refl, ap, subst, ◌∙◌, arith}
 use Rattle.std.specs.Fmt.{digits}
 use Rattle.pam_codes.specs.Code.{code_names}
 use Rattle.pam_page.proofs.LineParts.{code_name-is}
-use Rattle.pam_page.specs.KeptSteps.{number_len}
+use Rattle.pam_page.specs.inner.KeptSteps.{number_len}
 use Rattle.pam_page.specs.Page.{code_name}
 use Rattle.pam_page.specs.declared.code_texts.TheConstants.{NAMES, NUMBERS}
 

@@ -2,7 +2,7 @@
 use Rattle.std.proofs.Common.{◌≡◌, ℕ, ◌<◌, Bool, true, false, List, [], ◌&&◌, not, refl, sym, ap, ◌∙◌}
 use Rattle.pam_codes.specs.Set.{IsCodeSet, codes_where, is_in}
 use Rattle.pam_codes.specs.SetText.{names_text, set_text}
-use Rattle.pam_codes.specs.SetBits.{codes_where-same, is_in-codes_where}
+use Rattle.pam_codes.specs.inner.SetBits.{codes_where-same, is_in-codes_where}
 
 same_answer : (x y : Bool) → (x && not y) ≡ false → (y && not x) ≡ false → x ≡ y
 same_answer true true e f = refl

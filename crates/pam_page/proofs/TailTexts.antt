@@ -11,8 +11,8 @@ use Rattle.std.proofs.lemmas.List.{length-map, length-take, take-append-drop, ta
 use Rattle.pam_codes.specs.Code.{all_codes}
 use Rattle.pam_page.proofs.FlatTexts.{flat_map-push}
 use Rattle.pam_page.proofs.LineParts.{set_text-all}
-use Rattle.pam_page.specs.TailTexts.{AreTailTexts, codes_to, steps_to}
-use Rattle.pam_page.specs.KeptSteps.{code_text}
+use Rattle.pam_page.specs.inner.TailTexts.{AreTailTexts, codes_to, steps_to}
+use Rattle.pam_page.specs.inner.KeptSteps.{code_text}
 use Rattle.pam_page.specs.Page.{step_text}
 use Rattle.pam_paths.specs.Paths.{StepValue}
 use Rattle.pam_paths.specs.Steps.{step_seen}

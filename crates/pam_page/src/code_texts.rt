@@ -1,7 +1,7 @@
 //! The texts of return codes. Each is kept with blanks after it, so that it can be appended without a call.
 
 ghost use Rattle.std.specs.Prelude.{◌≡◌, ◌++◌, codes, decimal, if◌then◌else◌};
-ghost use Rattle.pam_page.specs.KeptSteps.{number_len};
+ghost use Rattle.pam_page.specs.inner.KeptSteps.{number_len};
 ghost use Rattle.pam_page.specs.Page.{code_name};
 
 use crate::buffer::Buffer;

@@ -2,7 +2,7 @@
 
 ghost use Rattle.std.specs.List.{flat_map};
 ghost use Rattle.std.specs.Prelude.{◌≡◌, ◌++◌, if◌then◌else◌, IsTrue, codes, length, take};
-ghost use Rattle.pam_page.specs.KeptSteps.{code_text, undotted};
+ghost use Rattle.pam_page.specs.inner.KeptSteps.{code_text, undotted};
 ghost use Rattle.pam_page.specs.Page.{code_name, path_line, step_text};
 
 use crate::buffer::Buffer;

@@ -3,7 +3,7 @@
 ghost use Rattle.std.specs.Prelude.{◌≡◌, ◌+◌, ◌-◌, ◌*◌, ◌<◌, ◌≤◌, ◌^◌, [], OnOk, drop, length, take};
 ghost use Rattle.pam_codes.specs.Out.{Writes};
 ghost use Rattle.pam_page.specs.Coming.{coming, followed, most_steps, side, work};
-ghost use Rattle.pam_page.specs.Lines.{Adds};
+ghost use Rattle.pam_page.specs.inner.Lines.{Adds};
 ghost use Rattle.pam_page.specs.Page.{first_page, page_text, path_line, text_after};
 
 use crate::buffer::Buffer;

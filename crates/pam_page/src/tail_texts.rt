@@ -2,8 +2,8 @@
 
 ghost use Rattle.std.specs.List.{concat, flat_map};
 ghost use Rattle.std.specs.Prelude.{◌≡◌, ◌+◌, ◌-◌, ◌≤◌, ◌∷◌, ◌++◌, [], if◌then◌else◌, length, codes, decimal, map, IfOk, IfSome, IsTrue};
-ghost use Rattle.pam_page.specs.TailTexts.{steps_to};
-ghost use Rattle.pam_page.specs.KeptSteps.{code_text};
+ghost use Rattle.pam_page.specs.inner.TailTexts.{steps_to};
+ghost use Rattle.pam_page.specs.inner.KeptSteps.{code_text};
 ghost use Rattle.pam_page.specs.Page.{step_text};
 ghost use Rattle.pam_paths.specs.Steps.{step_seen};
 ghost use Rattle.pam_paths.specs.Tail.{IsTail, tail_from};
@@ -41,7 +41,7 @@ pub(crate) struct TailTexts {
 /// Seen as the number of modules.
 impl Model for TailTexts {
     ghost use Rattle.std.specs.Prelude.{ℕ, length};
-    ghost use Rattle.pam_page.specs.TailTexts.{AreTailTexts};
+    ghost use Rattle.pam_page.specs.inner.TailTexts.{AreTailTexts};
 
     ghost Value = { ℕ };
 

@@ -4,7 +4,7 @@ ghost use Rattle.std.specs.List.{concat, flat_map};
 ghost use Rattle.std.specs.Prelude.{◌≡◌, ◌++◌, ◌∷◌, ◌-◌, ◌<◌, ◌≤◌, ◌^◌, [], if◌then◌else◌, IfOk, IsTrue, codes, decimal, length, map, take};
 ghost use Rattle.pam_codes.specs.Out.{Writes};
 ghost use Rattle.pam_codes.specs.SetText.{set_text};
-ghost use Rattle.pam_page.specs.KeptSteps.{code_text};
+ghost use Rattle.pam_page.specs.inner.KeptSteps.{code_text};
 ghost use Rattle.pam_page.specs.Page.{path_line, step_text};
 ghost use Rattle.pam_paths.specs.Steps.{step_seen};
 ghost use Rattle.pam_paths.specs.Tail.{IsTail};
@@ -60,7 +60,8 @@ pub struct LineTexts {
 /// Seen as the steps whose texts are kept.
 impl Model for LineTexts {
     ghost use Rattle.std.specs.Prelude.{List, map};
-    ghost use Rattle.pam_page.specs.KeptSteps.{AreTexts, step_of};
+    ghost use Rattle.pam_page.specs.KeptSteps.{step_of};
+    ghost use Rattle.pam_page.specs.inner.KeptSteps.{AreTexts};
     ghost use Rattle.pam_paths.specs.Paths.{StepValue};
 
     ghost Value = { List StepValue };
@@ -71,7 +72,7 @@ impl Model for LineTexts {
 }
 
 /// Appends `.CODE`, the least code of the class of a step. Returns whether there was room.
-#[tactic(auto, unfolding(crate::specs::KeptSteps::code_text))]
+#[tactic(auto, unfolding(crate::specs::inner::KeptSteps::code_text))]
 fn append_code(cursor: &mut Buffer, step: &PathStep) -> bool
     ensures { IsTrue result → cursor.new ≡ cursor.old ++ code_text (step_seen step.now) }
 {

@@ -9,11 +9,12 @@ use Rattle.pam_paths.specs.declared.classes.Classes.{Classes}
 use Rattle.pam_paths.specs.declared.frames.Branch.{Branch}
 use Rattle.pam_paths.specs.declared.frames.Frame.{Frame}
 use Rattle.pam_paths.specs.declared.path.PathStep.{PathStep}
-use Rattle.pam_paths.specs.Followed.{followed}
+use Rattle.pam_paths.specs.inner.Followed.{followed}
 use Rattle.pam_paths.specs.Frames.{step_in}
 use Rattle.pam_paths.specs.Paths.{StepValue}
 use Rattle.pam_paths.specs.Steps.{step_seen}
-use Rattle.pam_paths.specs.Tail.{IsTail, EndsInTail, tail_from}
+use Rattle.pam_paths.specs.Tail.{IsTail, tail_from}
+use Rattle.pam_paths.specs.inner.Tail.{EndsInTail}
 
 module _ {A : Type 0} (cells items : List A) (count : ℕ) (is : take count cells ≡ items) (i : ℕ) (within : i < length items) where
   pub row-within : i < length cells

@@ -5,14 +5,15 @@ use Rattle.std.specs.List.{range_with_len}
 use Rattle.std.proofs.lemmas.Bool.{cond-true}
 use Rattle.std.proofs.lemmas.List.{map-append, reverse-append}
 use Rattle.pam_codes.specs.Set.{is_in}
-use Rattle.pam_codes.specs.SetBits.{is_in-codes_where}
+use Rattle.pam_codes.specs.inner.SetBits.{is_in-codes_where}
 use Rattle.pam_dispatch.specs.declared.step.Outcome.{Outcome}
 use Rattle.pam_dispatch.specs.Runs.{Ask, Runs, asks, ends, outcome_of, asked_module, after_answer, next_ask}
 use Rattle.pam_paths.specs.declared.direction.Direction.{Direction}
 use Rattle.pam_paths.specs.declared.direction.Direction.TheVariants.{Forward, Backward}
 use Rattle.pam_paths.specs.Classes.{class_of}
 use Rattle.pam_paths.specs.Computed.{after_step, branches, is_offered, listing}
-use Rattle.pam_paths.specs.Directions.{IsAhead, IsNearer, ordered, past}
+use Rattle.pam_paths.specs.Directions.{ordered, past}
+use Rattle.pam_paths.specs.inner.Directions.{IsAhead, IsNearer}
 use Rattle.pam_paths.specs.Frames.{ahead_of, offered_at}
 use Rattle.pam_paths.specs.Listing.{Allowance}
 use Rattle.pam_paths.specs.Paths.{PathValue, step_of}

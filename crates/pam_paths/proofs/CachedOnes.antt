@@ -18,7 +18,8 @@ use Rattle.pam_paths.specs.declared.frames.Frame.{Frame}
 use Rattle.pam_paths.specs.declared.class_cache.CachedClasses.{CachedClasses}
 use Rattle.pam_paths.specs.declared.class_cache.RecentClasses.{RecentClasses}
 use Rattle.pam_paths.specs.Computed.{is_offered}
-use Rattle.pam_paths.specs.Frames.{AreClasses, IsFrame, offered_at}
+use Rattle.pam_paths.specs.Frames.{AreClasses, offered_at}
+use Rattle.pam_paths.specs.inner.Frames.{IsFrame}
 use Rattle.pam_paths.specs.Cached.{AreCached, AreRecentFor, IsCachedFor, told}
 use Rattle.pam_paths.specs.Listing.{Allowance}
 use Rattle.pam_paths.proofs.Situations.{from-normal, normal, same-offered, to-normal}

@@ -1,7 +1,7 @@
 -- Which digits are those of a code's number.
 use Rattle.std.proofs.Common.{◌≡◌, ◌≢◌, ℕ, ◌+◌, ◌*◌, ◌/◌, ◌%◌, ◌<◌, ◌≤◌, nat_lt, if◌then◌else◌, decimal, sym, ap, ◌∙◌, inl, inr, arith}
 use Rattle.std.proofs.Common.{List, [], ◌∷◌, ◌++◌, length, Some, None}
-use Rattle.pam_paths.specs.CursorText.{IsCodeOf}
+use Rattle.pam_paths.specs.inner.CursorText.{IsCodeOf}
 use Rattle.std.proofs.lemmas.Bool.{cases_lt, le-ltb, lt-ltb}
 use Rattle.std.proofs.lemmas.Fmt.{decimal_digit, decimal_step}
 

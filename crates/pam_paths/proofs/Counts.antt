@@ -1,6 +1,6 @@
 -- Counts of steps never fall.
 use Rattle.std.proofs.Common.{ℕ, arith}
-use Rattle.pam_paths.specs.Work.{CountsOn}
+use Rattle.pam_paths.specs.inner.Work.{CountsOn}
 
 pub counts-then : (first second third : ℕ) → CountsOn first second → CountsOn second third → CountsOn first third
 counts-then first second third before after held =

@@ -12,11 +12,11 @@ use Rattle.pam_paths.specs.declared.direction.Direction.TheVariants.{Forward, Ba
 use Rattle.pam_paths.specs.declared.frames.Frame.{Frame}
 use Rattle.pam_paths.specs.Cursor.{IsAccepted, IsRefusal, Verdict, HasVerdict, accepted, verdict_told}
 use Rattle.pam_paths.specs.Computed.{listing}
-use Rattle.pam_paths.specs.Directions.{IsListingFrom}
-use Rattle.pam_paths.specs.Frames.{AreFrames, IsExploring, part}
+use Rattle.pam_paths.specs.inner.Directions.{IsListingFrom}
+use Rattle.pam_paths.specs.inner.Frames.{AreFrames, IsExploring, part}
 use Rattle.pam_paths.specs.Listing.{Allowance, IsLawful, IsListingAfter, IsListingBefore}
 use Rattle.pam_paths.specs.Paths.{PathValue, path_of}
-use Rattle.pam_paths.specs.Retrace.{verdict_of}
+use Rattle.pam_paths.specs.inner.Retrace.{verdict_of}
 use Rattle.pam_paths.proofs.Listings.{listing-is, some_assignment}
 use Rattle.pam_paths.proofs.PageProofs.{before-is}
 use Rattle.pam_paths.proofs.Parts.{after-is, part-after, part-before}

@@ -14,8 +14,10 @@ use Rattle.pam_paths.specs.declared.direction.Direction.TheVariants.{Forward, Ba
 use Rattle.pam_paths.specs.declared.frames.Frame.{Frame}
 use Rattle.pam_paths.specs.Classes.{Member}
 use Rattle.pam_paths.specs.Computed.{after_step, listing}
-use Rattle.pam_paths.specs.Directions.{ordered, outset, past}
-use Rattle.pam_paths.specs.Frames.{AreClasses, AreFrames, IsExploring, IsFrame, ahead, ahead_of, coming, offered_at, step_in, under}
+use Rattle.pam_paths.specs.Directions.{ordered, past}
+use Rattle.pam_paths.specs.inner.Directions.{outset}
+use Rattle.pam_paths.specs.Frames.{AreClasses, ahead, ahead_of, coming, offered_at, step_in}
+use Rattle.pam_paths.specs.inner.Frames.{AreFrames, IsExploring, IsFrame, under}
 use Rattle.pam_paths.specs.Listing.{Allowance, IsLawful}
 use Rattle.pam_paths.specs.Paths.{PathValue, StepValue, path_of}
 use Rattle.pam_paths.proofs.Listings.{some_assignment, listing-has}

@@ -6,8 +6,8 @@ use Rattle.pam_dispatch.specs.declared.flat_item.FlatItem.{FlatItem}
 use Rattle.pam_dispatch.specs.Flat.{modules_of}
 use Rattle.pam_paths.specs.declared.frames.Branch.{Branch}
 use Rattle.pam_paths.specs.declared.frames.Frame.{Frame}
-use Rattle.pam_paths.specs.Followed.{followed}
-use Rattle.pam_paths.specs.Frames.{AreFrames, IsFrame}
+use Rattle.pam_paths.specs.inner.Followed.{followed}
+use Rattle.pam_paths.specs.inner.Frames.{AreFrames, IsFrame}
 use Rattle.pam_paths.specs.Listing.{Allowance}
 use Rattle.pam_paths.proofs.FrameLists.{frame_number, frame_same, popped, pushed}
 

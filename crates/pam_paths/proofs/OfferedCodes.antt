@@ -12,7 +12,7 @@ use Rattle.pam_codes.specs.declared.parts.Part.{Part}
 use Rattle.pam_codes.specs.Code.{all_codes}
 use Rattle.pam_codes.specs.Parts.{IsPart, IsParts}
 use Rattle.pam_codes.specs.Set.{IsCodeSet, codes_where, is_in}
-use Rattle.pam_codes.specs.SetBits.{is_in-codes_where, codes_where-same}
+use Rattle.pam_codes.specs.inner.SetBits.{is_in-codes_where, codes_where-same}
 use Rattle.pam_dispatch.specs.declared.state.Impression.TheVariants.{Negative}
 use Rattle.pam_dispatch.specs.declared.state.State.{State}
 use Rattle.pam_dispatch.specs.declared.step.Outcome.{Outcome}
@@ -23,7 +23,7 @@ use Rattle.pam_paths.specs.Classes.{class_at, class_of, least, same_outcome}
 use Rattle.pam_paths.specs.Computed.{is_offered}
 use Rattle.pam_paths.specs.Frames.{offered_at}
 use Rattle.pam_paths.specs.Listing.{Allowance}
-use Rattle.pam_paths.specs.Sharing.{is_offered_by, is_shared, past_part, past_parts, shared_code}
+use Rattle.pam_paths.specs.inner.Sharing.{is_offered_by, is_shared, past_part, past_parts, shared_code}
 use Rattle.pam_paths.proofs.Alike.{class-same, in_class, least_of_class, list_any_back, list_any_from, of_class}
 use Rattle.pam_paths.proofs.Alike.{same_outcome-from, same_outcome-self, same_outcome-true}
 use Rattle.pam_paths.proofs.OneAction.{alike_codes, failed_outcome, one_outcome}

@@ -13,10 +13,10 @@ use Rattle.pam_paths.specs.Classes.{Member, class_of, least}
 use Rattle.pam_paths.specs.Paths.{IsRising, PathValue, precedes, key, key_of, step_of}
 use Rattle.pam_paths.specs.declared.direction.Direction.TheVariants.{Forward, Backward}
 use Rattle.pam_paths.specs.Computed.{after_step, branches, is_offered, listing}
-use Rattle.pam_paths.specs.Frames.{part}
+use Rattle.pam_paths.specs.inner.Frames.{part}
 use Rattle.pam_paths.specs.Listing.{Allowance, IsListing, IsListingAfter}
 use Rattle.pam_paths.specs.Cursor.{Verdict, accepted, not_least, too_long, too_short}
-use Rattle.pam_paths.specs.Retrace.{further, verdict_of}
+use Rattle.pam_paths.specs.inner.Retrace.{further, verdict_of}
 use Rattle.pam_paths.specs.Pages.{after}
 use Rattle.pam_paths.proofs.Keys.{before-less, before-more, before-same, Precedes-from, Precedes-to}
 use Rattle.pam_paths.proofs.Listings.{PrecedesAll-at, PrecedesAll-from, offered_least, rising-same}

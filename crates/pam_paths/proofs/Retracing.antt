@@ -12,10 +12,11 @@ use Rattle.pam_paths.specs.Classes.{class_of, least}
 use Rattle.pam_paths.specs.Computed.{after_step, is_offered, listing}
 use Rattle.pam_paths.specs.Cursor.{accepted, too_long, too_short, not_least}
 use Rattle.pam_paths.specs.Directions.{past}
-use Rattle.pam_paths.specs.Frames.{AreFrames, IsFrame, ahead, ahead_of, branches_in, part, step_in, under}
+use Rattle.pam_paths.specs.Frames.{ahead, ahead_of, branches_in, step_in}
+use Rattle.pam_paths.specs.inner.Frames.{AreFrames, IsFrame, part, under}
 use Rattle.pam_paths.specs.Listing.{Allowance}
 use Rattle.pam_paths.specs.Paths.{PathValue, StepValue, step_of}
-use Rattle.pam_paths.specs.Retrace.{further, verdict_of}
+use Rattle.pam_paths.specs.inner.Retrace.{further, verdict_of}
 use Rattle.pam_paths.proofs.FrameLists.{ahead-push, pushed, under-append, under-nil, under-push}
 use Rattle.pam_paths.proofs.Verdicts.{verdict-head, verdict-other}
 

@@ -2,7 +2,7 @@
 use Rattle.std.proofs.Common.{◌≡◌, ℕ, Bool, true, false, refl, sym}
 use Rattle.pam_codes.specs.Code.{all_codes}
 use Rattle.pam_codes.specs.Set.{codes_where, is_in, IsCodeSet}
-use Rattle.pam_codes.specs.SetBits.{is_in-codes_where, codes_where-same}
+use Rattle.pam_codes.specs.inner.SetBits.{is_in-codes_where, codes_where-same}
 
 pub where-is_set : (test : ℕ → Bool) → IsCodeSet (codes_where test)
 where-is_set test = codes_where-same test (λ code. is_in code (codes_where test)) (λ code h. sym (is_in-codes_where test code h))

@@ -12,7 +12,7 @@ use Rattle.pam_codes.specs.declared.parts.Part.{Part}
 use Rattle.pam_codes.specs.Code.{all_codes}
 use Rattle.pam_codes.specs.Parts.{IsPart, IsParts}
 use Rattle.pam_codes.specs.Set.{IsCodeSet, codes_where, is_in}
-use Rattle.pam_codes.specs.SetBits.{is_in-codes_where, codes_where-same}
+use Rattle.pam_codes.specs.inner.SetBits.{is_in-codes_where, codes_where-same}
 use Rattle.pam_dispatch.specs.declared.step.Outcome.{Outcome}
 use Rattle.pam_dispatch.specs.Alike.{looks_at_code}
 use Rattle.pam_dispatch.specs.Runs.{Ask, outcome_of}

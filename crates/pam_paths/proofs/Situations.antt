@@ -3,7 +3,7 @@ use Rattle.std.proofs.Common.{◌≡◌, ◌==◌, ◌&&◌, ◌||◌, Bool, tru
 use Rattle.std.specs.List.{list_any}
 use Rattle.std.proofs.lemmas.Bool.{eqb-true, false≢true}
 use Rattle.pam_codes.specs.Set.{codes_where}
-use Rattle.pam_codes.specs.SetBits.{codes_where-same}
+use Rattle.pam_codes.specs.inner.SetBits.{codes_where-same}
 use Rattle.pam_codes.specs.declared.action.Action.{Action}
 use Rattle.pam_codes.specs.declared.action.Action.TheVariants.{Ignore, Ok, Done, Bad, Die, Reset, Jump}
 use Rattle.pam_dispatch.specs.declared.state.Impression.{Impression}

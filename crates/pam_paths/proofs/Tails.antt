@@ -7,7 +7,7 @@ use Rattle.std.proofs.Math.Seq.{drop-append_seam, take-nil}
 use Rattle.std.proofs.lemmas.Bool.{and_left, ne_eqb}
 use Rattle.std.proofs.lemmas.List.{drop-map, drop_all, length-map, map-append, take-map, take_all, take_at}
 use Rattle.pam_codes.specs.Code.{all_codes}
-use Rattle.pam_codes.specs.SetBits.{codes_where-same}
+use Rattle.pam_codes.specs.inner.SetBits.{codes_where-same}
 use Rattle.pam_dispatch.specs.declared.flat_item.FlatItem.{FlatItem}
 use Rattle.pam_dispatch.specs.declared.state.State.{State}
 use Rattle.pam_dispatch.specs.declared.step.Outcome.{Outcome}
@@ -23,11 +23,13 @@ use Rattle.pam_paths.specs.declared.path.PathStep.{PathStep}
 use Rattle.pam_paths.specs.Classes.{class_at, class_of, least, same_outcome}
 use Rattle.pam_paths.specs.Computed.{after_step, branches, is_offered, listing}
 use Rattle.pam_paths.specs.Directions.{ordered}
-use Rattle.pam_paths.specs.Frames.{AreFirstSteps, ahead, coming, path_to, step_in, under}
+use Rattle.pam_paths.specs.Frames.{ahead, coming, step_in}
+use Rattle.pam_paths.specs.inner.Frames.{AreFirstSteps, path_to, under}
 use Rattle.pam_paths.specs.Listing.{Allowance, IsLawful}
 use Rattle.pam_paths.specs.Paths.{PathValue, StepValue, step_of}
 use Rattle.pam_paths.specs.Steps.{step_seen}
-use Rattle.pam_paths.specs.Tail.{IsTail, EndsInTail, tail_from}
+use Rattle.pam_paths.specs.Tail.{IsTail, tail_from}
+use Rattle.pam_paths.specs.inner.Tail.{EndsInTail}
 use Rattle.pam_paths.proofs.Alike.{least_is_offered, same_outcome-from}
 use Rattle.pam_paths.proofs.Branches.{branches_none, from_first}
 use Rattle.pam_paths.proofs.Sets.{everything}

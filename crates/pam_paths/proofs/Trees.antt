@@ -13,7 +13,7 @@ use Rattle.pam_paths.specs.declared.cursor.CursorError.TheVariants.{Syntax, NotL
 use Rattle.pam_paths.specs.Laws.{PathOfStack}
 use Rattle.pam_paths.specs.declared.direction.Direction.{Direction}
 use Rattle.pam_paths.specs.declared.direction.Direction.TheVariants.{Forward, Backward}
-use Rattle.pam_paths.specs.Directions.{IsListingFrom}
+use Rattle.pam_paths.specs.inner.Directions.{IsListingFrom}
 use Rattle.pam_paths.specs.Listing.{Allowance, IsAllowedPath, IsListing}
 use Rattle.pam_paths.specs.Paths.{PathValue, StepValue, key, path_of, path_through, step_by}
 

@@ -8,7 +8,7 @@ use Rattle.pam_paths.specs.Computed.{after_step}
 use Rattle.pam_paths.specs.Paths.{PathValue, StepValue, key, key_of, path_of, step_of}
 use Rattle.pam_paths.specs.Listing.{AreCodes}
 use Rattle.pam_paths.specs.Cursor.{Verdict, HasVerdict, accepted, not_least, too_short, too_long}
-use Rattle.pam_paths.specs.Retrace.{further, verdict_of}
+use Rattle.pam_paths.specs.inner.Retrace.{further, verdict_of}
 use Rattle.pam_paths.specs.Laws.{OneVerdict}
 use Rattle.pam_paths.proofs.Alike.{in_class, of_class, class-same, least_of_class}
 use Rattle.pam_paths.proofs.Listings.{path_of-same, path_of-step, with_answer, with_answer-at, with_answer-other}

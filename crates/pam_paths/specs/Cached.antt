@@ -1,4 +1,4 @@
--- For private contracts and proofs alone: the classes that are cached of the modules.
+-- The classes that are cached of the modules.
 use Rattle.std.specs.Prelude.{◌≡◌, ℕ, ◌-◌, ◌≤◌, Bool, List, Some, if◌then◌else◌, slice_index_or}
 use Rattle.pam_conf.specs.declared.stack.TheConstants.{MAX_MODULES}
 use Rattle.pam_dispatch.specs.declared.asked.Situation.{Situation}

@@ -1,4 +1,4 @@
--- For proofs alone: the listing, computed in the order of an explorer; `Listing` defines it.
+-- The listing, computed in the order of an explorer; `Listing` defines it.
 use Rattle.std.specs.Prelude.{ℕ, ◌==◌, Bool, ◌&&◌, if◌then◌else◌, List, [], ◌∷◌, ◌++◌, map}
 use Rattle.std.specs.List.{list_any}
 use Rattle.pam_codes.specs.Code.{all_codes}

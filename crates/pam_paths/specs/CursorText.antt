@@ -1,5 +1,5 @@
 -- The text of a cursor: the numbers of its codes, separated by dots.
-use Rattle.std.specs.Prelude.{◌≡◌, ◌≢◌, ℕ, ◌<◌, ◌≤◌, All, List, [], ◌∷◌, MatchOption, Option, codes, decimal, length}
+use Rattle.std.specs.Prelude.{ℕ, ◌<◌, ◌≤◌, All, List, [], ◌∷◌, codes, decimal, length}
 use Rattle.std.specs.List.{join_by}
 use Rattle.pam_conf.specs.declared.stack.TheConstants.{MAX_MODULES}
 
@@ -12,8 +12,3 @@ pub record IsCursor (cursor : List ℕ) : Type 0 where
 abbrev pub cursor_text : List ℕ → List ℕ
 cursor_text [] = codes "-"
 cursor_text (code ∷ more) = join_by decimal (codes ".") (code ∷ more)
-
--- the code whose number has these digits; None if there is no such code
-abbrev pub IsCodeOf : List ℕ → Option ℕ → Type 0
-IsCodeOf digits result =
-    MatchOption result ((code : ℕ) → code < 31 → decimal code ≢ digits) (λ code. (code < 31) × (decimal code ≡ digits))

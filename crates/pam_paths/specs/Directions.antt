@@ -1,9 +1,7 @@
--- For proofs alone: listings and codes in either direction.
-use Rattle.std.specs.Prelude.{ℕ, ◌+◌, ◌<◌, ◌≤◌, List, reverse}
+-- Listings and codes in either direction.
+use Rattle.std.specs.Prelude.{ℕ, ◌+◌, List, reverse}
 use Rattle.pam_paths.specs.declared.direction.Direction.{Direction}
 use Rattle.pam_paths.specs.declared.direction.Direction.TheVariants.{Forward, Backward}
-use Rattle.pam_dispatch.specs.Runs.{Assignment}
-use Rattle.pam_paths.specs.Listing.{Allowance, IsListingAfter, IsListingBefore}
 use Rattle.pam_paths.specs.Paths.{PathValue}
 
 -- paths in the order of a direction
@@ -11,26 +9,6 @@ abbrev pub ordered : Direction → List PathValue → List PathValue
 ordered Forward paths = paths
 ordered Backward paths = reverse paths
 
--- the part of a listing after a key, or before it
-abbrev pub IsListingFrom : Direction → Allowance → ℕ → (Assignment → PathValue) → List ℕ → List PathValue → Type 0
-IsListingFrom Forward allows n path_by k paths = IsListingAfter allows n path_by k paths
-IsListingFrom Backward allows n path_by k paths = IsListingBefore allows n path_by k paths
-
--- the bound with every code ahead, and the bound with the codes after a code ahead
-abbrev pub outset : Direction → ℕ
-outset Forward = 0
-outset Backward = 31
-
 abbrev pub past : Direction → ℕ → ℕ
 past Forward code = code + 1
 past Backward code = code
-
--- a code is ahead of a bound
-abbrev pub IsAhead : Direction → ℕ → ℕ → Type 0
-IsAhead Forward bound code = bound ≤ code
-IsAhead Backward bound code = code < bound
-
--- a code is met before another
-abbrev pub IsNearer : Direction → ℕ → ℕ → Type 0
-IsNearer Forward code other = code < other
-IsNearer Backward code other = other < code

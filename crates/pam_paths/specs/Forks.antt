@@ -1,4 +1,4 @@
--- For proofs alone: the forks of a run, at which a module is asked, and the choices there.
+-- The forks of a run, at which a module is asked, and the choices there.
 use Rattle.std.specs.Prelude.{◌≡◌, ℕ, ◌<◌, true, List, Some, map}
 use Rattle.pam_dispatch.specs.declared.flat_item.FlatItem.{FlatItem}
 use Rattle.pam_dispatch.specs.Flat.{IsPlaceOf, modules_of, rest_of}

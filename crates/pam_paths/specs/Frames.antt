@@ -1,14 +1,11 @@
--- For proofs alone: the part of a listing that is left, by the frames of the path that an explorer returned last.
-use Rattle.std.specs.Prelude.{◌≡◌, ℕ, Bool, true, false, ◌+◌, ◌-◌, ◌<◌, ◌≤◌, if◌then◌else◌, List, [], ◌∷◌, ◌++◌, length, map, reverse, take}
-use Rattle.std.specs.Prelude.{Some}
+-- The part of a listing that is left, by the frames of the path that an explorer returned last.
+use Rattle.std.specs.Prelude.{◌≡◌, ℕ, Bool, true, false, ◌+◌, ◌-◌, ◌<◌, List, [], ◌∷◌, ◌++◌, map, reverse}
 use Rattle.std.specs.List.{range_with_len}
 use Rattle.pam_codes.specs.Set.{codes_where, is_in}
-use Rattle.pam_conf.specs.declared.stack.TheConstants.{MAX_MODULES}
 use Rattle.pam_dispatch.specs.declared.flat_item.FlatItem.{FlatItem}
-use Rattle.pam_dispatch.specs.declared.settled.SettledRun.{SettledRun}
 use Rattle.pam_dispatch.specs.declared.step.Outcome.{Outcome}
-use Rattle.pam_dispatch.specs.Flat.{IsPlaceOf, modules_of, rest_of, runs_of}
-use Rattle.pam_dispatch.specs.Runs.{Ask, Runs, ends, asks, AsksRise, asked_module, next_ask, outcome_of}
+use Rattle.pam_dispatch.specs.Flat.{rest_of, runs_of}
+use Rattle.pam_dispatch.specs.Runs.{Ask, Runs, ends, asks, next_ask}
 use Rattle.pam_paths.specs.declared.classes.Classes.{Classes}
 use Rattle.pam_paths.specs.declared.direction.Direction.{Direction}
 use Rattle.pam_paths.specs.declared.direction.Direction.TheVariants.{Forward, Backward}
@@ -17,8 +14,7 @@ use Rattle.pam_paths.specs.Classes.{class_of}
 use Rattle.pam_paths.specs.Computed.{after_step, branches, is_offered, listing}
 use Rattle.pam_paths.specs.Directions.{ordered, past}
 use Rattle.pam_paths.specs.Listing.{Allowance}
-use Rattle.pam_paths.specs.Paths.{PathValue, StepValue, step_of}
-use Rattle.pam_paths.specs.Tail.{tail_from}
+use Rattle.pam_paths.specs.Paths.{PathValue, StepValue}
 
 -- the paths that begin at a module with codes ahead of a bound
 abbrev pub branches_in : Direction → Allowance → Ask → (Outcome → List PathValue) → ℕ → List PathValue
@@ -33,36 +29,12 @@ ahead_of direction allows (asks ask next) bound = branches_in direction allows a
 abbrev pub step_in : Frame → StepValue
 step_in frame = record { module_number = frame.module_number; class = frame.class }
 
--- steps are those of the frames, as far as there are both
-abbrev pub AreFirstSteps : List Frame → List StepValue → Type 0
-AreFirstSteps frames steps = take (length frames) steps ≡ take (length steps) (map step_in frames)
-
--- the path of frames, and then of the rest of a settled run through `modules` modules
-abbrev pub path_to : ℕ → List Frame → SettledRun → PathValue
-path_to modules frames rest = record {
-  steps = map step_in frames ++ tail_from (modules + 1 - rest.modules) rest.modules;
-  decision = rest.decision;
-}
-
--- the paths, each with the steps of the frames before it
-unfoldable pub under : List Frame → List PathValue → List PathValue
-under [] paths = paths
-under (frame ∷ frames) paths = map (after_step (step_in frame)) (under frames paths)
-
 -- the paths after all that begin with the steps of the frames
 unfoldable pub ahead : Direction → Allowance → List FlatItem → List Frame → List PathValue
 ahead direction allows program [] = []
 ahead direction allows program (frame ∷ frames) =
     map (after_step (step_in frame)) (ahead direction allows program frames)
     ++ ahead_of direction allows (rest_of program frame.place) (past direction frame.code)
-
--- the paths after a key
-unfoldable pub part : Direction → Allowance → Runs → List ℕ → List PathValue
-part direction allows (ends s) codes = []
-part direction allows (asks ask next) [] = []
-part direction allows (asks ask next) (code ∷ codes) =
-    (if is_offered allows ask code then map (after_step (step_of ask code)) (part direction allows (next (outcome_of ask code)) codes) else [])
-    ++ branches_in direction allows ask (λ o. listing allows (next o)) (past direction code)
 
 -- the codes that begin a branch
 abbrev pub offered_at : Allowance → Runs → List ℕ
@@ -75,27 +47,7 @@ pub record AreClasses (ask : Ask) (classes : Classes) : Type 0 where
   pub whole : (code : ℕ) → code < 31 → is_in code classes.known ≡ true → class_of ask code ≡ classes.known
   pub earlier : (code : ℕ) → code < 31 → is_in code classes.earlier ≡ true → class_of ask code ≡ classes.earlier
 
--- a frame is at a module of the program; this module and those asked later have numbers above `low`
-pub record IsFrame (allows : Allowance) (program : List FlatItem) (low : ℕ) (frame : Frame) : Type 0 where
-  pub place : IsPlaceOf program frame.place
-  pub asking : asked_module (rest_of program frame.place) ≡ Some frame.module_number
-  pub rise : AsksRise low (modules_of program) (rest_of program frame.place)
-  pub offered : frame.classes.offered ≡ offered_at allows (rest_of program frame.place)
-  pub classes : AreClasses (next_ask (rest_of program frame.place)) frame.classes
-  pub code : frame.code < 31
-
--- frames, outermost first, of modules with numbers above `low`, `low + 1` and so on
-unfoldable pub AreFrames : Allowance → List FlatItem → ℕ → List Frame → Type 0
-AreFrames allows program low [] = Unit {0}
-AreFrames allows program low (frame ∷ frames) = IsFrame allows program low frame × AreFrames allows program (low + 1) frames
-
 -- the paths left: at the start all, then those ahead of the frames
 unfoldable pub coming : Direction → Allowance → List FlatItem → Bool → List Frame → List PathValue
 coming direction allows program true frames = ordered direction (listing allows (runs_of program))
 coming direction allows program false frames = ahead direction allows program frames
-
--- the frames of an explorer are of its program; there are none at the start
-pub record IsExploring (allows : Allowance) (program : List FlatItem) (at_start : Bool) (frames : List Frame) : Type 0 where
-  pub few : modules_of program ≤ MAX_MODULES
-  pub valid : AreFrames allows program 0 frames
-  pub start : at_start ≡ true → frames ≡ []

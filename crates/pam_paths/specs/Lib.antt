@@ -5,7 +5,6 @@ pub mod Cursor
 pub mod CursorText
 pub mod Directions
 pub mod Exploration
-pub mod Followed
 pub mod Forks
 pub mod Frames
 pub mod Known
@@ -13,8 +12,6 @@ pub mod Laws
 pub mod Listing
 pub mod Pages
 pub mod Paths
-pub mod Retrace
-pub mod Sharing
 pub mod Steps
 pub mod Tail
-pub mod Work
+pub mod inner

@@ -1,5 +1,5 @@
 -- The end of a path on which the answers no longer matter: pam.conf(5), DESCRIPTION.
-use Rattle.std.specs.Prelude.{◌≡◌, ℕ, ◌+◌, ◌-◌, ◌≤◌, List, [], ◌∷◌, drop, length}
+use Rattle.std.specs.Prelude.{◌≡◌, ℕ, ◌+◌, List, [], ◌∷◌, length}
 use Rattle.std.proofs.Common.{zero, suc}
 use Rattle.pam_codes.specs.Code.{all_codes}
 use Rattle.pam_paths.specs.Paths.{StepValue}
@@ -12,7 +12,3 @@ tail_from first (suc count) = record { module_number = first; class = all_codes 
 -- steps of modules that are numbered one after another, each with every code
 abbrev pub IsTail : List StepValue → Type 0
 IsTail steps = (first : ℕ) × (steps ≡ tail_from first (length steps))
-
--- the last steps of a path, `count` of them, are such steps
-abbrev pub EndsInTail : ℕ → List StepValue → Type 0
-EndsInTail count steps = (count ≤ length steps) × IsTail (drop (length steps - count) steps)

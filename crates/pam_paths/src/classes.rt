@@ -12,7 +12,7 @@ ghost use Rattle.pam_dispatch.specs.Settled.{keeps_failure};
 ghost use Rattle.pam_paths.specs.Classes.{class_at, class_of, impression_number, least, same_outcome};
 ghost use Rattle.pam_paths.specs.Frames.{AreClasses, offered_at};
 ghost use Rattle.pam_paths.specs.Listing.{Allowance};
-ghost use Rattle.pam_paths.specs.Sharing.{is_offered_by, shared_code};
+ghost use Rattle.pam_paths.specs.inner.Sharing.{is_offered_by, shared_code};
 
 use pam_codes::{Action, Code, CodeSet, Part};
 use pam_dispatch::{Impression, Outcome, Place, Program, Question, State, keeps_failure};

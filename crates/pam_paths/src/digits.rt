@@ -2,7 +2,7 @@
 
 ghost use Rattle.std.specs.Prelude.{◌≡◌, ◌+◌, ◌<◌, [], ◌∷◌, MatchOption};
 ghost use Rattle.std.specs.Char.{IsNotAsciiDigit};
-ghost use Rattle.pam_paths.specs.CursorText.{IsCodeOf};
+ghost use Rattle.pam_paths.specs.inner.CursorText.{IsCodeOf};
 
 use pam_codes::Code;
 

@@ -3,7 +3,8 @@
 ghost use Rattle.std.specs.Prelude.{◌≡◌, ◌<◌, ◌≤◌, ℕ, IfNone, IfSome, IsTrue, false};
 ghost use Rattle.pam_codes.specs.declared.code.TheConstants.{CODES};
 ghost use Rattle.pam_codes.specs.Set.{is_in};
-ghost use Rattle.pam_paths.specs.Directions.{IsAhead, IsNearer, outset, past};
+ghost use Rattle.pam_paths.specs.Directions.{past};
+ghost use Rattle.pam_paths.specs.inner.Directions.{IsAhead, IsNearer, outset};
 
 use pam_codes::{CODES, Code, CodeSet};
 

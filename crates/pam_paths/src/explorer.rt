@@ -9,8 +9,9 @@ ghost use Rattle.pam_dispatch.specs.Tree.{runs_of_stack};
 ghost use Rattle.pam_paths.specs.declared.direction.Direction.{Direction};
 ghost use Rattle.pam_paths.specs.Computed.{listing};
 ghost use Rattle.pam_paths.specs.Cursor.{IsAccepted, IsRefusal};
-ghost use Rattle.pam_paths.specs.Directions.{IsListingFrom};
-ghost use Rattle.pam_paths.specs.Frames.{AreFirstSteps, IsExploring, coming};
+ghost use Rattle.pam_paths.specs.inner.Directions.{IsListingFrom};
+ghost use Rattle.pam_paths.specs.Frames.{coming};
+ghost use Rattle.pam_paths.specs.inner.Frames.{AreFirstSteps, IsExploring};
 ghost use Rattle.pam_paths.specs.Cached.{AreCached};
 ghost use Rattle.pam_paths.specs.Listing.{IsListing, IsListingAfter};
 ghost use Rattle.pam_paths.specs.Paths.{path_of, path_through};
@@ -47,7 +48,8 @@ impl<'a, K: Knowledge> Model for Explorer<'a, K> {
     ghost use Rattle.std.specs.Prelude.{◌-◌, ◌≤◌, ◌^◌};
     ghost use Rattle.pam_dispatch.specs.Flat.{modules_of};
     ghost use Rattle.pam_paths.specs.Exploration.{Exploration};
-    ghost use Rattle.pam_paths.specs.Frames.{AreFirstSteps, IsExploring, coming};
+    ghost use Rattle.pam_paths.specs.Frames.{coming};
+    ghost use Rattle.pam_paths.specs.inner.Frames.{AreFirstSteps, IsExploring};
     ghost use Rattle.pam_paths.specs.Cached.{AreCached};
 
     ghost Value = { Exploration };

@@ -9,12 +9,13 @@ ghost use Rattle.pam_dispatch.specs.Runs.{after_answer, asked_module, next_ask};
 ghost use Rattle.pam_paths.specs.Classes.{class_of};
 ghost use Rattle.pam_paths.specs.Computed.{after_step, listing};
 ghost use Rattle.pam_paths.specs.Directions.{ordered, past};
-ghost use Rattle.pam_paths.specs.Followed.{followed};
+ghost use Rattle.pam_paths.specs.inner.Followed.{followed};
 ghost use Rattle.pam_paths.specs.Frames.{AreClasses, ahead_of, offered_at, step_in};
 ghost use Rattle.pam_paths.specs.Listing.{Allowance};
 ghost use Rattle.pam_paths.specs.Steps.{step_seen};
-ghost use Rattle.pam_paths.specs.Tail.{IsTail, EndsInTail};
-ghost use Rattle.pam_paths.specs.Work.{CountsOn};
+ghost use Rattle.pam_paths.specs.Tail.{IsTail};
+ghost use Rattle.pam_paths.specs.inner.Tail.{EndsInTail};
+ghost use Rattle.pam_paths.specs.inner.Work.{CountsOn};
 
 use crate::bounded_list::BoundedList;
 use crate::classes::Classes;

@@ -85,7 +85,7 @@ impl Known {
 
 impl Knowledge for Known {
     ghost use Rattle.pam_paths.specs.Known.{may_answer};
-    ghost use Rattle.pam_paths.specs.Known.{some_code};
+    ghost use Rattle.pam_paths.specs.inner.Known.{some_code};
 
     ghost allows = { may_answer };
 

@@ -67,7 +67,7 @@ impl Model for Path {
 
     ghost view = { λ p. record { steps = map step_seen p.steps.items; decision = p.decision } };
 
-    ghost use Rattle.pam_paths.specs.Tail.{EndsInTail};
+    ghost use Rattle.pam_paths.specs.inner.Tail.{EndsInTail};
 
     ghost invariant = { λ p. EndsInTail p.tail (map step_seen p.steps.items) };
 }

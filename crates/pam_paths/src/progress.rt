@@ -7,9 +7,10 @@ ghost use Rattle.pam_dispatch.specs.Flat.{IsPlaceOf, modules_of, rest_of};
 ghost use Rattle.pam_dispatch.specs.Runs.{AsksRise};
 ghost use Rattle.pam_paths.specs.Computed.{listing};
 ghost use Rattle.pam_paths.specs.Directions.{ordered};
-ghost use Rattle.pam_paths.specs.Frames.{AreFirstSteps, AreFrames, IsExploring, ahead, coming, path_to, under};
+ghost use Rattle.pam_paths.specs.Frames.{ahead, coming};
+ghost use Rattle.pam_paths.specs.inner.Frames.{AreFirstSteps, AreFrames, IsExploring, path_to, under};
 ghost use Rattle.pam_paths.specs.Cached.{AreCached};
-ghost use Rattle.pam_paths.specs.Work.{CountsOn};
+ghost use Rattle.pam_paths.specs.inner.Work.{CountsOn};
 
 use crate::class_cache::ClassCache;
 use crate::frames::{Frame, Frames, retell};

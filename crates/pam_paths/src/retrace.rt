@@ -9,9 +9,10 @@ ghost use Rattle.pam_dispatch.specs.Runs.{AsksRise, after_answer, asked_module, 
 ghost use Rattle.pam_paths.specs.Classes.{class_of, least};
 ghost use Rattle.pam_paths.specs.Computed.{is_offered};
 ghost use Rattle.pam_paths.specs.Cursor.{accepted, verdict_told};
-ghost use Rattle.pam_paths.specs.Frames.{AreFrames, IsFrame, ahead, part, step_in};
+ghost use Rattle.pam_paths.specs.Frames.{ahead, step_in};
+ghost use Rattle.pam_paths.specs.inner.Frames.{AreFrames, IsFrame, part};
 ghost use Rattle.pam_paths.specs.Paths.{step_of};
-ghost use Rattle.pam_paths.specs.Retrace.{verdict_of};
+ghost use Rattle.pam_paths.specs.inner.Retrace.{verdict_of};
 
 use crate::classes::Classes;
 use crate::cursor::{CursorError, code_numbered, least_number};

@@ -2,7 +2,7 @@
 
 ghost use Rattle.std.specs.List.{flat_map};
 ghost use Rattle.pam_codes.specs.Out.{Writes};
-ghost use Rattle.pam_picture.specs.Marks.{mark_text, marks_text};
+ghost use Rattle.pam_picture.specs.inner.Marks.{mark_text, marks_text};
 ghost use Rattle.pam_picture.specs.Picture.{bend_text, target_id};
 
 use crate::escaped::{put_escaped, put_rows};

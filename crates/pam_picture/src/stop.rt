@@ -3,7 +3,7 @@
 ghost use Rattle.std.specs.Prelude.{◌≡◌};
 ghost use Rattle.pam_codes.specs.Out.{Writes};
 ghost use Rattle.pam_picture.specs.Picture.{asked_words, place_words, state_words, target_words};
-ghost use Rattle.pam_picture.specs.Marks.{stop_text};
+ghost use Rattle.pam_picture.specs.inner.Marks.{stop_text};
 
 use crate::escaped::put_escaped;
 use pam_codes::{Code, Device, Out, Piece};

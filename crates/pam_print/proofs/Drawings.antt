@@ -2,7 +2,7 @@
 use Rattle.std.proofs.Common.{◌≡◌, List, ap, ℕ, refl}
 use Rattle.pam_conf.specs.Stack.{Items}
 use Rattle.pam_graph.specs.Walks.{GraphValue}
-use Rattle.pam_print.specs.Canvas.{IsCanvasOf, canvas_text}
+use Rattle.pam_print.specs.inner.Canvas.{IsCanvasOf, canvas_text}
 use Rattle.pam_print.specs.Drawing.{IsDrawnIn}
 use Rattle.pam_print.specs.declared.drawing.Canvas.{Canvas}
 use Rattle.pam_print.specs.declared.drawing.Canvas.TheVariants as canvas

@@ -1,14 +1,12 @@
 -- The text that a call writes when it answers.
 use Rattle.std.specs.Prelude.{◌≡◌, ℕ, List, Option, Result, Ok, Err}
 use Rattle.pam_codes.specs.Out.{Out, TookFlushed, TookFront}
-use Rattle.pam_parts.specs.Prints.{PrintsBy}
 use Rattle.pam_paths.specs.declared.cursor.CursorError.{CursorError}
 use Rattle.pam_report.specs.Finds.{Refuses}
 use Rattle.pam_report.specs.Reply.{Answer, Reply, status_of}
 use Rattle.pam_report.specs.declared.fault.Fault.{Fault}
 use Rattle.pam_report.specs.declared.fault.Fault.TheVariants as faults
 use Rattle.pam_report.specs.declared.report.Status.{Status}
-use Rattle.pam_print.specs.Text.{IsText as IsPlainText}
 
 -- if this is the text of a reply
 module _ {W : Type 0} (contents : W → Option (List ℕ)) (IsText : Reply → Result (List ℕ) CursorError → Type 0) (old new : Out W) where
@@ -25,7 +23,3 @@ module _ {W : Type 0} (contents : W → Option (List ℕ)) (IsText : Reply → R
   LeavesSome (Ok status) IsAnswer =
       (reply : Reply) × (text : List ℕ) × IsAnswer (Ok reply) × IsText reply (Ok text) × (status ≡ status_of reply) × TookFlushed contents old new text
   LeavesSome (Err fault) IsAnswer = LeavesFault IsAnswer fault
-
--- what is written for a reply is its text
-abbrev pub Prints : {W : Type 0} → (W → Option (List ℕ)) → Out W → Out W → Result (Unit {0}) Fault → Reply → Type 0
-Prints contents old new result reply = PrintsBy contents IsPlainText old new result reply

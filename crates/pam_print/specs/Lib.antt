@@ -1,9 +1,7 @@
 pub mod About
 pub mod Answer
-pub mod Canvas
 pub mod Check
 pub mod Compare
-pub mod CompareParts
 pub mod Decide
 pub mod Drawing
 pub mod Explain
@@ -16,3 +14,4 @@ pub mod Show
 pub mod Tables
 pub mod Text
 pub mod WordText
+pub mod inner

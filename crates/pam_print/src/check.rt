@@ -12,7 +12,7 @@ ghost use Rattle.pam_report.specs.ReplyViews.{check_view};
 ghost use Rattle.pam_report.specs.TablePaths.{table_paths_view};
 ghost use Rattle.pam_print.specs.Check.{check_text, counted, findings_text, last_line, levels_text, lines_text};
 ghost use Rattle.pam_print.specs.Check.{numbered_line, table_line, unused_line};
-ghost use Rattle.pam_print.specs.Leaves.{Prints};
+ghost use Rattle.pam_print.specs.inner.Leaves.{Prints};
 
 mod finding;
 mod met;

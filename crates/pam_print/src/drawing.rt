@@ -5,9 +5,9 @@ ghost use Rattle.std.specs.Char.{to_ascii_lowercase};
 ghost use Rattle.pam_codes.specs.Out.{Writes, WritesAndFlushes};
 ghost use Rattle.pam_report.specs.Reply.{Drawing};
 ghost use Rattle.pam_report.specs.ReplyViews.{drawing_view};
-ghost use Rattle.pam_print.specs.Canvas.{IsCanvasOf, canvas_text};
+ghost use Rattle.pam_print.specs.inner.Canvas.{IsCanvasOf, canvas_text};
 ghost use Rattle.pam_print.specs.Drawing.{title_of};
-ghost use Rattle.pam_print.specs.Leaves.{Prints};
+ghost use Rattle.pam_print.specs.inner.Leaves.{Prints};
 
 use pam_codes::{Device, Out};
 use pam_conf::Kind;

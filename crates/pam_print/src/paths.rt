@@ -6,7 +6,7 @@ ghost use Rattle.pam_page.specs.Coming.{coming, side};
 ghost use Rattle.pam_page.specs.Page.{first_page, page_text as lines_text};
 ghost use Rattle.pam_report.specs.PageView.{FindsPage, page_value};
 ghost use Rattle.pam_report.specs.Reply.{Page};
-ghost use Rattle.pam_print.specs.Leaves.{Prints};
+ghost use Rattle.pam_print.specs.inner.Leaves.{Prints};
 ghost use Rattle.pam_print.specs.Page.{page_text};
 
 use crate::header::put_header;

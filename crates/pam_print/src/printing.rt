@@ -3,7 +3,7 @@
 ghost use Rattle.pam_parts.specs.Prints.{PrintsBy};
 ghost use Rattle.pam_report.specs.ReplyViews.{reply_view};
 ghost use Rattle.pam_print.specs.Answer.{Answers};
-ghost use Rattle.pam_print.specs.Leaves.{Prints};
+ghost use Rattle.pam_print.specs.inner.Leaves.{Prints};
 ghost use Rattle.pam_print.specs.Text.{IsTextIn};
 ghost use Rattle.pam_words.specs.declared.wanted.OutputForm.TheVariants.{Json};
 

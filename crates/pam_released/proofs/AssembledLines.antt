@@ -2,7 +2,8 @@
 use Rattle.std.proofs.Common.{◌≡◌, ◌+◌, ◌++◌, ◌∙◌, ℕ, Bool, true, false, List, [], ◌∷◌, map, cond, ap, sym, refl, Option, Some, None, append-nil, append_assoc}
 use Rattle.std.specs.Option.{option_map}
 use Rattle.pam_released.specs.Lines.{before_hash, front_part, goes_on, without_start_blanks}
-use Rattle.pam_released.specs.Numbered.{NumberedLine, line_view, numbered_152, numbered_170, numbered_end, with_line}
+use Rattle.pam_released.specs.Numbered.{NumberedLine, numbered_152, numbered_170, numbered_end, with_line}
+use Rattle.pam_released.specs.inner.Numbered.{line_view}
 use Rattle.pam_released.specs.declared.assembly.LogicalLine.{LogicalLine}
 
 abbrev pub with_front : List NumberedLine → Option (List NumberedLine) → Option (List NumberedLine)

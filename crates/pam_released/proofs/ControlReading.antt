@@ -9,7 +9,7 @@ use Rattle.pam_codes.specs.declared.action.Action.TheVariants.{Bad}
 use Rattle.pam_codes.specs.declared.subject.Subject.{Subject}
 use Rattle.pam_codes.proofs.Overlay.{actions_after, actions_after-start}
 use Rattle.pam_released.specs.Control.{action_at, after_spaces, equals_at, pairs_at, pairs_from, released_actions, subject_at, then_some, written}
-use Rattle.pam_released.specs.Pair.{pair_at}
+use Rattle.pam_released.specs.inner.Pair.{pair_at}
 use Rattle.pam_released.proofs.ControlTokens.{all_alike, same_action_of}
 
 abbrev pub bads : List Action

@@ -6,7 +6,7 @@ use Rattle.std.proofs.lemmas.Bool.{lt-ltb}
 use Rattle.std.proofs.lemmas.Option.{get_or_from_slice_get}
 use Rattle.pam_codes.specs.Code.{all_codes, code_names}
 use Rattle.pam_released.specs.Control.{after_spaces, begins, is_space, name_of}
-use Rattle.pam_released.specs.Pair.{code_after}
+use Rattle.pam_released.specs.inner.Pair.{code_after}
 
 -- BLANKS
 

@@ -7,10 +7,11 @@ use Rattle.pam_codes.specs.declared.action.Action.{Action}
 use Rattle.pam_conf.specs.Rule.{Include, Module, RuleBody, Sub}
 use Rattle.pam_conf.specs.declared.rule.Form.{Form}
 use Rattle.pam_conf.specs.declared.rule.Kind.{Kind}
-use Rattle.pam_released.specs.Bodies.{control_body, first_target, module_body, target_body, with_body}
+use Rattle.pam_released.specs.inner.Bodies.{control_body, first_target, module_body, target_body, with_body}
 use Rattle.pam_released.specs.Control.{then_some}
 use Rattle.pam_released.specs.Findings.{is_no_name, module_name}
-use Rattle.pam_released.specs.Numbered.{NumberedLine, line_view, numbered_lines}
+use Rattle.pam_released.specs.Numbered.{NumberedLine, numbered_lines}
+use Rattle.pam_released.specs.inner.Numbered.{line_view}
 use Rattle.pam_released.specs.Readings.{NumberedRule, numbered_readings, numbered_rules, numbered_view, reading_view, rules_by}
 use Rattle.pam_released.specs.Rules.{Reading, control_actions, control_reading, line_reading, module_reading, reads, target_reading}
 use Rattle.pam_released.specs.Words.{released_words}

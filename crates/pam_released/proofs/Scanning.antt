@@ -10,7 +10,7 @@ use Rattle.pam_released.specs.Bracket.{after, begins_in_blank, part, state_after
 use Rattle.pam_released.specs.Findings.{after_last_slash, before_last_dot, ends_in_blank}
 use Rattle.pam_released.specs.Lines.{before_hash, ends_in_backslash, front_part, goes_on, has_hash, is_space_or_tab, last_is_space, physical_lines}
 use Rattle.pam_released.specs.Lines.{without_end_blanks}
-use Rattle.pam_released.specs.NextState.{next_state}
+use Rattle.pam_released.specs.inner.NextState.{next_state}
 
 -- LINES
 

@@ -1,4 +1,3 @@
-pub mod Bodies
 pub mod Bracket
 pub mod Buffer
 pub mod Control
@@ -7,10 +6,9 @@ pub mod Findings
 pub mod Laws
 pub mod Lines
 pub mod Meanings
-pub mod NextState
 pub mod Numbered
-pub mod Pair
 pub mod Reader
 pub mod Readings
 pub mod Rules
 pub mod Words
+pub mod inner

@@ -2,7 +2,6 @@
 use Rattle.std.specs.Prelude.{ℕ, ◌+◌, ◌==◌, Bool, true, false, List, [], ◌∷◌, ◌++◌, length, if◌then◌else◌, Option, Some, None}
 use Rattle.std.specs.Option.{option_map}
 use Rattle.pam_released.specs.Lines.{before_hash, front_part, goes_on, is_blank_line, physical_lines, without_start_blanks}
-use Rattle.pam_released.specs.declared.assembly.LogicalLine.{LogicalLine}
 use Rattle.pam_released.specs.declared.release.Release.{Release}
 use Rattle.pam_released.specs.declared.release.Release.TheVariants.{Older, Newer}
 
@@ -47,7 +46,3 @@ numbered_170 line start got inside (text ∷ lines) =
 abbrev pub numbered_lines : Release → List ℕ → Option (List NumberedLine)
 numbered_lines Older bytes = numbered_152 1 1 [] [] false bytes
 numbered_lines Newer bytes = numbered_170 1 1 [] false (physical_lines bytes)
-
--- a logical line, as the code keeps it
-abbrev pub line_view : LogicalLine → NumberedLine
-line_view line = (line.number, line.text.items)

@@ -3,7 +3,8 @@
 ghost use Rattle.std.specs.Prelude.{◌≡◌, ◌+◌, ◌*◌, ◌<◌, ◌≤◌, ◌++◌, [], Bool, ℕ, List, IfOk, IfSome, MatchOption, OnOk, if◌then◌else◌, length, map};
 ghost use Rattle.std.specs.Option.{option_map};
 ghost use Rattle.pam_released.specs.Lines.{front_part, without_start_blanks};
-ghost use Rattle.pam_released.specs.Numbered.{line_view, numbered_152, numbered_lines, numbered_piece};
+ghost use Rattle.pam_released.specs.Numbered.{numbered_152, numbered_lines, numbered_piece};
+ghost use Rattle.pam_released.specs.inner.Numbered.{line_view};
 ghost use Rattle.pam_released.specs.declared.release.Release.TheVariants.{Older, Newer};
 
 use crate::lines::{

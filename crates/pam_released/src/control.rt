@@ -9,7 +9,7 @@ ghost use Rattle.pam_codes.specs.Code.{all_codes};
 ghost use Rattle.pam_released.specs.Control.{action_at, after_spaces, begins, equals_at, is_space, jump_at, jump_value, name_of};
 ghost use Rattle.pam_released.specs.Control.{released_actions, subject_at};
 ghost use Rattle.pam_released.specs.Rules.{control_actions};
-ghost use Rattle.pam_released.specs.Pair.{code_after, pair_at};
+ghost use Rattle.pam_released.specs.inner.Pair.{code_after, pair_at};
 
 use pam_codes::{Action, CODES, Code, Control, Subject};
 

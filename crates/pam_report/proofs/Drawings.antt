@@ -9,7 +9,7 @@ use Rattle.pam_paths.specs.Listing.{Allowance}
 use Rattle.pam_paths.specs.Paths.{path_through}
 use Rattle.pam_paths.specs.declared.knowledge.Known.{Known}
 use Rattle.pam_report.specs.Graph.{IsGraphOf, drawn_in, has_too_many}
-use Rattle.pam_report.specs.GraphViews.{FindsGraph}
+use Rattle.pam_report.specs.inner.GraphViews.{FindsGraph}
 use Rattle.pam_report.specs.Reply.{Answer, Drawing}
 use Rattle.pam_report.specs.declared.fault.Fault.TheVariants as faults
 use Rattle.pam_conf.specs.declared.rule.Kind.{Kind}

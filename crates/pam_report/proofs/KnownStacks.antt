@@ -25,7 +25,7 @@ use Rattle.pam_times.specs.declared.error.TimeFault.TheVariants as times
 use Rattle.pam_report.specs.Fault.{known_fault}
 use Rattle.pam_report.proofs.Wanting.{wanted-given}
 use Rattle.pam_report.specs.Inputs.{tables_given}
-use Rattle.pam_report.specs.Known.{AreCodesOf, FindsKnown, IsErrOf, IsFaultOf, IsFaultOfRead, with_time}
+use Rattle.pam_report.specs.inner.Known.{AreCodesOf, FindsKnown, IsErrOf, IsFaultOf, IsFaultOfRead, with_time}
 use Rattle.pam_report.specs.KnownStack.{IsAnswerFrom, KnownItems, known_items}
 use Rattle.pam_report.specs.Finds.{Finds, IsConfFault, IsTableFault, IsTimeFault, Refuses}
 use Rattle.pam_report.specs.Memory.{IsWanting, of_paths, paths_tables}

@@ -11,7 +11,7 @@ use Rattle.pam_graph.specs.Goals.{fit, meeting}
 use Rattle.pam_graph.specs.declared.goal.Goal.TheVariants.{Any}
 use Rattle.pam_paths.specs.Paths.{PathValue}
 use Rattle.pam_report.specs.Outcomes.{outcome_among, outcomes, outcomes_value}
-use Rattle.pam_report.specs.OutcomeViews.{AreOutcomes}
+use Rattle.pam_report.specs.inner.OutcomeViews.{AreOutcomes}
 use Rattle.pam_report.specs.Reply.{Outcome, OutcomesValue}
 use Rattle.pam_report.specs.ReplyViews.{outcome_view}
 use Rattle.pam_report.specs.declared.report.outcomes.Outcomes.{Outcomes}

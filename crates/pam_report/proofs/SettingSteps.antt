@@ -7,7 +7,7 @@ use Rattle.pam_conf.specs.Stack.{Items, module_count}
 use Rattle.pam_facts.specs.Answers.{Allows}
 use Rattle.pam_facts.specs.Missing.{where_there}
 use Rattle.pam_paths.specs.declared.knowledge.Known.{Known}
-use Rattle.pam_report.specs.Known.{AreCodesOf}
+use Rattle.pam_report.specs.inner.Known.{AreCodesOf}
 use Rattle.pam_report.specs.KnownStack.{KnownItems}
 use Rattle.pam_report.specs.Settings.{names_one, set_at, with_settings}
 use Rattle.pam_report.specs.declared.fault.Fault.{Fault}

@@ -13,7 +13,7 @@ use Rattle.pam_paths.specs.Pages.{after, before}
 use Rattle.pam_paths.specs.Paths.{PathValue, path_through}
 use Rattle.pam_words.specs.declared.wanted.PagePart.{PagePart}
 use Rattle.pam_words.specs.declared.wanted.PagePart.TheVariants.{Whole}
-use Rattle.pam_report.specs.PageView.{IsRefused, IsSide, ListsPaths, ListsWalks}
+use Rattle.pam_report.specs.inner.PageView.{IsRefused, IsSide, ListsPaths, ListsWalks}
 use Rattle.pam_report.specs.Paths.{AreWalks, IsPart, IsProgramOf, side_of}
 use Rattle.pam_report.specs.declared.fault.Fault.{Fault}
 use Rattle.pam_report.specs.declared.fault.Fault.TheVariants as faults

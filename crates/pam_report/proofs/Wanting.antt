@@ -6,7 +6,7 @@ use Rattle.pam_conf.specs.Stack.{Items}
 use Rattle.pam_conf.specs.declared.rule.Kind.{Kind}
 use Rattle.pam_known.proofs.ReadTables.{read_is_given}
 use Rattle.pam_known.specs.Reads.{IsOfRead, TablesRead, is_read, tables_read}
-use Rattle.pam_known.specs.Sets.{all_given}
+use Rattle.pam_known.specs.inner.Sets.{all_given}
 use Rattle.pam_known.specs.declared.error.KnownError.{KnownError}
 use Rattle.pam_known.specs.declared.error.KnownError.TheVariants as known
 use Rattle.pam_tables.specs.declared.error.Table.{Table}

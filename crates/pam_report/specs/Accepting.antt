@@ -1,5 +1,5 @@
 -- The findings that are meant to be: a line of an accept file has the number and the place of each that it accepts.
-use Rattle.std.specs.Prelude.{◌≡◌, ℕ, ◌==◌, Bool, not, List, [], ◌∷◌, ◌++◌, codes, decimal, filter, map, if◌then◌else◌}
+use Rattle.std.specs.Prelude.{ℕ, ◌==◌, Bool, not, List, [], ◌∷◌, ◌++◌, codes, decimal, filter, map, if◌then◌else◌}
 use Rattle.std.specs.Prelude.{Option, Some, None, slice_get, unwrap_or}
 use Rattle.std.specs.BTreeMap.{BTreeMap}
 use Rattle.std.specs.List.{list_any}
@@ -15,7 +15,6 @@ use Rattle.pam_table_check.specs.declared.problem.TableFinding.{TableFinding}
 use Rattle.pam_table_check.specs.declared.problem.TablePlace.{TablePlace}
 use Rattle.pam_text.specs.Cut.{cut_at, is_among}
 use Rattle.pam_report.specs.Fault.{file_at}
-use Rattle.pam_report.specs.declared.report.accepting.Listed.{Listed}
 use Rattle.pam_report.specs.Names.{kind_name, problem_name, stack_of}
 use Rattle.pam_report.specs.TablePaths.{TablePathsText, path_of, table_problem_name}
 
@@ -74,10 +73,3 @@ all_keys files services found paths tables = map (key_of files services) found +
 -- the problems of a report on tables, in its order
 abbrev pub table_findings : BTreeMap TablePlace TableFinding → List TableFinding
 table_findings found = map (λ entry. entry.1) found.entries
-
--- for private contracts and proofs alone: what is listed of these findings, and of these problems of tables
-pub record IsListed (lines : List Accepted) (files : Folder) (services : List (List ℕ)) (all : List (Place × Finding)) (paths : TablePathsText)
-    (tables : List TableFinding) (listed : Listed) : Type 0 where
-  pub found : listed.found.items ≡ not_accepted lines files services all
-  pub tables_found : listed.tables.items ≡ tables_not_accepted lines paths tables
-  pub unused : listed.unused.items ≡ lines_without (all_keys files services all paths tables) lines

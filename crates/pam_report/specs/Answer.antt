@@ -17,7 +17,6 @@ use Rattle.pam_tables.specs.Access.{TableText, access_answer, table_of}
 use Rattle.pam_tables.specs.Groups.{Group}
 use Rattle.pam_tables.specs.Login.{LoginText}
 use Rattle.pam_tables.specs.Options.{Options, options_of}
-use Rattle.pam_tables.specs.declared.access.AccessAnswer.{AccessAnswer}
 use Rattle.pam_tables.specs.declared.error.Table.{Table}
 use Rattle.pam_tables.specs.declared.error.Table.TheVariants as tables
 use Rattle.pam_tables.specs.declared.error.TableFault.{TableFault}
@@ -25,7 +24,6 @@ use Rattle.pam_times.specs.Reading.{rules_of}
 use Rattle.pam_times.specs.Times.{Rule, answer_of as time_answer_of}
 use Rattle.pam_times.specs.declared.error.TimeError.{TimeError}
 use Rattle.pam_times.specs.declared.moments.MomentError.{MomentError}
-use Rattle.pam_times.specs.declared.times.TimeAnswer.{TimeAnswer}
 use Rattle.pam_settings.specs.Settings.{SettingText, setting_view}
 use Rattle.pam_words.specs.declared.wanted.Login.{Login}
 use Rattle.pam_words.specs.declared.wanted.ReleaseName.{ReleaseName}
@@ -37,7 +35,7 @@ use Rattle.pam_report.specs.Decide.{asked_modules}
 use Rattle.pam_report.specs.Graph.{IsGraphReply}
 use Rattle.pam_report.specs.Inputs.{access_given, files_given, group_file, groups_in, no_files, there_given, time_given}
 use Rattle.pam_report.specs.KnownStack.{KnownItems, known_stack}
-use Rattle.pam_report.specs.Finds.{Finds, IsTableFault, IsTimeFault}
+use Rattle.pam_report.specs.Finds.{Finds}
 use Rattle.pam_report.specs.Memory.{WantsOnly, wants}
 use Rattle.pam_report.specs.Moments.{IsGivenMoment, IsMoment}
 use Rattle.pam_report.specs.Outcomes.{IsOutcomes}
@@ -175,19 +173,3 @@ abbrev pub Replies : Result Reply Fault → List ℕ → Task → Inputs → Typ
 Replies result service task inputs =
     AnswersBy (Finds result) service task (unwrap_or (files_given inputs) no_files) inputs
     × WantsOnly (wants task inputs) result
-
--- for private contracts and proofs alone: what is looked up is the answer, or its fault, unless an allocation failed
-abbrev pub FindsFault : Fault → Answer → Type 0
-FindsFault (faults.Table e) answer = IsTableFault (λ given. answer ≡ given) e e.fault
-FindsFault (faults.Time e) answer = IsTimeFault (λ given. answer ≡ given) e e.fault
-FindsFault _ answer = ⊥
-
--- for private contracts and proofs alone: an access table is looked up
-abbrev pub FindsAccess : Result AccessAnswer Fault → Answer → Type 0
-FindsAccess (Ok found) answer = answer ≡ Ok (AccessReply found)
-FindsAccess (Err fault) answer = FindsFault fault answer
-
--- for private contracts and proofs alone: a time table is looked up
-abbrev pub FindsTime : Result TimeAnswer Fault → Answer → Type 0
-FindsTime (Ok found) answer = answer ≡ Ok (TimeReply found)
-FindsTime (Err fault) answer = FindsFault fault answer

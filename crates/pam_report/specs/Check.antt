@@ -1,16 +1,14 @@
 -- The reply of `check`: what is wrong with the host.
-use Rattle.std.specs.Prelude.{◌≡◌, ◌≢◌, ◌<◌, ⊤, ℕ, All, List, [], length, map, Result, Ok, Err, unwrap_or}
+use Rattle.std.specs.Prelude.{◌≡◌, ◌<◌, ℕ, All, List, [], length, map, Result, Ok, Err, unwrap_or}
 use Rattle.std.specs.BTreeMap.{BTreeMap}
 use Rattle.std.specs.Option.{option_copied}
 use Rattle.pam_accept.specs.Lines.{Accepted, accepted_lines}
 use Rattle.pam_accept.specs.declared.error.AcceptError.{AcceptError}
-use Rattle.pam_accept.specs.declared.error.AcceptFault.TheVariants as accept_faults
 use Rattle.pam_conf.specs.Files.{Folder}
 use Rattle.pam_conf.specs.declared.rule.Kind.{Kind}
 use Rattle.pam_facts.specs.Reading.{known_rows}
 use Rattle.pam_facts.specs.Rows.{Row}
 use Rattle.pam_facts.specs.declared.error.FactsError.{FactsError}
-use Rattle.pam_facts.specs.declared.error.FactsFault.TheVariants as facts_faults
 use Rattle.pam_host.specs.Laws.{IsSoundStack}
 use Rattle.pam_host.specs.Levels.{level_of}
 use Rattle.pam_host.specs.Report.{IsReport, host_of}
@@ -18,7 +16,6 @@ use Rattle.pam_host.specs.Services.{checked_services}
 use Rattle.pam_host.specs.declared.level.Level.TheVariants.{Note}
 use Rattle.pam_host.specs.declared.problem.Place.{Place}
 use Rattle.pam_host.specs.declared.report.Finding.{Finding}
-use Rattle.pam_host.specs.declared.report.HostReport.{HostReport}
 use Rattle.pam_misspelled.specs.Findings.{misspelled_at}
 use Rattle.pam_table_check.specs.Report.{IsTableReport}
 use Rattle.pam_table_check.specs.declared.problem.TableFinding.{TableFinding}
@@ -29,8 +26,6 @@ use Rattle.pam_report.specs.Accepting.{all_keys, lines_without, not_accepted, ta
 use Rattle.pam_report.specs.Fault.{accept_fault, facts_fault}
 use Rattle.pam_report.specs.Inputs.{accept_given, facts_given, host_tables_given, paths_given, table_paths_given, there_given}
 use Rattle.pam_report.specs.Reply.{Answer, Check, CheckValue}
-use Rattle.pam_report.specs.declared.fault.Fault.{Fault}
-use Rattle.pam_report.specs.declared.fault.Fault.TheVariants as faults
 use Rattle.pam_report.specs.declared.inputs.Inputs.{Inputs}
 
 -- what is checked: the services that are named, or all, and the files of the configuration
@@ -65,28 +60,3 @@ module _ (services : List (List ℕ)) (fail_on : LevelName) (named : CheckFiles)
   -- THE REPLY of `check`
   abbrev pub IsCheck : Answer → Type 0
   IsCheck answer = IsChecked (known_rows (facts_given inputs)) (accepted_lines (accept_given inputs)) answer
-
--- ---- for private contracts and proofs alone
-
--- a report by what the facts file says
-pub record IsReported (services : List (List ℕ)) (files : Folder) (inputs : Inputs) (report : HostReport) : Type 0 where
-  pub facts : List Row
-  pub known : known_rows (facts_given inputs) ≡ Ok facts
-  pub are_services : report.services ≡ checked_services files services
-  pub is_report : IsReport files services facts (there_given inputs) report.found report.ways_in.items
-
--- a fault of the facts file, or a failed allocation
-abbrev pub IsUnreported : Inputs → Fault → Type 0
-IsUnreported inputs (faults.Facts e) = (known_rows (facts_given inputs) ≡ Err e) × (e.fault ≢ facts_faults.Memory)
-IsUnreported inputs faults.Memory = ⊤
-IsUnreported inputs fault = ⊥
-
--- the lines of the accept file
-abbrev pub IsAccepted : Inputs → List Accepted → Type 0
-IsAccepted inputs lines = accepted_lines (accept_given inputs) ≡ Ok lines
-
--- a fault of the accept file, or a failed allocation
-abbrev pub IsUnaccepted : Inputs → Fault → Type 0
-IsUnaccepted inputs (faults.Accept e) = (accepted_lines (accept_given inputs) ≡ Err e) × (e.fault ≢ accept_faults.Memory)
-IsUnaccepted inputs faults.Memory = ⊤
-IsUnaccepted inputs fault = ⊥

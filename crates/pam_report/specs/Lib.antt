@@ -6,17 +6,13 @@ pub mod ComparedKeys
 pub mod Decide
 pub mod Fault
 pub mod FaultTable
-pub mod FaultViews
 pub mod Finds
 pub mod Graph
-pub mod GraphViews
 pub mod Inputs
-pub mod Known
 pub mod KnownStack
 pub mod Memory
 pub mod Moments
 pub mod Names
-pub mod OutcomeViews
 pub mod Outcomes
 pub mod PageView
 pub mod Paths
@@ -26,3 +22,4 @@ pub mod ReplyViews
 pub mod Settings
 pub mod TablePaths
 pub mod TooLarge
+pub mod inner

@@ -98,7 +98,3 @@ IsWanting wants _ = ⊤
 -- the same, for a result
 abbrev pub WantsOnly : {A : Type 0} → Wants → Result A Fault → Type 0
 WantsOnly wants result = IfErr result (IsWanting wants)
-
--- for private contracts and proofs alone: if it is a failed allocation, it is of what is made
-abbrev pub WantsWork : {A : Type 0} → Result A Fault → Type 0
-WantsWork result = (wants : Wants) → wants.work ≡ true → IfErr result (IsWanting wants)

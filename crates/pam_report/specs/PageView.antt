@@ -1,5 +1,5 @@
 -- A page that is requested, and the paths that it is taken from.
-use Rattle.std.specs.Prelude.{◌≡◌, ⊤, ℕ, List, Option, Some, None, Result, Ok, Err, option_map}
+use Rattle.std.specs.Prelude.{◌≡◌, ⊤, List, Option, Some, None, Result, Ok, Err, option_map}
 use Rattle.pam_conf.specs.Stack.{Items}
 use Rattle.pam_dispatch.specs.declared.flat_item.FlatItem.{FlatItem}
 use Rattle.pam_graph.specs.Goals.{meeting}
@@ -17,18 +17,7 @@ use Rattle.pam_report.specs.Reply.{PageValue}
 use Rattle.pam_report.specs.declared.fault.Fault.{Fault}
 use Rattle.pam_report.specs.declared.fault.Fault.TheVariants as faults
 use Rattle.pam_report.specs.declared.report.goal_pages.GoalGraph.{GoalGraph}
-use Rattle.pam_report.specs.declared.report.paths.PageRequest.{PageRequest}
-use Rattle.pam_report.specs.declared.report.paths.Paging.{Paging}
 use Rattle.pam_report.specs.declared.report.paths.PathsPage.{PathsPage}
-
-abbrev pub page_view : PageRequest → paths.PageRequest
-page_view request = record {
-  service = request.stack.service.now;
-  kind = request.stack.kind;
-  limit = request.limit;
-  part = request.part;
-  filter = request.filter;
-}
 
 -- the goal that the paths of a page meet
 abbrev pub goal_of : Option GoalGraph → Goal
@@ -76,27 +65,3 @@ module _ {K T : Type 0} (renders : Listing K → T → T → Result (Unit {0}) F
   -- the same, for one that a relation finds
   abbrev pub Renders : (Result (Listing K) Fault → Type 0) → Type 0
   Renders Found = (found : Result (Listing K) Fault) × Found found × RendersFound found
-
--- for private contracts and proofs alone: all paths of a part
-abbrev pub ListsPart : {K : Type 0} → Paging → PagePart → Result (Listing K) Fault → Type 0
-ListsPart paging part = FindsListing paging.program.now (may_answer paging.known.now) None Any part
-
--- for private contracts and proofs alone: the walks of a part that meet a goal
-abbrev pub ListsWalks : {K : Type 0} → Paging → GraphValue → Goal → PagePart → Result (Listing K) Fault → Type 0
-ListsWalks paging graph goal part = FindsListing paging.program.now (may_answer paging.known.now) (Some graph) goal part
-
--- for private contracts and proofs alone: these paths, in a direction, unless an allocation failed
-abbrev pub ListsPaths : {K : Type 0} → List PathValue → List ℕ → Result (Listing K) Fault → Type 0
-ListsPaths paths to (Ok listing) = (coming listing ≡ paths) × (side listing ≡ to)
-ListsPaths paths to (Err faults.Memory) = ⊤
-ListsPaths paths to (Err fault) = ⊥
-
--- for private contracts and proofs alone: a cursor is that of a text, and these are the paths of a stack on one side of it
-abbrev pub IsSide : (List ℕ → List PathValue → Type 0) → Allowance → Items → PagePart → List ℕ → Type 0
-IsSide IsRest allows items part cursor = (given : List PathValue) × IsRest cursor given × paths.IsPart allows items part (Ok given)
-
--- for private contracts and proofs alone: a fault is the reason why the cursor of a part is refused
-abbrev pub IsRefused : Paging → PagePart → Fault → Type 0
-IsRefused paging part (faults.Cursor e) =
-    (items : Items) → paths.IsProgramOf paging.program.now items → paths.IsPart (may_answer paging.known.now) items part (Err e)
-IsRefused paging part fault = ⊥

@@ -5,7 +5,7 @@ ghost use Rattle.pam_codes.specs.Line.{line_text, piece_text};
 ghost use Rattle.pam_report.specs.Fault as spec;
 ghost use Rattle.pam_report.specs.Fault.{IsNumbered};
 ghost use Rattle.pam_report.specs.FaultTable.{conf_row as conf_fault_row, table_row as table_fault_row, time_row as time_fault_row};
-ghost use Rattle.pam_report.specs.FaultViews.{row_view};
+ghost use Rattle.pam_report.specs.inner.FaultViews.{row_view};
 
 mod row;
 mod table;

@@ -15,7 +15,7 @@ use Rattle.pam_paths.specs.Classes.{Member}
 use Rattle.pam_paths.proofs.Listings.{Member-cases, Member-left, Member-map, Member-right}
 use Rattle.pam_tables.specs.Options.{options_of}
 use Rattle.pam_table_check.specs.Needs.{IsNeeded, IsNeededBy, IsNeededIn, Need, OfAccess, OfGroups, OfTime, access_needs, needs_of, time_needs}
-use Rattle.pam_table_check.specs.Passes.{Adds, IsNeededAt, IsNeededFor, need_view}
+use Rattle.pam_table_check.specs.inner.Passes.{Adds, IsNeededAt, IsNeededFor, need_view}
 use Rattle.pam_table_check.specs.declared.needs.Needed.{Needed}
 
 -- MEMBERS OF A LIST SO FAR

@@ -10,7 +10,7 @@ use Rattle.std.proofs.lemmas.Map.Views.{tells_apart}
 use Rattle.pam_paths.specs.Classes.{Member}
 use Rattle.pam_paths.proofs.Listings.{Member-cases, Member-left, Member-right}
 use Rattle.pam_table_check.specs.Needs.{Need}
-use Rattle.pam_table_check.specs.Passes.{ArePlaced, Found, IsOfSome, Puts, finding_at, need_view}
+use Rattle.pam_table_check.specs.inner.Passes.{ArePlaced, Found, IsOfSome, Puts, finding_at, need_view}
 use Rattle.pam_table_check.specs.Problems.{compare_places, place_of}
 use Rattle.pam_table_check.specs.Tables.{TablesText, problems_for}
 use Rattle.pam_table_check.specs.declared.needs.Needed.{Needed}

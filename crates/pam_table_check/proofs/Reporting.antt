@@ -7,7 +7,7 @@ use Rattle.std.proofs.lemmas.Map.Views.{All-found}
 use Rattle.pam_conf.specs.Files.{Folder}
 use Rattle.pam_paths.specs.Classes.{Member}
 use Rattle.pam_table_check.specs.Needs.{IsNeeded, Need, OfAccess, OfGroups, OfTime}
-use Rattle.pam_table_check.specs.Passes.{Adds, ArePlaced, Found, IsOfSome, Puts, finding_at}
+use Rattle.pam_table_check.specs.inner.Passes.{Adds, ArePlaced, Found, IsOfSome, Puts, finding_at}
 use Rattle.pam_table_check.specs.Problems.{compare_places, place_of}
 use Rattle.pam_table_check.specs.Report.{IsProblem, IsTableReport}
 use Rattle.pam_table_check.specs.Tables.{TablesText, access_problems, group_problems, problems_for, time_problems}

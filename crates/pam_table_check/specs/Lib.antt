@@ -1,5 +1,5 @@
 pub mod Needs
-pub mod Passes
 pub mod Problems
 pub mod Report
 pub mod Tables
+pub mod inner

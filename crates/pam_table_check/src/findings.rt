@@ -2,7 +2,7 @@
 
 ghost use Rattle.std.specs.Prelude.{◌≡◌, None, OnOk, map};
 ghost use Rattle.pam_paths.specs.Classes.{Member};
-ghost use Rattle.pam_table_check.specs.Passes.{ArePlaced, IsOfSome, Puts, finding_at, need_view};
+ghost use Rattle.pam_table_check.specs.inner.Passes.{ArePlaced, IsOfSome, Puts, finding_at, need_view};
 ghost use Rattle.pam_table_check.specs.Tables.{problems_for, tables_view};
 
 use crate::judging::problems_for;

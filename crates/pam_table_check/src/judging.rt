@@ -1,7 +1,7 @@
 //! The problems of one table.
 
 ghost use Rattle.std.specs.Prelude.{◌≡◌, ◌++◌, IfOk, OnOk, map};
-ghost use Rattle.pam_table_check.specs.Passes.{need_view};
+ghost use Rattle.pam_table_check.specs.inner.Passes.{need_view};
 ghost use Rattle.pam_table_check.specs.Tables.{access_problems, group_problems, of_difference, of_fault, of_time_fault, problems_for};
 ghost use Rattle.pam_table_check.specs.Tables.{tables_view, time_problems, unless_refused};
 ghost use Rattle.pam_old_tables.specs.Access.{access_findings};

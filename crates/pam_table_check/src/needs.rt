@@ -6,7 +6,7 @@ ghost use Rattle.pam_paths.specs.Classes.{Member};
 ghost use Rattle.pam_table_check.specs.Needs.{IsNeeded, IsNeededBy, IsNeededIn, OfAccess, OfGroups, OfTime, access_needs, needs_of};
 ghost use Rattle.pam_table_check.specs.Needs.{time_needs};
 ghost use Rattle.pam_tables.specs.Options.{options_of};
-ghost use Rattle.pam_table_check.specs.Passes.{Adds, IsNeededAt, IsNeededFor, need_view};
+ghost use Rattle.pam_table_check.specs.inner.Passes.{Adds, IsNeededAt, IsNeededFor, need_view};
 
 use pam_conf::{Kind, Module, RuleFiles, Stack};
 use pam_known::{is_access_reader, is_time_reader};

@@ -1,7 +1,7 @@
 //! The problems of the tables of a host.
 
 ghost use Rattle.std.specs.Prelude.{IfOk, OnOk};
-ghost use Rattle.pam_table_check.specs.Passes.{Puts};
+ghost use Rattle.pam_table_check.specs.inner.Passes.{Puts};
 ghost use Rattle.pam_table_check.specs.Report.{IsProblem, IsTableReport};
 ghost use Rattle.pam_table_check.specs.Tables.{tables_view};
 

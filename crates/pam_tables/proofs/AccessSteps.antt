@@ -3,14 +3,18 @@ use Rattle.std.proofs.Common.{◌≡◌, ◌∙◌, ◌&&◌, ℕ, Bool, true, f
 use Rattle.std.proofs.Common.{if◌then◌else◌}
 use Rattle.std.specs.Option.{option_map_or}
 use Rattle.pam_tables.specs.Access.{LineText, permission_of, is_passed_over, has_tokens, line_of_fields, fields_of, some_line, access_line}
-use Rattle.pam_tables.specs.Access.{◌>>=◌, lines_of, table_lines, table_with, table_of, permission_for, users_match, line_matches, answer_with, first_answer}
+use Rattle.pam_tables.specs.Access.{◌>>=◌, lines_of, table_lines, table_with, table_of, users_match, line_matches, answer_with, first_answer}
+use Rattle.pam_tables.specs.inner.Access.{permission_for}
 use Rattle.pam_tables.specs.Error.{read_lines, onto_lines, verdict}
 use Rattle.pam_tables.specs.Groups.{Group}
 use Rattle.pam_tables.specs.Options.{Options}
-use Rattle.pam_tables.specs.Lines.{sound, trimmed}
+use Rattle.pam_tables.specs.Lines.{trimmed}
+use Rattle.pam_tables.specs.inner.Lines.{sound}
 use Rattle.pam_tables.specs.Lists.{list_matches}
-use Rattle.pam_tables.specs.Login.{OriginText, IsKnown, origin_view}
-use Rattle.pam_tables.specs.Tokens.{UserPattern, OriginPattern, tokens_of, each_token, user_token, origin_token, origin_mark, host_mark, known_mark}
+use Rattle.pam_tables.specs.Login.{OriginText}
+use Rattle.pam_tables.specs.inner.Login.{IsKnown, origin_view}
+use Rattle.pam_tables.specs.Tokens.{UserPattern, OriginPattern, tokens_of, each_token, user_token, origin_token, origin_mark, host_mark}
+use Rattle.pam_tables.specs.inner.Tokens.{known_mark}
 use Rattle.pam_tables.specs.declared.access.AccessAnswer.{AccessAnswer}
 use Rattle.pam_tables.specs.declared.access.AccessAnswer.TheVariants.{Granted}
 use Rattle.pam_tables.specs.declared.address.Address.{Address}

@@ -6,7 +6,7 @@ use Rattle.std.proofs.lemmas.Bool.{eq-eqb, ne_eqb, cases_eq}
 use Rattle.std.proofs.lemmas.List.{get_or-set_other, get_or-set_same}
 use Rattle.std.proofs.lemmas.Nat.{div-add-mod', div_below, mod_below}
 use Rattle.std.proofs.lemmas.Nat.Bits.{bit_at-zero, bit_at_set_same, bit_at_set_other, shr_and_one}
-use Rattle.pam_tables.specs.Flags.{is_set}
+use Rattle.pam_tables.specs.inner.Flags.{is_set}
 
 no_word : (n i : ℕ) → get_or {A = ℕ} (replicate n 0) i 0 ≡ 0
 no_word zero i = refl

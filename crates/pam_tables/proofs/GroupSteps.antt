@@ -6,9 +6,10 @@ use Rattle.std.specs.Map.{lookup}
 use Rattle.std.specs.Option.{option_map, option_map_or}
 use Rattle.std.proofs.lemmas.Option.{slice_get-map}
 use Rattle.std.specs.Str.{bytes_eq}
-use Rattle.pam_tables.specs.Groups.{Group, members_of, lists_at, lists_user, group_of_fields, some_group, group_at}
+use Rattle.pam_tables.specs.Groups.{Group, members_of, lists_user, group_of_fields, some_group, group_at}
+use Rattle.pam_tables.specs.inner.Groups.{lists_at}
 use Rattle.pam_tables.specs.Lines.{has_bytes, is_among, cut_at, is_blank_line}
-use Rattle.pam_tables.specs.Named.{with_line}
+use Rattle.pam_tables.specs.inner.Named.{with_line}
 use Rattle.pam_tables.specs.declared.error.TableFault.{TableFault}
 use Rattle.pam_tables.specs.declared.error.TableFault.TheVariants.{BadGroup}
 use Rattle.pam_tables.proofs.Cutting.{split_found, split_none, split_two, split_three, split_parts}

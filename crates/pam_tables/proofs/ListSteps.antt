@@ -2,7 +2,8 @@
 use Rattle.std.proofs.Common.{◌≡◌, ◌∙◌, ◌+◌, ◌%◌, ℕ, not, Bool, true, false, List, [], ◌∷◌, cond, nat_eq, refl, sym, ap, arith}
 use Rattle.std.specs.List.{slice_split, onto_first, prefix_len}
 use mathlib.Core.Bool.{beq}
-use Rattle.pam_tables.specs.Lists.{is_except, part_holds, list_matches, odd_after, odd_with, matches_after}
+use Rattle.pam_tables.specs.Lists.{is_except, part_holds, list_matches}
+use Rattle.pam_tables.specs.inner.Lists.{odd_after, odd_with, matches_after}
 use Rattle.pam_tables.specs.declared.lists.Mark.{Mark}
 use Rattle.pam_tables.specs.declared.lists.Mark.TheVariants.{Except, Match, Miss}
 use Rattle.pam_tables.specs.declared.lists.ListState.{ListState}

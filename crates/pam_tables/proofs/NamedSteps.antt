@@ -8,7 +8,8 @@ use Rattle.std.specs.Str.{bytes_eq}
 use Rattle.std.proofs.lemmas.List.{map-append}
 use Rattle.indexmap.specs.IndexMap.{insert_entry}
 use Rattle.pam_tables.specs.Error.{read_lines, onto_lines}
-use Rattle.pam_tables.specs.Named.{first_of_each, first_of_each_read, with_entry, with_line}
+use Rattle.pam_tables.specs.Named.{first_of_each, first_of_each_read}
+use Rattle.pam_tables.specs.inner.Named.{with_entry, with_line}
 use Rattle.pam_tables.specs.declared.error.TableFault.{TableFault}
 
 abbrev pub has_name : {V : Type 0} → List ℕ → List (List ℕ × V) → Bool

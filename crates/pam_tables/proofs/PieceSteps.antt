@@ -6,7 +6,8 @@ use Rattle.std.specs.Option.{option_map, option_map_or}
 use Rattle.std.proofs.lemmas.Bool.{lt-leb, le-leb, leb-false}
 use Rattle.std.proofs.lemmas.List.{drop_more, drop_all, take_more}
 use Rattle.pam_tables.specs.Lines.{is_among, cut_at}
-use Rattle.pam_tables.specs.Address.{double_colon, more_pieces, number_from, numeral, pieces_in, pieces_of, last_pieces, with_piece}
+use Rattle.pam_tables.specs.Address.{double_colon, number_from, numeral, pieces_in, pieces_of, last_pieces, with_piece}
+use Rattle.pam_tables.specs.inner.Address.{more_pieces}
 use Rattle.pam_tables.proofs.Cutting.{split_found, split_none, split_parts}
 
 -- a cut of the text after the first n bytes, as a cut of the whole text

@@ -3,8 +3,10 @@ use Rattle.std.proofs.Common.{◌≡◌, ◌∙◌, ◌++◌, ℕ, List, [], ◌
 use Rattle.std.specs.Option.{option_map_or}
 use Rattle.pam_tables.specs.declared.error.TableFault.{TableFault}
 use Rattle.pam_tables.specs.declared.error.TableFault.TheVariants.{Memory}
-use Rattle.pam_tables.specs.Error.{FailsIn, FailsAt, line_of_fault, read_lines, onto_lines, verdict}
-use Rattle.pam_tables.specs.Lines.{checked, sound, fault_of_bytes}
+use Rattle.pam_tables.specs.Error.{FailsAt, line_of_fault, read_lines, onto_lines, verdict}
+use Rattle.pam_tables.specs.inner.Error.{FailsIn}
+use Rattle.pam_tables.specs.Lines.{checked, fault_of_bytes}
+use Rattle.pam_tables.specs.inner.Lines.{sound}
 
 -- a fault of one reading is that of another
 pub fails_on : {A B : Type 0} (fault : TableFault) (line : ℕ) (r : Result A (TableFault × ℕ)) (s : Result B (TableFault × ℕ)) →

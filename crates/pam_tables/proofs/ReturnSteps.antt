@@ -8,8 +8,9 @@ use Rattle.std.specs.Str.{bytes_eq}
 use Rattle.std.proofs.lemmas.List.Quantifiers.{position-Some}
 use Rattle.pam_codes.specs.Code.{all_codes, code_names, same_name}
 use Rattle.pam_codes.specs.Set.{codes_where, is_in, IsCodeSet}
-use Rattle.pam_codes.specs.SetBits.{codes_where-same, is_in-codes_where}
-use Rattle.pam_tables.specs.Returns.{ReturnLine, HaveCodes, codes_for, code_named, names_code, codes_of_words, words_of, line_of_words, some_codes, return_at}
+use Rattle.pam_codes.specs.inner.SetBits.{codes_where-same, is_in-codes_where}
+use Rattle.pam_tables.specs.Returns.{ReturnLine, codes_for, code_named, names_code, codes_of_words, words_of, line_of_words, some_codes, return_at}
+use Rattle.pam_tables.specs.inner.Returns.{HaveCodes}
 use Rattle.pam_tables.specs.declared.error.TableFault.{TableFault}
 use Rattle.pam_tables.specs.declared.error.TableFault.TheVariants.{BadCode, BadModule, MissingField}
 use Rattle.pam_tables.proofs.NamedSteps.{entry_view, value_of_name}

@@ -11,7 +11,7 @@ use Rattle.pam_tables.specs.Tokens.{tokens_of, each_token, with_token}
 use Rattle.pam_tables.specs.declared.error.TableFault.{TableFault}
 use Rattle.pam_tables.proofs.Cutting.{split_parts}
 use Rattle.pam_tables.specs.Error.{verdict}
-use Rattle.pam_tables.specs.Lists.{matches_after}
+use Rattle.pam_tables.specs.inner.Lists.{matches_after}
 use Rattle.pam_tables.specs.declared.lists.Mark.{Mark}
 use Rattle.pam_tables.specs.declared.lists.ListState.{ListState}
 

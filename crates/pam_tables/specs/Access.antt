@@ -14,7 +14,6 @@ use Rattle.pam_tables.specs.declared.access.AccessAnswer.{AccessAnswer}
 use Rattle.pam_tables.specs.declared.access.AccessAnswer.TheVariants.{Granted, Denied}
 use Rattle.pam_tables.specs.declared.access.Permission.{Permission}
 use Rattle.pam_tables.specs.declared.access.Permission.TheVariants.{Grant, Deny}
-use Rattle.pam_tables.specs.declared.lists.Mark.{Mark}
 use Rattle.pam_tables.specs.declared.error.TableFault.{TableFault}
 use Rattle.pam_tables.specs.declared.error.TableFault.TheVariants.{MissingField, BadPermission}
 
@@ -107,12 +106,6 @@ line_matches groups by_name user origin line = users_match groups by_name user l
 abbrev pub answer_with : Permission → ℕ → AccessAnswer
 answer_with Grant number = Granted (Some number)
 answer_with Deny number = Denied number
-
--- for private contracts and proofs alone: the permission of an entry that matches a user and an origin, which marks the tokens of origins
-abbrev pub permission_for : List Group → Bool → List ℕ → (OriginPattern → Mark) → Option LineText → Option Permission
-permission_for groups by_name user marked None = None
-permission_for groups by_name user marked (Some line) =
-    if users_match groups by_name user line.users && list_matches (map marked line.origins) then Some line.permission else None
 
 -- the first line whose users and origins both match decides; if no line matches, the login is granted
 abbrev pub first_answer : List Group → Bool → List ℕ → OriginText → List LineText → AccessAnswer

@@ -90,12 +90,6 @@ v6_of text = option_map_or (λ p. around_zeros (pieces_of false p.0) (pieces_of 
     (double_colon text)
     (eight_pieces (pieces_of true text))
 
--- the number and the count of pieces, after more pieces are appended. There are at most eight
-abbrev pub more_pieces : ℕ → ℕ → Option (List ℕ) → Option (ℕ × ℕ)
-more_pieces number count None = None
-more_pieces number count (Some pieces) =
-    if nat_le (count + length pieces) 8 then Some (number_from 65536 number pieces, count + length pieces) else None
-
 -- ---- either family
 
 -- the address written by a text

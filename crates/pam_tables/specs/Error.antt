@@ -13,14 +13,6 @@ line_of_fault _ line = line
 
 -- ---- results of calls, against what the bytes spell
 
-abbrev pub FailsIn : {Y : Type 0} → TableFault → Result Y TableFault → Type 0
-FailsIn Memory read = Unit {0}
-FailsIn fault read = read ≡ Err fault
-
--- a part of a line or its fault, as read says, unless an allocation failed
-abbrev pub GivesPart : {X Y : Type 0} → (X → Y) → Result X TableFault → Result Y TableFault → Type 0
-GivesPart view result read = GivesAs FailsIn view result read
-
 abbrev pub FailsAt : {Y : Type 0} → TableFault → ℕ → Result Y (TableFault × ℕ) → Type 0
 FailsAt Memory line read = line ≡ 0
 FailsAt fault line read = read ≡ Err (fault, line)

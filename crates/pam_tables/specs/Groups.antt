@@ -1,7 +1,6 @@
 -- Groups of users: group(5).
 use Rattle.std.specs.Prelude.{ℕ, Bool, false, List, [], ◌∷◌, filter, codes, if◌then◌else◌, Option, Some, None, Result, Ok, Err}
-use Rattle.std.specs.List.{list_any, slice_get, slice_split}
-use Rattle.std.specs.Option.{option_map_or}
+use Rattle.std.specs.List.{list_any, slice_split}
 use Rattle.std.specs.Str.{bytes_eq}
 use Rattle.pam_tables.specs.Error.{read_lines}
 use Rattle.pam_tables.specs.Lines.{checked, has_bytes, is_among, is_blank_line, lines_from}
@@ -17,10 +16,6 @@ Group = List ℕ × List (List ℕ)
 abbrev pub lists_user : List Group → List ℕ → List ℕ → Bool
 lists_user [] name user = false
 lists_user (group ∷ groups) name user = if bytes_eq name group.0 then list_any (λ m. bytes_eq m user) group.1 else lists_user groups name user
-
--- for private contracts and proofs alone: the group at an index lists the user
-abbrev pub lists_at : List Group → List ℕ → ℕ → Bool
-lists_at groups user index = option_map_or (λ g. list_any (λ m. bytes_eq m user) g.1) (slice_get groups index) false
 
 -- the members, joined by commas. Empty ones are dropped
 unfoldable pub members_of : List ℕ → List (List ℕ)

@@ -3,7 +3,6 @@ pub mod Address
 pub mod Error
 pub mod FaultLaws
 pub mod Faults
-pub mod Flags
 pub mod Groups
 pub mod Lines
 pub mod Lists
@@ -13,3 +12,4 @@ pub mod Network
 pub mod Options
 pub mod Returns
 pub mod Tokens
+pub mod inner

@@ -1,5 +1,5 @@
 -- The lines of a table, and the parts of a line: access.conf(5), group(5).
-use Rattle.std.specs.Prelude.{ℕ, ◌+◌, ◌-◌, Bool, true, false, List, [], ◌∷◌, length, take, drop, nat_eq, if◌then◌else◌, Option, Result, Ok, Err}
+use Rattle.std.specs.Prelude.{ℕ, ◌+◌, ◌-◌, Bool, true, false, List, [], ◌∷◌, length, take, drop, nat_eq, if◌then◌else◌, Option, Result, Err}
 use Rattle.std.specs.List.{list_all, slice_split, prefix_len, suffix_len, ends_with}
 use Rattle.std.specs.Option.{option_map, option_map_or}
 unfoldable pub use Rattle.pam_text.specs.Cut.{is_among}
@@ -23,10 +23,6 @@ fault_of_bytes bytes = option_map fault_at_line (source_fault bytes)
 -- the fault of the bytes as a whole, or else what was read
 abbrev pub checked : {A : Type 0} → List ℕ → Result A (TableFault × ℕ) → Result A (TableFault × ℕ)
 checked bytes read = option_map_or Err (fault_of_bytes bytes) read
-
--- whether the bytes as a whole have no fault
-abbrev pub sound : List ℕ → Result (Unit {0}) (TableFault × ℕ)
-sound bytes = checked bytes (Ok tt)
 
 -- whether a text is not empty
 abbrev pub has_bytes : List ℕ → Bool

@@ -1,5 +1,5 @@
 -- Returns files: the codes that modules may return, by module name.
-use Rattle.std.specs.Prelude.{ℕ, ◌==◌, ◌≢◌, Bool, false, List, [], ◌∷◌, codes, nat_eq, is_some, position, if◌then◌else◌, Option, Some, None, Result, Ok, Err}
+use Rattle.std.specs.Prelude.{ℕ, ◌==◌, Bool, false, List, [], ◌∷◌, codes, nat_eq, is_some, position, if◌then◌else◌, Option, Some, None, Result, Ok, Err}
 use Rattle.std.specs.List.{list_any, list_all, starts_with}
 use Rattle.std.specs.Map.{lookup}
 use Rattle.std.specs.Option.{option_map_or}
@@ -20,11 +20,6 @@ ReturnLine = List ℕ × List ℕ
 -- the codes of the first line with this name
 abbrev pub codes_for : List ReturnLine → List ℕ → Option (List ℕ)
 codes_for lines name = lookup (λ n. bytes_eq name n) lines
-
--- every line has a code
-abbrev pub HaveCodes : List ReturnLine → Type 0
-HaveCodes [] = Unit {0}
-HaveCodes (line ∷ lines) = (line.1 ≢ []) × HaveCodes lines
 
 -- ---- what a file's bytes spell
 

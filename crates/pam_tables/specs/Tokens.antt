@@ -16,8 +16,6 @@ use Rattle.pam_tables.specs.declared.error.TableFault.{TableFault}
 use Rattle.pam_tables.specs.declared.error.TableFault.TheVariants.{Netgroup, UserAtHost}
 use Rattle.pam_tables.specs.declared.lists.Mark.{Mark}
 use Rattle.pam_tables.specs.declared.lists.Mark.TheVariants.{Except, Match, Miss}
-use Rattle.pam_tables.specs.declared.login.Origin.{Origin}
-use Rattle.pam_tables.specs.declared.login.Origin.TheVariants as places
 use Rattle.pam_tables.specs.declared.network.Network.{Network}
 
 -- the texts between separators, without blanks at either end. Empty ones are dropped
@@ -126,11 +124,6 @@ place_mark place _ = Miss
 unfoldable pub origin_mark : OriginText → OriginPattern → Mark
 origin_mark (Remote host) token = host_mark host (address_of host) token
 origin_mark (Local place) token = place_mark place token
-
--- for private contracts and proofs alone: how a token matches an origin with its address
-abbrev pub known_mark : Origin → OriginPattern → Mark
-known_mark (places.Remote host address) token = host_mark host.now address token
-known_mark (places.Local place) token = place_mark place.now token
 
 -- ---- all tokens of a list
 

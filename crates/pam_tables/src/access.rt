@@ -3,11 +3,12 @@
 ghost use Rattle.std.specs.Prelude.{◌≡◌, ℕ, Ok, Option, IfOk, IfErr};
 ghost use Rattle.std.specs.Option.{option_map};
 ghost use Rattle.pam_tables.specs.Access.{LineText, permission_of, is_passed_over as is_passed_over_of, line_of_fields, fields_of as fields_of_line};
-ghost use Rattle.pam_tables.specs.Access.{access_line, lines_of, table_of, permission_for, answer_with, access_answer};
+ghost use Rattle.pam_tables.specs.Access.{access_line, lines_of, table_of, answer_with, access_answer};
+ghost use Rattle.pam_tables.specs.inner.Access.{permission_for};
 ghost use Rattle.pam_tables.specs.Error.{Gives, verdict};
 ghost use Rattle.pam_tables.specs.Lines.{cut_at, is_among};
 ghost use Rattle.pam_tables.specs.Login.{login_view};
-ghost use Rattle.pam_tables.specs.Tokens.{known_mark};
+ghost use Rattle.pam_tables.specs.inner.Tokens.{known_mark};
 
 use crate::error::{Table, TableError, TableFault};
 use crate::groups::Groups;

@@ -1,7 +1,7 @@
 //! A flag for each of many indices, in the bits of words.
 
 ghost use Rattle.std.specs.Prelude.{◌≡◌, ◌<◌, ◌==◌, ◌||◌, ℕ, false, length};
-ghost use Rattle.pam_tables.specs.Flags.{is_set};
+ghost use Rattle.pam_tables.specs.inner.Flags.{is_set};
 
 /// The number of flags.
 pub(crate) const FLAGS: usize = 160_000;

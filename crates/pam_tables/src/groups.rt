@@ -4,10 +4,12 @@ ghost use Rattle.std.specs.Prelude.{◌≡◌, ◌==◌, ℕ, [], codes, false, 
 ghost use Rattle.std.specs.List.{list_any};
 ghost use Rattle.std.specs.Option.{option_map_or};
 ghost use Rattle.std.specs.Str.{bytes_eq};
-ghost use Rattle.pam_tables.specs.Error.{Gives, GivesPart, verdict};
-ghost use Rattle.pam_tables.specs.Groups.{lists_at, lists_user, members_of, group_of_fields, group_at, groups_of};
+ghost use Rattle.pam_tables.specs.Error.{Gives, verdict};
+ghost use Rattle.pam_tables.specs.inner.Error.{GivesPart};
+ghost use Rattle.pam_tables.specs.Groups.{lists_user, members_of, group_of_fields, group_at, groups_of};
+ghost use Rattle.pam_tables.specs.inner.Groups.{lists_at};
 ghost use Rattle.pam_tables.specs.Lines.{is_among};
-ghost use Rattle.pam_tables.specs.Named.{with_line};
+ghost use Rattle.pam_tables.specs.inner.Named.{with_line};
 ghost use Rattle.std.specs.List.{slice_split};
 
 use crate::error::{Table, TableError, TableFault};

@@ -5,7 +5,8 @@ ghost use Rattle.std.specs.List.{prefix_len, suffix_len};
 ghost use Rattle.std.specs.Option.{option_map};
 ghost use Rattle.std.specs.Iterator.{YieldsFirstBy, item_count};
 ghost use Rattle.pam_tables.specs.Error.{Gives};
-ghost use Rattle.pam_tables.specs.Lines.{fault_at_line, sound, without_return, lines_from, lines_left, is_blank, is_blank_line};
+ghost use Rattle.pam_tables.specs.Lines.{fault_at_line, without_return, lines_from, lines_left, is_blank, is_blank_line};
+ghost use Rattle.pam_tables.specs.inner.Lines.{sound};
 ghost use Rattle.pam_tables.specs.Lines.{cut_at, is_among, trimmed_end, trimmed};
 
 use crate::error::{Table, TableError, TableFault};

@@ -2,7 +2,8 @@
 
 ghost use Rattle.std.specs.Prelude.{◌≡◌, ◌∷◌, [], List};
 ghost use Rattle.pam_tables.specs.declared.lists.Mark.{Mark as MarkOf};
-ghost use Rattle.pam_tables.specs.Lists.{list_matches, mark_of, matches_after};
+ghost use Rattle.pam_tables.specs.Lists.{list_matches, mark_of};
+ghost use Rattle.pam_tables.specs.inner.Lists.{matches_after};
 
 /// What a token means for the list it is in.
 #[derive(Clone, Copy, Debug, PartialEq, Eq)]

@@ -1,7 +1,8 @@
 //! Where a login comes from, as in access.conf(5).
 
 ghost use Rattle.std.specs.Prelude.{◌≡◌};
-ghost use Rattle.pam_tables.specs.Login.{login_view, origin_of, origin_view, IsKnown};
+ghost use Rattle.pam_tables.specs.Login.{login_view, origin_of};
+ghost use Rattle.pam_tables.specs.inner.Login.{origin_view, IsKnown};
 
 use crate::address::Address;
 use pam_times::{Login, drop_dev};

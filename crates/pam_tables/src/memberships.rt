@@ -1,8 +1,9 @@
 //! The groups that list a user, found once for each login.
 
 ghost use Rattle.std.specs.Prelude.{◌≡◌, ◌<◌, ◌≤◌, ℕ};
-ghost use Rattle.pam_tables.specs.Flags.{is_set};
-ghost use Rattle.pam_tables.specs.Groups.{lists_at, lists_user};
+ghost use Rattle.pam_tables.specs.inner.Flags.{is_set};
+ghost use Rattle.pam_tables.specs.Groups.{lists_user};
+ghost use Rattle.pam_tables.specs.inner.Groups.{lists_at};
 
 use crate::flags::{FLAGS, Flags};
 use crate::groups::{Groups, has_member};

@@ -12,8 +12,8 @@ use std::alloc::Global;
 /// Entries by name, to which a file adds its own.
 pub(crate) trait Entries<'a>: Drop {
     ghost use Rattle.std.specs.Prelude.{ℕ, List, Option, Result};
-    ghost use Rattle.pam_tables.specs.Error.{GivesPart};
-    ghost use Rattle.pam_tables.specs.Named.{with_line};
+    ghost use Rattle.pam_tables.specs.inner.Error.{GivesPart};
+    ghost use Rattle.pam_tables.specs.inner.Named.{with_line};
     ghost use Rattle.pam_tables.specs.declared.error.TableFault.{TableFault};
 
     ghost Value: { Type 0 };

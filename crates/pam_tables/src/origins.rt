@@ -5,7 +5,8 @@ ghost use Rattle.std.specs.List.{list_any};
 ghost use Rattle.std.specs.Option.{option_map_or};
 ghost use Rattle.pam_tables.specs.Error.{verdict};
 ghost use Rattle.pam_tables.specs.Network.{is_in_network};
-ghost use Rattle.pam_tables.specs.Tokens.{OriginPattern, each_token, plain_origin, tokens_of, origin_token, known_mark};
+ghost use Rattle.pam_tables.specs.Tokens.{OriginPattern, each_token, plain_origin, tokens_of, origin_token};
+ghost use Rattle.pam_tables.specs.inner.Tokens.{known_mark};
 ghost use Rattle.pam_tables.specs.Tokens.{host_mark as host_mark_of, place_mark as place_mark_of};
 ghost use Rattle.pam_tables.specs.Tokens.{ends_with_name as ends_with_name_of, same_address as same_address_of, is_v4 as is_v4_of};
 
@@ -152,7 +153,8 @@ pub(crate) fn check_origins(text: &[u8], separators: &ByteSet<'_>) -> Result<(),
 }
 
 impl<'a> Matcher for Origin<'a> {
-    ghost use Rattle.pam_tables.specs.Tokens.{OriginPattern, origin_token, known_mark};
+    ghost use Rattle.pam_tables.specs.Tokens.{OriginPattern, origin_token};
+    ghost use Rattle.pam_tables.specs.inner.Tokens.{known_mark};
 
     ghost Meaning = { OriginPattern };
 

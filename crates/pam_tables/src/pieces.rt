@@ -2,8 +2,8 @@
 
 ghost use Rattle.std.specs.Prelude.{◌≡◌, ◌≤◌, ◌+◌, ◌<◌, ◌*◌, ◌^◌, ◌∷◌, [], Some, true, false, replicate};
 ghost use Rattle.std.specs.Option.{option_map};
-ghost use Rattle.pam_tables.specs.Address.{v6_of, double_colon as double_colon_of, around_zeros as around_zeros_of};
-ghost use Rattle.pam_tables.specs.Address.{pieces_of, last_pieces, more_pieces, number_from};
+ghost use Rattle.pam_tables.specs.Address.{v6_of, double_colon as double_colon_of, around_zeros as around_zeros_of, pieces_of, last_pieces, number_from};
+ghost use Rattle.pam_tables.specs.inner.Address.{more_pieces};
 
 use crate::address::{numeral, v4};
 use pam_text::cut;

@@ -2,8 +2,9 @@
 
 ghost use Rattle.std.specs.Prelude.{◌≡◌, ◌≢◌, [], codes, IfOk, IfSome, MatchResult, Ok, Err};
 ghost use Rattle.std.specs.Option.{option_map};
-ghost use Rattle.pam_tables.specs.Error.{Gives, GivesPart};
-ghost use Rattle.pam_tables.specs.Named.{with_line};
+ghost use Rattle.pam_tables.specs.Error.{Gives};
+ghost use Rattle.pam_tables.specs.inner.Error.{GivesPart};
+ghost use Rattle.pam_tables.specs.inner.Named.{with_line};
 ghost use Rattle.pam_tables.specs.Returns.{codes_for, codes_of_words, return_at, returns_of};
 ghost use Rattle.pam_tables.specs.Tokens.{tokens_of};
 
@@ -31,7 +32,8 @@ pub struct ReturnTable<'a> {
 
 impl<'a> Model for ReturnTable<'a> {
     ghost use Rattle.std.specs.Prelude.{List, map};
-    ghost use Rattle.pam_tables.specs.Returns.{ReturnLine, HaveCodes};
+    ghost use Rattle.pam_tables.specs.Returns.{ReturnLine};
+    ghost use Rattle.pam_tables.specs.inner.Returns.{HaveCodes};
 
     ghost Value = { List ReturnLine };
 

@@ -4,7 +4,8 @@ use Rattle.std.proofs.Common.{ℕ, true, false, not, List, [], ◌∷◌, drop, 
 use Rattle.std.specs.List.{prefix_len}
 use Rattle.std.proofs.lemmas.Bool.{eqb-true, false≢true}
 use Rattle.pam_text.specs.Blanks.{is_text_blank}
-use Rattle.pam_text.specs.Text.{FileByte, text_of, past_comment, text_lines, onto_line, first_line, after_line, filled_lines, is_plain}
+use Rattle.pam_text.specs.Text.{FileByte, text_of, text_lines, onto_line, first_line, after_line, filled_lines}
+use Rattle.pam_text.specs.inner.Text.{past_comment, is_plain}
 use Rattle.pam_text.proofs.Runs.{plain_step}
 use Rattle.pam_text.proofs.TextLines.{HeadIs, head_is, first_of}
 use Rattle.pam_text.proofs.TextSteps.{skipped, step_feed, unequal}

@@ -3,7 +3,8 @@ use Rattle.std.proofs.Common.{◌≡◌, ◌≤◌, ◌+◌, ◌++◌, ◌∙◌
 use Rattle.std.proofs.Common.{false, List, [], ◌∷◌, take, drop, get_or, cond, eqb}
 use Rattle.std.specs.List.{prefix_len}
 use Rattle.std.proofs.lemmas.Bool.{eqb-true, false≢true}
-use Rattle.pam_text.specs.Text.{FileByte, text_of, first_line, after_line, is_plain, past_comment}
+use Rattle.pam_text.specs.Text.{FileByte, text_of, first_line, after_line}
+use Rattle.pam_text.specs.inner.Text.{is_plain, past_comment}
 use Rattle.pam_text.proofs.TextSteps.{step_plain, step_joined, past_comment-no}
 
 -- a plain byte is none of the three

@@ -2,7 +2,8 @@
 use Rattle.std.proofs.Common.{◌≡◌, ◌+◌, ◌&&◌, ◌⊎◌, inl, inr, ⊎_elim, ℕ, Bool, true, false, List, [], ◌∷◌, map, cond, eqb, ap, sym, ◌∙◌, refl}
 use Rattle.std.specs.List.{onto_first}
 use Rattle.std.proofs.lemmas.Bool.{eqb-true}
-use Rattle.pam_text.specs.Text.{FileByte, file_bytes, uncommented, joined, text_of, lines_of, first_line, first_bytes, after_line, text_lines, onto_line}
+use Rattle.pam_text.specs.Text.{FileByte, file_bytes, uncommented, joined, text_of, lines_of, first_line, after_line, text_lines, onto_line}
+use Rattle.pam_text.specs.inner.Text.{first_bytes}
 
 -- the first byte, if there is one, is of this line
 unfoldable pub HeadIs : ℕ → List FileByte → Type 0

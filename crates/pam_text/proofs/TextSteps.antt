@@ -2,7 +2,8 @@
 use Rattle.std.proofs.Common.{◌≡◌, ◌+◌, ℕ, Bool, true, false, not, List, [], ◌∷◌, length, get_or, drop, cond, eqb, ap, ◌∙◌, sym, refl, arith, one-add}
 use Rattle.std.specs.List.{prefix_len}
 use Rattle.std.proofs.lemmas.Bool.{eqb-true}
-use Rattle.pam_text.specs.Text.{FileByte, file_bytes, uncommented, joined, text_of, past_comment}
+use Rattle.pam_text.specs.Text.{FileByte, file_bytes, uncommented, joined, text_of}
+use Rattle.pam_text.specs.inner.Text.{past_comment}
 
 pub unequal : (a b : ℕ) → (a ≡ b → ⊥) → eqb a b ≡ false
 unequal a b h = elim (eqb a b) as (λ (t : Bool). eqb a b ≡ t → t ≡ false) [ true ↦ λ e. absurd (h (eqb-true a b e)) | false ↦ λ e. refl ] refl

@@ -1,6 +1,6 @@
 -- pam.conf(5): a comment begins with `#` and goes up to the end of its line; a backslash before the end of a line continues it.
-use Rattle.std.specs.Prelude.{ℕ, ◌+◌, Bool, true, false, List, [], ◌∷◌, not, drop, ◌==◌, ◌&&◌, ◌||◌, if◌then◌else◌}
-use Rattle.std.specs.List.{list_all, slice_split, prefix_len}
+use Rattle.std.specs.Prelude.{ℕ, ◌+◌, Bool, true, false, List, [], ◌∷◌, ◌==◌, ◌&&◌, if◌then◌else◌}
+use Rattle.std.specs.List.{list_all, slice_split}
 use Rattle.pam_text.specs.Blanks.{is_text_blank}
 
 -- a byte of a file, with the number of its line: one more than the line feeds before it
@@ -32,11 +32,6 @@ text_of line bytes = joined (uncommented false (file_bytes line bytes))
 abbrev pub lines_of : List FileByte → List (List FileByte)
 lines_of text = slice_split (λ m. m.1 == 10) text
 
--- the bytes after a comment, where one begins here; else all of them
-unfoldable pub past_comment : List ℕ → List ℕ
-past_comment [] = []
-past_comment (b ∷ bs) = if b == 35 then drop (prefix_len (λ c. not (c == 10)) (b ∷ bs)) (b ∷ bs) else b ∷ bs
-
 -- the bytes of the first line, and the text after its line feed
 abbrev pub first_line : List FileByte → List ℕ
 first_line [] = []
@@ -45,14 +40,6 @@ first_line (m ∷ ms) = if m.1 == 10 then [] else m.1 ∷ first_line ms
 abbrev pub after_line : List FileByte → List FileByte
 after_line [] = []
 after_line (m ∷ ms) = if m.1 == 10 then ms else after_line ms
-
-abbrev pub first_bytes : List FileByte → List FileByte
-first_bytes [] = []
-first_bytes (m ∷ ms) = if m.1 == 10 then [] else m ∷ first_bytes ms
-
--- a byte that means itself everywhere: no line feed, no `#` and no backslash
-abbrev pub is_plain : ℕ → Bool
-is_plain b = not (b == 10 || b == 35 || b == 92)
 
 -- the lines of a text with their numbers, without their ends: a text that a line feed ends has none after it
 abbrev pub onto_line : FileByte → List (ℕ × List ℕ) → List (ℕ × List ℕ)

@@ -5,7 +5,8 @@ ghost use Rattle.std.specs.Prelude.{MatchOption, IfOk, IfSome, OnOk};
 ghost use Rattle.std.specs.Result.{OnErr};
 ghost use Rattle.std.specs.List.{prefix_len};
 ghost use Rattle.pam_text.specs.Blanks.{is_text_blank};
-ghost use Rattle.pam_text.specs.Text.{text_of, past_comment, is_plain};
+ghost use Rattle.pam_text.specs.Text.{text_of};
+ghost use Rattle.pam_text.specs.inner.Text.{past_comment, is_plain};
 
 use crate::blanks::is_text_blank;
 use crate::source::Source;
@@ -34,7 +35,8 @@ pub struct Line<'a> {
 
 impl<'a> Text<'a> {
     ghost use Rattle.pam_text.specs.Text.{filled_lines, first_line, after_line, text_lines};
-    ghost use Rattle.pam_text.specs.Left.{begins_filled, text_left, line_from, rest_from};
+    ghost use Rattle.pam_text.specs.Left.{begins_filled, text_left};
+    ghost use Rattle.pam_text.specs.inner.Left.{line_from, rest_from};
 
     /// The whole text of a file.
     pub fn of(file: Source<'a>) -> Self

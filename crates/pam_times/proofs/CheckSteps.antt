@@ -7,9 +7,9 @@ use Rattle.std.specs.List.{prefix_len}
 use Rattle.std.specs.Option.{option_map}
 use Rattle.pam_codes.specs.Tokens.{is_blank}
 use Rattle.pam_text.specs.Cut.{is_among}
-use Rattle.pam_times.specs.Checks.{checked, fields_checked, first_fault, line_checked, list_checked, token_checked}
+use Rattle.pam_times.specs.inner.Checks.{checked, fields_checked, first_fault, line_checked, list_checked, token_checked}
 use Rattle.pam_times.specs.Entry.{entry_of}
-use Rattle.pam_times.specs.Items.{IsFirstItem, items_after, items_left}
+use Rattle.pam_times.specs.inner.Items.{IsFirstItem, items_after, items_left}
 use Rattle.pam_times.specs.Logic.{ItemOf, SignText, Not, Join, Token, ExpectItem, items_from, items_of, items_or_fault, onto_items, signs_of}
 use Rattle.pam_times.specs.declared.logic.Item.{Item}
 use Rattle.pam_times.specs.Reading.{FieldTexts, and_then, cut_fields, each, each_of, entry_or_fault, fields_of, full_fields, has_empty, is_blank_text}

@@ -5,7 +5,8 @@ use Rattle.std.proofs.lemmas.List.Sums.{sum_by-cons}
 use Rattle.std.specs.Char.{eq_ignore_ascii_case}
 use Rattle.std.specs.Option.{option_map}
 use Rattle.pam_codes.specs.Code.{same_name}
-use Rattle.pam_times.specs.Entry.{weekdays, covers, named_days, onto, mentions, is_odd, day_set, differ, toggled}
+use Rattle.pam_times.specs.Entry.{weekdays, covers, named_days, onto, mentions, is_odd, day_set, differ}
+use Rattle.pam_times.specs.inner.Entry.{toggled}
 use Rattle.pam_times.specs.declared.entry.DayRun.{DayRun}
 
 -- ---- days

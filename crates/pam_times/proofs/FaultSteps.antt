@@ -4,7 +4,7 @@ use Rattle.std.specs.Option.{option_map_or}
 use Rattle.pam_text.specs.Source.{source_fault}
 use Rattle.pam_text.specs.Text.{text_lines, text_of}
 use Rattle.pam_text.specs.declared.source.SourceFault.{SourceFault}
-use Rattle.pam_times.specs.Checks.{line_checked}
+use Rattle.pam_times.specs.inner.Checks.{line_checked}
 use Rattle.pam_times.specs.Error.{source_error}
 use Rattle.pam_times.specs.Faults.{first_fault, line_fault, line_faults, or_faults, time_faults, verdict}
 use Rattle.pam_times.specs.Reading.{onto_rules, rule_of, rules_in, rules_of}

@@ -4,10 +4,11 @@ use Rattle.std.proofs.Common.{Some, None, refl, sym, ap, arith, one-add}
 use Rattle.std.proofs.lemmas.Bool.{eqb-true, eqb-false}
 use Rattle.std.specs.List.{list_all, prefix_len}
 use Rattle.pam_codes.specs.Tokens.{is_blank}
-use Rattle.pam_times.specs.Logic.{ItemOf, may_begin, keeps, is_true_of, item_value, is_true, join, ExpectItem, ExpectToken, ExpectJoint}
+use Rattle.pam_times.specs.Logic.{ItemOf, may_begin, keeps, is_true_of, item_value, is_true, ExpectItem, ExpectToken, ExpectJoint}
+use Rattle.pam_times.specs.inner.Logic.{join, list_value}
 use Rattle.pam_times.specs.Logic.{SignText, Not, Join, Token, is_token_byte, begins_token}
-use Rattle.pam_times.specs.Logic.{onto_token, signs_of, onto_items, items_from, items_of, items_or_fault, list_value}
-use Rattle.pam_times.specs.Items.{HasNoItem, HasNoToken, IsAfterNot, begins_not, items_after, items_inverted, items_left}
+use Rattle.pam_times.specs.Logic.{onto_token, signs_of, onto_items, items_from, items_of, items_or_fault}
+use Rattle.pam_times.specs.inner.Items.{HasNoItem, HasNoToken, IsAfterNot, begins_not, items_after, items_inverted, items_left}
 use Rattle.pam_times.specs.declared.logic.Joint.{Joint}
 use Rattle.pam_times.specs.declared.logic.Joint.TheVariants.{First, And, Or}
 

@@ -7,10 +7,10 @@ use Rattle.std.specs.List.{prefix_len}
 use Rattle.std.specs.Option.{option_map}
 use Rattle.pam_codes.specs.Tokens.{is_blank}
 use Rattle.pam_text.specs.Cut.{is_among}
-use Rattle.pam_times.specs.Checks.{line_checked, list_checked, token_checked}
-use Rattle.pam_times.specs.Items.{items_after, items_left}
+use Rattle.pam_times.specs.inner.Checks.{line_checked, list_checked, token_checked}
+use Rattle.pam_times.specs.inner.Items.{items_after, items_left}
 use Rattle.pam_times.specs.Logic.{SignText, Not, Join, Token, ExpectJoint, is_token_byte, items_from, onto_items, signs_of}
-use Rattle.pam_times.specs.OnePass.{IsLeft, PassesItem, before, is_inside, onward}
+use Rattle.pam_times.specs.inner.OnePass.{IsLeft, PassesItem, before, is_inside, onward}
 use Rattle.pam_times.specs.Reading.{FieldTexts, rule_of, semicolon_cut, and_then}
 use Rattle.pam_times.specs.declared.error.TimeFault.{TimeFault}
 use Rattle.pam_times.specs.declared.logic.Joint.{Joint}

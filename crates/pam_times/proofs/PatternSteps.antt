@@ -14,7 +14,8 @@ use Rattle.std.proofs.lemmas.List.{drop-drop, take-append-drop}
 use Rattle.std.proofs.lemmas.Bool.Decides.{Decides-eqb}
 use Rattle.std.proofs.lemmas.Slice.Eq.{bytes_eq-Decides, ends_is}
 use Rattle.std.proofs.Math.Seq.{take-append_seam, drop-append_seam}
-use Rattle.pam_times.specs.Pattern.{has_two_stars, is_star, matches, is_framed, Means, MeansAt}
+use Rattle.pam_times.specs.Pattern.{has_two_stars, is_star, matches, is_framed}
+use Rattle.pam_times.specs.inner.Pattern.{Means, MeansAt}
 
 both : (a b : Bool) → (a && b) ≡ true → (a ≡ true) × (b ≡ true)
 both true b h = (refl, h)

@@ -7,7 +7,7 @@ use Rattle.pam_text.specs.declared.source.SourceFault.{SourceFault}
 use Rattle.pam_text.specs.declared.source.SourceFault.TheVariants as source
 use Rattle.pam_times.specs.Error.{Tells, TellsFault, source_error}
 use Rattle.pam_times.specs.Reading.{rule_of, rules_in, rules_of, onto_rules}
-use Rattle.pam_times.specs.RuleLines.{with_line}
+use Rattle.pam_times.specs.inner.RuleLines.{with_line}
 use Rattle.pam_times.specs.Times.{Rule}
 use Rattle.pam_times.specs.declared.error.TimeError.{TimeError}
 use Rattle.pam_times.specs.declared.error.TimeFault.{TimeFault}

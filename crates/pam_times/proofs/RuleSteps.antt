@@ -2,16 +2,18 @@
 use Rattle.std.proofs.Common.{◌≡◌, ◌∙◌, ◌&&◌, ℕ, Bool, true, false, not, List, [], ◌∷◌, map, cond, Option, Some, None, Result, Ok, Err, refl}
 use Rattle.std.proofs.Common.{sym, ap, ap₂}
 use Rattle.std.specs.Option.{option_map_or}
-use Rattle.pam_times.specs.Checks.{cut_others, line_checked}
+use Rattle.pam_times.specs.inner.Checks.{cut_others, line_checked}
 use Rattle.pam_times.specs.Entry.{differ, entry_of, holds}
-use Rattle.pam_times.specs.Error.{Tells, error_at}
-use Rattle.pam_times.specs.Logic.{ItemOf, is_true, is_true_of, item_value, items_of, list_value}
+use Rattle.pam_times.specs.Error.{Tells}
+use Rattle.pam_times.specs.inner.Error.{error_at}
+use Rattle.pam_times.specs.Logic.{ItemOf, is_true, is_true_of, item_value, items_of}
+use Rattle.pam_times.specs.inner.Logic.{list_value}
 use Rattle.pam_times.specs.Login.{LoginText, without_dev}
 use Rattle.pam_times.specs.Pattern.{has_two_stars, matches}
 use Rattle.pam_times.specs.Reading.{FieldTexts, cut_fields, each, each_of, entry_or_fault, fields_of, full_fields, has_empty, is_blank_text}
 use Rattle.pam_times.specs.Reading.{and_then, is_netgroup, name_of, semicolon_cut}
 use Rattle.pam_times.specs.Reading.{names_of, onto_list, rule_from, rule_of, rule_of_fields, times_of, with_meaning}
-use Rattle.pam_times.specs.RuleLines.{fields_deny, name_holds, others_deny, time_holds, with_line}
+use Rattle.pam_times.specs.inner.RuleLines.{fields_deny, name_holds, others_deny, time_holds, with_line}
 use Rattle.pam_times.specs.Times.{NameList, TimeList, Rule, denies, names_hold, times_hold}
 use Rattle.pam_times.specs.declared.error.TimeError.{TimeError}
 use Rattle.pam_times.specs.declared.entry.TimeEntry.{TimeEntry}

@@ -66,10 +66,6 @@ days_of text = option_map day_set (mentions text)
 abbrev pub differ : Bool → Bool → Bool
 differ a b = not (beq a b)
 
--- for private contracts and proofs alone: a set of days, with those of a range toggled
-abbrev pub toggled : List Bool → DayRun → List Bool
-toggled days r = map (λ day. differ (slice_index_or days day false) (covers r day)) weekdays
-
 -- ---- minutes
 
 abbrev pub minute_of : Option ℕ → Option ℕ → Option ℕ

@@ -1,5 +1,5 @@
 -- Faults of the tables of time.conf(5).
-use Rattle.std.specs.Prelude.{◌≡◌, ℕ, Result, Err}
+use Rattle.std.specs.Prelude.{◌≡◌, Result, Err}
 use Rattle.pam_text.specs.declared.source.SourceFault.{SourceFault}
 use Rattle.pam_text.specs.declared.source.SourceFault.TheVariants as source
 use Rattle.pam_times.specs.declared.error.TimeError.{TimeError}
@@ -9,11 +9,6 @@ use Rattle.pam_times.specs.declared.error.TimeFault.TheVariants.{NulByte, TooLon
 -- a failed allocation has no line
 abbrev pub no_memory : TimeError
 no_memory = record { fault = Memory; line = 0 }
-
--- a fault of a line
-abbrev pub error_at : TimeFault → ℕ → TimeError
-error_at Memory line = no_memory
-error_at fault line = record { fault = fault; line = line }
 
 -- the fault of the bytes as a whole, of which one that is too long has no line
 abbrev pub source_error : SourceFault → TimeError

@@ -1,16 +1,13 @@
-pub mod Checks
 pub mod Entry
 pub mod Error
-pub mod Fact
 pub mod Faults
-pub mod Items
 pub mod Laws
 pub mod Logic
 pub mod Login
 pub mod Moments
-pub mod OnePass
 pub mod Pattern
 pub mod Reading
 pub mod RuleLines
 pub mod Stored
 pub mod Times
+pub mod inner

@@ -10,11 +10,6 @@ use Rattle.pam_times.specs.declared.logic.Joint.TheVariants.{First, And, Or}
 
 -- ---- the value of a list
 
--- the value up to an item, from the value before it and that of the item
-abbrev pub join : Joint → Bool → Bool → Bool
-join And before value = before && value
-join _ before value = before || value
-
 -- the operator before an item, whether it is inverted, and the meaning of its token
 abbrev pub ItemOf : Type 0 → Type 0
 ItemOf A = Joint × Bool × A
@@ -99,8 +94,3 @@ items_or_fault None = Err BadLogic
 -- the items of a text
 unfoldable pub items_of : List ℕ → Result (List (ItemOf (List ℕ))) TimeFault
 items_of text = items_or_fault (items_from (ExpectItem First) (signs_of text))
-
--- the value of a text, which is false if the text is no list
-abbrev pub list_value : (List ℕ → Bool) → Result (List (ItemOf (List ℕ))) TimeFault → Bool
-list_value f (Ok items) = is_true f items
-list_value f (Err fault) = false

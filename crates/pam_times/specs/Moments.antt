@@ -1,5 +1,5 @@
 -- The moment of a decision of pam_time(8): `YYYY-MM-DDTHH:MM`, or with `:SS`, or an instant in a time zone.
-use Rattle.std.specs.Prelude.{◌≡◌, ◌+◌, ◌-◌, ◌*◌, ◌==◌, ◌&&◌, ℕ, ◌<◌, ℤ, ◌+ℤ◌, ◌*ℤ◌, Bool, List, Option, Some, None, pos, length, nat_le}
+use Rattle.std.specs.Prelude.{◌≡◌, ◌+◌, ◌-◌, ◌*◌, ◌==◌, ◌&&◌, ℕ, ℤ, ◌+ℤ◌, ◌*ℤ◌, Bool, List, Option, Some, None, pos, length, nat_le}
 use Rattle.std.specs.Prelude.{slice_index, if◌then◌else◌}
 use Rattle.std.specs.Char.{is_ascii_digit}
 use Rattle.jiff.specs.Placed.{IsPosixZone}
@@ -48,10 +48,6 @@ Exist (Some p) = IsDate (pos p.year) (pos p.month) (pos p.day) × IsTime (pos p.
 abbrev pub HasParts : Option CivilParts → DateTime → Type 0
 HasParts None d = ⊥
 HasParts (Some p) d = IsYmd (pos p.year) (pos p.month) (pos p.day) d.date × IsHms (pos p.hour) (pos p.minute) (pos p.second) (pos 0) d.time
-
--- the year has four digits, and each other field two
-abbrev pub IsShort : CivilParts → Type 0
-IsShort p = (p.year < 10000) × (p.month < 100) × (p.day < 100) × (p.hour < 100) × (p.minute < 100) × (p.second < 100)
 
 -- ---- an instant on the clock of a POSIX zone rule
 

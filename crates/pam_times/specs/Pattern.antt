@@ -1,5 +1,5 @@
 -- time.conf(5): a name may have one wildcard, `*`, which matches any bytes.
-use Rattle.std.specs.Prelude.{◌≡◌, ℕ, ◌+◌, ◌==◌, ◌&&◌, ◌++◌, Bool, List, length, take, drop, position, nat_lt, nat_eq, count_by, Option, Some, None}
+use Rattle.std.specs.Prelude.{ℕ, ◌+◌, ◌==◌, ◌&&◌, Bool, List, length, take, drop, position, nat_lt, nat_eq, count_by}
 use Rattle.std.specs.List.{ends_with}
 use Rattle.std.specs.Option.{option_map_or}
 use Rattle.std.specs.Str.{bytes_eq}
@@ -18,11 +18,3 @@ is_framed front back text =
 -- whether a text matches a name
 abbrev pub matches : List ℕ → List ℕ → Bool
 matches name text = option_map_or (λ i. is_framed (take i name) (drop (i + 1) name) text) (position is_star name) (bytes_eq name text)
-
-abbrev pub MeansAt : Option ℕ → List ℕ → List ℕ → Type 0
-MeansAt None name text = name ≡ text
-MeansAt (Some i) name text = (filling : List ℕ) × (text ≡ take i name ++ (filling ++ drop (i + 1) name))
-
--- a text matches if it is the name, with some bytes in place of the first wildcard, if there is one
-abbrev pub Means : List ℕ → List ℕ → Type 0
-Means name text = MeansAt (position is_star name) name text

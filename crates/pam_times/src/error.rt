@@ -36,7 +36,7 @@ pub struct TimeError {
 
 impl TimeError {
     ghost use Rattle.std.specs.Prelude.{◌≡◌};
-    ghost use Rattle.pam_times.specs.Error.{error_at};
+    ghost use Rattle.pam_times.specs.inner.Error.{error_at};
 
     /// Returns a fault of this line. For `Memory` the line is 0.
     pub(crate) fn at(fault: TimeFault, line: u32) -> TimeError

@@ -3,7 +3,7 @@
 ghost use Rattle.std.specs.Prelude.{◌≡◌, false};
 ghost use Rattle.std.specs.Option.{option_map_or};
 ghost use Rattle.pam_times.specs.Entry.{entry_of, holds};
-ghost use Rattle.pam_times.specs.Fact.{meets};
+ghost use Rattle.pam_times.specs.inner.Fact.{meets};
 
 use crate::entry::TimeEntry;
 use crate::pattern;

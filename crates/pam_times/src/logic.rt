@@ -4,10 +4,11 @@ ghost use Rattle.std.specs.Prelude.{◌≡◌, ◌≤◌, length, IfSome, MatchO
 ghost use Rattle.std.specs.List.{prefix_len};
 ghost use Rattle.pam_codes.specs.Tokens.{is_blank};
 ghost use Rattle.pam_times.specs.Entry.{differ};
-ghost use Rattle.pam_times.specs.Fact.{meets};
-ghost use Rattle.pam_times.specs.Logic.{join, list_value, is_token_byte, signs_of, items_of};
-ghost use Rattle.pam_times.specs.OnePass.{IsLeft, before, onward};
-ghost use Rattle.pam_times.specs.Items.{HasNoItem, IsAfterNot, IsFirstItem, IsShorter, items_left, items_of_next};
+ghost use Rattle.pam_times.specs.inner.Fact.{meets};
+ghost use Rattle.pam_times.specs.Logic.{is_token_byte, signs_of, items_of};
+ghost use Rattle.pam_times.specs.inner.Logic.{join, list_value};
+ghost use Rattle.pam_times.specs.inner.OnePass.{IsLeft, before, onward};
+ghost use Rattle.pam_times.specs.inner.Items.{HasNoItem, IsAfterNot, IsFirstItem, IsShorter, items_left, items_of_next};
 
 use crate::fact::Fact;
 use pam_text::is_text_blank;

@@ -2,7 +2,8 @@
 
 ghost use Rattle.std.specs.Prelude.{◌≡◌, ◌↔◌, ◌+◌, ◌<◌, length, pos, IsOk, IsSome, IfOk, IfErr, IfSome, Some, Err};
 ghost use Rattle.jiff.specs.Words.{read_whole};
-ghost use Rattle.pam_times.specs.Moments.{has_marks, pair_at, seconds_of, parts_of, Exist, HasParts, IsShort, IsInstant, Shows};
+ghost use Rattle.pam_times.specs.Moments.{has_marks, pair_at, seconds_of, parts_of, Exist, HasParts, IsInstant, Shows};
+ghost use Rattle.pam_times.specs.inner.Moments.{IsShort};
 
 use jiff::Timestamp;
 use jiff::civil::DateTime;

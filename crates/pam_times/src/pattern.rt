@@ -2,7 +2,8 @@
 
 ghost use Rattle.std.specs.Prelude.{◌≡◌, ◌↔◌, ◌<◌, ◌==◌, length, position, nat_eq, nat_lt, count_by, IfSome, IsTrue};
 ghost use Rattle.std.specs.List.{ends_with};
-ghost use Rattle.pam_times.specs.Pattern.{is_star, has_two_stars, matches, Means};
+ghost use Rattle.pam_times.specs.Pattern.{is_star, has_two_stars, matches};
+ghost use Rattle.pam_times.specs.inner.Pattern.{Means};
 
 fn star_at(pattern: &[u8]) -> Option<usize>
     ensures value { result ≡ position is_star pattern.now }

@@ -5,7 +5,8 @@ ghost use Rattle.std.specs.List.{list_all};
 ghost use Rattle.std.specs.Option.{option_map};
 ghost use Rattle.pam_codes.specs.Tokens.{is_blank};
 ghost use Rattle.pam_times.specs.Reading.{is_netgroup, has_empty, cut_fields, fields_view, rule_of};
-ghost use Rattle.pam_times.specs.Checks.{cut_others, name_checked, entry_checked, fields_checked, first_fault, token_checked, list_checked, line_checked};
+ghost use Rattle.pam_times.specs.inner.Checks.{cut_others, name_checked, entry_checked, fields_checked, first_fault, token_checked, list_checked};
+ghost use Rattle.pam_times.specs.inner.Checks.{line_checked};
 
 use crate::entry::TimeEntry;
 use crate::error::TimeFault;

@@ -5,9 +5,10 @@ ghost use Rattle.pam_text.specs.Gives.{Gives};
 ghost use Rattle.pam_times.specs.Error.{Tells};
 ghost use Rattle.pam_times.specs.Login.{login_view};
 ghost use Rattle.pam_times.specs.Reading.{fields_view, rule_of};
-ghost use Rattle.pam_times.specs.RuleLines.{name_holds, time_holds, others_deny, with_line};
+ghost use Rattle.pam_times.specs.inner.RuleLines.{name_holds, time_holds, others_deny, with_line};
 ghost use Rattle.pam_times.specs.Times.{Rule, denies, answer_at};
-ghost use Rattle.pam_times.specs.Stored.{stored, AreStored};
+ghost use Rattle.pam_times.specs.Stored.{stored};
+ghost use Rattle.pam_times.specs.inner.Stored.{AreStored};
 
 use crate::error::TimeError;
 use crate::fact::Fact;

@@ -7,7 +7,7 @@ use Rattle.std.specs.Option.{option_map_or}
 use Rattle.clap.specs.Words.{Text}
 use Rattle.pam_codes.specs.Code.{all_codes}
 use Rattle.pam_codes.specs.Set.{codes_where, is_in}
-use Rattle.pam_codes.specs.SetBits.{codes_where-same, is_in-codes_where}
+use Rattle.pam_codes.specs.inner.SetBits.{codes_where-same, is_in-codes_where}
 use Rattle.pam_words.specs.Decisions.{code_named, names_code, set_named}
 
 -- the byte at which a text is split

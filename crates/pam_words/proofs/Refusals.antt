@@ -7,7 +7,8 @@ use Rattle.clap.specs.declared.error.ErrorKind.{ErrorKind}
 use Rattle.clap.specs.declared.error.ErrorKind.TheVariants.{OutOfMemory}
 use Rattle.pam_words.specs.Asked.{Refusal, RequestText}
 use Rattle.pam_words.specs.Request.{request_of}
-use Rattle.pam_words.specs.Wanted.{Answers, IsHelp, IsRead, IsRefusal, IsRefusalOf, Reads, RefusesBy}
+use Rattle.pam_words.specs.Wanted.{Answers, IsHelp, IsRead, IsRefusal, Reads, RefusesBy}
+use Rattle.pam_words.specs.inner.Wanted.{IsRefusalOf}
 use Rattle.pam_words.specs.declared.wanted.Request.{Request}
 use Rattle.pam_words.specs.declared.wanted.Usage.{Usage}
 use Rattle.pam_words.specs.declared.wanted.Usage.TheVariants as usage

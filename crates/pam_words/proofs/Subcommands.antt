@@ -5,7 +5,7 @@ use Rattle.clap.specs.Words.{AddsArg, AddsSubcommand, App, Rule, app_of, rule_of
 use Rattle.clap.specs.declared.builder.Arg.{Arg}
 use Rattle.clap.specs.declared.builder.Command.{Command}
 use Rattle.clap.specs.declared.builder.Command.TheViews.{out-Command}
-use Rattle.pam_words.specs.Building.{app_of_row, rule_of_row, with_args, with_commands}
+use Rattle.pam_words.specs.inner.Building.{app_of_row, rule_of_row, with_args, with_commands}
 use Rattle.pam_words.specs.declared.arguments.ArgRow.{ArgRow}
 use Rattle.pam_words.specs.declared.words.CommandRow.{CommandRow}
 

@@ -1,5 +1,4 @@
 pub mod Asked
-pub mod Building
 pub mod Candidates
 pub mod Decisions
 pub mod Request
@@ -7,3 +6,4 @@ pub mod Settings
 pub mod Values
 pub mod Wanted
 pub mod Words
+pub mod inner

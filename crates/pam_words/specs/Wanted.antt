@@ -1,17 +1,13 @@
 -- The command line: results of the library's functions, against the request that the words spell.
-use Rattle.std.specs.Prelude.{◌≡◌, ◌≢◌, ◌⊎◌, ⊤, Result, Ok, Err, List, [], codes, map, option_map}
+use Rattle.std.specs.Prelude.{◌≡◌, ◌⊎◌, ⊤, Result, Ok, Err, [], codes, map, option_map}
 use Rattle.std.specs.Option.{option_copied}
-use Rattle.clap.specs.Words.{IsAmong, Kinds, Row, Text, first_of, kind_of}
-use Rattle.clap.specs.declared.Error.{Error}
-use Rattle.clap.specs.declared.error.ErrorKind.TheVariants.{DisplayHelp, DisplayVersion, OutOfMemory}
+use Rattle.clap.specs.Words.{IsAmong, Kinds, Text, kind_of}
+use Rattle.clap.specs.declared.error.ErrorKind.TheVariants.{DisplayHelp, DisplayVersion}
 use Rattle.clap.specs.declared.error.ErrorKind.{ErrorKind}
 use Rattle.pam_settings.specs.Settings.{setting_view}
 use Rattle.pam_words.specs.Asked.{KnowledgeText, LoginText, MomentText, PartText, Refusal, RequestText, SourceText, TaskText}
 use Rattle.pam_words.specs.Asked as spec
-use Rattle.pam_words.specs.Values.{texts_of}
 use Rattle.pam_words.specs.declared.wanted.Candidate.{Candidate}
-use Rattle.pam_words.specs.declared.wanted.CheckFiles.{CheckFiles}
-use Rattle.pam_words.specs.declared.wanted.CompareFiles.{CompareFiles}
 use Rattle.pam_words.specs.declared.wanted.ConfSource.{ConfSource}
 use Rattle.pam_words.specs.declared.wanted.ConfSource.TheVariants.{Dir, Over, Conf, Root}
 use Rattle.pam_words.specs.declared.wanted.KnowledgeSource.{KnowledgeSource}
@@ -149,9 +145,6 @@ Gives view value (Err (usage.Help error)) = ⊥
 Gives view value (Err (usage.Words error)) = ⊥
 Gives view value (Err usage.NotUtf8) = ⊥
 
-abbrev pub GivesTask : Result TaskText Refusal → Result Task Usage → Type 0
-GivesTask = Gives task_view
-
 abbrev pub Answers : Result RequestText Refusal → Result Request Usage → Type 0
 Answers = Gives request_view
 
@@ -182,13 +175,6 @@ Reads asked (Ok request) = Answers asked (Ok request)
 abbrev pub IsHelp : ErrorKind → Type 0
 IsHelp kind = (kind ≡ DisplayHelp) ⊎ (kind ≡ DisplayVersion)
 
--- the refusal for an error of `clap`
-abbrev pub IsRefusalOf : Error → Usage → Type 0
-IsRefusalOf error usage.Memory = kind_of error ≡ OutOfMemory
-IsRefusalOf error (usage.Help e) = (kind_of e ≡ kind_of error) × IsHelp (kind_of e)
-IsRefusalOf error (usage.Words e) = (kind_of e ≡ kind_of error) × (IsHelp (kind_of e) → ⊥) × (kind_of e ≢ OutOfMemory)
-IsRefusalOf error _ = ⊥
-
 -- `clap` refuses the words if and only if they have a kind of error: with a text if help or the version is asked for, else as
 -- wrong words
 abbrev pub RefusesBy : Kinds → Result Request Usage → Type 0
@@ -196,18 +182,3 @@ RefusesBy kinds (Err usage.Memory) = ⊤
 RefusesBy kinds (Err (usage.Help error)) = IsAmong (kind_of error) kinds × IsHelp (kind_of error)
 RefusesBy kinds (Err (usage.Words error)) = IsAmong (kind_of error) kinds × (IsHelp (kind_of error) → ⊥)
 RefusesBy kinds _ = kinds ≡ []
-
--- for private contracts alone: what a check reads besides the configuration
-pub record IsGiven (rows : List Row) (given : CheckFiles) : Type 0 where
-  pub modules : map (λ s. s.now) given.modules.items ≡ texts_of (codes "modules") rows
-  pub access : option_copied given.tables.access ≡ first_of (codes "access") rows
-  pub time : option_copied given.tables.time ≡ first_of (codes "time") rows
-  pub groups : option_copied given.tables.groups ≡ first_of (codes "group") rows
-  pub facts : option_copied given.facts ≡ first_of (codes "facts") rows
-  pub accept : option_copied given.accept ≡ first_of (codes "accept") rows
-
--- the same, for a comparison
-pub record IsCompareGiven (rows : List Row) (given : CompareFiles) : Type 0 where
-  pub modules : map (λ s. s.now) given.modules.items ≡ texts_of (codes "modules") rows
-  pub facts : option_copied given.facts ≡ first_of (codes "facts") rows
-  pub returns : option_copied given.returns ≡ first_of (codes "returns") rows

@@ -9,8 +9,8 @@ ghost use Rattle.pam_words.specs.Request.{access_task, decide_task, request_of, 
 ghost use Rattle.pam_words.specs.Decisions.{code_named as code_of_name, codes_named as codes_of_names};
 ghost use Rattle.pam_words.specs.Values.{codes_of_rows, is_on as is_on_in, output_of};
 ghost use Rattle.pam_words.specs.Values.{instant_of, kind_of_rows, login_of, moment_of, seconds_of, source_of, text_of, texts_of as texts_in};
-ghost use Rattle.pam_words.specs.Wanted.{Answers, Gives, GivesTask, IsRead, IsRefusal, IsRefusalOf, Reads, RefusesBy};
-ghost use Rattle.pam_words.specs.Wanted.{login_view, moment_view, source_view};
+ghost use Rattle.pam_words.specs.Wanted.{Answers, Gives, IsRead, IsRefusal, Reads, RefusesBy, login_view, moment_view, source_view};
+ghost use Rattle.pam_words.specs.inner.Wanted.{GivesTask, IsRefusalOf};
 ghost use Rattle.pam_words.specs.Words.{pamcheck_app};
 
 mod candidates;

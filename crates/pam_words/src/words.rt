@@ -3,7 +3,7 @@
 ghost use Rattle.std.specs.Prelude.{◌≡◌, false};
 ghost use Rattle.clap.specs.Words.{App, app_of, rule_of};
 ghost use Rattle.clap.specs.declared.builder.Command.TheViews.{out-Command as fields_of};
-ghost use Rattle.pam_words.specs.Building.{IsBuilt, app_of_row, rule_of_row, with_args as with_rules, with_commands as with_apps};
+ghost use Rattle.pam_words.specs.inner.Building.{IsBuilt, app_of_row, rule_of_row, with_args as with_rules, with_commands as with_apps};
 ghost use Rattle.pam_words.specs.Words.{with_graphs, with_hosts, with_listings, with_lookups, with_stacks};
 ghost use Rattle.pam_words.specs.Words.{bare_app, pamcheck_app, version};
 

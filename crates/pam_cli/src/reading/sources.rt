@@ -2,8 +2,8 @@
 
 ghost use Rattle.std.specs.Prelude.{◌≡◌, codes, false, IfErr, IfOk, IsOkUnless, MatchResult, OnOk, map, string_bytes};
 ghost use Rattle.std.specs.Path.{path_join};
-ghost use Rattle.pam_cli.specs.Sources.{AddsCandidate, AddsFile, AddsFiles, HasCandidates, HasNames, IsInSource, IsOfFolder, IsOfRoot};
-ghost use Rattle.pam_cli.specs.Sources.{IsOneFile, IsOver, IsRead, IsRootFile, IsStart, IsUnread, is_given};
+ghost use Rattle.pam_cli.specs.Sources.{IsInSource, IsOfFolder, IsOfRoot, IsOneFile, IsOver, IsRead, IsRootFile, IsUnread, is_given};
+ghost use Rattle.pam_cli.specs.inner.Sources.{AddsCandidate, AddsFile, AddsFiles, HasCandidates, HasNames, IsStart};
 ghost use Rattle.pam_words.specs.Wanted.{candidate_view};
 
 use crate::reading::files::{

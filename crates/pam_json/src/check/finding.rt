@@ -8,7 +8,7 @@ ghost use Rattle.pam_parts.specs.CheckNames.{names_view, word_of};
 ghost use Rattle.pam_report.specs.TablePaths.{table_paths_view};
 ghost use Rattle.pam_json.specs.Check.{finding_json, line_if_any, met_unless, other_json, service_count, services_array, table_json, unused_json};
 ghost use Rattle.pam_json.specs.Header.{kind_name};
-ghost use Rattle.pam_json.specs.Written.{finding_value};
+ghost use Rattle.pam_json.specs.inner.Written.{finding_value};
 
 use super::values::FindingValue;
 use crate::header::{name_in, number_in};

@@ -196,7 +196,7 @@ pub(super) enum FindingValue<'x> {
 }
 
 impl Written for FindingValue<'_> {
-    ghost use Rattle.pam_json.specs.Written.{finding_value};
+    ghost use Rattle.pam_json.specs.inner.Written.{finding_value};
 
     ghost value = { finding_value };
 

@@ -7,8 +7,8 @@ ghost use Rattle.pam_json_lines.specs.Line.{line};
 ghost use Rattle.pam_json.specs.Compare.{arguments_json, change_if_any, change_json, changes_json, decisions_json, grave_json};
 ghost use Rattle.pam_json.specs.Compare.{not_known_members, pair_json, same_json, tells_json};
 ghost use Rattle.pam_json.specs.Compare.{modules_array};
-ghost use Rattle.pam_json.specs.Heads.{head_view};
-ghost use Rattle.pam_json.specs.Written.{change_value};
+ghost use Rattle.pam_json.specs.inner.Heads.{head_view};
+ghost use Rattle.pam_json.specs.inner.Written.{change_value};
 
 use super::stack::Head;
 use super::values::ChangeValue;

@@ -5,7 +5,7 @@ ghost use Rattle.pam_codes.specs.Out.{Writes};
 ghost use Rattle.pam_json_lines.specs.Line.{line};
 ghost use Rattle.pam_report.specs.ReplyViews.{compare_view};
 ghost use Rattle.pam_json.specs.Compare.{as_members, pair_at, refused_json, stack_json};
-ghost use Rattle.pam_json.specs.Heads.{head_view};
+ghost use Rattle.pam_json.specs.inner.Heads.{head_view};
 
 use super::pair::put_pair;
 use super::values::ChangeValue;

@@ -86,7 +86,7 @@ pub(super) enum ChangeValue<'x> {
 }
 
 impl Written for ChangeValue<'_> {
-    ghost use Rattle.pam_json.specs.Written.{change_value};
+    ghost use Rattle.pam_json.specs.inner.Written.{change_value};
 
     ghost value = { change_value };
 

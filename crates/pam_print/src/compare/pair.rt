@@ -4,7 +4,7 @@ ghost use Rattle.std.specs.List.{flat_map};
 ghost use Rattle.pam_codes.specs.Out.{Writes};
 ghost use Rattle.pam_print.specs.Compare.{argument_line, change_if_any, change_line, changes_text, decisions_text, grave_text};
 ghost use Rattle.pam_print.specs.Compare.{not_known_line, pair_text, same_line, tells_text};
-ghost use Rattle.pam_print.specs.CompareParts.{head_view};
+ghost use Rattle.pam_print.specs.inner.CompareParts.{head_view};
 
 use super::parts::{Head, Part, put_parts};
 use crate::decide::name_of;

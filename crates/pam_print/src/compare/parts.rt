@@ -4,7 +4,7 @@ ghost use Rattle.std.specs.Prelude.{Some, option_map};
 ghost use Rattle.std.specs.List.{flat_map};
 ghost use Rattle.pam_codes.specs.Out.{Writes};
 ghost use Rattle.pam_print.specs.Compare.{fault_text, head_text, only_count, place_text, side_text};
-ghost use Rattle.pam_print.specs.CompareParts.{head_view, part_text};
+ghost use Rattle.pam_print.specs.inner.CompareParts.{head_view, part_text};
 ghost use Rattle.pam_report.specs.ReplyViews.{side_files};
 
 use super::asked::put_all_asked;

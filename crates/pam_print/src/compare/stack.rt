@@ -3,7 +3,7 @@
 ghost use Rattle.pam_codes.specs.Out.{Writes};
 ghost use Rattle.pam_report.specs.ReplyViews.{compare_view};
 ghost use Rattle.pam_print.specs.Compare.{as_line, pair_at, refused_line, stack_text};
-ghost use Rattle.pam_print.specs.CompareParts.{head_view};
+ghost use Rattle.pam_print.specs.inner.CompareParts.{head_view};
 
 use super::pair::put_pair;
 use super::parts::{Head, Part, put_parts};

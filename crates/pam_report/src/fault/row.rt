@@ -15,7 +15,7 @@ pub(super) struct Row {
 impl Row {
     ghost use Rattle.std.specs.Prelude.{◌≡◌};
     ghost use Rattle.pam_report.specs.FaultTable as spec;
-    ghost use Rattle.pam_report.specs.FaultViews.{row_view};
+    ghost use Rattle.pam_report.specs.inner.FaultViews.{row_view};
 
     pub fn of(name: &'static str, status: u8) -> Row
         requires { status ≤ 6 }

@@ -2,7 +2,7 @@
 
 ghost use Rattle.std.specs.Prelude.{◌≡◌};
 ghost use Rattle.pam_report.specs.FaultTable as spec;
-ghost use Rattle.pam_report.specs.FaultViews.{row_view};
+ghost use Rattle.pam_report.specs.inner.FaultViews.{row_view};
 
 use super::row::Row;
 use crate::inputs::InputError;

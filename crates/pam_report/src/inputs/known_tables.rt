@@ -3,7 +3,7 @@
 ghost use Rattle.std.specs.Prelude.{◌≡◌, None, option_map};
 ghost use Rattle.pam_known.specs.Tables.{tables_view, timed_view};
 ghost use Rattle.pam_report.specs.Inputs.{tables_given as tables_in, timed as timed_text};
-ghost use Rattle.pam_report.specs.Known.{with_time};
+ghost use Rattle.pam_report.specs.inner.Known.{with_time};
 
 use crate::inputs::given::{slice_given, table_bytes};
 use crate::inputs::{Inputs, TableFile};

@@ -5,6 +5,7 @@ ghost use Rattle.std.specs.List.{list_any};
 ghost use Rattle.std.specs.Option.{option_map};
 ghost use Rattle.std.specs.Str.{bytes_eq};
 ghost use Rattle.pam_report.specs.Accepting as spec;
+ghost use Rattle.pam_report.specs.inner.Accepting as inner;
 ghost use Rattle.pam_report.specs.Fault.{file_at};
 ghost use Rattle.pam_report.specs.TablePaths.{table_paths_view};
 
@@ -193,7 +194,7 @@ fn list_reported(
     reported: Reported<'_>,
     accept: &AcceptFile,
 ) -> Result<Listed, AllocError>
-    ensures { IfOk result (spec.IsListed accept.now files.now reported.entry.services.now reported.entry.found.now
+    ensures { IfOk result (inner.IsListed accept.now files.now reported.entry.services.now reported.entry.found.now
         (table_paths_view reported.entry.paths) reported.entry.tables.now) }
 {
     let names = names_of(alloc, files, reported.services)?;
@@ -232,7 +233,7 @@ pub(super) fn list_findings(
     paths: TablePaths<'_>,
     accept: &AcceptFile,
 ) -> Result<Listed, AllocError>
-    ensures { IfOk result (spec.IsListed accept.now files.now report.now.services report.now.found.entries (table_paths_view paths.entry)
+    ensures { IfOk result (inner.IsListed accept.now files.now report.now.services report.now.found.entries (table_paths_view paths.entry)
         (spec.table_findings tables.now.found)) }
 {
     let found = entries(alloc, &report.found)?;

@@ -3,7 +3,8 @@
 ghost use Rattle.std.specs.Prelude.{◌≡◌, [], IfOk, IfErr, MatchResult, option_map, true, unwrap_or};
 ghost use Rattle.std.specs.Option.{option_copied, option_map_or};
 ghost use Rattle.pam_host.specs.Levels.{level_of};
-ghost use Rattle.pam_report.specs.Check.{IsAccepted, IsCheck, IsReported, IsUnaccepted, IsUnreported};
+ghost use Rattle.pam_report.specs.Check.{IsCheck};
+ghost use Rattle.pam_report.specs.inner.Check.{IsAccepted, IsReported, IsUnaccepted, IsUnreported};
 ghost use Rattle.pam_report.specs.Finds.{Finds};
 ghost use Rattle.pam_report.specs.Inputs.{host_tables_given};
 ghost use Rattle.pam_table_check.specs.Report.{IsTableReport};

@@ -4,7 +4,8 @@ ghost use Rattle.std.specs.Prelude.{◌≡◌, IfOk, MatchResult, Ok, is_some, m
 ghost use Rattle.std.specs.Option.{option_copied};
 ghost use Rattle.pam_changes.specs.Changes.{AreChanges};
 ghost use Rattle.pam_changes.specs.Sides.{side_view};
-ghost use Rattle.pam_report.specs.Compare.{IsCompare, IsFound, IsReturnsFault, IsUnfound, are_named as are_named_in, lines_of, names_of, side_of, sides_of};
+ghost use Rattle.pam_report.specs.Compare.{IsCompare, are_named as are_named_in, lines_of, names_of, side_of, sides_of};
+ghost use Rattle.pam_report.specs.inner.Compare.{IsFound, IsReturnsFault, IsUnfound};
 ghost use Rattle.pam_report.specs.Finds.{Finds};
 ghost use Rattle.pam_report.specs.Inputs.{no_files, returns_given};
 ghost use Rattle.pam_report.specs.Memory.{WantsOnly, of_compare};

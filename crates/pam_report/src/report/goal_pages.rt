@@ -11,8 +11,9 @@ ghost use Rattle.pam_paths.specs.Listing.{Allowance, IsListingAfter, IsListingBe
 ghost use Rattle.pam_paths.specs.Pages.{after, before};
 ghost use Rattle.pam_paths.specs.Paths.{path_through};
 ghost use Rattle.pam_report.specs.Finds.{Finds};
-ghost use Rattle.pam_report.specs.Memory.{WantsWork};
-ghost use Rattle.pam_report.specs.PageView.{IsRefused, IsSide, ListsPaths, ListsWalks, Renders, page_view};
+ghost use Rattle.pam_report.specs.inner.Memory.{WantsWork};
+ghost use Rattle.pam_report.specs.PageView.{Renders};
+ghost use Rattle.pam_report.specs.inner.PageView.{IsRefused, IsSide, ListsPaths, ListsWalks, page_view};
 ghost use Rattle.pam_report.specs.Paths.{IsAskingPage, IsMeetingPage, IsProgramOf};
 ghost use Rattle.pam_words.specs.declared.wanted.PagePart.TheVariants.{After, Before, Whole};
 

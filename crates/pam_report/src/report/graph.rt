@@ -8,8 +8,9 @@ ghost use Rattle.pam_paths.specs.Listing.{Allowance};
 ghost use Rattle.pam_report.specs.Answer.{stack_at};
 ghost use Rattle.pam_report.specs.Finds.{Finds};
 ghost use Rattle.pam_report.specs.Graph.{IsGraphReply, IsGraphReplyOf, has_too_many};
-ghost use Rattle.pam_report.specs.GraphViews.{FindsGraph};
-ghost use Rattle.pam_report.specs.Memory.{WantsOnly, WantsWork, of_paths, paths_tables};
+ghost use Rattle.pam_report.specs.inner.GraphViews.{FindsGraph};
+ghost use Rattle.pam_report.specs.Memory.{WantsOnly, of_paths, paths_tables};
+ghost use Rattle.pam_report.specs.inner.Memory.{WantsWork};
 ghost use Rattle.pam_settings.specs.Settings.{setting_view};
 
 use super::known_stack::{KnownStack, StackRequest, known_stack};

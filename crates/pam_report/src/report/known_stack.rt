@@ -8,7 +8,7 @@ ghost use Rattle.pam_known.specs.Knowledge.{knowledge};
 ghost use Rattle.pam_known.specs.Reads.{tables_read};
 ghost use Rattle.pam_known.specs.Tables.{tables_view, timed_view};
 ghost use Rattle.pam_report.specs.Inputs.{tables_given as tables_in, there_given};
-ghost use Rattle.pam_report.specs.Known.{FindsKnown, FindsStack, IsFaultOfRead, with_time};
+ghost use Rattle.pam_report.specs.inner.Known.{FindsKnown, FindsStack, IsFaultOfRead, with_time};
 ghost use Rattle.pam_report.specs.KnownStack.{known_at as stack_at, known_items, known_stack as stack_known, known_then as stack_then};
 ghost use Rattle.pam_report.specs.Memory.{IsWanting, of_paths, paths_tables};
 ghost use Rattle.pam_report.specs.Settings.{with_settings as settled};

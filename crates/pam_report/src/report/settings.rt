@@ -7,7 +7,7 @@ ghost use Rattle.std.specs.Str.{bytes_eq};
 ghost use Rattle.pam_conf.specs.ItemsOf.{module_text};
 ghost use Rattle.pam_conf.specs.Stack.{module_count};
 ghost use Rattle.pam_facts.specs.Answers.{Allows};
-ghost use Rattle.pam_report.specs.Known.{AreCodesOf, FindsStack};
+ghost use Rattle.pam_report.specs.inner.Known.{AreCodesOf, FindsStack};
 ghost use Rattle.pam_report.specs.KnownStack.{KnownItems};
 ghost use Rattle.pam_report.specs.Settings.{codes_set, file_of, is_place as is_place_of, names_module as names_module_of, names_one as names_one_of};
 ghost use Rattle.pam_report.specs.Settings.{set_at as set_at_number, sets as sets_codes, sets_at as sets_at_number, with_settings as with_settings_of};

@@ -3,7 +3,8 @@
 ghost use Rattle.std.specs.Prelude.{◌≡◌, IfErr, Ok, Result, is_some, true, false};
 ghost use Rattle.jiff.specs.Types.{DateTime as CivilTime};
 ghost use Rattle.pam_times.specs.Login.{login_view};
-ghost use Rattle.pam_report.specs.Answer.{FindsTime, login_at, timed, with_rules};
+ghost use Rattle.pam_report.specs.Answer.{login_at, timed, with_rules};
+ghost use Rattle.pam_report.specs.inner.Answer.{FindsTime};
 ghost use Rattle.pam_report.specs.Finds.{Finds};
 ghost use Rattle.pam_report.specs.Memory.{IsWanting, WantsOnly, of_tables};
 ghost use Rattle.pam_report.specs.Moments.{IsGivenMoment, IsMoment};

@@ -5,7 +5,8 @@ ghost use Rattle.clap.specs.Words.{found_of, rows_of};
 ghost use Rattle.pam_words.specs.Request.{check_task};
 ghost use Rattle.pam_words.specs.Values.{level_named as level_of_name, level_of, source_or_root as source_or_root_of};
 ghost use Rattle.pam_words.specs.Values.{names_source as has_source};
-ghost use Rattle.pam_words.specs.Wanted.{GivesTask, IsGiven, source_view};
+ghost use Rattle.pam_words.specs.Wanted.{source_view};
+ghost use Rattle.pam_words.specs.inner.Wanted.{GivesTask, IsGiven};
 
 use crate::reading::knowledge::{folders, has, tables};
 use crate::reading::{source, texts, value};

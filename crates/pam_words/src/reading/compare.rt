@@ -4,7 +4,8 @@ ghost use Rattle.std.specs.Prelude.{◌≡◌, IfOk, codes, option_map};
 ghost use Rattle.clap.specs.Words.{found_of, rows_of};
 ghost use Rattle.pam_words.specs.Request.{compare_task};
 ghost use Rattle.pam_words.specs.Values.{kind_if_named as kind_in, side_in, side_of};
-ghost use Rattle.pam_words.specs.Wanted.{GivesTask, IsCompareGiven, source_view};
+ghost use Rattle.pam_words.specs.Wanted.{source_view};
+ghost use Rattle.pam_words.specs.inner.Wanted.{GivesTask, IsCompareGiven};
 
 use crate::reading::knowledge::folders;
 use crate::reading::settings::settings;

@@ -4,7 +4,7 @@ ghost use Rattle.std.specs.Prelude.{◌≡◌};
 ghost use Rattle.clap.specs.Words.{found_of, rows_of};
 ghost use Rattle.pam_words.specs.Request.{graph_task};
 ghost use Rattle.pam_words.specs.Values.{format_named as format_of_name, format_of};
-ghost use Rattle.pam_words.specs.Wanted.{GivesTask};
+ghost use Rattle.pam_words.specs.inner.Wanted.{GivesTask};
 
 use crate::reading::knowledge::knowledge;
 use crate::reading::{stack, value};

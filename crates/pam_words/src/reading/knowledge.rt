@@ -7,7 +7,8 @@ ghost use Rattle.pam_words.specs.Request.{knowledge_of};
 ghost use Rattle.pam_words.specs.Values.{has as has_value, lacks_user as lacks_user_in, texts_of};
 ghost use Rattle.pam_words.specs.Request.{moment_if_needed as moment_if_needed_in, outcomes_task};
 ghost use Rattle.pam_words.specs.Values.{needs_moment as needs_moment_in};
-ghost use Rattle.pam_words.specs.Wanted.{Gives, GivesTask, knowledge_view, moment_view};
+ghost use Rattle.pam_words.specs.Wanted.{Gives, knowledge_view, moment_view};
+ghost use Rattle.pam_words.specs.inner.Wanted.{GivesTask};
 
 use crate::reading::settings::settings;
 use crate::reading::{login, moment, stack, value, values};

@@ -5,7 +5,8 @@ ghost use Rattle.std.specs.Option.{option_and_then};
 ghost use Rattle.clap.specs.Words.{found_of, rows_of};
 ghost use Rattle.pam_words.specs.Request.{paths_task};
 ghost use Rattle.pam_words.specs.Values.{asks_of, limit_of, one_filter, part_of};
-ghost use Rattle.pam_words.specs.Wanted.{GivesTask, part_view};
+ghost use Rattle.pam_words.specs.Wanted.{part_view};
+ghost use Rattle.pam_words.specs.inner.Wanted.{GivesTask};
 
 use crate::number::{DEFAULT_LIMIT, number_in};
 use crate::reading::decisions::decisions;

@@ -4,7 +4,7 @@ ghost use Rattle.std.specs.Prelude.{◌≡◌};
 ghost use Rattle.clap.specs.Words.{found_of, rows_of};
 ghost use Rattle.pam_words.specs.Request.{show_task};
 ghost use Rattle.pam_words.specs.Values.{release_named as release_of_name, release_of};
-ghost use Rattle.pam_words.specs.Wanted.{GivesTask};
+ghost use Rattle.pam_words.specs.inner.Wanted.{GivesTask};
 
 use crate::reading::{output, stack, value};
 use crate::wanted::{OutputForm, ReleaseName, Task, Usage};

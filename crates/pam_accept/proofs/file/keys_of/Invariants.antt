@@ -1,6 +1,6 @@
 -- the keys of the lines so far
 use Rattle.std.proofs.Common.{map, take}
-use Rattle.pam_accept.specs.Views.{HasKeys}
+use Rattle.pam_accept.specs.inner.Views.{HasKeys}
 use Rattle.pam_accept.proofs.file.keys_of.Given as goal
 
 abbrev pub invariant-loop-line : goal.invariant-loop-line

@@ -1,6 +1,7 @@
 -- the lines that are read, and those that are left
 use Rattle.std.proofs.Common.{◌≡◌, ◌+◌, drop, length, map}
-use Rattle.pam_accept.specs.Lines.{before_lines, lines_from, physical_lines}
+use Rattle.pam_accept.specs.Lines.{lines_from, physical_lines}
+use Rattle.pam_accept.specs.inner.Lines.{before_lines}
 use Rattle.pam_accept.specs.Views.{line_view}
 use Rattle.pam_accept.proofs.lines.lines_in.Given as goal
 

@@ -2,7 +2,7 @@ use Rattle.std.proofs.Common.{◌+◌, ◌++◌, ◌∷◌, ◌∙◌, ◌||◌,
 use Rattle.std.proofs.lemmas.List.{drop_all, drop_more}
 use Rattle.pam_graph.specs.declared.node.Node.{Node}
 use Rattle.pam_graph.specs.Order.{AreNodes}
-use Rattle.pam_check.specs.Marks.{has_number, mark_of}
+use Rattle.pam_check.specs.inner.Marks.{has_number, mark_of}
 use Rattle.pam_check.proofs.MarkLists.{marks-all, marks-more, marks-none}
 use Rattle.pam_check.proofs.asked.marks_of.Goals as goal
 

@@ -1,7 +1,7 @@
 -- the marks, and the modules of the nodes that are left, are those of all nodes
 use Rattle.std.proofs.Common.{◌≡◌, ◌≤◌, ◌||◌, List, ℕ, drop}
 use Rattle.pam_graph.specs.Order.{AreNodes}
-use Rattle.pam_check.specs.Marks.{has_number, mark_of}
+use Rattle.pam_check.specs.inner.Marks.{has_number, mark_of}
 use Rattle.pam_check.proofs.asked.marks_of.Given as goal
 
 abbrev pub invariant-loop-node : goal.invariant-loop-node

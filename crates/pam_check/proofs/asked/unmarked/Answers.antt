@@ -1,5 +1,5 @@
 use Rattle.std.proofs.Common.{◌∙◌, ap, not, refl, sym}
-use Rattle.pam_check.specs.Marks.{mark_of}
+use Rattle.pam_check.specs.inner.Marks.{mark_of}
 use Rattle.pam_check.proofs.Unmarked.{more-fails, more-passes}
 use Rattle.pam_check.proofs.asked.unmarked.Goals.{then-not-is_marked+in_ok-push, else-not-is_marked}
 use Rattle.pam_check.proofs.asked.unmarked.Goals as goal

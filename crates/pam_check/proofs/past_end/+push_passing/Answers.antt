@@ -2,7 +2,7 @@ use Rattle.std.proofs.Common.{◌≡◌, ◌+◌, ◌-◌, length, ap, ◌∙◌
 use Rattle.pam_conf.specs.Stack.{SubList}
 use Rattle.pam_conf.specs.ItemsOf.{items_of}
 use Rattle.pam_paths.specs.Known.{may_answer}
-use Rattle.pam_check.specs.PastEnd.{passes}
+use Rattle.pam_check.specs.inner.PastEnd.{passes}
 use Rattle.pam_check.proofs.Walked.{where-end, where-module, where-sub}
 use Rattle.pam_check.proofs.past_end.+push_passing.Goals.{in-Module+in_ok-push_if_passing-in-Module, in-Sub+in_ok-push_passing-in-Sub}
 use Rattle.pam_check.proofs.past_end.+push_passing.Goals as goal

@@ -2,7 +2,7 @@
 use Rattle.std.proofs.Common.{◌≡◌, ◌+◌, ◌++◌, drop, length}
 use Rattle.pam_conf.specs.ItemsOf.{items_of}
 use Rattle.pam_paths.specs.Known.{may_answer}
-use Rattle.pam_check.specs.PastEnd.{numbers_where, passes}
+use Rattle.pam_check.specs.inner.PastEnd.{numbers_where, passes}
 use Rattle.pam_check.proofs.past_end.+push_passing.Given as goal
 
 abbrev pub decreases-push_passing : goal.decreases-push_passing

@@ -2,7 +2,7 @@ use Rattle.std.proofs.Common.{◌∙◌, ◌++◌, List, ℕ, ap}
 use Rattle.pam_conf.specs.ItemsOf.{items_of}
 use Rattle.pam_conf.specs.Stack.{Items}
 use Rattle.pam_paths.specs.Known.{may_answer}
-use Rattle.pam_check.specs.PastEnd.{numbers_where, passes}
+use Rattle.pam_check.specs.inner.PastEnd.{numbers_where, passes}
 use Rattle.pam_check.proofs.Passing.{exactly-jumping}
 use Rattle.pam_check.proofs.past_end.passing.Goals as goal
 

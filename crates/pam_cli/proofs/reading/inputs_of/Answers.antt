@@ -1,6 +1,7 @@
 use Rattle.std.proofs.Common.{◌≡◌, ℕ, List, Result, Ok, Err, map, subst, sym}
 use Rattle.clap.specs.Words.{Text}
-use Rattle.pam_cli.specs.Reading.{IsKnowledgeReading, IsReading}
+use Rattle.pam_cli.specs.Reading.{IsReading}
+use Rattle.pam_cli.specs.inner.Reading.{IsKnowledgeReading}
 use Rattle.pam_conf.specs.declared.rule.Kind.{Kind}
 use Rattle.pam_report.specs.declared.inputs.InputError.{InputError}
 use Rattle.pam_report.specs.declared.inputs.Inputs.{Inputs}

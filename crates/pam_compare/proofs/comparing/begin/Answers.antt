@@ -4,13 +4,14 @@ use Rattle.pam_compare.specs.declared.held.HeldAfter.{HeldAfter}
 use Rattle.pam_compare.specs.declared.held.HeldAnswer.{HeldAnswer}
 use Rattle.pam_compare.specs.declared.nodes.Nodes.{Nodes}
 use Rattle.pam_compare.specs.declared.situation.Situation.{Situation}
-use Rattle.pam_compare.specs.Ways.{IsWayTo}
+use Rattle.pam_compare.specs.inner.Ways.{IsWayTo}
 use Rattle.pam_compare.proofs.Reaching.{way-begun}
 use Rattle.pam_dispatch.specs.Flat.{rest_of, runs_of}
 use Rattle.pam_dispatch.specs.Runs.{Runs}
-use Rattle.pam_compare.specs.Held.{Holds, held_in}
-use Rattle.pam_compare.specs.HeldLists.{IsListed}
-use Rattle.pam_compare.specs.Nodes.{AreHeldAt, IsMet, list_of}
+use Rattle.pam_compare.specs.Held.{Holds}
+use Rattle.pam_compare.specs.inner.Held.{held_in}
+use Rattle.pam_compare.specs.inner.HeldLists.{IsListed}
+use Rattle.pam_compare.specs.inner.Nodes.{AreHeldAt, IsMet, list_of}
 use Rattle.pam_compare.proofs.Growing.{nothing-at}
 use Rattle.pam_compare.proofs.Lists.{listed-none}
 use Rattle.pam_compare.proofs.Holding.{holds-equal}

@@ -1,5 +1,5 @@
 use Rattle.pam_compare.specs.declared.change.Change.TheVariants.{Admits, Refuses, Tells}
-use Rattle.pam_compare.specs.Ways.{AreEnds}
+use Rattle.pam_compare.specs.inner.Ways.{AreEnds}
 use Rattle.pam_compare.proofs.Agreeing.{shown}
 use Rattle.pam_compare.proofs.comparing.changes_of.Goals as goal
 

@@ -6,7 +6,7 @@ use Rattle.pam_compare.specs.declared.change.Change.{Change}
 use Rattle.pam_compare.specs.declared.change.Change.TheVariants.{Admits, Refuses, Tells}
 use Rattle.pam_compare.specs.declared.witness.Witness.{Witness}
 use Rattle.pam_compare.specs.Comparison.{IsShown, NeverChanges}
-use Rattle.pam_compare.specs.Naming.{IsPossible, by_code}
+use Rattle.pam_compare.specs.inner.Naming.{IsPossible, by_code}
 use Rattle.pam_compare.specs.declared.comparing.TheConstants.{MAX_SITUATIONS}
 use Rattle.pam_compare.proofs.Agreeing.{never-any}
 use Rattle.pam_compare.proofs.Many.{many}

@@ -2,7 +2,7 @@ use Rattle.std.proofs.Common.{◌≡◌, ◌<◌, ◌∙◌, ℕ, Some, arith, i
 use Rattle.std.specs.Prelude.{slice_get}
 use Rattle.std.proofs.lemmas.Bool.{cases_lt}
 use Rattle.std.proofs.lemmas.Option.{slice_get_within}
-use Rattle.pam_compare.specs.Ways.{AreEnds}
+use Rattle.pam_compare.specs.inner.Ways.{AreEnds}
 use Rattle.pam_compare.proofs.Growing.{kept-back, met-kept, nothing, visited-kept}
 use Rattle.pam_compare.proofs.Meeting.{all-searched}
 use Rattle.pam_compare.proofs.comparing.search.Goals as goal

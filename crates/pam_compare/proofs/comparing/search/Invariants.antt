@@ -1,8 +1,8 @@
 use Rattle.std.proofs.Common.{◌≡◌, ◌<◌, ℕ, Some}
 use Rattle.std.specs.Prelude.{slice_get}
 use Rattle.pam_compare.specs.declared.situation.Situation.{Situation}
-use Rattle.pam_compare.specs.Nodes.{AreNodes, IsBegun, IsVisited}
-use Rattle.pam_compare.specs.Ways.{AreEnds, AreReached}
+use Rattle.pam_compare.specs.inner.Nodes.{AreNodes, IsBegun, IsVisited}
+use Rattle.pam_compare.specs.inner.Ways.{AreEnds, AreReached}
 use Rattle.pam_compare.proofs.comparing.search.Given as goal
 
 abbrev pub invariant-loop-index : goal.invariant-loop-index

@@ -2,11 +2,11 @@ use Rattle.std.proofs.Common.{◌∙◌, ℕ, Option, ap, inl, inr, subst, sym}
 use Rattle.std.specs.Prelude.{slice_get}
 use Rattle.pam_compare.specs.declared.change.Change.{Change}
 use Rattle.pam_compare.specs.declared.situation.Situation.{Situation}
-use Rattle.pam_compare.specs.HeldLists.{IsListed}
-use Rattle.pam_compare.specs.Naming.{by_name}
-use Rattle.pam_compare.specs.Nodes.{IsAt, IsDone, IsNoted, list_of, stop_of}
+use Rattle.pam_compare.specs.inner.HeldLists.{IsListed}
+use Rattle.pam_compare.specs.inner.Naming.{by_name}
+use Rattle.pam_compare.specs.inner.Nodes.{IsAt, IsDone, IsNoted, list_of, stop_of}
 use Rattle.pam_compare.proofs.Growing.{at-kept, nodes-same, same-some}
-use Rattle.pam_compare.specs.Ways.{AreEnds}
+use Rattle.pam_compare.specs.inner.Ways.{AreEnds}
 use Rattle.pam_compare.proofs.Reaching.{ends-kept, way-at}
 use Rattle.pam_compare.proofs.comparing.visit.Goals as goal
 

@@ -4,7 +4,7 @@ use Rattle.pam_codes.specs.Code.{all_codes}
 use Rattle.pam_codes.specs.Set.{is_in}
 use Rattle.pam_compare.specs.declared.held.HeldAnswer.{HeldAnswer}
 use Rattle.pam_compare.specs.Held.{Holds}
-use Rattle.pam_compare.specs.Naming.{IsPossible}
+use Rattle.pam_compare.specs.inner.Naming.{IsPossible}
 use Rattle.pam_compare.proofs.expanding.codes_at.Goals as goal
 
 pub returns-clause-kept : goal.returns-clause-kept

@@ -3,11 +3,11 @@ use Rattle.std.specs.Prelude.{not}
 use Rattle.std.proofs.lemmas.Bool.{and_parts, false≢true}
 use Rattle.pam_codes.specs.Code.{all_codes}
 use Rattle.pam_codes.specs.Set.{codes_where, is_in}
-use Rattle.pam_codes.specs.SetBits.{is_in-codes_where}
+use Rattle.pam_codes.specs.inner.SetBits.{is_in-codes_where}
 use Rattle.pam_dispatch.specs.Flat.{rest_of}
-use Rattle.pam_compare.specs.Naming.{IsPossible}
-use Rattle.pam_compare.specs.Nodes.{IsMet}
-use Rattle.pam_compare.specs.Turn.{new_after, old_after, turn_name}
+use Rattle.pam_compare.specs.inner.Naming.{IsPossible}
+use Rattle.pam_compare.specs.inner.Nodes.{IsMet}
+use Rattle.pam_compare.specs.inner.Turn.{new_after, old_after, turn_name}
 use Rattle.pam_compare.proofs.Fewer.{fewer-left}
 use Rattle.pam_compare.proofs.Growing.{held-kept, longer, met-kept, nodes-both, nodes-same}
 use Rattle.pam_compare.proofs.Holding.{taken-out, where-low, where-passes}

@@ -3,10 +3,10 @@ use Rattle.pam_codes.specs.Set.{codes_where, is_in}
 use Rattle.pam_dispatch.specs.Flat.{rest_of}
 use Rattle.pam_dispatch.specs.Runs.{Assignment}
 use Rattle.pam_compare.specs.Held.{Holds}
-use Rattle.pam_compare.specs.Naming.{IsPossible}
-use Rattle.pam_compare.specs.Nodes.{AreNodes, IsMet, KeepsNodes}
-use Rattle.pam_compare.specs.Turn.{new_after, old_after, turn_name}
-use Rattle.pam_compare.specs.Ways.{AreReached}
+use Rattle.pam_compare.specs.inner.Naming.{IsPossible}
+use Rattle.pam_compare.specs.inner.Nodes.{AreNodes, IsMet, KeepsNodes}
+use Rattle.pam_compare.specs.inner.Turn.{new_after, old_after, turn_name}
+use Rattle.pam_compare.specs.inner.Ways.{AreReached}
 use Rattle.pam_compare.proofs.expanding.expand.Given as goal
 
 abbrev pub invariant-loop-code : goal.invariant-loop-code

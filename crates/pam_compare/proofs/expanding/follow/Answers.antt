@@ -5,11 +5,12 @@ use Rattle.pam_dispatch.specs.Flat.{modules_of, rest_of}
 use Rattle.pam_dispatch.specs.Runs.{Runs, asked_module}
 use Rattle.pam_compare.specs.declared.held.HeldAnswer.{HeldAnswer}
 use Rattle.pam_compare.specs.declared.nodes.Way.{Way}
-use Rattle.pam_compare.specs.Held.{Holds, held_in}
-use Rattle.pam_compare.specs.Nodes.{IsMet}
-use Rattle.pam_compare.specs.Trails.{IsHeldAfter}
-use Rattle.pam_compare.specs.Turn.{new_after, old_after, turn_name}
-use Rattle.pam_compare.specs.Ways.{IsWayTo}
+use Rattle.pam_compare.specs.Held.{Holds}
+use Rattle.pam_compare.specs.inner.Held.{held_in}
+use Rattle.pam_compare.specs.inner.Nodes.{IsMet}
+use Rattle.pam_compare.specs.inner.Trails.{IsHeldAfter}
+use Rattle.pam_compare.specs.inner.Turn.{new_after, old_after, turn_name}
+use Rattle.pam_compare.specs.inner.Ways.{IsWayTo}
 use Rattle.pam_compare.proofs.Growing.{at-end}
 use Rattle.pam_compare.proofs.Reaching.{reached-kept, way-longer}
 use Rattle.pam_compare.proofs.expanding.follow.Goals as goal

@@ -5,7 +5,7 @@ use Rattle.std.proofs.lemmas.Option.{slice_get-get_or}
 use Rattle.pam_codes.specs.Set.{is_in}
 use Rattle.pam_compare.specs.declared.held.HeldAnswer.{HeldAnswer}
 use Rattle.pam_compare.specs.Held.{Holds}
-use Rattle.pam_compare.specs.Trails.{IsPast, IsSettled}
+use Rattle.pam_compare.specs.inner.Trails.{IsPast, IsSettled}
 use Rattle.pam_compare.proofs.Growing.{append-left, kept, there-after, there-dropped}
 use Rattle.pam_compare.proofs.Holding.{holds-append, holds-at, holds-drop, holds-equal, some-held}
 use Rattle.pam_compare.proofs.held.held_after.Goals as goal

@@ -4,8 +4,8 @@ use Rattle.pam_codes.specs.Set.{is_in}
 use Rattle.pam_dispatch.specs.Runs.{Assignment}
 use Rattle.pam_compare.specs.declared.held.HeldAnswer.{HeldAnswer}
 use Rattle.pam_compare.specs.Held.{Holds}
-use Rattle.pam_compare.specs.Naming.{AreLast}
-use Rattle.pam_compare.specs.Trails.{IsPast, IsSettled}
+use Rattle.pam_compare.specs.inner.Naming.{AreLast}
+use Rattle.pam_compare.specs.inner.Trails.{IsPast, IsSettled}
 use Rattle.pam_compare.proofs.held.held_after.Given as goal
 
 abbrev pub invariant-loop-index : goal.invariant-loop-index

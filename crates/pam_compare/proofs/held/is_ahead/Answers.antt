@@ -1,5 +1,5 @@
 use Rattle.std.proofs.Common.{◌≡◌, ◌∙◌, ℕ, List, ap, arith, inl, inr, sym}
-use Rattle.pam_compare.specs.Naming.{AreLast, name_of}
+use Rattle.pam_compare.specs.inner.Naming.{AreLast, name_of}
 use Rattle.pam_compare.proofs.held.is_ahead.Goals as goal
 use Rattle.pam_compare.proofs.held.is_ahead.Goals.{else-name-naming-via-then-name-naming+else-may_ask, else-name-naming-via-else-name-naming}
 

@@ -3,7 +3,7 @@ use Rattle.std.specs.Prelude.{not, slice_index_or}
 use Rattle.std.proofs.lemmas.Bool.{false≢true}
 use Rattle.pam_codes.specs.Code.{all_codes}
 use Rattle.pam_codes.specs.Set.{is_in}
-use Rattle.pam_codes.specs.SetBits.{is_in-codes_where}
+use Rattle.pam_codes.specs.inner.SetBits.{is_in-codes_where}
 use Rattle.pam_compare.proofs.Holding.{taken-out}
 use Rattle.pam_compare.proofs.held.tells.Goals as goal
 

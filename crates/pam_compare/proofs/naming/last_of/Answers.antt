@@ -2,7 +2,7 @@ use Rattle.std.proofs.Common.{◌≡◌, ◌<◌, ◌≤◌, ◌∙◌, ℕ, ap,
 use Rattle.std.proofs.Math.ListN.{set, length-set}
 use Rattle.std.proofs.lemmas.Bool.{cases_eq, cases_lt}
 use Rattle.std.proofs.lemmas.List.{get_or-set_other, get_or-set_same}
-use Rattle.pam_compare.specs.Naming.{AreLast, name_of}
+use Rattle.pam_compare.specs.inner.Naming.{AreLast, name_of}
 use Rattle.pam_compare.proofs.naming.last_of.Goals as goal
 
 pub loop-number-preserved : goal.loop-number-preserved

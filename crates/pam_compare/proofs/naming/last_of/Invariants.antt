@@ -1,5 +1,5 @@
 use Rattle.std.proofs.Common.{◌≡◌, ◌<◌, ◌≤◌, ℕ, length}
-use Rattle.pam_compare.specs.Naming.{name_of}
+use Rattle.pam_compare.specs.inner.Naming.{name_of}
 use Rattle.pam_compare.proofs.naming.last_of.Given as goal
 
 abbrev pub invariant-loop : goal.invariant-loop

@@ -1,7 +1,7 @@
 use Rattle.std.proofs.Common.{◌≡◌, ◌<◌, ℕ, true}
 use Rattle.pam_codes.specs.Set.{is_in}
 use Rattle.pam_dispatch.specs.Flat.{rest_of}
-use Rattle.pam_compare.specs.Turn.{AreAlike}
+use Rattle.pam_compare.specs.inner.Turn.{AreAlike}
 use Rattle.pam_compare.proofs.node.class_of.Given as goal
 
 abbrev pub invariant-loop-number : goal.invariant-loop-number

@@ -1,8 +1,8 @@
 use Rattle.std.proofs.Common.{◌∙◌, ◌||◌, ℕ, ap, eqb}
 use Rattle.pam_codes.specs.Set.{is_in}
-use Rattle.pam_codes.specs.SetBits.{is_in-codes_where}
+use Rattle.pam_codes.specs.inner.SetBits.{is_in-codes_where}
 use Rattle.pam_dispatch.specs.Flat.{rest_of}
-use Rattle.pam_compare.specs.Turn.{AreAlike}
+use Rattle.pam_compare.specs.inner.Turn.{AreAlike}
 use Rattle.pam_compare.proofs.Holding.{inserted, or-right}
 use Rattle.pam_compare.proofs.node.with_alike.Goals as goal
 

@@ -1,6 +1,6 @@
 use Rattle.std.proofs.Common.{◌<◌, ◌∙◌, arith, length, sym}
 use Rattle.std.proofs.lemmas.List.{get_or_default, get_or_past}
-use Rattle.pam_compare.specs.Naming.{by_code}
+use Rattle.pam_compare.specs.inner.Naming.{by_code}
 use Rattle.pam_compare.proofs.Writing.{answer-end, answer-here, answer-later, drop-past}
 use Rattle.pam_compare.proofs.witness.answer_on.Goals as goal
 

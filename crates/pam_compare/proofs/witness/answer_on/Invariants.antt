@@ -1,6 +1,6 @@
 use Rattle.std.proofs.Common.{◌≡◌, drop}
-use Rattle.pam_compare.specs.Naming.{by_code}
-use Rattle.pam_compare.specs.Trails.{answers_on}
+use Rattle.pam_compare.specs.inner.Naming.{by_code}
+use Rattle.pam_compare.specs.inner.Trails.{answers_on}
 use Rattle.pam_compare.proofs.witness.answer_on.Given as goal
 
 abbrev pub invariant-loop-index : goal.invariant-loop-index

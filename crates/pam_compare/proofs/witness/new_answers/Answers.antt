@@ -1,7 +1,7 @@
 use Rattle.std.proofs.Common.{◌∙◌, ℕ, List, ap, arith, length}
 use Rattle.std.proofs.lemmas.List.{length_push}
-use Rattle.pam_compare.specs.Naming.{by_code, name_of}
-use Rattle.pam_compare.specs.Trails.{answers_on}
+use Rattle.pam_compare.specs.inner.Naming.{by_code, name_of}
+use Rattle.pam_compare.specs.inner.Trails.{answers_on}
 use Rattle.pam_compare.proofs.Witnessing.{answers-push}
 use Rattle.pam_compare.proofs.witness.new_answers.Goals as goal
 

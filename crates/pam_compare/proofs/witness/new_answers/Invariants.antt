@@ -1,7 +1,7 @@
 use Rattle.std.proofs.Common.{◌≡◌, ◌<◌, ◌≤◌, ℕ, length}
 use Rattle.pam_dispatch.specs.Runs.{answers_of}
-use Rattle.pam_compare.specs.Naming.{by_code, name_of}
-use Rattle.pam_compare.specs.Trails.{answers_on}
+use Rattle.pam_compare.specs.inner.Naming.{by_code, name_of}
+use Rattle.pam_compare.specs.inner.Trails.{answers_on}
 use Rattle.pam_compare.proofs.witness.new_answers.Given as goal
 
 abbrev pub invariant-loop-index : goal.invariant-loop-index

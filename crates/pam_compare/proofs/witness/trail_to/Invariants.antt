@@ -1,6 +1,6 @@
 use Rattle.std.proofs.Common.{List, ◌++◌}
 use Rattle.pam_compare.specs.declared.nodes.Way.{Way}
-use Rattle.pam_compare.specs.Trails.{IsTrail}
+use Rattle.pam_compare.specs.inner.Trails.{IsTrail}
 use Rattle.pam_compare.proofs.witness.trail_to.Given as goal
 
 abbrev pub invariant-loop-at : goal.invariant-loop-at

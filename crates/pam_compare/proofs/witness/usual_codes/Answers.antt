@@ -3,7 +3,7 @@ use Rattle.std.proofs.lemmas.Bool.{cases_lt, false≢true}
 use Rattle.std.proofs.lemmas.List.{get_or_append_left, get_or_past, get_or_push, length_push}
 use Rattle.pam_codes.specs.Code.{all_codes}
 use Rattle.pam_codes.specs.Set.{is_in}
-use Rattle.pam_compare.specs.Naming.{IsPossible, by_code}
+use Rattle.pam_compare.specs.inner.Naming.{IsPossible, by_code}
 use Rattle.pam_compare.proofs.Possible.{in-all}
 use Rattle.pam_compare.proofs.witness.usual_codes.Goals as goal
 

@@ -2,7 +2,7 @@ use Rattle.std.proofs.Common.{◌≡◌, ◌<◌, ℕ, length, true}
 use Rattle.std.specs.Prelude.{slice_index_or}
 use Rattle.pam_codes.specs.Code.{all_codes}
 use Rattle.pam_codes.specs.Set.{is_in}
-use Rattle.pam_compare.specs.Naming.{by_code}
+use Rattle.pam_compare.specs.inner.Naming.{by_code}
 use Rattle.pam_compare.proofs.witness.usual_codes.Given as goal
 
 abbrev pub invariant-loop-name : goal.invariant-loop-name

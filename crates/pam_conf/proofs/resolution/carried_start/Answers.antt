@@ -2,7 +2,7 @@ use Rattle.std.proofs.Common.{map, sym, ap, ◌∙◌, arith}
 use Rattle.std.specs.List.{list_any}
 use Rattle.std.proofs.lemmas.List.{drop_all}
 use Rattle.pam_conf.specs.Resolution.{carried}
-use Rattle.pam_conf.specs.Kept.{kept_view}
+use Rattle.pam_conf.specs.inner.Kept.{kept_view}
 use Rattle.pam_conf.specs.Walk.{carries}
 use Rattle.pam_conf.proofs.ResolutionLemmas.{any-here, any-skip}
 use Rattle.pam_conf.proofs.resolution.carried_start.Goals as goal

@@ -1,8 +1,8 @@
 use Rattle.std.proofs.Common.{Ok, ◌∙◌, ap, refl, sym}
 use Rattle.std.proofs.lemmas.Result.{err_from_is_err_and}
 use Rattle.pam_conf.specs.ItemsOf.{items_of}
-use Rattle.pam_conf.specs.Progress.{count_of}
-use Rattle.pam_conf.specs.StartOf.{start_text}
+use Rattle.pam_conf.specs.inner.Progress.{count_of}
+use Rattle.pam_conf.specs.inner.StartOf.{start_text}
 use Rattle.pam_conf.specs.Walk.{rules_at}
 use Rattle.pam_conf.proofs.ResolutionLemmas as lemmas
 use Rattle.pam_conf.proofs.resolution.stack_at.Goals as goal

@@ -1,5 +1,5 @@
 use Rattle.std.specs.Option.{option_map}
-use Rattle.pam_conf.specs.StartOf.{start_text}
+use Rattle.pam_conf.specs.inner.StartOf.{start_text}
 use Rattle.pam_conf.proofs.ResolutionLemmas.{keeps-own}
 use Rattle.pam_conf.proofs.resolution.stack_of_starts.Goals as goal
 

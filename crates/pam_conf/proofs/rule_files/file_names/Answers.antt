@@ -1,6 +1,6 @@
 use Rattle.std.proofs.Common.{◌∙◌, ap, sym, List}
 use Rattle.std.specs.List.{list_any}
-use Rattle.pam_conf.specs.Kept.{kept_view}
+use Rattle.pam_conf.specs.inner.Kept.{kept_view}
 use Rattle.pam_conf.specs.Targets.{names_target}
 use Rattle.pam_conf.specs.declared.kept.KeptRule.{KeptRule}
 use Rattle.pam_conf.proofs.TargetLemmas.{any-map}

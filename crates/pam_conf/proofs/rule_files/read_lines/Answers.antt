@@ -1,6 +1,6 @@
 use Rattle.std.proofs.Common.{◌++◌, ◌∙◌, ap, map, sym}
 use Rattle.pam_conf.specs.FileRules.{faults_among, rules_among}
-use Rattle.pam_conf.specs.Kept.{kept_view}
+use Rattle.pam_conf.specs.inner.Kept.{kept_view}
 use Rattle.pam_conf.proofs.LineSteps.{passed_over}
 use Rattle.pam_conf.proofs.rule_files.read_lines.Goals as goal
 

@@ -2,7 +2,7 @@ use Rattle.std.proofs.Common.{◌≡◌, ◌++◌, map, length}
 use Rattle.pam_text.specs.Left.{text_left}
 use Rattle.pam_text.specs.Text.{text_of, lines_of}
 use Rattle.pam_conf.specs.FileRules.{faults_among, line_results, rules_among}
-use Rattle.pam_conf.specs.Kept.{kept_view}
+use Rattle.pam_conf.specs.inner.Kept.{kept_view}
 use Rattle.pam_conf.proofs.rule_files.read_lines.Given as goal
 
 abbrev pub invariant-loop-file : goal.invariant-loop-file

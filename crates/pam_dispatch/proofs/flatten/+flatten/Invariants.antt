@@ -1,7 +1,7 @@
 use Rattle.std.proofs.Common.{◌≡◌, ◌+◌, ◌≤◌, ◌++◌, drop, length}
 use Rattle.pam_conf.specs.Stack.{depth}
 use Rattle.pam_conf.specs.ItemsOf.{items_of}
-use Rattle.pam_dispatch.specs.Flat.{flat_list}
+use Rattle.pam_dispatch.specs.inner.Flat.{flat_list}
 use Rattle.pam_dispatch.proofs.flatten.+flatten.Given as goal
 
 abbrev pub decreases-flatten : goal.decreases-flatten

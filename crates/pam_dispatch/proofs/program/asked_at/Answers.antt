@@ -1,5 +1,5 @@
 use Rattle.std.proofs.Common.{rules, ◌∙◌, sym, subst}
-use Rattle.pam_dispatch.specs.Flat.{IsBounded}
+use Rattle.pam_dispatch.specs.inner.Flat.{IsBounded}
 use Rattle.pam_dispatch.proofs.Places.{place_within, place_no_substack, place_asked}
 use Rattle.pam_dispatch.proofs.program.asked_at.Goals as goal
 

@@ -1,5 +1,5 @@
 use Rattle.std.proofs.Common.{ℕ, ◌+◌, List, ◌++◌, drop, ◌∙◌, ap, sym}
-use Rattle.pam_dispatch.specs.Flat.{positions_from}
+use Rattle.pam_dispatch.specs.inner.Flat.{positions_from}
 use Rattle.pam_dispatch.proofs.Positions.{positions-module, positions-substack, positions-end}
 use Rattle.pam_dispatch.proofs.program.module_positions.Goals as goal
 use Rattle.pam_dispatch.proofs.program.module_positions.Goals.{in-Module+in_ok-push-in-Module, in-Substack}

@@ -1,5 +1,5 @@
 use Rattle.std.proofs.Common.{◌≡◌, ◌++◌, drop}
-use Rattle.pam_dispatch.specs.Flat.{positions_from}
+use Rattle.pam_dispatch.specs.inner.Flat.{positions_from}
 use Rattle.pam_dispatch.proofs.program.module_positions.Given as goal
 
 abbrev pub invariant-loop-position : goal.invariant-loop-position

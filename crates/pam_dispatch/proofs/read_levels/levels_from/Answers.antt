@@ -1,6 +1,6 @@
 use Rattle.std.proofs.Common.{◌≡◌, ◌||◌, ◌∷◌, ◌∙◌, ℕ, ap, arith, Bool, false, get_or, slice_set, subst, sym}
 use Rattle.pam_dispatch.specs.Flat.{level_of}
-use Rattle.pam_dispatch.specs.ReadLevels.{AreReadLevels}
+use Rattle.pam_dispatch.specs.inner.ReadLevels.{AreReadLevels}
 use Rattle.pam_dispatch.specs.Representatives.{resets}
 use Rattle.pam_dispatch.proofs.ReadTables.{levels-item}
 use Rattle.pam_dispatch.proofs.read_levels.levels_from.Goals as goal

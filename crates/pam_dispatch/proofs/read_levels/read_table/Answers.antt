@@ -1,7 +1,7 @@
 use Rattle.std.proofs.Common.{◌≡◌, ◌+◌, ◌-◌, ◌++◌, ◌∷◌, ◌∙◌, [], ap, arith, drop, get_or, length, List, Bool, false, ℕ, refl, replicate, subst, sym}
 use Rattle.std.proofs.lemmas.List.{drop_all, length-append}
 use Rattle.pam_dispatch.specs.declared.flat_item.FlatItem.{FlatItem}
-use Rattle.pam_dispatch.specs.ReadLevels.{AreReadLevels}
+use Rattle.pam_dispatch.specs.inner.ReadLevels.{AreReadLevels}
 use Rattle.pam_dispatch.proofs.ReadTables.{levels-end, table-more}
 use Rattle.pam_dispatch.proofs.Resume.{at_index}
 use Rattle.pam_dispatch.proofs.read_levels.read_table.Goals as goal

@@ -1,6 +1,6 @@
 -- the levels from each position so far on
 use Rattle.std.proofs.Common.{◌≡◌, ◌+◌, ◌-◌, ◌≤◌, ℕ, [], drop, get_or, length}
-use Rattle.pam_dispatch.specs.ReadLevels.{AreReadLevels}
+use Rattle.pam_dispatch.specs.inner.ReadLevels.{AreReadLevels}
 use Rattle.pam_dispatch.proofs.read_levels.read_table.Given as goal
 
 abbrev pub invariant-loop-position : goal.invariant-loop-position

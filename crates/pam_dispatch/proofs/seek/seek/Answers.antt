@@ -2,7 +2,8 @@ use Rattle.std.proofs.Common.{◌≡◌, ◌+◌, ◌<◌, ◌≤◌, ℕ, lengt
 use Rattle.std.proofs.lemmas.List.{drop_all, length-set}
 use Rattle.pam_dispatch.specs.declared.state.State.{State}
 use Rattle.pam_dispatch.specs.declared.flat_item.FlatItem.TheVariants.{Module, Substack}
-use Rattle.pam_dispatch.specs.Flat.{IsBounded, IsPlaceOf, level_of, resume, rest_of}
+use Rattle.pam_dispatch.specs.Flat.{IsPlaceOf, level_of, resume, rest_of}
+use Rattle.pam_dispatch.specs.inner.Flat.{IsBounded}
 use Rattle.pam_dispatch.proofs.Resume.{at_index, at_index-deeper, at_substack, at_module}
 use Rattle.pam_dispatch.proofs.Skipping.{resume-from, stored-some, stored-within}
 use Rattle.pam_dispatch.proofs.seek.seek.Goals as goal

@@ -1,5 +1,5 @@
 use Rattle.std.proofs.Common.{◌≡◌, ◌+◌, ◌-◌, ◌<◌, ◌∷◌, ◌∙◌, ℕ, ap, arith, drop, length, subst, sym}
-use Rattle.pam_dispatch.specs.Settled.{KeepFailure}
+use Rattle.pam_dispatch.specs.inner.Settled.{KeepFailure}
 use Rattle.pam_dispatch.proofs.Resume.{at_index}
 use Rattle.pam_dispatch.proofs.SettledRuns.{none-kept, one-kept}
 use Rattle.pam_dispatch.proofs.settled.first_harmless.Goals as goal

@@ -1,6 +1,6 @@
 -- the items from the position on leave a failed stack as it is
 use Rattle.std.proofs.Common.{◌≤◌, drop, length}
-use Rattle.pam_dispatch.specs.Settled.{KeepFailure}
+use Rattle.pam_dispatch.specs.inner.Settled.{KeepFailure}
 use Rattle.pam_dispatch.proofs.settled.first_harmless.Given as goal
 
 abbrev pub invariant-loop-position : goal.invariant-loop-position

@@ -1,6 +1,6 @@
 use Rattle.std.proofs.Common.{◌∷◌, [], subst, sym}
 use Rattle.pam_dispatch.specs.declared.flat_item.FlatItem.{FlatItem}
-use Rattle.pam_dispatch.specs.Settled.{KeepFailure}
+use Rattle.pam_dispatch.specs.inner.Settled.{KeepFailure}
 use Rattle.pam_dispatch.proofs.settled.is_harmless.Goals as goal
 
 pub returns-then-level-eq0 : goal.returns-then-level-eq0

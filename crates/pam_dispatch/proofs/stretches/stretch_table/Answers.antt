@@ -2,7 +2,7 @@ use Rattle.std.proofs.Common.{◌≡◌, ◌+◌, ◌-◌, ◌<◌, ◌≤◌, �
 use Rattle.std.proofs.lemmas.List.{drop_all, length-append, length-drop}
 use Rattle.pam_dispatch.specs.declared.flat_item.FlatItem.{FlatItem}
 use Rattle.pam_dispatch.specs.Flat.{level_of}
-use Rattle.pam_dispatch.specs.Stretches.{stretch_of}
+use Rattle.pam_dispatch.specs.inner.Stretches.{stretch_of}
 use Rattle.pam_dispatch.proofs.Resume.{at_index}
 use Rattle.pam_dispatch.proofs.Skipping.{IsFirstLevel, stretch-anew, stretch-on, stretch-within, table-on}
 use Rattle.pam_dispatch.proofs.stretches.stretch_table.Goals as goal

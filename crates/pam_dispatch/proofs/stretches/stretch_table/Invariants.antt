@@ -1,6 +1,6 @@
 -- the lengths from each position so far on
 use Rattle.std.proofs.Common.{◌≡◌, ◌+◌, ◌-◌, ◌≤◌, ℕ, drop, get_or, length}
-use Rattle.pam_dispatch.specs.Stretches.{stretch_of}
+use Rattle.pam_dispatch.specs.inner.Stretches.{stretch_of}
 use Rattle.pam_dispatch.proofs.Skipping.{IsFirstLevel}
 use Rattle.pam_dispatch.proofs.stretches.stretch_table.Given as goal
 

@@ -7,7 +7,7 @@ use Rattle.pam_dispatch.specs.Keys.{rest_at}
 use Rattle.pam_dispatch.specs.Runs.{AsksRise, after_answer, asked_module}
 use Rattle.pam_graph.specs.declared.node.Edge.{Edge}
 use Rattle.pam_graph.specs.declared.node.Node.{Node}
-use Rattle.pam_graph.specs.Building.{modules_left}
+use Rattle.pam_graph.specs.inner.Building.{modules_left}
 use Rattle.pam_graph.specs.Order.{AreAbove, IsNode, LeastRise, numbers_of}
 use Rattle.pam_graph.specs.Reached.{node_key}
 use Rattle.pam_graph.specs.Walks.{walks_by, walks_of}

@@ -2,7 +2,7 @@ use Rattle.std.proofs.Common.{◌≡◌, ◌-◌, ◌≤◌, ◌++◌}
 use Rattle.std.specs.List.{flat_map}
 use Rattle.pam_dispatch.specs.Flat.{modules_of, rest_of}
 use Rattle.pam_dispatch.specs.Keys.{DiffersFrom, KeyValue, rest_at}
-use Rattle.pam_graph.specs.Building.{IsBefore, IsBuilt, IsExtended, modules_left}
+use Rattle.pam_graph.specs.inner.Building.{IsBefore, IsBuilt, IsExtended, modules_left}
 use Rattle.pam_graph.specs.Order.{AreAbove, LeastRise, numbers_of}
 use Rattle.pam_graph.specs.Reached.{AreReachedKeys, node_key}
 use Rattle.pam_graph.specs.Walks.{walks_by, walks_of}

@@ -1,8 +1,8 @@
 use Rattle.std.proofs.Common.{◌+◌, ◌∙◌, ◌∷◌, List, ℕ, ap, drop, length, subst, sym}
 use Rattle.std.proofs.lemmas.List.{drop_all, drop_more}
 use Rattle.pam_graph.specs.declared.node.Edge.{Edge}
-use Rattle.pam_graph.specs.Deciding.{with_edges}
-use Rattle.pam_graph.specs.Within.{AreWithin}
+use Rattle.pam_graph.specs.inner.Deciding.{with_edges}
+use Rattle.pam_graph.specs.inner.Within.{AreWithin}
 use Rattle.pam_graph.proofs.decisions.decided_by.Goals as goal
 
 pub loop-edge-init : goal.loop-edge-init

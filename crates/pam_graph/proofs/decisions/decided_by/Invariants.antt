@@ -1,6 +1,6 @@
 use Rattle.std.proofs.Common.{◌≡◌, [], drop, length}
-use Rattle.pam_graph.specs.Deciding.{with_edges}
-use Rattle.pam_graph.specs.Within.{AreWithin}
+use Rattle.pam_graph.specs.inner.Deciding.{with_edges}
+use Rattle.pam_graph.specs.inner.Within.{AreWithin}
 use Rattle.pam_graph.proofs.decisions.decided_by.Given as goal
 
 abbrev pub invariant-loop-edge : goal.invariant-loop-edge

@@ -3,9 +3,9 @@ use Rattle.std.proofs.lemmas.List.{drop_all, drop_more, length-append}
 use Rattle.pam_graph.specs.declared.node.Edge.{Edge}
 use Rattle.pam_graph.specs.declared.node.Node.{Node}
 use Rattle.pam_graph.specs.Order.{AreNodes}
-use Rattle.pam_graph.specs.Deciding.{decided_by, with_edges}
+use Rattle.pam_graph.specs.inner.Deciding.{decided_by, with_edges}
 use Rattle.pam_graph.specs.Walks.{table}
-use Rattle.pam_graph.specs.Within.{AreWithin}
+use Rattle.pam_graph.specs.inner.Within.{AreWithin}
 use Rattle.pam_graph.proofs.Deciding.{decided-table}
 use Rattle.pam_graph.proofs.Withins.{first-within}
 use Rattle.pam_graph.proofs.decisions.decided_of.Goals as goal

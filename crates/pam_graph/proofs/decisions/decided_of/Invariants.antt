@@ -1,6 +1,6 @@
 use Rattle.std.proofs.Common.{◌≡◌, [], List, ℕ, drop, length}
 use Rattle.pam_graph.specs.Order.{AreNodes}
-use Rattle.pam_graph.specs.Deciding.{decided_by}
+use Rattle.pam_graph.specs.inner.Deciding.{decided_by}
 use Rattle.pam_graph.specs.Walks.{table}
 use Rattle.pam_graph.proofs.decisions.decided_of.Given as goal
 

@@ -2,10 +2,10 @@ use Rattle.std.proofs.Common.{◌≡◌, ◌+◌, ◌∙◌, ◌∷◌, List, �
 use Rattle.std.proofs.lemmas.List.{drop_all, drop_more}
 use Rattle.std.specs.List.{flat_map}
 use Rattle.pam_graph.specs.declared.node.Edge.{Edge}
-use Rattle.pam_graph.specs.Deciding.{first_deciding, leads_to}
+use Rattle.pam_graph.specs.inner.Deciding.{first_deciding, leads_to}
 use Rattle.pam_graph.specs.Order.{AreAbove}
 use Rattle.pam_graph.specs.Walks.{walks_by}
-use Rattle.pam_graph.specs.Within.{AreWithin}
+use Rattle.pam_graph.specs.inner.Within.{AreWithin}
 use Rattle.pam_graph.proofs.Deciding.{skip-edge, some-first, take-edge}
 use Rattle.pam_graph.proofs.decisions.edge_to.Goals as goal
 use Rattle.pam_graph.proofs.decisions.edge_to.Goals.{After-edge-item}

@@ -1,10 +1,10 @@
 use Rattle.std.proofs.Common.{◌≡◌, List, ℕ, drop, length, map}
 use Rattle.std.specs.List.{flat_map}
-use Rattle.pam_graph.specs.Deciding.{first_deciding}
+use Rattle.pam_graph.specs.inner.Deciding.{first_deciding}
 use Rattle.pam_graph.specs.Goals.{decided}
 use Rattle.pam_graph.specs.Order.{AreAbove}
 use Rattle.pam_graph.specs.Walks.{walks_by}
-use Rattle.pam_graph.specs.Within.{AreWithin}
+use Rattle.pam_graph.specs.inner.Within.{AreWithin}
 use Rattle.pam_paths.specs.Paths.{PathValue}
 use Rattle.pam_graph.proofs.decisions.edge_to.Given as goal
 

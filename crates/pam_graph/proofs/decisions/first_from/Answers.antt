@@ -6,10 +6,10 @@ use Rattle.pam_graph.specs.declared.node.Edge.{Edge}
 use Rattle.pam_graph.specs.declared.node.Node.{Node}
 use Rattle.pam_graph.specs.declared.node.Target.{Target}
 use Rattle.pam_graph.specs.declared.node.Target.TheVariants.{At}
-use Rattle.pam_graph.specs.Deciding.{after_steps, first_deciding}
+use Rattle.pam_graph.specs.inner.Deciding.{after_steps, first_deciding}
 use Rattle.pam_graph.specs.Order.{AreAbove, IsAbove, number_of, numbers_of}
 use Rattle.pam_graph.specs.Walks.{walks_by, walks_of, walks_to}
-use Rattle.pam_graph.specs.Within.{AreWithin, height}
+use Rattle.pam_graph.specs.inner.Within.{AreWithin, height}
 use Rattle.pam_graph.proofs.Deciding.{edges-within, next-above, next-lower, number-last, onward, room, steps-end, steps-none, steps-then}
 use Rattle.pam_paths.specs.Paths.{PathValue, StepValue}
 use Rattle.pam_graph.proofs.decisions.first_from.Goals as goal

@@ -1,9 +1,9 @@
 use Rattle.std.proofs.Common.{◌≡◌, ◌≢◌, None, length}
 use Rattle.std.specs.Option.{option_map}
-use Rattle.pam_graph.specs.Deciding.{after_steps, first_deciding}
+use Rattle.pam_graph.specs.inner.Deciding.{after_steps, first_deciding}
 use Rattle.pam_graph.specs.Order.{IsAbove, numbers_of}
 use Rattle.pam_graph.specs.Walks.{walks_of, walks_to}
-use Rattle.pam_graph.specs.Within.{height}
+use Rattle.pam_graph.specs.inner.Within.{height}
 use Rattle.pam_graph.proofs.decisions.first_from.Given as goal
 
 abbrev pub invariant-loop-target : goal.invariant-loop-target

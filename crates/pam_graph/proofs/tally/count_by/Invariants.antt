@@ -1,6 +1,6 @@
 use Rattle.std.proofs.Common.{◌≡◌, Some, drop, length}
-use Rattle.pam_graph.specs.Tallies.{sum_from}
-use Rattle.pam_graph.specs.Within.{AreWithin}
+use Rattle.pam_graph.specs.inner.Tallies.{sum_from}
+use Rattle.pam_graph.specs.inner.Within.{AreWithin}
 use Rattle.pam_graph.proofs.tally.count_by.Given as goal
 
 abbrev pub invariant-loop-edge : goal.invariant-loop-edge

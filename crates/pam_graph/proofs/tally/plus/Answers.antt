@@ -1,5 +1,5 @@
 use Rattle.std.proofs.Common.{◌∙◌, Some, ap, sym}
-use Rattle.pam_graph.specs.Tallies.{plus}
+use Rattle.pam_graph.specs.inner.Tallies.{plus}
 use Rattle.pam_graph.proofs.Counting.{sum-fits}
 use Rattle.pam_graph.proofs.tally.plus.Goals as goal
 

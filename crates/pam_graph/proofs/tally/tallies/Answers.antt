@@ -3,9 +3,9 @@ use Rattle.std.proofs.lemmas.List.{drop_all, drop_more, length-append}
 use Rattle.pam_graph.specs.declared.node.Node.{Node}
 use Rattle.pam_graph.specs.declared.tally.Tally.{Tally}
 use Rattle.pam_graph.specs.Order.{AreNodes}
-use Rattle.pam_graph.specs.Tallies.{tally_by}
+use Rattle.pam_graph.specs.inner.Tallies.{tally_by}
 use Rattle.pam_graph.specs.Walks.{table}
-use Rattle.pam_graph.specs.Within.{AreWithin}
+use Rattle.pam_graph.specs.inner.Within.{AreWithin}
 use Rattle.pam_graph.proofs.Counting.{tallies-table}
 use Rattle.pam_graph.proofs.Withins.{first-within}
 use Rattle.pam_graph.proofs.tally.tallies.Goals as goal

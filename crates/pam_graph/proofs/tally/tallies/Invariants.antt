@@ -1,6 +1,6 @@
 use Rattle.std.proofs.Common.{◌≡◌, [], List, ℕ, drop, length}
 use Rattle.pam_graph.specs.Order.{AreNodes}
-use Rattle.pam_graph.specs.Tallies.{tally_by}
+use Rattle.pam_graph.specs.inner.Tallies.{tally_by}
 use Rattle.pam_graph.specs.Walks.{table}
 use Rattle.pam_graph.proofs.tally.tallies.Given as goal
 

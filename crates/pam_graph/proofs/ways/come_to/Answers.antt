@@ -2,10 +2,10 @@ use Rattle.std.proofs.Common.{◌≡◌, ◌*◌, ◌+◌, ◌∙◌, Option, �
 use Rattle.std.proofs.Math.ListN.{set}
 use Rattle.pam_graph.specs.declared.node.Target.{Target}
 use Rattle.pam_graph.specs.declared.node.Target.TheVariants.{End}
-use Rattle.pam_graph.specs.Accounts.{Accounts, deciders}
-use Rattle.pam_graph.specs.Tallies.{plus}
+use Rattle.pam_graph.specs.inner.Accounts.{Accounts, deciders}
+use Rattle.pam_graph.specs.inner.Tallies.{plus}
 use Rattle.pam_graph.specs.Walks.{walks_to}
-use Rattle.pam_graph.specs.Within.{IsWithin}
+use Rattle.pam_graph.specs.inner.Within.{IsWithin}
 use Rattle.pam_graph.proofs.Accounting.{come-at, come-end}
 use Rattle.pam_graph.proofs.ways.come_to.Goals as goal
 

@@ -3,9 +3,9 @@ use Rattle.std.proofs.lemmas.List.{length-replicate, length-take-le, take_all}
 use Rattle.std.specs.List.{flat_map}
 use Rattle.pam_graph.specs.declared.node.Edge.{Edge}
 use Rattle.pam_graph.specs.declared.node.Node.{Node}
-use Rattle.pam_graph.specs.Accounts.{Accounts, deciders}
+use Rattle.pam_graph.specs.inner.Accounts.{Accounts, deciders}
 use Rattle.pam_graph.specs.Walks.{walks_by, walks_of, walks_to}
-use Rattle.pam_graph.specs.Within.{AreWithin}
+use Rattle.pam_graph.specs.inner.Within.{AreWithin}
 use Rattle.pam_graph.proofs.Accounting.{begins, ends-are, node-left, one-way}
 use Rattle.pam_graph.proofs.Sides.{valid}
 use Rattle.pam_graph.proofs.Withins.{AreAbove-within}

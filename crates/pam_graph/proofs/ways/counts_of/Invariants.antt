@@ -1,7 +1,7 @@
 use Rattle.std.proofs.Common.{◌≡◌, ◌≤◌, length, take}
 use Rattle.pam_codes.specs.declared.code.TheConstants.{CODES}
 use Rattle.pam_graph.specs.Walks.{walks_of, walks_to}
-use Rattle.pam_graph.specs.Accounts.{Accounts}
+use Rattle.pam_graph.specs.inner.Accounts.{Accounts}
 use Rattle.pam_graph.proofs.ways.counts_of.Given as goal
 
 abbrev pub invariant-loop-number : goal.invariant-loop-number

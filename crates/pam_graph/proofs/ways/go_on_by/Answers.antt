@@ -3,8 +3,8 @@ use Rattle.std.proofs.lemmas.List.{drop_all, drop_more}
 use Rattle.std.specs.List.{flat_map}
 use Rattle.pam_graph.specs.declared.node.Edge.{Edge}
 use Rattle.pam_graph.specs.Walks.{walks_by, walks_to}
-use Rattle.pam_graph.specs.Accounts.{deciders}
-use Rattle.pam_graph.specs.Within.{AreWithin}
+use Rattle.pam_graph.specs.inner.Accounts.{deciders}
+use Rattle.pam_graph.specs.inner.Within.{AreWithin}
 use Rattle.pam_graph.proofs.Accounting.{edges-left, left-is, none-left}
 use Rattle.pam_graph.proofs.ways.go_on_by.Goals as goal
 use Rattle.pam_graph.proofs.ways.go_on_by.Goals.{After-edge-item}

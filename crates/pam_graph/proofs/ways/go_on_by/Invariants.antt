@@ -3,8 +3,8 @@ use Rattle.std.specs.List.{flat_map}
 use Rattle.pam_codes.specs.declared.code.TheConstants.{CODES}
 use Rattle.pam_graph.specs.Goals.{fit}
 use Rattle.pam_graph.specs.Walks.{walks_by}
-use Rattle.pam_graph.specs.Accounts.{Accounts, deciders}
-use Rattle.pam_graph.specs.Within.{AreWithin}
+use Rattle.pam_graph.specs.inner.Accounts.{Accounts, deciders}
+use Rattle.pam_graph.specs.inner.Within.{AreWithin}
 use Rattle.pam_paths.specs.Paths.{PathValue}
 use Rattle.pam_graph.proofs.ways.go_on_by.Given as goal
 

@@ -1,6 +1,6 @@
 use Rattle.std.proofs.Common.{None}
-use Rattle.pam_host.specs.OfFolder.{IsNameProblem}
-use Rattle.pam_host.specs.Table.{Puts, with_met}
+use Rattle.pam_host.specs.inner.OfFolder.{IsNameProblem}
+use Rattle.pam_host.specs.inner.Table.{Puts, with_met}
 use Rattle.pam_host.proofs.folder.put_names.Given as goal
 
 -- the problems of the names so far are put

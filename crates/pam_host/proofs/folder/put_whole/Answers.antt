@@ -1,6 +1,6 @@
 use Rattle.std.proofs.Common.{None, length}
-use Rattle.pam_host.specs.OfFolder.{IsNameProblem, LacksOther}
-use Rattle.pam_host.specs.Table.{with_met}
+use Rattle.pam_host.specs.inner.OfFolder.{IsNameProblem, LacksOther}
+use Rattle.pam_host.specs.inner.Table.{with_met}
 use Rattle.pam_host.proofs.Passes.{puts-both, settles-met}
 use Rattle.pam_host.proofs.folder.put_whole.Goals as goal
 

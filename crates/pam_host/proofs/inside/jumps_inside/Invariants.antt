@@ -1,5 +1,5 @@
 use Rattle.std.proofs.Common.{◌≡◌, ◌++◌, drop}
-use Rattle.pam_host.specs.Insides.{jumps_from_all}
+use Rattle.pam_host.specs.inner.Insides.{jumps_from_all}
 use Rattle.pam_host.proofs.inside.jumps_inside.Given as goal
 
 -- the spots so far, and those of the files that are left

@@ -1,7 +1,7 @@
 use Rattle.std.proofs.Common.{◌≡◌, ◌++◌, drop, map}
 use Rattle.pam_conf.specs.ListedText.{listed_text}
 use Rattle.pam_host.specs.Inside.{jumping}
-use Rattle.pam_host.specs.Insides.{jump_spot}
+use Rattle.pam_host.specs.inner.Insides.{jump_spot}
 use Rattle.pam_host.proofs.inside.push_jumping.Given as goal
 
 -- the spots so far, and those of the items that are left

@@ -2,9 +2,9 @@ use Rattle.std.proofs.Common.{◌≡◌, List, subst, ℕ}
 use Rattle.std.proofs.lemmas.Result.{IfOk-weaker}
 use Rattle.pam_conf.specs.declared.rule.Kind.TheVariants.{Auth}
 use Rattle.pam_paths.specs.Classes.{Member}
-use Rattle.pam_host.specs.Looked.{Judges, OfModules, judgement_of}
+use Rattle.pam_host.specs.inner.Looked.{Judges, OfModules, judgement_of}
 use Rattle.pam_host.specs.StackProblems.{HasWayIn}
-use Rattle.pam_host.specs.Table.{Adds}
+use Rattle.pam_host.specs.inner.Table.{Adds}
 use Rattle.pam_host.specs.Verdicts.{Judged}
 use Rattle.pam_host.specs.declared.problem.Problem.TheVariants as problems
 use Rattle.pam_host.proofs.Seen.{asks-of}

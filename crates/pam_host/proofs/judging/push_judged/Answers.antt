@@ -1,7 +1,7 @@
 use Rattle.std.proofs.Common.{List, subst, ℕ}
 use Rattle.pam_paths.specs.Classes.{Member}
-use Rattle.pam_host.specs.Looked.{OfModules, judgement_of}
-use Rattle.pam_host.specs.Table.{Adds}
+use Rattle.pam_host.specs.inner.Looked.{OfModules, judgement_of}
+use Rattle.pam_host.specs.inner.Table.{Adds}
 use Rattle.pam_host.specs.declared.problem.Problem.TheVariants as problems
 use Rattle.pam_host.proofs.Verdicted.{adds-judged, says}
 use Rattle.pam_host.proofs.judging.push_judged.Goals as goal

@@ -1,6 +1,6 @@
 use Rattle.std.proofs.Common.{arith, ℕ}
 use Rattle.pam_paths.specs.Classes.{Member}
-use Rattle.pam_host.specs.Looked.{OfModule}
+use Rattle.pam_host.specs.inner.Looked.{OfModule}
 use Rattle.pam_host.specs.declared.problem.Problem.TheVariants as problems
 use Rattle.pam_host.specs.declared.problem.Spot.{Spot}
 use Rattle.pam_host.proofs.Adding.{modules-more, modules-none, tested-all}

@@ -1,6 +1,6 @@
 use Rattle.pam_paths.specs.Classes.{Member}
-use Rattle.pam_host.specs.Looked.{OfModule}
-use Rattle.pam_host.specs.Table.{Adds}
+use Rattle.pam_host.specs.inner.Looked.{OfModule}
+use Rattle.pam_host.specs.inner.Table.{Adds}
 use Rattle.pam_host.specs.declared.problem.Problem.TheVariants as problems
 use Rattle.pam_host.proofs.Adding.{OfFirst}
 use Rattle.pam_host.proofs.modules.push_asked.Given as goal

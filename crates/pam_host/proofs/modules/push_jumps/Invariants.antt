@@ -1,7 +1,7 @@
 use Rattle.std.proofs.Common.{take}
 use Rattle.pam_paths.specs.Classes.{Member}
-use Rattle.pam_host.specs.Looked.{OfModules}
-use Rattle.pam_host.specs.Table.{Adds}
+use Rattle.pam_host.specs.inner.Looked.{OfModules}
+use Rattle.pam_host.specs.inner.Table.{Adds}
 use Rattle.pam_host.specs.declared.problem.Problem.TheVariants as problems
 use Rattle.pam_host.proofs.modules.push_jumps.Given as goal
 

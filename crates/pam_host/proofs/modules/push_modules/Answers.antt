@@ -1,5 +1,5 @@
 use Rattle.std.proofs.Common.{arith}
-use Rattle.pam_host.specs.Looked.{OfNumber}
+use Rattle.pam_host.specs.inner.Looked.{OfNumber}
 use Rattle.pam_host.proofs.Adding.{modules-all, modules-more, modules-none}
 use Rattle.pam_host.proofs.modules.push_modules.Goals as goal
 

@@ -1,5 +1,5 @@
-use Rattle.pam_host.specs.Looked.{OfNumber}
-use Rattle.pam_host.specs.Table.{Adds}
+use Rattle.pam_host.specs.inner.Looked.{OfNumber}
+use Rattle.pam_host.specs.inner.Table.{Adds}
 use Rattle.pam_host.proofs.Adding.{OfFirst}
 use Rattle.pam_host.proofs.modules.push_modules.Given as goal
 

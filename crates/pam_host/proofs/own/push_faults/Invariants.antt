@@ -1,5 +1,5 @@
 use Rattle.std.proofs.Common.{◌≡◌, ◌++◌, map, take}
-use Rattle.pam_host.specs.Own.{fault_spot}
+use Rattle.pam_host.specs.inner.Own.{fault_spot}
 use Rattle.pam_host.proofs.own.push_faults.Given as goal
 
 abbrev pub invariant-loop-fault : goal.invariant-loop-fault

@@ -1,5 +1,5 @@
 use Rattle.std.proofs.Common.{◌≡◌, ◌++◌, map, take}
-use Rattle.pam_host.specs.Own.{released_spot}
+use Rattle.pam_host.specs.inner.Own.{released_spot}
 use Rattle.pam_host.proofs.own.push_released.Given as goal
 
 abbrev pub invariant-loop-finding : goal.invariant-loop-finding

@@ -3,7 +3,7 @@ use Rattle.pam_conf.specs.FileRules.{own_faults}
 use Rattle.pam_conf.specs.declared.error.RuleFault.{RuleFault}
 use Rattle.pam_conf.specs.declared.rule.Form.{Form}
 use Rattle.pam_host.specs.FileProblems.{released_in}
-use Rattle.pam_host.specs.Own.{fault_spot, released_spot}
+use Rattle.pam_host.specs.inner.Own.{fault_spot, released_spot}
 use Rattle.pam_host.proofs.FileNames.{seen-of}
 use Rattle.pam_host.proofs.Owned.{faults-of-file, puts-file}
 use Rattle.pam_host.proofs.own.put_file.Goals as goal

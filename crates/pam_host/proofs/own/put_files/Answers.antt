@@ -1,6 +1,6 @@
 use Rattle.std.proofs.Common.{◌+◌, subst, sym}
-use Rattle.pam_host.specs.Own.{IsRead, read_by}
-use Rattle.pam_host.specs.Table.{Puts}
+use Rattle.pam_host.specs.inner.Own.{IsRead, read_by}
+use Rattle.pam_host.specs.inner.Table.{Puts}
 use Rattle.pam_host.proofs.Owned.{reads-more, reads-none, reads-skip}
 use Rattle.pam_host.proofs.own.put_files.Goals.{in-Some+in_ok-put_file-in-Some, in-None}
 use Rattle.pam_host.proofs.own.put_files.Goals as goal

@@ -1,5 +1,5 @@
-use Rattle.pam_host.specs.Own.{IsRead, read_by}
-use Rattle.pam_host.specs.Table.{Puts}
+use Rattle.pam_host.specs.inner.Own.{IsRead, read_by}
+use Rattle.pam_host.specs.inner.Table.{Puts}
 use Rattle.pam_host.proofs.own.put_files.Given as goal
 
 -- the problems of the files so far are put

@@ -1,6 +1,6 @@
 use Rattle.std.proofs.Common.{take}
 use Rattle.pam_paths.specs.Classes.{Member}
-use Rattle.pam_host.specs.Table.{Notes}
+use Rattle.pam_host.specs.inner.Table.{Notes}
 use Rattle.pam_host.proofs.readers.note_all.Given as goal
 
 -- the stack is noted at the files so far

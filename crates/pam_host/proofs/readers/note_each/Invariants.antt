@@ -1,5 +1,5 @@
 use Rattle.std.proofs.Common.{◌<◌}
-use Rattle.pam_host.specs.Table.{Notes}
+use Rattle.pam_host.specs.inner.Table.{Notes}
 use Rattle.pam_host.proofs.readers.note_each.Given as goal
 
 -- the stack is noted at the files so far

@@ -1,5 +1,5 @@
 use Rattle.std.proofs.Common.{refl}
-use Rattle.pam_host.specs.Table.{with_met}
+use Rattle.pam_host.specs.inner.Table.{with_met}
 use Rattle.pam_host.proofs.Places.{put-at}
 use Rattle.pam_host.proofs.table.put.Goals as goal
 

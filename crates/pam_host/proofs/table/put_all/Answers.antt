@@ -1,5 +1,5 @@
 use Rattle.std.proofs.Common.{refl}
-use Rattle.pam_host.specs.Table.{with_met}
+use Rattle.pam_host.specs.inner.Table.{with_met}
 use Rattle.pam_host.proofs.Passes.{puts-end, puts-more, puts-start, settles-met}
 use Rattle.pam_host.proofs.table.put_all.Goals as goal
 

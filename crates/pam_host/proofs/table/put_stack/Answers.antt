@@ -1,5 +1,5 @@
 use Rattle.std.proofs.Common.{◌∙◌, ap}
-use Rattle.pam_host.specs.Meeting.{also_met}
+use Rattle.pam_host.specs.inner.Meeting.{also_met}
 use Rattle.std.proofs.lemmas.Result.{on_ok_weaker}
 use Rattle.pam_host.proofs.Passes.{puts-stack}
 use Rattle.pam_host.proofs.table.put_stack.Goals as goal

@@ -1,5 +1,5 @@
 use Rattle.std.proofs.Common.{refl}
-use Rattle.pam_host.specs.Table.{with_stack}
+use Rattle.pam_host.specs.inner.Table.{with_stack}
 use Rattle.pam_host.proofs.Passes.{puts-end, puts-more, puts-start, settles-stack}
 use Rattle.pam_host.proofs.table.put_stack_at_all.Goals as goal
 

@@ -1,6 +1,6 @@
 use Rattle.std.proofs.Common.{take}
 use Rattle.pam_paths.specs.Classes.{Member}
-use Rattle.pam_host.specs.Table.{Puts, with_stack}
+use Rattle.pam_host.specs.inner.Table.{Puts, with_stack}
 use Rattle.pam_host.proofs.table.put_stack_at_all.Given as goal
 
 -- the problems so far are put

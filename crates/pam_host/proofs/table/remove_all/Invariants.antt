@@ -1,6 +1,6 @@
 use Rattle.std.proofs.Common.{take}
 use Rattle.pam_paths.specs.Classes.{Member}
-use Rattle.pam_host.specs.Table.{Removes}
+use Rattle.pam_host.specs.inner.Table.{Removes}
 use Rattle.pam_host.proofs.table.remove_all.Given as goal
 
 -- the findings so far are removed

@@ -1,5 +1,5 @@
 use Rattle.std.proofs.Common.{◌≡◌, ◌++◌, map, take}
-use Rattle.pam_host.specs.Looked.{walk_spot}
+use Rattle.pam_host.specs.inner.Looked.{walk_spot}
 use Rattle.pam_host.proofs.walk.push_walk.Given as goal
 
 abbrev pub invariant-loop-fault : goal.invariant-loop-fault

@@ -3,7 +3,7 @@ use Rattle.std.specs.Str.Lossy.{utf8_lossy}
 use Rattle.json.specs.Print.{escape}
 use Rattle.pam_text.proofs.Writing.{all-is, all-none, all-then, err-front, front-is, front-longer, front-then}
 use Rattle.pam_json_lines.proofs.Strings.{chunk-more, chunks-all}
-use Rattle.pam_json_lines.specs.Text.{invalid_text}
+use Rattle.pam_json_lines.specs.inner.Text.{invalid_text}
 use Rattle.pam_json_lines.proofs.text.put_chunks.Goals as goal
 
 pub loop-chunk-init : goal.loop-chunk-init

@@ -2,7 +2,7 @@ use Rattle.std.proofs.Common.{◌≡◌, map, take}
 use Rattle.std.specs.Option.{option_map}
 use Rattle.pam_misspelled.specs.Findings.{misspelled_at}
 use Rattle.pam_misspelled.specs.MisspelledView.{misspelled_view}
-use Rattle.pam_misspelled.specs.Reading.{IsReading}
+use Rattle.pam_misspelled.specs.inner.Reading.{IsReading}
 use Rattle.pam_misspelled.proofs.findings.misspelled_words.Given as goal
 
 -- the words at the findings so far

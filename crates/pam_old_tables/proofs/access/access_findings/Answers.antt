@@ -1,6 +1,6 @@
 use Rattle.std.proofs.Common.{◌∙◌}
 use Rattle.pam_old_tables.specs.Access.{access_tests}
-use Rattle.pam_old_tables.specs.Separators.{options_with}
+use Rattle.pam_old_tables.specs.inner.Separators.{options_with}
 use Rattle.pam_old_tables.proofs.FindingSteps.{access_are, line_end, line_step}
 use Rattle.pam_old_tables.proofs.access.access_findings.Goals as goal
 

@@ -2,7 +2,7 @@ use Rattle.std.proofs.Common.{◌≡◌, ◌++◌}
 use Rattle.pam_tables.specs.Lines.{lines_from, lines_left}
 use Rattle.pam_old_tables.specs.Access.{access_tests}
 use Rattle.pam_old_tables.specs.Findings.{found_in}
-use Rattle.pam_old_tables.specs.Separators.{options_with}
+use Rattle.pam_old_tables.specs.inner.Separators.{options_with}
 use Rattle.pam_old_tables.proofs.access.access_findings.Given as goal
 
 abbrev pub invariant-loop-number : goal.invariant-loop-number

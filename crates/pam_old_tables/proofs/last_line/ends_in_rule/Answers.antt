@@ -1,5 +1,5 @@
 use Rattle.std.proofs.Common.{◌∙◌, ap}
-use Rattle.pam_old_tables.specs.Pieces.{filled_after}
+use Rattle.pam_old_tables.specs.inner.Pieces.{filled_after}
 use Rattle.pam_old_tables.proofs.LastLine.{all_read, ends_so, piece_read}
 use Rattle.pam_old_tables.proofs.last_line.ends_in_rule.Goals as goal
 

@@ -1,5 +1,5 @@
 use Rattle.std.proofs.Common.{◌∙◌, ap, sym}
-use Rattle.pam_old_tables.specs.Pieces.{front_of}
+use Rattle.pam_old_tables.specs.inner.Pieces.{front_of}
 use Rattle.pam_old_tables.proofs.LastLine.{front_is, no_front}
 use Rattle.pam_old_tables.proofs.last_line.front_of.Goals as goal
 

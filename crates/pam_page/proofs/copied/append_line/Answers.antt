@@ -1,6 +1,6 @@
 use Rattle.std.proofs.Common.{◌∙◌, ◌++◌, ap, codes, ℕ}
 use Rattle.pam_page.proofs.KeptTexts.{line_parts}
-use Rattle.pam_page.specs.KeptSteps.{undotted}
+use Rattle.pam_page.specs.inner.KeptSteps.{undotted}
 use Rattle.pam_page.specs.Page.{code_name}
 use Rattle.pam_page.proofs.copied.append_line.Goals as goal
 

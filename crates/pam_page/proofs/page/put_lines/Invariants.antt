@@ -2,7 +2,7 @@
 use Rattle.std.proofs.Common.{◌≡◌, ◌+◌, ◌*◌, ◌≤◌, take, drop, length}
 use Rattle.std.specs.List.{flat_map}
 use Rattle.pam_page.specs.Coming.{coming, followed, most_steps, side, work}
-use Rattle.pam_page.specs.Lines.{Holds}
+use Rattle.pam_page.specs.inner.Lines.{Holds}
 use Rattle.pam_page.specs.Page.{path_line}
 use Rattle.pam_page.proofs.page.put_lines.Given as goal
 

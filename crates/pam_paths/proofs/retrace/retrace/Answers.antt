@@ -4,9 +4,10 @@ use Rattle.pam_dispatch.specs.declared.place.Place.{Place}
 use Rattle.pam_dispatch.specs.Flat.{modules_of, rest_of, runs_of}
 use Rattle.pam_dispatch.specs.Runs.{AsksRise, Runs}
 use Rattle.pam_paths.specs.declared.frames.Frame.{Frame}
-use Rattle.pam_paths.specs.Retrace.{further, verdict_of}
+use Rattle.pam_paths.specs.inner.Retrace.{further, verdict_of}
 use Rattle.pam_paths.specs.declared.direction.Direction.{Direction}
-use Rattle.pam_paths.specs.Frames.{AreFrames, ahead, part, under}
+use Rattle.pam_paths.specs.Frames.{ahead}
+use Rattle.pam_paths.specs.inner.Frames.{AreFrames, part, under}
 use Rattle.pam_paths.proofs.FrameLists.{rise_after, AsksRise-lower}
 use Rattle.pam_paths.proofs.Verdicts.{further-more, further-none}
 use Rattle.pam_paths.proofs.Retracing.{first_frames, first_part, kept-each, kept-frames, kept-many, left-cons, nothing_left, part-kept, verdict-asked}

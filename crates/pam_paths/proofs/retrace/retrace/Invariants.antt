@@ -1,9 +1,10 @@
 use Rattle.std.proofs.Common.{◌≡◌, ◌+◌, ◌≤◌, ◌++◌, [], true, cond, drop, length}
 use Rattle.pam_dispatch.specs.Flat.{rest_of, runs_of, IsPlaceOf, modules_of}
 use Rattle.pam_dispatch.specs.Runs.{AsksRise}
-use Rattle.pam_paths.specs.Retrace.{further, verdict_of}
+use Rattle.pam_paths.specs.inner.Retrace.{further, verdict_of}
 use Rattle.pam_paths.specs.declared.direction.Direction.{Direction}
-use Rattle.pam_paths.specs.Frames.{AreFrames, ahead, part, under}
+use Rattle.pam_paths.specs.Frames.{ahead}
+use Rattle.pam_paths.specs.inner.Frames.{AreFrames, part, under}
 use Rattle.pam_paths.proofs.retrace.retrace.Given as goal
 
 abbrev pub invariant-loop-index : goal.invariant-loop-index

@@ -1,7 +1,7 @@
 use Rattle.pam_codes.proofs.Writing.{err-front, front-is}
 use Rattle.pam_picture.proofs.Loops.{failed-at}
 use Rattle.pam_picture.proofs.mark.put_marks.Goals as goal
-use Rattle.pam_picture.specs.Marks.{mark_text}
+use Rattle.pam_picture.specs.inner.Marks.{mark_text}
 use Rattle.std.proofs.Common.{ap}
 
 pub returns-in_err-put_mark : goal.returns-in_err-put_mark

@@ -1,7 +1,7 @@
 -- what comes first is written
 use Rattle.pam_codes.specs.Out.{TookAll}
 use Rattle.pam_picture.proofs.mark.put_marks.Given as goal
-use Rattle.pam_picture.specs.Marks.{mark_text}
+use Rattle.pam_picture.specs.inner.Marks.{mark_text}
 use Rattle.std.proofs.Common.{take}
 use Rattle.std.specs.List.{flat_map}
 

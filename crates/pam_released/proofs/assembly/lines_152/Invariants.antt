@@ -1,5 +1,6 @@
 use Rattle.std.proofs.Common.{◌≡◌, ◌≤◌, ◌+◌, [], false, length, map}
-use Rattle.pam_released.specs.Numbered.{line_view, numbered_152}
+use Rattle.pam_released.specs.Numbered.{numbered_152}
+use Rattle.pam_released.specs.inner.Numbered.{line_view}
 use Rattle.pam_released.proofs.AssembledLines.{with_front}
 use Rattle.pam_released.proofs.assembly.lines_152.Given as goal
 

@@ -1,6 +1,7 @@
 use Rattle.std.proofs.Common.{◌+◌, ◌++◌, ◌∙◌, ℕ, List, true, map, ap, arith, eqb, refl, sym}
 use Rattle.pam_released.specs.Lines.{physical_lines, without_start_blanks}
-use Rattle.pam_released.specs.Numbered.{line_view, numbered_170}
+use Rattle.pam_released.specs.Numbered.{numbered_170}
+use Rattle.pam_released.specs.inner.Numbered.{line_view}
 use Rattle.pam_released.proofs.AssembledLines.{line_goes, line_gone, line_kept, lines_end, read_end, refused_end, with_front}
 use Rattle.pam_released.proofs.Assembling.{is_nothing, is_something}
 use Rattle.pam_released.proofs.assembly.lines_170.Goals as goal

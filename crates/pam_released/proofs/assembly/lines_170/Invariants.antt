@@ -1,6 +1,7 @@
 use Rattle.std.proofs.Common.{◌≡◌, ◌≤◌, ◌+◌, [], false, length, map}
 use Rattle.pam_released.specs.Lines.{physical_lines}
-use Rattle.pam_released.specs.Numbered.{line_view, numbered_170}
+use Rattle.pam_released.specs.Numbered.{numbered_170}
+use Rattle.pam_released.specs.inner.Numbered.{line_view}
 use Rattle.pam_released.proofs.AssembledLines.{with_front}
 use Rattle.pam_released.proofs.assembly.lines_170.Given as goal
 

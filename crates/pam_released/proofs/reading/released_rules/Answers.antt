@@ -1,5 +1,5 @@
 use Rattle.std.proofs.Common.{◌∙◌, List, Some, ap, map, refl, sym}
-use Rattle.pam_released.specs.Numbered.{line_view}
+use Rattle.pam_released.specs.inner.Numbered.{line_view}
 use Rattle.pam_released.specs.declared.assembly.LogicalLine.{LogicalLine}
 use Rattle.pam_released.proofs.ReadingSteps.{line_at, lines_refused, no_line, plain_refused, plain_rules, reading_at, rule_pushed, rule_refused}
 use Rattle.pam_released.proofs.ReadingSteps.{rules_first, rules_read}

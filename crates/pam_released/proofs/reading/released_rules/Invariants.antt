@@ -1,5 +1,5 @@
 use Rattle.std.proofs.Common.{◌≡◌, drop, map}
-use Rattle.pam_released.specs.Numbered.{line_view}
+use Rattle.pam_released.specs.inner.Numbered.{line_view}
 use Rattle.pam_released.specs.Readings.{numbered_readings, numbered_rules, numbered_view}
 use Rattle.pam_released.proofs.ReadingSteps.{after_rules}
 use Rattle.pam_released.proofs.reading.released_rules.Given as goal

@@ -1,6 +1,6 @@
 use Rattle.std.proofs.Common.{take}
 use Rattle.pam_paths.specs.Classes.{Member}
-use Rattle.pam_table_check.specs.Passes.{Puts}
+use Rattle.pam_table_check.specs.inner.Passes.{Puts}
 use Rattle.pam_table_check.proofs.findings.put_all.Given as goal
 
 -- the problems so far are found

@@ -1,5 +1,5 @@
 use Rattle.std.proofs.Common.{map, take}
-use Rattle.pam_table_check.specs.Passes.{IsOfSome, Puts, need_view}
+use Rattle.pam_table_check.specs.inner.Passes.{IsOfSome, Puts, need_view}
 use Rattle.pam_table_check.specs.Tables.{tables_view}
 use Rattle.pam_table_check.proofs.findings.put_needs.Given as goal
 

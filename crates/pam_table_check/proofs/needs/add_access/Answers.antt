@@ -2,7 +2,7 @@ use Rattle.std.proofs.Common.{List, ap, map, subst, sym, ℕ}
 use Rattle.pam_paths.specs.Classes.{Member}
 use Rattle.pam_tables.specs.Options.{Options, options_of}
 use Rattle.pam_table_check.specs.Needs.{OfAccess}
-use Rattle.pam_table_check.specs.Passes.{need_view}
+use Rattle.pam_table_check.specs.inner.Passes.{need_view}
 use Rattle.pam_table_check.specs.declared.needs.Needed.{Needed}
 use Rattle.pam_table_check.proofs.Adding.{adds-known, adds-pushed}
 use Rattle.pam_table_check.proofs.needs.add_access.Goals as goal

@@ -1,7 +1,7 @@
 use Rattle.std.proofs.Common.{◌∙◌, ap, map, sym}
 use Rattle.std.proofs.lemmas.Result.{on_ok_weaker}
 use Rattle.pam_conf.specs.Survey.{SurveyText}
-use Rattle.pam_table_check.specs.Passes.{need_view}
+use Rattle.pam_table_check.specs.inner.Passes.{need_view}
 use Rattle.pam_table_check.proofs.Adding.{of-stack}
 use Rattle.pam_table_check.proofs.needs.add_kind.Goals as goal
 

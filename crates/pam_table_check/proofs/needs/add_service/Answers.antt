@@ -1,6 +1,6 @@
 use Rattle.std.proofs.Common.{map}
 use Rattle.std.proofs.lemmas.Result.{on_ok_weaker}
-use Rattle.pam_table_check.specs.Passes.{need_view}
+use Rattle.pam_table_check.specs.inner.Passes.{need_view}
 use Rattle.pam_table_check.proofs.Adding.{four-kinds}
 use Rattle.pam_table_check.proofs.needs.add_service.Goals as goal
 

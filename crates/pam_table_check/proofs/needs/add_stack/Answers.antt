@@ -1,5 +1,5 @@
 use Rattle.std.proofs.Common.{arith, map}
-use Rattle.pam_table_check.specs.Passes.{need_view}
+use Rattle.pam_table_check.specs.inner.Passes.{need_view}
 use Rattle.pam_table_check.proofs.Adding.{modules-all, modules-more, modules-none}
 use Rattle.pam_table_check.proofs.needs.add_stack.Goals as goal
 

@@ -1,5 +1,5 @@
 use Rattle.std.proofs.Common.{map}
-use Rattle.pam_table_check.specs.Passes.{Adds, need_view}
+use Rattle.pam_table_check.specs.inner.Passes.{Adds, need_view}
 use Rattle.pam_table_check.proofs.Adding.{OfFirst}
 use Rattle.pam_table_check.proofs.needs.add_stack.Given as goal
 

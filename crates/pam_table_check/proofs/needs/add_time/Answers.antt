@@ -1,7 +1,7 @@
 use Rattle.std.proofs.Common.{List, map, refl, subst}
 use Rattle.pam_paths.specs.Classes.{Member}
 use Rattle.pam_table_check.specs.Needs.{OfTime}
-use Rattle.pam_table_check.specs.Passes.{need_view}
+use Rattle.pam_table_check.specs.inner.Passes.{need_view}
 use Rattle.pam_table_check.specs.declared.needs.Needed.{Needed}
 use Rattle.pam_table_check.proofs.Adding.{adds-known, adds-pushed}
 use Rattle.pam_table_check.proofs.needs.add_time.Goals as goal

@@ -1,6 +1,6 @@
 use Rattle.std.proofs.Common.{ap}
 use Rattle.pam_table_check.specs.Needs.{OfGroups}
-use Rattle.pam_table_check.specs.Passes.{need_view}
+use Rattle.pam_table_check.specs.inner.Passes.{need_view}
 use Rattle.pam_table_check.proofs.Adding.{known-at}
 use Rattle.pam_table_check.proofs.needs.has_groups.Goals as goal
 

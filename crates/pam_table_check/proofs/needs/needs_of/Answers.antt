@@ -1,5 +1,5 @@
 use Rattle.std.proofs.Common.{◌∙◌, map}
-use Rattle.pam_table_check.specs.Passes.{need_view}
+use Rattle.pam_table_check.specs.inner.Passes.{need_view}
 use Rattle.pam_table_check.proofs.Adding.{comes-end, comes-more, comes-start}
 use Rattle.pam_table_check.proofs.needs.needs_of.Goals as goal
 

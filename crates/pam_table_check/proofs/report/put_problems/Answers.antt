@@ -2,7 +2,7 @@ use Rattle.std.proofs.Common.{◌∙◌, [], List, ap, map, not, subst, sym, ℕ
 use Rattle.std.proofs.lemmas.Result.{on_ok_weaker}
 use Rattle.pam_conf.specs.Files.{Folder}
 use Rattle.pam_table_check.specs.Needs.{IsNeeded}
-use Rattle.pam_table_check.specs.Passes.{Adds, need_view}
+use Rattle.pam_table_check.specs.inner.Passes.{Adds, need_view}
 use Rattle.pam_table_check.specs.Tables.{tables_view}
 use Rattle.pam_table_check.specs.declared.needs.Needed.{Needed}
 use Rattle.pam_table_check.proofs.Reporting.{no-problems, none-given, problems-of}

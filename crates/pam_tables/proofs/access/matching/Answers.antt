@@ -1,6 +1,7 @@
 use Rattle.std.proofs.Common.{◌∙◌, sym, ap}
 use Rattle.std.specs.Result.{result_ok}
-use Rattle.pam_tables.specs.Access.{permission_for, permission_of}
+use Rattle.pam_tables.specs.Access.{permission_of}
+use Rattle.pam_tables.specs.inner.Access.{permission_for}
 use Rattle.pam_tables.proofs.AccessSteps.{passed_entry, no_entry, line_read, users_miss, origins_miss, line_decides}
 use Rattle.pam_tables.proofs.access.matching.Goals as goal
 

@@ -1,6 +1,6 @@
 use Rattle.std.proofs.Common.{◌∙◌, sym, refl}
 use Rattle.std.proofs.lemmas.Result.{err_from_is_err_and}
-use Rattle.pam_tables.specs.Named.{with_line}
+use Rattle.pam_tables.specs.inner.Named.{with_line}
 use Rattle.pam_tables.proofs.ReadSteps.{fails_on, fails_there, checked_fails, checked_passes}
 use Rattle.pam_tables.proofs.NamedSteps.{none_before, line_added, line_fails, lines_end}
 use Rattle.pam_tables.proofs.named.read_entries.Goals as goal

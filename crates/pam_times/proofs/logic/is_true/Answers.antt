@@ -1,4 +1,4 @@
-use Rattle.pam_times.specs.Fact.{meets}
+use Rattle.pam_times.specs.inner.Fact.{meets}
 use Rattle.pam_times.proofs.LogicSteps.{value_whole}
 use Rattle.pam_times.proofs.logic.is_true.Goals as goal
 

@@ -1,7 +1,8 @@
 use Rattle.std.proofs.Common.{◌≡◌, length}
-use Rattle.pam_times.specs.Fact.{meets}
-use Rattle.pam_times.specs.Items.{items_after}
-use Rattle.pam_times.specs.Logic.{items_of, list_value}
+use Rattle.pam_times.specs.inner.Fact.{meets}
+use Rattle.pam_times.specs.inner.Items.{items_after}
+use Rattle.pam_times.specs.Logic.{items_of}
+use Rattle.pam_times.specs.inner.Logic.{list_value}
 use Rattle.pam_times.proofs.LogicSteps.{value_from}
 use Rattle.pam_times.proofs.logic.is_true.Given as goal
 

@@ -1,6 +1,6 @@
 use Rattle.std.proofs.Common.{◌≡◌, ◌≤◌, length}
 use Rattle.pam_times.specs.Logic.{signs_of}
-use Rattle.pam_times.specs.OnePass.{before, onward}
+use Rattle.pam_times.specs.inner.OnePass.{before, onward}
 use Rattle.pam_times.proofs.logic.skip_blanks.Given as goal
 
 abbrev pub invariant-loop-first : goal.invariant-loop-first

@@ -1,5 +1,5 @@
 use Rattle.std.proofs.Common.{◌∙◌, refl, sym}
-use Rattle.pam_times.specs.OnePass.{before}
+use Rattle.pam_times.specs.inner.OnePass.{before}
 use Rattle.pam_times.proofs.CheckSteps.{list_fault}
 use Rattle.pam_times.proofs.OnePassSteps.{end_here, end_semicolon, next_end, next_item}
 use Rattle.pam_times.proofs.one_pass.past_list.Goals as goal

@@ -1,6 +1,6 @@
 use Rattle.std.proofs.Common.{◌≡◌, length}
-use Rattle.pam_times.specs.Checks.{list_checked, token_checked}
-use Rattle.pam_times.specs.Items.{items_after}
+use Rattle.pam_times.specs.inner.Checks.{list_checked, token_checked}
+use Rattle.pam_times.specs.inner.Items.{items_after}
 use Rattle.pam_times.specs.declared.logic.Joint.TheVariants.{First}
 use Rattle.pam_times.proofs.CheckSteps.{fault_from}
 use Rattle.pam_times.proofs.reading.check_list.Given as goal

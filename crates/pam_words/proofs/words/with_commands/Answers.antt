@@ -1,7 +1,7 @@
 use Rattle.std.proofs.Common.{ap, refl}
 use Rattle.clap.specs.Words.{App}
 use Rattle.pam_words.proofs.Subcommands.{add-app, add-command, add-local, no-row}
-use Rattle.pam_words.specs.Building.{with_commands}
+use Rattle.pam_words.specs.inner.Building.{with_commands}
 use Rattle.pam_words.proofs.words.with_commands.Goals as goal
 
 pub loop-row-init : goal.loop-row-init

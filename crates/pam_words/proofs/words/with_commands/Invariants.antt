@@ -2,7 +2,7 @@
 use Rattle.std.proofs.Common.{◌≡◌, false, drop}
 use Rattle.clap.specs.Words.{App, app_of}
 use Rattle.clap.specs.declared.builder.Command.TheViews.{out-Command}
-use Rattle.pam_words.specs.Building.{with_commands}
+use Rattle.pam_words.specs.inner.Building.{with_commands}
 use Rattle.pam_words.proofs.words.with_commands.Given as goal
 
 abbrev pub invariant-loop-row : goal.invariant-loop-row

@@ -1,7 +1,7 @@
 use Rattle.std.proofs.Common.{◌++◌, ◌∷◌, [], List, OnOk, subst, ℕ}
 use Rattle.pam_conf.specs.declared.rule.Kind.{Kind}
 use Rattle.pam_conf.specs.declared.rule.Kind.TheVariants.{Auth, Account, Password, Session}
-use Rattle.pam_changes.specs.Finding.{IsFound}
+use Rattle.pam_changes.specs.inner.Finding.{IsFound}
 use Rattle.pam_changes.specs.Sides.{sides_view}
 use Rattle.pam_changes.proofs.Stacked.{four-more}
 use Rattle.pam_changes.proofs.stacks.Comparer.add_all_kinds.Goals as goal

@@ -1,6 +1,6 @@
 use Rattle.std.proofs.Common.{List, length, map, refl, subst}
 use Rattle.pam_changes.specs.Changes.{stacks_asked}
-use Rattle.pam_changes.specs.Finding.{IsFound}
+use Rattle.pam_changes.specs.inner.Finding.{IsFound}
 use Rattle.pam_changes.specs.Services.{service_text}
 use Rattle.pam_changes.specs.Sides.{sides_view}
 use Rattle.pam_changes.specs.declared.services.ComparedService.{ComparedService}

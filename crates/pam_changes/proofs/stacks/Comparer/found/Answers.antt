@@ -3,7 +3,7 @@ use Rattle.std.specs.Option.{option_map}
 use Rattle.std.proofs.lemmas.Option.{slice_get-map}
 use Rattle.pam_conf.specs.declared.rule.Kind.{Kind}
 use Rattle.pam_changes.specs.Changes.{stacks_asked}
-use Rattle.pam_changes.specs.Finding.{IsFound}
+use Rattle.pam_changes.specs.inner.Finding.{IsFound}
 use Rattle.pam_changes.specs.Services.{service_text}
 use Rattle.pam_changes.specs.Sides.{sides_view}
 use Rattle.pam_changes.specs.declared.services.ComparedService.{ComparedService}

@@ -1,6 +1,6 @@
 use Rattle.std.proofs.Common.{map}
 use Rattle.pam_changes.specs.Changes.{stacks_asked}
-use Rattle.pam_changes.specs.Finding.{IsFound}
+use Rattle.pam_changes.specs.inner.Finding.{IsFound}
 use Rattle.pam_changes.specs.Services.{service_text}
 use Rattle.pam_changes.specs.Sides.{sides_view}
 use Rattle.pam_changes.proofs.stacks.Comparer.found.Given as goal

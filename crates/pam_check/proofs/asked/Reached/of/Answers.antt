@@ -3,8 +3,9 @@ use Rattle.std.specs.List.{list_any}
 use Rattle.pam_graph.specs.declared.goal.Goal.{Goal}
 use Rattle.pam_graph.specs.Goals.{meets}
 use Rattle.pam_graph.specs.Walks.{walks}
-use Rattle.pam_paths.specs.Known.{may_answer, some_code}
-use Rattle.pam_check.specs.Marks.{has_number}
+use Rattle.pam_paths.specs.Known.{may_answer}
+use Rattle.pam_paths.specs.inner.Known.{some_code}
+use Rattle.pam_check.specs.inner.Marks.{has_number}
 use Rattle.pam_check.proofs.Marking.{listing-of, says-asked}
 use Rattle.pam_check.proofs.WaysIn.{says-nobody}
 use Rattle.pam_check.proofs.asked.Reached.of.Goals as goal

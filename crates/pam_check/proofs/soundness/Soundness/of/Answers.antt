@@ -1,7 +1,8 @@
 use Rattle.std.proofs.Common.{◌∙◌, ap, filter, not, ℕ}
 use Rattle.std.specs.List.{range_with_len}
-use Rattle.pam_paths.specs.Known.{may_answer, some_code}
-use Rattle.pam_check.specs.Marks.{mark_of}
+use Rattle.pam_paths.specs.Known.{may_answer}
+use Rattle.pam_paths.specs.inner.Known.{some_code}
+use Rattle.pam_check.specs.inner.Marks.{mark_of}
 use Rattle.pam_check.proofs.Passing.{exactly-never}
 use Rattle.pam_check.proofs.soundness.Soundness.of.Goals as goal
 

@@ -1,6 +1,6 @@
 -- the candidates so far are read
 use Rattle.std.proofs.Common.{map, take}
-use Rattle.pam_cli.specs.Sources.{HasCandidates}
+use Rattle.pam_cli.specs.inner.Sources.{HasCandidates}
 use Rattle.pam_words.specs.Wanted.{candidate_view}
 use Rattle.pam_cli.proofs.reading.sources.candidate_files.Given as goal
 

@@ -1,6 +1,6 @@
 use Rattle.std.proofs.Common.{◌∙◌, ℕ, List, false, subst, sym, true}
 use Rattle.std.proofs.lemmas.Result.{on_ok_weaker}
-use Rattle.pam_cli.specs.Sources.{AddsCandidate}
+use Rattle.pam_cli.specs.inner.Sources.{AddsCandidate}
 use Rattle.pam_cli.proofs.Added.{as_found}
 use Rattle.pam_cli.proofs.Candidates.{none_added, one_added}
 use Rattle.pam_cli.proofs.reading.sources.put_candidate.Goals as goal

@@ -1,5 +1,5 @@
 use Rattle.std.proofs.Common.{◌∙◌, arith, ap, find, refl, sym}
-use Rattle.pam_codes.specs.Code.{has_len}
+use Rattle.pam_codes.specs.inner.Code.{has_len}
 use Rattle.pam_codes.proofs.CodeNames.{first_from, first_of_len, has_name, low_code}
 use Rattle.pam_codes.proofs.Tables.{name_at}
 use Rattle.pam_codes.proofs.code.Code.from_name.Goals as goal

@@ -3,7 +3,7 @@ use Rattle.std.proofs.lemmas.List.{append-nil}
 use Rattle.std.proofs.lemmas.Option.{slice_get_within}
 use Rattle.pam_compare.specs.declared.held.HeldAnswer.{HeldAnswer}
 use Rattle.pam_compare.specs.declared.held_lists.Link.{Link}
-use Rattle.pam_compare.specs.HeldLists.{IsListed}
+use Rattle.pam_compare.specs.inner.HeldLists.{IsListed}
 use Rattle.pam_compare.proofs.Growing.{same-some}
 use Rattle.pam_compare.proofs.Lists.{listed-start, listed-step}
 use Rattle.pam_compare.proofs.held_lists.HeldLists.answers.Goals as goal

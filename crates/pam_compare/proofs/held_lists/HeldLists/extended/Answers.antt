@@ -1,7 +1,7 @@
 use Rattle.std.proofs.Common.{◌≡◌, ◌+◌, ◌-◌, ◌∙◌, ◌∷◌, ◌++◌, ℕ, List, suc, ap, arith, drop, get_or, length, subst, sym}
 use Rattle.std.proofs.Math.Seq.{drop-cons}
 use Rattle.pam_compare.specs.declared.held.HeldAnswer.{HeldAnswer}
-use Rattle.pam_compare.specs.HeldLists.{IsListed}
+use Rattle.pam_compare.specs.inner.HeldLists.{IsListed}
 use Rattle.pam_compare.proofs.Growing.{keeps-both, keeps-same}
 use Rattle.pam_compare.proofs.Lists.{listed-within}
 use Rattle.pam_compare.proofs.Writing.{drop-past}

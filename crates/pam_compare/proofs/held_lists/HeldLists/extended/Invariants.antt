@@ -1,7 +1,7 @@
 use Rattle.std.proofs.Common.{List, ◌-◌, ◌++◌, drop, length}
 use Rattle.pam_compare.specs.declared.held.HeldAnswer.{HeldAnswer}
-use Rattle.pam_compare.specs.HeldLists.{AreLinks, IsListed}
-use Rattle.pam_compare.specs.Nodes.{Keeps}
+use Rattle.pam_compare.specs.inner.HeldLists.{AreLinks, IsListed}
+use Rattle.pam_compare.specs.inner.Nodes.{Keeps}
 use Rattle.pam_compare.proofs.held_lists.HeldLists.extended.Given as goal
 
 abbrev pub invariant-loop-back : goal.invariant-loop-back

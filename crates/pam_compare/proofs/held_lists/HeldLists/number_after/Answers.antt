@@ -1,7 +1,7 @@
 use Rattle.std.proofs.Common.{◌++◌, List, drop, subst}
 use Rattle.std.specs.Prelude.{IfOk}
 use Rattle.pam_compare.specs.declared.held.HeldAnswer.{HeldAnswer}
-use Rattle.pam_compare.specs.HeldLists.{IsListed}
+use Rattle.pam_compare.specs.inner.HeldLists.{IsListed}
 use Rattle.pam_compare.proofs.held_lists.HeldLists.number_after.Goals as goal
 
 pub returns-clause-links : goal.returns-clause-links

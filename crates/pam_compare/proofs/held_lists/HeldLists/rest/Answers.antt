@@ -1,6 +1,6 @@
 use Rattle.std.proofs.Common.{◌≡◌, ◌∙◌, ℕ, List, [], arith, drop, subst, sym}
 use Rattle.pam_compare.specs.declared.held.HeldAnswer.{HeldAnswer}
-use Rattle.pam_compare.specs.HeldLists.{IsListed}
+use Rattle.pam_compare.specs.inner.HeldLists.{IsListed}
 use Rattle.pam_compare.proofs.Growing.{nothing}
 use Rattle.pam_compare.proofs.Lists.{listed-none, listed-rest, listed-start, listed-step}
 use Rattle.pam_compare.proofs.held_lists.HeldLists.rest.Goals as goal

@@ -1,5 +1,5 @@
 use Rattle.pam_compare.specs.declared.held_lists.Link.{Link}
-use Rattle.pam_compare.specs.HeldLists.{same_link}
+use Rattle.pam_compare.specs.inner.HeldLists.{same_link}
 use Rattle.pam_compare.proofs.Growing.{insert-keeps, links-inserted}
 use Rattle.pam_compare.proofs.Lists.{listed-after, listed-within}
 use Rattle.pam_compare.proofs.held_lists.HeldLists.with.Goals as goal

@@ -1,5 +1,5 @@
 use Rattle.std.proofs.Common.{◌≡◌, ◌+◌, ◌-◌, ℕ, arith, drop, subst}
-use Rattle.pam_compare.specs.HeldLists.{IsListed}
+use Rattle.pam_compare.specs.inner.HeldLists.{IsListed}
 use Rattle.pam_compare.proofs.Lists.{drop-more}
 use Rattle.pam_compare.proofs.held_lists.HeldLists.without_last.Goals as goal
 

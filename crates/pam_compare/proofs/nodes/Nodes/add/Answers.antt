@@ -1,7 +1,7 @@
 use Rattle.std.proofs.Common.{ℕ, inl, inr, subst, sym}
-use Rattle.pam_compare.specs.Held.{held_in}
-use Rattle.pam_compare.specs.HeldLists.{IsListed}
-use Rattle.pam_compare.specs.Nodes.{Stop}
+use Rattle.pam_compare.specs.inner.Held.{held_in}
+use Rattle.pam_compare.specs.inner.HeldLists.{IsListed}
+use Rattle.pam_compare.specs.inner.Nodes.{Stop}
 use Rattle.pam_compare.proofs.Growing.{met-added, new-added, nodes-added}
 use Rattle.pam_compare.proofs.nodes.Nodes.add.Goals as goal
 

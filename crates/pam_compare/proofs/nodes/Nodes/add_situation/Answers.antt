@@ -4,7 +4,7 @@ use Rattle.std.proofs.lemmas.List.{length_push}
 use Rattle.pam_compare.specs.declared.nodes.Way.{Way}
 use Rattle.pam_compare.specs.declared.situation.Situation.{Situation}
 use Rattle.pam_compare.proofs.Growing.{insert-keeps, insert-new, insert-old, keeps-push, keeps-same, pushed-cases}
-use Rattle.pam_compare.specs.Held.{same_situation}
+use Rattle.pam_compare.specs.inner.Held.{same_situation}
 use Rattle.pam_compare.proofs.Sameness.{same-is}
 use Rattle.pam_compare.proofs.nodes.Nodes.add_situation.Goals as goal
 

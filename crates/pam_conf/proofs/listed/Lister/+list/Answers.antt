@@ -1,5 +1,5 @@
 use Rattle.std.proofs.Common.{ap, map, arith}
-use Rattle.pam_conf.specs.Kept.{kept_view}
+use Rattle.pam_conf.specs.inner.Kept.{kept_view}
 use Rattle.pam_conf.specs.ListedText.{listed_text}
 use Rattle.pam_conf.proofs.ListLemmas.{list-begins, list-ends, list-goes_on}
 use Rattle.pam_conf.proofs.TableLemmas.{good_lent}

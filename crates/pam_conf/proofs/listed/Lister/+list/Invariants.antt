@@ -1,5 +1,5 @@
 use Rattle.std.proofs.Common.{◌≡◌, ◌++◌, map, ◌+◌, ◌*◌, drop}
-use Rattle.pam_conf.specs.Kept.{kept_view}
+use Rattle.pam_conf.specs.inner.Kept.{kept_view}
 use Rattle.pam_conf.specs.Listed.{file_listed, further, rules_listed}
 use Rattle.pam_conf.specs.ListedText.{listed_text}
 use Rattle.pam_conf.proofs.listed.Lister.+list.Given as goal

@@ -1,7 +1,7 @@
 use Rattle.std.proofs.Common.{◌∙◌, ap, List}
 use Rattle.std.specs.List.{list_any}
 use Rattle.pam_conf.specs.Files.{Folder}
-use Rattle.pam_conf.specs.FilesRead.{file_view}
+use Rattle.pam_conf.specs.inner.FilesRead.{file_view}
 use Rattle.pam_conf.specs.Targets.{is_target, names_target}
 use Rattle.pam_conf.specs.declared.rule_files.FileRules.{FileRules}
 use Rattle.pam_conf.proofs.TargetLemmas.{target-read}

@@ -1,6 +1,6 @@
 use Rattle.std.proofs.Common.{◌∙◌, ap, map, arith, refl}
 use Rattle.pam_conf.specs.FileRules.{good_rules, own_faults}
-use Rattle.pam_conf.specs.FilesRead.{file_view}
+use Rattle.pam_conf.specs.inner.FilesRead.{file_view}
 use Rattle.pam_conf.proofs.FileFaults.{read_next, unwrapped}
 use Rattle.pam_conf.proofs.rule_files.RuleFiles.read.Goals as goal
 

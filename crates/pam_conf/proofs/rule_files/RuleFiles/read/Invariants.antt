@@ -1,6 +1,6 @@
 use Rattle.std.proofs.Common.{◌≡◌, map, take}
-use Rattle.pam_conf.specs.FileRules.{file_text}
-use Rattle.pam_conf.specs.FilesRead.{file_view}
+use Rattle.pam_conf.specs.inner.FileRules.{file_text}
+use Rattle.pam_conf.specs.inner.FilesRead.{file_view}
 use Rattle.pam_conf.proofs.rule_files.RuleFiles.read.Given as goal
 
 -- the files up to the position are read

@@ -1,5 +1,5 @@
 use Rattle.std.proofs.Common.{◌∙◌, ap, map}
-use Rattle.pam_conf.specs.Kept.{kept_view}
+use Rattle.pam_conf.specs.inner.Kept.{kept_view}
 use Rattle.pam_conf.proofs.FileFaults.{rules_lent}
 use Rattle.pam_conf.proofs.rule_files.RuleFiles.rules.Goals as goal
 

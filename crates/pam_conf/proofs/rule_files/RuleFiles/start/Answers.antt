@@ -1,6 +1,6 @@
 use Rattle.std.proofs.Common.{ap, codes, map, sym, ◌∙◌}
 use Rattle.pam_conf.specs.Files.{Folder, position_of}
-use Rattle.pam_conf.specs.Kept.{kept_view}
+use Rattle.pam_conf.specs.inner.Kept.{kept_view}
 use Rattle.pam_conf.proofs.SurveyLemmas.{start_single}
 use Rattle.pam_conf.proofs.TableLemmas.{good_lent}
 use Rattle.pam_conf.proofs.rule_files.RuleFiles.start.Goals as goal

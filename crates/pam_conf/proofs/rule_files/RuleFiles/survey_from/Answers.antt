@@ -1,7 +1,7 @@
 use Rattle.std.proofs.Common.{ap, ◌∙◌}
 use Rattle.pam_conf.specs.ItemsOf.{items_of}
-use Rattle.pam_conf.specs.Progress.{count_of}
-use Rattle.pam_conf.specs.StartOf.{start_text}
+use Rattle.pam_conf.specs.inner.Progress.{count_of}
+use Rattle.pam_conf.specs.inner.StartOf.{start_text}
 use Rattle.pam_conf.specs.Survey.{good_at}
 use Rattle.pam_conf.proofs.ResolutionLemmas.{stack-counted, stack-numbered, stack-shallow}
 use Rattle.pam_conf.proofs.SurveyLemmas.{survey-done, survey-ended, with_stack}

@@ -4,8 +4,8 @@ use Rattle.std.proofs.lemmas.List.{drop_all}
 use Rattle.std.proofs.lemmas.Result.{err_from_is_err_and}
 use Rattle.pam_conf.specs.Files.{position_of}
 use Rattle.pam_conf.specs.ItemsOf.{items_of}
-use Rattle.pam_conf.specs.Progress.{Walks, count_of, reads_by}
-use Rattle.pam_conf.specs.Kept.{kept_view, kept_body}
+use Rattle.pam_conf.specs.inner.Progress.{Walks, count_of, reads_by}
+use Rattle.pam_conf.specs.inner.Kept.{kept_view, kept_body}
 use Rattle.pam_conf.specs.Rule.{Include, Sub}
 use Rattle.pam_conf.specs.Stack.{ModuleText, joined, ThenModule, End}
 use Rattle.pam_conf.specs.Walk.{Walk, deeper, rule_walk, rules_at}

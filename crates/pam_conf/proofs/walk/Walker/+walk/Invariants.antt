@@ -1,7 +1,7 @@
 use Rattle.std.proofs.Common.{◌+◌, ◌-◌, ◌*◌, length, drop, is_some}
 use Rattle.std.specs.Option.{option_map}
 use Rattle.pam_conf.specs.ItemsOf.{items_of}
-use Rattle.pam_conf.specs.Progress.{HasRules, count_of, reads_by}
+use Rattle.pam_conf.specs.inner.Progress.{HasRules, count_of, reads_by}
 use Rattle.pam_conf.specs.declared.trail.TheConstants.{MAX_OPEN_FILES}
 use Rattle.pam_conf.proofs.WalkLemmas.{Leads, walk_of}
 use Rattle.pam_conf.proofs.walk.Walker.+walk.Given as goal

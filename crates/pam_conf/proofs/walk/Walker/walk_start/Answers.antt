@@ -1,5 +1,5 @@
 use Rattle.std.specs.Option.{option_map}
-use Rattle.pam_conf.specs.Progress.{reads_by}
+use Rattle.pam_conf.specs.inner.Progress.{reads_by}
 use Rattle.pam_conf.proofs.WalkLemmas.{walk-read}
 use Rattle.pam_conf.proofs.walk.Walker.walk_start.Goals as goal
 

@@ -2,10 +2,11 @@ use Rattle.std.proofs.Common.{◌≡◌, All, List, ap, arith, drop, subst, sym,
 use Rattle.std.specs.List.{AllZip}
 use Rattle.pam_codes.specs.Parts.{IsParts}
 use Rattle.pam_dispatch.specs.declared.flat_item.FlatItem.{FlatItem}
-use Rattle.pam_dispatch.specs.ReadLevels.{IsReadTable}
-use Rattle.pam_dispatch.specs.Settled.{KeepFailure}
-use Rattle.pam_dispatch.specs.Stretches.{IsStretchTable}
-use Rattle.pam_dispatch.specs.Flat.{IsBounded, controls_in, flat_list, positions_from}
+use Rattle.pam_dispatch.specs.inner.ReadLevels.{IsReadTable}
+use Rattle.pam_dispatch.specs.inner.Settled.{KeepFailure}
+use Rattle.pam_dispatch.specs.inner.Stretches.{IsStretchTable}
+use Rattle.pam_dispatch.specs.Flat.{controls_in}
+use Rattle.pam_dispatch.specs.inner.Flat.{IsBounded, flat_list, positions_from}
 use Rattle.pam_dispatch.proofs.Flattening.{runs_of-flat_list}
 use Rattle.pam_dispatch.proofs.StackLists.{bounded-flat_list, control_at-flat_list, modules_of-flat_list, program-flat_list, whole_list}
 use Rattle.pam_dispatch.proofs.program.Program.of.Goals as goal

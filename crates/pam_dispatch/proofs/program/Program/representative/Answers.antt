@@ -6,7 +6,7 @@ use Rattle.pam_dispatch.specs.declared.flat_item.FlatItem.{FlatItem}
 use Rattle.pam_dispatch.specs.declared.place.Place.{Place}
 use Rattle.pam_dispatch.specs.declared.state.State.{State}
 use Rattle.pam_dispatch.specs.Flat.{IsPlaceOf, rest_of}
-use Rattle.pam_dispatch.specs.ReadLevels.{AreReadLevels}
+use Rattle.pam_dispatch.specs.inner.ReadLevels.{AreReadLevels}
 use Rattle.pam_dispatch.specs.Representatives.{AreEqualRests, read_states, representative_of}
 use Rattle.pam_dispatch.proofs.EqualRests.{representative-place, representative-rests}
 use Rattle.pam_dispatch.proofs.ReadTables.{table-at, table-within}

@@ -1,8 +1,8 @@
 use Rattle.std.proofs.Common.{◌-◌, ◌<◌, ◌∙◌, ℕ, List, Option, ap, arith, drop, length, not, subst, sym}
 use Rattle.std.specs.Option.{is_some}
 use Rattle.pam_dispatch.specs.declared.flat_item.FlatItem.{FlatItem}
-use Rattle.pam_dispatch.specs.Flat.{IsNumbered}
-use Rattle.pam_dispatch.specs.Settled.{KeepFailure}
+use Rattle.pam_dispatch.specs.inner.Flat.{IsNumbered}
+use Rattle.pam_dispatch.specs.inner.Settled.{KeepFailure}
 use Rattle.pam_dispatch.proofs.Places.{place_within}
 use Rattle.pam_dispatch.proofs.SettledRuns.{IsRest, none-asked, rest-settled, settled-end}
 use Rattle.pam_dispatch.proofs.program.Program.settled.Goals as goal

@@ -1,6 +1,7 @@
 use Rattle.std.proofs.Common.{◌≡◌, List, ℕ, Bor}
 use Rattle.std.specs.Option.{option_map}
-use Rattle.pam_facts.specs.Kinds.{kinds_named, names_left}
+use Rattle.pam_facts.specs.Kinds.{kinds_named}
+use Rattle.pam_facts.specs.inner.Kinds.{names_left}
 use Rattle.pam_facts.proofs.KindSteps.{found_with}
 use Rattle.pam_facts.proofs.kinds.Kinds.named.Given as goal
 

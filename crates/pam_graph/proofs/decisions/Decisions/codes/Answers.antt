@@ -1,5 +1,5 @@
 use Rattle.std.proofs.Common.{◌∙◌, List, ℕ, ap}
-use Rattle.pam_graph.specs.Deciding.{decided_of, with_target}
+use Rattle.pam_graph.specs.inner.Deciding.{decided_of, with_target}
 use Rattle.pam_graph.specs.Goals.{decided}
 use Rattle.pam_graph.specs.Walks.{walks_of, walks_to}
 use Rattle.pam_graph.specs.declared.node.Target.{Target}

@@ -1,6 +1,6 @@
 use Rattle.std.proofs.Common.{◌<◌, ◌∙◌, None, List, ℕ, ap, arith, length, slice_index_or}
 use Rattle.std.proofs.lemmas.List.{get_or_default}
-use Rattle.pam_graph.specs.Accounts.{deciders}
+use Rattle.pam_graph.specs.inner.Accounts.{deciders}
 use Rattle.pam_graph.specs.Goals.{fit}
 use Rattle.pam_paths.specs.Paths.{PathValue}
 use Rattle.pam_graph.proofs.decisions.Decisions.count.Goals as goal

@@ -1,7 +1,7 @@
 use Rattle.std.proofs.Common.{◌≡◌, ◌∙◌, [], None, List, ap, subst, sym, ℕ}
 use Rattle.pam_graph.specs.declared.node.Node.{Node}
 use Rattle.pam_graph.specs.declared.node.Target.{Target}
-use Rattle.pam_graph.specs.Deciding.{decided_of, first_deciding, leads_to}
+use Rattle.pam_graph.specs.inner.Deciding.{decided_of, first_deciding, leads_to}
 use Rattle.pam_graph.specs.Order.{AreNodes, IsStart}
 use Rattle.pam_graph.specs.Walks.{walks_of, walks_to}
 use Rattle.pam_graph.proofs.Deciding.{decided-within, none-first, some-first}

@@ -3,7 +3,7 @@ use Rattle.std.proofs.lemmas.List.{drop_all}
 use Rattle.pam_graph.specs.declared.goal.Goal.{Goal}
 use Rattle.pam_graph.specs.declared.node.Edge.{Edge}
 use Rattle.pam_graph.specs.Frames.{edges_in, wanted_by}
-use Rattle.pam_graph.specs.Parts.{is_beyond, part}
+use Rattle.pam_graph.specs.inner.Parts.{is_beyond, part}
 use Rattle.pam_graph.proofs.Sides.{above-in, drop-in, length-in}
 use Rattle.pam_graph.proofs.Turning.{AreOrdered, ordered-left, turn-beyond, turn-nearer, turn-same}
 use Rattle.pam_graph.proofs.direction.Direction.turn.Goals as goal

@@ -1,7 +1,7 @@
 use Rattle.std.proofs.Common.{◌≡◌, ◌∷◌, Bool, List, ℕ, drop}
 use Rattle.pam_graph.specs.declared.goal.Goal.{Goal}
 use Rattle.pam_graph.specs.Frames.{edges_in, wanted_by}
-use Rattle.pam_graph.specs.Parts.{part}
+use Rattle.pam_graph.specs.inner.Parts.{part}
 use Rattle.pam_paths.specs.Paths.{PathValue}
 use Rattle.pam_graph.proofs.direction.Direction.turn.Given as goal
 

@@ -2,11 +2,12 @@ use Rattle.std.proofs.Common.{◌≡◌, ◌<◌, ◌++◌, ◌∷◌, ◌∙◌
 use Rattle.std.proofs.lemmas.List.{length-append}
 use Rattle.pam_graph.specs.declared.frames.Frame.{Frame}
 use Rattle.pam_graph.specs.declared.node.Edge.{Edge}
-use Rattle.pam_graph.specs.Frames.{AreFrames, ahead, edges_in, edges_of, known_in, left_at, step_in, under, wanted_by}
+use Rattle.pam_graph.specs.Frames.{ahead, edges_in, edges_of, known_in, left_at, step_in, under, wanted_by}
+use Rattle.pam_graph.specs.inner.Frames.{AreFrames}
 use Rattle.pam_graph.specs.Order.{AreAbove, IsAbove, numbers_of}
 use Rattle.pam_graph.specs.Tallies.{wanted_of}
 use Rattle.pam_graph.specs.Walks.{walks_to}
-use Rattle.pam_graph.specs.Within.{AreWithin}
+use Rattle.pam_graph.specs.inner.Within.{AreWithin}
 use Rattle.pam_graph.proofs.FrameLists.{ahead-next, ahead-none, frame-above, frame-follows, frame-left, frame-room, popped, pushed}
 use Rattle.pam_graph.proofs.Sides.{node-within, tallies-in}
 use Rattle.pam_graph.proofs.frames.Search.advance.Goals as goal

@@ -1,5 +1,6 @@
 use Rattle.std.proofs.Common.{◌≡◌, length, take}
-use Rattle.pam_graph.specs.Frames.{AreFrames, ahead}
+use Rattle.pam_graph.specs.Frames.{ahead}
+use Rattle.pam_graph.specs.inner.Frames.{AreFrames}
 use Rattle.pam_graph.proofs.frames.Search.advance.Given as goal
 
 abbrev pub invariant-loop-frame : goal.invariant-loop-frame

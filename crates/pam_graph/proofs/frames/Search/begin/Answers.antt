@@ -1,8 +1,8 @@
 use Rattle.std.proofs.Common.{◌≡◌, ◌∙◌, [], IfSome, Option, ap, subst, sym}
 use Rattle.pam_graph.specs.declared.frames.Way.{Way}
 use Rattle.pam_graph.specs.Frames.{along, known_in}
-use Rattle.pam_graph.specs.Tallies.{has_walks}
-use Rattle.pam_graph.specs.Within.{IsWithin}
+use Rattle.pam_graph.specs.inner.Tallies.{has_walks}
+use Rattle.pam_graph.specs.inner.Within.{IsWithin}
 use Rattle.pam_graph.proofs.Counting.{none-onward, some-onward, tallies-within}
 use Rattle.pam_graph.proofs.Sides.{tallies-in}
 use Rattle.pam_graph.proofs.frames.Search.begin.Goals as goal

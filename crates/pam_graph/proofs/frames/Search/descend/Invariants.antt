@@ -1,8 +1,9 @@
 use Rattle.std.proofs.Common.{◌≡◌, ◌≢◌, ◌++◌, [], length, take}
 use Rattle.pam_graph.specs.declared.frames.Way.{Way}
-use Rattle.pam_graph.specs.Frames.{AreFrames, ahead, along, under}
+use Rattle.pam_graph.specs.Frames.{ahead, along, under}
+use Rattle.pam_graph.specs.inner.Frames.{AreFrames}
 use Rattle.pam_graph.specs.Order.{IsAbove, numbers_of}
-use Rattle.pam_graph.specs.Within.{height}
+use Rattle.pam_graph.specs.inner.Within.{height}
 use Rattle.pam_graph.proofs.frames.Search.descend.Given as goal
 
 abbrev pub invariant-loop-target : goal.invariant-loop-target

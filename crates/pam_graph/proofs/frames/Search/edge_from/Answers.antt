@@ -1,6 +1,6 @@
 use Rattle.std.proofs.Common.{◌∙◌, ◌+◌, ◌++◌, List, ap, drop, map, sym}
 use Rattle.pam_graph.specs.Frames.{edges_in, wanted_by}
-use Rattle.pam_graph.specs.Tallies.{has_walks}
+use Rattle.pam_graph.specs.inner.Tallies.{has_walks}
 use Rattle.pam_graph.proofs.Counting.{none-onward, some-onward}
 use Rattle.pam_graph.proofs.Sides.{above-in, drop-in, wanted-first, within-in}
 use Rattle.pam_paths.specs.Computed.{after_step}

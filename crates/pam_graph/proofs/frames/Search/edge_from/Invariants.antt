@@ -1,6 +1,6 @@
 use Rattle.std.proofs.Common.{◌≡◌, List, drop, map}
 use Rattle.pam_graph.specs.Frames.{edges_in, wanted_by}
-use Rattle.pam_graph.specs.Tallies.{tally_of}
+use Rattle.pam_graph.specs.inner.Tallies.{tally_of}
 use Rattle.pam_paths.specs.Paths.{PathValue}
 use Rattle.pam_graph.proofs.frames.Search.edge_from.Given as goal
 

@@ -4,11 +4,12 @@ use Rattle.pam_graph.specs.declared.frames.Frame.{Frame}
 use Rattle.pam_graph.specs.declared.node.Edge.{Edge}
 use Rattle.pam_graph.specs.declared.node.Node.{Node}
 use Rattle.pam_graph.specs.declared.node.Target.TheVariants.{At}
-use Rattle.pam_graph.specs.Frames.{AreFrames, IsFrame, ahead, edges_in, known_in, step_in, under, wanted_by}
+use Rattle.pam_graph.specs.Frames.{ahead, edges_in, known_in, step_in, under, wanted_by}
+use Rattle.pam_graph.specs.inner.Frames.{AreFrames, IsFrame}
 use Rattle.pam_graph.specs.Order.{AreAbove, IsAbove, numbers_of}
 use Rattle.pam_graph.specs.Tallies.{wanted_of}
 use Rattle.pam_graph.specs.Walks.{walks_to}
-use Rattle.pam_graph.specs.Within.{AreWithin}
+use Rattle.pam_graph.specs.inner.Within.{AreWithin}
 use Rattle.pam_graph.proofs.FrameLists.{ahead-enter, edges-are, frame-above, frame-room, node-framed, node-inside, pushed}
 use Rattle.pam_graph.proofs.Sides.{node-lower, node-within, tallies-in, walks-in}
 use Rattle.pam_paths.specs.Computed.{after_step}

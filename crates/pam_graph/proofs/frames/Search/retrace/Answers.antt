@@ -3,9 +3,10 @@ use Rattle.std.proofs.lemmas.List.{drop_all, drop_more}
 use Rattle.pam_graph.specs.declared.frames.Frame.{Frame}
 use Rattle.pam_graph.specs.declared.frames.Way.{Way}
 use Rattle.pam_graph.specs.declared.node.Target.{Target}
-use Rattle.pam_graph.specs.Frames.{AreFrames, ahead, along, coming, under}
+use Rattle.pam_graph.specs.Frames.{ahead, along, coming, under}
+use Rattle.pam_graph.specs.inner.Frames.{AreFrames}
 use Rattle.pam_graph.specs.Order.{IsAbove, numbers_of}
-use Rattle.pam_graph.specs.Parts.{is_past_end, part, part_along}
+use Rattle.pam_graph.specs.inner.Parts.{is_past_end, part, part_along}
 use Rattle.pam_graph.proofs.FrameLists.{under-nil}
 use Rattle.pam_graph.proofs.Turning.{past-end, past-key, taken}
 use Rattle.pam_graph.proofs.frames.Search.retrace.Goals as goal

@@ -1,8 +1,9 @@
 use Rattle.std.proofs.Common.{◌≡◌, ◌++◌, drop, false, length}
 use Rattle.pam_graph.specs.declared.frames.Way.{Way}
-use Rattle.pam_graph.specs.Frames.{AreFrames, ahead, along, under}
+use Rattle.pam_graph.specs.Frames.{ahead, along, under}
+use Rattle.pam_graph.specs.inner.Frames.{AreFrames}
 use Rattle.pam_graph.specs.Order.{IsAbove, numbers_of}
-use Rattle.pam_graph.specs.Parts.{part}
+use Rattle.pam_graph.specs.inner.Parts.{part}
 use Rattle.pam_graph.proofs.frames.Search.retrace.Given as goal
 
 abbrev pub invariant-loop-code : goal.invariant-loop-code

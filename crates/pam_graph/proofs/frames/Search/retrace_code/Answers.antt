@@ -3,9 +3,10 @@ use Rattle.std.proofs.lemmas.List.{length-append}
 use Rattle.pam_graph.specs.declared.frames.Frame.{Frame}
 use Rattle.pam_graph.specs.declared.node.Edge.{Edge}
 use Rattle.pam_graph.specs.declared.node.Node.{Node}
-use Rattle.pam_graph.specs.Frames.{AreFrames, IsFrame, ahead, known_in, under}
+use Rattle.pam_graph.specs.Frames.{ahead, known_in, under}
+use Rattle.pam_graph.specs.inner.Frames.{AreFrames, IsFrame}
 use Rattle.pam_graph.specs.Order.{AreAbove, IsAbove, LeastRise, numbers_of}
-use Rattle.pam_graph.specs.Parts.{IsTurn, part, part_by}
+use Rattle.pam_graph.specs.inner.Parts.{IsTurn, part, part_by}
 use Rattle.pam_graph.specs.Tallies.{wanted_of}
 use Rattle.pam_graph.specs.Walks.{walks_to}
 use Rattle.pam_graph.proofs.FrameLists.{frame-above, frame-room, node-framed, node-inside, pushed}

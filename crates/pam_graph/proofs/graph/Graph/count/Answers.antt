@@ -1,6 +1,6 @@
 use Rattle.std.proofs.Common.{◌∙◌, List, ap, false, sym}
 use Rattle.pam_graph.specs.declared.tally.Tally.{Tally}
-use Rattle.pam_graph.specs.Tallies.{count_to, number, tallies_of}
+use Rattle.pam_graph.specs.inner.Tallies.{count_to, number, tallies_of}
 use Rattle.pam_graph.specs.Walks.{GraphValue, walks, walks_of}
 use Rattle.pam_graph.proofs.Counting.{number-to, tallies-within}
 use Rattle.pam_graph.proofs.Withins.{start-within}

@@ -2,7 +2,7 @@ use Rattle.std.proofs.Common.{◌∙◌, List, ap, false}
 use Rattle.std.specs.List.{list_any}
 use Rattle.pam_graph.specs.declared.tally.Tally.{Tally}
 use Rattle.pam_graph.specs.Goals.{meets}
-use Rattle.pam_graph.specs.Tallies.{count_to, has_walks, tallies_of}
+use Rattle.pam_graph.specs.inner.Tallies.{count_to, has_walks, tallies_of}
 use Rattle.pam_graph.specs.Walks.{GraphValue, walks, walks_of}
 use Rattle.pam_graph.proofs.Counting.{any-meets, tallies-within}
 use Rattle.pam_graph.proofs.Withins.{start-within}

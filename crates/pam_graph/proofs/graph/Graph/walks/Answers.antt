@@ -2,9 +2,11 @@ use Rattle.std.proofs.Common.{◌++◌, ◌∙◌, List, ap, append-nil, false, 
 use Rattle.pam_graph.specs.declared.direction.Direction.TheVariants.{Forward}
 use Rattle.pam_graph.specs.declared.frames.Frame.{Frame}
 use Rattle.pam_graph.specs.declared.node.Target.{Target}
-use Rattle.pam_graph.specs.Frames.{AreFrames, ahead, along, coming, under}
+use Rattle.pam_graph.specs.Frames.{ahead, along, coming, under}
+use Rattle.pam_graph.specs.inner.Frames.{AreFrames}
 use Rattle.pam_graph.specs.Order.{IsAbove, numbers_of}
-use Rattle.pam_graph.specs.Tallies.{tallies_of, wanted_of}
+use Rattle.pam_graph.specs.Tallies.{wanted_of}
+use Rattle.pam_graph.specs.inner.Tallies.{tallies_of}
 use Rattle.pam_graph.specs.Walks.{GraphValue}
 use Rattle.pam_graph.proofs.Sides.{known-at}
 use Rattle.pam_graph.proofs.Following.{no-steps}

@@ -2,7 +2,7 @@ use Rattle.std.proofs.Common.{◌∙◌, List, ℕ, ap, false, sym}
 use Rattle.pam_graph.specs.declared.node.Node.{Node}
 use Rattle.pam_graph.specs.declared.node.Target.{Target}
 use Rattle.pam_graph.specs.Frames.{along, coming}
-use Rattle.pam_graph.specs.Parts.{part}
+use Rattle.pam_graph.specs.inner.Parts.{part}
 use Rattle.pam_graph.specs.Tallies.{wanted_of}
 use Rattle.pam_graph.proofs.Sides.{known-at}
 use Rattle.pam_graph.proofs.graph.Graph.walks_past.Goals as goal

@@ -2,11 +2,11 @@ use Rattle.std.proofs.Common.{◌∙◌, List, None, Option, ap, length, replica
 use Rattle.pam_paths.specs.Classes.{Member}
 use Rattle.pam_host.specs.Host.{Host}
 use Rattle.pam_host.specs.Modules.{Modules}
-use Rattle.pam_host.specs.Own.{IsRead, read_by}
+use Rattle.pam_host.specs.inner.Own.{IsRead, read_by}
 use Rattle.pam_host.specs.Report.{IsReportOn}
 use Rattle.pam_host.specs.Services.{checked_services}
-use Rattle.pam_host.specs.SoFar.{SoFar, host_with}
-use Rattle.pam_host.specs.Table.{Puts, Removes}
+use Rattle.pam_host.specs.inner.SoFar.{SoFar, host_with}
+use Rattle.pam_host.specs.inner.Table.{Puts, Removes}
 use Rattle.pam_host.specs.declared.met.Met.{Met}
 use Rattle.pam_host.specs.declared.problem.Spot.{Spot}
 use Rattle.pam_host.proofs.OneService.{take-none}

@@ -1,6 +1,6 @@
 use Rattle.std.proofs.Common.{◌≡◌, ◌∙◌, ◌++◌, ◌≤◌, ◌∷◌, [], List, Option, arith, drop, length, subst, sym, ℕ}
-use Rattle.pam_host.specs.Checking.{AddsService}
-use Rattle.pam_host.specs.SoFar.{SoFar, host_with}
+use Rattle.pam_host.specs.inner.Checking.{AddsService}
+use Rattle.pam_host.specs.inner.SoFar.{SoFar, host_with}
 use Rattle.pam_host.specs.declared.way_in.WayIn.{WayIn}
 use Rattle.pam_host.proofs.OneService.{next-left, none-left, take-service}
 use Rattle.pam_host.proofs.stacks.Checker.add_all.Goals as goal

@@ -1,5 +1,5 @@
 use Rattle.std.proofs.Common.{◌≡◌, ◌≤◌, drop, length}
-use Rattle.pam_host.specs.SoFar.{SoFar, host_with}
+use Rattle.pam_host.specs.inner.SoFar.{SoFar, host_with}
 use Rattle.pam_host.proofs.stacks.Checker.add_all.Given as goal
 
 -- the services so far are taken, and the others are left

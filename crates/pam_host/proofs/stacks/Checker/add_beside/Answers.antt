@@ -1,7 +1,7 @@
 use Rattle.std.proofs.Common.{◌∙◌, List, ap, slice_get, subst}
 use Rattle.pam_conf.specs.Survey.{SurveyText}
 use Rattle.pam_paths.specs.Classes.{Member}
-use Rattle.pam_host.specs.Table.{Puts, with_stack}
+use Rattle.pam_host.specs.inner.Table.{Puts, with_stack}
 use Rattle.pam_host.specs.declared.problem.Spot.{Spot}
 use Rattle.pam_host.proofs.Others.{adds-answer, puts-beside}
 use Rattle.pam_host.proofs.stacks.Checker.add_beside.Goals as goal

@@ -4,7 +4,7 @@ use Rattle.std.proofs.lemmas.List.{with_items_is}
 use Rattle.pam_conf.specs.SurveyText.{survey_text}
 use Rattle.pam_paths.specs.Classes.{Member}
 use Rattle.pam_host.specs.FileProblems.{files_read}
-use Rattle.pam_host.specs.Table.{Notes, Puts, with_stack}
+use Rattle.pam_host.specs.inner.Table.{Notes, Puts, with_stack}
 use Rattle.pam_host.specs.declared.met.Met.{Met}
 use Rattle.pam_host.specs.declared.problem.Spot.{Spot}
 use Rattle.pam_host.proofs.Seen.{adds-stack}

@@ -4,8 +4,8 @@ use Rattle.pam_conf.specs.Files.{Folder}
 use Rattle.pam_conf.specs.Laws.{IsSound}
 use Rattle.pam_conf.specs.Survey.{SurveyText}
 use Rattle.pam_host.specs.Inside.{HasJumpInside}
-use Rattle.pam_host.specs.Insides.{jumps_from_all}
-use Rattle.pam_host.specs.Table.{Adds}
+use Rattle.pam_host.specs.inner.Insides.{jumps_from_all}
+use Rattle.pam_host.specs.inner.Table.{Adds}
 use Rattle.pam_host.proofs.Jumping.{adds-jumps}
 use Rattle.pam_host.proofs.stacks.Checker.jumps.Goals as goal
 

@@ -2,7 +2,7 @@ use Rattle.std.proofs.Common.{◌∙◌, sym}
 use Rattle.std.proofs.lemmas.Bool.{false≢true}
 use Rattle.std.proofs.lemmas.Result.{IfOk-weaker}
 use Rattle.pam_conf.specs.SurveyText.{survey_text}
-use Rattle.pam_host.specs.Looked.{Judges, Looks}
+use Rattle.pam_host.specs.inner.Looked.{Judges, Looks}
 use Rattle.pam_host.proofs.Adding.{walk-seen}
 use Rattle.pam_host.proofs.Seen.{looks-judged, looks-none, looks-unsound, stack-of}
 use Rattle.pam_host.proofs.stacks.Checker.look.Goals as goal

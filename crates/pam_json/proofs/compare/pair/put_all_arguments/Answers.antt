@@ -3,7 +3,7 @@ use Rattle.std.specs.List.{flat_map}
 use Rattle.pam_codes.proofs.Writing.{err-front, front-is, front-longer, front-then}
 use Rattle.pam_page.proofs.FlatTexts.{flat_map-at}
 use Rattle.pam_json.specs.Compare.{arguments_json}
-use Rattle.pam_json.specs.Heads.{head_view}
+use Rattle.pam_json.specs.inner.Heads.{head_view}
 use Rattle.pam_json.proofs.compare.pair.put_all_arguments.Goals as goal
 
 pub returns-in_err-put_arguments : goal.returns-in_err-put_arguments

@@ -2,7 +2,7 @@ use Rattle.std.proofs.Common.{ap}
 use Rattle.std.specs.List.{flat_map}
 use Rattle.pam_codes.proofs.Writing.{all-is, writes-then}
 use Rattle.pam_json.specs.Compare.{arguments_json, pair_json}
-use Rattle.pam_json.specs.Heads.{head_view}
+use Rattle.pam_json.specs.inner.Heads.{head_view}
 use Rattle.pam_json.proofs.compare.pair.put_pair.Goals as goal
 
 pub returns : goal.returns

@@ -1,7 +1,7 @@
 use Rattle.pam_conf.specs.Stack.{module_count}
 use Rattle.pam_paths.specs.Known.{set_for}
 use Rattle.pam_known.specs.Knowledge.{line_at}
-use Rattle.pam_known.specs.Sets.{AreDone, IsLineSet, IsTableSet, told_of_number}
+use Rattle.pam_known.specs.inner.Sets.{AreDone, IsLineSet, IsTableSet, told_of_number}
 use Rattle.pam_known.proofs.known.Lookup.add_returns.Given as goal
 
 abbrev pub invariant-loop-index : goal.invariant-loop-index

@@ -5,7 +5,7 @@ use Rattle.pam_conf.specs.Stack.{ModuleText}
 use Rattle.pam_tables.specs.Login.{login_view}
 use Rattle.pam_known.specs.Answers.{table_answer}
 use Rattle.pam_known.specs.Knowledge.{told_at}
-use Rattle.pam_known.specs.Sets.{TellsIfAny}
+use Rattle.pam_known.specs.inner.Sets.{TellsIfAny}
 use Rattle.pam_known.specs.Tables.{tables_view}
 use Rattle.pam_known.proofs.known.Lookup.answer_at.Goals as goal
 

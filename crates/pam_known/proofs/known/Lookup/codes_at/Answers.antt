@@ -6,7 +6,7 @@ use Rattle.pam_tables.specs.Login.{login_view}
 use Rattle.pam_tables.specs.Returns.{codes_for}
 use Rattle.pam_known.specs.Answers.{name_of_path, table_answer}
 use Rattle.pam_known.specs.Knowledge.{codes_by, line_at, told_at}
-use Rattle.pam_known.specs.Sets.{Adds}
+use Rattle.pam_known.specs.inner.Sets.{Adds}
 use Rattle.pam_known.specs.Tables.{tables_view}
 use Rattle.pam_known.proofs.known.Lookup.codes_at.Goals as goal
 

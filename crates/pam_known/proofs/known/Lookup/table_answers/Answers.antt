@@ -4,7 +4,7 @@ use Rattle.pam_conf.specs.Stack.{module_count}
 use Rattle.pam_paths.specs.Known.{set_for}
 use Rattle.pam_paths.specs.declared.knowledge.Known.{Known}
 use Rattle.pam_tables.specs.Login.{login_view}
-use Rattle.pam_known.specs.Sets.{AreDone, IsUnset, IsTableSet, told_of_number}
+use Rattle.pam_known.specs.inner.Sets.{AreDone, IsUnset, IsTableSet, told_of_number}
 use Rattle.pam_known.specs.Tables.{tables_view}
 use Rattle.pam_known.proofs.FaultSteps.{fault_found, faults_done, no_fault, none_here, told_none, told_some}
 use Rattle.pam_known.proofs.ReaderSteps.{code_small_at}

@@ -3,7 +3,7 @@ use Rattle.std.specs.List.{range_with_len}
 use Rattle.pam_conf.specs.Stack.{module_count}
 use Rattle.pam_paths.specs.Known.{set_for}
 use Rattle.pam_known.specs.Knowledge.{first_fault, numbers}
-use Rattle.pam_known.specs.Sets.{AreDone, IsKept, IsUnset, IsTableSet, told_of_number}
+use Rattle.pam_known.specs.inner.Sets.{AreDone, IsKept, IsUnset, IsTableSet, told_of_number}
 use Rattle.pam_known.proofs.known.Lookup.table_answers.Given as goal
 
 abbrev pub invariant-loop-index : goal.invariant-loop-index

@@ -1,6 +1,6 @@
 use Rattle.std.proofs.Common.{◌≡◌, ◌≤◌, length}
 use Rattle.pam_misspelled.specs.Lines.{line_of}
-use Rattle.pam_misspelled.specs.Reading.{IsReading, if_last}
+use Rattle.pam_misspelled.specs.inner.Reading.{IsReading, if_last}
 use Rattle.pam_misspelled.proofs.reader.Reader.seek.Given as goal
 
 -- the line that is sought is not passed without being kept

@@ -1,6 +1,6 @@
 use Rattle.std.proofs.Common.{◌∙◌, ◌++◌, List, ap, arith, cond, refl, ℕ}
 use Rattle.pam_page.proofs.TailTexts.{number-between}
-use Rattle.pam_page.specs.TailTexts.{steps_to}
+use Rattle.pam_page.specs.inner.TailTexts.{steps_to}
 use Rattle.pam_page.proofs.tail_texts.TailTexts.append_number_to.Goals as goal
 
 pub overflow_sub-end : goal.overflow_sub-end

@@ -1,7 +1,7 @@
 use Rattle.std.proofs.Common.{◌∙◌, ap, sym}
 use Rattle.std.proofs.lemmas.List.{length-take-le}
 use Rattle.pam_page.proofs.TailTexts.{codes-first}
-use Rattle.pam_page.specs.TailTexts.{codes_to}
+use Rattle.pam_page.specs.inner.TailTexts.{codes_to}
 use Rattle.pam_page.proofs.tail_texts.TailTexts.codes.Goals as goal
 
 pub slice_bounds-result-end-2 : goal.slice_bounds-result-end-2

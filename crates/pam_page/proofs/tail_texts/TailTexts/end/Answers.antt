@@ -1,7 +1,7 @@
 use Rattle.std.proofs.Common.{◌≡◌, ◌+◌, ◌<◌, ◌∙◌, ap, arith, length, sym, ℕ}
 use Rattle.std.proofs.lemmas.List.{get_or_default}
 use Rattle.pam_page.proofs.TailTexts.{steps-none, steps-within}
-use Rattle.pam_page.specs.TailTexts.{steps_to}
+use Rattle.pam_page.specs.inner.TailTexts.{steps_to}
 use Rattle.pam_page.proofs.tail_texts.TailTexts.end.Goals as goal
 
 pub returns-in-Some-clause-within : goal.returns-in-Some-clause-within

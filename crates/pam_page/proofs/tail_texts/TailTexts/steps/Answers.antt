@@ -1,6 +1,6 @@
 use Rattle.std.proofs.Common.{◌∙◌, ap, arith, length}
 use Rattle.pam_page.proofs.TailTexts.{steps-between, steps-within}
-use Rattle.pam_page.specs.TailTexts.{steps_to}
+use Rattle.pam_page.specs.inner.TailTexts.{steps_to}
 use Rattle.pam_page.proofs.tail_texts.TailTexts.steps.Goals as goal
 
 pub slice_bounds-result-count : goal.slice_bounds-result-count

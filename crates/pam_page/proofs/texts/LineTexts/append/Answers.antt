@@ -1,7 +1,8 @@
 use Rattle.std.proofs.Common.{◌≡◌, ◌∙◌, ◌∷◌, ◌++◌, [], Bool, List, ap, cond, map, subst, sym}
 use Rattle.std.proofs.lemmas.List.{map-append}
 use Rattle.pam_page.proofs.KeptTexts.{no_texts, texts_push}
-use Rattle.pam_page.specs.KeptSteps.{AreTexts, step_of}
+use Rattle.pam_page.specs.KeptSteps.{step_of}
+use Rattle.pam_page.specs.inner.KeptSteps.{AreTexts}
 use Rattle.pam_page.specs.declared.texts.KeptStep.{KeptStep}
 use Rattle.pam_paths.specs.Paths.{StepValue}
 use Rattle.pam_page.proofs.texts.LineTexts.append.Goals as goal

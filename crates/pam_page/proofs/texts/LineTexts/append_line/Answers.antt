@@ -1,7 +1,7 @@
 use Rattle.std.proofs.Common.{◌≡◌, ◌+◌, ◌-◌, ◌++◌, ◌∙◌, List, ap, arith, length, sym, ℕ}
 use Rattle.std.specs.List.{flat_map}
 use Rattle.pam_paths.specs.Tail.{tail_from}
-use Rattle.pam_page.specs.KeptSteps.{code_text}
+use Rattle.pam_page.specs.inner.KeptSteps.{code_text}
 use Rattle.pam_page.specs.Page.{step_text}
 use Rattle.pam_page.proofs.TailTexts.{codes-same}
 use Rattle.pam_page.proofs.KeptTexts.{own_count, whole_text}

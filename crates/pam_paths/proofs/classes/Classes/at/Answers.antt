@@ -3,12 +3,12 @@ use Rattle.std.proofs.lemmas.Bool.{false≢true}
 use Rattle.pam_codes.specs.Code.{all_codes}
 use Rattle.pam_codes.specs.Parts.{IsParts}
 use Rattle.pam_codes.specs.Set.{codes_where, is_in}
-use Rattle.pam_codes.specs.SetBits.{is_in-codes_where}
+use Rattle.pam_codes.specs.inner.SetBits.{is_in-codes_where}
 use Rattle.pam_dispatch.specs.declared.state.Impression.TheVariants.{Negative}
 use Rattle.pam_dispatch.specs.declared.state.State.{State}
 use Rattle.pam_dispatch.specs.Flat.{rest_of}
 use Rattle.pam_dispatch.specs.Runs.{Ask, next_ask}
-use Rattle.pam_paths.specs.Sharing.{is_offered_by}
+use Rattle.pam_paths.specs.inner.Sharing.{is_offered_by}
 use Rattle.pam_paths.proofs.OfferedCodes.{class-every, offered-by, past-every}
 use Rattle.pam_paths.proofs.Sets.{everything}
 use Rattle.pam_paths.proofs.classes.Classes.at.Goals as goal

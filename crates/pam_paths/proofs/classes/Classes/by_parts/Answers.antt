@@ -4,7 +4,7 @@ use Rattle.std.specs.List.{list_any}
 use Rattle.std.proofs.lemmas.Bool.{false≢true}
 use Rattle.pam_codes.specs.Set.{is_in}
 use Rattle.pam_paths.specs.Classes.{class_at}
-use Rattle.pam_paths.specs.Sharing.{is_shared, shared_code}
+use Rattle.pam_paths.specs.inner.Sharing.{is_shared, shared_code}
 use Rattle.pam_paths.proofs.Alone.{alone-all, alone-kept, alone-more}
 use Rattle.pam_paths.proofs.OfferedCodes.{class-alone, class-whole, past-all, past-first, past-kept, past-more, past-some, seen-kept, seen-more}
 use Rattle.pam_paths.proofs.Sharing.{nothing_passes}

@@ -2,7 +2,7 @@ use Rattle.std.proofs.Common.{◌≡◌, ◌<◌, ℕ, true, take}
 use Rattle.std.specs.List.{list_any}
 use Rattle.pam_codes.specs.Set.{codes_where, is_in}
 use Rattle.pam_paths.specs.Classes.{class_of}
-use Rattle.pam_paths.specs.Sharing.{is_shared, past_parts}
+use Rattle.pam_paths.specs.inner.Sharing.{is_shared, past_parts}
 use Rattle.pam_paths.proofs.Alone.{IsAlone}
 use Rattle.pam_paths.proofs.classes.Classes.by_parts.Given as goal
 

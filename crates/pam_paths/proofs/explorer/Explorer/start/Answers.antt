@@ -1,6 +1,7 @@
 use Rattle.std.proofs.Common.{◌≤◌, arith, subst, sym}
 use Rattle.pam_dispatch.specs.Flat.{modules_of, runs_of}
-use Rattle.pam_paths.specs.Frames.{AreFrames, coming}
+use Rattle.pam_paths.specs.Frames.{coming}
+use Rattle.pam_paths.specs.inner.Frames.{AreFrames}
 use Rattle.pam_paths.proofs.Listings.{listing-is, some_assignment}
 use Rattle.pam_paths.proofs.Tails.{no-steps}
 use Rattle.pam_paths.proofs.Trees.{listing-tree}

@@ -3,7 +3,7 @@ use Rattle.pam_codes.specs.Set.{is_in}
 use Rattle.pam_dispatch.specs.Flat.{rest_of}
 use Rattle.pam_dispatch.specs.Runs.{after_answer, next_ask}
 use Rattle.pam_paths.specs.Classes.{class_of}
-use Rattle.pam_paths.specs.Directions.{IsAhead, IsNearer}
+use Rattle.pam_paths.specs.inner.Directions.{IsAhead, IsNearer}
 use Rattle.pam_paths.proofs.Branches.{branch-ahead, nothing-ahead, offered_is}
 use Rattle.pam_paths.proofs.frames.Frame.branch_ahead.Goals as goal
 

@@ -2,7 +2,7 @@ use Rattle.std.proofs.Common.{rules, ◌∙◌, List, ap, map, subst, sym}
 use Rattle.std.proofs.lemmas.List.{take_rest}
 use Rattle.pam_paths.specs.Paths.{PathValue, StepValue}
 use Rattle.pam_paths.specs.Steps.{step_seen}
-use Rattle.pam_paths.specs.Tail.{EndsInTail}
+use Rattle.pam_paths.specs.inner.Tail.{EndsInTail}
 use Rattle.pam_paths.proofs.Tails.{last-alike, last-steps}
 use Rattle.pam_paths.proofs.path.Path.tail.Goals as goal
 

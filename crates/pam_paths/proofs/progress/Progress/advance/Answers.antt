@@ -6,8 +6,9 @@ use Rattle.pam_dispatch.specs.declared.place.Place.{Place}
 use Rattle.pam_paths.specs.declared.frames.Frame.{Frame}
 use Rattle.pam_paths.specs.Computed.{listing}
 use Rattle.pam_paths.specs.Directions.{ordered}
-use Rattle.pam_paths.specs.Followed.{followed}
-use Rattle.pam_paths.specs.Frames.{ahead, ahead_of, under, AreFrames}
+use Rattle.pam_paths.specs.inner.Followed.{followed}
+use Rattle.pam_paths.specs.Frames.{ahead, ahead_of}
+use Rattle.pam_paths.specs.inner.Frames.{under, AreFrames}
 use Rattle.pam_paths.proofs.Counts.{counts-then}
 use Rattle.pam_paths.proofs.FrameLists.{ahead-next, ahead-none, branch_followed, frame_after}
 use Rattle.pam_paths.proofs.Fronts.{front_changed, front_popped}

@@ -1,6 +1,7 @@
 use Rattle.std.proofs.Common.{◌≡◌, ◌+◌, ◌≤◌, length, take}
-use Rattle.pam_paths.specs.Frames.{ahead, AreFrames}
-use Rattle.pam_paths.specs.Work.{CountsOn}
+use Rattle.pam_paths.specs.Frames.{ahead}
+use Rattle.pam_paths.specs.inner.Frames.{AreFrames}
+use Rattle.pam_paths.specs.inner.Work.{CountsOn}
 use Rattle.pam_paths.proofs.progress.Progress.advance.Given as goal
 
 abbrev pub invariant-loop-self : goal.invariant-loop-self

@@ -7,7 +7,8 @@ use Rattle.pam_dispatch.specs.declared.place.Place.{Place}
 use Rattle.pam_paths.specs.declared.frames.Frame.{Frame}
 use Rattle.pam_paths.specs.Computed.{listing}
 use Rattle.pam_paths.specs.Directions.{ordered}
-use Rattle.pam_paths.specs.Frames.{ahead, ahead_of, under, AreFrames, IsFrame}
+use Rattle.pam_paths.specs.Frames.{ahead, ahead_of}
+use Rattle.pam_paths.specs.inner.Frames.{under, AreFrames, IsFrame}
 use Rattle.pam_paths.proofs.Counts.{counts-then}
 use Rattle.pam_paths.proofs.FrameLists.{AreFrames-length, ahead-enter, branch_followed, frame_after, frame_number, frame_same}
 use Rattle.pam_paths.proofs.FrameLists.{listing-ahead, ordered-some, pushed, rise_after}

@@ -3,9 +3,10 @@ use Rattle.pam_dispatch.specs.Flat.{rest_of, IsPlaceOf, modules_of}
 use Rattle.pam_dispatch.specs.Runs.{AsksRise}
 use Rattle.pam_paths.specs.Computed.{listing}
 use Rattle.pam_paths.specs.Directions.{ordered}
-use Rattle.pam_paths.specs.Frames.{ahead, under, AreFrames}
+use Rattle.pam_paths.specs.Frames.{ahead}
+use Rattle.pam_paths.specs.inner.Frames.{under, AreFrames}
 use Rattle.pam_paths.specs.Cached.{AreCached}
-use Rattle.pam_paths.specs.Work.{CountsOn}
+use Rattle.pam_paths.specs.inner.Work.{CountsOn}
 use Rattle.pam_paths.proofs.progress.Progress.descend.Given as goal
 
 abbrev pub invariant-loop-rest : goal.invariant-loop-rest

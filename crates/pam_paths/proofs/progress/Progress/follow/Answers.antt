@@ -1,7 +1,8 @@
 use Rattle.std.proofs.Common.{◌≡◌, ◌-◌, ◌≤◌, ◌∙◌, arith, ap, length, map, refl, subst, sym, take}
 use Rattle.std.proofs.lemmas.List.{length-map, length-take, take-append-le}
 use Rattle.pam_dispatch.specs.Flat.{modules_of}
-use Rattle.pam_paths.specs.Frames.{AreFirstSteps, ahead, coming, step_in}
+use Rattle.pam_paths.specs.Frames.{ahead, coming, step_in}
+use Rattle.pam_paths.specs.inner.Frames.{AreFirstSteps}
 use Rattle.pam_paths.specs.Paths.{PathValue}
 use Rattle.pam_paths.specs.Steps.{step_seen}
 use Rattle.pam_paths.proofs.Counts.{counts-then}

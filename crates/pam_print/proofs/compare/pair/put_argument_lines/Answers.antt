@@ -3,7 +3,7 @@ use Rattle.std.specs.List.{flat_map}
 use Rattle.pam_codes.proofs.Writing.{err-front, front-is, front-longer, front-then}
 use Rattle.pam_page.proofs.FlatTexts.{flat_map-at}
 use Rattle.pam_print.specs.Compare.{argument_line}
-use Rattle.pam_print.specs.CompareParts.{head_view}
+use Rattle.pam_print.specs.inner.CompareParts.{head_view}
 use Rattle.pam_print.proofs.compare.pair.put_argument_lines.Goals as goal
 
 pub returns-in_err-put_argument_line : goal.returns-in_err-put_argument_line

@@ -3,7 +3,7 @@ use Rattle.std.proofs.Common.{take}
 use Rattle.std.specs.List.{flat_map}
 use Rattle.pam_codes.specs.Out.{TookAll}
 use Rattle.pam_print.specs.Compare.{argument_line}
-use Rattle.pam_print.specs.CompareParts.{head_view}
+use Rattle.pam_print.specs.inner.CompareParts.{head_view}
 use Rattle.pam_print.proofs.compare.pair.put_argument_lines.Given as goal
 
 abbrev pub invariant-loop-modules : goal.invariant-loop-modules

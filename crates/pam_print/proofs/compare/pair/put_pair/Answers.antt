@@ -2,7 +2,7 @@ use Rattle.std.proofs.Common.{ap}
 use Rattle.std.specs.List.{flat_map}
 use Rattle.pam_codes.proofs.Writing.{all-is, writes-then}
 use Rattle.pam_print.specs.Compare.{argument_line, pair_text}
-use Rattle.pam_print.specs.CompareParts.{head_view}
+use Rattle.pam_print.specs.inner.CompareParts.{head_view}
 use Rattle.pam_print.proofs.compare.pair.put_pair.Goals as goal
 
 pub returns : goal.returns

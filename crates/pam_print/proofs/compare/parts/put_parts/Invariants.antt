@@ -2,7 +2,7 @@
 use Rattle.std.proofs.Common.{take}
 use Rattle.std.specs.List.{flat_map}
 use Rattle.pam_codes.specs.Out.{TookAll}
-use Rattle.pam_print.specs.CompareParts.{part_text}
+use Rattle.pam_print.specs.inner.CompareParts.{part_text}
 use Rattle.pam_print.proofs.compare.parts.put_parts.Given as goal
 
 abbrev pub invariant-loop-part : goal.invariant-loop-part

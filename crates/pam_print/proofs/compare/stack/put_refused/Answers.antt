@@ -2,7 +2,7 @@ use Rattle.std.proofs.Common.{codes}
 use Rattle.pam_codes.proofs.Writing.{writes-is}
 use Rattle.pam_report.specs.ReplyViews.{side_files}
 use Rattle.pam_print.specs.Compare.{head_text, refused_line, side_text}
-use Rattle.pam_print.specs.CompareParts.{head_view}
+use Rattle.pam_print.specs.inner.CompareParts.{head_view}
 use Rattle.pam_print.proofs.CompareTexts.{parts-6}
 use Rattle.pam_print.proofs.compare.stack.put_refused.Goals as goal
 

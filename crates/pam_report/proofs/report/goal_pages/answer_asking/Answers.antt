@@ -1,5 +1,5 @@
 use Rattle.std.proofs.Common.{arith}
-use Rattle.pam_report.specs.PageView.{page_view}
+use Rattle.pam_report.specs.inner.PageView.{page_view}
 use Rattle.pam_report.proofs.GoalPages.{asking}
 use Rattle.pam_report.proofs.report.goal_pages.answer_asking.Goals as goal
 

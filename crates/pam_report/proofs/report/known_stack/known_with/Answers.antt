@@ -4,7 +4,7 @@ use Rattle.pam_known.specs.Knowledge.{knowledge}
 use Rattle.pam_known.specs.Reads.{tables_read}
 use Rattle.pam_known.specs.Tables.{TablesText}
 use Rattle.pam_tables.specs.Login.{login_view}
-use Rattle.pam_report.specs.Known.{FindsKnown, IsFaultOfRead}
+use Rattle.pam_report.specs.inner.Known.{FindsKnown, IsFaultOfRead}
 use Rattle.pam_report.specs.KnownStack.{known_items}
 use Rattle.pam_report.proofs.report.known_stack.known_with.Goals as goal
 

@@ -1,7 +1,7 @@
 use Rattle.std.proofs.Common.{Ok, None, ap}
 use Rattle.pam_paths.specs.Known.{may_answer}
 use Rattle.pam_report.proofs.GoalPages.{filter-is}
-use Rattle.pam_report.specs.PageView.{page_view}
+use Rattle.pam_report.specs.inner.PageView.{page_view}
 use Rattle.pam_report.specs.Reply.{Reply}
 use Rattle.pam_words.specs.declared.wanted.PathFilter.TheVariants.{All, Asks, Decides}
 use Rattle.pam_report.proofs.report.paths.answer_filtered.Goals as goal

@@ -2,7 +2,7 @@ use Rattle.std.proofs.Common.{refl}
 use Rattle.std.specs.Prelude.{is_some}
 use Rattle.pam_report.specs.Memory.{of_paths, paths_tables}
 use Rattle.pam_report.proofs.KnownStacks.{answer-found, fault-found}
-use Rattle.pam_report.specs.PageView.{page_view}
+use Rattle.pam_report.specs.inner.PageView.{page_view}
 use Rattle.pam_report.specs.Paths.{IsPageOf}
 use Rattle.pam_report.proofs.report.paths.answer_paths.Goals as goal
 

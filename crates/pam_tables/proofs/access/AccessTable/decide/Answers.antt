@@ -1,6 +1,6 @@
 use Rattle.std.proofs.Common.{◌∙◌, refl}
 use Rattle.pam_tables.specs.Access.{access_answer, lines_of, table_lines}
-use Rattle.pam_tables.specs.Login.{origin_view}
+use Rattle.pam_tables.specs.inner.Login.{origin_view}
 use Rattle.pam_tables.proofs.AccessSteps.{chosen_by, entry_number, line_found, line_misses, lines_are, no_line_left}
 use Rattle.pam_tables.proofs.access.AccessTable.decide.Goals as goal
 

@@ -1,6 +1,7 @@
 use Rattle.pam_tables.specs.Access.{access_line, access_answer}
 use Rattle.pam_tables.specs.Lines.{lines_left}
-use Rattle.pam_tables.specs.Login.{origin_view, login_view}
+use Rattle.pam_tables.specs.Login.{login_view}
+use Rattle.pam_tables.specs.inner.Login.{origin_view}
 use Rattle.pam_tables.proofs.AccessSteps.{Undecided, decided}
 use Rattle.pam_tables.proofs.access.AccessTable.decide.Given as goal
 

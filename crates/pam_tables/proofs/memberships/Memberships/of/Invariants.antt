@@ -1,6 +1,6 @@
 use Rattle.std.proofs.Common.{◌≡◌, ◌<◌, ◌≤◌, ℕ, false}
-use Rattle.pam_tables.specs.Flags.{is_set}
-use Rattle.pam_tables.specs.Groups.{lists_at}
+use Rattle.pam_tables.specs.inner.Flags.{is_set}
+use Rattle.pam_tables.specs.inner.Groups.{lists_at}
 use Rattle.pam_tables.proofs.memberships.Memberships.of.Given as goal
 
 abbrev pub invariant-loop-index : goal.invariant-loop-index

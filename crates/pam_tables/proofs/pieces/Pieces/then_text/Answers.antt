@@ -1,6 +1,6 @@
 use Rattle.std.proofs.Common.{◌∙◌, ap, sym}
 use Rattle.std.proofs.lemmas.Bool.{eqb-true, eqb-false}
-use Rattle.pam_tables.specs.Address.{more_pieces}
+use Rattle.pam_tables.specs.inner.Address.{more_pieces}
 use Rattle.pam_tables.proofs.PieceSteps.{pieces_text, pieces_empty, piece_fails, piece_over, piece_goes_on, piece_last, more_nothing}
 use Rattle.pam_tables.proofs.pieces.Pieces.then_text.Goals as goal
 

@@ -1,7 +1,8 @@
 use Rattle.std.proofs.Common.{◌≡◌, codes, length}
 use Rattle.std.specs.List.{slice_split}
 use Rattle.pam_tables.specs.Lines.{is_among}
-use Rattle.pam_tables.specs.Address.{more_pieces, pieces_in}
+use Rattle.pam_tables.specs.Address.{pieces_in}
+use Rattle.pam_tables.specs.inner.Address.{more_pieces}
 use Rattle.pam_tables.proofs.pieces.Pieces.then_text.Given as goal
 
 abbrev pub invariant-loop-front : goal.invariant-loop-front

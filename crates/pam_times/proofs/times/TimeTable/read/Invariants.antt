@@ -2,7 +2,8 @@ use Rattle.std.proofs.Common.{◌≡◌, length}
 use Rattle.pam_text.specs.Left.{text_left}
 use Rattle.pam_text.specs.Text.{text_lines, text_of}
 use Rattle.pam_times.specs.Reading.{rules_in}
-use Rattle.pam_times.specs.Stored.{stored, AreStored}
+use Rattle.pam_times.specs.Stored.{stored}
+use Rattle.pam_times.specs.inner.Stored.{AreStored}
 use Rattle.pam_times.proofs.ReadingSteps.{with_rules}
 use Rattle.pam_times.proofs.times.TimeTable.read.Given as goal
 

@@ -1,7 +1,7 @@
 use Rattle.std.proofs.Common.{ap, sym}
 use Rattle.pam_codes.proofs.Writing.{writes-is}
 use Rattle.serde_json.specs.Written.{compact_text}
-use Rattle.pam_json.specs.Written.{finding_value}
+use Rattle.pam_json.specs.inner.Written.{finding_value}
 use Rattle.pam_json.specs.declared.check.values.FindingValue.{FindingValue}
 use Rattle.pam_json.proofs.check.values.FindingValueWritten.put.Goals as goal
 

@@ -1,0 +1,62 @@
+-- For private contracts and proofs alone: what is read for a task.
+use Rattle.std.specs.Prelude.{◌≡◌, ◌⊎◌, ◌&&◌, true, ℕ, List, Option, Result, Ok, Err, is_some, map}
+use Rattle.std.specs.Borrow.{Bor}
+use Rattle.std.specs.Bool.{beq}
+use Rattle.clap.specs.Words.{Text}
+use Rattle.pam_conf.specs.declared.rule.Kind.{Kind}
+use Rattle.pam_paths.specs.Classes.{Member}
+use Rattle.pam_report.specs.Inputs.{fits_check, fits_knowledge, has_named_tables}
+use Rattle.pam_report.specs.declared.inputs.CheckInputs.{CheckInputs}
+use Rattle.pam_report.specs.declared.inputs.KnowledgeInputs.{KnowledgeInputs}
+use Rattle.pam_report.specs.declared.inputs.InputError.{InputError}
+use Rattle.pam_report.specs.declared.inputs.Inputs.{Inputs}
+use Rattle.pam_words.specs.declared.wanted.CompareFiles.{CompareFiles}
+use Rattle.pam_words.specs.declared.wanted.ConfSource.{ConfSource}
+use Rattle.pam_words.specs.declared.wanted.KnowledgeSource.{KnowledgeSource}
+use Rattle.pam_words.specs.declared.wanted.LevelName.{LevelName}
+use Rattle.pam_words.specs.declared.wanted.Login.{Login}
+use Rattle.pam_words.specs.declared.wanted.Task.TheVariants.{Check, Compare, Access}
+use Rattle.pam_words.specs.declared.wanted.CheckFiles.{CheckFiles}
+use Rattle.pam_cli.specs.Sources.{IsInSource, IsUnread}
+use Rattle.pam_cli.specs.Reading.{HasFiles, AreTables, AreKnownTables, HasKnownTables, IsOfKnowledge, IsOfCheck, IsReading}
+
+-- a name of the source of a side, or one of the folders of modules
+abbrev pub IsOfSide : ConfSource → CompareFiles → List ℕ → Type 0
+IsOfSide source named name = IsInSource source name ⊎ Member name (map (λ folder. folder.now) named.modules.items)
+
+-- a file is given if and only if one is named
+abbrev pub IsGiven : {A B : Type 0} → Option A → Option B → Type 0
+IsGiven given named = beq (is_some given) (is_some named) ≡ true
+
+-- what is read for each `check` of this source and these files
+abbrev pub IsCheckReading : List (Text × Text) → ConfSource → CheckFiles → Result Inputs InputError → Type 0
+IsCheckReading candidates source named result =
+    (services : List Text) (fail_on : LevelName) → IsReading candidates (Check source services fail_on named) result
+
+-- what is read for each `compare` of these sources and these files
+abbrev pub IsCompareReading : ConfSource → ConfSource → CompareFiles → Result Inputs InputError → Type 0
+IsCompareReading old new named result =
+    (candidates : List (Text × Text)) (service : Option (Bor Text)) (kind : Option Kind) → IsReading candidates (Compare old new service kind named) result
+
+-- what a check is given besides the configuration
+abbrev pub IsGivenReading : ConfSource → CheckFiles → Result CheckInputs InputError → Type 0
+IsGivenReading source named (Ok given) = (fits_check named given ≡ true) × AreTables true true source named.tables given.tables
+IsGivenReading source named (Err error) = IsUnread (λ name. IsInSource source name ⊎ IsOfCheck named name) error
+
+-- what is known besides the configuration, for each task about paths
+abbrev pub IsKnownReading : ConfSource → KnowledgeSource → Result KnowledgeInputs InputError → Type 0
+IsKnownReading source named (Ok given) =
+    (beq (is_some given.returns) (is_some named.returns) && has_named_tables named.tables given.tables ≡ true)
+    × AreKnownTables source named given.tables
+IsKnownReading source named (Err error) = IsUnread (IsOfKnowledge source named) error
+
+-- what is read for each `access` of these files
+abbrev pub IsAccessReading : Bor Text → Option (Bor Text) → Result Inputs InputError → Type 0
+IsAccessReading table groups result =
+    (candidates : List (Text × Text)) (login : Login) (arguments : List Text) → IsReading candidates (Access table groups login arguments) result
+
+-- what is read for each task about this source with what is known of answers
+abbrev pub IsKnowledgeReading : List (Text × Text) → ConfSource → KnowledgeSource → Result Inputs InputError → Type 0
+IsKnowledgeReading candidates source named (Ok given) =
+    (fits_knowledge named given ≡ true) × HasFiles candidates source given × HasKnownTables source named given
+IsKnowledgeReading candidates source named (Err error) = IsUnread (IsOfKnowledge source named) error

@@ -1,0 +1,4 @@
+-- What no public contract cites.
+pub mod Code
+pub mod Control
+pub mod SetBits

@@ -1,0 +1,143 @@
+-- For private contracts and proofs alone: the nodes of a comparison, which are situations that two stacks can be in, one after the
+-- same answers as the other.
+use Rattle.std.specs.Prelude.{◌≡◌, ◌⊎◌, ◌<◌, ◌++◌, ◌∷◌, [], ℕ, List, Option, None, Some, IsSome, length, slice_get}
+use Rattle.pam_dispatch.specs.declared.flat_item.FlatItem.{FlatItem}
+use Rattle.pam_dispatch.specs.declared.place.Place.{Place}
+use Rattle.pam_dispatch.specs.Flat.{IsPlaceOf, rest_of, runs_of}
+use Rattle.pam_dispatch.specs.Keys.{KeyValue, key_of, rest_at}
+use Rattle.pam_dispatch.specs.Runs.{Assignment, Runs, asked_module}
+use Rattle.pam_compare.specs.declared.change.Change.{Change}
+use Rattle.pam_compare.specs.declared.change.Change.TheVariants.{Admits, Refuses, Tells}
+use Rattle.pam_compare.specs.declared.held.HeldAnswer.{HeldAnswer}
+use Rattle.pam_compare.specs.declared.node.Node.{Node}
+use Rattle.pam_compare.specs.declared.nodes.Found.{Found}
+use Rattle.pam_compare.specs.declared.nodes.Nodes.{Nodes}
+use Rattle.pam_compare.specs.declared.nodes.Way.{Way}
+use Rattle.pam_compare.specs.declared.situation.Situation.{Situation}
+use Rattle.pam_compare.specs.declared.turn.Turn.{Turn}
+use Rattle.pam_compare.specs.Changes.{change_of}
+use Rattle.pam_compare.specs.Comparison.{decision_in}
+use Rattle.pam_compare.specs.Held.{Holds}
+use Rattle.pam_compare.specs.inner.HeldLists.{AreLinks, IsListed}
+use Rattle.pam_compare.specs.inner.Naming.{IsPossible, by_name}
+use Rattle.pam_compare.specs.inner.Turn.{IsTurn, turn_name, old_after, new_after}
+
+-- a place in a table, of this program, with its key
+pub record IsStored (program : List FlatItem) (keys : List KeyValue) (k : ℕ) (p : Place) : Type 0 where
+  pub place : IsPlaceOf program p
+  pub key : slice_get keys k ≡ Some (key_of p)
+  pub rest : rest_at program (key_of p) ≡ rest_of program p
+
+pub record ArePlaces (program : List FlatItem) (places : List Place) (keys : List KeyValue) : Type 0 where
+  pub count : length places ≡ length keys
+  pub stored : (k : ℕ) (p : Place) → slice_get places k ≡ Some p → IsStored program keys k p
+
+-- the places of two programs, and situations at them
+pub record AreNodes (old new : List FlatItem) (nodes : Nodes) : Type 0 where
+  pub of_old : ArePlaces old nodes.old_places.places.items nodes.old_places.keys
+  pub of_new : ArePlaces new nodes.new_places.places.items nodes.new_places.keys
+  pub links : AreLinks nodes.held_lists.links.keys
+  pub within : (k : ℕ) (s : Situation) → slice_get nodes.situations.keys k ≡ Some s →
+      (s.old < length nodes.old_places.places.items) × (s.new < length nodes.new_places.places.items)
+  pub listed : (k : ℕ) (s : Situation) → slice_get nodes.situations.keys k ≡ Some s →
+      (held : List HeldAnswer) × IsListed nodes.held_lists.links.keys s.held held
+
+-- what is in a list stays where it is
+unfoldable pub Keeps : {X : Type 0} → List X → List X → Type 0
+Keeps {X} before after = (k : ℕ) (x : X) → slice_get before k ≡ Some x → slice_get after k ≡ Some x
+
+pub record KeepsNodes (before after : Nodes) : Type 0 where
+  pub of_old : Keeps before.old_places.places.items after.old_places.places.items
+  pub of_new : Keeps before.new_places.places.items after.new_places.places.items
+  pub held_lists : Keeps before.held_lists.links.keys after.held_lists.links.keys
+  pub situations : Keeps before.situations.keys after.situations.keys
+  pub ways : Keeps before.ways.items after.ways.items
+
+-- where both stacks are, and the answers that are held there
+pub record Stop : Type 0 where
+  pub old : Place
+  pub new : Place
+  pub held : List HeldAnswer
+
+abbrev pub stop_of : Node → Stop
+stop_of node = record { old = node.old; new = node.new; held = node.held.items }
+
+-- a situation is that of a stop, whose places and held answers it names
+pub record IsAt (nodes : Nodes) (s : Situation) (n : Stop) : Type 0 where
+  pub old : slice_get nodes.old_places.places.items s.old ≡ Some n.old
+  pub new : slice_get nodes.new_places.places.items s.new ≡ Some n.new
+  pub held : IsListed nodes.held_lists.links.keys s.held n.held
+
+-- the number of the list that is held at a situation, if there is one
+abbrev pub list_of : Option Situation → ℕ
+list_of None = 0
+list_of (Some s) = s.held
+
+-- these answers are held at the situation with an index
+abbrev pub AreHeldAt : Nodes → ℕ → List HeldAnswer → Type 0
+AreHeldAt nodes index held = IsListed nodes.held_lists.links.keys (list_of (slice_get nodes.situations.keys index)) held
+
+-- node k is a new one, to which the last way leads
+pub record IsNew (old new : List FlatItem) (before after : Nodes) (left right : Runs) (held : List HeldAnswer) (way : Way) (k : ℕ)
+    (s : Situation) : Type 0 where
+  pub node : Stop
+  pub is_at : IsAt after s node
+  pub left_is : rest_of old node.old ≡ left
+  pub right_is : rest_of new node.new ≡ right
+  pub held_is : node.held ≡ held
+  pub index : k ≡ length before.situations.keys
+  pub ways : after.ways.items ≡ before.ways.items ++ way ∷ []
+
+-- each node was there, or is the new one
+abbrev pub AreAdded : List FlatItem → List FlatItem → Nodes → Nodes → Runs → Runs → List HeldAnswer → Way → Type 0
+AreAdded old new before after left right held way =
+    (k : ℕ) (s : Situation) → slice_get after.situations.keys k ≡ Some s →
+    (slice_get before.situations.keys k ≡ Some s) ⊎ IsNew old new before after left right held way k s
+
+-- one of the situations is where the runs are that are left, under an assignment
+pub record IsMet (old new : List FlatItem) (nodes : Nodes) (a : Assignment) (left right : Runs) : Type 0 where
+  pub index : ℕ
+  pub situation : Situation
+  pub node : Stop
+  pub is_there : slice_get nodes.situations.keys index ≡ Some situation
+  pub is_at : IsAt nodes situation node
+  pub left_is : rest_of old node.old ≡ left
+  pub right_is : rest_of new node.new ≡ right
+  pub holds : Holds a node.held
+
+-- this change has been found, or there is none
+abbrev pub IsNoted : Found → Option Change → Type 0
+IsNoted found None = Unit {0}
+IsNoted found (Some Admits) = IsSome found.admits
+IsNoted found (Some Refuses) = IsSome found.refuses
+IsNoted found (Some Tells) = IsSome found.tells
+
+-- the change of the decisions from here on has been found
+abbrev pub IsDecided : Found → List ℕ → Assignment → Runs → Runs → Type 0
+IsDecided found names a left right = IsNoted found (change_of (decision_in left a) (decision_in right (by_name names a)))
+
+-- after the next answer the runs are in one of the situations
+abbrev pub IsFollowed : List FlatItem → List FlatItem → List ℕ → Nodes → Assignment → Runs → Runs → Type 0
+IsFollowed old new names nodes a left right =
+    (turn : Turn) × IsTurn names (asked_module left) (asked_module right) turn
+    × IsMet old new nodes a (old_after turn left (a (turn_name names turn))) (new_after turn right (a (turn_name names turn)))
+
+-- one or the other, whatever the modules answer
+unfoldable pub IsDone : List FlatItem → List FlatItem → List ℕ → List (List ℕ) → Nodes → Found → Stop → Type 0
+IsDone old new names possible nodes found n =
+    (a : Assignment) → IsPossible possible a → Holds a n.held →
+    IsDecided found names a (rest_of old n.old) (rest_of new n.new)
+    ⊎ IsFollowed old new names nodes a (rest_of old n.old) (rest_of new n.new)
+
+pub record IsVisited (old new : List FlatItem) (names : List ℕ) (possible : List (List ℕ)) (nodes : Nodes) (found : Found) (s : Situation) : Type 0 where
+  pub node : Stop
+  pub is_at : IsAt nodes s node
+  pub done : IsDone old new names possible nodes found node
+
+-- both stacks begin in one of the situations
+abbrev pub IsBegun : List FlatItem → List FlatItem → Nodes → Type 0
+IsBegun old new nodes = (a : Assignment) → ((name : ℕ) → a name < 31) → IsMet old new nodes a (runs_of old) (runs_of new)
+
+-- the change that the stacks make has been found, whatever the modules answer
+unfoldable pub IsSearched : List FlatItem → List FlatItem → List ℕ → List (List ℕ) → Found → Type 0
+IsSearched old new names possible found = (a : Assignment) → IsPossible possible a → IsDecided found names a (runs_of old) (runs_of new)

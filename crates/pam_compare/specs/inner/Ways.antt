@@ -1,0 +1,81 @@
+-- For private contracts and proofs alone: each node of a comparison is reached by answers that agree.
+use Rattle.std.specs.Prelude.{◌≡◌, ◌<◌, ◌≤◌, ◌+◌, ℕ, IsTrue, List, Option, Some, length, slice_get, slice_index_or}
+use Rattle.std.specs.List.{AllByRecursion}
+use Rattle.pam_codes.specs.Code.{all_codes}
+use Rattle.pam_codes.specs.Set.{is_in}
+use Rattle.pam_dispatch.specs.declared.flat_item.FlatItem.{FlatItem}
+use Rattle.pam_dispatch.specs.Flat.{modules_of, rest_of, runs_of}
+use Rattle.pam_dispatch.specs.Runs.{Assignment, AsksRise, Runs, asked_module}
+use Rattle.pam_compare.specs.declared.change.Change.{Change}
+use Rattle.pam_compare.specs.declared.change.Change.TheVariants.{Admits, Refuses, Tells}
+use Rattle.pam_compare.specs.declared.held.HeldAnswer.{HeldAnswer}
+use Rattle.pam_compare.specs.declared.naming.Naming.{Naming}
+use Rattle.pam_compare.specs.declared.nodes.Found.{Found}
+use Rattle.pam_compare.specs.declared.nodes.Nodes.{Nodes}
+use Rattle.pam_compare.specs.declared.nodes.Way.{Way}
+use Rattle.pam_compare.specs.declared.situation.Situation.{Situation}
+use Rattle.pam_compare.specs.Changes.{change_of}
+use Rattle.pam_compare.specs.Comparison.{decision_in}
+use Rattle.pam_compare.specs.Held.{Holds}
+use Rattle.pam_compare.specs.inner.Naming.{AreLast, by_name, name_of}
+use Rattle.pam_compare.specs.inner.Nodes.{IsAt, Stop}
+use Rattle.pam_compare.specs.Situations.{Comes}
+use Rattle.pam_compare.specs.inner.Trails.{Follows, IsCovered, IsTrail, answers_on}
+
+-- the tables of a naming go with two programs
+pub record IsNaming (old new : List FlatItem) (naming : Naming) : Type 0 where
+  pub names : length naming.names.items ≡ modules_of new + 1
+  pub last : AreLast naming.names.items naming.last.items
+  pub old_modules : naming.old_modules ≡ modules_of old
+  pub possible : length naming.possible.items ≡ modules_of old + modules_of new + 1
+  pub low : (j : ℕ) → 0 < j → j ≤ modules_of new → name_of naming.names.items j ≤ modules_of old + modules_of new
+
+-- the answer of a step is possible
+pub record IsFit (possible : List (List ℕ)) (w : Way) : Type 0 where
+  pub code : w.code < 31
+  pub member : IsTrue (is_in w.code (slice_index_or possible w.name all_codes))
+  pub within : w.name < length possible
+
+-- the steps to node k lead the runs to these rests, with these answers held
+pub record IsWayTo (old new : List FlatItem) (names : List ℕ) (possible : List (List ℕ)) (ways : List Way) (k : ℕ) (left right : Runs)
+    (held : List HeldAnswer) : Type 0 where
+  pub trail : List Way
+  pub is_trail : IsTrail ways k trail
+  pub old_low : ℕ
+  pub old_rise : AsksRise old_low (modules_of old) left
+  pub new_low : ℕ
+  pub new_rise : AsksRise new_low (modules_of new) right
+  pub fits : AllByRecursion (IsFit possible) trail
+  pub follows : (base : Assignment) → Follows (answers_on base trail) trail
+  pub covered : IsCovered possible names (modules_of old) (modules_of new) held (asked_module left) (asked_module right) trail
+  pub old_comes : (a : Assignment) → Follows a trail → Comes (runs_of old) a left
+  pub new_comes : (a : Assignment) → Follows a trail → Comes (runs_of new) (by_name names a) right
+  pub holds : (a : Assignment) → Follows a trail → Holds a held
+
+-- the same of a situation that is among the nodes
+pub record IsReachedAt (old new : List FlatItem) (names : List ℕ) (possible : List (List ℕ)) (nodes : Nodes) (k : ℕ) (s : Situation) : Type 0 where
+  pub node : Stop
+  pub is_at : IsAt nodes s node
+  pub way : IsWayTo old new names possible nodes.ways.items k (rest_of old node.old) (rest_of new node.new) node.held
+
+-- each node has its way
+pub record AreReached (old new : List FlatItem) (names : List ℕ) (possible : List (List ℕ)) (nodes : Nodes) : Type 0 where
+  pub count : length nodes.ways.items ≡ length nodes.situations.keys
+  pub reached : (k : ℕ) (s : Situation) → slice_get nodes.situations.keys k ≡ Some s → IsReachedAt old new names possible nodes k s
+
+-- the node that is found for a change
+abbrev pub found_at : Found → Change → Option ℕ
+found_at found Admits = found.admits
+found_at found Refuses = found.refuses
+found_at found Tells = found.tells
+
+-- both runs end at node k, with this change
+pub record IsEnd (old new : List FlatItem) (nodes : Nodes) (k : ℕ) (change : Change) : Type 0 where
+  pub situation : Situation
+  pub node : Stop
+  pub is_there : slice_get nodes.situations.keys k ≡ Some situation
+  pub is_at : IsAt nodes situation node
+  pub change_is : (a b : Assignment) → change_of (decision_in (rest_of old node.old) a) (decision_in (rest_of new node.new) b) ≡ Some change
+
+unfoldable pub AreEnds : List FlatItem → List FlatItem → Nodes → Found → Type 0
+AreEnds old new nodes found = (change : Change) (k : ℕ) → found_at found change ≡ Some k → IsEnd old new nodes k change

@@ -1,0 +1,8 @@
+-- What no public contract cites.
+pub mod Flat
+pub mod Hashing
+pub mod Program
+pub mod ReadLevels
+pub mod Settled
+pub mod Stretches
+pub mod Tree

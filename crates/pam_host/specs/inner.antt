@@ -1,0 +1,9 @@
+-- What no public contract cites.
+pub mod Checking
+pub mod Insides
+pub mod Looked
+pub mod Meeting
+pub mod OfFolder
+pub mod Own
+pub mod SoFar
+pub mod Table

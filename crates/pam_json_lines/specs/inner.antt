@@ -1,0 +1,3 @@
+-- What no public contract cites.
+pub mod Text
+pub mod Values

@@ -1,0 +1,4 @@
+-- What no public contract cites.
+pub mod KeptSteps
+pub mod Lines
+pub mod TailTexts

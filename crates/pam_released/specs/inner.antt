@@ -1,0 +1,5 @@
+-- What no public contract cites.
+pub mod Bodies
+pub mod NextState
+pub mod Numbered
+pub mod Pair

@@ -1,0 +1,11 @@
+-- What no public contract cites.
+pub mod Accepting
+pub mod Answer
+pub mod Check
+pub mod Compare
+pub mod FaultViews
+pub mod GraphViews
+pub mod Known
+pub mod Memory
+pub mod OutcomeViews
+pub mod PageView
