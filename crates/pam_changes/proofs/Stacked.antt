@@ -35,7 +35,8 @@ none-is : {X : Type 0} (x : X) → None ≡ Some x → ⊥
 none-is x e = cc
 
 -- THE STACK OF A SURVEY without a fault
-pub sound-stack : StackIsSoundSurvey → (rules folder : Folder) → rules ≡ folder → (name : List ℕ) (kind : Kind) (s : SurveyText) → s ≡ surveyed rules name kind →
+pub sound-stack : StackIsSoundSurvey → (rules folder : Folder) → rules ≡ folder →
+    (name : List ℕ) (kind : Kind) (s : SurveyText) → s ≡ surveyed rules name kind →
     (items : Items) → s.items ≡ Some items → IsSound rules s → Ok items ≡ resolved folder name kind
 sound-stack law rules folder same name kind s is items there sound =
     subst (λ (f : Folder). Ok items ≡ resolved f name kind) same
@@ -130,7 +131,8 @@ found-more sides names asked before middle after s name there adds is pairs push
     let P : ComparedStack → Type 0 = IsStack sides names middle.pairs.items in
     let all : All P (before.stacks.items ++ s ∷ []) =
     All-append P before.stacks.items (s ∷ [])
-    (All-weaker (IsStack sides names before.pairs.items) P (kept-stack sides names before.pairs.items middle.pairs.items adds.keeps) before.stacks.items found.stacks)
+    (All-weaker (IsStack sides names before.pairs.items) P
+    (kept-stack sides names before.pairs.items middle.pairs.items adds.keeps) before.stacks.items found.stacks)
     (All-from_recursion P (s ∷ []) (this, tt)) in
     record {
       order = ap (map asked_of) stacks ∙ map-append asked_of before.stacks.items (s ∷ []) ∙ ap (λ (l : List (ℕ × Kind)). l ++ asked_of s ∷ []) found.order;

@@ -3,7 +3,6 @@ use Rattle.std.specs.Prelude.{◌≡◌, ℕ, ◌≤◌, ◌==◌, ◌&&◌, Boo
 use Rattle.std.specs.List.{range_with_len}
 use Rattle.std.specs.Option.{option_map_or, option_or}
 use Rattle.std.specs.Str.{bytes_eq}
-use Rattle.pam_codes.specs.Code.{all_codes}
 use Rattle.pam_compare.specs.Matching.{partner_of}
 use Rattle.pam_conf.specs.Stack.{Items, ModuleText, module_at, module_count}
 use Rattle.pam_conf.specs.declared.rule.Kind.{Kind}

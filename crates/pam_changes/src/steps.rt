@@ -167,7 +167,8 @@ impl Answered<'_> {
         limit: usize,
     ) -> Result<usize, AllocError>
         requires { first ≤ length alone.now }
-        ensures asked { OnOk result (asked.new.items ≡ asked.old.items ++ map (as_old (answers_of self.now.old_codes.now)) (before limit (drop first alone.now))) }
+        ensures asked { OnOk result (asked.new.items ≡ asked.old.items
+            ++ map (as_old (answers_of self.now.old_codes.now)) (before limit (drop first alone.now))) }
         ensures left { IfOk result (λ place. drop place alone.now ≡ from limit (drop first alone.now)) }
         ensures within { IfOk result (λ place. place ≤ length alone.now) }
     {

@@ -1,6 +1,6 @@
 -- Jumps that land inside what an include brought in.
-use Rattle.std.proofs.Common.{◌≡◌, ◌⊎◌, ℕ, ◌+◌, ◌<◌, ◌≤◌, ◌&&◌, ◌||◌, Bool, true, false, not, cond, List, [], ◌∷◌, ◌++◌, drop, get_or, length, map}
-use Rattle.std.proofs.Common.{append-nil, append_assoc, suc, zero, refl, sym, ◌∙◌, ap, subst, inl, inr, arith, Option, Some, None, slice_get}
+use Rattle.std.proofs.Common.{◌≡◌, ℕ, ◌+◌, ◌<◌, ◌≤◌, ◌&&◌, ◌||◌, Bool, true, false, not, cond, List, [], ◌∷◌, ◌++◌, drop, get_or, length, map}
+use Rattle.std.proofs.Common.{append-nil, append_assoc, suc, zero, refl, sym, ◌∙◌, ap, subst, inl, inr, arith, Some, slice_get}
 use Rattle.std.specs.List.{flat_map, list_any, range_with_len}
 use Rattle.std.proofs.lemmas.Bool.{cases_eq}
 use Rattle.std.proofs.lemmas.List.{drop_all, drop_more}

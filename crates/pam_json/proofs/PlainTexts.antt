@@ -1,13 +1,13 @@
 -- Controls and cursors stand for themselves in a string.
-use Rattle.std.proofs.Common.{◌≡◌, ℕ, ◌+◌, ◌<◌, ◌^◌, Bool, true, false, List, [], ◌∷◌, ◌++◌, arith, codes, decimal, length, refl, Option, Some}
+use Rattle.std.proofs.Common.{◌≡◌, ℕ, Bool, true, false, List, [], ◌∷◌, ◌++◌, codes, decimal, refl, Some}
 use Rattle.std.proofs.lemmas.Bool.{and_parts, cond_both}
-use Rattle.std.specs.List.{concat, flat_map, join_by, list_all}
+use Rattle.std.specs.List.{concat, flat_map, list_all}
 use Rattle.std.specs.Option.{option_map}
 use Rattle.std.specs.Prelude.{find, if◌then◌else◌, unwrap_or}
 use Rattle.pam_codes.specs.Action.{action_text, same_action}
 use Rattle.pam_codes.specs.Code.{code_names}
 use Rattle.pam_codes.specs.Control.{Pairs, actions_of, keywords}
-use Rattle.pam_codes.specs.ControlText.{control_text, default_of, keyword_of, list_text, mention, mentions, same_actions}
+use Rattle.pam_codes.specs.ControlText.{control_text, default_of, list_text, mention, mentions, same_actions}
 use Rattle.pam_codes.specs.declared.action.Action.{Action}
 use Rattle.pam_codes.specs.declared.action.Action.TheVariants as actions
 use Rattle.pam_json_lines.proofs.Plain.{ArePlain, decimal-plain, is_plain, plain-append}

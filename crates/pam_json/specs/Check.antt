@@ -1,5 +1,6 @@
 -- The JSON of `check`: a line for each finding, and a last line with their numbers.
-use Rattle.std.specs.Prelude.{ℕ, ◌==◌, Bool, true, false, List, [], ◌∷◌, ◌++◌, codes, length, map, Option, None, Some, option_map, slice_index_or, if◌then◌else◌}
+use Rattle.std.specs.Prelude.{ℕ, ◌==◌, Bool, true, false, List, [], ◌∷◌, ◌++◌, codes, length, map, Option, None, Some, option_map, slice_index_or}
+use Rattle.std.specs.Prelude.{if◌then◌else◌}
 use Rattle.std.specs.List.{after_first, before_first, enumerate_from, flat_map}
 use Rattle.std.specs.Option.{option_map_or}
 use Rattle.pam_conf.specs.Stack.{Items}

@@ -1,5 +1,6 @@
 -- The bytes of strings.
-use Rattle.std.proofs.Common.{◌≡◌, ℕ, ◌+◌, ◌/◌, ◌%◌, ◌==◌, ◌||◌, cond, nat_le, nat_lt, true, List, [], ◌∷◌, ◌++◌, ap, arith, eqb-true, le-leb, ltb-false, refl, ⊎_elim}
+use Rattle.std.proofs.Common.{◌≡◌, ℕ, ◌+◌, ◌/◌, ◌%◌, ◌==◌, ◌||◌, cond, nat_le, nat_lt, true, List, [], ◌∷◌, ◌++◌, ap, arith, eqb-true, le-leb}
+use Rattle.std.proofs.Common.{ltb-false, refl, ⊎_elim}
 use Rattle.std.proofs.lemmas.Bool.{and_from, and_parts, cond_both, false≢true, or_cases}
 use Rattle.std.specs.Char.{digit_char}
 use Rattle.std.specs.List.{list_all}

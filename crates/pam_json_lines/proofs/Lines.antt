@@ -14,7 +14,8 @@ abbrev pub rest_text : {V : Type 0} → (V → Data) → Bool → List (Member V
 rest_text value later members = members_text later (members_of (map (member_of value) members))
 
 -- one more member is written
-pub member-more : {V : Type 0} (value : V → Data) (front text : List ℕ) (later : Bool) (members : List (Member V)) (i : ℕ) (d m : Member V) → i < length members → m ≡ get_or members i d
+pub member-more : {V : Type 0} (value : V → Data) (front text : List ℕ) (later : Bool) (members : List (Member V)) (i : ℕ) (d m : Member V)
+    → i < length members → m ≡ get_or members i d
     → front ++ rest_text value later (drop i members) ≡ text
     → (front ++ (comma_if later ++ member_text value m)) ++ rest_text value true (drop (i + 1) members) ≡ text
 member-more value front text later members i d m h is before =

@@ -1,5 +1,6 @@
 -- Texts that stand for themselves in a string.
-use Rattle.std.proofs.Common.{◌≡◌, ◌∙◌, ℕ, ◌+◌, ◌/◌, ◌%◌, ◌<◌, ◌≤◌, ◌==◌, ◌&&◌, not, nat_le, nat_lt, Bool, true, false, zero, suc, List, [], ◌∷◌, ◌++◌, ap, arith, decimal, le-leb, refl}
+use Rattle.std.proofs.Common.{◌≡◌, ◌∙◌, ℕ, ◌+◌, ◌/◌, ◌%◌, ◌<◌, ◌≤◌, ◌==◌, ◌&&◌, not, nat_le, nat_lt, Bool, true, false, zero, suc, List, [], ◌∷◌}
+use Rattle.std.proofs.Common.{◌++◌, ap, arith, decimal, le-leb, refl}
 use Rattle.std.proofs.lemmas.Bool.{and_from, and_parts, cond_both, false≢true, le-ltb, leb-true, lt-ltb}
 use Rattle.std.specs.Fmt.{digit_glyph, digits, digits_onto}
 use Rattle.std.specs.List.{list_all}

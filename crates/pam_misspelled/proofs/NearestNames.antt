@@ -1,6 +1,6 @@
 -- The right words.
-use Rattle.std.proofs.Common.{◌≡◌, ◌∙◌, ◌+◌, ◌<◌, ◌≤◌, ◌++◌, ℕ, Bool, true, false, List, [], ◌∷◌, Option, Some, None, Result, Bor, IfOk, append-nil, arith, ap, codes, eqb, length}
-use Rattle.std.proofs.Common.{map, min, refl, slice_get, subst, sym, take}
+use Rattle.std.proofs.Common.{◌≡◌, ◌∙◌, ◌+◌, ◌<◌, ◌≤◌, ◌++◌, ℕ, Bool, true, false, List, [], ◌∷◌, Option, Some, None, Result, Bor, IfOk, append-nil}
+use Rattle.std.proofs.Common.{arith, ap, codes, eqb, length, map, min, refl, slice_get, subst, sym, take}
 use Rattle.std.proofs.lemmas.Bool.{eqb-false, eqb-true}
 use Rattle.std.proofs.lemmas.List.{length-map, take-append-le, take_all, take_more}
 use Rattle.std.proofs.lemmas.Option.{get_or_from_slice_get, slice_get-map, slice_get-get_or, slice_get_within}

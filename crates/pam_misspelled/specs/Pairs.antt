@@ -33,7 +33,7 @@ abbrev pub place_in_pair : ControlError → ℕ
 place_in_pair BadAction = 2
 place_in_pair error = 0
 
--- every third token, after as many that are passed over
+-- every third token, after skipping this many
 unfoldable pub thirds : ℕ → List (List ℕ) → List (List ℕ)
 thirds passed [] = []
 thirds zero (token ∷ tokens) = token ∷ thirds 2 tokens

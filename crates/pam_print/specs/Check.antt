@@ -1,15 +1,13 @@
 -- The text of `check`: a line for each finding, and a last line with their numbers.
-use Rattle.std.specs.Prelude.{ℕ, ◌+◌, ◌-◌, ◌==◌, ◌||◌, nat_lt, Bool, false, List, [], ◌∷◌, ◌++◌, codes}
+use Rattle.std.specs.Prelude.{ℕ, ◌-◌, ◌==◌, ◌||◌, nat_lt, Bool, false, List, [], ◌∷◌, ◌++◌, codes}
 use Rattle.std.specs.Prelude.{decimal, length, if◌then◌else◌, Option, None, Some, slice_index_or}
 use Rattle.std.specs.List.{enumerate_from, flat_map}
 use Rattle.std.specs.Option.{option_map_or}
 use Rattle.pam_conf.specs.Stack.{Items}
-use Rattle.pam_conf.specs.declared.error.FaultKind.{FaultKind}
 use Rattle.pam_conf.specs.declared.rule.Form.{Form}
 use Rattle.pam_conf.specs.declared.rule.Form.TheVariants.{Dir, Single}
 use Rattle.pam_conf.specs.declared.rule.Kind.{Kind}
 use Rattle.pam_host.specs.Levels.{level_of}
-use Rattle.pam_host.specs.declared.level.Level.{Level}
 use Rattle.pam_host.specs.declared.met.Kinds.{Kinds}
 use Rattle.pam_host.specs.declared.met.Met.{Met}
 use Rattle.pam_host.specs.declared.problem.Place.{Place}

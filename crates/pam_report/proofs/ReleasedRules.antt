@@ -1,6 +1,6 @@
 -- The rules that a release reads: the file in which they stand, and those that are kept.
 use Rattle.std.proofs.Common.{◌≡◌, ℕ, ◌+◌, ◌<◌, ◌≤◌, Bool, true, false, not, List, [], ◌∷◌, ap, cond, filter, length, map, refl, suc, sym, zero, ◌∙◌}
-use Rattle.std.proofs.Common.{Option, Some, None, arith, nat_lt, slice_get, subst}
+use Rattle.std.proofs.Common.{Option, Some, None, arith, slice_get, subst}
 use Rattle.std.proofs.lemmas.Bool.{le-ltb, lt-ltb}
 use Rattle.std.specs.List.{position_or_len}
 use Rattle.std.specs.Option.{option_map}

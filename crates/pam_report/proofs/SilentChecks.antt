@@ -1,5 +1,5 @@
 -- A check that lists only notes.
-use Rattle.std.proofs.Common.{◌≡◌, ◌<◌, ℕ, All, Bool, true, List, [], ◌∷◌, filter, length, not, refl, sym, ◌∙◌, ap, subst, Option}
+use Rattle.std.proofs.Common.{◌≡◌, ◌<◌, ℕ, All, List, [], ◌∷◌, length, refl, ◌∙◌, ap, subst, Option}
 use Rattle.std.specs.BTreeMap.{BTreeMap}
 use Rattle.pam_accept.specs.Lines.{Accepted}
 use Rattle.pam_conf.specs.Files.{Folder}
@@ -13,7 +13,7 @@ use Rattle.pam_host.specs.declared.level.Level.TheVariants.{Note}
 use Rattle.pam_host.specs.declared.problem.Place.{Place}
 use Rattle.pam_host.specs.declared.report.Finding.{Finding}
 use Rattle.pam_host.specs.declared.way_in.WayIn.{WayIn}
-use Rattle.pam_report.specs.Accepting.{accepts, key_of, not_accepted}
+use Rattle.pam_report.specs.Accepting.{not_accepted}
 
 none-accepted : (files : Folder) (services : List (List ℕ)) (found : List (Place × Finding)) → not_accepted [] files services found ≡ found
 none-accepted files services [] = refl

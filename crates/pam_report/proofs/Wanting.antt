@@ -1,6 +1,6 @@
 -- Want of memory of the tables of `paths`.
 use Rattle.std.proofs.Common.{◌≡◌, ◌&&◌, true, refl, subst}
-use Rattle.std.specs.Prelude.{ℕ, Option, Some, None, is_some, option_map}
+use Rattle.std.specs.Prelude.{Option, Some, None, is_some, option_map}
 use Rattle.jiff.specs.Types.{DateTime}
 use Rattle.pam_conf.specs.Stack.{Items}
 use Rattle.pam_conf.specs.declared.rule.Kind.{Kind}

@@ -1,5 +1,5 @@
 -- The paths of the tables of a host, and what their problems are called.
-use Rattle.std.specs.Prelude.{ℕ, List, codes}
+use Rattle.std.specs.Prelude.{ℕ, List}
 use Rattle.pam_host.specs.declared.level.Level.{Level}
 use Rattle.pam_host.specs.declared.level.Level.TheVariants.{Error, Note, Warning}
 use Rattle.pam_old_tables.specs.Meanings.{name_of}

@@ -1,5 +1,6 @@
 -- Settings, one text after another.
-use Rattle.std.proofs.Common.{◌≡◌, ◌∙◌, ◌+◌, ◌++◌, ℕ, Bool, true, false, List, [], ◌∷◌, None, Some, Result, Ok, Err, Vec, ap, arith, cond, eqb, length, map, not, refl, sym}
+use Rattle.std.proofs.Common.{◌≡◌, ◌∙◌, ◌+◌, ◌++◌, ℕ, Bool, true, false, List, [], ◌∷◌, None, Some, Result, Ok, Err, Vec, ap, arith, cond, eqb}
+use Rattle.std.proofs.Common.{length, map, not, refl, sym}
 use Rattle.std.specs.List.{after_first, before_first, list_any, position_or_len}
 use Rattle.std.specs.Global.{Global}
 use Rattle.pam_settings.specs.Settings.{SettingText, setting_view}

@@ -277,7 +277,8 @@ pub(super) fn source_files<R: std::rt::Files + AllocGlobal + Clone + Drop>(
     source: ConfSource<'_>,
     candidates: &[Candidate<'_>],
 ) -> Result<SourceFiles, InputError>
-    ensures { MatchResult result (λ found. IsRead (map candidate_view candidates.now) source.entry found.files found.paths) (IsUnread (IsInSource source.entry)) }
+    ensures { MatchResult result (λ found. IsRead (map candidate_view candidates.now) source.entry found.files found.paths)
+        (IsUnread (IsInSource source.entry)) }
 {
     match source {
         ConfSource::Dir(folder) => folder_files(rt, alloc, Folder::of_system(folder), candidates),

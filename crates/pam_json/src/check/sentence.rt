@@ -7,7 +7,8 @@ ghost use Rattle.pam_misspelled.specs.MisspelledView.{misspelled_view};
 ghost use Rattle.pam_parts.specs.CheckNames.{word_of};
 ghost use Rattle.pam_sentences.specs.NamingView.{naming_view};
 ghost use Rattle.serde_json.specs.Written.{compact_text};
-ghost use Rattle.pam_json.specs.Sentences.{fault_parts, module_parts, naming_parts, problem_parts, released_parts, said_parts, subject_name, table_difference_parts, table_parts};
+ghost use Rattle.pam_json.specs.Sentences.{fault_parts, module_parts, naming_parts, problem_parts, released_parts, said_parts, subject_name};
+ghost use Rattle.pam_json.specs.Sentences.{table_difference_parts, table_parts};
 
 use pam_codes::{Device, Out};
 use pam_conf::{FaultKind, Kind};

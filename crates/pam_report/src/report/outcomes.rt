@@ -154,7 +154,8 @@ pub(super) fn answer_outcomes<'a>(
     files: &Files,
     inputs: &Inputs,
 ) -> Result<Reply<'a>, Fault>
-    ensures answer { let stack = stack_at request.now.service.now request.now.kind request.now.login (map setting_view settings.now) inputs.now moment files.now in
+    ensures answer { let stack = stack_at request.now.service.now request.now.kind request.now.login
+        (map setting_view settings.now) inputs.now moment files.now in
         Finds result (IsOutcomes request.now.service.now request.now.kind stack) }
     ensures wants { WantsOnly (of_paths (paths_tables (is_some moment) inputs.now)) result }
 {

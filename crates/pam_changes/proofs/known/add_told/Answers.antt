@@ -1,9 +1,8 @@
-use Rattle.std.proofs.Common.{◌∙◌, ◌+◌, ◌≡◌, ◌<◌, ◌≤◌, ℕ, List, arith, subst, sym, unwrap_or}
+use Rattle.std.proofs.Common.{◌+◌, ◌≤◌, arith, subst, sym}
 use Rattle.std.specs.Option.{option_map}
 use Rattle.pam_conf.specs.Stack.{module_count}
 use Rattle.pam_paths.specs.Known.{set_for}
 use Rattle.pam_paths.specs.declared.knowledge.Known.{Known}
-use Rattle.pam_facts.proofs.AnswerSteps.{IsSomeSet}
 use Rattle.pam_facts.proofs.Replaced.{So, with-one, without-one}
 use Rattle.pam_changes.specs.Known.{told_at}
 use Rattle.pam_changes.specs.Sides.{sides_view}

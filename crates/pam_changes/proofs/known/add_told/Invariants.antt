@@ -13,5 +13,6 @@ abbrev pub invariant-loop-index : goal.invariant-loop-index
 invariant-loop-index l =
     let told = sides_view l.sides in
     (base : ℕ → List ℕ) → Allows (module_count l.stack) l.fn.known base → (number code : ℕ) → 1 ≤ number → number ≤ module_count l.stack → code < 31 →
-    (number ≤ l.index → may_answer l.known number code ≡ is_in code (unwrap_or (told_at told.returns told.settings (option_map (λ t. t.now) l.there) l.stack number) (base number)))
+    (number ≤ l.index → may_answer l.known number code
+    ≡ is_in code (unwrap_or (told_at told.returns told.settings (option_map (λ t. t.now) l.there) l.stack number) (base number)))
     × (l.index < number → may_answer l.known number code ≡ is_in code (base number))

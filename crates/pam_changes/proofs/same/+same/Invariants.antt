@@ -5,4 +5,5 @@ use Rattle.pam_changes.proofs.same.+same.Given as goal
 
 -- the items that are left
 abbrev pub invariant-are_same_lists-loop-index : goal.invariant-are_same_lists-loop-index
-invariant-are_same_lists-loop-index l = same_items (items_of (drop l.index l.one)) (items_of (drop l.index l.other)) ≡ same_items (items_of l.one) (items_of l.other)
+invariant-are_same_lists-loop-index l =
+    same_items (items_of (drop l.index l.one)) (items_of (drop l.index l.other)) ≡ same_items (items_of l.one) (items_of l.other)

@@ -1,7 +1,7 @@
-use Rattle.std.proofs.Common.{◌++◌, ◌+◌, Some, drop}
+use Rattle.std.proofs.Common.{◌+◌, drop}
 use Rattle.pam_codes.proofs.Writing.{all-then, err-front, front-is, front-longer, front-then}
 use Rattle.pam_report.specs.ReplyViews.{compare_view}
-use Rattle.pam_json.specs.Compare.{lines_after, next_stack}
+use Rattle.pam_json.specs.Compare.{lines_after}
 use Rattle.pam_json.proofs.CompareLines.{lines-at, next-service}
 use Rattle.pam_json.proofs.compare.put_stacks.Goals as goal
 

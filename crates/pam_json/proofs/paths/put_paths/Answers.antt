@@ -1,4 +1,4 @@
-use Rattle.std.proofs.Common.{◌∙◌, ◌-◌, List, ap, arith, sym, take}
+use Rattle.std.proofs.Common.{◌∙◌, ◌-◌, ap, arith, sym, take}
 use Rattle.std.specs.List.{flat_map}
 use Rattle.pam_codes.proofs.Writing.{all-is, all-then, err-front, front-is, front-longer, front-then, writes-is, writes-then}
 use Rattle.pam_page.proofs.FlatTexts.{flat_map-push}

@@ -1,4 +1,4 @@
-use Rattle.std.proofs.Common.{◌≡◌, ◌∙◌, ◌&&◌, ◌∷◌, List, ℕ, [], Some, ap, drop, not, refl, sym, true}
+use Rattle.std.proofs.Common.{◌≡◌, ◌∙◌, ◌&&◌, ◌∷◌, List, ℕ, [], ap, drop, not, refl, sym, true}
 use Rattle.pam_codes.proofs.Firsts.{first_and_rest, none_first, rest_of_set}
 use Rattle.pam_codes.proofs.SetNames.{less_codes}
 use Rattle.pam_codes.proofs.Writing.{all-none, all-then, err-front, front-is, front-longer, front-then, writes-is, writes-then}

@@ -5,7 +5,8 @@ use Rattle.pam_text.proofs.Writing.{all-then, err-front, front-longer, front-the
 use Rattle.pam_json_lines.proofs.text.put_lowercase.Goals as goal
 
 pub returns-in_err-put : goal.returns-in_err-put
-returns-in_err-put g c = err-front _ c.from_residual.ensures.0 (front-longer (escape (map to_ascii_lowercase c.args.text.now) ++ codes "\"") c.in_err-put.ensures)
+returns-in_err-put g c =
+    err-front _ c.from_residual.ensures.0 (front-longer (escape (map to_ascii_lowercase c.args.text.now) ++ codes "\"") c.in_err-put.ensures)
 
 pub returns-in_err-put_lowered : goal.returns-in_err-put_lowered
 returns-in_err-put_lowered g c =

@@ -8,7 +8,8 @@ use Rattle.pam_json_lines.proofs.value.put_member.Goals as goal
 pub returns-in_err-put_quoted : goal.returns-in_err-put_quoted
 returns-in_err-put_quoted g c =
     err-front _ c.from_residual.ensures.0
-    (front-longer (58 ∷ compact_text (data_of g.V.Written.value c.args.member.now.value)) (front-is c.in_err-put_quoted.ensures (ap quoted c.as_bytes.ensures.value)))
+    (front-longer (58 ∷ compact_text (data_of g.V.Written.value c.args.member.now.value))
+    (front-is c.in_err-put_quoted.ensures (ap quoted c.as_bytes.ensures.value)))
 
 pub returns-in_err-put : goal.returns-in_err-put
 returns-in_err-put g c =

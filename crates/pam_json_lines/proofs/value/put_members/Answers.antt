@@ -20,7 +20,8 @@ loop-member-preserved g c =
     let l = c.loop-member.invariant in
     record {
       front = _;
-      parts = member-more g.V.Written.value l.front _ c.loop-member.later c.args.members.now c.loop-member.member-index _ c.member-item.result c.loop-member-test.true c.member-item.is l.parts;
+      parts = member-more g.V.Written.value l.front _ c.loop-member.later c.args.members.now c.loop-member.member-index _
+          c.member-item.result c.loop-member-test.true c.member-item.is l.parts;
       took = all-then l.took c.in_ok-put_next.ensures;
     }
 

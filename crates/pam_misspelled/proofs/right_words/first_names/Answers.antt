@@ -17,7 +17,9 @@ loop-position-preserved c =
           ap (λ (names : Vec (Bor (List ℕ)) Global). map text_of names.items) w.names-is ∙ ap (map text_of) w.in_ok-push.ensures.items
           ∙ map-append text_of c.loop-position.names.items (w.in-Some.name ∷ [])
           ∙ one_name entries position _ w.in-Some.name.now c.loop-position.invariant w.in-Some.ensures
-      | in_default w ↦ absurd (some_name entries position (omega (arith, c.loop-position-test.true, c.min-position-end.ensures, c.len.ensures)) w.in_default.ensures)
+      | in_default w ↦
+          absurd (some_name entries position (omega (arith, c.loop-position-test.true, c.min-position-end.ensures, c.len.ensures))
+          w.in_default.ensures)
     ]
 
 pub returns : goal.returns

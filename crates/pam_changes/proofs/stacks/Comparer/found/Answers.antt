@@ -20,7 +20,8 @@ loop-position-preserved c =
     let services = c.args.services.now in
     let name : ComparedService → List ℕ = λ s. (service_text s).name in
     let position = c.loop-position.position in
-    let there = slice_get-map name services position ∙ ap (option_map name) c.service_at-service.ensures ∙ ap (λ (n : List ℕ). Some n) (sym c.deref.ensures.value) in
+    let there = slice_get-map name services position ∙ ap (option_map name) c.service_at-service.ensures
+    ∙ ap (λ (n : List ℕ). Some n) (sym c.deref.ensures.value) in
     subst (λ (l : List (ℕ × Kind)). IsFound (sides_view c.args.self.now.sides.now) (map name services) l c.add_service.new.found)
     (stacks-more c.args.kind position)
     (c.in_ok-add_service.ensures (map name services) (stacks_asked 0 position c.args.kind) there c.loop-position.invariant)
@@ -29,5 +30,6 @@ pub returns : goal.returns
 returns c =
     let services = c.args.services.now in
     let all : c.loop-position.position ≡ length services = omega (arith, c.loop-position-test.false, c.loop-position.auto.position-end) in
-    subst (λ (n : ℕ). IsFound (sides_view c.args.self.now.sides.now) (map (λ s. (service_text s).name) services) (stacks_asked 0 n c.args.kind) c.loop-position.found)
+    subst (λ (n : ℕ). IsFound (sides_view c.args.self.now.sides.now) (map (λ s. (service_text s).name) services)
+    (stacks_asked 0 n c.args.kind) c.loop-position.found)
     all c.loop-position.invariant

@@ -6,7 +6,9 @@ use Rattle.pam_changes.proofs.steps.Answered.merged.Given as goal
 -- the modules so far, and those of both stacks that are left
 abbrev pub invariant-loop-number : goal.invariant-loop-number
 invariant-loop-number l = record {
-  asked : l.asked.items ++ merged l.self.matching.now (answers_of l.self.old_codes.now) (answers_of l.self.new_codes.now) (drop l.first l.alone) (drop l.number-index l.shown)
+  asked : l.asked.items
+      ++ merged l.self.matching.now (answers_of l.self.old_codes.now) (answers_of l.self.new_codes.now)
+      (drop l.first l.alone) (drop l.number-index l.shown)
       ≡ merged l.self.matching.now (answers_of l.self.old_codes.now) (answers_of l.self.new_codes.now) l.alone l.shown;
   within : l.first ≤ length l.alone;
 }

@@ -6,4 +6,6 @@ use Rattle.pam_changes.proofs.steps.Answered.old_alone.Given as goal
 
 abbrev pub invariant-loop-number : goal.invariant-loop-number
 invariant-loop-number l =
-    l.alone.items ≡ filter (λ number. not (list_any (λ other. is_number number (one_with l.self.matching.now (answers_of l.self.old_codes.now) (answers_of l.self.new_codes.now) other)) l.shown)) (take l.number-index l.old_asked)
+    l.alone.items ≡ filter (λ number. not (list_any (λ other. is_number number
+    (one_with l.self.matching.now (answers_of l.self.old_codes.now) (answers_of l.self.new_codes.now) other)) l.shown))
+    (take l.number-index l.old_asked)

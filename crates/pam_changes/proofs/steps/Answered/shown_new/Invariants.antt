@@ -6,4 +6,6 @@ use Rattle.pam_changes.proofs.steps.Answered.shown_new.Given as goal
 
 abbrev pub invariant-loop-index : goal.invariant-loop-index
 invariant-loop-index l =
-    l.shown.items ≡ filter (is_shown l.self.matching.now (answers_of l.self.old_codes.now) (answers_of l.self.new_codes.now) l.old_asked l.new_asked) (range_with_len 1 l.index)
+    l.shown.items
+    ≡ filter (is_shown l.self.matching.now (answers_of l.self.old_codes.now) (answers_of l.self.new_codes.now) l.old_asked l.new_asked)
+    (range_with_len 1 l.index)

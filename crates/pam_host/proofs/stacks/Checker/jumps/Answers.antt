@@ -1,4 +1,4 @@
-use Rattle.std.proofs.Common.{◌≡◌, ◌∙◌, [], List, ap, subst, sym}
+use Rattle.std.proofs.Common.{◌≡◌, ◌∙◌, [], ap, subst, sym}
 use Rattle.std.proofs.lemmas.Result.{IfOk-weaker}
 use Rattle.pam_conf.specs.Files.{Folder}
 use Rattle.pam_conf.specs.Laws.{IsSound}

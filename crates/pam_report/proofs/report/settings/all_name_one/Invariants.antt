@@ -7,4 +7,5 @@ use Rattle.pam_settings.specs.Settings.{setting_view}
 
 abbrev pub invariant-loop-setting : goal.invariant-loop-setting
 invariant-loop-setting l =
-    list_all (names_one l.files l.stack) (map setting_view (drop l.setting-index l.settings)) ≡ list_all (names_one l.files l.stack) (map setting_view l.settings)
+    list_all (names_one l.files l.stack) (map setting_view (drop l.setting-index l.settings))
+    ≡ list_all (names_one l.files l.stack) (map setting_view l.settings)

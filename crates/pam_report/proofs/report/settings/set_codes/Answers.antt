@@ -1,8 +1,7 @@
-use Rattle.std.proofs.Common.{◌∙◌, ◌+◌, ◌≡◌, ◌<◌, ◌≤◌, ℕ, List, arith, map, subst, sym, unwrap_or}
+use Rattle.std.proofs.Common.{◌+◌, ◌≤◌, arith, map, subst, sym}
 use Rattle.pam_conf.specs.Stack.{module_count}
 use Rattle.pam_paths.specs.Known.{set_for}
 use Rattle.pam_paths.specs.declared.knowledge.Known.{Known}
-use Rattle.pam_facts.proofs.AnswerSteps.{IsSomeSet}
 use Rattle.pam_facts.proofs.Replaced.{So, with-one, without-one}
 use Rattle.pam_report.specs.Settings.{set_at}
 use Rattle.pam_settings.specs.Settings.{setting_view}
