@@ -49,7 +49,6 @@ fn put_codes<W: Write>(set: CodeSet, out: &mut Out<W>) -> Result<(), Device>
 struct CodeNames(CodeSet);
 
 impl Written for CodeNames {
-    ghost use Rattle.pam_json.specs.Paths.{next_or_null};
     ghost use Rattle.pam_json.specs.Steps.{code_strings};
 
     ghost value = { λ names. code_strings names.0 };
@@ -83,7 +82,6 @@ struct StepElements<'x> {
 
 impl Elements<PathStep> for StepElements<'_> {
     ghost use Rattle.pam_paths.specs.Steps.{step_seen};
-    ghost use Rattle.pam_json.specs.Paths.{next_or_null};
     ghost use Rattle.pam_json.specs.Steps.{step_object};
 
     ghost element = { λ elements step. step_object elements.stack.now (step_seen step) };
