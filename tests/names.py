@@ -1,10 +1,9 @@
 """Names that are meant to do harm on a terminal, in a shell, or in the text around them: of services, targets, modules,
 arguments, folders, candidates and tables.
 
-Each answer is the plain reading's. Besides, no control byte of a name comes out of `check`, `compare`, `graph` and `explain`, so
-each line is one that the program wrote, and the texts of drawings are printable ASCII. What `show`, `outcomes` and faults say of
-names is their own bytes, and so are bytes from 128 on in `check` and `compare`: among them U+009B, which some terminals take as
-the begin of an escape."""
+Each answer is the plain reading's. Besides, no control character of a name comes out of `check`, `compare`, `graph` and `explain`,
+U+009B included, which some terminals take as the begin of an escape; so each line is one that the program wrote. The texts of
+drawings are printable ASCII. What `show`, `outcomes` and faults say of names is their own bytes."""
 import re
 
 import compared
@@ -15,7 +14,7 @@ NAMES = ["line\nfeed", "\nlogin:1: error: E1 NulByte: none", "\x1b[31mred\x1b[0m
          "back\\slash", "\\x0a", 'quo"te', "quo'te", '"];x[', "<b>&amp;", "-->", "]]>", "#1;", "$(id)", "`id`", "%s%n", "a b", " ", ":1:",
          "-", "--help", "[x", "x]", "\x7f", "\x01\x02", "\u202eright", "\u009b31m", "\u00e9", "\U0001f512", "n" * 255, "*", "?", "=", ",", "#"]
 # A name of a file cannot be any of these.
-CONTROL = re.compile(rb"[\x00-\x09\x0b-\x1f\x7f]")
+CONTROL = re.compile(rb"[\x00-\x09\x0b-\x1f\x7f]|\xc2[\x80-\x9f]")
 NO_ASCII = re.compile(rb"[^\n\x20-\x7e]")
 CHECKED = re.compile(rb".*: (error|warning|note): [A-Z]+[0-9]+ [A-Za-z0-9]+: |checked [0-9]+ services?, ", re.DOTALL)
 REST = b"account required pam_unix.so\n"

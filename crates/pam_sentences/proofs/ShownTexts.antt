@@ -1,14 +1,26 @@
 -- Names and words as they are shown, part by part.
-use Rattle.std.proofs.Common.{◌≡◌, ◌<◌, ℕ, ◌/◌, ◌%◌, Bool, true, List, [], ◌∷◌, ◌++◌, codes, ap, length, refl, sym, take}
+use Rattle.std.proofs.Common.{◌≡◌, ◌<◌, ℕ, ◌/◌, ◌%◌, Bool, true, List, [], ◌∷◌, ◌++◌, codes, ap, arith, length, refl, sym, take, ◌∙◌}
 use Rattle.std.proofs.lemmas.Bool.{lt-ltb}
-use Rattle.std.specs.Prelude.{if◌then◌else◌}
-use Rattle.pam_sentences.specs.Shown.{hex_digit, is_escaped, quoted, shown_byte, shown_name, shown_word}
+use Rattle.std.specs.Prelude.{if◌then◌else◌, slice_index_or}
+use Rattle.pam_sentences.specs.Shown.{hex_digit, is_numbered, quoted, shown_after, shown_byte, shown_name, shown_word}
 
 -- NAMES
 
--- a byte that is written as its code
-pub byte-escaped : (byte : ℕ) → true ≡ is_escaped byte → codes "\\x" ++ hex_digit (byte / 16) ++ hex_digit (byte % 16) ≡ shown_byte byte
-byte-escaped byte h = ap (λ (b : Bool). if b then codes "\\x" ++ hex_digit (byte / 16) ++ hex_digit (byte % 16) else byte ∷ []) h
+-- a byte that is shown by its number
+pub byte-numbered : (numbered : Bool) (byte : ℕ) → true ≡ numbered → codes "\\x" ++ hex_digit (byte / 16) ++ hex_digit (byte % 16) ≡ shown_byte numbered byte
+byte-numbered numbered byte h = ap (λ (b : Bool). shown_byte b byte) h
+
+-- a byte, and those after it
+pub shown-step : (left after : List ℕ) (before byte : ℕ) (numbered : Bool) → left ≡ byte ∷ after →
+    numbered ≡ is_numbered before byte (slice_index_or after 0 0) → shown_byte numbered byte ++ shown_after byte after ≡ shown_after before left
+unfolding shown_after
+shown-step left after before byte numbered is same =
+    ap (λ (b : Bool). shown_byte b byte ++ shown_after byte after) same ∙ sym (ap (shown_after before) is)
+
+pub shown-none : (left : List ℕ) (before : ℕ) → length left ≡ 0 → shown_after before left ≡ []
+unfolding shown_after
+shown-none [] before none = refl
+shown-none (byte ∷ after) before none = absurd (omega (arith, none))
 
 -- WORDS
 

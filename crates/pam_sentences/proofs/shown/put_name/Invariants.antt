@@ -1,8 +1,12 @@
--- the bytes so far are written
-use Rattle.std.proofs.Common.{take}
+-- the bytes before those that are left are written
+use Rattle.std.proofs.Common.{◌≡◌, ◌++◌, List, length, ℕ}
 use Rattle.pam_codes.specs.Out.{TookAll}
-use Rattle.pam_sentences.specs.Shown.{shown_name}
+use Rattle.pam_sentences.specs.Shown.{shown_after}
 use Rattle.pam_sentences.proofs.shown.put_name.Given as goal
 
 abbrev pub invariant-loop-byte : goal.invariant-loop-byte
-invariant-loop-byte g l = TookAll g.W.Write.contents l.initial.out l.out (shown_name (take l.byte-index l.name))
+invariant-loop-byte g l =
+    (written : List ℕ) × TookAll g.W.Write.contents l.initial.out l.out written × (written ++ shown_after l.before l.left ≡ shown_after 0 l.name)
+
+abbrev pub decreases-loop-byte : goal.decreases-loop-byte
+decreases-loop-byte g l = length l.left
