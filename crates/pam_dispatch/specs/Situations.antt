@@ -3,7 +3,7 @@ use Rattle.std.specs.Prelude.{ℕ, ◌==◌, if◌then◌else◌}
 use Rattle.pam_dispatch.specs.declared.asked.Situation.{Situation}
 use Rattle.pam_dispatch.specs.declared.state.Impression.{Impression}
 use Rattle.pam_dispatch.specs.declared.state.Impression.TheVariants.{Undef, Positive, Negative}
-use Rattle.pam_dispatch.specs.State.{perm_denied, start_state, state_with, success}
+use Rattle.pam_dispatch.specs.State.{perm_denied, state_with, success}
 
 -- the status as far as it tells answers apart, from the impression, that of the state in which the list was entered, and
 -- the status: once the stack has failed, only perm_denied differs from the others, since a jump past the end gives it
@@ -13,10 +13,6 @@ status_told Positive entry status = status
 status_told Negative Undef status = if status == perm_denied then perm_denied else success
 status_told Negative Positive status = if status == perm_denied then perm_denied else success
 status_told Negative Negative status = status
-
--- the situation in a list that was entered in the state in which a run begins; only a reset reads the entry state
-abbrev pub without_entry : Situation → Situation
-without_entry s = record { state = s.state; entry = start_state; items_after = s.items_after }
 
 -- the situation that represents all those in which the same answers are alike
 abbrev pub representative : Situation → Situation

@@ -2,7 +2,7 @@
 
 ghost use Rattle.std.specs.Prelude.{◌≡◌, Some, slice_get};
 ghost use Rattle.pam_dispatch.specs.Runs.{outcome_of, situation_of};
-ghost use Rattle.pam_dispatch.specs.Situations.{representative, status_told, without_entry};
+ghost use Rattle.pam_dispatch.specs.Situations.{representative, status_told};
 ghost use Rattle.pam_dispatch.specs.declared.state.Impression.TheVariants.{Negative};
 
 use crate::state::{Impression, State};
@@ -55,18 +55,6 @@ impl Situation {
                 impression: self.state.impression,
                 status: status_told(self.state, self.entry),
             },
-            ..*self
-        }
-    }
-
-    /// The same situation in a list that was entered in the state in which a run begins. The answers of a module without a reset
-    /// have the same outcomes there.
-    #[inline(always)]
-    pub fn without_entry(&self) -> Situation
-        ensures { result ≡ without_entry self.now }
-    {
-        Situation {
-            entry: State::start(),
             ..*self
         }
     }

@@ -2,14 +2,13 @@
 
 ghost use Rattle.std.specs.Prelude.{◌≡◌, ◌≢◌, ◌∷◌, ◌+◌, ◌-◌, ◌≤◌, ◌^◌, ◌<◌, ℕ, All, drop, length, min, slice_get, take};
 ghost use Rattle.std.specs.Prelude.{IfErr, IfNone, IfOk, IfSome, IsSome, None, OnOk, Some};
-ghost use Rattle.std.specs.List.{AllZip, list_any};
+ghost use Rattle.std.specs.List.{AllZip};
 ghost use Rattle.pam_codes.specs.Parts.{IsParts};
 ghost use Rattle.pam_conf.specs.Stack.{Items, module_at, module_count};
 ghost use Rattle.pam_conf.specs.declared.stack.TheConstants.{MAX_MODULES};
 ghost use Rattle.pam_dispatch.specs.Decision.{decision_of};
 ghost use Rattle.pam_dispatch.specs.Flat.{IsPlaceOf, control_at, controls_in, modules_of, resume, rest_of, runs_of};
 ghost use Rattle.pam_dispatch.specs.inner.Flat.{IsBounded, positions_from};
-ghost use Rattle.pam_dispatch.specs.Representatives.{is_reset};
 ghost use Rattle.pam_dispatch.specs.Runs.{AsksRise, Assignment, after_answer, answers_of, asked_by, asked_module, final_state, next_ask, outcome_in, state_in};
 ghost use Rattle.pam_dispatch.specs.Settled.{IsSettled};
 ghost use Rattle.pam_dispatch.specs.inner.Stretches.{IsStretchTable};
@@ -22,7 +21,7 @@ use crate::error::{Memory, WrongCount};
 use crate::flat_item::FlatItem;
 use crate::flatten::flatten;
 use crate::place::Place;
-use crate::read_levels::{ReadLevels, has_reset, read_table};
+use crate::read_levels::{ReadLevels, read_table};
 use crate::seek::seek;
 use crate::settled::{SettledRun, first_harmless};
 use crate::state::State;
@@ -220,15 +219,6 @@ impl Program {
             FlatItem::Module { control, .. } => control,
             FlatItem::Substack { .. } => unreachable!(),
         }
-    }
-
-    /// Whether the control of the module with this number, from 1, has the action reset for some code.
-    pub fn has_reset(&self, number: usize) -> bool
-        requires first { 1 ≤ number }
-        requires last { number ≤ modules_of self.now }
-        ensures { result ≡ list_any is_reset (control_at self.now number) }
-    {
-        has_reset(self.control(number))
     }
 
     /// The parts of the control of the module with this number, from 1.

@@ -1,6 +1,5 @@
 -- Classes that are kept of modules.
 use Rattle.std.proofs.Common.{◌≡◌, ◌≢◌, Bool, true, false, eqb, refl, ℕ, ◌-◌, ◌<◌, ◌≤◌, List, Some, ap, sym, ◌∙◌, subst, arith, get_or, length, slice_set}
-use Rattle.std.specs.List.{list_any}
 use Rattle.std.proofs.lemmas.List.{get_or-set_other}
 use Rattle.std.proofs.lemmas.Bool.{eqb-true, eqb-false}
 use Rattle.std.proofs.lemmas.Grind.{get_or-set_at}
@@ -11,16 +10,15 @@ use Rattle.pam_dispatch.specs.declared.flat_item.FlatItem.{FlatItem}
 use Rattle.pam_dispatch.specs.declared.place.Place.{Place}
 use Rattle.pam_dispatch.specs.Flat.{IsPlaceOf, control_at, modules_of, rest_of}
 use Rattle.pam_dispatch.specs.Runs.{Ask, AsksRise, asked_module, next_ask, situation_of}
-use Rattle.pam_dispatch.specs.Representatives.{is_reset}
+use Rattle.pam_dispatch.specs.Situations.{representative}
 use Rattle.pam_dispatch.proofs.Asking.{number-next_ask}
 use Rattle.pam_paths.specs.declared.classes.Classes.{Classes}
 use Rattle.pam_paths.specs.declared.frames.Frame.{Frame}
 use Rattle.pam_paths.specs.declared.class_cache.CachedClasses.{CachedClasses}
-use Rattle.pam_paths.specs.declared.class_cache.RecentClasses.{RecentClasses}
 use Rattle.pam_paths.specs.Computed.{is_offered}
 use Rattle.pam_paths.specs.Frames.{AreClasses, offered_at}
 use Rattle.pam_paths.specs.inner.Frames.{IsFrame}
-use Rattle.pam_paths.specs.Cached.{AreCached, AreRecentFor, IsCachedFor, told}
+use Rattle.pam_paths.specs.Cached.{AreCached, IsCachedFor}
 use Rattle.pam_paths.specs.Listing.{Allowance}
 use Rattle.pam_paths.proofs.Situations.{from-normal, normal, same-offered, to-normal}
 
@@ -35,60 +33,42 @@ same-ask a b number control situation =
 some-is : (s t : Situation) → Some s ≡ Some t → s ≡ t
 some-is s t e = cc
 
-told-same : (reads : Bool) (a b : Ask) → told reads (situation_of a) ≡ told reads (situation_of b) →
-    situation_of (normal reads a) ≡ situation_of (normal reads b)
-told-same true a b same = same
-told-same false a b same = same
-
 module _ (allows : Allowance) (program : List FlatItem) (number : ℕ) where
   -- classes computed at a place are those of the module that is asked there, in each situation with the same representative
   pub cached-of : (at : Place) (kept : CachedClasses) → IsPlaceOf program at → asked_module (rest_of program at) ≡ Some number →
       ((other : Place) → IsPlaceOf program other → asked_module (rest_of program other) ≡ Some number →
       (next_ask (rest_of program other)).control ≡ control_at program number) →
-      kept.reads_entry ≡ list_any is_reset (control_at program number) →
-      kept.situation ≡ Some (told kept.reads_entry (situation_of (next_ask (rest_of program at)))) → kept.classes.offered ≡ offered_at allows (rest_of program at) →
+      kept.situation ≡ Some (representative (situation_of (next_ask (rest_of program at)))) → kept.classes.offered ≡ offered_at allows (rest_of program at) →
       AreClasses (next_ask (rest_of program at)) kept.classes → IsCachedFor allows program number kept
   unfolding IsCachedFor
-  cached-of at kept there here control reads situation offered classes place valid asked is =
+  cached-of at kept there here control situation offered classes place valid asked is =
       let here_asked = next_ask (rest_of program at) in
       let there_asked = next_ask (rest_of program place) in
-      let entry = kept.reads_entry in
-      let one : entry ≡ list_any is_reset here_asked.control = reads ∙ ap (list_any is_reset) (sym (control at there here)) in
-      let other : entry ≡ list_any is_reset there_asked.control = reads ∙ ap (list_any is_reset) (sym (control place valid asked)) in
-      let same : normal entry here_asked ≡ normal entry there_asked =
+      let same : normal here_asked ≡ normal there_asked =
       same-ask _ _ (number-next_ask (rest_of program at) number here ∙ sym (number-next_ask (rest_of program place) number asked))
-      (control at there here ∙ sym (control place valid asked)) (told-same entry here_asked there_asked (some-is _ _ (sym situation ∙ is))) in (
-        offered ∙ sym (same-offered entry here_asked one allows) ∙ ap (λ (a : Ask). codes_where (is_offered allows a)) same
-            ∙ same-offered entry there_asked other allows,
-        from-normal entry there_asked other kept.classes
-            (subst (λ (a : Ask). AreClasses a kept.classes) same (to-normal entry here_asked one kept.classes classes)),
+      (control at there here ∙ sym (control place valid asked)) (some-is _ _ (sym situation ∙ is)) in (
+        offered ∙ sym (same-offered allows here_asked) ∙ ap (λ (a : Ask). codes_where (is_offered allows a)) same ∙ same-offered allows there_asked,
+        from-normal there_asked kept.classes
+            (subst (λ (a : Ask). AreClasses a kept.classes) same (to-normal here_asked kept.classes classes)),
       )
 
-  -- the two of a module
-  pub recent-of : (kept : RecentClasses) (last before : CachedClasses) → kept.last ≡ last → kept.before ≡ before →
-      IsCachedFor allows program number last → IsCachedFor allows program number before → AreRecentFor allows program number kept
-  recent-of kept last before e f one other = (
-    subst (λ (k : CachedClasses). IsCachedFor allows program number k) (sym e) one,
-    subst (λ (k : CachedClasses). IsCachedFor allows program number k) (sym f) other,
-  )
-
   -- those of one module are replaced
-  pub cached-set : (modules : List RecentClasses) (kept : RecentClasses) → AreCached allows program modules → length modules ≡ 256 → 1 ≤ number → number ≤ 256 →
-      AreRecentFor allows program number kept → AreCached allows program (slice_set modules (number - 1) kept)
+  pub cached-set : (modules : List CachedClasses) (kept : CachedClasses) → AreCached allows program modules → length modules ≡ 256 → 1 ≤ number → number ≤ 256 →
+      IsCachedFor allows program number kept → AreCached allows program (slice_set modules (number - 1) kept)
   unfolding AreCached
   cached-set modules kept before long first last is other low high past =
       let set = slice_set modules (number - 1) kept in
-      elim (eqb other number) as (λ (t : Bool). eqb other number ≡ t → AreRecentFor allows program other (get_or set (other - 1) past)) [
+      elim (eqb other number) as (λ (t : Bool). eqb other number ≡ t → IsCachedFor allows program other (get_or set (other - 1) past)) [
         | true ↦ λ e.
             let same : other ≡ number = eqb-true other number e in
             let there : get_or set (other - 1) past ≡ kept =
             get_or-set_at modules (number - 1) (other - 1) kept past (omega (arith, same)) (omega (arith, first, last, long)) in
-            subst (λ (n : ℕ). AreRecentFor allows program n (get_or set (other - 1) past)) (sym same)
-            (subst (λ (k : RecentClasses). AreRecentFor allows program number k) (sym there) is)
+            subst (λ (n : ℕ). IsCachedFor allows program n (get_or set (other - 1) past)) (sym same)
+            (subst (λ (k : CachedClasses). IsCachedFor allows program number k) (sym there) is)
         | false ↦ λ e.
             let differ : other ≢ number = eqb-false other number e in
             let apart : other - 1 ≢ number - 1 = λ equal. differ (omega (arith, equal, low, first)) in
-            subst (λ (k : RecentClasses). AreRecentFor allows program other k) (sym (get_or-set_other modules (number - 1) (other - 1) kept past apart))
+            subst (λ (k : CachedClasses). IsCachedFor allows program other k) (sym (get_or-set_other modules (number - 1) (other - 1) kept past apart))
             (before other low high past)
       ] refl
 

@@ -1,7 +1,7 @@
 -- A module has the same classes in all situations with one representative.
-use Rattle.std.proofs.Common.{◌≡◌, ◌==◌, ◌&&◌, ◌||◌, Bool, true, false, arith, cond, eqb, refl, ℕ, List, [], ◌∷◌, ap, nat_le, suc, sym, zero, ◌∙◌}
+use Rattle.std.proofs.Common.{◌≡◌, ◌==◌, ◌&&◌, Bool, true, false, arith, cond, eqb, refl, ℕ, List, ap, nat_le, sym, ◌∙◌}
 use Rattle.std.specs.List.{list_any}
-use Rattle.std.proofs.lemmas.Bool.{eqb-true, false≢true}
+use Rattle.std.proofs.lemmas.Bool.{eqb-true}
 use Rattle.pam_codes.specs.Set.{codes_where}
 use Rattle.pam_codes.specs.inner.SetBits.{codes_where-same}
 use Rattle.pam_codes.specs.declared.action.Action.{Action}
@@ -10,10 +10,9 @@ use Rattle.pam_dispatch.specs.declared.state.Impression.{Impression}
 use Rattle.pam_dispatch.specs.declared.state.Impression.TheVariants.{Undef, Positive, Negative}
 use Rattle.pam_dispatch.specs.declared.state.State.{State}
 use Rattle.pam_dispatch.specs.declared.step.Outcome.{Outcome}
-use Rattle.pam_dispatch.specs.Representatives.{is_reset}
 use Rattle.pam_dispatch.specs.Runs.{Ask, outcome_of, situation_of}
 use Rattle.pam_dispatch.specs.Situations.{representative}
-use Rattle.pam_dispatch.specs.State.{act, action_of, left_of, perm_denied, start_state, state_with, success}
+use Rattle.pam_dispatch.specs.State.{act, action_of, left_of, perm_denied, state_with, success}
 use Rattle.pam_paths.specs.declared.classes.Classes.{Classes}
 use Rattle.pam_paths.specs.Classes.{class_at, class_of, impression_number, least, same_outcome}
 use Rattle.pam_paths.specs.Computed.{is_offered}
@@ -135,63 +134,14 @@ abbrev same_of : Ask → ℕ → ℕ → Bool
 same_of ask c d = same_outcome (outcome_of ask c) (outcome_of ask d)
 
 -- the module as it is asked in the situation that represents its own
-abbrev represented : Ask → Ask
-represented ask = record {
+abbrev pub normal : Ask → Ask
+normal ask = record {
   module_number = ask.module_number;
   control = ask.control;
   state = (representative (situation_of ask)).state;
   entry = ask.entry;
   after = ask.after;
 }
-
--- the module as it is asked, with the entry state only if it is read
-abbrev plain : Bool → Ask → Ask
-plain reads ask = record {
-  module_number = ask.module_number;
-  control = ask.control;
-  state = ask.state;
-  entry = cond reads ask.entry start_state;
-  after = ask.after;
-}
-
--- the module as it is asked in the situation that tells its answers apart
-abbrev pub normal : Bool → Ask → Ask
-normal reads ask = represented (plain reads ask)
-
--- AN ENTRY STATE THAT NO RESET READS
-
-no-reset : (action : Action) (code : ℕ) (s entry other : State) (after : ℕ) → is_reset action ≡ false →
-    act action code s entry after ≡ act action code s other after
-no-reset Ignore code s entry other after h = refl
-no-reset Ok code s entry other after h = refl
-no-reset Done code s entry other after h = refl
-no-reset Bad code s entry other after h = refl
-no-reset Die code s entry other after h = refl
-no-reset Reset code s entry other after h = absurd (false≢true (sym h))
-no-reset (Jump items) code s entry other after h = refl
-
-either : (a b : Bool) → (a || b) ≡ false → (a ≡ false) × (b ≡ false)
-either true b h = absurd (false≢true (sym h))
-either false b h = (refl, h)
-
-none-at : (control : List Action) (code : ℕ) → list_any is_reset control ≡ false → is_reset (action_of control code) ≡ false
-none-at [] code h = refl
-none-at (action ∷ rest) zero h = (either (is_reset action) (list_any is_reset rest) h).0
-none-at (action ∷ rest) (suc code) h = none-at rest code (either (is_reset action) (list_any is_reset rest) h).1
-
-plain-outcome : (ask : Ask) (reads : Bool) (code : ℕ) → reads ≡ list_any is_reset ask.control → outcome_of (plain reads ask) code ≡ outcome_of ask code
-unfolding outcome_of
-plain-outcome ask true code is = refl
-plain-outcome ask false code is =
-    ap (λ (s : State). outcome s (left_of (action_of ask.control code) code ask.state ask.after))
-    (no-reset (action_of ask.control code) code ask.state start_state ask.entry ask.after (none-at ask.control code (sym is)))
-
-plain-alike : (ask : Ask) (reads : Bool) (c d : ℕ) → reads ≡ list_any is_reset ask.control → same_of (plain reads ask) c d ≡ same_of ask c d
-plain-alike ask reads c d is =
-    ap (λ (o : Outcome). same_outcome o (outcome_of (plain reads ask) d)) (plain-outcome ask reads c is)
-    ∙ ap (same_outcome (outcome_of ask c)) (plain-outcome ask reads d is)
-
--- CLASSES
 
 failed-alike : (number : ℕ) (control : List Action) (entry : State) (after c d status : ℕ) →
     eqb 2 (impression_number entry.impression) ≡ false → eqb (impression_number entry.impression) 2 ≡ false →
@@ -205,7 +155,7 @@ failed-alike number control entry after c d status before after_it =
     ] refl
 
 told-alike : (number : ℕ) (control : List Action) (impression : Impression) (status : ℕ) (entered_in : Impression) (entered_with after c d : ℕ) →
-    same_of (represented (ask_of number control impression status (state_with entered_in entered_with) after)) c d
+    same_of (normal (ask_of number control impression status (state_with entered_in entered_with) after)) c d
     ≡ same_of (ask_of number control impression status (state_with entered_in entered_with) after) c d
 told-alike number control Undef status entered_in entered_with after c d = refl
 told-alike number control Positive status entered_in entered_with after c d = refl
@@ -215,31 +165,28 @@ told-alike number control Negative status Undef entered_with after c d =
 told-alike number control Negative status Positive entered_with after c d =
     failed-alike number control (state_with Positive entered_with) after c d status refl refl
 
-module _ (reads : Bool) (ask : Ask) (is : reads ≡ list_any is_reset ask.control) where
-  pub same-class : (code : ℕ) → class_of (normal reads ask) code ≡ class_of ask code
-  unfolding class_at
-  same-class code =
-      let entry : State = cond reads ask.entry start_state in
-      codes_where-same (λ d. same_of (normal reads ask) code d) (λ d. same_of ask code d) (λ d low.
-      told-alike ask.module_number ask.control ask.state.impression ask.state.status entry.impression entry.status ask.after code d
-      ∙ plain-alike ask reads code d is)
+pub same-class : (ask : Ask) (code : ℕ) → class_of (normal ask) code ≡ class_of ask code
+unfolding class_at
+same-class ask code =
+    codes_where-same (λ d. same_of (normal ask) code d) (λ d. same_of ask code d) (λ d low.
+    told-alike ask.module_number ask.control ask.state.impression ask.state.status ask.entry.impression ask.entry.status ask.after code d)
 
-  pub same-offered : (allows : Allowance) → codes_where (is_offered allows (normal reads ask)) ≡ codes_where (is_offered allows ask)
-  unfolding is_offered
-  same-offered allows =
-      codes_where-same (is_offered allows (normal reads ask)) (is_offered allows ask) (λ d low.
-      ap (λ (class : List ℕ). (least class == d) && list_any (allows ask.module_number) class) (same-class d))
+pub same-offered : (allows : Allowance) (ask : Ask) → codes_where (is_offered allows (normal ask)) ≡ codes_where (is_offered allows ask)
+unfolding is_offered
+same-offered allows ask =
+    codes_where-same (is_offered allows (normal ask)) (is_offered allows ask) (λ d low.
+    ap (λ (class : List ℕ). (least class == d) && list_any (allows ask.module_number) class) (same-class ask d))
 
-  pub to-normal : (classes : Classes) → AreClasses ask classes → AreClasses (normal reads ask) classes
-  to-normal classes are = record {
-    alone = λ code low no. same-class code ∙ are.alone code low no;
-    whole = λ code low yes. same-class code ∙ are.whole code low yes;
-    earlier = λ code low yes. same-class code ∙ are.earlier code low yes;
-  }
+pub to-normal : (ask : Ask) (classes : Classes) → AreClasses ask classes → AreClasses (normal ask) classes
+to-normal ask classes are = record {
+  alone = λ code low no. same-class ask code ∙ are.alone code low no;
+  whole = λ code low yes. same-class ask code ∙ are.whole code low yes;
+  earlier = λ code low yes. same-class ask code ∙ are.earlier code low yes;
+}
 
-  pub from-normal : (classes : Classes) → AreClasses (normal reads ask) classes → AreClasses ask classes
-  from-normal classes are = record {
-    alone = λ code low no. sym (same-class code) ∙ are.alone code low no;
-    whole = λ code low yes. sym (same-class code) ∙ are.whole code low yes;
-    earlier = λ code low yes. sym (same-class code) ∙ are.earlier code low yes;
-  }
+pub from-normal : (ask : Ask) (classes : Classes) → AreClasses (normal ask) classes → AreClasses ask classes
+from-normal ask classes are = record {
+  alone = λ code low no. sym (same-class ask code) ∙ are.alone code low no;
+  whole = λ code low yes. sym (same-class ask code) ∙ are.whole code low yes;
+  earlier = λ code low yes. sym (same-class ask code) ∙ are.earlier code low yes;
+}

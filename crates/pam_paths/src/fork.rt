@@ -37,7 +37,7 @@ pub struct Fork {
 }
 
 impl Fork {
-    /// The fork at a place, whose classes are computed if the module was not asked in a situation like it recently. The cache is new, or
+    /// The fork at a place, whose classes are computed if the module was not asked in a situation like it last. The cache is new, or
     /// one of forks of the same program under the same knowledge.
     #[inline(never)]
     pub fn at<K: Knowledge>(
