@@ -89,11 +89,12 @@ impl Places {
         ensures found { (program : List FlatItem) → ArePlaces program self.old.places.items self.old.keys
             → IfOk result (λ k. (p : Place) × (slice_get self.new.places.items k ≡ Some p) × (rest_of program p ≡ rest_of program place.now)) }
     {
-        if let Some(index) = self.keys.find(place) {
+        let key = place.key();
+        if let Some(index) = self.keys.find(&key) {
             return Ok(index);
         }
         let index = self.keys.len();
-        self.keys.push(place)?;
+        self.keys.push(key)?;
         push_place(&mut self.places, place)?;
         Ok(index)
     }

@@ -27,7 +27,8 @@ all_zipped_at (x ∷ xs) (y ∷ ys) zero c p h within = h.0
 all_zipped_at (x ∷ xs) (y ∷ ys) (suc index) c p h within = all_zipped_at xs ys index c p h.1 (omega (arith, within))
 
 -- each module of a program has a position
-pub length-positions : (flat_items program : List FlatItem) (positions : List ℕ) {parts : List (List Part)} {stretches : List ℕ} {tail : ℕ} {levels : List (List Bool)} →
+pub length-positions : (flat_items program : List FlatItem) (positions : List ℕ)
+    {parts : List (List Part)} {stretches : List ℕ} {tail : ℕ} {levels : List (List Bool)} →
     IsProgram flat_items positions parts stretches tail levels → flat_items ≡ program →
     length positions ≡ modules_of program
 length-positions flat_items program positions p is =

@@ -11,7 +11,8 @@ use Rattle.pam_dispatch.specs.declared.flat_item.FlatItem.TheVariants.{Module, S
 use Rattle.pam_dispatch.specs.declared.place.Place.{Place}
 use Rattle.pam_dispatch.specs.declared.state.State.{State}
 use Rattle.pam_dispatch.specs.declared.step.Outcome.{Outcome}
-use Rattle.pam_dispatch.specs.Flat.{IsPlaceOf, level_of, rest_of, resume}
+use Rattle.pam_dispatch.specs.Flat.{level_of, rest_of, resume}
+use Rattle.pam_dispatch.specs.Keys.{key_of, rest_at}
 use Rattle.pam_dispatch.specs.Representatives.{AreEqualRests, is_read, is_reset, read_states, representative_of}
 use Rattle.pam_dispatch.specs.Laws.{EqualRestsAsk, EqualRestsEnd}
 use Rattle.pam_dispatch.specs.Runs.{Runs, asked_by, asks, ends, final_state, outcome_of}
@@ -162,8 +163,10 @@ read-agree rest level d states l low read =
           ∙ sym (get_or_past (take d states) l start_state (omega (arith, length-take d states, k)))
     ]
 
-pub representative-rests : (program : List FlatItem) (place : Place) → AreEqualRests (rest_of program (representative_of program place)) (rest_of program place)
-unfolding rest_of representative_of
+-- the key of the representative has an equal rest
+pub representative-rests : (program : List FlatItem) (place : Place) →
+    AreEqualRests (rest_at program (key_of (representative_of program place))) (rest_of program place)
+unfolding rest_at key_of rest_of representative_of
 representative-rests program place =
     let rest = drop place.position program in
     let states = place.entered.states in
@@ -171,28 +174,27 @@ representative-rests program place =
     (length-taken place.depth (read_states 0 rest states) states (length-read_states 0 rest states))
     (read-agree rest place.depth place.depth states)
 
-pub representative-place : (program : List FlatItem) (place : Place) → IsPlaceOf program place → IsPlaceOf program (representative_of program place)
-unfolding IsPlaceOf representative_of
-representative-place program place valid = valid
-
--- states that are the same at each level
-pub read_states-by : (rest : List FlatItem) (states kept : List State) → length kept ≡ length states →
-    ((l : ℕ) → l < length states → get_or kept l start_state ≡ cond (is_read l rest) (get_or states l start_state) start_state) →
-    kept ≡ read_states 0 rest states
+-- states of which the first `count` are the same at each level
+pub taken_states-by : (rest : List FlatItem) (count : ℕ) (states kept : List State) → length kept ≡ length states →
+    ((l : ℕ) → l < count → l < length states → get_or kept l start_state ≡ cond (is_read l rest) (get_or states l start_state) start_state) →
+    take count kept ≡ take count (read_states 0 rest states)
 unfolding read_states
-read_states-by rest states kept long h =
-    from 0 states kept long (λ l k. h l k ∙ ap (λ (n : ℕ). cond (is_read n rest) (get_or states l start_state) start_state) (omega arith))
+taken_states-by rest count states kept long h =
+    from 0 count states kept long (λ l few k. h l few k ∙ ap (λ (n : ℕ). cond (is_read n rest) (get_or states l start_state) start_state) (omega arith))
   where
-    from : (level : ℕ) (states kept : List State) → length kept ≡ length states →
-        ((l : ℕ) → l < length states → get_or kept l start_state ≡ cond (is_read (level + l) rest) (get_or states l start_state) start_state) →
-        kept ≡ read_states level rest states
-    from level [] [] long h = refl
-    from level [] (k ∷ kept) long h = absurd (omega (arith, long))
-    from level (s ∷ states) [] long h = absurd (omega (arith, long))
-    from level (s ∷ states) (k ∷ kept) long h =
-        ap (λ (x : State). x ∷ kept) (h 0 (omega arith) ∙ ap (λ (n : ℕ). cond (is_read n rest) s start_state) (omega arith))
+    from : (level count : ℕ) (states kept : List State) → length kept ≡ length states →
+        ((l : ℕ) → l < count → l < length states →
+        get_or kept l start_state ≡ cond (is_read (level + l) rest) (get_or states l start_state) start_state) →
+        take count kept ≡ take count (read_states level rest states)
+    from level zero states kept long h = refl
+    from level (suc count) [] [] long h = refl
+    from level (suc count) [] (k ∷ kept) long h = absurd (omega (arith, long))
+    from level (suc count) (s ∷ states) [] long h = absurd (omega (arith, long))
+    from level (suc count) (s ∷ states) (k ∷ kept) long h =
+        ap (λ (x : State). x ∷ take count kept)
+        (h 0 (omega arith) (omega arith) ∙ ap (λ (n : ℕ). cond (is_read n rest) s start_state) (omega arith))
         ∙ ap (λ (xs : List State). cond (is_read level rest) s start_state ∷ xs)
-        (from (level + 1) states kept (omega (arith, long)) (λ l m. h (suc l) (omega (arith, m))
+        (from (level + 1) count states kept (omega (arith, long)) (λ l few m. h (suc l) (omega (arith, few)) (omega (arith, m))
         ∙ ap (λ (n : ℕ). cond (is_read n rest) (get_or states l start_state) start_state) (omega arith)))
 
 -- WHAT EQUAL RESTS ASK AND WHERE THEY END

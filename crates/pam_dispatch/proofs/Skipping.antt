@@ -1,6 +1,6 @@
 -- The stretches of items on one level, as they are stored, and what they skip.
-use Rattle.std.proofs.Common.{◌≡◌, ◌≢◌, ℕ, ◌+◌, ◌-◌, ◌≤◌, ◌<◌, Bool, true, false, List, [], ◌∷◌, ◌++◌, ap, arith, cond, drop, eqb, get_or, length, refl, suc, sym, zero, ◌∙◌, subst}
-use Rattle.std.proofs.Common.{inl, inr}
+use Rattle.std.proofs.Common.{◌≡◌, ◌≢◌, ℕ, ◌+◌, ◌-◌, ◌≤◌, ◌<◌, Bool, true, false, List, [], ◌∷◌, ◌++◌, ◌∙◌}
+use Rattle.std.proofs.Common.{ap, arith, cond, drop, eqb, get_or, inl, inr, length, refl, subst, suc, sym, zero}
 use Rattle.std.proofs.lemmas.Bool.{cases_lt, cond-false, cond-true, eq-eqb, eqb-true, ne_eqb}
 use Rattle.std.proofs.lemmas.List.{drop-drop, get_or_append_left, get_or_push, length-drop}
 use Rattle.pam_dispatch.specs.declared.flat_item.FlatItem.{FlatItem}
@@ -67,7 +67,8 @@ stored-some program table at stored within =
     omega (arith, stretch-at program table at stored (omega (arith, within)), stretch-some (drop at program) some)
 
 -- the lengths from one more position on
-pub table-on : (program : List FlatItem) (table : List ℕ) (n at after : ℕ) → at + 1 ≡ after → after ≤ length program → length table ≡ length program - after + 1 →
+pub table-on : (program : List FlatItem) (table : List ℕ) (n at after : ℕ) → at + 1 ≡ after → after ≤ length program →
+    length table ≡ length program - after + 1 →
     ((left : ℕ) → left ≤ length program - after → get_or table left 0 ≡ stretch_of (drop (length program - left) program)) →
     n ≡ stretch_of (drop at program) → (left : ℕ) → left ≤ length program - at →
     get_or (table ++ n ∷ []) left 0 ≡ stretch_of (drop (length program - left) program)
@@ -77,7 +78,8 @@ table-on program table n at after one within long each last left few =
       | inr l ↦
           let same : left ≡ length table = omega (arith, long, l, few, one, within) in
           let here : at ≡ length program - left = omega (arith, long, same, one, within) in
-          ap (λ (k : ℕ). get_or (table ++ n ∷ []) k 0) same ∙ get_or_push table n 0 (length table) refl ∙ last ∙ ap (λ (k : ℕ). stretch_of (drop k program)) here
+          ap (λ (k : ℕ). get_or (table ++ n ∷ []) k 0) same ∙ get_or_push table n 0 (length table) refl ∙ last
+          ∙ ap (λ (k : ℕ). stretch_of (drop k program)) here
     ]
 
 -- WHAT IS SKIPPED

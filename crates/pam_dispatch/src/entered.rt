@@ -1,6 +1,7 @@
 //! The states in which the open lists were entered.
 
-ghost use Rattle.std.specs.Prelude.{◌≡◌, ◌<◌, List, slice_index_or, slice_set};
+ghost use Rattle.std.specs.Prelude.{◌≡◌, ◌<◌, List, min, slice_index_or, slice_set, take};
+ghost use Rattle.pam_dispatch.specs.declared.entered.TheConstants.{LISTS};
 ghost use Rattle.pam_dispatch.specs.declared.flat_item.FlatItem.{FlatItem};
 ghost use Rattle.pam_dispatch.specs.inner.ReadLevels.{AreReadLevels};
 ghost use Rattle.pam_dispatch.specs.Representatives.{read_states};
@@ -17,11 +18,12 @@ pub struct Entered {
     pub(crate) states: [State; LISTS],
 }
 
-/// Keeps the states of the lists at some levels; the others become the state in which a run begins.
-fn keep_levels(states: &mut [State; LISTS], levels: &ReadLevels)
-    ensures { (rest : List FlatItem) → AreReadLevels rest levels.now → states.new ≡ read_states 0 rest states.old }
+/// Of the first `count` lists, keeps the states of those at some levels; each other one becomes the state in which a run begins.
+fn keep_levels(states: &mut [State; LISTS], count: usize, levels: &ReadLevels)
+    ensures { (rest : List FlatItem) → AreReadLevels rest levels.now
+        → take (min count LISTS) states.new ≡ take (min count LISTS) (read_states 0 rest states.old) }
 {
-    for level in 0..LISTS {
+    for level in 0..count.min(LISTS) {
         if !levels[level] {
             states[level] = State::start();
         }
@@ -39,13 +41,12 @@ impl Entered {
         self.states[level]
     }
 
-    /// The states of the lists at some levels; for each other list the state in which a run begins.
-    pub(crate) fn at_levels(&self, levels: &ReadLevels) -> Entered
-        ensures { (rest : List FlatItem) → AreReadLevels rest levels.now → result.states ≡ read_states 0 rest self.now.states }
+    /// Of the first `count` lists, keeps the states of those at some levels; each other one becomes the state in which a run begins.
+    pub(crate) fn keep_levels(&mut self, count: usize, levels: &ReadLevels)
+        ensures { (rest : List FlatItem) → AreReadLevels rest levels.now
+            → take (min count LISTS) self.new.states ≡ take (min count LISTS) (read_states 0 rest self.old.states) }
     {
-        let mut kept = *self;
-        keep_levels(&mut kept.states, levels);
-        kept
+        keep_levels(&mut self.states, count, levels);
     }
 
     /// Enters the list at `level` in this state.

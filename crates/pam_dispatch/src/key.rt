@@ -4,9 +4,11 @@ ghost use Rattle.std.specs.Prelude.{◌≡◌, List};
 ghost use Rattle.pam_dispatch.specs.declared.flat_item.FlatItem.{FlatItem};
 ghost use Rattle.pam_dispatch.specs.Flat.{rest_of};
 ghost use Rattle.pam_dispatch.specs.Keys.{key_of, rest_at};
+ghost use Rattle.pam_dispatch.specs.Representatives.{AreEqualRests, representative_of};
 
 use crate::entered::{Entered, LISTS};
 use crate::place::Place;
+use crate::program::Program;
 use crate::state::State;
 use std::hash::{Hash, Hasher};
 use std::marker::Model;
@@ -91,5 +93,24 @@ impl Place {
             state: self.state,
             entered: self.entered,
         }
+    }
+}
+
+impl Program {
+    /// The key of the place that represents all those which differ from `place` only in entry states that no reset can still read.
+    /// The rest of a run from the places with this key on is equal to that from `place` on.
+    pub fn key_at(&self, place: &Place) -> PlaceKey
+        ensures key { result ≡ key_of (representative_of self.now place.now) }
+        ensures rests { AreEqualRests (rest_at self.now result) (rest_of self.now place.now) }
+    {
+        let left = self.flat_items.len().saturating_sub(place.position);
+        let mut key = PlaceKey {
+            position: place.position,
+            depth: usize::from(place.depth),
+            state: place.state,
+            entered: place.entered,
+        };
+        key.entered.keep_levels(key.depth, &self.read_levels[left]);
+        key
     }
 }

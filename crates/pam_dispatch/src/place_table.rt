@@ -1,13 +1,10 @@
 //! Places that are found again.
 
 ghost use Rattle.std.specs.Prelude.{◌≡◌, ◌∷◌, ◌++◌, [], IfNone, IfSome, List, OnErr, OnOk, Some, length, slice_get};
-ghost use Rattle.pam_dispatch.specs.declared.flat_item.FlatItem.{FlatItem};
-ghost use Rattle.pam_dispatch.specs.Flat.{rest_of};
-ghost use Rattle.pam_dispatch.specs.Keys.{AreDifferent, DiffersFrom, key_of, rest_at};
+ghost use Rattle.pam_dispatch.specs.Keys.{AreDifferent, DiffersFrom};
 
 use crate::error::Memory;
 use crate::key::PlaceKey;
-use crate::place::Place;
 use indexmap::IndexSet;
 use std::alloc::Global;
 use std::marker::Model;
@@ -45,24 +42,21 @@ impl PlaceTable {
         self.keys.len()
     }
 
-    /// The index of the place with the key of `place`.
-    pub fn find(&self, place: &Place) -> Option<usize>
-        ensures found { IfSome result (λ index. slice_get self.now index ≡ Some (key_of place.now)) }
-        ensures none { IfNone result (DiffersFrom (key_of place.now) self.now) }
-
-        // Places with one key have the same rest of the run.
-        ensures rest { (program : List FlatItem) → rest_at program (key_of place.now) ≡ rest_of program place.now }
+    /// The index of the place with this key.
+    pub fn find(&self, key: &PlaceKey) -> Option<usize>
+        ensures found { IfSome result (λ index. slice_get self.now index ≡ Some key.now) }
+        ensures none { IfNone result (DiffersFrom key.now self.now) }
     {
-        self.keys.get_index_of(&place.key())
+        self.keys.get_index_of(key)
     }
 
-    /// Adds a place. Returns `Memory` if allocation fails.
-    pub fn push(&mut self, place: &Place) -> Result<(), Memory>
-        requires { DiffersFrom (key_of place.now) self.old }
-        ensures added { OnOk result (self.new ≡ self.old ++ key_of place.now ∷ []) }
+    /// Adds a place by its key. Returns `Memory` if allocation fails.
+    pub fn push(&mut self, key: PlaceKey) -> Result<(), Memory>
+        requires { DiffersFrom key self.old }
+        ensures added { OnOk result (self.new ≡ self.old ++ key ∷ []) }
         ensures unchanged { OnErr result (self.new ≡ self.old) }
     {
-        self.keys.insert(place.key())?;
+        self.keys.insert(key)?;
         Ok(())
     }
 }

@@ -32,7 +32,7 @@ use std::alloc::Global;
 #[derive(Drop)]
 pub(crate) struct Draft {
     pub(crate) nodes: Vec<Node>,
-    /// The place of each node, by its representative.
+    /// The place of each node, by the key of its representative.
     pub(crate) places: PlaceTable,
     /// The classes computed last for each module.
     pub(crate) cache: ClassCache,
@@ -41,13 +41,11 @@ pub(crate) struct Draft {
 /// The index of the node for `place`.
 #[inline(never)]
 fn find(program: &Program, places: &PlaceTable, place: &Place) -> Option<usize>
-    requires { IsPlaceOf program.now place.now }
     ensures found { IfSome result (λ index. slice_get places.now index ≡ Some (node_key program.now place.now)) }
     ensures none { IfNone result (DiffersFrom (node_key program.now place.now) places.now) }
     ensures rests { AreEqualRests (rest_at program.now (node_key program.now place.now)) (rest_of program.now place.now) }
 {
-    let representative = program.representative(place);
-    places.find(&representative)
+    places.find(&program.key_at(place))
 }
 
 /// Adds a node for `place`, if there are fewer than `limit`.
@@ -59,7 +57,6 @@ fn add(
     place: &Place,
     node: Node,
 ) -> Result<Target, GraphError>
-    requires place { IsPlaceOf program.now place.now }
     requires same { length draft.old.nodes.items ≡ length draft.old.places }
     requires new { DiffersFrom (node_key program.now place.now) draft.old.places }
     ensures target { IfOk result (λ target. target ≡ At (length draft.old.nodes.items)) }
@@ -69,8 +66,7 @@ fn add(
     ensures many { IfErr result (λ e. e ≡ TooManyNodes → (keys : List KeyValue) × (keys ≡ draft.old.places ++ node_key program.now place.now ∷ [])
         × (limit < length keys) × AreDifferent keys) }
 {
-    let representative = program.representative(place);
-    draft.places.push(&representative)?;
+    draft.places.push(program.key_at(place))?;
     if draft.places.len() > limit {
         return Err(GraphError::TooManyNodes);
     }

@@ -1,8 +1,9 @@
-use Rattle.std.proofs.Common.{◌≡◌, ◌<◌, ◌≤◌, ◌+◌, ◌∙◌, Bool, List, ℕ, ap, arith, cond, false, get_or, length, slice_set, subst, sym}
+use Rattle.std.proofs.Common.{◌≡◌, ◌<◌, ◌≤◌, ◌+◌, ◌∙◌, Bool, List, ℕ, ap, arith, cond, false, get_or, length, min, slice_set, subst, sym}
 use Rattle.std.proofs.lemmas.List.{length-set}
+use Rattle.pam_dispatch.specs.declared.entered.TheConstants.{LISTS}
 use Rattle.pam_dispatch.specs.declared.state.State.{State}
 use Rattle.pam_dispatch.specs.State.{start_state}
-use Rattle.pam_dispatch.proofs.EqualRests.{read_states-by}
+use Rattle.pam_dispatch.proofs.EqualRests.{taken_states-by}
 use Rattle.pam_dispatch.proofs.ReadTables.{after-cleared, before-cleared, before-kept}
 use Rattle.pam_dispatch.proofs.entered.keep_levels.Goals as goal
 use Rattle.pam_dispatch.proofs.entered.keep_levels.Goals.{then-not-levels-level, else-not-levels-level}
@@ -25,7 +26,8 @@ loop-level-preserved c =
           subst Kept (sym (w.states-is ∙ ap (λ (s : State). slice_set now at s) w.start.ensures)) record {
             long = length-set now at start_state ∙ i.long;
             same = i.same;
-            before = before-cleared levels old now at i.before w.if-not-levels-level.true (omega (arith, i.long, c.loop-level-test.true));
+            before = before-cleared levels old now at i.before w.if-not-levels-level.true
+                (omega (arith, i.long, c.min-level-end.ensures, c.loop-level-test.true));
             after = after-cleared levels old now at i.after;
           }
       | else-not-levels-level w ↦
@@ -40,6 +42,6 @@ loop-level-preserved c =
 pub returns : goal.returns
 returns c rest read =
     let i = c.loop-level.invariant in
-    read_states-by rest c.args.states.now c.loop-level.states (omega (arith, i.long, i.same))
-    (λ l small. i.before l (omega (arith, small, i.same, c.loop-level-test.false))
+    taken_states-by rest (min c.args.count LISTS) c.args.states.now c.loop-level.states (omega (arith, i.long, i.same))
+    (λ l few small. i.before l (omega (arith, few, c.min-level-end.ensures, c.loop-level-test.false))
     ∙ ap (λ (b : Bool). cond b (get_or c.args.states.now l start_state) start_state) (read.each l (omega (arith, small, i.same))))

@@ -1,20 +1,19 @@
-use Rattle.std.proofs.Common.{◌≡◌, ◌-◌, ◌<◌, ◌≤◌, ◌∙◌, List, [], ap, arith, drop, get_or, length, subst, sym, ℕ}
+use Rattle.std.proofs.Common.{◌≡◌, ◌-◌, ◌<◌, ◌∙◌, List, [], ap, arith, drop, get_or, length, min, subst, sym, take, ℕ}
 use Rattle.std.proofs.lemmas.List.{get_or_default}
-use Rattle.std.proofs.Math.Bridge.{le_prop}
 use Rattle.pam_dispatch.specs.declared.entered.TheConstants.{LISTS}
 use Rattle.pam_dispatch.specs.declared.flat_item.FlatItem.{FlatItem}
-use Rattle.pam_dispatch.specs.declared.place.Place.{Place}
 use Rattle.pam_dispatch.specs.declared.state.State.{State}
-use Rattle.pam_dispatch.specs.Flat.{IsPlaceOf, rest_of}
+use Rattle.pam_dispatch.specs.Flat.{rest_of}
 use Rattle.pam_dispatch.specs.inner.ReadLevels.{AreReadLevels}
+use Rattle.pam_dispatch.specs.Keys.{KeyValue, key_of, rest_at}
 use Rattle.pam_dispatch.specs.Representatives.{AreEqualRests, read_states, representative_of}
-use Rattle.pam_dispatch.proofs.EqualRests.{representative-place, representative-rests}
+use Rattle.pam_dispatch.proofs.EqualRests.{representative-rests}
 use Rattle.pam_dispatch.proofs.ReadTables.{table-at, table-within}
-use Rattle.pam_dispatch.proofs.program.Program.representative.Goals as goal
+use Rattle.pam_dispatch.proofs.program.Program.key_at.Goals as goal
 
-pub returns-clause-representative : goal.returns-clause-representative
-unfolding representative_of
-returns-clause-representative c =
+pub returns-clause-key : goal.returns-clause-key
+unfolding key_of representative_of
+returns-clause-key c =
     let place = c.args.place.now in
     let items = c.self.inside.flat_items.items in
     let table = c.self.inside.read_levels.items in
@@ -24,17 +23,18 @@ returns-clause-representative c =
     let levels : get_or table (length items - place.position) [] ≡ c.index.result.now =
     sym (c.index.ensures ∙ ap (λ (n : ℕ). get_or table n c.index.result.now) at
     ∙ get_or_default table (length items - place.position) c.index.result.now [] within) in
-    let states = c.at_levels-representative.ensures (drop place.position items)
+    let states = c.keep_levels.ensures (drop place.position items)
     (subst (AreReadLevels (drop place.position items)) levels (table-at items table place.position c.self.invariant.read)) in
-    ap (λ (h : place.depth ≤ LISTS). record place { entered = c.at_levels-representative.result; shallow = h }) (le_prop _ place.shallow)
-    ∙ ap (λ (s : List State). record place { entered = record { states = s } })
-    (states ∙ ap (λ (ts : List FlatItem). read_states 0 (drop place.position ts) place.entered.states) c.self.view_is)
-
-pub returns-clause-place : goal.returns-clause-place
-returns-clause-place c =
-    subst (IsPlaceOf c.args.self.now) (sym (returns-clause-representative c)) (representative-place c.args.self.now c.args.place.now c.requires)
+    let key : ℕ → List State → KeyValue =
+    λ depth entered. record { position = place.position; depth = depth; state = place.state; entered = entered } in
+    let read : List FlatItem → List State = λ ts. read_states 0 (drop place.position ts) place.entered.states in
+    let lists : min place.depth LISTS ≡ place.depth = omega (arith, place.shallow) in
+    ap (key c.from.result) states
+    ∙ ap (λ (depth : ℕ). key depth (take (min depth LISTS) (read items))) c.from.ensures
+    ∙ ap (λ (n : ℕ). key place.depth (take n (read items))) lists
+    ∙ ap (λ (ts : List FlatItem). key place.depth (take place.depth (read ts))) c.self.view_is
 
 pub returns-clause-rests : goal.returns-clause-rests
 returns-clause-rests c =
-    subst (λ (p : Place). AreEqualRests (rest_of c.args.self.now p) (rest_of c.args.self.now c.args.place.now)) (sym (returns-clause-representative c))
+    subst (λ (k : KeyValue). AreEqualRests (rest_at c.args.self.now k) (rest_of c.args.self.now c.args.place.now)) (sym (returns-clause-key c))
     (representative-rests c.args.self.now c.args.place.now)
