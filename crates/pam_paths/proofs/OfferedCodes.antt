@@ -54,6 +54,20 @@ module _ (ask : Ask) where
   unfolding is_shared
   shared-none part d e = ap (λ (x : Option ℕ). option_map_or (λ k. same_outcome (outcome_of ask k) (outcome_of ask d)) x false) e
 
+  -- no code of the classes so far has the outcome of one that is in none of them
+  pub seen-other : (parts : List Part) (seen : List ℕ) (c d : ℕ) (o : Outcome) → seen ≡ codes_where (λ k. list_any (is_shared ask k) parts) →
+      c < 31 → d < 31 → outcome_of ask c ≡ o → is_in c seen ≡ false → is_in d seen ≡ true → same_outcome o (outcome_of ask d) ≡ false
+  seen-other parts seen c d o was low small is new there =
+      elim (cases_Bool (same_outcome o (outcome_of ask d))) [
+        | inl t ↦
+            let same : outcome_of ask c ≡ outcome_of ask d = is ∙ same_outcome-true o (outcome_of ask d) t in
+            let test : ℕ → Bool = λ k. list_any (is_shared ask k) parts in
+            let in_c : is_in c seen ≡ test c = ap (is_in c) was ∙ is_in-codes_where test c low in
+            let in_d : is_in d seen ≡ test d = ap (is_in d) was ∙ is_in-codes_where test d small in
+            absurd (false≢true (sym new ∙ in_c ∙ any_shared-same parts c d same ∙ sym in_d ∙ there))
+        | inr f ↦ f
+      ]
+
   in_class_at : (c d : ℕ) → d < 31 → is_in d (class_at ask (outcome_of ask c)) ≡ same_outcome (outcome_of ask c) (outcome_of ask d)
   unfolding class_at
   in_class_at c d low = is_in-codes_where (λ k. same_outcome (outcome_of ask c) (outcome_of ask k)) d low

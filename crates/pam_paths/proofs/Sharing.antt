@@ -153,6 +153,22 @@ module _ (ask : Ask) (o : Outcome) where
           | inr k ↦ k
         ])
 
+    -- if all codes of the part are among codes of which none leads there
+    pub alike-seen : (seen rest none : List ℕ) → rest ≡ codes_where (λ d. is_in d part.codes && not (is_in d seen)) → rest ≡ [] → none ≡ [] →
+        ((d : ℕ) → d < 31 → is_in d seen ≡ true → leads d ≡ false) → none ≡ codes_where alike
+    alike-seen seen rest none is empty e other = nothing_passes none alike e (λ d low.
+        elim (cases_Bool (is_in d part.codes)) [
+          | inr f ↦ ap (λ (b : Bool). b && leads d) f
+          | inl t ↦
+              elim (cases_Bool (is_in d seen)) [
+                | inl s ↦ ap (λ (b : Bool). is_in d part.codes && b) (other d low s) ∙ ap (λ (b : Bool). b && false) t
+                | inr n ↦
+                    absurd (false≢true (sym (ap (is_in d) empty) ∙ ap (is_in d) is
+                    ∙ is_in-codes_where (λ x. is_in x part.codes && not (is_in x seen)) d low
+                    ∙ and_from (is_in d part.codes) (not (is_in d seen)) t (ap not n)))
+              ]
+        ])
+
   -- THE CLASS, part by part
   both : (a b t : Bool) → ((a && t) || (b && t)) ≡ ((a || b) && t)
   both true true true = refl

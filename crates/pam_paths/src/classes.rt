@@ -1,8 +1,9 @@
 //! Classes of codes that a run does not tell apart, computed part by part of a control.
 
-ghost use Rattle.std.specs.Prelude.{◌≡◌, ◌<◌, ◌≤◌, ◌==◌, ◌&&◌, ◌||◌, ℕ, All, IfNone, IfSome, IsTrue, Some, if◌then◌else◌, length, nat_le, slice_get};
+ghost use Rattle.std.specs.Prelude.{◌≡◌, ◌<◌, ◌≤◌, ◌==◌, ◌&&◌, ◌||◌, ℕ, All, IfNone, IfSome, IsTrue, Some, false, if◌then◌else◌, length, nat_le, slice_get};
 ghost use Rattle.std.specs.List.{list_any};
 ghost use Rattle.pam_codes.specs.Code.{all_codes};
+ghost use Rattle.pam_codes.specs.declared.code.TheConstants.{CODES};
 ghost use Rattle.pam_codes.specs.Parts.{IsPart, IsParts};
 ghost use Rattle.pam_codes.specs.Set.{IsCodeSet, codes_where, is_in};
 ghost use Rattle.pam_dispatch.specs.declared.place.Place.{Place};
@@ -102,14 +103,27 @@ fn codes_alike(asked: &Question<'_>, part: &Part, outcome: &Outcome) -> CodeSet
     }
 }
 
-/// The codes that lead to `outcome`.
-fn class_at(asked: &Question<'_>, parts: &[Part], outcome: &Outcome) -> CodeSet
+/// The codes of `part` that lead to `outcome`, if none in `seen` does: a part without other codes is passed over.
+fn unseen_alike(asked: &Question<'_>, part: &Part, seen: CodeSet, outcome: &Outcome) -> CodeSet
+    requires { IsPart asked.now.control part.now }
+    ensures { ((d : ℕ) → d < CODES → IsTrue (is_in d seen) → same_outcome outcome.now (outcome_of asked.now d) ≡ false)
+        → result ≡ codes_where (λ d. is_in d part.now.codes && same_outcome outcome.now (outcome_of asked.now d)) }
+{
+    if part.codes.without(seen).is_empty() {
+        return CodeSet::empty();
+    }
+    codes_alike(asked, part, outcome)
+}
+
+/// The codes that lead to `outcome`, if none in `seen` does.
+fn class_at(asked: &Question<'_>, parts: &[Part], seen: CodeSet, outcome: &Outcome) -> CodeSet
     requires { IsParts asked.now.control parts.now }
-    ensures { result ≡ class_at asked.now outcome.now }
+    ensures { ((d : ℕ) → d < CODES → IsTrue (is_in d seen) → same_outcome outcome.now (outcome_of asked.now d) ≡ false)
+        → result ≡ class_at asked.now outcome.now }
 {
     let mut class = CodeSet::empty();
     for part in parts {
-        class = class.union(codes_alike(asked, part, outcome));
+        class = class.union(unseen_alike(asked, part, seen, outcome));
     }
     class
 }
@@ -125,7 +139,8 @@ fn class_anew(program: &Program, place: &Place, module_number: usize, code: Code
     ensures { result ≡ class_of (next_ask (rest_of program.now place.now)) code }
 {
     let parts = program.parts(module_number).as_slice();
-    class_at(&program.asked(place), parts, &program.outcome(place, code))
+    let outcome = program.outcome(place, code);
+    class_at(&program.asked(place), parts, CodeSet::empty(), &outcome)
 }
 
 /// A code of `part` whose class can have further codes: any code if the action of the part does not look at it,
@@ -173,6 +188,7 @@ fn with_several(shared: CodeSet, class: CodeSet) -> CodeSet
 fn unseen_code(part: &Part, state: State, seen: CodeSet) -> Option<Code>
     ensures some { IfSome result (λ code. shared_code part.now state ≡ Some code) }
     ensures inside { IfSome result (λ code. IsTrue (is_in code part.now.codes)) }
+    ensures unseen { IfSome result (λ code. is_in code seen ≡ false) }
     ensures none { IfNone result (IfSome (shared_code part.now state) (λ code. IsTrue (is_in code seen))) }
 {
     match shared_code(part, state) {
@@ -227,7 +243,8 @@ impl Classes {
         let mut earlier = CodeSet::empty();
         for part in parts {
             if let Some(code) = unseen_code(part, asked.state(), seen) {
-                let class = class_at(asked, parts, &asked.outcome(part.action, code));
+                // No code of the classes so far is in this one.
+                let class = class_at(asked, parts, seen, &asked.outcome(part.action, code));
                 offered = with_least(offered, class);
                 seen = seen.union(class);
                 shared = with_several(shared, class);

@@ -1,13 +1,15 @@
-use Rattle.std.proofs.Common.{ℕ, Option, Some, take, ◌≡◌, sym, ap, refl, subst, ◌∙◌}
+use Rattle.std.proofs.Common.{ℕ, false, true, Option, Some, take, ◌<◌, ◌≡◌, sym, ap, refl, subst, ◌∙◌}
 use Rattle.std.specs.Prelude.{IfSome, IsTrue}
 use Rattle.std.specs.List.{list_any}
 use Rattle.std.proofs.lemmas.Bool.{false≢true}
+use Rattle.pam_codes.specs.Parts.{IsPart}
 use Rattle.pam_codes.specs.Set.{is_in}
-use Rattle.pam_paths.specs.Classes.{class_at}
+use Rattle.pam_dispatch.specs.Runs.{outcome_of}
+use Rattle.pam_paths.specs.Classes.{class_at, same_outcome}
 use Rattle.pam_paths.specs.inner.Sharing.{is_shared, shared_code}
 use Rattle.pam_paths.proofs.Alone.{alone-all, alone-kept, alone-more}
-use Rattle.pam_paths.proofs.OfferedCodes.{class-alone, class-whole, past-all, past-first, past-kept, past-more, past-some, seen-kept, seen-more}
-use Rattle.pam_paths.proofs.Sharing.{nothing_passes}
+use Rattle.pam_paths.proofs.OfferedCodes.{class-alone, class-whole, past-all, past-first, past-kept, past-more, past-some, seen-kept, seen-more, seen-other}
+use Rattle.pam_paths.proofs.Sharing.{Member-is_in, code_low, nothing_passes}
 use Rattle.pam_paths.proofs.classes.Classes.by_parts.Goals as goal
 use Rattle.pam_paths.proofs.classes.Classes.by_parts.Goals.{in-Some, in_default}
 
@@ -35,7 +37,14 @@ loop-part-preserved c =
           let code = w.in-Some.code in
           let class = w.class_at-class.result in
           let of : shared_code part ask.state ≡ Some code = ap (shared_code part) (sym at) ∙ w.in-Some.ensures.some in
-          let is = w.class_at-class.ensures ∙ ap (class_at ask) (sym w.outcome.ensures) in
+          let own : IsPart ask.control part =
+          subst (IsPart ask.control) (sym c.part-item.is) (c.requires.parts.each_part i part c.loop-part-test.true) in
+          let low : code < 31 = code_low part.codes code own.set (Member-is_in part.codes code w.in-Some.ensures.inside) in
+          let other : (d : ℕ) → d < 31 → is_in d c.loop-part.seen ≡ true → same_outcome w.outcome.result (outcome_of ask d) ≡ false =
+          λ d small there.
+          seen-other ask (take i parts) c.loop-part.seen code d w.outcome.result l.seen low small w.outcome.ensures
+          w.in-Some.ensures.unseen there in
+          let is = w.class_at-class.ensures other ∙ ap (class_at ask) (sym w.outcome.ensures) in
           record {
             offered = w.offered-is
                 ∙ past-more ask c.args.allowed parts i part c.loop-part.offered w.with_least-offered.result c.loop-part-test.true c.part-item.is l.offered
