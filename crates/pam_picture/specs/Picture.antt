@@ -19,7 +19,8 @@ use Rattle.pam_graph.specs.declared.node.Node.{Node}
 use Rattle.pam_graph.specs.declared.node.Target.{Target}
 use Rattle.pam_graph.specs.declared.node.Target.TheVariants.{At, End}
 use Rattle.pam_known.specs.Answers.{name_of_path}
-use Rattle.pam_picture.specs.Escaped.{escaped, rows}
+use Rattle.pam_drawing.specs.Escaped.{escaped}
+use Rattle.pam_picture.specs.Rows.{rows}
 use Rattle.pam_picture.specs.Labels.{label_text}
 use Rattle.pam_picture.specs.Places.{column_at, control_at, end_at, point_at, point_of, route_at}
 use Rattle.pam_picture.specs.declared.heading.TheConstants.{CUT_NAME, MAX_NAME}

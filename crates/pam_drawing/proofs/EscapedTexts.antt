@@ -6,8 +6,8 @@ use Rattle.std.proofs.lemmas.List.Folds.{list_all-append, list_all_at}
 use Rattle.std.proofs.lemmas.List.FromFn.{get_or-range_with_len, length-range_with_len}
 use Rattle.std.specs.List.{list_all, range_with_len}
 use Rattle.pam_drawing.specs.Labels.{ascii_byte}
-use Rattle.pam_picture.specs.Escaped.{escaped, escaped_byte, named}
-use Rattle.pam_picture.specs.Laws.{TextsArePlain, is_of_text}
+use Rattle.pam_drawing.specs.Escaped.{escaped, escaped_byte, named}
+use Rattle.pam_drawing.specs.Laws.{TextsArePlain, is_of_text}
 
 abbrev byte-is : ℕ → Bool
 byte-is b = list_all is_of_text (escaped_byte b)
