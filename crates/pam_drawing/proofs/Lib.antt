@@ -1,3 +1,5 @@
 mod Ends
+mod EscapedTexts
 pub mod Indices
+pub mod Loops
 mod Quotes

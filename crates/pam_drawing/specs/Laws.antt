@@ -1,6 +1,8 @@
--- What the definition of a label implies: no text ends the quotes around it.
-use Rattle.std.specs.Prelude.{◌≡◌, ℕ, ◌<◌, ◌==◌, All, Bool, ◌||◌, true, false, if◌then◌else◌, List, [], ◌∷◌, ◌++◌, Option, None, Some, option_map}
-use Rattle.std.specs.List.{flat_map, list_all}
+-- What the definitions of labels and of escaped texts imply: no text ends the quotes around it, and none begins or ends an element in XML.
+use Rattle.std.specs.Prelude.{◌≡◌, ℕ, ◌<◌, ◌==◌, nat_le, All, Bool, ◌&&◌, ◌||◌, not, true, false, if◌then◌else◌, List, [], ◌∷◌, ◌++◌, codes}
+use Rattle.std.specs.Prelude.{Option, None, Some, option_map}
+use Rattle.std.specs.List.{flat_map, list_all, list_any}
+use Rattle.pam_drawing.specs.Escaped.{escaped}
 use Rattle.pam_drawing.specs.Labels.{ascii_byte, is_plain, label, named}
 use Rattle.pam_drawing.specs.declared.format.Format.TheVariants.{Dot, Mermaid}
 
@@ -31,3 +33,10 @@ is_of_label c = is_plain c || c == 35 || c == 59
 
 abbrev pub MermaidLabelsArePlain : Type 0
 MermaidLabelsArePlain = (text : List ℕ) → All (λ b. b < 256) text → list_all is_of_label (label Mermaid text) ≡ true
+
+-- printable, and none of the characters that begin or end an element or an attribute
+abbrev pub is_of_text : ℕ → Bool
+is_of_text c = nat_le 32 c && nat_le c 126 && not (list_any (λ x. x == c) (codes "<>\"'"))
+
+abbrev pub TextsArePlain : Type 0
+TextsArePlain = (text : List ℕ) → All (λ b. b < 256) text → list_all is_of_text (escaped text) ≡ true

@@ -1,4 +1,5 @@
 pub mod Drawing
+pub mod Escaped
 pub mod Labels
 pub mod Languages
 pub mod Laws

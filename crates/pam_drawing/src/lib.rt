@@ -7,8 +7,10 @@ mod format;
 mod label;
 pub mod laws;
 mod node;
+mod xml;
 
 pub use drawing::{write_dot, write_mermaid};
 pub use edge::drawn_ends;
 pub use label::ascii_byte;
 pub use node::{impression_name, name_at, name_of};
+pub use xml::{put_escaped, put_escaped_byte};

@@ -23,9 +23,9 @@ pub items-are : (stack : StackValue) {files : Folder} {items : Items} → files 
     → items_json files 0 items ≡ items_json stack.files 0 stack.items
 items-are stack e f = rw (e, f) refl
 
-pub outcomes-are : (items : Items) {one other : List declared.Outcome} → one ≡ other
-    → flat_map (outcome_json items) (map outcome_view one) ≡ flat_map (outcome_json items) (map outcome_view other)
-outcomes-are items e = rw e refl
+pub outcomes-are : (items : Items) {named : Items} {one other : List declared.Outcome} → named ≡ items → one ≡ other
+    → flat_map (outcome_json named) (map outcome_view one) ≡ flat_map (outcome_json items) (map outcome_view other)
+outcomes-are items n e = rw (n, e) refl
 
 -- the lines of a page
 pub page_line-is : (page : PageValue) {service : List ℕ} {kind : Kind} {items : Items} {modules : ℕ} → service ≡ page.service → kind ≡ page.kind

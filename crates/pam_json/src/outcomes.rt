@@ -10,22 +10,22 @@ ghost use Rattle.pam_json_lines.specs.Line.{line};
 use crate::header::{name_of, put_stack};
 use crate::steps::PathValue;
 use pam_codes::{Device, Out};
-use pam_conf::Stack;
 use pam_json_lines::{Member, put_line};
+use pam_parts::ModulePaths;
 use pam_report::{Outcome, OutcomesReply};
 use std::io::Write;
 
 /// Writes the line of a decision.
 #[tactic(auto, unfolding(crate::specs::Outcomes::outcome_json))]
 fn put_outcome<'x, W: Write>(
-    stack: &'x Stack,
+    modules: &'x ModulePaths<'x>,
     outcome: &'x Outcome,
     out: &mut Out<W>,
 ) -> Result<(), Device>
-    ensures { Writes W.contents out.old out.new result (outcome_json stack.now (outcome_view outcome.now)) }
+    ensures { Writes W.contents out.old out.new result (outcome_json modules.now (outcome_view outcome.now)) }
 {
     let steps = PathValue::Steps {
-        stack,
+        modules,
         steps: outcome.first.steps(),
     };
     put_line(
@@ -41,14 +41,14 @@ fn put_outcome<'x, W: Write>(
 }
 
 fn put_outcomes<W: Write>(
-    stack: &Stack,
+    modules: &ModulePaths<'_>,
     outcomes: &[Outcome],
     out: &mut Out<W>,
 ) -> Result<(), Device>
-    ensures { Writes W.contents out.old out.new result (flat_map (outcome_json stack.now) (map outcome_view outcomes.now)) }
+    ensures { Writes W.contents out.old out.new result (flat_map (outcome_json modules.now) (map outcome_view outcomes.now)) }
 {
     for outcome in outcomes {
-        put_outcome(stack, outcome, out)?;
+        put_outcome(modules, outcome, out)?;
     }
     Ok(())
 }
@@ -73,7 +73,8 @@ pub(crate) fn write_outcomes<W: Write>(
     ensures { WritesAndFlushes W.contents out.old out.new result (outcomes_json (outcomes_view reply.now)) }
 {
     put_stack(reply.service, reply.kind, reply.stack.modules(), out)?;
-    put_outcomes(&reply.stack, &reply.outcomes.found, out)?;
+    let paths = ModulePaths::of(&reply.stack);
+    put_outcomes(&paths, &reply.outcomes.found, out)?;
     put_total(reply.outcomes.total, out)?;
     out.finish()
 }

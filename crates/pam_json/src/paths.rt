@@ -13,10 +13,9 @@ ghost use Rattle.pam_json.specs.Text.{IsJson};
 use crate::header::{name_of, put_stack};
 use crate::steps::PathValue;
 use pam_codes::{Device, Out};
-use pam_conf::Stack;
 use pam_json_lines::{Member, put_line};
 use pam_page::Listing;
-use pam_parts::told;
+use pam_parts::{ModulePaths, told};
 use pam_paths::{Cursor, Known, Path};
 use pam_report::{Fault, PageRenderer, PathsPage};
 use std::alloc::Global;
@@ -24,11 +23,15 @@ use std::io::Write;
 
 /// Writes the line of a path.
 #[tactic(auto, unfolding(crate::specs::Paths::path_json))]
-fn put_path<'x, W: Write>(stack: &'x Stack, path: &'x Path, out: &mut Out<W>) -> Result<(), Device>
-    ensures { Writes W.contents out.old out.new result (path_json stack.now path.now) }
+fn put_path<'x, W: Write>(
+    modules: &'x ModulePaths<'x>,
+    path: &'x Path,
+    out: &mut Out<W>,
+) -> Result<(), Device>
+    ensures { Writes W.contents out.old out.new result (path_json modules.now path.now) }
 {
     let steps = PathValue::Steps {
-        stack,
+        modules,
         steps: path.steps(),
     };
     put_line(
@@ -66,20 +69,20 @@ fn put_last<'x, W: Write>(
 /// Writes the rest of a page that has room for one more path.
 #[tactic(auto, unfolding(pam_page::specs::Page::text_by))]
 fn put_rest<W: Write>(
-    stack: &Stack,
+    modules: &ModulePaths<'_>,
     listing: &mut Listing<'_, Known>,
     count: u32,
     out: &mut Out<W>,
 ) -> Result<(), Device>
     requires few { count < 2 ^ 32 - 1 }
     ensures { Writes W.contents out.old out.new result
-        (text_by (path_json stack.now) last_json (side listing.old) count (first_page 1 (coming listing.old))) }
+        (text_by (path_json modules.now) last_json (side listing.old) count (first_page 1 (coming listing.old))) }
 {
     let Some(_) = listing.follow() else {
         return put_last(listing.side(), u64::from(count), None, out);
     };
     let path = listing.path();
-    put_path(stack, path, out)?;
+    put_path(modules, path, out)?;
     let cursor = path.cursor();
     match listing.follow() {
         None => put_last(listing.side(), u64::from(count + 1), None, out),
@@ -89,22 +92,22 @@ fn put_rest<W: Write>(
 
 /// Writes a page: a line for each of the next paths, at most `limit`, and the last line.
 fn put_paths<W: Write>(
-    stack: &Stack,
+    modules: &ModulePaths<'_>,
     listing: &mut Listing<'_, Known>,
     limit: u32,
     out: &mut Out<W>,
 ) -> Result<(), Device>
     requires some { 1 ≤ limit }
     ensures { Writes W.contents out.old out.new result
-        (text_by (path_json stack.now) last_json (side listing.old) 0 (first_page limit (coming listing.old))) }
+        (text_by (path_json modules.now) last_json (side listing.old) 0 (first_page limit (coming listing.old))) }
 {
     for count in 0..limit - 1 {
         let Some(_) = listing.follow() else {
             return put_last(listing.side(), u64::from(count), None, out);
         };
-        put_path(stack, listing.path(), out)?;
+        put_path(modules, listing.path(), out)?;
     }
-    put_rest(stack, listing, limit - 1, out)
+    put_rest(modules, listing, limit - 1, out)
 }
 
 /// Writes the line of the stack and a page of a listing, and flushes.
@@ -117,7 +120,8 @@ fn write_listing<W: Write>(
 {
     let stack = page.stack();
     put_stack(page.service(), page.kind(), stack.modules(), out)?;
-    put_paths(stack, listing, page.limit(), out)?;
+    let paths = ModulePaths::of(stack);
+    put_paths(&paths, listing, page.limit(), out)?;
     out.finish()
 }
 

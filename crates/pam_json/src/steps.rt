@@ -15,11 +15,10 @@ ghost use Rattle.serde_json.specs.Written.{comma_if, compact_text, items_text};
 use crate::header::name_of;
 use itoa::Buffer;
 use pam_codes::{Code, CodeSet, Device, Out};
-use pam_conf::Stack;
 use pam_json_lines::{Elements, Member, Written, put_array, put_comma, put_object, put_quoted};
 use pam_known::name_of_path;
+use pam_parts::ModulePaths;
 use pam_paths::{Cursor, Path, PathStep};
-use pam_report::path_at;
 use std::io::Write;
 
 /// Writes the name of a code, with a comma before it unless it is the first.
@@ -61,13 +60,17 @@ impl Written for CodeNames {
 
 /// Writes a module that is asked, and the codes that take the path.
 #[tactic(auto, unfolding(crate::specs::Steps::step_object))]
-fn put_step<W: Write>(stack: &Stack, step: &PathStep, out: &mut Out<W>) -> Result<(), Device>
-    ensures { Writes W.contents out.old out.new result (compact_text (step_object stack.now (step_seen step.now))) }
+fn put_step<W: Write>(
+    modules: &ModulePaths<'_>,
+    step: &PathStep,
+    out: &mut Out<W>,
+) -> Result<(), Device>
+    ensures { Writes W.contents out.old out.new result (compact_text (step_object modules.now (step_seen step.now))) }
 {
     put_object(
         &[
             Member::number("number", step.number() as u64),
-            Member::readable("module", name_of_path(path_at(stack, step.number()))),
+            Member::readable("module", name_of_path(modules.path(step.number()))),
             Member::written("codes", CodeNames(step.class())),
         ],
         out,
@@ -77,24 +80,28 @@ fn put_step<W: Write>(stack: &Stack, step: &PathStep, out: &mut Out<W>) -> Resul
 /// Writes steps of paths through a stack.
 #[derive(Clone, Copy)]
 struct StepElements<'x> {
-    stack: &'x Stack,
+    modules: &'x ModulePaths<'x>,
 }
 
 impl Elements<PathStep> for StepElements<'_> {
     ghost use Rattle.pam_paths.specs.Steps.{step_seen};
     ghost use Rattle.pam_json.specs.Steps.{step_object};
 
-    ghost element = { λ elements step. step_object elements.stack.now (step_seen step) };
+    ghost element = { λ elements step. step_object elements.modules.now (step_seen step) };
 
     fn put_element<W: Write>(&self, step: &PathStep, out: &mut Out<W>) -> Result<(), Device> {
-        put_step(self.stack, step, out)
+        put_step(self.modules, step, out)
     }
 }
 
-fn put_steps<W: Write>(stack: &Stack, steps: &[PathStep], out: &mut Out<W>) -> Result<(), Device>
-    ensures { Writes W.contents out.old out.new result (compact_text (steps_array stack.now (map step_seen steps.now))) }
+fn put_steps<W: Write>(
+    modules: &ModulePaths<'_>,
+    steps: &[PathStep],
+    out: &mut Out<W>,
+) -> Result<(), Device>
+    ensures { Writes W.contents out.old out.new result (compact_text (steps_array modules.now (map step_seen steps.now))) }
 {
-    put_array(&StepElements { stack }, steps, out)
+    put_array(&StepElements { modules }, steps, out)
 }
 
 /// Writes a cursor as a string. It has no byte to be escaped.
@@ -142,7 +149,7 @@ pub(crate) enum PathValue<'x> {
     /// The cursor with which a listing goes on, if it does.
     Next(Option<&'x Cursor>),
     Steps {
-        stack: &'x Stack,
+        modules: &'x ModulePaths<'x>,
         steps: &'x [PathStep],
     },
     Ways(Option<u128>),
@@ -157,7 +164,7 @@ impl Written for PathValue<'_> {
         match self {
             PathValue::Cursor(path) => put_cursor_of(*path, out),
             PathValue::Next(cursor) => put_next(*cursor, out),
-            PathValue::Steps { stack, steps } => put_steps(*stack, *steps, out),
+            PathValue::Steps { modules, steps } => put_steps(*modules, *steps, out),
             PathValue::Ways(count) => put_ways(*count, out),
         }
     }

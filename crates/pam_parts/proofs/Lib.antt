@@ -1,1 +1,2 @@
+mod PathLists
 pub mod Printed

@@ -5,3 +5,4 @@ pub mod Files
 pub mod Pages
 pub mod Prints
 pub mod Ways
+pub mod inner

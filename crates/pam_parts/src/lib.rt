@@ -4,9 +4,11 @@
 mod changes;
 mod check;
 mod files;
+mod module_paths;
 mod writes;
 
 pub use changes::{compared_count, file_of, is_grave, occurrence, service_at};
 pub use check::{Counts, Names, counts_of, names_of, path_of, stacks_of, text_at, word_at};
 pub use files::name_at;
+pub use module_paths::ModulePaths;
 pub use writes::told;

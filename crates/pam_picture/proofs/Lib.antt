@@ -1,3 +1,1 @@
 mod Controls
-mod Loops
-mod Texts

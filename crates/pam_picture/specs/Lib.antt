@@ -1,7 +1,6 @@
-pub mod Escaped
 pub mod Labels
-pub mod Laws
 pub mod Layouts
 pub mod Picture
 pub mod Places
+pub mod Rows
 pub mod inner

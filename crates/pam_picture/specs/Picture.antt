@@ -19,7 +19,8 @@ use Rattle.pam_graph.specs.declared.node.Node.{Node}
 use Rattle.pam_graph.specs.declared.node.Target.{Target}
 use Rattle.pam_graph.specs.declared.node.Target.TheVariants.{At, End}
 use Rattle.pam_known.specs.Answers.{name_of_path}
-use Rattle.pam_picture.specs.Escaped.{escaped, rows}
+use Rattle.pam_drawing.specs.Escaped.{escaped}
+use Rattle.pam_picture.specs.Rows.{rows}
 use Rattle.pam_picture.specs.Labels.{label_text}
 use Rattle.pam_picture.specs.Places.{column_at, control_at, end_at, point_at, point_of, route_at}
 use Rattle.pam_picture.specs.declared.heading.TheConstants.{CUT_NAME, MAX_NAME}
@@ -262,11 +263,25 @@ note_text note =
 abbrev pub notes_text : Layout → List ℕ
 notes_text layout = flat_map note_text layout.notes.items
 
+-- what comes before the drawing: for those who do not see it, each edge in words; and how the shapes look
+unfoldable pub description_text : List ℕ → Items → List Node → Layout → List ℕ
+description_text title items nodes layout = opening_text title layout ++ sentences_text items nodes ++ style_text ++ heading_text title layout
+
+-- the lanes of the states, and the columns of the modules
+unfoldable pub table_text : Items → List Node → Layout → List ℕ
+table_text items nodes layout = lanes_text layout ++ columns_text items nodes layout ++ brackets_text layout
+
+-- the lines, then the shapes that they meet
+unfoldable pub shapes_text : Items → GraphValue → Layout → List ℕ
+shapes_text items graph layout =
+    edges_text items graph.nodes layout ++ nodes_text items graph.nodes layout ++ ends_text layout graph ++ start_text layout graph.start
+
+-- how a picture is read, and the codes that had no room
+unfoldable pub legend_text : Layout → List ℕ
+legend_text layout = foot_text layout.foot ++ notes_text layout ++ codes "</svg>\n"
+
 -- THE PICTURE of a graph of the runs of a stack, with a title: a column for each module, a shape for each node and each
 -- decision, and a line for each edge. The layout says where they are
 unfoldable pub svg_text : List ℕ → Items → GraphValue → Layout → List ℕ
 svg_text title items graph layout =
-    opening_text title layout ++ sentences_text items graph.nodes ++ style_text ++ heading_text title layout
-    ++ lanes_text layout ++ columns_text items graph.nodes layout ++ brackets_text layout ++ edges_text items graph.nodes layout
-    ++ nodes_text items graph.nodes layout ++ ends_text layout graph ++ start_text layout graph.start ++ foot_text layout.foot
-    ++ notes_text layout ++ codes "</svg>\n"
+    description_text title items graph.nodes layout ++ table_text items graph.nodes layout ++ shapes_text items graph layout ++ legend_text layout

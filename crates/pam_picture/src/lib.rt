@@ -4,15 +4,14 @@
 #![tactic(auto)]
 
 mod edge;
-mod escaped;
 mod heading;
 mod label;
-pub mod laws;
 mod layout;
 mod mark;
 mod node;
 mod picture;
 mod place;
+mod rows;
 mod stop;
 
 pub use layout::Layout;

@@ -5,11 +5,12 @@ ghost use Rattle.pam_codes.specs.Out.{Writes};
 ghost use Rattle.pam_picture.specs.inner.Marks.{mark_text, marks_text};
 ghost use Rattle.pam_picture.specs.Picture.{bend_text, target_id};
 
-use crate::escaped::{put_escaped, put_rows};
 use crate::label::put_label;
 use crate::layout::shapes::Bend;
+use crate::rows::put_rows;
 use crate::stop::{Stop, put_stop};
 use pam_codes::{CodeSet, Control, Device, Out, Piece};
+use pam_drawing::put_escaped;
 use pam_graph::Target;
 use std::io::Write;
 

@@ -3,7 +3,8 @@
 ghost use Rattle.std.specs.Prelude.{◌≡◌};
 ghost use Rattle.std.specs.List.{flat_map};
 ghost use Rattle.pam_codes.specs.Out.{Writes};
-ghost use Rattle.pam_picture.specs.Picture.{foot_text, heading_text, note_text, notes_text, opening_text, style_text, svg_text};
+ghost use Rattle.pam_picture.specs.Picture.{description_text, foot_text, heading_text, legend_text, note_text, notes_text, opening_text};
+ghost use Rattle.pam_picture.specs.Picture.{shapes_text, style_text, svg_text, table_text};
 
 use crate::edge::{Sheet, put_edges, put_sentences};
 use crate::heading::{put_brackets, put_columns, put_lanes};
@@ -131,6 +132,54 @@ fn put_notes<W: Write>(layout: &Layout, out: &mut Out<W>) -> Result<(), Device>
     put_each_note(&layout.notes, out)
 }
 
+/// Writes what comes before the drawing.
+#[tactic(auto, unfolding(crate::specs::Picture::description_text))]
+fn put_description<W: Write>(
+    title: &[u8],
+    sheet: &Sheet<'_>,
+    out: &mut Out<W>,
+) -> Result<(), Device>
+    ensures { Writes W.contents out.old out.new result
+        (description_text title.now sheet.now.stack.now sheet.now.nodes.now sheet.now.layout.now) }
+{
+    put_opening(title, sheet.layout, out)?;
+    put_sentences(sheet, out)?;
+    put_style(out)?;
+    put_heading(title, sheet.layout, out)
+}
+
+/// Writes the lanes and the columns.
+#[tactic(auto, unfolding(crate::specs::Picture::table_text))]
+fn put_table<W: Write>(sheet: &Sheet<'_>, out: &mut Out<W>) -> Result<(), Device>
+    ensures { Writes W.contents out.old out.new result (table_text sheet.now.stack.now sheet.now.nodes.now sheet.now.layout.now) }
+{
+    put_lanes(sheet.layout, out)?;
+    put_columns(sheet, out)?;
+    put_brackets(sheet.layout, out)
+}
+
+/// Writes the lines, and over their ends the shapes.
+#[tactic(auto, unfolding(crate::specs::Picture::shapes_text))]
+fn put_shapes<W: Write>(sheet: &Sheet<'_>, graph: &Graph, out: &mut Out<W>) -> Result<(), Device>
+    requires { sheet.now.nodes.now ≡ graph.now.nodes }
+    ensures { Writes W.contents out.old out.new result (shapes_text sheet.now.stack.now graph.now sheet.now.layout.now) }
+{
+    put_edges(sheet, out)?;
+    put_nodes(sheet, out)?;
+    put_ends(sheet.layout, graph, out)?;
+    put_start(sheet.layout, &graph.start(), out)
+}
+
+/// Writes what comes after the drawing.
+#[tactic(auto, unfolding(crate::specs::Picture::legend_text))]
+fn put_legend<W: Write>(layout: &Layout, out: &mut Out<W>) -> Result<(), Device>
+    ensures { Writes W.contents out.old out.new result (legend_text layout.now) }
+{
+    put_foot(layout.foot, out)?;
+    put_notes(layout, out)?;
+    out.put(b"</svg>\n")
+}
+
 /// Writes a graph as a picture in SVG, laid out as `layout` says. A node is named by the modules of `stack`.
 #[tactic(auto, unfolding(crate::specs::Picture::svg_text))]
 pub fn write_svg<W: Write>(
@@ -142,24 +191,13 @@ pub fn write_svg<W: Write>(
 ) -> Result<(), Device>
     ensures { Writes W.contents out.old out.new result (svg_text title.now stack.now graph.now layout.now) }
 {
-    let nodes = graph.nodes();
     let sheet = Sheet {
         stack,
-        nodes,
+        nodes: graph.nodes(),
         layout,
     };
-    put_opening(title, layout, out)?;
-    put_sentences(&sheet, out)?;
-    put_style(out)?;
-    put_heading(title, layout, out)?;
-    put_lanes(layout, out)?;
-    put_columns(&sheet, out)?;
-    put_brackets(layout, out)?;
-    put_edges(&sheet, out)?;
-    put_nodes(&sheet, out)?;
-    put_ends(layout, graph, out)?;
-    put_start(layout, &graph.start(), out)?;
-    put_foot(layout.foot, out)?;
-    put_notes(layout, out)?;
-    out.put(b"</svg>\n")
+    put_description(title, &sheet, out)?;
+    put_table(&sheet, out)?;
+    put_shapes(&sheet, graph, out)?;
+    put_legend(layout, out)
 }

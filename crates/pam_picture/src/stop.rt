@@ -5,11 +5,10 @@ ghost use Rattle.pam_codes.specs.Out.{Writes};
 ghost use Rattle.pam_picture.specs.Picture.{asked_words, place_words, state_words, target_words};
 ghost use Rattle.pam_picture.specs.inner.Marks.{stop_text};
 
-use crate::escaped::put_escaped;
 use pam_codes::{Code, Device, Out, Piece};
 use pam_conf::Stack;
 use pam_dispatch::State;
-use pam_drawing::{impression_name, name_at, name_of};
+use pam_drawing::{impression_name, name_at, name_of, put_escaped};
 use pam_graph::{Node, Target};
 use std::io::Write;
 

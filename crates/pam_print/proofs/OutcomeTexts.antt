@@ -34,9 +34,10 @@ pub outcome_line-is : (items : Items) (o : Outcome) (name k : List ℕ) (steps :
 unfolding outcome_line
 outcome_line-is items o name k steps e f g = rw (e, f, g) refl
 
-pub lines-are : (service : List ℕ) (kind : Kind) (items : Items) (total : Option ℕ) {modules : ℕ} {one other : List declared.Outcome}
+pub lines-are : (service : List ℕ) (kind : Kind) (items : Items) (total : Option ℕ) {modules : ℕ} {named : Items} {one other : List declared.Outcome}
     → modules ≡ module_count items
+    → named ≡ items
     → one ≡ other
-    → header_text service kind modules ++ flat_map (outcome_line items) (map outcome_view one) ++ total_line total
+    → header_text service kind modules ++ flat_map (outcome_line named) (map outcome_view one) ++ total_line total
     ≡ header_text service kind (module_count items) ++ flat_map (outcome_line items) (map outcome_view other) ++ total_line total
-lines-are service kind items total e f = rw (e, f) refl
+lines-are service kind items total e n f = rw (e, n, f) refl

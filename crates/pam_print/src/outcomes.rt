@@ -14,10 +14,10 @@ use crate::header::put_header;
 use crate::word::put_word;
 use itoa::Buffer;
 use pam_codes::{Device, Out};
-use pam_conf::Stack;
 use pam_known::name_of_path;
+use pam_parts::ModulePaths;
 use pam_paths::PathStep;
-use pam_report::{Outcome, OutcomesReply, path_at};
+use pam_report::{Outcome, OutcomesReply};
 use std::io::Write;
 
 /// Writes a number, or 2^128 with a plus for one that is not below it.
@@ -33,31 +33,39 @@ fn put_count<W: Write>(count: Option<u128>, out: &mut Out<W>) -> Result<(), Devi
 
 /// Writes ` NAME CLASS`.
 #[tactic(auto, unfolding(crate::specs::Outcomes::named_step))]
-fn put_named_step<W: Write>(stack: &Stack, step: &PathStep, out: &mut Out<W>) -> Result<(), Device>
-    ensures { Writes W.contents out.old out.new result (named_step stack.now (step_seen step.now)) }
+fn put_named_step<W: Write>(
+    modules: &ModulePaths<'_>,
+    step: &PathStep,
+    out: &mut Out<W>,
+) -> Result<(), Device>
+    ensures { Writes W.contents out.old out.new result (named_step modules.now (step_seen step.now)) }
 {
     out.put(b" ")?;
-    put_word(name_of_path(path_at(stack, step.number())), out)?;
+    put_word(name_of_path(modules.path(step.number())), out)?;
     out.put(b" ")?;
     step.class().write_text(out)
 }
 
-fn put_next_step<W: Write>(stack: &Stack, step: &PathStep, out: &mut Out<W>) -> Result<(), Device>
-    ensures { Writes W.contents out.old out.new result (next_step stack.now (step_seen step.now)) }
+fn put_next_step<W: Write>(
+    modules: &ModulePaths<'_>,
+    step: &PathStep,
+    out: &mut Out<W>,
+) -> Result<(), Device>
+    ensures { Writes W.contents out.old out.new result (next_step modules.now (step_seen step.now)) }
 {
     out.put(b",")?;
-    put_named_step(stack, step, out)
+    put_named_step(modules, step, out)
 }
 
 fn put_next_steps<W: Write>(
-    stack: &Stack,
+    modules: &ModulePaths<'_>,
     steps: &[PathStep],
     out: &mut Out<W>,
 ) -> Result<(), Device>
-    ensures { Writes W.contents out.old out.new result (flat_map (next_step stack.now) (map step_seen steps.now)) }
+    ensures { Writes W.contents out.old out.new result (flat_map (next_step modules.now) (map step_seen steps.now)) }
 {
     for step in steps {
-        put_next_step(stack, step, out)?;
+        put_next_step(modules, step, out)?;
     }
     Ok(())
 }
@@ -65,43 +73,47 @@ fn put_next_steps<W: Write>(
 /// Writes `: NAME CLASS, NAME CLASS`.
 #[tactic(auto, unfolding(crate::specs::Outcomes::named_steps))]
 fn put_named_steps<W: Write>(
-    stack: &Stack,
+    modules: &ModulePaths<'_>,
     steps: &[PathStep],
     out: &mut Out<W>,
 ) -> Result<(), Device>
-    ensures { Writes W.contents out.old out.new result (named_steps stack.now (map step_seen steps.now)) }
+    ensures { Writes W.contents out.old out.new result (named_steps modules.now (map step_seen steps.now)) }
 {
     let Some((first, others)) = steps.split_first() else {
         return Ok(());
     };
     out.put(b":")?;
-    put_named_step(stack, first, out)?;
-    put_next_steps(stack, others, out)
+    put_named_step(modules, first, out)?;
+    put_next_steps(modules, others, out)
 }
 
 /// Writes `DECISION COUNT ways, first CURSOR: STEPS`.
 #[tactic(auto, unfolding(crate::specs::Outcomes::outcome_line))]
-fn put_outcome<W: Write>(stack: &Stack, outcome: &Outcome, out: &mut Out<W>) -> Result<(), Device>
-    ensures { Writes W.contents out.old out.new result (outcome_line stack.now (outcome_view outcome.now)) }
+fn put_outcome<W: Write>(
+    modules: &ModulePaths<'_>,
+    outcome: &Outcome,
+    out: &mut Out<W>,
+) -> Result<(), Device>
+    ensures { Writes W.contents out.old out.new result (outcome_line modules.now (outcome_view outcome.now)) }
 {
     out.put(name_of(outcome.decision))?;
     out.put(b" ")?;
     put_count(outcome.count, out)?;
     out.put(b" ways, first ")?;
     outcome.first.cursor().write_text(out)?;
-    put_named_steps(stack, outcome.first.steps(), out)?;
+    put_named_steps(modules, outcome.first.steps(), out)?;
     out.put(b"\n")
 }
 
 fn put_outcomes<W: Write>(
-    stack: &Stack,
+    modules: &ModulePaths<'_>,
     outcomes: &[Outcome],
     out: &mut Out<W>,
 ) -> Result<(), Device>
-    ensures { Writes W.contents out.old out.new result (flat_map (outcome_line stack.now) (map outcome_view outcomes.now)) }
+    ensures { Writes W.contents out.old out.new result (flat_map (outcome_line modules.now) (map outcome_view outcomes.now)) }
 {
     for outcome in outcomes {
-        put_outcome(stack, outcome, out)?;
+        put_outcome(modules, outcome, out)?;
     }
     Ok(())
 }
@@ -123,7 +135,8 @@ pub(crate) fn write_outcomes<W: Write>(
     ensures { WritesAndFlushes W.contents out.old out.new result (outcomes_text (outcomes_view reply.now)) }
 {
     put_header(reply.service, reply.kind, reply.stack.modules(), out)?;
-    put_outcomes(&reply.stack, &reply.outcomes.found, out)?;
+    let paths = ModulePaths::of(&reply.stack);
+    put_outcomes(&paths, &reply.outcomes.found, out)?;
     put_total(reply.outcomes.total, out)?;
     out.finish()
 }

@@ -9,3 +9,4 @@ pub mod Known
 pub mod Memory
 pub mod OutcomeViews
 pub mod PageView
+pub mod Tasks

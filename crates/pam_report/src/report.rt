@@ -6,6 +6,7 @@ ghost use Rattle.pam_report.specs.Finds.{Finds};
 ghost use Rattle.pam_report.specs.Inputs.{files_given, no_files};
 ghost use Rattle.pam_report.specs.Memory.{WantsOnly, wants};
 ghost use Rattle.pam_report.specs.Reply.{status_number};
+ghost use Rattle.pam_report.specs.inner.Tasks.{IsAboutRuns, IsAboutService};
 
 mod accepting;
 mod access;
@@ -114,64 +115,20 @@ fn stack_request<'a>(
     }
 }
 
-/// Returns the reply to a request from these files, which are those of `inputs` or none, and the tables of `inputs`.
+/// Returns the reply to a request about the runs of a stack: what they come to, by which paths, or a drawing of them.
 #[tactic(auto, unfolding(crate::specs::Answer::AnswersBy))]
-fn reply_from<'a>(
+fn reply_about_runs<'a>(
     alloc: Global,
     request: &Request<'a>,
     files: &Files,
     inputs: &'a Inputs,
 ) -> Result<Reply<'a>, Fault>
-    requires { unwrap_or (files_given inputs.now) no_files ≡ files.now }
+    requires { IsAboutRuns request.now.task }
     ensures answer { AnswersBy (Finds result) request.now.service.now request.now.task files.now inputs.now }
     ensures wants { WantsOnly (wants request.now.task inputs.now) result }
 {
     let service = request.service;
     match &request.task {
-        Task::Check {
-            services,
-            fail_on,
-            given,
-            ..
-        } => {
-            let asked = CheckRequest {
-                services,
-                fail_on: *fail_on,
-                given,
-            };
-            checked(alloc, asked, files, inputs)
-        }
-        Task::Compare {
-            service,
-            kind,
-            given,
-            ..
-        } => {
-            let asked = CompareRequest {
-                service: *service,
-                kind: *kind,
-                settings: &given.settings,
-            };
-            compared(alloc, asked, inputs)
-        }
-        Task::Show { kind, release, .. } => {
-            let asked = ShowRequest {
-                service,
-                kind: *kind,
-                release: *release,
-            };
-            shown_by(alloc, asked, files, inputs.files())
-        }
-        Task::Decide { kind, codes, .. } => decided(alloc, service, *kind, codes, files),
-        Task::Access {
-            login,
-            arguments,
-            ..
-        } => answer_access(alloc, service, *login, arguments, inputs),
-        Task::Time { login, moment, .. } => {
-            let moment = moment_of(*moment);
-            answer_time(alloc, service, *login, moment, inputs)
-        }
         Task::Paths {
             kind,
             limit,
@@ -211,8 +168,89 @@ fn reply_from<'a>(
             let moment = given_moment(knowledge.moment);
             answer_graph(alloc, &drawing, moment, &knowledge.settings, files, inputs)
         }
+        _ => unreachable!(),
+    }
+}
+
+/// Returns the reply to a request about a service: its stack, one run of it, or what a table says of a login.
+#[tactic(auto, unfolding(crate::specs::Answer::AnswersBy))]
+fn reply_about_service<'a>(
+    alloc: Global,
+    request: &Request<'a>,
+    files: &Files,
+    inputs: &'a Inputs,
+) -> Result<Reply<'a>, Fault>
+    requires files { unwrap_or (files_given inputs.now) no_files ≡ files.now }
+    requires task { IsAboutService request.now.task }
+    ensures answer { AnswersBy (Finds result) request.now.service.now request.now.task files.now inputs.now }
+    ensures wants { WantsOnly (wants request.now.task inputs.now) result }
+{
+    let service = request.service;
+    match &request.task {
+        Task::Show { kind, release, .. } => {
+            let asked = ShowRequest {
+                service,
+                kind: *kind,
+                release: *release,
+            };
+            shown_by(alloc, asked, files, inputs.files())
+        }
+        Task::Decide { kind, codes, .. } => decided(alloc, service, *kind, codes, files),
+        Task::Access {
+            login,
+            arguments,
+            ..
+        } => answer_access(alloc, service, *login, arguments, inputs),
+        Task::Time { login, moment, .. } => {
+            let moment = moment_of(*moment);
+            answer_time(alloc, service, *login, moment, inputs)
+        }
+        _ => reply_about_runs(alloc, request, files, inputs),
+    }
+}
+
+/// Returns the reply to a request from these files, which are those of `inputs` or none, and the tables of `inputs`.
+#[tactic(auto, unfolding(crate::specs::Answer::AnswersBy))]
+fn reply_from<'a>(
+    alloc: Global,
+    request: &Request<'a>,
+    files: &Files,
+    inputs: &'a Inputs,
+) -> Result<Reply<'a>, Fault>
+    requires { unwrap_or (files_given inputs.now) no_files ≡ files.now }
+    ensures answer { AnswersBy (Finds result) request.now.service.now request.now.task files.now inputs.now }
+    ensures wants { WantsOnly (wants request.now.task inputs.now) result }
+{
+    match &request.task {
+        Task::Check {
+            services,
+            fail_on,
+            given,
+            ..
+        } => {
+            let asked = CheckRequest {
+                services,
+                fail_on: *fail_on,
+                given,
+            };
+            checked(alloc, asked, files, inputs)
+        }
+        Task::Compare {
+            service,
+            kind,
+            given,
+            ..
+        } => {
+            let asked = CompareRequest {
+                service: *service,
+                kind: *kind,
+                settings: &given.settings,
+            };
+            compared(alloc, asked, inputs)
+        }
         Task::Explain(number) => explained(*number),
         Task::Facts => Ok(Reply::Facts),
         Task::Version => Ok(Reply::Version),
+        _ => reply_about_service(alloc, request, files, inputs),
     }
 }

@@ -29,7 +29,7 @@ module_value (Arguments arguments) = strings arguments.now
 abbrev pub path_value : PathValue → Data
 path_value (Cursor path) = cursor_string path.now
 path_value (Next cursor) = next_or_null (option_map (λ c. c.now) cursor)
-path_value (Steps stack steps) = steps_array stack.now (map step_seen steps.now)
+path_value (Steps modules steps) = steps_array modules.now (map step_seen steps.now)
 path_value (Ways count) = string (count_text count)
 
 abbrev pub change_value : ChangeValue → Data

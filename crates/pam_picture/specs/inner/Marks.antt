@@ -3,7 +3,8 @@ use Rattle.std.specs.Prelude.{ℕ, List, [], decimal}
 use Rattle.std.specs.List.{flat_map}
 use Rattle.pam_codes.specs.ControlText.{control_text}
 use Rattle.pam_codes.specs.SetText.{name_of, set_text}
-use Rattle.pam_picture.specs.Escaped.{escaped, rows}
+use Rattle.pam_drawing.specs.Escaped.{escaped}
+use Rattle.pam_picture.specs.Rows.{rows}
 use Rattle.pam_picture.specs.Labels.{label_text}
 use Rattle.pam_picture.specs.Picture.{asked_words, bend_text, target_id}
 use Rattle.pam_picture.specs.declared.mark.Mark.{Mark}

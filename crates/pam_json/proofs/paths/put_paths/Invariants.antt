@@ -8,7 +8,7 @@ use Rattle.pam_json.proofs.paths.put_paths.Given as goal
 
 abbrev pub invariant-loop-count : goal.invariant-loop-count
 invariant-loop-count g l = record {
-  written : TookAll g.W.Write.contents l.initial.out l.out (flat_map (path_json l.stack) (take l.count (coming l.fn.listing)));
+  written : TookAll g.W.Write.contents l.initial.out l.out (flat_map (path_json l.modules) (take l.count (coming l.fn.listing)));
   left : coming l.listing ≡ drop l.count (coming l.fn.listing);
   side : side l.listing ≡ side l.fn.listing;
   within : l.count ≤ length (coming l.fn.listing);

@@ -9,7 +9,7 @@ use Rattle.pam_json.proofs.paths.put_rest.Goals as goal
 
 pub returns-in_err-put_path : goal.returns-in_err-put_path
 returns-in_err-put_path g c =
-    let json = path_json c.args.stack.now in
+    let json = path_json c.args.modules.now in
     let at = side c.args.listing.now in
     let rest = rest_front json last_json at c.args.count (followed c.follow.new.self) (coming c.follow.new.self) in
     err-front _ c.from_residual.ensures.0
@@ -18,7 +18,7 @@ returns-in_err-put_path g c =
 
 pub returns-in-None : goal.returns-in-None
 returns-in-None g c =
-    let json = path_json c.args.stack.now in
+    let json = path_json c.args.modules.now in
     writes-is _ _ _ _ _ _ (writes-then _ _ _ (all-is c.in_ok-put_path.ensures (ap json c.path-path.ensures)) c.put_last-in-None.ensures)
     (rest_end-is json last_json (side c.args.listing.now) _ c.args.count _ (followed c.follow.new.self) (coming c.args.listing.now)
     (coming c.follow.new.self) (c.side-in-None.ensures ∙ c.in-None.ensures.side ∙ c.in-Some.ensures.side) c.from-in-None.ensures c.in-Some.ensures.path
@@ -26,7 +26,7 @@ returns-in-None g c =
 
 pub returns-in-Some-follow : goal.returns-in-Some-follow
 returns-in-Some-follow g c =
-    let json = path_json c.args.stack.now in
+    let json = path_json c.args.modules.now in
     writes-is _ _ _ _ _ _ (writes-then _ _ _ (all-is c.in_ok-put_path.ensures (ap json c.path-path.ensures)) c.put_last-in-Some-follow.ensures)
     (rest_more-is json last_json (side c.args.listing.now) _ c.args.count _ c.cursor-cursor.result (followed c.follow.new.self)
     (followed c.follow-2.new.self) (coming c.args.listing.now) (coming c.follow.new.self) (coming c.follow-2.new.self)

@@ -16,4 +16,4 @@ objects items (step ∷ steps) = ap (λ (ds : List Data). step_object items (ste
 pub returns : goal.returns
 returns g c =
     writes-is _ _ _ _ _ _ c.put_array.ensures
-    (ap (λ (ds : List Data). compact_text (array (items_of ds))) (objects c.args.stack.now c.args.steps.now))
+    (ap (λ (ds : List Data). compact_text (array (items_of ds))) (objects c.args.modules.now c.args.steps.now))

@@ -1,7 +1,7 @@
 use Rattle.pam_codes.proofs.Writing.{all-is, all-then, err-front, front-is}
 use Rattle.pam_drawing.proofs.Indices.{indexed-all, indexed-push}
 use Rattle.pam_graph.specs.declared.node.Node.{Node}
-use Rattle.pam_picture.proofs.Loops.{failed-indexed}
+use Rattle.pam_drawing.proofs.Loops.{failed-indexed}
 use Rattle.pam_picture.proofs.edge.put_each_edge.Goals as goal
 use Rattle.pam_picture.specs.Picture.{node_edges}
 use Rattle.std.proofs.Common.{ap, sym}

@@ -1,5 +1,5 @@
 use Rattle.pam_codes.proofs.Writing.{err-front, front-is}
-use Rattle.pam_picture.proofs.Loops.{failed-at}
+use Rattle.pam_drawing.proofs.Loops.{failed-at}
 use Rattle.pam_picture.proofs.edge.put_each_sentence.Goals as goal
 use Rattle.pam_picture.specs.Picture.{node_sentences}
 use Rattle.std.proofs.Common.{ap}

@@ -1,5 +1,5 @@
 use Rattle.pam_codes.proofs.Writing.{err-front}
-use Rattle.pam_picture.proofs.Loops.{failed-at}
+use Rattle.pam_drawing.proofs.Loops.{failed-at}
 use Rattle.pam_picture.proofs.heading.put_each_bracket.Goals as goal
 use Rattle.pam_picture.specs.Picture.{bracket_text}
 

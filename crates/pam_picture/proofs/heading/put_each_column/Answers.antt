@@ -1,6 +1,6 @@
 use Rattle.pam_codes.proofs.Writing.{all-is, all-then, err-front}
 use Rattle.pam_drawing.proofs.Indices.{range-all, range-push}
-use Rattle.pam_picture.proofs.Loops.{failed-number}
+use Rattle.pam_drawing.proofs.Loops.{failed-number}
 use Rattle.pam_picture.proofs.heading.put_each_column.Goals as goal
 use Rattle.pam_picture.specs.Picture.{column_text}
 use Rattle.std.proofs.Common.{◌+◌, ◌≡◌, arith, sym}

@@ -2,7 +2,7 @@ use Rattle.pam_codes.proofs.Writing.{all-is, all-then, err-front}
 use Rattle.pam_codes.specs.Code.{all_codes}
 use Rattle.pam_codes.specs.declared.code.TheConstants.{CODES}
 use Rattle.pam_drawing.proofs.Indices.{range-all, range-push}
-use Rattle.pam_picture.proofs.Loops.{failed-number}
+use Rattle.pam_drawing.proofs.Loops.{failed-number}
 use Rattle.pam_picture.proofs.node.put_each_end.Goals as goal
 use Rattle.pam_picture.specs.Picture.{end_if_drawn}
 use Rattle.std.proofs.Common.{◌+◌, ◌≡◌, ◌∙◌, arith, sym}

@@ -11,28 +11,28 @@ use Rattle.pam_print.proofs.outcomes.put_named_step.Goals as goal
 pub returns-in_err-put : goal.returns-in_err-put
 returns-in_err-put g c =
     let step = step_seen c.args.step.now in
-    let path = path_at step.module_number c.args.stack.now in
+    let path = path_at step.module_number c.args.modules.now in
     err-front _ c.from_residual.ensures.0
     (front-is (front-longer (set_text step.class) (front-longer (codes " ") (front-longer (word_text (name_of_path path)) c.in_err-put.ensures)))
-    (named_step-is c.args.stack.now step step.module_number path (name_of_path path) step.class refl refl refl refl))
+    (named_step-is c.args.modules.now step step.module_number path (name_of_path path) step.class refl refl refl refl))
 
 pub returns-in_err-put_word : goal.returns-in_err-put_word
 returns-in_err-put_word g c =
     let step = step_seen c.args.step.now in
     err-front _ c.from_residual-in_err-put_word.ensures.0
     (front-is (front-longer _ (front-longer _ (front-then c.in_ok-put.ensures c.in_err-put_word.ensures)))
-    (named_step-is c.args.stack.now step c.number.result _ _ step.class c.number.ensures c.path_at.ensures c.name_of_path.ensures refl))
+    (named_step-is c.args.modules.now step c.number.result _ _ step.class c.number.ensures c.path.ensures c.name_of_path.ensures refl))
 
 pub returns-in_err-put-2 : goal.returns-in_err-put-2
 returns-in_err-put-2 g c =
     let step = step_seen c.args.step.now in
     err-front _ c.from_residual-in_err-put-2.ensures.0
     (front-is (front-longer _ (front-then (all-then c.in_ok-put.ensures c.in_ok-put_word.ensures) c.in_err-put-2.ensures))
-    (named_step-is c.args.stack.now step c.number.result _ _ step.class c.number.ensures c.path_at.ensures c.name_of_path.ensures refl))
+    (named_step-is c.args.modules.now step c.number.result _ _ step.class c.number.ensures c.path.ensures c.name_of_path.ensures refl))
 
 pub returns : goal.returns
 returns g c =
     let step = step_seen c.args.step.now in
     writes-is _ _ _ _ _ _
     (writes-then _ _ _ (all-then (all-then c.in_ok-put.ensures c.in_ok-put_word.ensures) c.in_ok-put-2.ensures) c.write_text.ensures)
-    (named_step-is c.args.stack.now step c.number.result _ _ c.class.result c.number.ensures c.path_at.ensures c.name_of_path.ensures c.class.ensures)
+    (named_step-is c.args.modules.now step c.number.result _ _ c.class.result c.number.ensures c.path.ensures c.name_of_path.ensures c.class.ensures)

@@ -8,7 +8,7 @@ use Rattle.pam_print.proofs.outcomes.put_named_steps.Goals as goal
 
 pub returns-in_err-put : goal.returns-in_err-put
 returns-in_err-put g c =
-    let items = c.args.stack.now in
+    let items = c.args.modules.now in
     err-front _ c.from_residual.ensures.0
     (front-is
     (front-longer (flat_map (next_step items) (map step_seen c.in-Some.others.now))
@@ -17,7 +17,7 @@ returns-in_err-put g c =
 
 pub returns-in_err-put_named_step : goal.returns-in_err-put_named_step
 returns-in_err-put_named_step g c =
-    let items = c.args.stack.now in
+    let items = c.args.modules.now in
     err-front _ c.from_residual-in_err-put_named_step.ensures.0
     (front-is
     (front-longer (flat_map (next_step items) (map step_seen c.in-Some.others.now)) (front-then c.in_ok-put.ensures c.in_err-put_named_step.ensures))
@@ -27,4 +27,4 @@ pub returns : goal.returns
 returns g c =
     writes-is _ _ _ _ _ _
     (writes-then _ _ _ (all-then c.in_ok-put.ensures c.in_ok-put_named_step.ensures) c.put_next_steps.ensures)
-    (named_steps-is c.args.stack.now _ _ _ c.in-Some.ensures.cases.0)
+    (named_steps-is c.args.modules.now _ _ _ c.in-Some.ensures.cases.0)

@@ -10,7 +10,7 @@ use Rattle.pam_print.proofs.outcomes.put_next_steps.Goals as goal
 pub returns-in_err-put_next_step : goal.returns-in_err-put_next_step
 returns-in_err-put_next_step g c =
     let steps = c.args.steps.now in
-    let written = next_step c.args.stack.now in
+    let written = next_step c.args.modules.now in
     let index = c.loop-step.step-index in
     let text = ap (λ (s : PathStep). written (step_seen s)) c.step-item.is in
     err-front _ c.from_residual.ensures.0

@@ -7,4 +7,4 @@ use Rattle.pam_print.specs.Outcomes.{next_step}
 use Rattle.pam_print.proofs.outcomes.put_next_steps.Given as goal
 
 abbrev pub invariant-loop-step : goal.invariant-loop-step
-invariant-loop-step g l = TookAll g.W.Write.contents l.initial.out l.out (flat_map (next_step l.stack) (map step_seen (take l.step-index l.steps)))
+invariant-loop-step g l = TookAll g.W.Write.contents l.initial.out l.out (flat_map (next_step l.modules) (map step_seen (take l.step-index l.steps)))

@@ -9,7 +9,7 @@ returns-in_err-put-2 g c =
     let o = outcome_view c.args.outcome.now in
     err-front _ c.from_residual-in_err-put-2.ensures.0
     (front-is (front-longer _ (front-longer _ (front-longer _ (front-longer _ (front-longer _ (front-then c.in_ok-put.ensures c.in_err-put-2.ensures))))))
-    (outcome_line-is c.args.stack.now o _ _ o.first.steps c.name_of.ensures refl refl))
+    (outcome_line-is c.args.modules.now o _ _ o.first.steps c.name_of.ensures refl refl))
 
 pub returns-in_err-put_count : goal.returns-in_err-put_count
 returns-in_err-put_count g c =
@@ -18,7 +18,7 @@ returns-in_err-put_count g c =
     (front-is
     (front-longer _ (front-longer _ (front-longer _ (front-longer _
     (front-then (all-then c.in_ok-put.ensures c.in_ok-put-2.ensures) c.in_err-put_count.ensures)))))
-    (outcome_line-is c.args.stack.now o _ _ o.first.steps c.name_of.ensures refl refl))
+    (outcome_line-is c.args.modules.now o _ _ o.first.steps c.name_of.ensures refl refl))
 
 pub returns-in_err-put-3 : goal.returns-in_err-put-3
 returns-in_err-put-3 g c =
@@ -27,7 +27,7 @@ returns-in_err-put-3 g c =
     (front-is
     (front-longer _ (front-longer _ (front-longer _
     (front-then (all-then (all-then c.in_ok-put.ensures c.in_ok-put-2.ensures) c.in_ok-put_count.ensures) c.in_err-put-3.ensures))))
-    (outcome_line-is c.args.stack.now o _ _ o.first.steps c.name_of.ensures refl refl))
+    (outcome_line-is c.args.modules.now o _ _ o.first.steps c.name_of.ensures refl refl))
 
 pub returns-in_err-write_text : goal.returns-in_err-write_text
 returns-in_err-write_text g c =
@@ -35,7 +35,7 @@ returns-in_err-write_text g c =
     let before = all-then (all-then (all-then c.in_ok-put.ensures c.in_ok-put-2.ensures) c.in_ok-put_count.ensures) c.in_ok-put-3.ensures in
     err-front _ c.from_residual-in_err-write_text.ensures.0
     (front-is (front-longer _ (front-longer _ (front-then before c.in_err-write_text.ensures)))
-    (outcome_line-is c.args.stack.now o _ _ o.first.steps c.name_of.ensures c.cursor.ensures.key refl))
+    (outcome_line-is c.args.modules.now o _ _ o.first.steps c.name_of.ensures c.cursor.ensures.key refl))
 
 pub returns-in_err-put_named_steps : goal.returns-in_err-put_named_steps
 returns-in_err-put_named_steps g c =
@@ -43,7 +43,7 @@ returns-in_err-put_named_steps g c =
     let before = all-then (all-then (all-then c.in_ok-put.ensures c.in_ok-put-2.ensures) c.in_ok-put_count.ensures) c.in_ok-put-3.ensures in
     err-front _ c.from_residual-in_err-put_named_steps.ensures.0
     (front-is (front-longer _ (front-then (all-then before c.in_ok-write_text.ensures) c.in_err-put_named_steps.ensures))
-    (outcome_line-is c.args.stack.now o _ _ _ c.name_of.ensures c.cursor.ensures.key c.steps.ensures))
+    (outcome_line-is c.args.modules.now o _ _ _ c.name_of.ensures c.cursor.ensures.key c.steps.ensures))
 
 pub returns : goal.returns
 returns g c =
@@ -51,4 +51,4 @@ returns g c =
     let before = all-then (all-then (all-then c.in_ok-put.ensures c.in_ok-put-2.ensures) c.in_ok-put_count.ensures) c.in_ok-put-3.ensures in
     writes-is _ _ _ _ _ _
     (writes-then _ _ _ (all-then (all-then before c.in_ok-write_text.ensures) c.in_ok-put_named_steps.ensures) c.put-4.ensures)
-    (outcome_line-is c.args.stack.now o _ _ _ c.name_of.ensures c.cursor.ensures.key c.steps.ensures)
+    (outcome_line-is c.args.modules.now o _ _ _ c.name_of.ensures c.cursor.ensures.key c.steps.ensures)

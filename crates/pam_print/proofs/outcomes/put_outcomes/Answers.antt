@@ -10,7 +10,7 @@ use Rattle.pam_print.proofs.outcomes.put_outcomes.Goals as goal
 pub returns-in_err-put_outcome : goal.returns-in_err-put_outcome
 returns-in_err-put_outcome g c =
     let outcomes = c.args.outcomes.now in
-    let line = outcome_line c.args.stack.now in
+    let line = outcome_line c.args.modules.now in
     let index = c.loop-outcome.outcome-index in
     let text = ap (λ (o : Outcome). line (outcome_view o)) c.outcome-item.is in
     err-front _ c.from_residual.ensures.0

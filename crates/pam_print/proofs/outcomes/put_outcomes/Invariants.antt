@@ -8,4 +8,4 @@ use Rattle.pam_print.proofs.outcomes.put_outcomes.Given as goal
 
 abbrev pub invariant-loop-outcome : goal.invariant-loop-outcome
 invariant-loop-outcome g l =
-    TookAll g.W.Write.contents l.initial.out l.out (flat_map (outcome_line l.stack) (map outcome_view (take l.outcome-index l.outcomes)))
+    TookAll g.W.Write.contents l.initial.out l.out (flat_map (outcome_line l.modules) (map outcome_view (take l.outcome-index l.outcomes)))

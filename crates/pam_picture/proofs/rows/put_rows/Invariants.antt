@@ -1,7 +1,7 @@
 -- what comes first is written
 use Rattle.pam_codes.specs.Out.{TookAll}
-use Rattle.pam_picture.proofs.escaped.put_rows.Given as goal
-use Rattle.pam_picture.specs.Escaped.{row_byte}
+use Rattle.pam_picture.proofs.rows.put_rows.Given as goal
+use Rattle.pam_picture.specs.Rows.{row_byte}
 use Rattle.std.proofs.Common.{take}
 use Rattle.std.specs.List.{flat_map}
 

@@ -1,13 +1,13 @@
 -- An escaped text, byte by byte: each of the 256 bytes is looked at.
-use Rattle.std.proofs.Common.{◌≡◌, ◌∙◌, ℕ, ◌+◌, ◌<◌, ◌&&◌, Bool, true, false, List, [], ◌∷◌, ◌++◌, All, ap, arith, refl, sym}
+use Rattle.std.proofs.Common.{◌≡◌, ◌∙◌, ℕ, ◌+◌, ◌<◌, ◌&&◌, Bool, true, false, [], ◌∷◌, ap, arith, refl, sym}
 use Rattle.std.proofs.lemmas.Bool.{false≢true}
 use Rattle.std.proofs.lemmas.List.Elements.{All-head, All-tail}
 use Rattle.std.proofs.lemmas.List.Folds.{list_all-append, list_all_at}
 use Rattle.std.proofs.lemmas.List.FromFn.{get_or-range_with_len, length-range_with_len}
 use Rattle.std.specs.List.{list_all, range_with_len}
 use Rattle.pam_drawing.specs.Labels.{ascii_byte}
-use Rattle.pam_picture.specs.Escaped.{escaped, escaped_byte, named}
-use Rattle.pam_picture.specs.Laws.{TextsArePlain, is_of_text}
+use Rattle.pam_drawing.specs.Escaped.{escaped, escaped_byte, named}
+use Rattle.pam_drawing.specs.Laws.{TextsArePlain, is_of_text}
 
 abbrev byte-is : ℕ → Bool
 byte-is b = list_all is_of_text (escaped_byte b)

@@ -1,7 +1,7 @@
 use Rattle.pam_codes.proofs.Writing.{err-front}
-use Rattle.pam_picture.proofs.Loops.{failed-at}
-use Rattle.pam_picture.proofs.escaped.put_rows.Goals as goal
-use Rattle.pam_picture.specs.Escaped.{row_byte}
+use Rattle.pam_drawing.proofs.Loops.{failed-at}
+use Rattle.pam_picture.proofs.rows.put_rows.Goals as goal
+use Rattle.pam_picture.specs.Rows.{row_byte}
 
 pub returns-in_err-put_row_byte : goal.returns-in_err-put_row_byte
 returns-in_err-put_row_byte g c =

@@ -1,7 +1,7 @@
 use Rattle.pam_codes.proofs.Writing.{err-front}
-use Rattle.pam_picture.proofs.Loops.{failed-at}
-use Rattle.pam_picture.proofs.escaped.put_characters.Goals as goal
-use Rattle.pam_picture.specs.Escaped.{named}
+use Rattle.pam_drawing.proofs.Loops.{failed-at}
+use Rattle.pam_drawing.proofs.xml.put_characters.Goals as goal
+use Rattle.pam_drawing.specs.Escaped.{named}
 
 pub returns-in_err-put_character : goal.returns-in_err-put_character
 returns-in_err-put_character g c =

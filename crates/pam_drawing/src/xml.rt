@@ -2,10 +2,10 @@
 
 ghost use Rattle.std.specs.List.{flat_map};
 ghost use Rattle.pam_codes.specs.Out.{Writes};
-ghost use Rattle.pam_picture.specs.Escaped.{escaped, escaped_byte, named, row_byte, rows};
+ghost use Rattle.pam_drawing.specs.Escaped.{escaped, escaped_byte, named};
 
+use crate::label::ascii_byte;
 use pam_codes::{Device, Out};
-use pam_drawing::ascii_byte;
 use std::io::Write;
 
 /// Writes a character of ASCII.
@@ -32,7 +32,8 @@ fn put_characters<W: Write>(characters: &[u8], out: &mut Out<W>) -> Result<(), D
     Ok(())
 }
 
-fn put_byte<W: Write>(byte: u8, out: &mut Out<W>) -> Result<(), Device>
+/// Writes a byte of a text, so that it means nothing in XML.
+pub fn put_escaped_byte<W: Write>(byte: u8, out: &mut Out<W>) -> Result<(), Device>
     ensures { Writes W.contents out.old out.new result (escaped_byte byte) }
 {
     let characters = ascii_byte(byte);
@@ -40,31 +41,11 @@ fn put_byte<W: Write>(byte: u8, out: &mut Out<W>) -> Result<(), Device>
 }
 
 /// Writes the bytes of a text, so that none means something in XML.
-pub(crate) fn put_escaped<W: Write>(text: &[u8], out: &mut Out<W>) -> Result<(), Device>
+pub fn put_escaped<W: Write>(text: &[u8], out: &mut Out<W>) -> Result<(), Device>
     ensures { Writes W.contents out.old out.new result (escaped text.now) }
 {
     for byte in text {
-        put_byte(*byte, out)?;
-    }
-    Ok(())
-}
-
-#[tactic(auto, unfolding(crate::specs::Escaped::row_byte))]
-fn put_row_byte<W: Write>(byte: u8, out: &mut Out<W>) -> Result<(), Device>
-    ensures { Writes W.contents out.old out.new result (row_byte byte) }
-{
-    if byte == b' ' {
-        return out.put(b"</tspan><tspan x=\"-6\" dy=\"15\">");
-    }
-    put_byte(byte, out)
-}
-
-/// Writes a text with a row for each of its words.
-pub(crate) fn put_rows<W: Write>(text: &[u8], out: &mut Out<W>) -> Result<(), Device>
-    ensures { Writes W.contents out.old out.new result (rows text.now) }
-{
-    for byte in text {
-        put_row_byte(*byte, out)?;
+        put_escaped_byte(*byte, out)?;
     }
     Ok(())
 }

@@ -19,11 +19,3 @@ escaped_byte b = flat_map named (ascii_byte b)
 -- A TEXT IN XML: its bytes in printable ASCII, as in DOT, and then by the names of characters
 abbrev pub escaped : List ℕ → List ℕ
 escaped text = flat_map escaped_byte text
-
--- a blank begins another row of a column's heading
-unfoldable pub row_byte : ℕ → List ℕ
-row_byte b = if b == 32 then codes "</tspan><tspan x=\"-6\" dy=\"15\">" else escaped_byte b
-
--- a text with a row for each of its words
-abbrev pub rows : List ℕ → List ℕ
-rows text = flat_map row_byte text

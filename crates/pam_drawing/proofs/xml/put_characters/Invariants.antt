@@ -1,7 +1,7 @@
 -- what comes first is written
 use Rattle.pam_codes.specs.Out.{TookAll}
-use Rattle.pam_picture.proofs.escaped.put_characters.Given as goal
-use Rattle.pam_picture.specs.Escaped.{named}
+use Rattle.pam_drawing.proofs.xml.put_characters.Given as goal
+use Rattle.pam_drawing.specs.Escaped.{named}
 use Rattle.std.proofs.Common.{take}
 use Rattle.std.specs.List.{flat_map}
 
