@@ -14,7 +14,8 @@ returns-in_err-put g c =
 pub returns-in_err-put_hex_digit : goal.returns-in_err-put_hex_digit
 returns-in_err-put_hex_digit g c =
     err-front _ c.from_residual-in_err-put_hex_digit.ensures.0
-    (front-is (front-longer _ (front-then c.in_ok-put.ensures c.in_err-put_hex_digit.ensures)) (byte-numbered c.args.is_numbered c.args.byte (sym c.if-not-is_numbered.false)))
+    (front-is (front-longer _ (front-then c.in_ok-put.ensures c.in_err-put_hex_digit.ensures))
+    (byte-numbered c.args.is_numbered c.args.byte (sym c.if-not-is_numbered.false)))
 
 pub returns : goal.returns
 returns g c =

@@ -38,4 +38,5 @@ pub returns : goal.returns
 returns g c =
     let so_far = c.loop-byte.invariant in
     all-is so_far.1
-    (sym (append-nil so_far.0) ∙ ap (λ (l : List ℕ). so_far.0 ++ l) (sym (shown-none c.loop-byte.left.now c.loop-byte.before c.in_default.ensures.cases)) ∙ so_far.2)
+    (sym (append-nil so_far.0)
+    ∙ ap (λ (l : List ℕ). so_far.0 ++ l) (sym (shown-none c.loop-byte.left.now c.loop-byte.before c.in_default.ensures.cases)) ∙ so_far.2)
