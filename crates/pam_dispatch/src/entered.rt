@@ -41,12 +41,14 @@ impl Entered {
         self.states[level]
     }
 
-    /// Of the first `count` lists, keeps the states of those at some levels; each other one becomes the state in which a run begins.
-    pub(crate) fn keep_levels(&mut self, count: usize, levels: &ReadLevels)
+    /// Of the first `count` lists, the states of those at some levels; for each other one the state in which a run begins.
+    pub(crate) fn at_levels(&self, count: usize, levels: &ReadLevels) -> Entered
         ensures { (rest : List FlatItem) → AreReadLevels rest levels.now
-            → take (min count LISTS) self.new.states ≡ take (min count LISTS) (read_states 0 rest self.old.states) }
+            → take (min count LISTS) result.states ≡ take (min count LISTS) (read_states 0 rest self.now.states) }
     {
-        keep_levels(&mut self.states, count, levels);
+        let mut kept = *self;
+        keep_levels(&mut kept.states, count, levels);
+        kept
     }
 
     /// Enters the list at `level` in this state.

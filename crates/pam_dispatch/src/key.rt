@@ -104,13 +104,12 @@ impl Program {
         ensures rests { AreEqualRests (rest_at self.now result) (rest_of self.now place.now) }
     {
         let left = self.flat_items.len().saturating_sub(place.position);
-        let mut key = PlaceKey {
+        let depth = usize::from(place.depth);
+        PlaceKey {
             position: place.position,
-            depth: usize::from(place.depth),
+            depth,
             state: place.state,
-            entered: place.entered,
-        };
-        key.entered.keep_levels(key.depth, &self.read_levels[left]);
-        key
+            entered: place.entered.at_levels(depth, &self.read_levels[left]),
+        }
     }
 }

@@ -93,17 +93,16 @@ impl Fork {
     {
         match self.classes.offered.least_from(bound) {
             Some(code) => {
-                // The step is made in the choice itself: a place is not copied again.
-                let mut choice = Choice {
+                let mut place = self.place;
+                let mut work = Work::new();
+                program.step_on(&mut place, code, &mut work);
+                Some(Choice {
                     class: self
                         .classes
                         .class_of(program, &self.place, self.module_number, code),
-                    place: self.place,
+                    place,
                     next: code.number() + 1,
-                };
-                let mut work = Work::new();
-                program.step_on(&mut choice.place, code, &mut work);
-                Some(choice)
+                })
             }
             None => None,
         }

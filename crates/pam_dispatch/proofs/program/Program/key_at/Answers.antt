@@ -23,14 +23,14 @@ returns-clause-key c =
     let levels : get_or table (length items - place.position) [] ≡ c.index.result.now =
     sym (c.index.ensures ∙ ap (λ (n : ℕ). get_or table n c.index.result.now) at
     ∙ get_or_default table (length items - place.position) c.index.result.now [] within) in
-    let states = c.keep_levels.ensures (drop place.position items)
+    let states = c.at_levels.ensures (drop place.position items)
     (subst (AreReadLevels (drop place.position items)) levels (table-at items table place.position c.self.invariant.read)) in
     let key : ℕ → List State → KeyValue =
     λ depth entered. record { position = place.position; depth = depth; state = place.state; entered = entered } in
     let read : List FlatItem → List State = λ ts. read_states 0 (drop place.position ts) place.entered.states in
     let lists : min place.depth LISTS ≡ place.depth = omega (arith, place.shallow) in
-    ap (key c.from.result) states
-    ∙ ap (λ (depth : ℕ). key depth (take (min depth LISTS) (read items))) c.from.ensures
+    ap (key c.from-depth.result) states
+    ∙ ap (λ (depth : ℕ). key depth (take (min depth LISTS) (read items))) c.from-depth.ensures
     ∙ ap (λ (n : ℕ). key place.depth (take n (read items))) lists
     ∙ ap (λ (ts : List FlatItem). key place.depth (take place.depth (read ts))) c.self.view_is
 
