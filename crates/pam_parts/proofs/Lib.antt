@@ -1,1 +1,2 @@
+mod ItemLines
 pub mod Printed

@@ -2,6 +2,8 @@ pub mod Changes
 pub mod Check
 pub mod CheckNames
 pub mod Files
+pub mod Items
+pub mod ItemsView
 pub mod Pages
 pub mod Prints
 pub mod Ways

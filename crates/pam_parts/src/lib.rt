@@ -4,9 +4,11 @@
 mod changes;
 mod check;
 mod files;
+mod items;
 mod writes;
 
 pub use changes::{compared_count, file_of, is_grave, occurrence, service_at};
 pub use check::{Counts, Names, counts_of, names_of, path_of, stacks_of, text_at, word_at};
 pub use files::name_at;
+pub use items::{StackLine, StackLines, write_stack};
 pub use writes::told;

@@ -13,14 +13,14 @@ use crate::compare::write_compared;
 use crate::decide::write_run;
 use crate::drawing::write_drawing;
 use crate::explain::{write_explanation, write_explanations};
+use crate::form::AsText;
 use crate::outcomes::write_outcomes;
 use crate::paths::write_page;
 use crate::released::write_released;
-use crate::show::write_stack;
 use crate::tables::{write_access, write_time};
 use pam_codes::Out;
 use pam_json::print_if_any;
-use pam_parts::told;
+use pam_parts::{told, write_stack};
 use pam_report::{Fault, Inputs, Reply, Status, reply_to};
 use pam_words::{OutputForm, Request};
 use std::alloc::Global;
@@ -59,7 +59,7 @@ fn print_text<W: Write>(alloc: Global, reply: &Reply<'_>, out: &mut Out<W>) -> R
     ensures { Prints W.contents out.old out.new result (reply_view reply.now) }
 {
     match reply {
-        Reply::Stack(stack) => told(write_stack(alloc, stack, out)),
+        Reply::Stack(stack) => told(write_stack(&AsText, alloc, stack, out)),
         Reply::Released(rules) => told(write_released(rules, out)),
         Reply::Run(run) => told(write_run(run, out)),
         Reply::Access(answer) => told(write_access(*answer, out)),
