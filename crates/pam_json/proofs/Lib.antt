@@ -1,4 +1,3 @@
 pub mod AnswerLines
-pub mod CheckLines
 pub mod CompareLines
 pub mod PlainTexts

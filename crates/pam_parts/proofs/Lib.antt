@@ -1,2 +1,3 @@
+mod FindingLines
 mod ItemLines
 pub mod Printed

@@ -2,6 +2,8 @@ pub mod Changes
 pub mod Check
 pub mod CheckNames
 pub mod Files
+pub mod Findings
+pub mod FindingsView
 pub mod Items
 pub mod ItemsView
 pub mod Pages

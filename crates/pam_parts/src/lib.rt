@@ -4,11 +4,13 @@
 mod changes;
 mod check;
 mod files;
+mod findings;
 mod items;
 mod writes;
 
 pub use changes::{compared_count, file_of, is_grave, occurrence, service_at};
 pub use check::{Counts, Names, counts_of, names_of, path_of, stacks_of, text_at, word_at};
 pub use files::name_at;
+pub use findings::{CheckLine, CheckLines, write_check};
 pub use items::{StackLine, StackLines, write_stack};
 pub use writes::told;

@@ -1,17 +1,17 @@
 use Rattle.std.proofs.Common.{◌+◌, drop, map, sym}
 use Rattle.std.specs.List.{enumerate_from, flat_map}
 use Rattle.std.specs.Option.{option_map}
-use Rattle.pam_codes.proofs.Writing.{all-is, all-then, err-front, front-is, front-longer, front-then}
+use Rattle.pam_text.proofs.Writing.{all-is, all-then, err-front, front-is, front-longer, front-then}
 use Rattle.pam_drawing.proofs.Indices.{indexed-all, indexed-at, indexed-push}
 use Rattle.pam_misspelled.specs.MisspelledView.{misspelled_view}
-use Rattle.pam_print.specs.Check.{numbered_line}
 use Rattle.pam_parts.specs.CheckNames.{names_view}
-use Rattle.pam_print.proofs.check.put_findings.Goals as goal
+use Rattle.pam_parts.specs.Findings.{numbered_line}
+use Rattle.pam_parts.proofs.findings.put_findings.Goals as goal
 
 pub returns-in_err-put_numbered : goal.returns-in_err-put_numbered
 returns-in_err-put_numbered g c =
     let found = c.args.found.now in
-    let line = numbered_line (names_view c.args.names.now) (map (option_map misspelled_view) c.args.words.now) in
+    let line = numbered_line g.L.CheckLines.line (names_view c.args.names.now) (map (option_map misspelled_view) c.args.words.now) in
     let position = c.loop-position.position in
     err-front _ c.from_residual.ensures.0
     (front-is
@@ -20,11 +20,11 @@ returns-in_err-put_numbered g c =
 
 pub loop-position-preserved : goal.loop-position-preserved
 loop-position-preserved g c =
-    let line = numbered_line (names_view c.args.names.now) (map (option_map misspelled_view) c.args.words.now) in
+    let line = numbered_line g.L.CheckLines.line (names_view c.args.names.now) (map (option_map misspelled_view) c.args.words.now) in
     all-is (all-then c.loop-position.invariant c.in_ok-put_numbered.ensures)
     (sym (indexed-push line c.args.found.now c.loop-position.position _ c.loop-position-test.true))
 
 pub returns : goal.returns
 returns g c =
-    let line = numbered_line (names_view c.args.names.now) (map (option_map misspelled_view) c.args.words.now) in
+    let line = numbered_line g.L.CheckLines.line (names_view c.args.names.now) (map (option_map misspelled_view) c.args.words.now) in
     all-is c.loop-position.invariant (indexed-all line c.args.found.now c.loop-position.position c.loop-position-test.false)
