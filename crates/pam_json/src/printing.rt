@@ -3,14 +3,13 @@
 ghost use Rattle.pam_report.specs.ReplyViews.{reply_view};
 ghost use Rattle.pam_json.specs.Text.{PrintsIfAny};
 
-use crate::compare::write_compared;
 use crate::decide::write_run;
 use crate::form::AsJson;
 use crate::outcomes::write_outcomes;
 use crate::paths::write_page;
 use crate::tables::{write_access, write_time};
 use pam_codes::Out;
-use pam_parts::{told, write_check, write_stack};
+use pam_parts::{told, write_check, write_compared, write_stack};
 use pam_report::{Fault, Reply};
 use std::alloc::Global;
 use std::io::Write;
@@ -33,7 +32,7 @@ pub fn print_if_any<W: Write>(
         Reply::Outcomes(outcomes) => Some(told(write_outcomes(outcomes, out))),
         Reply::Paths(page) => Some(write_page(alloc, page, out)),
         Reply::Check(check) => Some(write_check(&AsJson, alloc, check, out)),
-        Reply::Compared(compared) => Some(told(write_compared(compared, out))),
+        Reply::Compared(compared) => Some(told(write_compared(&AsJson, compared, out))),
         _ => None,
     }
 }

@@ -1,3 +1,4 @@
+mod ComparedLines
 mod FindingLines
 mod ItemLines
 pub mod Printed

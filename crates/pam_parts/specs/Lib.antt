@@ -1,6 +1,8 @@
 pub mod Changes
 pub mod Check
 pub mod CheckNames
+pub mod Compared
+pub mod ComparedView
 pub mod Files
 pub mod Findings
 pub mod FindingsView

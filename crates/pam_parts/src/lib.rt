@@ -3,6 +3,7 @@
 
 mod changes;
 mod check;
+mod compared;
 mod files;
 mod findings;
 mod items;
@@ -10,6 +11,7 @@ mod writes;
 
 pub use changes::{compared_count, file_of, is_grave, occurrence, service_at};
 pub use check::{Counts, Names, counts_of, names_of, path_of, stacks_of, text_at, word_at};
+pub use compared::{CompareLine, CompareLines, Head, Side, write_compared};
 pub use files::name_at;
 pub use findings::{CheckLine, CheckLines, write_check};
 pub use items::{StackLine, StackLines, write_stack};
