@@ -1,27 +1,21 @@
 -- The lines of whole answers, from what is read of their stacks.
 use Rattle.std.proofs.Common.{◌≡◌, ℕ, List, map, max, refl}
 use Rattle.std.specs.List.{flat_map}
-use Rattle.pam_conf.specs.Files.{Folder}
 use Rattle.pam_conf.specs.Stack.{Items, module_count}
 use Rattle.pam_conf.specs.declared.rule.Kind.{Kind}
 use Rattle.pam_json_lines.specs.Line.{line}
 use Rattle.pam_page.specs.Page.{first_page, text_by}
 use Rattle.pam_paths.specs.Paths.{PathValue}
-use Rattle.pam_report.specs.Reply.{PageValue, StackValue}
+use Rattle.pam_report.specs.Reply.{PageValue}
 use Rattle.pam_report.specs.ReplyViews.{outcome_view}
 use Rattle.pam_report.specs.declared.report.outcomes.Outcome as declared
 use Rattle.pam_json.specs.Header.{stack_members}
 use Rattle.pam_json.specs.Outcomes.{outcome_json}
 use Rattle.pam_json.specs.Paths.{last_json, path_json}
-use Rattle.pam_json.specs.Show.{items_json}
 
 pub stack_line-is : (service : List ℕ) (kind : Kind) (items : Items) {modules : ℕ} → modules ≡ module_count items
     → line (stack_members service kind modules) ≡ line (stack_members service kind (module_count items))
 stack_line-is service kind items counted = rw counted refl
-
-pub items-are : (stack : StackValue) {files : Folder} {items : Items} → files ≡ stack.files → items ≡ stack.items
-    → items_json files 0 items ≡ items_json stack.files 0 stack.items
-items-are stack e f = rw (e, f) refl
 
 pub outcomes-are : (items : Items) {named : Items} {one other : List declared.Outcome} → named ≡ items → one ≡ other
     → flat_map (outcome_json named) (map outcome_view one) ≡ flat_map (outcome_json items) (map outcome_view other)

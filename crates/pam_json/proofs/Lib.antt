@@ -1,5 +1,2 @@
 pub mod AnswerLines
-pub mod CheckLines
-pub mod CompareLines
-pub mod ItemLines
 pub mod PlainTexts

@@ -1,7 +1,7 @@
 -- The JSON of `check`: a line for each finding, and a last line with their numbers.
-use Rattle.std.specs.Prelude.{ℕ, ◌==◌, Bool, true, false, List, [], ◌∷◌, ◌++◌, codes, length, map, Option, None, Some, option_map, slice_index_or}
+use Rattle.std.specs.Prelude.{ℕ, ◌==◌, Bool, true, false, List, [], ◌∷◌, ◌++◌, codes, map, Option, None, Some, option_map, slice_index_or}
 use Rattle.std.specs.Prelude.{if◌then◌else◌}
-use Rattle.std.specs.List.{after_first, before_first, enumerate_from, flat_map}
+use Rattle.std.specs.List.{after_first, before_first}
 use Rattle.std.specs.Option.{option_map_or}
 use Rattle.pam_conf.specs.Stack.{Items}
 use Rattle.pam_conf.specs.declared.rule.Kind.{Kind}
@@ -20,7 +20,8 @@ use Rattle.pam_host.specs.declared.way_in.WayIn.{WayIn}
 use Rattle.pam_json_lines.specs.Line.{items_of, joined, kind, line, members_of, number_or_null, readable, readable_or_null}
 use Rattle.pam_known.specs.Answers.{name_of_path}
 use Rattle.pam_misspelled.specs.Misspelled.{MisspelledText}
-use Rattle.pam_parts.specs.Check.{Names, counts_of, names_of_value, path_of, stacks_of, text_at, word_at}
+use Rattle.pam_parts.specs.Check.{Names, path_of, stacks_of, text_at}
+use Rattle.pam_parts.specs.Findings.{Found, InTable, Last, Line, Unused, check_lines}
 use Rattle.pam_parts.specs.declared.check.Counts.{Counts}
 use Rattle.pam_report.specs.Decide.{path_at}
 use Rattle.pam_report.specs.Names.{problem_name, stack_of}
@@ -110,13 +111,6 @@ finding_members names place finding word =
 unfoldable pub finding_json : Names → Place → Finding → Option MisspelledText → List ℕ
 finding_json names place finding word = line (finding_members names place finding word)
 
-abbrev pub numbered_json : Names → List (Option MisspelledText) → ℕ × (Place × Finding) → List ℕ
-numbered_json names words entry = finding_json names entry.1.0 entry.1.1 (word_at words entry.0)
-
--- a line for each finding, each with the word at its position
-abbrev pub findings_json : Names → List (Option MisspelledText) → List (Place × Finding) → List ℕ
-findings_json names words found = flat_map (numbered_json names words) (enumerate_from 0 found)
-
 -- THE LINE of a problem that no stack meets
 abbrev pub no_stack_members : List (List ℕ × Data)
 no_stack_members = stack_members None None [] None (array no_items)
@@ -144,12 +138,13 @@ checked_members services counts =
 unfoldable pub checked_json : ℕ → Counts → List ℕ
 checked_json services counts = line (checked_members services counts)
 
--- the lines of findings, of problems of tables, and of lines of the accept file
-abbrev pub lines_json : CheckValue → List ℕ
-lines_json value =
-    findings_json (names_of_value value) value.misspelled value.found ++ flat_map (table_json value.table_paths) value.tables
-    ++ flat_map (unused_json value.accept) value.unused
+-- ONE LINE
+abbrev pub line_json : Line → List ℕ
+line_json (Found names entry word) = finding_json names entry.0 entry.1 word
+line_json (InTable paths finding) = table_json paths finding
+line_json (Unused accept at) = unused_json accept at
+line_json (Last services counts) = checked_json services counts
 
--- THE JSON of `check`
+-- THE JSON of `check`: which lines come, in which order, says `check_lines`
 abbrev pub check_json : CheckValue → List ℕ
-check_json value = lines_json value ++ checked_json (length value.services) (counts_of value.found value.tables value.unused)
+check_json value = check_lines line_json value

@@ -1,10 +1,11 @@
 -- The JSON of `show`: the stack of a service, rule by rule, in the order of pam.conf(5).
-use Rattle.std.specs.Prelude.{ℕ, ◌+◌, List, ◌∷◌, [], ◌++◌, codes}
+use Rattle.std.specs.Prelude.{ℕ, List, ◌∷◌, [], ◌++◌, codes}
 use Rattle.pam_codes.specs.ControlText.{control_text}
 use Rattle.pam_conf.specs.Files.{Folder}
-use Rattle.pam_conf.specs.Stack.{Items, End, ThenModule, ThenSub, ModuleText, SubText, module_count}
+use Rattle.pam_conf.specs.Stack.{ModuleText, SubText}
 use Rattle.pam_json_lines.specs.Line.{kind, line, readable, strings}
 use Rattle.pam_parts.specs.Files.{name_at}
+use Rattle.pam_parts.specs.Items.{Head, Line, Module, Sub, stack_lines}
 use Rattle.pam_report.specs.Reply.{StackValue}
 use Rattle.serde_json.specs.Data.{Data, boolean, number, string, unsigned}
 use Rattle.pam_json.specs.Header.{stack_members}
@@ -28,12 +29,12 @@ sub_members files depth s =
 unfoldable pub sub_json : Folder → ℕ → SubText → List ℕ
 sub_json files depth s = line (sub_members files depth s)
 
--- the lines of a list. The items of a substack are one substack deeper
-unfoldable pub items_json : Folder → ℕ → Items → List ℕ
-items_json files depth End = []
-items_json files depth (ThenModule m rest) = module_json files depth m ++ items_json files depth rest
-items_json files depth (ThenSub s inner rest) = sub_json files depth s ++ items_json files (depth + 1) inner ++ items_json files depth rest
+-- ONE LINE
+abbrev pub line_json : Line → List ℕ
+line_json (Head service kind modules) = line (stack_members service kind modules)
+line_json (Module files level m) = module_json files level m
+line_json (Sub files level s) = sub_json files level s
 
--- THE JSON of `show`
+-- THE JSON of `show`: which lines come, in which order, and in how many substacks, says `stack_lines`
 abbrev pub stack_json : StackValue → List ℕ
-stack_json stack = line (stack_members stack.service stack.kind (module_count stack.items)) ++ items_json stack.files 0 stack.items
+stack_json stack = stack_lines line_json stack

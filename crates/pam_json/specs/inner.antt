@@ -1,3 +1,2 @@
 -- What no public contract cites.
-pub mod Heads
 pub mod Written

@@ -1,22 +1,22 @@
 //! The JSON of `compare`: a line for each change, and a last line with their numbers.
 
-ghost use Rattle.std.specs.Prelude.{◌≡◌, None};
-ghost use Rattle.pam_codes.specs.Out.{Writes, WritesAndFlushes};
+ghost use Rattle.std.specs.Prelude.{◌≡◌};
+ghost use Rattle.pam_codes.specs.Out.{Writes};
 ghost use Rattle.pam_json_lines.specs.Line.{line};
-ghost use Rattle.pam_report.specs.ReplyViews.{compare_view};
-ghost use Rattle.pam_json.specs.Compare.{compare_json, compared_json, if_first, lines_after, next_stack, only_json, only_members, presence};
+ghost use Rattle.pam_json.specs.Compare.{compared_json, only_members};
 
 mod modules;
 mod pair;
 mod stack;
 mod values;
 
-use pam_changes::{ComparedService, ComparedStack, Counts};
+use crate::form::AsJson;
+use pair::{put_arguments, put_change, put_not_known, put_same};
+use pam_changes::Counts;
 use pam_codes::{Device, Out};
 use pam_json_lines::{Member, put_line};
-use pam_parts::compared_count;
-use pam_report::CompareReply;
-use stack::put_stack;
+use pam_parts::{CompareLine, CompareLines};
+use stack::{put_as, put_refused};
 use std::io::Write;
 
 /// Writes the line of a service that one configuration alone has.
@@ -33,74 +33,6 @@ fn put_only_line<W: Write>(
         Member::text("configuration", configuration),
     ];
     put_line(&members, out)
-}
-
-/// Writes which configuration alone has a service, but nothing for a service that both or neither has.
-fn put_only<W: Write>(service: &ComparedService, out: &mut Out<W>) -> Result<(), Device>
-    ensures { Writes W.contents out.old out.new result (only_json service.now) }
-{
-    match (service.in_old, service.in_new) {
-        (true, false) => put_only_line(&service.name, b"old", out),
-        (false, true) => put_only_line(&service.name, b"new", out),
-        _ => Ok(()),
-    }
-}
-
-fn put_presence<W: Write>(
-    services: &[ComparedService],
-    position: usize,
-    out: &mut Out<W>,
-) -> Result<(), Device>
-    ensures { Writes W.contents out.old out.new result (presence services.now position) }
-{
-    match services.get(position) {
-        Some(service) => put_only(service, out),
-        None => Ok(()),
-    }
-}
-
-/// The same, unless the stack before was of this service too.
-fn put_if_first<W: Write>(
-    services: &[ComparedService],
-    before: Option<usize>,
-    position: usize,
-    out: &mut Out<W>,
-) -> Result<(), Device>
-    ensures { Writes W.contents out.old out.new result (if_first services.now before position) }
-{
-    if before == Some(position) {
-        return Ok(());
-    }
-    put_presence(services, position, out)
-}
-
-/// Writes what changes in a stack, after a line for a service that only one configuration has.
-fn put_next_stack<W: Write>(
-    reply: &CompareReply<'_>,
-    before: Option<usize>,
-    stack: &ComparedStack,
-    out: &mut Out<W>,
-) -> Result<(), Device>
-    ensures { Writes W.contents out.old out.new result (next_stack (compare_view reply.now) before stack.now) }
-{
-    put_if_first(&reply.changes.services, before, stack.service, out)?;
-    put_stack(reply, stack, out)
-}
-
-/// Writes what changes in each stack.
-fn put_stacks<W: Write>(
-    reply: &CompareReply<'_>,
-    stacks: &[ComparedStack],
-    out: &mut Out<W>,
-) -> Result<(), Device>
-    ensures { Writes W.contents out.old out.new result (lines_after (compare_view reply.now) None stacks.now) }
-{
-    let mut before = None;
-    for stack in stacks {
-        put_next_stack(reply, before, stack, out)?;
-        before = Some(stack.service);
-    }
-    Ok(())
 }
 
 /// Writes the last line.
@@ -122,18 +54,31 @@ fn put_counts<W: Write>(stacks: usize, counts: Counts, out: &mut Out<W>) -> Resu
     put_line(&members, out)
 }
 
-/// Writes what changes, and flushes.
-pub(crate) fn write_compared<W: Write>(
-    reply: &CompareReply<'_>,
-    out: &mut Out<W>,
-) -> Result<(), Device>
-    ensures { WritesAndFlushes W.contents out.old out.new result (compare_json (compare_view reply.now)) }
-{
-    put_stacks(reply, &reply.changes.stacks, out)?;
-    put_counts(
-        compared_count(&reply.changes.stacks),
-        reply.changes.counts(),
-        out,
-    )?;
-    out.finish()
+impl CompareLines for AsJson {
+    ghost use Rattle.pam_json.specs.Compare.{line_json};
+
+    ghost line = { line_json };
+
+    fn put_line<W: Write>(&self, told: CompareLine<'_>, out: &mut Out<W>) -> Result<(), Device> {
+        match told {
+            CompareLine::OnlyInOld(name) => put_only_line(name, b"old", out),
+            CompareLine::OnlyInNew(name) => put_only_line(name, b"new", out),
+            CompareLine::Refused { head, old, new } => put_refused(head, old, new, out),
+            CompareLine::As { head, first } => put_as(head, first, out),
+            CompareLine::Arguments {
+                head,
+                pair,
+                matched,
+            } => put_arguments(head, pair, matched, out),
+            CompareLine::Change {
+                head,
+                pair,
+                change,
+                shown,
+            } => put_change(head, pair, change, shown, out),
+            CompareLine::Same { head, pair } => put_same(head, pair, out),
+            CompareLine::NotKnown(head) => put_not_known(head, out),
+            CompareLine::Last { stacks, counts } => put_counts(stacks, counts, out),
+        }
+    }
 }

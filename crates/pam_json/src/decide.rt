@@ -49,18 +49,18 @@ fn jump_of(action: Action) -> Option<u64>
 
 /// Writes the line of a module that is asked.
 #[tactic(auto, unfolding(crate::specs::Decide::step_json))]
-fn put_step<W: Write>(module: &AskedModule, out: &mut Out<W>) -> Result<(), Device>
-    ensures { Writes W.contents out.old out.new result (step_json (asked_view module.now)) }
+fn put_step<W: Write>(asked: &AskedModule, out: &mut Out<W>) -> Result<(), Device>
+    ensures { Writes W.contents out.old out.new result (step_json (asked_view asked.now)) }
 {
     let members: [Member<'_, ()>; 8] = [
         Member::text("kind", b"step"),
-        Member::number("number", module.number as u64),
-        Member::readable("path", &module.path),
-        Member::text("code", name_of(module.code)),
-        Member::text("action", action_name(module.action)),
-        Member::number_if_any("jump", jump_of(module.action)),
-        Member::text("impression", impression_name(module.state.impression)),
-        Member::text("status", name_of(module.state.status)),
+        Member::number("number", asked.number as u64),
+        Member::readable("path", &asked.path),
+        Member::text("code", name_of(asked.code)),
+        Member::text("action", action_name(asked.action)),
+        Member::number_if_any("jump", jump_of(asked.action)),
+        Member::text("impression", impression_name(asked.state.impression)),
+        Member::text("status", name_of(asked.state.status)),
     ];
     put_line(&members, out)
 }

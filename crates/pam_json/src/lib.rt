@@ -4,6 +4,7 @@
 mod check;
 mod compare;
 mod decide;
+mod form;
 mod header;
 mod outcomes;
 mod paths;

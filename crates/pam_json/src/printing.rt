@@ -3,15 +3,13 @@
 ghost use Rattle.pam_report.specs.ReplyViews.{reply_view};
 ghost use Rattle.pam_json.specs.Text.{PrintsIfAny};
 
-use crate::check::write_check;
-use crate::compare::write_compared;
 use crate::decide::write_run;
+use crate::form::AsJson;
 use crate::outcomes::write_outcomes;
 use crate::paths::write_page;
-use crate::show::write_stack;
 use crate::tables::{write_access, write_time};
 use pam_codes::Out;
-use pam_parts::told;
+use pam_parts::{told, write_check, write_compared, write_stack};
 use pam_report::{Fault, Reply};
 use std::alloc::Global;
 use std::io::Write;
@@ -27,14 +25,14 @@ pub fn print_if_any<W: Write>(
     ensures { PrintsIfAny W.contents out.old out.new result (reply_view reply.now) }
 {
     match reply {
-        Reply::Stack(stack) => Some(told(write_stack(alloc, stack, out))),
+        Reply::Stack(stack) => Some(told(write_stack(&AsJson, alloc, stack, out))),
         Reply::Run(run) => Some(told(write_run(run, out))),
         Reply::Access(answer) => Some(told(write_access(*answer, out))),
         Reply::Time(answer) => Some(told(write_time(*answer, out))),
         Reply::Outcomes(outcomes) => Some(told(write_outcomes(outcomes, out))),
         Reply::Paths(page) => Some(write_page(alloc, page, out)),
-        Reply::Check(check) => Some(write_check(alloc, check, out)),
-        Reply::Compared(compared) => Some(told(write_compared(compared, out))),
+        Reply::Check(check) => Some(write_check(&AsJson, alloc, check, out)),
+        Reply::Compared(compared) => Some(told(write_compared(&AsJson, compared, out))),
         _ => None,
     }
 }

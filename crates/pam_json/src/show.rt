@@ -1,22 +1,18 @@
 //! The JSON of `show`: the stack, rule by rule.
 
-ghost use Rattle.std.specs.Prelude.{◌≡◌, ◌+◌, ◌≤◌};
 ghost use Rattle.json.specs.Print.{quoted};
 ghost use Rattle.pam_codes.specs.ControlText.{control_text};
-ghost use Rattle.pam_codes.specs.Out.{Writes, WritesAndFlushes};
-ghost use Rattle.pam_conf.specs.ItemsOf.{items_of, module_text};
-ghost use Rattle.pam_conf.specs.Stack.{depth};
-ghost use Rattle.pam_report.specs.ReplyViews.{stack_view};
-ghost use Rattle.pam_json.specs.Show.{items_json, module_json, stack_json, sub_json};
+ghost use Rattle.pam_codes.specs.Out.{Writes};
+ghost use Rattle.pam_conf.specs.ItemsOf.{module_text};
+ghost use Rattle.pam_json.specs.Show.{module_json, sub_json};
 
+use crate::form::AsJson;
 use crate::header::put_stack;
 use pam_codes::{Control, Device, Out};
-use pam_conf::{Files, Form, Item, Module, Sub};
+use pam_conf::{Files, Module, Sub};
 use pam_json_lines::{Member, Written, put_line, put_strings};
-use pam_parts::name_at;
-use pam_report::StackReply;
+use pam_parts::{StackLine, StackLines, name_at};
 use pam_text::Texts;
-use std::alloc::Global;
 use std::io::Write;
 
 /// Writes a control as a string. It has no byte to be escaped.
@@ -89,46 +85,24 @@ fn put_sub<W: Write>(files: &Files, depth: usize, sub: &Sub, out: &mut Out<W>) -
     put_line(&members, out)
 }
 
-/// Writes the items of a list. Those of a substack are one substack deeper.
-fn put_items<W: Write>(
-    files: &Files,
-    level: usize,
-    items: &[Item],
-    out: &mut Out<W>,
-) -> Result<(), Device>
-    requires shallow { level + depth (items_of items.now) ≤ 16 }
-    ensures { Writes W.contents out.old out.new result (items_json files.now level (items_of items.now)) }
-{
-    for item in items {
-        match item {
-            Item::Module(module) => put_module(files, level, module, out)?,
-            Item::Sub(sub) => {
-                put_sub(files, level, sub, out)?;
-                put_items(files, level + 1, &sub.items, out)?;
-            }
+impl StackLines for AsJson {
+    ghost use Rattle.pam_json.specs.Show.{line_json};
+
+    ghost line = { line_json };
+
+    fn put_line<W: Write>(&self, told: StackLine<'_>, out: &mut Out<W>) -> Result<(), Device> {
+        match told {
+            StackLine::Head {
+                service,
+                kind,
+                modules,
+            } => put_stack(service, kind, modules, out),
+            StackLine::Module {
+                files,
+                level,
+                module,
+            } => put_module(files, level, module, out),
+            StackLine::Sub { files, level, sub } => put_sub(files, level, sub, out),
         }
-    }
-    Ok(())
-}
-
-fn write_in<W: Write>(reply: &StackReply<'_>, files: &Files, out: &mut Out<W>) -> Result<(), Device>
-    requires { (stack_view reply.now).files ≡ files.now }
-    ensures { WritesAndFlushes W.contents out.old out.new result (stack_json (stack_view reply.now)) }
-{
-    put_stack(reply.service, reply.kind, reply.stack.modules(), out)?;
-    put_items(files, 0, reply.stack.items(), out)?;
-    out.finish()
-}
-
-pub(crate) fn write_stack<W: Write>(
-    alloc: Global,
-    reply: &StackReply<'_>,
-    out: &mut Out<W>,
-) -> Result<(), Device>
-    ensures { WritesAndFlushes W.contents out.old out.new result (stack_json (stack_view reply.now)) }
-{
-    match reply.files {
-        Some(files) => write_in(reply, files, out),
-        None => write_in(reply, &Files::new(alloc, Form::Dir), out),
     }
 }

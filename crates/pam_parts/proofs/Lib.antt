@@ -1,2 +1,5 @@
+mod ComparedLines
+mod FindingLines
+mod ItemLines
 mod PathLists
 pub mod Printed

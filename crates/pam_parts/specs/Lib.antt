@@ -1,7 +1,13 @@
 pub mod Changes
 pub mod Check
 pub mod CheckNames
+pub mod Compared
+pub mod ComparedView
 pub mod Files
+pub mod Findings
+pub mod FindingsView
+pub mod Items
+pub mod ItemsView
 pub mod Pages
 pub mod Prints
 pub mod Ways

@@ -1,14 +1,20 @@
-//! Parts of replies that each form of an answer tells.
+//! Parts of replies that each form of an answer tells, and the walks over their lines.
 #![tactic(auto)]
 
 mod changes;
 mod check;
+mod compared;
 mod files;
+mod findings;
+mod items;
 mod module_paths;
 mod writes;
 
 pub use changes::{compared_count, file_of, is_grave, occurrence, service_at};
 pub use check::{Counts, Names, counts_of, names_of, path_of, stacks_of, text_at, word_at};
+pub use compared::{CompareLine, CompareLines, Head, Side, write_compared};
 pub use files::name_at;
+pub use findings::{CheckLine, CheckLines, write_check};
+pub use items::{StackLine, StackLines, write_stack};
 pub use module_paths::ModulePaths;
 pub use writes::told;

@@ -1,21 +1,12 @@
 -- The texts of `compare`, part by part.
-use Rattle.std.proofs.Common.{◌≡◌, ◌∙◌, ℕ, ◌+◌, ◌<◌, Bool, ◌||◌, true, List, [], ◌∷◌, ◌++◌, Option, Some, None, ap, ap₂, add-one, append-nil, append_assoc}
-use Rattle.std.proofs.Common.{codes, drop, drop-cons, get_or, length, refl, sym}
+use Rattle.std.proofs.Common.{◌≡◌, ◌∙◌, ℕ, Bool, ◌||◌, true, List, [], ◌∷◌, ◌++◌, ap, ap₂, append-nil, append_assoc, codes, refl, sym}
 use Rattle.std.specs.List.{flat_map}
-use Rattle.pam_changes.specs.Counts.{counts_of}
-use Rattle.pam_changes.specs.declared.counts.Counts.{Counts}
 use Rattle.pam_changes.specs.declared.pair.StackPair.{StackPair}
-use Rattle.pam_changes.specs.declared.stacks.ComparedStack.{ComparedStack}
-use Rattle.pam_changes.specs.declared.stacks.StackChange.TheVariants.{NoStack}
 use Rattle.pam_changes.specs.declared.steps.AskedModule.{AskedModule}
 use Rattle.pam_conf.specs.Stack.{Items}
-use Rattle.pam_conf.specs.declared.rule.Kind.TheVariants.{Auth}
-use Rattle.pam_parts.specs.Changes.{compared_count}
-use Rattle.pam_report.specs.Reply.{CompareValue}
 use Rattle.pam_text.proofs.TextSteps.{unequal}
 use Rattle.pam_print.specs.Check.{counted}
-use Rattle.pam_print.specs.Compare.{asked_text, asked_texts, compare_text, has_any, last_line, lines_after, moved_text, next_asked}
-use Rattle.pam_print.specs.Compare.{next_stack, numbered, numbered_text, only_count}
+use Rattle.pam_print.specs.Compare.{asked_text, asked_texts, has_any, moved_text, next_asked, numbered, numbered_text, only_count}
 
 -- the first and the others of a list
 pub numbered-is : (items : Items) (change : List ℕ) (more : Bool) (all : List ℕ) (first : ℕ) (others : List ℕ) → all ≡ first ∷ others
@@ -69,28 +60,3 @@ pub moved-are : (pair : StackPair) (more any after : Bool) (moved controls : Lis
 moved-are pair more any after moved controls a m b n =
     ap (λ t. numbered pair.new (codes "moved") more pair.modules.moved.items ++ t)
     (ap₂ (numbered pair.new (codes "with another control")) (b ∙ ap (λ t. more || t) (a ∙ ap has_any m)) n)
-
--- ALL STACKS
-
--- what an index past the end would give
-abbrev pub no-stack : ComparedStack
-no-stack = record { service = 0; kind = Auth; change = NoStack }
-
--- the service of the stack at an index
-abbrev pub next-service : List ComparedStack → ℕ → Option ℕ
-next-service stacks i = Some (get_or stacks i no-stack).service
-
--- the lines of the stacks before the i-th, of that stack and of the others
-pub lines-at : (value : CompareValue) (stacks : List ComparedStack) (before : Option ℕ) (front text : List ℕ) (i : ℕ) → i < length stacks
-    → front ++ lines_after value before (drop i stacks) ≡ text
-    → (front ++ next_stack value before (get_or stacks i no-stack)) ++ lines_after value (next-service stacks i) (drop (i + 1) stacks) ≡ text
-lines-at value stacks before front text i h e =
-    let at : drop i stacks ≡ get_or stacks i no-stack ∷ drop (i + 1) stacks = rw add-one (drop-cons stacks i no-stack h) in
-    append_assoc front _ _ ∙ ap (λ (xs : List ComparedStack). front ++ lines_after value before xs) (sym at) ∙ e
-
--- the whole text
-pub all-lines-are : (value : CompareValue) (one other : List ComparedStack) (count : ℕ) (counts : Counts) → one ≡ value.changes.stacks.items
-    → other ≡ value.changes.stacks.items → count ≡ compared_count other → counts ≡ counts_of value.changes
-    → lines_after value None one ++ last_line count counts ≡ compare_text value
-all-lines-are value one other count counts e f n c =
-    ap₂ (λ xs t. lines_after value None xs ++ t) e (ap₂ last_line (n ∙ ap compared_count f) c)

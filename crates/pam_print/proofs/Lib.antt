@@ -5,7 +5,6 @@ pub mod CompareTexts
 pub mod Drawings
 pub mod ExplainTexts
 pub mod FlatTexts
-pub mod ItemTexts
 pub mod Leaving
 pub mod ListTexts
 pub mod OutcomeTexts

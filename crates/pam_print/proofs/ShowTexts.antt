@@ -5,11 +5,10 @@ use Rattle.std.specs.Prelude.{replicate}
 use Rattle.std.specs.List.{concat, flat_map}
 use Rattle.pam_codes.specs.ControlText.{control_text}
 use Rattle.pam_conf.specs.Files.{Folder}
-use Rattle.pam_conf.specs.Stack.{Items, ModuleText, SubText, module_count}
+use Rattle.pam_conf.specs.Stack.{ModuleText, SubText}
 use Rattle.pam_page.proofs.FlatTexts.{flat_map-at}
-use Rattle.pam_report.specs.Reply.{StackValue}
-use Rattle.pam_print.specs.Header.{header_text, name_at}
-use Rattle.pam_print.specs.Show.{indent, items_text, module_front, module_line, place_text, sub_line, words_text}
+use Rattle.pam_print.specs.Header.{name_at}
+use Rattle.pam_print.specs.Show.{indent, module_front, module_line, place_text, sub_line, words_text}
 use Rattle.pam_print.specs.WordText.{word_text}
 
 -- LEVELS
@@ -61,13 +60,3 @@ pub sub_line-is : (files : Folder) (level : ℕ) (t s : SubText) (name : List �
     indent level ++ codes "sub " ++ place_text files t.file t.line ++ concat (codes " " ∷ name ∷ codes "\n" ∷ []) ≡ sub_line files level s
 unfolding sub_line
 sub_line-is files level t s name e f = rw f (ap (λ (u : SubText). sub_line files level u) e)
-
--- THE STACK
-
-pub header-is : (stack : StackValue) {modules : ℕ} → modules ≡ module_count stack.items
-    → header_text stack.service stack.kind modules ≡ header_text stack.service stack.kind (module_count stack.items)
-header-is stack counted = rw counted refl
-
-pub items-are : (stack : StackValue) {files : Folder} {items : Items} → files ≡ stack.files → items ≡ stack.items
-    → items_text files 0 items ≡ items_text stack.files 0 stack.items
-items-are stack e f = rw (e, f) refl

@@ -1,7 +1,7 @@
 -- The text of `check`: a line for each finding, and a last line with their numbers.
 use Rattle.std.specs.Prelude.{ℕ, ◌-◌, ◌==◌, ◌||◌, nat_lt, Bool, false, List, [], ◌∷◌, ◌++◌, codes}
-use Rattle.std.specs.Prelude.{decimal, length, if◌then◌else◌, Option, None, Some, slice_index_or}
-use Rattle.std.specs.List.{enumerate_from, flat_map}
+use Rattle.std.specs.Prelude.{decimal, if◌then◌else◌, Option, None, Some, slice_index_or}
+use Rattle.std.specs.List.{flat_map}
 use Rattle.std.specs.Option.{option_map_or}
 use Rattle.pam_conf.specs.Stack.{Items}
 use Rattle.pam_conf.specs.declared.rule.Form.{Form}
@@ -18,7 +18,8 @@ use Rattle.pam_host.specs.declared.way_in.Answered.{Answered}
 use Rattle.pam_host.specs.declared.way_in.WayIn.{WayIn}
 use Rattle.pam_known.specs.Answers.{name_of_path}
 use Rattle.pam_misspelled.specs.Misspelled.{MisspelledText}
-use Rattle.pam_parts.specs.Check.{Names, counts_of, names_of_value, path_of, stacks_of, text_at, word_at}
+use Rattle.pam_parts.specs.Check.{Names, path_of, stacks_of, text_at}
+use Rattle.pam_parts.specs.Findings.{Found, InTable, Last, Line, Unused, check_lines}
 use Rattle.pam_parts.specs.declared.check.Counts.{Counts}
 use Rattle.pam_report.specs.Decide.{path_at}
 use Rattle.pam_report.specs.Names.{problem_name, stack_of}
@@ -127,13 +128,6 @@ finding_line names entry word =
     place_text names.paths entry.0 ++ say.level_name (level_of entry.1.problem) ++ codes ": " ++ problem_name entry.1.problem ++ codes ": "
     ++ sentence names entry.0.line entry.1.met entry.1.problem word ++ codes "\n"
 
-abbrev pub numbered_line : Names → List (Option MisspelledText) → ℕ × (Place × Finding) → List ℕ
-numbered_line names words entry = finding_line names entry.1 (word_at words entry.0)
-
--- a line for each finding, each with the word at its position
-abbrev pub findings_text : Names → List (Option MisspelledText) → List (Place × Finding) → List ℕ
-findings_text names words found = flat_map (numbered_line names words) (enumerate_from 0 found)
-
 -- A LINE FOR A PROBLEM OF A TABLE: `PATH:LINE: LEVEL: NUMBER NAME: SENTENCE`
 abbrev pub table_place : TablePathsText → TableFinding → List ℕ
 table_place paths finding = shown_name (path_of_table paths finding.table) ++ line_text finding.line ++ codes ": "
@@ -167,12 +161,13 @@ last_line services counts =
 unfoldable pub unused_line : List ℕ → ℕ → List ℕ
 unused_line accept line = shown_name accept ++ codes ":" ++ decimal line ++ codes ": warning: S8 NothingAccepted: " ++ say.unused_sentence ++ codes "\n"
 
--- the lines of findings, of problems of tables, and of lines of the accept file
-abbrev pub lines_text : CheckValue → List ℕ
-lines_text value =
-    findings_text (names_of_value value) value.misspelled value.found ++ flat_map (table_line value.table_paths) value.tables
-    ++ flat_map (unused_line value.accept) value.unused
+-- ONE LINE
+abbrev pub check_line : Line → List ℕ
+check_line (Found names entry word) = finding_line names entry word
+check_line (InTable paths finding) = table_line paths finding
+check_line (Unused accept line) = unused_line accept line
+check_line (Last services counts) = last_line services counts
 
--- THE TEXT of `check`
+-- THE TEXT of `check`: which lines come, in which order, says `check_lines`
 abbrev pub check_text : CheckValue → List ℕ
-check_text value = lines_text value ++ last_line (length value.services) (counts_of value.found value.tables value.unused)
+check_text value = check_lines check_line value

@@ -1,28 +1,20 @@
 -- The text of `compare`: a line for each change, and a last line with their numbers.
 use Rattle.std.specs.Prelude.{ℕ, ◌==◌, ◌||◌, nat_lt, Bool, true, false, List, [], ◌∷◌, ◌++◌, codes, decimal, if◌then◌else◌}
-use Rattle.std.specs.Prelude.{Option, None, Some, slice_get}
+use Rattle.std.specs.Prelude.{Option, None, Some}
 use Rattle.std.specs.List.{flat_map}
 use Rattle.std.specs.Option.{option_map_or}
-use Rattle.pam_changes.specs.Counts.{counts_of}
 use Rattle.pam_changes.specs.declared.counts.Counts.{Counts}
 use Rattle.pam_changes.specs.declared.modules.MatchedPair.{MatchedPair}
-use Rattle.pam_changes.specs.declared.pair.Decisions.{Decisions}
-use Rattle.pam_changes.specs.declared.pair.Decisions.TheVariants.{Known, NotKnown}
 use Rattle.pam_changes.specs.declared.pair.Shown.{Shown}
-use Rattle.pam_changes.specs.declared.pair.ShownChanges.{ShownChanges}
 use Rattle.pam_changes.specs.declared.pair.StackPair.{StackPair}
-use Rattle.pam_changes.specs.declared.services.ComparedService.{ComparedService}
-use Rattle.pam_changes.specs.declared.stacks.ComparedStack.{ComparedStack}
-use Rattle.pam_changes.specs.declared.stacks.StackChange.{StackChange}
-use Rattle.pam_changes.specs.declared.stacks.StackChange.TheVariants as changes
 use Rattle.pam_changes.specs.declared.steps.AskedModule.{AskedModule}
 use Rattle.pam_changes.specs.declared.steps.AskedModule.TheVariants.{Old, New, Both}
 use Rattle.pam_compare.specs.declared.comparing.TheConstants.{MAX_SITUATIONS}
 use Rattle.pam_conf.specs.Files.{Folder}
 use Rattle.pam_conf.specs.Stack.{Items, module_at}
 use Rattle.pam_conf.specs.declared.conf_error.ConfError.{ConfError}
-use Rattle.pam_conf.specs.declared.rule.Kind.{Kind}
-use Rattle.pam_parts.specs.Changes.{compared_count, is_grave, occurrence, service_at}
+use Rattle.pam_parts.specs.Changes.{occurrence}
+use Rattle.pam_parts.specs.Compared.{Arguments, As, Change, Head, Last, Line, NotKnown, OnlyInNew, OnlyInOld, Refused, Same, Side, compared_lines}
 use Rattle.pam_report.specs.Decide.{path_at}
 use Rattle.pam_report.specs.Fault.{file_at}
 use Rattle.pam_report.specs.FaultTable.{conf_row}
@@ -54,11 +46,6 @@ arguments_text items number = option_map_or (λ m. spaced false m.arguments) (mo
 
 -- TWO STACKS
 
--- the service and the kind with which a line begins
-pub record Head : Type 0 where
-  pub service : List ℕ
-  pub kind : Kind
-
 -- `SERVICE KIND`
 abbrev pub head_text : Head → List ℕ
 head_text head = shown_name head.service ++ codes " " ++ kind_name head.kind
@@ -82,9 +69,6 @@ unfoldable pub change_line : Head → StackPair → List ℕ → Shown → List 
 change_line head pair change shown =
     head_text head ++ codes " " ++ change ++ codes ": " ++ code_name shown.witness.old ++ codes " becomes " ++ code_name shown.witness.new
     ++ codes " where " ++ asked_texts pair shown.asked.items ++ codes "\n"
-
-abbrev pub change_if_any : Head → StackPair → List ℕ → Option Shown → List ℕ
-change_if_any head pair change shown = option_map_or (change_line head pair change) shown []
 
 -- a colon before the first, a comma before each other
 abbrev pub separator : Bool → List ℕ
@@ -125,39 +109,15 @@ module_changes pair =
 unfoldable pub same_line : Head → StackPair → List ℕ
 same_line head pair = head_text head ++ codes " same decisions" ++ module_changes pair ++ codes "\n"
 
-abbrev pub tells_text : Head → StackPair → Option Shown → List ℕ
-tells_text head pair None = same_line head pair
-tells_text head pair (Some shown) = change_line head pair (codes "tells") shown
-
--- who is let in now, and who no longer
-abbrev pub grave_text : Head → StackPair → ShownChanges → List ℕ
-grave_text head pair changes =
-    change_if_any head pair (codes "admits") changes.admits ++ change_if_any head pair (codes "refuses") changes.refuses
-
--- another failure only where nobody is let in and nobody no longer
-abbrev pub changes_text : Head → StackPair → ShownChanges → List ℕ
-changes_text head pair changes = if is_grave changes then grave_text head pair changes else tells_text head pair changes.tells
-
 -- `SERVICE KIND not known: more than N situations`
 unfoldable pub not_known_line : Head → List ℕ
 not_known_line head = head_text head ++ codes " not known: more than " ++ decimal MAX_SITUATIONS ++ codes " situations\n"
-
-abbrev pub decisions_in : Head → StackPair → Decisions → List ℕ
-decisions_in head pair (Known changes) = changes_text head pair changes
-decisions_in head pair NotKnown = not_known_line head
-
-unfoldable pub decisions_text : Head → StackPair → List ℕ
-decisions_text head pair = decisions_in head pair pair.decisions
 
 -- `SERVICE KIND arguments of MODULE: "ARGUMENTS" becomes "ARGUMENTS"`
 unfoldable pub argument_line : Head → StackPair → MatchedPair → List ℕ
 argument_line head pair matched =
     head_text head ++ codes " arguments of " ++ module_text pair.new matched.new ++ codes ": \"" ++ arguments_text pair.old matched.old
     ++ codes "\" becomes \"" ++ arguments_text pair.new matched.new ++ codes "\"\n"
-
--- THE LINES of two stacks
-unfoldable pub pair_text : Head → StackPair → List ℕ
-pair_text head pair = flat_map (argument_line head pair) pair.modules.arguments.items ++ decisions_text head pair
 
 -- A STACK
 
@@ -175,59 +135,13 @@ side_text files None = codes "accepted"
 side_text files (Some fault) = fault_text files fault
 
 -- `SERVICE KIND refused: old FAULT, new FAULT`
-unfoldable pub refused_line : CompareValue → Head → Option ConfError → Option ConfError → List ℕ
-refused_line value head old new =
-    head_text head ++ codes " refused: old " ++ side_text value.old old ++ codes ", new " ++ side_text value.new new ++ codes "\n"
+unfoldable pub refused_line : Head → Side → Side → List ℕ
+refused_line head old new =
+    head_text head ++ codes " refused: old " ++ side_text old.files old.fault ++ codes ", new " ++ side_text new.files new.fault ++ codes "\n"
 
 -- `SERVICE KIND as SERVICE KIND`
 unfoldable pub as_line : Head → Head → List ℕ
 as_line head first = head_text head ++ codes " as " ++ head_text first ++ codes "\n"
-
--- the lines of two stacks, or at which service they were met first. All stacks of a pair are of one kind
-abbrev pub pair_at : CompareValue → ComparedStack → StackPair → List ℕ
-pair_at value stack pair =
-    let services = value.changes.services.items in
-    let head : Head = record { service = service_at services stack.service; kind = stack.kind } in
-    let first : Head = record { service = service_at services pair.service; kind = pair.kind } in
-    if stack.service == pair.service then pair_text head pair else as_line head first
-
-abbrev pub stack_in : CompareValue → ComparedStack → StackChange → List ℕ
-stack_in value stack changes.NoStack = []
-stack_in value stack changes.Same = []
-stack_in value stack (changes.Refused old new) =
-    refused_line value (record { service = service_at value.changes.services.items stack.service; kind = stack.kind }) old new
-stack_in value stack (changes.Differs position) = option_map_or (pair_at value stack) (slice_get value.changes.pairs.items position) []
-
--- THE LINES of a stack, none if nothing changes in it
-unfoldable pub stack_text : CompareValue → ComparedStack → List ℕ
-stack_text value stack = stack_in value stack stack.change
-
--- ALL STACKS
-
--- which configuration alone has a service
-abbrev pub only_in : List ℕ → Bool → Bool → List ℕ
-only_in name true false = shown_name name ++ codes " only in old\n"
-only_in name false true = shown_name name ++ codes " only in new\n"
-only_in name in_old in_new = []
-
-abbrev pub only_text : ComparedService → List ℕ
-only_text service = only_in service.name.items service.in_old service.in_new
-
-abbrev pub presence : List ComparedService → ℕ → List ℕ
-presence services position = option_map_or only_text (slice_get services position) []
-
--- the same, unless the stack before was of this service too
-abbrev pub if_first : List ComparedService → Option ℕ → ℕ → List ℕ
-if_first services before position = if option_map_or (λ b. b == position) before false then [] else presence services position
-
--- the lines of a stack, after that of its service
-abbrev pub next_stack : CompareValue → Option ℕ → ComparedStack → List ℕ
-next_stack value before stack = if_first value.changes.services.items before stack.service ++ stack_text value stack
-
--- the lines of stacks, before the first of which came one of this service
-abbrev pub lines_after : CompareValue → Option ℕ → List ComparedStack → List ℕ
-lines_after value before [] = []
-lines_after value before (stack ∷ stacks) = next_stack value before stack ++ lines_after value (Some stack.service) stacks
 
 -- THE LAST LINE
 
@@ -243,7 +157,18 @@ last_line stacks counts =
     ++ decimal counts.not_known ++ codes " not known" ++ only_count counts.only_in_old (codes " only in old")
     ++ only_count counts.only_in_new (codes " only in new") ++ codes "\n"
 
--- THE TEXT of `compare`
+-- ONE LINE
+abbrev pub line_text : Line → List ℕ
+line_text (OnlyInOld name) = shown_name name ++ codes " only in old\n"
+line_text (OnlyInNew name) = shown_name name ++ codes " only in new\n"
+line_text (Refused head old new) = refused_line head old new
+line_text (As head first) = as_line head first
+line_text (Arguments head pair matched) = argument_line head pair matched
+line_text (Change head pair change shown) = change_line head pair change shown
+line_text (Same head pair) = same_line head pair
+line_text (NotKnown head) = not_known_line head
+line_text (Last stacks counts) = last_line stacks counts
+
+-- THE TEXT of `compare`: which lines come, in which order, says `compared_lines`
 abbrev pub compare_text : CompareValue → List ℕ
-compare_text value =
-    lines_after value None value.changes.stacks.items ++ last_line (compared_count value.changes.stacks.items) (counts_of value.changes)
+compare_text value = compared_lines line_text value

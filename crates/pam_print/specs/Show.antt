@@ -1,9 +1,10 @@
 -- The text of `show`: the stack of a service, rule by rule, in the order of pam.conf(5).
-use Rattle.std.specs.Prelude.{ℕ, ◌+◌, Bool, true, false, List, ◌∷◌, [], ◌++◌, codes, decimal, replicate, ◌*◌}
+use Rattle.std.specs.Prelude.{ℕ, Bool, true, false, List, ◌∷◌, [], ◌++◌, codes, decimal, replicate, ◌*◌}
 use Rattle.std.specs.List.{concat, flat_map}
 use Rattle.pam_codes.specs.ControlText.{control_text}
 use Rattle.pam_conf.specs.Files.{Folder}
-use Rattle.pam_conf.specs.Stack.{Items, End, ThenModule, ThenSub, ModuleText, SubText, module_count}
+use Rattle.pam_conf.specs.Stack.{ModuleText, SubText}
+use Rattle.pam_parts.specs.Items.{Head, Line, Module, Sub, stack_lines}
 use Rattle.pam_report.specs.Reply.{StackValue}
 use Rattle.pam_print.specs.Header.{header_text, name_at}
 use Rattle.pam_print.specs.WordText.{word_text}
@@ -40,12 +41,12 @@ unfoldable pub sub_line : Folder → ℕ → SubText → List ℕ
 sub_line files level s =
     indent level ++ codes "sub " ++ place_text files s.file s.line ++ concat (codes " " ∷ name_at files s.target ∷ codes "\n" ∷ [])
 
--- the lines of a list at a level. The items of a substack are one level deeper
-unfoldable pub items_text : Folder → ℕ → Items → List ℕ
-items_text files level End = []
-items_text files level (ThenModule m rest) = module_line files level m ++ items_text files level rest
-items_text files level (ThenSub s inner rest) = sub_line files level s ++ items_text files (level + 1) inner ++ items_text files level rest
+-- ONE LINE
+abbrev pub line_text : Line → List ℕ
+line_text (Head service kind modules) = header_text service kind modules
+line_text (Module files level m) = module_line files level m
+line_text (Sub files level s) = sub_line files level s
 
--- THE TEXT of `show`
+-- THE TEXT of `show`: which lines come, in which order, and at which level, says `stack_lines`
 abbrev pub stack_text : StackValue → List ℕ
-stack_text stack = header_text stack.service stack.kind (module_count stack.items) ++ items_text stack.files 0 stack.items
+stack_text stack = stack_lines line_text stack

@@ -90,11 +90,11 @@ fn put_path<W: Write>(number: usize, path: &[u8], out: &mut Out<W>) -> Result<()
 }
 
 /// Writes the line of a module that is asked.
-fn put_asked<W: Write>(module: &AskedModule, out: &mut Out<W>) -> Result<(), Device>
-    ensures { Writes W.contents out.old out.new result (asked_text (asked_view module.now)) }
+fn put_asked<W: Write>(asked: &AskedModule, out: &mut Out<W>) -> Result<(), Device>
+    ensures { Writes W.contents out.old out.new result (asked_text (asked_view asked.now)) }
 {
-    put_path(module.number, &module.path, out)?;
-    put_outcome(module.code, module.action, module.state, out)
+    put_path(asked.number, &asked.path, out)?;
+    put_outcome(asked.code, asked.action, asked.state, out)
 }
 
 /// Writes the lines of the modules that are asked.

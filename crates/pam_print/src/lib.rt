@@ -7,6 +7,7 @@ mod compare;
 mod decide;
 mod drawing;
 mod explain;
+mod form;
 mod header;
 mod outcomes;
 mod paths;

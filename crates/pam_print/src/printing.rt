@@ -8,19 +8,17 @@ ghost use Rattle.pam_print.specs.Text.{IsTextIn};
 ghost use Rattle.pam_words.specs.declared.wanted.OutputForm.TheVariants.{Json};
 
 use crate::about::{write_known, write_version};
-use crate::check::write_check;
-use crate::compare::write_compared;
 use crate::decide::write_run;
 use crate::drawing::write_drawing;
 use crate::explain::{write_explanation, write_explanations};
+use crate::form::AsText;
 use crate::outcomes::write_outcomes;
 use crate::paths::write_page;
 use crate::released::write_released;
-use crate::show::write_stack;
 use crate::tables::{write_access, write_time};
 use pam_codes::Out;
 use pam_json::print_if_any;
-use pam_parts::told;
+use pam_parts::{told, write_check, write_compared, write_stack};
 use pam_report::{Fault, Inputs, Reply, Status, reply_to};
 use pam_words::{OutputForm, Request};
 use std::alloc::Global;
@@ -59,14 +57,14 @@ fn print_text<W: Write>(alloc: Global, reply: &Reply<'_>, out: &mut Out<W>) -> R
     ensures { Prints W.contents out.old out.new result (reply_view reply.now) }
 {
     match reply {
-        Reply::Stack(stack) => told(write_stack(alloc, stack, out)),
+        Reply::Stack(stack) => told(write_stack(&AsText, alloc, stack, out)),
         Reply::Released(rules) => told(write_released(rules, out)),
         Reply::Run(run) => told(write_run(run, out)),
         Reply::Access(answer) => told(write_access(*answer, out)),
         Reply::Time(answer) => told(write_time(*answer, out)),
         Reply::Outcomes(outcomes) => told(write_outcomes(outcomes, out)),
-        Reply::Check(check) => write_check(alloc, check, out),
-        Reply::Compared(compared) => told(write_compared(compared, out)),
+        Reply::Check(check) => write_check(&AsText, alloc, check, out),
+        Reply::Compared(compared) => told(write_compared(&AsText, compared, out)),
         Reply::Explained(explanation) => told(write_explanation(explanation, out)),
         Reply::Explanations => told(write_explanations(out)),
         Reply::Facts => told(write_known(out)),

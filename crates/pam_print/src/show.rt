@@ -1,21 +1,18 @@
 //! The `show` command: the stack, rule by rule.
 
-ghost use Rattle.std.specs.Prelude.{◌≡◌, ◌+◌, ◌≤◌, ◌++◌, codes};
-ghost use Rattle.pam_codes.specs.Out.{Writes, WritesAndFlushes};
-ghost use Rattle.pam_conf.specs.ItemsOf.{items_of, module_text};
-ghost use Rattle.pam_conf.specs.Stack.{depth};
-ghost use Rattle.pam_report.specs.ReplyViews.{stack_view};
-ghost use Rattle.pam_print.specs.Show.{dash_text, indent, items_text, module_front, module_line, place_text, stack_text, sub_line, words_text};
+ghost use Rattle.std.specs.Prelude.{◌++◌, codes};
+ghost use Rattle.pam_codes.specs.Out.{Writes};
+ghost use Rattle.pam_conf.specs.ItemsOf.{module_text};
+ghost use Rattle.pam_print.specs.Show.{dash_text, indent, module_front, module_line, place_text, sub_line, words_text};
 ghost use Rattle.pam_print.specs.WordText.{word_text};
 
+use crate::form::AsText;
 use crate::header::put_header;
 use crate::word::put_word;
 use pam_codes::{Device, Out, Piece};
-use pam_conf::{Files, Form, Item, Module, Sub};
-use pam_parts::name_at;
-use pam_report::StackReply;
+use pam_conf::{Files, Module, Sub};
+use pam_parts::{StackLine, StackLines, name_at};
 use pam_text::Texts;
-use std::alloc::Global;
 use std::io::Write;
 
 /// Writes two spaces per level.
@@ -120,46 +117,24 @@ fn put_sub<W: Write>(files: &Files, level: usize, sub: &Sub, out: &mut Out<W>) -
     ])
 }
 
-/// Writes the items of a list at a level. Those of a substack are one level deeper.
-fn put_items<W: Write>(
-    files: &Files,
-    level: usize,
-    items: &[Item],
-    out: &mut Out<W>,
-) -> Result<(), Device>
-    requires shallow { level + depth (items_of items.now) ≤ 16 }
-    ensures { Writes W.contents out.old out.new result (items_text files.now level (items_of items.now)) }
-{
-    for item in items {
-        match item {
-            Item::Module(module) => put_module(files, level, module, out)?,
-            Item::Sub(sub) => {
-                put_sub(files, level, sub, out)?;
-                put_items(files, level + 1, &sub.items, out)?;
-            }
+impl StackLines for AsText {
+    ghost use Rattle.pam_print.specs.Show.{line_text};
+
+    ghost line = { line_text };
+
+    fn put_line<W: Write>(&self, told: StackLine<'_>, out: &mut Out<W>) -> Result<(), Device> {
+        match told {
+            StackLine::Head {
+                service,
+                kind,
+                modules,
+            } => put_header(service, kind, modules, out),
+            StackLine::Module {
+                files,
+                level,
+                module,
+            } => put_module(files, level, module, out),
+            StackLine::Sub { files, level, sub } => put_sub(files, level, sub, out),
         }
-    }
-    Ok(())
-}
-
-fn write_in<W: Write>(reply: &StackReply<'_>, files: &Files, out: &mut Out<W>) -> Result<(), Device>
-    requires { (stack_view reply.now).files ≡ files.now }
-    ensures { WritesAndFlushes W.contents out.old out.new result (stack_text (stack_view reply.now)) }
-{
-    put_header(reply.service, reply.kind, reply.stack.modules(), out)?;
-    put_items(files, 0, reply.stack.items(), out)?;
-    out.finish()
-}
-
-pub(crate) fn write_stack<W: Write>(
-    alloc: Global,
-    reply: &StackReply<'_>,
-    out: &mut Out<W>,
-) -> Result<(), Device>
-    ensures { WritesAndFlushes W.contents out.old out.new result (stack_text (stack_view reply.now)) }
-{
-    match reply.files {
-        Some(files) => write_in(reply, files, out),
-        None => write_in(reply, &Files::new(alloc, Form::Dir), out),
     }
 }

@@ -1,16 +1,12 @@
 -- For private contracts and proofs alone: the parts of a line of `compare`.
 use Rattle.std.specs.Prelude.{ℕ, List, decimal}
+use Rattle.pam_parts.specs.ComparedView.{head_view}
 use Rattle.pam_report.specs.ReplyViews.{side_files}
 use Rattle.pam_print.specs.Check.{counted}
 use Rattle.pam_sentences.specs.Shown.{shown_name}
-use Rattle.pam_print.specs.Compare as spec
 use Rattle.pam_print.specs.Compare.{arguments_text, asked_texts, head_text, module_changes, module_text, only_count, side_text}
-use Rattle.pam_print.specs.declared.compare.parts.Head.{Head as LineHead}
 use Rattle.pam_print.specs.declared.compare.parts.Part.{Part}
 use Rattle.pam_print.specs.declared.compare.parts.Part.TheVariants.{Text, Number, Counted, Only, Name, Head, Module, Arguments, Asked, Changes, Side}
-
-abbrev pub head_view : LineHead → spec.Head
-head_view head = record { service = head.service.now; kind = head.kind }
 
 abbrev pub part_text : Part → List ℕ
 part_text (Text text) = text.now

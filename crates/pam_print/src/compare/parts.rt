@@ -4,7 +4,8 @@ ghost use Rattle.std.specs.Prelude.{Some, option_map};
 ghost use Rattle.std.specs.List.{flat_map};
 ghost use Rattle.pam_codes.specs.Out.{Writes};
 ghost use Rattle.pam_print.specs.Compare.{fault_text, head_text, only_count, place_text, side_text};
-ghost use Rattle.pam_print.specs.inner.CompareParts.{head_view, part_text};
+ghost use Rattle.pam_parts.specs.ComparedView.{head_view};
+ghost use Rattle.pam_print.specs.inner.CompareParts.{part_text};
 ghost use Rattle.pam_report.specs.ReplyViews.{side_files};
 
 use super::asked::put_all_asked;
@@ -12,18 +13,11 @@ use super::modules::{put_arguments, put_module, put_module_changes};
 use crate::check::put_counted;
 use pam_changes::{AskedModule, StackPair};
 use pam_codes::{Device, Out, Piece};
-use pam_conf::{ConfError, Files, Kind, Stack};
-use pam_parts::file_of;
+use pam_conf::{ConfError, Files, Stack};
+use pam_parts::{Head, file_of};
 use pam_report::{conf_name, kind_name};
 use pam_sentences::put_name;
 use std::io::Write;
-
-/// The service and the kind with which a line begins.
-#[derive(Clone, Copy)]
-pub(super) struct Head<'x> {
-    pub service: &'x [u8],
-    pub kind: Kind,
-}
 
 /// A part of a line.
 #[derive(Clone, Copy)]

@@ -1,12 +1,14 @@
 use Rattle.std.proofs.Common.{◌≡◌, ℕ, List, Option, Some, Result, refl, subst, sym, true}
 use Rattle.pam_codes.specs.Out.{Out}
-use Rattle.pam_parts.proofs.Printed.{text-printed}
+use Rattle.pam_parts.proofs.Printed.{printed-as, text-printed}
+use Rattle.pam_parts.specs.Findings.{IsCheckBy}
 use Rattle.pam_parts.specs.Prints.{PrintsBy}
 use Rattle.pam_report.specs.Reply as spec
-use Rattle.pam_report.specs.ReplyViews.{compare_view, outcomes_view, reply_view, run_view, stack_view}
+use Rattle.pam_report.specs.ReplyViews.{check_view, compare_view, outcomes_view, reply_view, run_view, stack_view}
 use Rattle.pam_report.specs.declared.fault.Fault.{Fault}
 use Rattle.pam_report.specs.declared.report.replies.Reply as declared
 use Rattle.pam_report.specs.declared.report.replies.Reply.TheVariants as replies
+use Rattle.pam_json.specs.Check.{line_json}
 use Rattle.pam_json.specs.Text.{IsJson, PrintsIfAny, has_json}
 use Rattle.pam_json.proofs.printing.print_if_any.Goals as goal
 
@@ -49,7 +51,8 @@ returns-in-Paths g c =
 
 pub returns-in-Check : goal.returns-in-Check
 returns-in-Check g c =
-    written g.W.Write.contents _ _ _ (replies.Check c.in-Check.check) _ c.in-Check.is refl c.write_check.ensures
+    written g.W.Write.contents _ _ _ (replies.Check c.in-Check.check) _ c.in-Check.is refl
+    (printed-as g.W.Write.contents (IsCheckBy line_json) IsJson _ _ (spec.Check (check_view c.in-Check.check)) (λ text h. h) _ c.write_check.ensures)
 
 pub returns-in-Compared : goal.returns-in-Compared
 returns-in-Compared g c =

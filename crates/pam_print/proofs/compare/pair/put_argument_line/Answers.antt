@@ -1,7 +1,7 @@
 use Rattle.std.proofs.Common.{codes}
 use Rattle.pam_codes.proofs.Writing.{writes-is}
 use Rattle.pam_print.specs.Compare.{argument_line, arguments_text, head_text, module_text}
-use Rattle.pam_print.specs.inner.CompareParts.{head_view}
+use Rattle.pam_parts.specs.ComparedView.{head_view}
 use Rattle.pam_print.proofs.CompareTexts.{parts-8}
 use Rattle.pam_print.proofs.compare.pair.put_argument_line.Goals as goal
 

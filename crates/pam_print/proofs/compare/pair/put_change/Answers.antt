@@ -1,7 +1,7 @@
 use Rattle.std.proofs.Common.{◌∙◌, ap}
 use Rattle.pam_codes.proofs.Writing.{writes-is}
 use Rattle.pam_print.specs.Compare.{asked_texts, change_line, head_text}
-use Rattle.pam_print.specs.inner.CompareParts.{head_view}
+use Rattle.pam_parts.specs.ComparedView.{head_view}
 use Rattle.pam_print.specs.Header.{code_name}
 use Rattle.pam_print.proofs.CompareTexts.{change-parts}
 use Rattle.pam_print.proofs.compare.pair.put_change.Goals as goal

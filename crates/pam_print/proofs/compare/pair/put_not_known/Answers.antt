@@ -3,7 +3,7 @@ use Rattle.pam_codes.proofs.Writing.{writes-is}
 use Rattle.std.specs.Prelude.{decimal}
 use Rattle.pam_compare.specs.declared.comparing.TheConstants.{MAX_SITUATIONS}
 use Rattle.pam_print.specs.Compare.{head_text, not_known_line}
-use Rattle.pam_print.specs.inner.CompareParts.{head_view}
+use Rattle.pam_parts.specs.ComparedView.{head_view}
 use Rattle.pam_print.proofs.CompareTexts.{parts-4}
 use Rattle.pam_print.proofs.compare.pair.put_not_known.Goals as goal
 

@@ -1,7 +1,7 @@
 use Rattle.std.proofs.Common.{codes}
 use Rattle.pam_codes.proofs.Writing.{writes-is}
 use Rattle.pam_print.specs.Compare.{as_line, head_text}
-use Rattle.pam_print.specs.inner.CompareParts.{head_view}
+use Rattle.pam_parts.specs.ComparedView.{head_view}
 use Rattle.pam_print.proofs.CompareTexts.{parts-4}
 use Rattle.pam_print.proofs.compare.stack.put_as.Goals as goal
 

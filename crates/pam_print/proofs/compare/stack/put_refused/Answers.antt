@@ -2,7 +2,7 @@ use Rattle.std.proofs.Common.{codes}
 use Rattle.pam_codes.proofs.Writing.{writes-is}
 use Rattle.pam_report.specs.ReplyViews.{side_files}
 use Rattle.pam_print.specs.Compare.{head_text, refused_line, side_text}
-use Rattle.pam_print.specs.inner.CompareParts.{head_view}
+use Rattle.pam_parts.specs.ComparedView.{head_view}
 use Rattle.pam_print.proofs.CompareTexts.{parts-6}
 use Rattle.pam_print.proofs.compare.stack.put_refused.Goals as goal
 
@@ -10,5 +10,5 @@ pub returns : goal.returns
 unfolding refused_line
 returns g c =
     writes-is _ _ _ _ _ _ c.put_parts.ensures
-    (parts-6 (head_text (head_view c.args.head)) (codes " refused: old ") (side_text (side_files c.args.reply.now.old) c.args.old.now)
-    (codes ", new ") (side_text (side_files c.args.reply.now.new) c.args.new.now) (codes "\n"))
+    (parts-6 (head_text (head_view c.args.head)) (codes " refused: old ") (side_text (side_files c.args.old.files) c.args.old.fault.now)
+    (codes ", new ") (side_text (side_files c.args.new.files) c.args.new.fault.now) (codes "\n"))

@@ -1,0 +1,64 @@
+//! The lines of a comparison.
+
+use pam_changes::{Counts, MatchedPair, Shown, StackPair};
+use pam_conf::{ConfError, Files, Kind};
+
+/// The service and the kind of a stack.
+#[derive(Clone, Copy)]
+pub struct Head<'x> {
+    pub service: &'x [u8],
+    pub kind: Kind,
+}
+
+/// What a configuration says of a service: its files, as far as they are given, and its first fault, none if it accepts
+/// the service.
+#[derive(Clone, Copy)]
+pub struct Side<'x> {
+    pub files: Option<&'x Files>,
+    pub fault: &'x Option<ConfError>,
+}
+
+/// A line of a comparison.
+#[derive(Clone, Copy)]
+pub enum CompareLine<'x> {
+    /// A service that the old configuration alone has.
+    OnlyInOld(&'x [u8]),
+    /// A service that the new configuration alone has.
+    OnlyInNew(&'x [u8]),
+    /// A stack that some configuration refuses.
+    Refused {
+        head: Head<'x>,
+        old: Side<'x>,
+        new: Side<'x>,
+    },
+    /// A stack with the same items as one that was told before.
+    As {
+        head: Head<'x>,
+        first: Head<'x>,
+    },
+    /// Matched modules with other arguments.
+    Arguments {
+        head: Head<'x>,
+        pair: &'x StackPair,
+        matched: MatchedPair,
+    },
+    /// Two decisions, and what changes: `admits`, `refuses` or `tells`.
+    Change {
+        head: Head<'x>,
+        pair: &'x StackPair,
+        change: &'static [u8],
+        shown: &'x Shown,
+    },
+    /// The same decisions, and what changes in the modules.
+    Same {
+        head: Head<'x>,
+        pair: &'x StackPair,
+    },
+    /// Stacks that can be in too many situations.
+    NotKnown(Head<'x>),
+    /// The last line: the number of stacks, and what changes in how many.
+    Last {
+        stacks: usize,
+        counts: Counts,
+    },
+}

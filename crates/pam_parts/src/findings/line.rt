@@ -1,0 +1,33 @@
+//! The lines of a check.
+
+use crate::check::{Counts, Names};
+use pam_host::{Finding, Place};
+use pam_misspelled::Misspelled;
+use pam_report::TablePaths;
+use pam_table_check::TableFinding;
+
+/// A line of a check.
+#[derive(Clone, Copy)]
+pub enum CheckLine<'x> {
+    /// A finding, beside the names that it needs and the word that is wrong, if it is known.
+    Found {
+        names: &'x Names<'x>,
+        entry: &'x (Place, Finding),
+        word: Option<&'x Misspelled>,
+    },
+    /// A problem of a table, beside the path of each table.
+    InTable {
+        paths: &'x TablePaths<'x>,
+        finding: TableFinding,
+    },
+    /// A line of the accept file that accepts nothing, from 1, beside the name of the file.
+    Unused {
+        accept: &'x [u8],
+        line: u32,
+    },
+    /// The last line: the number of services, and those of findings.
+    Last {
+        services: usize,
+        counts: Counts,
+    },
+}

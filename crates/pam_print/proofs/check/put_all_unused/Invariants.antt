@@ -1,9 +1,0 @@
--- the lines so far are written
-use Rattle.std.proofs.Common.{take}
-use Rattle.std.specs.List.{flat_map}
-use Rattle.pam_codes.specs.Out.{TookAll}
-use Rattle.pam_print.specs.Check.{unused_line}
-use Rattle.pam_print.proofs.check.put_all_unused.Given as goal
-
-abbrev pub invariant-loop-line : goal.invariant-loop-line
-invariant-loop-line g l = TookAll g.W.Write.contents l.initial.out l.out (flat_map (unused_line l.accept) (take l.line-index l.lines))

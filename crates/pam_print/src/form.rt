@@ -1,0 +1,5 @@
+//! The form of answers for people.
+
+/// Answers as text.
+#[derive(Clone, Copy)]
+pub(crate) struct AsText;
