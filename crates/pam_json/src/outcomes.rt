@@ -48,7 +48,7 @@ fn put_outcomes<W: Write>(
     ensures { Writes W.contents out.old out.new result (flat_map (outcome_json modules.now) (map outcome_view outcomes.now)) }
 {
     for outcome in outcomes {
-        put_outcome(modules, outcome, out)?;
+        put_outcome(&*modules, outcome, out)?;
     }
     Ok(())
 }

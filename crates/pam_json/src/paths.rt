@@ -105,7 +105,7 @@ fn put_paths<W: Write>(
         let Some(_) = listing.follow() else {
             return put_last(listing.side(), u64::from(count), None, out);
         };
-        put_path(modules, listing.path(), out)?;
+        put_path(&*modules, listing.path(), out)?;
     }
     put_rest(modules, listing, limit - 1, out)
 }
