@@ -14,7 +14,7 @@ returns-in_err-put_outcomes g c =
     err-flushes _ c.from_residual-in_err-put_outcomes.ensures.0
     (front-longer _
     (front-then (all-is c.in_ok-put_stack.ensures (stack_line-is reply.service.now reply.kind reply.stack c.modules.ensures.count))
-    (front-is c.in_err-put_outcomes.ensures (outcomes-are reply.stack c.of.ensures c.deref.ensures.value))))
+    (front-is c.in_err-put_outcomes.ensures (outcomes-are reply.stack c.of-paths.ensures c.deref.ensures.value))))
 
 pub returns-in_err-put_total : goal.returns-in_err-put_total
 returns-in_err-put_total g c =
@@ -22,7 +22,7 @@ returns-in_err-put_total g c =
     err-flushes _ c.from_residual-in_err-put_total.ensures.0
     (front-then
     (all-then (all-is c.in_ok-put_stack.ensures (stack_line-is reply.service.now reply.kind reply.stack c.modules.ensures.count))
-    (all-is c.in_ok-put_outcomes.ensures (outcomes-are reply.stack c.of.ensures c.deref.ensures.value)))
+    (all-is c.in_ok-put_outcomes.ensures (outcomes-are reply.stack c.of-paths.ensures c.deref.ensures.value)))
     c.in_err-put_total.ensures)
 
 pub returns : goal.returns
@@ -31,6 +31,6 @@ returns g c =
     flushes-last _ _
     (all-then
     (all-then (all-is c.in_ok-put_stack.ensures (stack_line-is reply.service.now reply.kind reply.stack c.modules.ensures.count))
-    (all-is c.in_ok-put_outcomes.ensures (outcomes-are reply.stack c.of.ensures c.deref.ensures.value)))
+    (all-is c.in_ok-put_outcomes.ensures (outcomes-are reply.stack c.of-paths.ensures c.deref.ensures.value)))
     c.in_ok-put_total.ensures)
     c.finish.ensures

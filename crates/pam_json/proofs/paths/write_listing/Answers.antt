@@ -15,12 +15,12 @@ returns-in_err-put_paths g c =
     let page = page_value c.args.page.now in
     err-flushes _ c.from_residual-in_err-put_paths.ensures.0
     (front-then (all-is c.in_ok-put_stack.ensures (page_line-is page c.service.ensures c.kind.ensures c.stack-stack.ensures c.modules.ensures.count))
-    (front-is c.in_err-put_paths.ensures (page-is page _ _ (c.of.ensures ∙ c.stack-stack.ensures) c.limit.ensures.most)))
+    (front-is c.in_err-put_paths.ensures (page-is page _ _ (c.of-paths.ensures ∙ c.stack-stack.ensures) c.limit.ensures.most)))
 
 pub returns : goal.returns
 returns g c =
     let page = page_value c.args.page.now in
     flushes-last _ _
     (all-then (all-is c.in_ok-put_stack.ensures (page_line-is page c.service.ensures c.kind.ensures c.stack-stack.ensures c.modules.ensures.count))
-    (all-is c.in_ok-put_paths.ensures (page-is page _ _ (c.of.ensures ∙ c.stack-stack.ensures) c.limit.ensures.most)))
+    (all-is c.in_ok-put_paths.ensures (page-is page _ _ (c.of-paths.ensures ∙ c.stack-stack.ensures) c.limit.ensures.most)))
     c.finish.ensures
