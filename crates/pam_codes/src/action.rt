@@ -59,9 +59,10 @@ fn decimal(digits: &[u8]) -> u32
 }
 
 impl Action {
-    /// The action with this name, ignoring ASCII case, or a jump of this number.
+    /// The action with this name, ignoring ASCII case, or a jump of this number. Returns `BadAction` for any other word, and
+    /// `ZeroJump` for a jump over no items.
     #[tactic(auto, unfolding(crate::specs::Action::action_named))]
-    pub(crate) fn from_name(word: &[u8]) -> Result<Action, ControlError>
+    pub fn from_name(word: &[u8]) -> Result<Action, ControlError>
         ensures value { result ≡ action_named word.now }
         ensures action { IfOk result IsAction }
     {

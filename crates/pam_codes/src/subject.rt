@@ -17,8 +17,9 @@ pub enum Subject {
 }
 
 impl Subject {
+    /// The value with this name, ignoring ASCII case. Returns `BadValue` for any other word.
     #[tactic(auto, unfolding(crate::specs::Subject::subject_of))]
-    pub(crate) fn from_name(word: &[u8]) -> Result<Subject, ControlError>
+    pub fn from_name(word: &[u8]) -> Result<Subject, ControlError>
         ensures { result ≡ subject_of word.now }
     {
         if let Some(code) = Code::from_name(word) {

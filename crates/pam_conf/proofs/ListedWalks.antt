@@ -2,17 +2,17 @@
 use Rattle.std.proofs.Common.{◌≡◌, ◌-◌, ℕ, zero, suc, Bool, true, false, cond, eqb, List, [], ◌∷◌, ◌++◌, Option, Some, None, Result, Ok, Err, ap, refl, sym}
 use Rattle.std.proofs.Common.{◌∙◌, ◌&&◌, ◌+◌, map, subst}
 use Rattle.std.specs.List.{list_any}
-use Rattle.std.specs.Option.{option_map_or, unwrap_or}
+use Rattle.std.specs.Option.{unwrap_or}
 use Rattle.std.proofs.lemmas.List.{map-append}
 use Rattle.pam_conf.specs.FileRules.{good_rules}
 use Rattle.pam_conf.specs.Files.{Folder, bytes_at, position_of}
 use Rattle.pam_conf.specs.Laws.{ListIsOfWalk, items_listed, listed_item}
-use Rattle.pam_conf.specs.Listed.{Further, ListedText, body_listed, file_listed, included, rule_listed, rules_listed}
+use Rattle.pam_conf.specs.Listed.{Further, body_listed, file_listed, included, rule_listed, rules_listed}
 use Rattle.pam_conf.specs.Rule.{RuleText, RuleBody, Module, Include, Sub}
 use Rattle.pam_conf.specs.Stack.{Items, End, ThenModule, ThenSub, joined, module_count}
 use Rattle.pam_conf.specs.Survey.{good_at, survey_from}
-use Rattle.pam_conf.specs.Walk.{Walk, Deeper, Met, Followed, Failed, ◌then◌, nothing, walk, target_walk, include_walk, sub_walk, body_walk}
-use Rattle.pam_conf.specs.Walk.{counts, is_of_kind, numbered, rule_walk, rules_walk}
+use Rattle.pam_conf.specs.Walk.{Walk, Deeper, nothing, walk, target_walk, include_walk, sub_walk, body_walk}
+use Rattle.pam_conf.specs.Walk.{is_of_kind, numbered, rule_walk, rules_walk}
 use Rattle.pam_conf.specs.declared.error.FaultKind.{FaultKind}
 use Rattle.pam_conf.specs.declared.error.FaultKind.TheVariants.{Cycle, TooDeep}
 use Rattle.pam_conf.specs.declared.rule.Kind.{Kind}

@@ -1,8 +1,7 @@
 -- The effect of each item on a run over a flat list.
 use Rattle.std.proofs.Common.{◌≡◌, ℕ, ◌+◌, ◌-◌, ◌<◌, ◌≤◌, false, ◌&&◌, List, [], ◌∷◌, ◌++◌, eqb, ltb, zero, suc, refl, sym, ◌∙◌, ap, arith, take}
-use Rattle.std.proofs.Common.{drop, length, get_or, drop-cons, add-one, add-suc, slice_set, min, subst, Some}
-use Rattle.std.proofs.lemmas.List.{drop-drop, get_or-take, length-drop}
-use Rattle.std.proofs.lemmas.List.Elements.{All-drop}
+use Rattle.std.proofs.Common.{drop, length, get_or, drop-cons, add-one, add-suc, slice_set, Some}
+use Rattle.std.proofs.lemmas.List.{get_or-take}
 use Rattle.std.proofs.Math.Seq.{take-suc-set}
 use Rattle.std.proofs.lemmas.Bool.{cond-true, cond-false, lt-ltb, le-ltb, eq-eqb, and_from, and_right, ne_eqb, and_left}
 use Rattle.pam_dispatch.specs.declared.state.State.{State}

@@ -1,6 +1,6 @@
 -- The flat list of a stack's items, each with its level, in the order of pam.conf(5), DESCRIPTION.
 use Rattle.std.specs.Prelude.{◌≡◌, ℕ, ◌+◌, ◌-◌, ◌==◌, nat_lt, ◌&&◌, if◌then◌else◌}
-use Rattle.std.specs.Prelude.{All, List, [], ◌∷◌, ◌++◌, length, take, drop, slice_index_or, Option, Some, None}
+use Rattle.std.specs.Prelude.{List, [], ◌∷◌, ◌++◌, length, take, drop, slice_index_or, Option, Some, None}
 use Rattle.pam_codes.specs.declared.action.Action.{Action}
 use Rattle.pam_dispatch.specs.declared.state.State.{State}
 use Rattle.pam_dispatch.specs.declared.flat_item.FlatItem.{FlatItem}

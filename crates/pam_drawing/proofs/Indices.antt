@@ -3,7 +3,7 @@ use Rattle.std.proofs.Common.{◌≡◌, ℕ, ◌+◌, ◌<◌, ◌≤◌, List,
 use Rattle.std.proofs.lemmas.List.{take_all}
 use Rattle.std.proofs.lemmas.List.FromFn.{get_or-enumerate_from, get_or-range_with_len, length-enumerate_from, length-range_with_len}
 use Rattle.std.specs.List.{enumerate_from, flat_map, range_with_len}
-use Rattle.pam_page.proofs.FlatTexts.{flat_map-at, flat_map-take}
+use Rattle.pam_text.proofs.FlatTexts.{flat_map-at, flat_map-take}
 
 -- the numbers from a on
 pub range-push : (f : ℕ → List ℕ) (a n i j : ℕ) → i < n → a + i ≡ j →

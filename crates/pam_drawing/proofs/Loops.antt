@@ -4,7 +4,7 @@ use Rattle.std.specs.List.{enumerate_from, flat_map, range_with_len}
 use Rattle.pam_codes.proofs.Writing.{front-is, front-longer, front-then}
 use Rattle.pam_codes.specs.Out.{Out, TookAll, TookFront}
 use Rattle.pam_drawing.proofs.Indices.{indexed-at, range-at}
-use Rattle.pam_page.proofs.FlatTexts.{flat_map-at}
+use Rattle.pam_text.proofs.FlatTexts.{flat_map-at}
 
 module _ {W : Type 0} (contents : W → Option (List ℕ)) {old mid new : Out W} where
   -- at an element of a list

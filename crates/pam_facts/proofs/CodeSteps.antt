@@ -1,14 +1,14 @@
 -- The codes that the words of a row say, word by word.
 use Rattle.std.proofs.Common.{◌≡◌, ◌∙◌, ◌||◌, ◌&&◌, ◌==◌, ◌<◌, ℕ, Bool, true, false, not, List}
-use Rattle.std.proofs.Common.{[], ◌∷◌, cond, eqb, Option, Some, None, if◌then◌else◌, is_some, refl, sym, ap, ap₂}
+use Rattle.std.proofs.Common.{[], ◌∷◌, Option, Some, None, if◌then◌else◌, is_some, refl, sym, ap}
 use Rattle.std.specs.Option.{option_map_or}
 use Rattle.pam_codes.specs.Code.{all_codes}
 use Rattle.pam_codes.specs.Set.{codes_where, is_in, IsCodeSet}
 use Rattle.pam_codes.specs.inner.SetBits.{codes_where-same, is_in-codes_where}
 use Rattle.pam_conf.specs.declared.rule.Kind.{Kind}
 use Rattle.pam_conf.specs.declared.rule.Kind.TheVariants.{Auth, Account, Password, Session}
-use Rattle.pam_facts.specs.Codes.{are_complete, begin_with_kinds, code_named, codes_said, names_code, say_code}
-use Rattle.pam_facts.specs.Facts.{any_codes, codes_of}
+use Rattle.pam_facts.specs.Codes.{are_complete, begin_with_kinds, code_named, codes_said, say_code}
+use Rattle.pam_facts.specs.Facts.{any_codes}
 use Rattle.pam_facts.specs.Kinds.{has_kind, kinds_named}
 use Rattle.pam_facts.specs.declared.kinds.Kinds.{Kinds}
 use Rattle.pam_facts.specs.declared.row.CodesByKind.{CodesByKind}

@@ -1,7 +1,7 @@
 -- The head of a row, word by word.
-use Rattle.std.proofs.Common.{◌≡◌, ◌∙◌, ℕ, zero, suc, List, [], ◌∷◌, Option, Some, None, refl, sym, ap}
+use Rattle.std.proofs.Common.{◌≡◌, ◌∙◌, ℕ, zero, suc, List, [], ◌∷◌, Option, Some, None, sym, ap}
 use Rattle.std.specs.Option.{option_map, option_or}
-use Rattle.pam_facts.specs.Rows.{Head, class_first, class_named, head_of, with_argument}
+use Rattle.pam_facts.specs.Rows.{class_named, head_of, with_argument}
 use Rattle.pam_facts.specs.declared.row.Class.{Class}
 
 module _ (words : List (List ℕ)) where

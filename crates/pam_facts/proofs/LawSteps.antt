@@ -1,5 +1,5 @@
 -- What the answers of modules have, and have not.
-use Rattle.std.proofs.Common.{◌≡◌, ◌∙◌, ◌<◌, ◌==◌, ◌&&◌, ◌||◌, ℕ, Bool, true, false, not, List, [], ◌∷◌, Option, refl, sym, ap, lit<}
+use Rattle.std.proofs.Common.{◌≡◌, ◌∙◌, ◌<◌, ◌==◌, ◌&&◌, ◌||◌, ℕ, Bool, true, false, not, List, [], ◌∷◌, Option, refl, ap, lit<}
 use Rattle.std.proofs.lemmas.Bool.{cond_both, eqb-true}
 use Rattle.pam_codes.specs.Code.{all_codes}
 use Rattle.pam_codes.specs.Set.{codes_where, is_in}
@@ -9,7 +9,7 @@ use Rattle.pam_conf.specs.declared.rule.Kind.{Kind}
 use Rattle.pam_facts.specs.Answers.{answers_of, is_there, left_out, module_answers, or_failure}
 use Rattle.pam_facts.specs.Facts.{codes_in, has_function, is_unknown_alone}
 use Rattle.pam_facts.specs.Fitting.{fact_of}
-use Rattle.pam_facts.specs.Laws.{CheckingModulesFail, FunctionlessIsUnknown, HaveNoSuccess, MissingIsUnknown}
+use Rattle.pam_facts.specs.Laws.{CheckingModulesFail, FunctionlessIsUnknown, MissingIsUnknown}
 use Rattle.pam_facts.specs.Rows.{Row}
 use Rattle.pam_facts.specs.declared.answers.Checks.{Checks}
 use Rattle.pam_facts.specs.declared.answers.Checks.TheVariants.{Fail, MaySucceed}

@@ -1,8 +1,8 @@
 -- The row of a line, and the rows of lines one after another.
-use Rattle.std.proofs.Common.{◌≡◌, ◌∙◌, ◌++◌, ℕ, Bool, true, false, not, nat_eq, List, []}
+use Rattle.std.proofs.Common.{◌≡◌, ◌∙◌, ◌++◌, ℕ, Bool, true, false, nat_eq, List, []}
 use Rattle.std.proofs.Common.{◌∷◌, codes, Option, Some, None, if◌then◌else◌, Result, Ok, Err, refl, sym, ap}
 use Rattle.std.proofs.Common.{append_assoc, append-nil}
-use Rattle.std.specs.List.{filter_map, starts_with}
+use Rattle.std.specs.List.{starts_with}
 use Rattle.std.specs.Option.{option_map_or}
 use Rattle.pam_text.specs.Source.{source_fault}
 use Rattle.pam_text.specs.declared.source.SourceFault.{SourceFault}

@@ -1,9 +1,8 @@
 -- What is known of a module.
-use Rattle.std.specs.Prelude.{◌≡◌, ℕ, ◌==◌, ◌&&◌, Bool, false, List, [], ◌∷◌, if◌then◌else◌, not}
+use Rattle.std.specs.Prelude.{ℕ, ◌==◌, Bool, false, List, [], ◌∷◌, not}
 use Rattle.pam_codes.specs.Code.{all_codes}
 use Rattle.pam_conf.specs.declared.rule.Kind.{Kind}
 use Rattle.pam_conf.specs.declared.rule.Kind.TheVariants.{Auth, Account, Password, Session}
-use Rattle.pam_facts.specs.declared.row.Class.{Class}
 use Rattle.pam_facts.specs.declared.row.Class.TheVariants.{Checks}
 use Rattle.pam_facts.specs.declared.row.CodesByKind.{CodesByKind}
 use Rattle.pam_facts.specs.declared.row.Fact.{Fact}

@@ -1,5 +1,5 @@
 -- Laws of facts.
-use Rattle.std.specs.Prelude.{◌≡◌, ℕ, Bool, true, false, List, [], ◌∷◌, ◌++◌, if◌then◌else◌, Option}
+use Rattle.std.specs.Prelude.{◌≡◌, ℕ, Bool, false, List, [], ◌∷◌, ◌++◌, if◌then◌else◌, Option}
 use Rattle.pam_codes.specs.Code.{ignored, new_authtok_reqd, success}
 use Rattle.pam_codes.specs.Set.{is_in}
 use Rattle.pam_conf.specs.Stack.{ModuleText}

@@ -1,6 +1,6 @@
 -- The JSON of `compare`: a line for each change, and a last line with their numbers.
-use Rattle.std.specs.Prelude.{ℕ, ◌==◌, Bool, true, false, List, [], ◌∷◌, ◌++◌, codes, map, Option, None, Some, option_map, slice_get, if◌then◌else◌}
-use Rattle.std.specs.List.{after_first, before_first, flat_map}
+use Rattle.std.specs.Prelude.{ℕ, List, [], ◌∷◌, codes, map, Option, None, Some, option_map}
+use Rattle.std.specs.List.{after_first, before_first}
 use Rattle.std.specs.Option.{option_map_or}
 use Rattle.pam_changes.specs.declared.counts.Counts.{Counts}
 use Rattle.pam_changes.specs.declared.modules.MatchedPair.{MatchedPair}

@@ -1,5 +1,5 @@
 -- The JSON of `show`: the stack of a service, rule by rule, in the order of pam.conf(5).
-use Rattle.std.specs.Prelude.{ℕ, List, ◌∷◌, [], ◌++◌, codes}
+use Rattle.std.specs.Prelude.{ℕ, List, ◌∷◌, [], codes}
 use Rattle.pam_codes.specs.ControlText.{control_text}
 use Rattle.pam_conf.specs.Files.{Folder}
 use Rattle.pam_conf.specs.Stack.{ModuleText, SubText}

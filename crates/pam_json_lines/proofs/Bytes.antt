@@ -1,10 +1,10 @@
 -- The bytes of strings.
-use Rattle.std.proofs.Common.{◌≡◌, ℕ, ◌+◌, ◌/◌, ◌%◌, ◌==◌, ◌||◌, cond, nat_le, nat_lt, true, List, [], ◌∷◌, ◌++◌, ap, arith, eqb-true, le-leb}
+use Rattle.std.proofs.Common.{◌≡◌, ℕ, ◌+◌, ◌/◌, ◌%◌, ◌==◌, ◌||◌, nat_le, nat_lt, true, List, [], ◌∷◌, ◌++◌, ap, arith, eqb-true, le-leb}
 use Rattle.std.proofs.Common.{ltb-false, refl, ⊎_elim}
 use Rattle.std.proofs.lemmas.Bool.{and_from, and_parts, cond_both, false≢true, or_cases}
 use Rattle.std.specs.Char.{digit_char}
 use Rattle.std.specs.List.{list_all}
-use Rattle.json.specs.Print.{escape, escape_byte, escape_letter, quoted}
+use Rattle.json.specs.Print.{escape, escape_byte, escape_letter}
 use Rattle.pam_json_lines.specs.Laws.{NoControlByte}
 
 abbrev IsShown : ℕ → Type 0

@@ -1,5 +1,4 @@
 pub mod Bytes
-pub mod FlatTexts
 pub mod Lines
 pub mod Strings
 pub mod Arrays

@@ -1,6 +1,6 @@
 -- Every third token.
-use Rattle.std.proofs.Common.{◌≡◌, ◌<◌, ◌+◌, ◌-◌, ◌∙◌, ℕ, zero, suc, Bool, true, false, List, [], ◌∷◌, Option, None, Some, ap, arith, cond, find}
-use Rattle.std.proofs.Common.{length, not, refl, sym}
+use Rattle.std.proofs.Common.{◌≡◌, ◌<◌, ◌-◌, ◌∙◌, ℕ, zero, suc, Bool, true, false, List, [], ◌∷◌, None, Some, ap, arith, cond, find}
+use Rattle.std.proofs.Common.{length, not, sym}
 use Rattle.pam_codes.specs.declared.error.ControlError.{ControlError}
 use Rattle.pam_misspelled.specs.Pairs.{is_right, thirds}
 

@@ -1,30 +1,30 @@
 -- The word that is wrong between the brackets of a control: pam.conf(5), "[value1=action1 value2=action2 ...]".
-use Rattle.std.specs.Prelude.{ℕ, zero, suc, ◌||◌, Bool, true, false, not, List, [], ◌∷◌, codes, find, is_ok, take, Option, Some}
-use Rattle.std.specs.List.{list_any}
+use Rattle.std.specs.Prelude.{ℕ, zero, suc, Bool, true, false, not, List, [], ◌∷◌, codes, find, is_ok, take, Option, Some, Result, Err}
 use Rattle.std.specs.Option.{option_map_or}
-use Rattle.pam_codes.specs.Action.{is_jump_text}
-use Rattle.pam_codes.specs.Code.{same_name}
+use Rattle.pam_codes.specs.Action.{action_named}
 use Rattle.pam_codes.specs.Control.{closing_at}
 use Rattle.pam_codes.specs.Subject.{subject_of}
 use Rattle.pam_codes.specs.Tokens.{tokens_of}
+use Rattle.pam_codes.specs.declared.action.Action.{Action}
 use Rattle.pam_codes.specs.declared.error.ControlError.{ControlError}
 use Rattle.pam_codes.specs.declared.error.ControlError.TheVariants.{BadControl, BadValue, BadAction}
-
--- a word that may stand before `=`
-abbrev pub is_value : List ℕ → Bool
-is_value word = is_ok (subject_of word)
 
 -- the actions that are words
 abbrev pub actions : List (List ℕ)
 actions = codes "ignore" ∷ codes "bad" ∷ codes "die" ∷ codes "ok" ∷ codes "done" ∷ codes "reset" ∷ []
 
--- a word that may stand after `=`, also a jump over no items, whose fault is another one
+-- an action, also a jump over no items, whose fault is another one
+abbrev pub is_no_bad_action : Result Action ControlError → Bool
+is_no_bad_action (Err BadAction) = false
+is_no_bad_action action = true
+
+-- a word that may stand after `=`
 abbrev pub is_action : List ℕ → Bool
-is_action word = list_any (λ name. same_name name word) actions || is_jump_text word
+is_action word = is_no_bad_action (action_named word)
 
 -- a word that is right where an error comes from
 abbrev pub is_right : ControlError → List ℕ → Bool
-is_right BadValue word = is_value word
+is_right BadValue word = is_ok (subject_of word)
 is_right BadAction word = is_action word
 is_right error word = true
 

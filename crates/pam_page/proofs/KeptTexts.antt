@@ -6,7 +6,7 @@ use Rattle.std.proofs.lemmas.Grind.{flat_map-append}
 use Rattle.std.proofs.lemmas.List.{get_or-drop, length-map, map-append, take-append-drop, take-append-le, take-map, take-take}
 use Rattle.std.proofs.lemmas.List.{length-take, take_all, take_at, take_more, take_rest}
 use Rattle.std.proofs.lemmas.Option.{slice_get-get_or, slice_get_within}
-use Rattle.pam_page.proofs.FlatTexts.{flat_map-push, flat_map-seen}
+use Rattle.pam_text.proofs.FlatTexts.{flat_map-push, flat_map-seen}
 use Rattle.pam_page.specs.KeptSteps.{step_of}
 use Rattle.pam_page.specs.inner.KeptSteps.{AreTexts, IsEnd, code_text, codes_of, steps_of, undotted}
 use Rattle.pam_page.specs.Page.{code_name, path_line, step_text}

@@ -1,6 +1,5 @@
 pub mod AddedLines
 pub mod CodeTexts
-pub mod FlatTexts
 pub mod KeptTexts
 pub mod LineParts
 pub mod ListingSteps

@@ -7,7 +7,7 @@ use Rattle.std.proofs.lemmas.List.{drop_more, length-take-le, take-append-drop, 
 use Rattle.std.proofs.lemmas.Grind.{flat_map-append}
 use Rattle.std.specs.List.{flat_map}
 use lib.Seq.{take-add}
-use Rattle.pam_page.proofs.FlatTexts.{flat_map-push}
+use Rattle.pam_text.proofs.FlatTexts.{flat_map-push}
 use Rattle.pam_page.specs.Page.{first_page, text_by}
 use Rattle.pam_paths.specs.Pages.{Page, last_key}
 use Rattle.pam_paths.specs.Paths.{PathValue, key}

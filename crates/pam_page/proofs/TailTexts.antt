@@ -9,7 +9,7 @@ use Rattle.std.proofs.lemmas.Bool.{cases_eq}
 use Rattle.std.proofs.lemmas.Grind.{flat_map-append}
 use Rattle.std.proofs.lemmas.List.{length-map, length-take, take-append-drop, take-take, take_at}
 use Rattle.pam_codes.specs.Code.{all_codes}
-use Rattle.pam_page.proofs.FlatTexts.{flat_map-push}
+use Rattle.pam_text.proofs.FlatTexts.{flat_map-push}
 use Rattle.pam_page.proofs.LineParts.{set_text-all}
 use Rattle.pam_page.specs.inner.TailTexts.{AreTailTexts, codes_to, steps_to}
 use Rattle.pam_page.specs.inner.KeptSteps.{code_text}

@@ -6,7 +6,7 @@ use Rattle.std.specs.List.{concat, flat_map}
 use Rattle.pam_codes.specs.ControlText.{control_text}
 use Rattle.pam_conf.specs.Files.{Folder}
 use Rattle.pam_conf.specs.Stack.{ModuleText, SubText}
-use Rattle.pam_page.proofs.FlatTexts.{flat_map-at}
+use Rattle.pam_text.proofs.FlatTexts.{flat_map-at}
 use Rattle.pam_print.specs.Header.{name_at}
 use Rattle.pam_print.specs.Show.{indent, module_front, module_line, place_text, sub_line, words_text}
 use Rattle.pam_print.specs.WordText.{word_text}

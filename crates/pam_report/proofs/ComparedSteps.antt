@@ -1,6 +1,6 @@
 -- The files of a configuration, one after another: whether a rule calls a module.
 use Rattle.std.proofs.Common.{◌≡◌, ◌∙◌, ◌+◌, ◌<◌, ◌||◌, ℕ, Bool, true, false, List, [], ◌∷◌, Option, None, Some, add-one, ap, drop, drop-cons}
-use Rattle.std.proofs.Common.{get_or, length, refl, sym}
+use Rattle.std.proofs.Common.{get_or, length, sym}
 use Rattle.std.proofs.lemmas.Option.{slice_get-get_or}
 use Rattle.std.specs.List.{list_any}
 use Rattle.std.specs.Option.{option_map}

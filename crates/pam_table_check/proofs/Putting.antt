@@ -1,6 +1,6 @@
 -- Passes over the problems that are found.
 use Rattle.std.proofs.Common.{◌≡◌, ◌⊎◌, ◌↔◌, ℕ, ◌+◌, ◌<◌, ◌≤◌, cond, List, [], ◌∷◌, ◌++◌, map, take, length, get_or, refl, sym, ◌∙◌, ap, subst, inl, inr}
-use Rattle.std.proofs.Common.{Bool, true, false, IfSome, Option, Some, None}
+use Rattle.std.proofs.Common.{true, false, IfSome, Option, Some}
 use Rattle.std.specs.BTreeMap.{Updates, get, is_at}
 use Rattle.std.specs.Ordering.{is_eq}
 use Rattle.std.proofs.lemmas.Bool.{cases_Bool, false≢true}
@@ -10,7 +10,7 @@ use Rattle.std.proofs.lemmas.Map.Views.{tells_apart}
 use Rattle.pam_paths.specs.Classes.{Member}
 use Rattle.pam_paths.proofs.Listings.{Member-cases, Member-left, Member-right}
 use Rattle.pam_table_check.specs.Needs.{Need}
-use Rattle.pam_table_check.specs.inner.Passes.{ArePlaced, Found, IsOfSome, Puts, finding_at, need_view}
+use Rattle.pam_table_check.specs.inner.Passes.{Found, IsOfSome, Puts, finding_at, need_view}
 use Rattle.pam_table_check.specs.Problems.{compare_places, place_of}
 use Rattle.pam_table_check.specs.Tables.{TablesText, problems_for}
 use Rattle.pam_table_check.specs.declared.needs.Needed.{Needed}

@@ -1,6 +1,6 @@
 -- The report on the tables of a host, from what the passes found.
 use Rattle.std.proofs.Common.{◌≡◌, ◌∙◌, ◌↔◌, ℕ, List, [], get_or, ap, sym, subst, refl, inl, inr, Bor, false, IfSome, Option, Some, None, is_some}
-use Rattle.std.specs.BTreeMap.{IsOrdered, get}
+use Rattle.std.specs.BTreeMap.{IsOrdered}
 use Rattle.std.specs.List.{All}
 use Rattle.std.specs.Option.{option_map, option_map_or}
 use Rattle.std.proofs.lemmas.Map.Views.{All-found}

@@ -1,6 +1,7 @@
 pub mod Cutting
 pub mod FilledLines
 pub mod FirstBytes
+pub mod FlatTexts
 pub mod Pieces
 pub mod Prefixes
 pub mod Runs

@@ -1,6 +1,5 @@
-use Rattle.std.proofs.Common.{◌≡◌, ◌+◌, ◌-◌, ◌<◌, ◌≤◌, ◌++◌, ◌∷◌, ◌∙◌, [], ap, arith, drop, get_or, length, List, ℕ, subst, sym}
+use Rattle.std.proofs.Common.{◌≡◌, ◌+◌, ◌-◌, ◌++◌, ◌∷◌, ◌∙◌, [], ap, arith, drop, get_or, length, List, ℕ, subst, sym}
 use Rattle.std.proofs.lemmas.List.{drop_all, length-append, length-drop}
-use Rattle.pam_dispatch.specs.declared.flat_item.FlatItem.{FlatItem}
 use Rattle.pam_dispatch.specs.Flat.{level_of}
 use Rattle.pam_dispatch.specs.inner.Stretches.{stretch_of}
 use Rattle.pam_dispatch.proofs.Resume.{at_index}

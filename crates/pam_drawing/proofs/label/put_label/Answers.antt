@@ -2,7 +2,7 @@ use Rattle.std.proofs.Common.{◌+◌, drop}
 use Rattle.std.specs.List.{flat_map}
 use Rattle.pam_codes.proofs.Writing.{err-front, front-is, front-longer, front-then}
 use Rattle.pam_drawing.specs.Labels.{quoted_byte}
-use Rattle.pam_page.proofs.FlatTexts.{flat_map-at}
+use Rattle.pam_text.proofs.FlatTexts.{flat_map-at}
 use Rattle.pam_drawing.proofs.label.put_label.Goals as goal
 
 pub returns-in_err-put_byte : goal.returns-in_err-put_byte

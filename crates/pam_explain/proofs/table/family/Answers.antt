@@ -1,4 +1,4 @@
-use Rattle.std.proofs.Common.{◌≡◌, ◌≤◌, [], arith, length, sym, ℕ}
+use Rattle.std.proofs.Common.{◌≤◌, [], arith, length, sym}
 use Rattle.std.proofs.lemmas.List.{get_or_past}
 use Rattle.pam_explain.specs.Explanations.{families}
 use Rattle.pam_explain.proofs.FamilySteps.{are_few}

@@ -1,4 +1,4 @@
-use Rattle.std.proofs.Common.{◌∙◌, ◌+◌, ◌≡◌, ◌<◌, ◌≤◌, arith, subst, sym}
+use Rattle.std.proofs.Common.{◌+◌, ◌≤◌, arith, subst, sym}
 use Rattle.std.specs.Option.{option_map}
 use Rattle.pam_conf.specs.Stack.{module_count}
 use Rattle.pam_paths.specs.Known.{set_for}

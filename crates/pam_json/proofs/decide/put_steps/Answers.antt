@@ -1,6 +1,6 @@
 use Rattle.std.proofs.Common.{◌+◌, drop, map, ap}
 use Rattle.pam_codes.proofs.Writing.{err-front, front-is, front-longer, front-then}
-use Rattle.pam_page.proofs.FlatTexts.{flat_map-seen_at}
+use Rattle.pam_text.proofs.FlatTexts.{flat_map-seen_at}
 use Rattle.pam_json.specs.Decide.{step_json, steps_json}
 use Rattle.pam_report.specs.ReplyViews.{asked_view}
 use Rattle.pam_report.specs.declared.report.trace.AskedModule.{AskedModule}

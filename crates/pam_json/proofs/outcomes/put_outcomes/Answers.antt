@@ -1,7 +1,7 @@
 use Rattle.std.proofs.Common.{◌+◌, drop, map, ap}
 use Rattle.std.specs.List.{flat_map}
 use Rattle.pam_codes.proofs.Writing.{err-front, front-is, front-longer, front-then}
-use Rattle.pam_page.proofs.FlatTexts.{flat_map-seen_at}
+use Rattle.pam_text.proofs.FlatTexts.{flat_map-seen_at}
 use Rattle.pam_report.specs.ReplyViews.{outcome_view}
 use Rattle.pam_report.specs.declared.report.outcomes.Outcome.{Outcome}
 use Rattle.pam_json.specs.Outcomes.{outcome_json}

@@ -1,7 +1,7 @@
 use Rattle.std.proofs.Common.{◌∙◌, ◌-◌, ap, arith, sym, take}
 use Rattle.std.specs.List.{flat_map}
 use Rattle.pam_codes.proofs.Writing.{all-is, all-then, err-front, front-is, front-longer, front-then, writes-is, writes-then}
-use Rattle.pam_page.proofs.FlatTexts.{flat_map-push}
+use Rattle.pam_text.proofs.FlatTexts.{flat_map-push}
 use Rattle.pam_page.proofs.PageTexts.{goes, page_front, page_none, page_rest}
 use Rattle.pam_page.specs.Coming.{coming, followed, side}
 use Rattle.pam_json.specs.Paths.{last_json, path_json}

@@ -1,7 +1,7 @@
 use Rattle.std.proofs.Common.{◌+◌, drop}
 use Rattle.json.specs.Print.{escape, escape_byte}
 use Rattle.pam_text.proofs.Writing.{err-front, front-is, front-longer, front-then}
-use Rattle.pam_json_lines.proofs.FlatTexts.{flat_map-at}
+use Rattle.pam_text.proofs.FlatTexts.{flat_map-at}
 use Rattle.pam_json_lines.proofs.text.put_escaped.Goals as goal
 
 pub returns-in_err-put_byte : goal.returns-in_err-put_byte

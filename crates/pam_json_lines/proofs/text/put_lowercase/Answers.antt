@@ -1,7 +1,7 @@
 use Rattle.std.proofs.Common.{◌++◌, codes, map}
 use Rattle.std.specs.Char.{to_ascii_lowercase}
 use Rattle.json.specs.Print.{escape}
-use Rattle.pam_text.proofs.Writing.{all-then, err-front, front-longer, front-then, writes-then}
+use Rattle.pam_text.proofs.Writing.{err-front, front-longer, front-then, writes-then}
 use Rattle.pam_json_lines.proofs.text.put_lowercase.Goals as goal
 
 pub returns-in_err-put : goal.returns-in_err-put

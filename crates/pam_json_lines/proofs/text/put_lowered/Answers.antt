@@ -1,8 +1,8 @@
-use Rattle.std.proofs.Common.{◌∙◌, ◌+◌, ap, drop, map}
+use Rattle.std.proofs.Common.{◌+◌, ap, drop, map}
 use Rattle.std.specs.Char.{to_ascii_lowercase}
 use Rattle.json.specs.Print.{escape, escape_byte}
 use Rattle.pam_text.proofs.Writing.{err-front, front-is, front-longer, front-then}
-use Rattle.pam_json_lines.proofs.FlatTexts.{flat_map-seen_at}
+use Rattle.pam_text.proofs.FlatTexts.{flat_map-seen_at}
 use Rattle.pam_json_lines.proofs.text.put_lowered.Goals as goal
 
 pub returns-in_err-put_byte : goal.returns-in_err-put_byte

@@ -3,7 +3,7 @@ use Rattle.std.specs.List.{flat_map}
 use Rattle.std.specs.Str.Lossy.{utf8_lossy}
 use Rattle.json.specs.Print.{escape}
 use Rattle.pam_text.proofs.Writing.{err-front, front-is, front-longer, front-then}
-use Rattle.pam_json_lines.proofs.FlatTexts.{flat_map-at}
+use Rattle.pam_text.proofs.FlatTexts.{flat_map-at}
 use Rattle.pam_json_lines.specs.declared.text.Part.{Part}
 use Rattle.pam_json_lines.proofs.text.put_parts.Goals as goal
 

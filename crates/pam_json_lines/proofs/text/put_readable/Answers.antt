@@ -1,7 +1,7 @@
 use Rattle.std.proofs.Common.{◌++◌, codes}
 use Rattle.std.specs.Str.Lossy.{utf8_lossy}
 use Rattle.json.specs.Print.{escape}
-use Rattle.pam_text.proofs.Writing.{all-then, err-front, front-longer, front-then, writes-then}
+use Rattle.pam_text.proofs.Writing.{err-front, front-longer, front-then, writes-then}
 use Rattle.pam_json_lines.proofs.text.put_readable.Goals as goal
 
 pub returns-in_err-put : goal.returns-in_err-put

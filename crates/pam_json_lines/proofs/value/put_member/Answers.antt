@@ -1,4 +1,4 @@
-use Rattle.std.proofs.Common.{◌∷◌, ◌++◌, ap, codes}
+use Rattle.std.proofs.Common.{◌∷◌, ap}
 use Rattle.json.specs.Print.{quoted}
 use Rattle.serde_json.specs.Written.{compact_text}
 use Rattle.pam_text.proofs.Writing.{all-is, err-front, front-is, front-longer, front-then, writes-then}

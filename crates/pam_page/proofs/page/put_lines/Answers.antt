@@ -4,7 +4,7 @@ use Rattle.std.specs.Prelude.{OnOk}
 use Rattle.std.proofs.lemmas.List.{drop-drop}
 use Rattle.pam_codes.proofs.Writing.{err-front, front-is, front-longer, writes-is, writes-then}
 use Rattle.pam_page.proofs.AddedLines.{holds-cut, holds-failed, holds-is, holds-more, holds-written}
-use Rattle.pam_page.proofs.FlatTexts.{flat_map-push}
+use Rattle.pam_text.proofs.FlatTexts.{flat_map-push}
 use Rattle.pam_page.proofs.KeptTexts.{kept_shared}
 use Rattle.pam_page.proofs.ListingSteps.{none_left, steps_more, when_ok}
 use Rattle.pam_page.proofs.PageTexts.{goes, page_front, page_none, page_rest}

@@ -1,7 +1,7 @@
 use Rattle.std.proofs.Common.{◌+◌, drop, map, ap}
 use Rattle.std.specs.List.{flat_map}
 use Rattle.pam_codes.proofs.Writing.{err-front, front-is, front-longer, front-then}
-use Rattle.pam_page.proofs.FlatTexts.{flat_map-seen_at}
+use Rattle.pam_text.proofs.FlatTexts.{flat_map-seen_at}
 use Rattle.pam_page.specs.Page.{step_text}
 use Rattle.pam_paths.specs.Steps.{step_seen}
 use Rattle.pam_paths.specs.declared.path.PathStep.{PathStep}

@@ -1,7 +1,7 @@
 use Rattle.std.proofs.Common.{◌+◌, ℕ, drop}
 use Rattle.std.specs.List.{flat_map}
 use Rattle.pam_text.proofs.Writing.{err-front, front-is, front-longer, front-then}
-use Rattle.pam_page.proofs.FlatTexts.{flat_map-at}
+use Rattle.pam_text.proofs.FlatTexts.{flat_map-at}
 use Rattle.pam_parts.specs.Findings.{Unused}
 use Rattle.pam_parts.proofs.findings.put_all_unused.Goals as goal
 

@@ -1,7 +1,7 @@
 use Rattle.std.proofs.Common.{◌+◌, drop, map}
 use Rattle.std.specs.List.{flat_map}
 use Rattle.pam_codes.proofs.Writing.{err-front, front-is, front-longer, front-then}
-use Rattle.pam_page.proofs.FlatTexts.{flat_map-seen_at}
+use Rattle.pam_text.proofs.FlatTexts.{flat_map-seen_at}
 use Rattle.pam_print.proofs.ExplainTexts.{line-is}
 use Rattle.pam_print.specs.Explain.{example_line}
 use Rattle.pam_print.proofs.explain.put_lines.Goals as goal

@@ -1,7 +1,7 @@
 use Rattle.std.proofs.Common.{◌≡◌, ℕ, ◌+◌, ◌<◌, List, [], ◌∷◌, ◌++◌, length, take, drop, get_or, codes, if◌then◌else◌, sym, ap, ◌∙◌}
 use Rattle.pam_codes.proofs.TextSteps.{unequal}
 use Rattle.pam_codes.proofs.Writing.{err-front, front-then, front-longer, front-is}
-use Rattle.pam_page.proofs.FlatTexts.{flat_map-at}
+use Rattle.pam_text.proofs.FlatTexts.{flat_map-at}
 use Rattle.pam_print.specs.WordText.{escaped, escaped_byte}
 use Rattle.pam_print.proofs.word.put_escaped.Goals as goal
 

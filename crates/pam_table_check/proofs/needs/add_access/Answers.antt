@@ -1,4 +1,4 @@
-use Rattle.std.proofs.Common.{List, ap, map, subst, sym, ℕ}
+use Rattle.std.proofs.Common.{List, ap, map, subst, ℕ}
 use Rattle.pam_paths.specs.Classes.{Member}
 use Rattle.pam_tables.specs.Options.{Options, options_of}
 use Rattle.pam_table_check.specs.Needs.{OfAccess}

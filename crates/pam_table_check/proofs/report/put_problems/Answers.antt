@@ -1,4 +1,4 @@
-use Rattle.std.proofs.Common.{◌∙◌, [], List, ap, map, not, subst, sym, ℕ}
+use Rattle.std.proofs.Common.{◌∙◌, [], List, ap, map, not, subst, sym}
 use Rattle.std.proofs.lemmas.Result.{on_ok_weaker}
 use Rattle.pam_conf.specs.Files.{Folder}
 use Rattle.pam_table_check.specs.Needs.{IsNeeded}

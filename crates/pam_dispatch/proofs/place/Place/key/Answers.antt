@@ -1,4 +1,4 @@
-use Rattle.std.proofs.Common.{◌≡◌, ◌∙◌, ℕ, List, ap, arith, drop, min, take}
+use Rattle.std.proofs.Common.{◌≡◌, ◌∙◌, ℕ, ap, arith, drop, min, take}
 use Rattle.pam_dispatch.specs.declared.entered.TheConstants.{LISTS}
 use Rattle.pam_dispatch.specs.Flat.{rest_of, resume}
 use Rattle.pam_dispatch.specs.Keys.{KeyValue, key_of, rest_at}

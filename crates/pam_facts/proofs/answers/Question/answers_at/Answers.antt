@@ -1,4 +1,4 @@
-use Rattle.std.proofs.Common.{◌≡◌, subst, refl, ap, ◌∙◌, Option}
+use Rattle.std.proofs.Common.{ap, ◌∙◌, Option}
 use Rattle.std.specs.Option.{option_map, option_map_or}
 use Rattle.pam_codes.specs.Code.{all_codes}
 use Rattle.pam_conf.specs.Stack.{ModuleText}

@@ -1,4 +1,4 @@
-use Rattle.std.proofs.Common.{◌∙◌, sym}
+use Rattle.std.proofs.Common.{◌∙◌}
 use Rattle.pam_facts.proofs.KindSteps.{at_end, at_start, no_kind, one_more}
 use Rattle.pam_facts.proofs.kinds.Kinds.named.Goals as goal
 

@@ -2,7 +2,7 @@ use Rattle.std.proofs.Common.{◌+◌, drop}
 use Rattle.std.specs.List.{flat_map}
 use Rattle.pam_changes.specs.declared.modules.MatchedPair.{MatchedPair}
 use Rattle.pam_text.proofs.Writing.{err-front, front-is, front-longer, front-then}
-use Rattle.pam_page.proofs.FlatTexts.{flat_map-at}
+use Rattle.pam_text.proofs.FlatTexts.{flat_map-at}
 use Rattle.pam_parts.specs.Compared.{Arguments}
 use Rattle.pam_parts.specs.ComparedView.{head_view}
 use Rattle.pam_parts.proofs.compared.pair.put_arguments.Goals as goal

@@ -1,7 +1,7 @@
 use Rattle.std.proofs.Common.{◌+◌, drop, ap}
 use Rattle.std.specs.List.{flat_map}
 use Rattle.pam_codes.proofs.Writing.{err-front, front-is, front-longer, front-then}
-use Rattle.pam_page.proofs.FlatTexts.{flat_map-at}
+use Rattle.pam_text.proofs.FlatTexts.{flat_map-at}
 use Rattle.pam_print.specs.Check.{answer_text, next_answer}
 use Rattle.pam_print.proofs.check.finding.put_next_answers.Goals as goal
 

@@ -1,7 +1,7 @@
 use Rattle.std.proofs.Common.{◌+◌, ap, drop}
 use Rattle.std.specs.List.{flat_map}
 use Rattle.pam_codes.proofs.Writing.{err-front, front-is, front-longer, front-then}
-use Rattle.pam_page.proofs.FlatTexts.{flat_map-at}
+use Rattle.pam_text.proofs.FlatTexts.{flat_map-at}
 use Rattle.pam_print.specs.inner.CompareParts.{part_text}
 use Rattle.pam_print.proofs.compare.parts.put_parts.Goals as goal
 
