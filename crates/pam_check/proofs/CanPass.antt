@@ -11,7 +11,7 @@ use Rattle.pam_codes.specs.declared.action.Action.TheVariants.{Ignore}
 use Rattle.pam_codes.specs.Set.{is_in}
 use Rattle.pam_dispatch.specs.State.{action_of}
 use Rattle.pam_paths.proofs.Alike.{Member-codes}
-use Rattle.pam_check.specs.Asked.{is_past_end}
+use Rattle.pam_graph.specs.PastEnds.{is_past_end}
 use Rattle.pam_check.specs.inner.PastEnd.{can_pass}
 use Rattle.pam_check.proofs.WaysIn.{passing-any}
 

@@ -11,7 +11,8 @@ use Rattle.pam_dispatch.specs.State.{action_of, start_state}
 use Rattle.pam_paths.specs.Classes.{Member}
 use Rattle.pam_paths.specs.Listing.{Allowance, IsLawful}
 use Rattle.pam_paths.proofs.Alike.{Member-codes, Member-codes_back, Member-filter, Member-filter_back}
-use Rattle.pam_check.specs.Asked.{AreExactly, Asks, IsNeverAsked, JumpsPastEnd, is_past_end}
+use Rattle.pam_check.specs.Asked.{AreExactly, Asks, IsNeverAsked, JumpsPastEnd}
+use Rattle.pam_graph.specs.PastEnds.{is_past_end}
 use Rattle.pam_check.specs.inner.Marks.{AreMarks, SaysAsked, mark_of}
 use Rattle.pam_check.specs.inner.PastEnd.{can_pass, numbers_where, passes}
 use Rattle.pam_check.proofs.Exactly.{range-rises, where-rises}

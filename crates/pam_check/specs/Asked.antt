@@ -1,11 +1,10 @@
 -- Which modules are asked, and what they do to the run of their list: pam.conf(5), DESCRIPTION, the actions of a control.
-use Rattle.std.specs.Prelude.{◌≡◌, ◌↔◌, ℕ, ◌<◌, ◌≤◌, nat_lt, Bool, false, IsTrue, List, [], ◌∷◌}
-use Rattle.pam_codes.specs.declared.action.Action.{Action}
-use Rattle.pam_codes.specs.declared.action.Action.TheVariants.{Ignore, Ok, Done, Bad, Die, Reset, Jump}
+use Rattle.std.specs.Prelude.{◌≡◌, ◌↔◌, ℕ, ◌<◌, ◌≤◌, IsTrue, List, [], ◌∷◌}
 use Rattle.pam_conf.specs.Stack.{Items, module_count}
 use Rattle.pam_dispatch.specs.Runs.{Ask, Assignment}
 use Rattle.pam_dispatch.specs.State.{action_of, start_state}
 use Rattle.pam_dispatch.specs.Tree.{asked}
+use Rattle.pam_graph.specs.PastEnds.{is_past_end}
 use Rattle.pam_paths.specs.Classes.{Member}
 use Rattle.pam_paths.specs.Listing.{Allowance, IsAllowed}
 
@@ -22,16 +21,6 @@ pub record IsNeverAsked (allows : Allowance) (items : Items) (number : ℕ) : Ty
   pub first : 1 ≤ number
   pub last : number ≤ module_count items
   pub never : Asks allows items number → ⊥
-
--- an action jumps past the end of its list, which has this number of items after the module
-abbrev pub is_past_end : ℕ → Action → Bool
-is_past_end after (Jump items) = nat_lt after items
-is_past_end after Ignore = false
-is_past_end after Ok = false
-is_past_end after Done = false
-is_past_end after Bad = false
-is_past_end after Die = false
-is_past_end after Reset = false
 
 -- S4: allowed answers of a run that asks the module with this number; its own answer jumps past the end of its list
 pub record JumpsPastEnd (allows : Allowance) (items : Items) (number : ℕ) : Type 0 where

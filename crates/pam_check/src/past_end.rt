@@ -4,27 +4,16 @@ ghost use Rattle.std.specs.Prelude.{◌≡◌, ◌∷◌, ◌++◌, [], IfErr, I
 ghost use Rattle.pam_conf.specs.ItemsOf.{items_of, module_text};
 ghost use Rattle.pam_graph.specs.declared.error.GraphError.TheVariants.{Memory};
 ghost use Rattle.pam_paths.specs.Known.{may_answer};
-ghost use Rattle.pam_check.specs.Asked.{AreExactly, JumpsPastEnd, is_past_end};
+ghost use Rattle.pam_check.specs.Asked.{AreExactly, JumpsPastEnd};
 ghost use Rattle.pam_check.specs.inner.Marks.{AreMarks};
 ghost use Rattle.pam_check.specs.inner.PastEnd.{can_pass, numbers_where, passes};
 
 use crate::asked::{Marks, is_marked};
-use pam_codes::{Action, CODES, Code, CodeSet, Control};
+use pam_codes::{CODES, Code, CodeSet, Control};
 use pam_conf::{Item, Module, Stack};
-use pam_graph::GraphError;
+use pam_graph::{GraphError, is_past_end};
 use pam_paths::{Knowledge, Known};
 use std::alloc::Global;
-
-/// Whether `action` jumps past the end of its list, which has `items_after` items after the module.
-fn is_past_end(items_after: usize, action: Action) -> bool
-    ensures { result ≡ is_past_end items_after action }
-{
-    match action {
-        Action::Jump(items) => items_after < items as usize,
-        Action::Ignore | Action::Ok | Action::Done | Action::Bad | Action::Die | Action::Reset =>
-            false,
-    }
-}
 
 /// Whether one of `codes` jumps past the end of a list.
 fn can_pass(control: &Control, codes: CodeSet, items_after: usize) -> bool

@@ -36,7 +36,7 @@ reset-any [] code e = absurd (let k : ⊥ = cc in k)
 reset-any (a ∷ control) zero e = rw e refl
 reset-any (a ∷ control) (suc code) e = or_right (is_reset a) (list_any is_reset control) (reset-any control code e)
 
-outcome-same : (m : ℕ) (control : List Action) (s e f : State) (after : ℕ) → (list_any is_reset control ≡ true → e ≡ f) → (code : ℕ) →
+pub outcome-same : (m : ℕ) (control : List Action) (s e f : State) (after : ℕ) → (list_any is_reset control ≡ true → e ≡ f) → (code : ℕ) →
     outcome_of (asked_with m control s e after) code ≡ outcome_of (asked_with m control s f after) code
 unfolding outcome_of
 outcome-same m control s e f after h code =

@@ -2,7 +2,7 @@
 
 ghost use Rattle.std.specs.Prelude.{◌≡◌, Some, slice_get};
 ghost use Rattle.pam_dispatch.specs.Runs.{outcome_of, situation_of};
-ghost use Rattle.pam_dispatch.specs.Situations.{representative, status_told};
+ghost use Rattle.pam_dispatch.specs.Situations.{entry_told, representative, status_told};
 ghost use Rattle.pam_dispatch.specs.declared.state.Impression.TheVariants.{Negative};
 
 use crate::state::{Impression, State};
@@ -43,18 +43,27 @@ fn failure_told(status: Code, entry: State) -> Code
     }
 }
 
+/// The state in which a list was entered, as far as the answers of a module depend on it.
+#[inline(always)]
+fn entry_told(resets: bool, entry: State) -> State
+    ensures { result ≡ entry_told resets entry }
+{
+    if resets { entry } else { State::start() }
+}
+
 impl Situation {
-    /// The situation that represents all those in which the same answers are alike. After most failures its status is one
-    /// and the same.
+    /// The situation that represents all those in which the same answers of a module are alike; `resets` says whether its
+    /// control has the action `reset`. After most failures its status is one and the same.
     #[inline(always)]
-    pub fn representative(&self) -> Situation
-        ensures { result ≡ representative self.now }
+    pub fn representative(&self, resets: bool) -> Situation
+        ensures { result ≡ representative resets self.now }
     {
         Situation {
             state: State {
                 impression: self.state.impression,
-                status: status_told(self.state, self.entry),
+                status: status_told(self.state, entry_told(resets, self.entry)),
             },
+            entry: entry_told(resets, self.entry),
             ..*self
         }
     }

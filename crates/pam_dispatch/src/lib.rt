@@ -29,6 +29,7 @@ pub use pam_conf::MAX_MODULES;
 pub use place::Place;
 pub use place_table::PlaceTable;
 pub use program::Program;
+pub use read_levels::has_reset;
 pub use settled::{SettledRun, SettledRun as Rest, keeps_failure};
 pub use state::{Impression, State};
 pub use step::{Outcome, Step};

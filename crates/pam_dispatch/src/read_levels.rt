@@ -29,7 +29,7 @@ fn is_reset(action: Action) -> bool
 }
 
 /// Whether the action of some code is a reset.
-fn has_reset(control: &Control) -> bool
+pub fn has_reset(control: &Control) -> bool
     ensures { result ≡ list_any is_reset control.now }
 {
     for number in 0..CODES as u8 {

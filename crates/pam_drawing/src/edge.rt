@@ -194,11 +194,12 @@ pub(crate) fn put_ends<W: Write>(
     put_ends_closing(format, out)
 }
 
-fn put_target<W: Write>(target: Target, out: &mut Out<W>) -> Result<(), Device>
+/// Writes the id of the shape of a target. Returns `Device` if the writer fails.
+pub fn put_target<W: Write>(target: Target, out: &mut Out<W>) -> Result<(), Device>
     ensures { Writes W.contents out.old out.new result (target_text target) }
 {
     match target {
-        Target::At(index) => out.put_line(&[Piece::Bytes(b"n"), Piece::Number(index as u64)]),
+        Target::At(index) => out.put_line(&[Piece::Bytes(b"n"), Piece::Number(u64::from(index))]),
         Target::End(decision) => {
             out.put_line(&[
                 Piece::Bytes(b"d"),

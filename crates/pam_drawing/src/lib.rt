@@ -10,7 +10,7 @@ mod node;
 mod xml;
 
 pub use drawing::{write_dot, write_mermaid};
-pub use edge::drawn_ends;
+pub use edge::{drawn_ends, put_target};
 pub use label::ascii_byte;
 pub use node::{impression_name, name_at, name_of};
 pub use xml::{put_escaped, put_escaped_byte};

@@ -46,16 +46,17 @@ impl<'a> Iterator for Names<'a> {
 }
 
 /// Some of the four kinds.
-#[derive(Clone, Copy)]
-pub(crate) struct Kinds {
-    pub(crate) auth: bool,
-    pub(crate) account: bool,
-    pub(crate) password: bool,
-    pub(crate) session: bool,
+#[derive(Clone, Copy, Debug, PartialEq, Eq)]
+pub struct Kinds {
+    pub auth: bool,
+    pub account: bool,
+    pub password: bool,
+    pub session: bool,
 }
 
 impl Kinds {
-    fn none() -> Kinds
+    /// No kind.
+    pub fn none() -> Kinds
         ensures { result ≡ no_kinds }
     {
         Kinds {
@@ -66,7 +67,8 @@ impl Kinds {
         }
     }
 
-    fn insert(&mut self, kind: Kind)
+    /// Adds `kind`, if it is not there yet.
+    pub fn insert(&mut self, kind: Kind)
         ensures { self.new ≡ with_kind kind self.old }
     {
         match kind {

@@ -18,6 +18,7 @@ mod words;
 pub use answers::is_there;
 pub use error::{FactsError, FactsFault};
 pub use facts::Facts;
+pub use kinds::Kinds;
 pub use missing::set_missing;
 pub use paths::module_name;
 pub use row::{Class, CodesByKind, Fact};

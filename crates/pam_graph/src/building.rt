@@ -51,7 +51,7 @@ fn find(program: &Program, places: &PlaceTable, place: &Place) -> Option<usize>
 /// Adds a node for `place`, if there are fewer than `limit`.
 #[inline(never)]
 fn add(
-    limit: usize,
+    limit: u32,
     program: &Program,
     draft: &mut Draft,
     place: &Place,
@@ -63,14 +63,15 @@ fn add(
     ensures node { OnOk result (draft.new.nodes.items ≡ draft.old.nodes.items ++ node ∷ []) }
     ensures place { OnOk result (draft.new.places ≡ draft.old.places ++ node_key program.now place.now ∷ []) }
     ensures cache { draft.new.cache ≡ draft.old.cache }
+    ensures fits { OnOk result (length draft.new.places ≤ limit) }
     ensures many { IfErr result (λ e. e ≡ TooManyNodes → (keys : List KeyValue) × (keys ≡ draft.old.places ++ node_key program.now place.now ∷ [])
         × (limit < length keys) × AreDifferent keys) }
 {
     draft.places.push(program.key_at(place))?;
-    if draft.places.len() > limit {
+    if draft.places.len() > limit as usize {
         return Err(GraphError::TooManyNodes);
     }
-    let index = draft.nodes.len();
+    let index = draft.nodes.len() as u32;
     draft.nodes.push(node)?;
     Ok(Target::At(index))
 }
@@ -82,7 +83,7 @@ pub(crate) fn target_of<K: Knowledge>(
     alloc: Global,
     program: &Program,
     knowledge: &K,
-    limit: usize,
+    limit: u32,
     place: &Place,
     draft: &mut Draft,
 ) -> Result<Target, GraphError>
@@ -93,6 +94,8 @@ pub(crate) fn target_of<K: Knowledge>(
     requires cache { IsCacheFor (K.allows knowledge.now) program.now draft.old.cache }
     requires reached { IsReached (K.allows knowledge.now) program.now place.now }
     requires keys { AreReachedKeys (K.allows knowledge.now) program.now draft.old.places }
+    requires fits { length draft.old.places ≤ limit }
+    ensures fits { OnOk result (length draft.new.places ≤ limit) }
     ensures cache { IsCacheFor (K.allows knowledge.now) program.now draft.new.cache }
     ensures keys { OnOk result (AreReachedKeys (K.allows knowledge.now) program.now draft.new.places) }
 
@@ -111,7 +114,7 @@ pub(crate) fn target_of<K: Knowledge>(
         return Ok(Target::End(program.decision(place).code()));
     };
     if let Some(index) = find(program, &draft.places, place) {
-        return Ok(Target::At(index));
+        return Ok(Target::At(index as u32));
     }
     let fork = Fork::at(program, knowledge, &mut draft.cache, place, module_number);
     let mut edges = Vec::with_capacity(alloc, fork.choices())?;
@@ -158,7 +161,7 @@ impl Graph {
         alloc: Global,
         program: &Program,
         knowledge: &K,
-        limit: usize,
+        limit: u32,
     ) -> Result<Graph, GraphError>
         ensures listing { IfOk result (λ graph.
             IsListing (K.allows knowledge.now) (modules_of program.now) (path_of (runs_of program.now)) (walks graph)) }

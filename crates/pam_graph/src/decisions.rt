@@ -53,7 +53,7 @@ fn with_target(codes: CodeSet, known: &[CodeSet], target: &Target) -> CodeSet
     ensures { result ≡ with_target known.now codes target.now }
 {
     match target {
-        Target::At(index) => codes.union(known[*index]),
+        Target::At(index) => codes.union(known[*index as usize]),
         Target::End(decision) => {
             let mut more = codes;
             more.insert(*decision);
@@ -96,7 +96,7 @@ fn leads_to(known: &[CodeSet], code: Code, target: &Target) -> bool
     // A code says with its number that it is one of these.
     let _number = code.number();
     match target {
-        Target::At(index) => known[*index].contains(code),
+        Target::At(index) => known[*index as usize].contains(code),
         Target::End(decision) => code == *decision,
     }
 }
@@ -138,7 +138,7 @@ fn first_from(nodes: &[Node], known: &[CodeSet], code: Code, start: Target) -> P
                 return path;
             }
             Target::At(index) => {
-                let node = &nodes[index];
+                let node = &nodes[index as usize];
                 let Some(edge) = edge_to(known, code, &node.edges) else {
                     unreachable!()
                 };

@@ -221,7 +221,7 @@ impl Search<'_> {
             match target {
                 Target::End(decision) => return decision,
                 Target::At(index) => {
-                    let next = self.enter(index, is_met, frames);
+                    let next = self.enter(index as usize, is_met, frames);
                     target = next.target;
                     is_met = next.is_met;
                 }

@@ -4,7 +4,7 @@ use crate::node::{Node, Target};
 use std::marker::Model;
 
 /// The most nodes that a graph may have.
-pub const MAX_NODES: usize = 65_536;
+pub const MAX_NODES: u32 = 65_536;
 
 /// The graph of all runs of a stack.
 #[derive(Drop)]

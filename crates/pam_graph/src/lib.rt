@@ -21,5 +21,5 @@ pub use error::GraphError;
 pub use goal::Goal;
 pub use graph::{Graph, MAX_NODES};
 pub use node::{Edge, Node, Target};
-pub use past_ends::PastEnds;
+pub use past_ends::{PastEnds, is_past_end};
 pub use walks::Walks;

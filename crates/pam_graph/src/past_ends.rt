@@ -35,7 +35,7 @@ impl Model for PastEnds {
 }
 
 /// Whether `action` jumps past the end of its list, which has `items_after` items after the module.
-fn is_past_end(items_after: usize, action: Action) -> bool
+pub fn is_past_end(items_after: usize, action: Action) -> bool
     ensures { result ≡ is_past_end items_after action }
 {
     match action {

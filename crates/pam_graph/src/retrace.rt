@@ -125,7 +125,7 @@ impl Search<'_> {
             let Target::At(index) = way.target else {
                 return self.way_past(true, way);
             };
-            let Some(next) = self.retrace_code(index, way.is_met, *code, frames) else {
+            let Some(next) = self.retrace_code(index as usize, way.is_met, *code, frames) else {
                 return None;
             };
             way = next;

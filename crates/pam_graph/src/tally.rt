@@ -78,9 +78,9 @@ pub(crate) fn count_to(
 {
     match target {
         Target::At(index) => if is_met {
-            tallies[*index].all
+            tallies[*index as usize].all
         } else {
-            tallies[*index].met
+            tallies[*index as usize].met
         },
         Target::End(decision) => if is_met || met_at_end(goal, *decision) {
             Some(1)

@@ -33,8 +33,9 @@ fn come_to(
 {
     match target {
         Target::At(index) => {
-            let sum = plus(ways[*index], number);
-            ways[*index] = sum;
+            let index = *index as usize;
+            let sum = plus(ways[index], number);
+            ways[index] = sum;
         }
         Target::End(decision) => {
             let index = usize::from(decision.number());

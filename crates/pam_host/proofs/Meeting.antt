@@ -6,14 +6,15 @@ use Rattle.std.proofs.lemmas.Bool.{cases_Bool, eqb-true, eq-eqb, false≢true}
 use Rattle.pam_conf.specs.declared.rule.Kind.{Kind}
 use Rattle.pam_conf.specs.declared.rule.Kind.TheVariants.{Auth, Account, Password, Session}
 use Rattle.pam_paths.specs.Classes.{Member}
-use Rattle.pam_host.specs.inner.Meeting.{Changes, MetSoFar, also_met, no_kinds, with_kind}
-use Rattle.pam_host.specs.Met.{AreMet, IsMetByNone, RiseFrom, has_kind}
-use Rattle.pam_host.specs.declared.met.Kinds.{Kinds}
+use Rattle.pam_host.specs.inner.Meeting.{Changes, MetSoFar, also_met}
+use Rattle.pam_host.specs.Met.{AreMet, IsMetByNone, RiseFrom}
+use Rattle.pam_facts.specs.Kinds.{has_kind, no_kinds, with_kind}
+use Rattle.pam_facts.specs.declared.kinds.Kinds.{Kinds}
 use Rattle.pam_host.specs.declared.met.Met.{Met}
 
 -- KINDS
 
-pub has-with : (kind : Kind) (kinds : Kinds) (other : Kind) → (has_kind (with_kind kind kinds) other ≡ true) ↔ ((other ≡ kind) ⊎ (has_kind kinds other ≡ true))
+pub has-with : (kind : Kind) (kinds : Kinds) (other : Kind) → (has_kind other (with_kind kind kinds) ≡ true) ↔ ((other ≡ kind) ⊎ (has_kind other kinds ≡ true))
 has-with Auth kinds Auth = (λ h. inl refl, λ h. refl)
 has-with Auth kinds Account = (λ h. inr h, λ h. elim h [ inl e ↦ absurd cc | inr t ↦ t ])
 has-with Auth kinds Password = (λ h. inr h, λ h. elim h [ inl e ↦ absurd cc | inr t ↦ t ])
@@ -31,7 +32,7 @@ has-with Session kinds Account = (λ h. inr h, λ h. elim h [ inl e ↦ absurd c
 has-with Session kinds Password = (λ h. inr h, λ h. elim h [ inl e ↦ absurd cc | inr t ↦ t ])
 has-with Session kinds Session = (λ h. inl refl, λ h. refl)
 
-pub has-none : (kind : Kind) → has_kind no_kinds kind ≡ true → ⊥
+pub has-none : (kind : Kind) → has_kind kind no_kinds ≡ true → ⊥
 has-none Auth h = false≢true h
 has-none Account h = false≢true h
 has-none Password h = false≢true h
@@ -97,8 +98,8 @@ module _ (service : ℕ) (kind : Kind) (P Q : ℕ → Kind → Type 0) (upto : (
   it : Q service kind
   it = (one_more service kind).1 (inr (refl, refl))
 
-  more-kinds : (kinds : Kinds) → ((k : Kind) → (has_kind kinds k ≡ true) ↔ ((s : ℕ) × P s k)) →
-      (k : Kind) → (has_kind (with_kind kind kinds) k ≡ true) ↔ ((s : ℕ) × Q s k)
+  more-kinds : (kinds : Kinds) → ((k : Kind) → (has_kind k kinds ≡ true) ↔ ((s : ℕ) × P s k)) →
+      (k : Kind) → (has_kind k (with_kind kind kinds) ≡ true) ↔ ((s : ℕ) × Q s k)
   more-kinds kinds h k = (
     λ t. elim ((has-with kind kinds k).0 t) [
       | inl e ↦ (service, (one_more service k).1 (inr (refl, e)))

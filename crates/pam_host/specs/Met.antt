@@ -1,16 +1,9 @@
 -- The stacks that meet a problem.
-use Rattle.std.specs.Prelude.{◌≡◌, ◌↔◌, ℕ, ◌+◌, ◌≤◌, Bool, true, List, [], ◌∷◌, Some, length, slice_get}
+use Rattle.std.specs.Prelude.{◌≡◌, ◌↔◌, ℕ, ◌+◌, ◌≤◌, true, List, [], ◌∷◌, Some, length, slice_get}
 use Rattle.pam_conf.specs.declared.rule.Kind.{Kind}
-use Rattle.pam_conf.specs.declared.rule.Kind.TheVariants.{Auth, Account, Password, Session}
+use Rattle.pam_facts.specs.Kinds.{has_kind}
 use Rattle.pam_paths.specs.Classes.{Member}
-use Rattle.pam_host.specs.declared.met.Kinds.{Kinds}
 use Rattle.pam_host.specs.declared.met.Met.{Met}
-
-abbrev pub has_kind : Kinds → Kind → Bool
-has_kind kinds Auth = kinds.auth
-has_kind kinds Account = kinds.account
-has_kind kinds Password = kinds.password
-has_kind kinds Session = kinds.session
 
 -- positions rise strictly, and the first is at least this
 unfoldable pub RiseFrom : ℕ → List ℕ → Type 0
@@ -29,7 +22,7 @@ module _ (Meets : ℕ → Kind → Type 0) where
 
   -- THE STACKS that meet it: their kinds, and their services, of which the first two and the last are named
   pub record AreMet (met : Met) : Type 0 where
-    pub kinds : (kind : Kind) → (has_kind met.kinds kind ≡ true) ↔ ((service : ℕ) × Meets service kind)
+    pub kinds : (kind : Kind) → (has_kind kind met.kinds ≡ true) ↔ ((service : ℕ) × Meets service kind)
     pub positions : List ℕ
     pub rising : RiseFrom 0 positions
     pub members : (service : ℕ) → Member service positions ↔ IsMetBy service

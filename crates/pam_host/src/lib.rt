@@ -24,7 +24,7 @@ mod walk;
 mod way_in;
 
 pub use level::Level;
-pub use met::{Kinds, Met};
+pub use met::Met;
 pub use problem::{Place, Problem, Spot};
 pub use report::{Finding, HostReport};
 pub use services::{add_name, has_name, named_services, services_in};

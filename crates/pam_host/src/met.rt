@@ -1,46 +1,20 @@
 //! The stacks that meet a problem.
 
 ghost use Rattle.std.specs.Prelude.{◌≡◌, IfOk, None};
-ghost use Rattle.pam_host.specs.inner.Meeting.{also_met, no_kinds, with_kind};
+ghost use Rattle.pam_facts.specs.Kinds.{with_kind};
+ghost use Rattle.pam_host.specs.inner.Meeting.{also_met};
 
 use pam_conf::Kind;
+use pam_facts::Kinds;
 use std::alloc::AllocError;
 
-/// Kinds of stacks.
-#[derive(Clone, Copy, Debug, PartialEq, Eq)]
-pub struct Kinds {
-    pub auth: bool,
-    pub account: bool,
-    pub password: bool,
-    pub session: bool,
-}
-
-impl Kinds {
-    /// No kind.
-    fn none() -> Kinds
-        ensures { result ≡ no_kinds }
-    {
-        Kinds {
-            auth: false,
-            account: false,
-            password: false,
-            session: false,
-        }
-    }
-
-    /// These kinds and one more.
-    fn with(self, kind: Kind) -> Kinds
-        ensures { result ≡ with_kind kind self }
-    {
-        let mut kinds = self;
-        match kind {
-            Kind::Auth => kinds.auth = true,
-            Kind::Account => kinds.account = true,
-            Kind::Password => kinds.password = true,
-            Kind::Session => kinds.session = true,
-        }
-        kinds
-    }
+/// These kinds and one more.
+fn with_kind(kinds: Kinds, kind: Kind) -> Kinds
+    ensures { result ≡ with_kind kind kinds }
+{
+    let mut more = kinds;
+    more.insert(kind);
+    more
 }
 
 /// The stacks that meet a problem: their kinds, and the number of their services, of which the first two and the last are named
@@ -61,7 +35,7 @@ impl Met {
         ensures { result ≡ also_met service kind None }
     {
         Met {
-            kinds: Kinds::none().with(kind),
+            kinds: with_kind(Kinds::none(), kind),
             first: service,
             second: None,
             last: service,
@@ -76,7 +50,7 @@ impl Met {
         let Some(met) = met else {
             return Ok(Met::one(service, kind));
         };
-        let kinds = met.kinds.with(kind);
+        let kinds = with_kind(met.kinds, kind);
         if met.last == service {
             return Ok(Met { kinds, ..met });
         }

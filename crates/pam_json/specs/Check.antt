@@ -9,7 +9,7 @@ use Rattle.pam_conf.specs.declared.rule.Kind.TheVariants.{Auth, Account, Passwor
 use Rattle.pam_host.specs.Levels.{level_of}
 use Rattle.pam_host.specs.declared.level.Level.{Level}
 use Rattle.pam_host.specs.declared.level.Level.TheVariants.{Warning}
-use Rattle.pam_host.specs.declared.met.Kinds.{Kinds}
+use Rattle.pam_facts.specs.declared.kinds.Kinds.{Kinds}
 use Rattle.pam_host.specs.declared.met.Met.{Met}
 use Rattle.pam_host.specs.declared.problem.Place.{Place}
 use Rattle.pam_host.specs.declared.problem.Problem.{Problem}

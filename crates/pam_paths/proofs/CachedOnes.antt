@@ -3,12 +3,14 @@ use Rattle.std.proofs.Common.{◌≡◌, ◌≢◌, Bool, true, false, eqb, refl
 use Rattle.std.proofs.lemmas.List.{get_or-set_other}
 use Rattle.std.proofs.lemmas.Bool.{eqb-true, eqb-false}
 use Rattle.std.proofs.lemmas.Grind.{get_or-set_at}
+use Rattle.std.specs.List.{list_any}
 use Rattle.pam_codes.specs.Set.{codes_where}
 use Rattle.pam_codes.specs.declared.action.Action.{Action}
 use Rattle.pam_dispatch.specs.declared.asked.Situation.{Situation}
 use Rattle.pam_dispatch.specs.declared.flat_item.FlatItem.{FlatItem}
 use Rattle.pam_dispatch.specs.declared.place.Place.{Place}
 use Rattle.pam_dispatch.specs.Flat.{IsPlaceOf, control_at, modules_of, rest_of}
+use Rattle.pam_dispatch.specs.Representatives.{is_reset}
 use Rattle.pam_dispatch.specs.Runs.{Ask, AsksRise, asked_module, next_ask, situation_of}
 use Rattle.pam_dispatch.specs.Situations.{representative}
 use Rattle.pam_dispatch.proofs.Asking.{number-next_ask}
@@ -20,7 +22,7 @@ use Rattle.pam_paths.specs.Frames.{AreClasses, offered_at}
 use Rattle.pam_paths.specs.inner.Frames.{IsFrame}
 use Rattle.pam_paths.specs.Cached.{AreCached, IsCachedFor}
 use Rattle.pam_paths.specs.Listing.{Allowance}
-use Rattle.pam_paths.proofs.Situations.{from-normal, normal, same-offered, to-normal}
+use Rattle.pam_paths.proofs.Situations.{from-normal, has_reset, normal, same-offered, to-normal}
 
 -- a module with one control is asked in one way in each situation
 same-ask : (a b : Ask) → a.module_number ≡ b.module_number → a.control ≡ b.control → situation_of a ≡ situation_of b → a ≡ b
@@ -38,18 +40,23 @@ module _ (allows : Allowance) (program : List FlatItem) (number : ℕ) where
   pub cached-of : (at : Place) (kept : CachedClasses) → IsPlaceOf program at → asked_module (rest_of program at) ≡ Some number →
       ((other : Place) → IsPlaceOf program other → asked_module (rest_of program other) ≡ Some number →
       (next_ask (rest_of program other)).control ≡ control_at program number) →
-      kept.situation ≡ Some (representative (situation_of (next_ask (rest_of program at)))) → kept.classes.offered ≡ offered_at allows (rest_of program at) →
-      AreClasses (next_ask (rest_of program at)) kept.classes → IsCachedFor allows program number kept
+      kept.resets ≡ list_any is_reset (control_at program number) →
+      kept.situation ≡ Some (representative kept.resets (situation_of (next_ask (rest_of program at)))) →
+      kept.classes.offered ≡ offered_at allows (rest_of program at) → AreClasses (next_ask (rest_of program at)) kept.classes →
+      IsCachedFor allows program number kept
   unfolding IsCachedFor
-  cached-of at kept there here control situation offered classes place valid asked is =
+  cached-of at kept there here control resets situation offered classes place valid asked is =
       let here_asked = next_ask (rest_of program at) in
       let there_asked = next_ask (rest_of program place) in
-      let same : normal here_asked ≡ normal there_asked =
+      let here_resets : kept.resets ≡ has_reset here_asked = resets ∙ sym (ap (list_any is_reset) (control at there here)) in
+      let there_resets : kept.resets ≡ has_reset there_asked = resets ∙ sym (ap (list_any is_reset) (control place valid asked)) in
+      let same : normal kept.resets here_asked ≡ normal kept.resets there_asked =
       same-ask _ _ (number-next_ask (rest_of program at) number here ∙ sym (number-next_ask (rest_of program place) number asked))
       (control at there here ∙ sym (control place valid asked)) (some-is _ _ (sym situation ∙ is)) in (
-        offered ∙ sym (same-offered allows here_asked) ∙ ap (λ (a : Ask). codes_where (is_offered allows a)) same ∙ same-offered allows there_asked,
-        from-normal there_asked kept.classes
-            (subst (λ (a : Ask). AreClasses a kept.classes) same (to-normal here_asked kept.classes classes)),
+        offered ∙ sym (same-offered kept.resets here_asked here_resets allows) ∙ ap (λ (a : Ask). codes_where (is_offered allows a)) same
+            ∙ same-offered kept.resets there_asked there_resets allows,
+        from-normal kept.resets there_asked there_resets kept.classes
+            (subst (λ (a : Ask). AreClasses a kept.classes) same (to-normal kept.resets here_asked here_resets kept.classes classes)),
       )
 
   -- those of one module are replaced

@@ -1,7 +1,7 @@
 -- A module has the same classes in all situations with one representative.
 use Rattle.std.proofs.Common.{◌≡◌, ◌==◌, ◌&&◌, Bool, true, false, arith, cond, eqb, refl, ℕ, List, ap, nat_le, sym, ◌∙◌}
 use Rattle.std.specs.List.{list_any}
-use Rattle.std.proofs.lemmas.Bool.{eqb-true}
+use Rattle.std.proofs.lemmas.Bool.{eqb-true, false≢true}
 use Rattle.pam_codes.specs.Set.{codes_where}
 use Rattle.pam_codes.specs.inner.SetBits.{codes_where-same}
 use Rattle.pam_codes.specs.declared.action.Action.{Action}
@@ -10,9 +10,12 @@ use Rattle.pam_dispatch.specs.declared.state.Impression.{Impression}
 use Rattle.pam_dispatch.specs.declared.state.Impression.TheVariants.{Undef, Positive, Negative}
 use Rattle.pam_dispatch.specs.declared.state.State.{State}
 use Rattle.pam_dispatch.specs.declared.step.Outcome.{Outcome}
+use Rattle.pam_dispatch.specs.Representatives.{is_reset}
 use Rattle.pam_dispatch.specs.Runs.{Ask, outcome_of, situation_of}
 use Rattle.pam_dispatch.specs.Situations.{representative}
-use Rattle.pam_dispatch.specs.State.{act, action_of, left_of, perm_denied, state_with, success}
+use Rattle.pam_dispatch.specs.State.{act, action_of, left_of, perm_denied, start_state, state_with, success}
+use Rattle.pam_dispatch.proofs.EqualRests.{outcome-same}
+use Rattle.pam_dispatch.proofs.Places.{asked_with}
 use Rattle.pam_paths.specs.declared.classes.Classes.{Classes}
 use Rattle.pam_paths.specs.Classes.{class_at, class_of, impression_number, least, same_outcome}
 use Rattle.pam_paths.specs.Computed.{is_offered}
@@ -133,13 +136,13 @@ module _ (entry : State) (status : ℕ) (before : eqb 2 (impression_number entry
 abbrev same_of : Ask → ℕ → ℕ → Bool
 same_of ask c d = same_outcome (outcome_of ask c) (outcome_of ask d)
 
--- the module as it is asked in the situation that represents its own
-abbrev pub normal : Ask → Ask
-normal ask = record {
+-- the module as it is asked in the situation that represents its own, by whether its control has the action reset
+abbrev pub normal : Bool → Ask → Ask
+normal resets ask = record {
   module_number = ask.module_number;
   control = ask.control;
-  state = (representative (situation_of ask)).state;
-  entry = ask.entry;
+  state = (representative resets (situation_of ask)).state;
+  entry = (representative resets (situation_of ask)).entry;
   after = ask.after;
 }
 
@@ -155,7 +158,7 @@ failed-alike number control entry after c d status before after_it =
     ] refl
 
 told-alike : (number : ℕ) (control : List Action) (impression : Impression) (status : ℕ) (entered_in : Impression) (entered_with after c d : ℕ) →
-    same_of (normal (ask_of number control impression status (state_with entered_in entered_with) after)) c d
+    same_of (normal true (ask_of number control impression status (state_with entered_in entered_with) after)) c d
     ≡ same_of (ask_of number control impression status (state_with entered_in entered_with) after) c d
 told-alike number control Undef status entered_in entered_with after c d = refl
 told-alike number control Positive status entered_in entered_with after c d = refl
@@ -165,28 +168,49 @@ told-alike number control Negative status Undef entered_with after c d =
 told-alike number control Negative status Positive entered_with after c d =
     failed-alike number control (state_with Positive entered_with) after c d status refl refl
 
-pub same-class : (ask : Ask) (code : ℕ) → class_of (normal ask) code ≡ class_of ask code
+-- whether a control has the action reset
+abbrev pub has_reset : Ask → Bool
+has_reset ask = list_any is_reset ask.control
+
+class-told : (ask : Ask) (code : ℕ) → class_of (normal true ask) code ≡ class_of ask code
 unfolding class_at
-same-class ask code =
-    codes_where-same (λ d. same_of (normal ask) code d) (λ d. same_of ask code d) (λ d low.
+class-told ask code =
+    codes_where-same (λ d. same_of (normal true ask) code d) (λ d. same_of ask code d) (λ d low.
     told-alike ask.module_number ask.control ask.state.impression ask.state.status ask.entry.impression ask.entry.status ask.after code d)
 
-pub same-offered : (allows : Allowance) (ask : Ask) → codes_where (is_offered allows (normal ask)) ≡ codes_where (is_offered allows ask)
-unfolding is_offered
-same-offered allows ask =
-    codes_where-same (is_offered allows (normal ask)) (is_offered allows ask) (λ d low.
-    ap (λ (class : List ℕ). (least class == d) && list_any (allows ask.module_number) class) (same-class ask d))
+-- the module as it is asked where its list was entered in the state in which a run begins
+abbrev at_start : Ask → Ask
+at_start ask = asked_with ask.module_number ask.control ask.state start_state ask.after
 
-pub to-normal : (ask : Ask) (classes : Classes) → AreClasses ask classes → AreClasses (normal ask) classes
-to-normal ask classes are = record {
-  alone = λ code low no. same-class ask code ∙ are.alone code low no;
-  whole = λ code low yes. same-class ask code ∙ are.whole code low yes;
-  earlier = λ code low yes. same-class ask code ∙ are.earlier code low yes;
-}
+class-at_start : (ask : Ask) (code : ℕ) → false ≡ has_reset ask → class_of (at_start ask) code ≡ class_of ask code
+unfolding class_at
+class-at_start ask code none =
+    let same : (c : ℕ) → outcome_of (at_start ask) c ≡ outcome_of ask c =
+    outcome-same ask.module_number ask.control ask.state start_state ask.entry ask.after (λ some. absurd (false≢true (none ∙ some))) in
+    codes_where-same (λ d. same_of (at_start ask) code d) (λ d. same_of ask code d) (λ d low.
+    ap (λ (o : Outcome). same_outcome o (outcome_of (at_start ask) d)) (same code) ∙ ap (same_outcome (outcome_of ask code)) (same d))
 
-pub from-normal : (ask : Ask) (classes : Classes) → AreClasses (normal ask) classes → AreClasses ask classes
-from-normal ask classes are = record {
-  alone = λ code low no. sym (same-class ask code) ∙ are.alone code low no;
-  whole = λ code low yes. sym (same-class ask code) ∙ are.whole code low yes;
-  earlier = λ code low yes. sym (same-class ask code) ∙ are.earlier code low yes;
-}
+pub same-class : (resets : Bool) (ask : Ask) (code : ℕ) → resets ≡ has_reset ask → class_of (normal resets ask) code ≡ class_of ask code
+same-class true ask code is = class-told ask code
+same-class false ask code is = class-told (at_start ask) code ∙ class-at_start ask code is
+
+module _ (resets : Bool) (ask : Ask) (is : resets ≡ has_reset ask) where
+  pub same-offered : (allows : Allowance) → codes_where (is_offered allows (normal resets ask)) ≡ codes_where (is_offered allows ask)
+  unfolding is_offered
+  same-offered allows =
+      codes_where-same (is_offered allows (normal resets ask)) (is_offered allows ask) (λ d low.
+      ap (λ (class : List ℕ). (least class == d) && list_any (allows ask.module_number) class) (same-class resets ask d is))
+
+  pub to-normal : (classes : Classes) → AreClasses ask classes → AreClasses (normal resets ask) classes
+  to-normal classes are = record {
+    alone = λ code low no. same-class resets ask code is ∙ are.alone code low no;
+    whole = λ code low yes. same-class resets ask code is ∙ are.whole code low yes;
+    earlier = λ code low yes. same-class resets ask code is ∙ are.earlier code low yes;
+  }
+
+  pub from-normal : (classes : Classes) → AreClasses (normal resets ask) classes → AreClasses ask classes
+  from-normal classes are = record {
+    alone = λ code low no. sym (same-class resets ask code is) ∙ are.alone code low no;
+    whole = λ code low yes. sym (same-class resets ask code is) ∙ are.whole code low yes;
+    earlier = λ code low yes. sym (same-class resets ask code is) ∙ are.earlier code low yes;
+  }

@@ -15,7 +15,7 @@ use Rattle.pam_paths.specs.Listing.{Allowance}
 unfoldable pub IsCachedFor : Allowance → List FlatItem → ℕ → CachedClasses → Type 0
 IsCachedFor allows program number cached =
     (place : Place) → IsPlaceOf program place → asked_module (rest_of program place) ≡ Some number
-    → cached.situation ≡ Some (representative (situation_of (next_ask (rest_of program place))))
+    → cached.situation ≡ Some (representative cached.resets (situation_of (next_ask (rest_of program place))))
     → (cached.classes.offered ≡ offered_at allows (rest_of program place)) × AreClasses (next_ask (rest_of program place)) cached.classes
 
 -- this holds of the classes cached of each module

@@ -5,6 +5,7 @@ ghost use Rattle.pam_conf.specs.declared.stack.TheConstants.{MAX_MODULES};
 ghost use Rattle.pam_dispatch.specs.declared.flat_item.FlatItem.{FlatItem};
 ghost use Rattle.pam_dispatch.specs.Flat.{IsPlaceOf, modules_of, rest_of};
 ghost use Rattle.pam_dispatch.specs.Runs.{asked_module, next_ask};
+ghost use Rattle.pam_dispatch.specs.Situations.{representative};
 ghost use Rattle.pam_paths.specs.Frames.{AreClasses, offered_at};
 ghost use Rattle.pam_paths.specs.Cached.{AreCached};
 ghost use Rattle.pam_paths.specs.Listing.{Allowance};
@@ -12,31 +13,37 @@ ghost use Rattle.pam_paths.specs.Listing.{Allowance};
 use crate::classes::Classes;
 use crate::knowledge::Knowledge;
 use crate::scope::Scope;
-use pam_dispatch::{MAX_MODULES, Place, Situation};
+use pam_dispatch::{MAX_MODULES, Place, Situation, has_reset};
 
 /// The classes of a module that was asked, with the situation that represents those in which its answers are alike.
 #[derive(Clone, Copy, Debug)]
 pub(crate) struct CachedClasses {
     pub(crate) situation: Option<Situation>,
+    /// Whether the control of the module has the action `reset`.
+    pub(crate) resets: bool,
     pub(crate) classes: Classes,
 }
 
 impl CachedClasses {
-    fn of(situation: &Situation, classes: &Classes) -> CachedClasses
-        ensures situation { result.situation ≡ Some situation.now }
+    /// The classes of a module that is asked in this situation.
+    fn of(situation: &Situation, resets: bool, classes: &Classes) -> CachedClasses
+        ensures situation { result.situation ≡ Some (representative resets situation.now) }
+        ensures resets { result.resets ≡ resets }
         ensures classes { result.classes ≡ classes.now }
     {
         CachedClasses {
-            situation: Some(*situation),
+            situation: Some(situation.representative(resets)),
+            resets,
             classes: *classes,
         }
     }
 
+    /// Whether they are also those of the module in this situation.
     fn is_of(&self, situation: &Situation) -> bool
-        ensures { IsTrue result → self.now.situation ≡ Some situation.now }
+        ensures { IsTrue result → self.now.situation ≡ Some (representative self.now.resets situation.now) }
     {
         match self.situation {
-            Some(last) => last == *situation,
+            Some(last) => last == situation.representative(self.resets),
             None => false,
         }
     }
@@ -56,6 +63,7 @@ impl ClassCache {
         ClassCache {
             modules: [CachedClasses {
                 situation: None,
+                resets: true,
                 classes: Classes::default(),
             }; MAX_MODULES],
         }
@@ -78,14 +86,15 @@ impl ClassCache {
         ensures offered { result.offered ≡ offered_at (K.allows scope.now.knowledge.now) (rest_of scope.now.program.now place.now) }
         ensures classes { AreClasses (next_ask (rest_of scope.now.program.now place.now)) result }
     {
-        let situation = scope.program.asked(place).situation().representative();
+        let situation = scope.program.asked(place).situation();
         let cached = &self.modules[module_number - 1];
         if cached.is_of(&situation) {
             return cached.classes;
         }
         let allowed = scope.knowledge.allowed(module_number);
         let classes = Classes::at(scope.program, place, module_number, allowed);
-        self.modules[module_number - 1] = CachedClasses::of(&situation, &classes);
+        let resets = has_reset(scope.program.control(module_number));
+        self.modules[module_number - 1] = CachedClasses::of(&situation, resets, &classes);
         classes
     }
 }

@@ -12,7 +12,7 @@ use Rattle.pam_dispatch.specs.State.{success}
 use Rattle.pam_dispatch.specs.declared.state.Impression.{Impression}
 use Rattle.pam_dispatch.specs.declared.state.Impression.TheVariants.{Undef, Positive, Negative}
 use Rattle.pam_dispatch.specs.declared.state.State.{State}
-use Rattle.pam_drawing.specs.Drawing.{Drawn, drawn_ends, drawn_nodes, impression_name, name_at}
+use Rattle.pam_drawing.specs.Drawing.{Drawn, drawn_ends, drawn_nodes, impression_name, name_at, target_text}
 use Rattle.pam_graph.specs.Walks.{GraphValue}
 use Rattle.pam_graph.specs.declared.node.Edge.{Edge}
 use Rattle.pam_graph.specs.declared.node.Node.{Node}
@@ -47,11 +47,6 @@ place_words items node = asked_words node.module_number (name_at items node.modu
 abbrev pub target_words : Items → List Node → Target → List ℕ
 target_words items nodes (At index) = option_map_or (place_words items) (slice_get nodes index) []
 target_words items nodes (End decision) = name_of decision
-
--- `nINDEX` or `dCODE`
-abbrev pub target_id : Target → List ℕ
-target_id (At index) = concat (codes "n" ∷ decimal index ∷ [])
-target_id (End decision) = concat (codes "d" ∷ decimal decision ∷ [])
 
 -- by which answers an edge leads from a node, and to where
 unfoldable pub sentence_text : Items → List Node → Node → Edge → List ℕ
@@ -154,7 +149,7 @@ edge_text items nodes layout drawn edge =
     let route = route_at layout drawn.0 edge.0 in
     let end = point_of layout edge.1.target in
     concat
-    (codes "<g class=\"edge\" data-from=\"n" ∷ decimal drawn.0 ∷ codes "\" data-to=\"" ∷ target_id edge.1.target
+    (codes "<g class=\"edge\" data-from=\"n" ∷ decimal drawn.0 ∷ codes "\" data-to=\"" ∷ target_text edge.1.target
     ∷ codes "\"><title>" ∷ place_words items drawn.1 ∷ codes ": " ∷ set_text edge.1.class ∷ codes " to " ∷ target_words items nodes edge.1.target
     ∷ codes "</title><path d=\"M" ∷ decimal start.x ∷ codes " " ∷ decimal start.y ∷ bend_text start.y route.fan
     ∷ bend_text route.fan.height route.turn ∷ bend_text route.turn.height route.landing ∷ codes "L" ∷ decimal end.x ∷ codes " " ∷ decimal end.y
@@ -217,7 +212,7 @@ unfoldable pub start_text : Layout → Target → List ℕ
 start_text layout start =
     let point = point_of layout start in
     concat
-    (codes "<path id=\"start\" class=\"arrow\" data-to=\"" ∷ target_id start ∷ codes "\" d=\"M" ∷ decimal point.x ∷ codes " " ∷ decimal point.y
+    (codes "<path id=\"start\" class=\"arrow\" data-to=\"" ∷ target_text start ∷ codes "\" d=\"M" ∷ decimal point.x ∷ codes " " ∷ decimal point.y
     ∷ codes "m-8 0l-8-4v8z\"/>\n" ∷ [])
 
 -- ---- the whole

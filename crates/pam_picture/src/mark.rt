@@ -3,14 +3,14 @@
 ghost use Rattle.std.specs.List.{flat_map};
 ghost use Rattle.pam_codes.specs.Out.{Writes};
 ghost use Rattle.pam_picture.specs.inner.Marks.{mark_text, marks_text};
-ghost use Rattle.pam_picture.specs.Picture.{bend_text, target_id};
+ghost use Rattle.pam_picture.specs.Picture.{bend_text};
 
 use crate::label::put_label;
 use crate::layout::shapes::Bend;
 use crate::rows::put_rows;
 use crate::stop::{Stop, put_stop};
 use pam_codes::{CodeSet, Control, Device, Out, Piece};
-use pam_drawing::put_escaped;
+use pam_drawing::{put_escaped, put_target};
 use pam_graph::Target;
 use std::io::Write;
 
@@ -34,20 +34,6 @@ pub(crate) enum Mark<'a> {
     Bend(usize, Bend),
     /// The label of a class, by whether the node has other edges, and with the number of its note.
     Label(bool, CodeSet, usize),
-}
-
-fn put_id<W: Write>(target: Target, out: &mut Out<W>) -> Result<(), Device>
-    ensures { Writes W.contents out.old out.new result (target_id target) }
-{
-    match target {
-        Target::At(index) => out.put_line(&[Piece::Bytes(b"n"), Piece::Number(index as u64)]),
-        Target::End(decision) => {
-            out.put_line(&[
-                Piece::Bytes(b"d"),
-                Piece::Number(u64::from(decision.number())),
-            ])
-        }
-    }
 }
 
 #[tactic(auto, unfolding(crate::specs::Picture::bend_text))]
@@ -84,7 +70,7 @@ fn put_mark<W: Write>(mark: &Mark<'_>, out: &mut Out<W>) -> Result<(), Device>
         Mark::Control(control) => control.write_text(out),
         Mark::Rows(text) => put_rows(text, out),
         Mark::Stop(stop) => put_stop(stop, out),
-        Mark::Id(target) => put_id(*target, out),
+        Mark::Id(target) => put_target(*target, out),
         Mark::Bend(height, bend) => put_bend(*height, *bend, out),
         Mark::Label(forked, class, note) => put_label(*forked, *class, *note, out),
     }

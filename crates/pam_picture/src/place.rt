@@ -72,7 +72,7 @@ pub(crate) fn point_of(layout: &Layout, target: Target) -> Point
     ensures { result ≡ point_of layout.now target }
 {
     match target {
-        Target::At(index) => point_at(layout, index),
+        Target::At(index) => point_at(layout, index as usize),
         Target::End(decision) => end_at(layout, decision).point,
     }
 }

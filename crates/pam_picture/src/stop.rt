@@ -34,7 +34,7 @@ pub(crate) fn stop_of<'a>(stack: &'a Stack, nodes: &[Node], target: Target) -> S
     ensures { stop_text result ≡ target_words stack.now nodes.now target }
 {
     match target {
-        Target::At(index) => match nodes.get(index) {
+        Target::At(index) => match nodes.get(index as usize) {
             Some(node) => stop_at(stack, node),
             None => Stop::Nowhere,
         },

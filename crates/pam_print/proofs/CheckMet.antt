@@ -3,7 +3,7 @@ use Rattle.std.proofs.Common.{◌≡◌, ℕ, ◌-◌, ◌<◌, ◌≤◌, ◌||
 use Rattle.std.proofs.Common.{append_assoc, append-nil}
 use Rattle.std.proofs.lemmas.Bool.{le-ltb, lt-ltb}
 use Rattle.std.specs.Prelude.{decimal, if◌then◌else◌}
-use Rattle.pam_host.specs.declared.met.Kinds.{Kinds}
+use Rattle.pam_facts.specs.declared.kinds.Kinds.{Kinds}
 use Rattle.pam_host.specs.declared.met.Met.{Met}
 use Rattle.pam_print.specs.Check.{after_comma, if_kind, kinds_text, met_text, others_if_any, others_text}
 use Rattle.pam_parts.specs.Check.{text_at}

@@ -8,7 +8,7 @@ use Rattle.pam_conf.specs.declared.rule.Form.{Form}
 use Rattle.pam_conf.specs.declared.rule.Form.TheVariants.{Dir, Single}
 use Rattle.pam_conf.specs.declared.rule.Kind.{Kind}
 use Rattle.pam_host.specs.Levels.{level_of}
-use Rattle.pam_host.specs.declared.met.Kinds.{Kinds}
+use Rattle.pam_facts.specs.declared.kinds.Kinds.{Kinds}
 use Rattle.pam_host.specs.declared.met.Met.{Met}
 use Rattle.pam_host.specs.declared.problem.Place.{Place}
 use Rattle.pam_host.specs.declared.problem.Problem.{Problem}

@@ -8,7 +8,7 @@ use Rattle.pam_conf.specs.Stack.{Items, End, ThenModule, ThenSub, ModuleText}
 use Rattle.pam_dispatch.specs.State.{action_of}
 use Rattle.pam_dispatch.specs.Tree.{count}
 use Rattle.pam_paths.specs.Listing.{Allowance}
-use Rattle.pam_check.specs.Asked.{is_past_end}
+use Rattle.pam_graph.specs.PastEnds.{is_past_end}
 use Rattle.pam_check.specs.inner.Marks.{mark_of}
 
 -- one of these codes jumps past the end of a list

@@ -1,19 +1,9 @@
 -- For private contracts and proofs alone: the stacks that meet a problem, one after another.
 use Rattle.std.specs.Prelude.{◌≡◌, ◌⊎◌, ℕ, ◌+◌, ◌==◌, true, false, if◌then◌else◌, Option, Some, None, unwrap_or}
 use Rattle.pam_conf.specs.declared.rule.Kind.{Kind}
-use Rattle.pam_conf.specs.declared.rule.Kind.TheVariants.{Auth, Account, Password, Session}
+use Rattle.pam_facts.specs.Kinds.{no_kinds, with_kind}
 use Rattle.pam_host.specs.Met.{AreMet, IsMetByNone}
-use Rattle.pam_host.specs.declared.met.Kinds.{Kinds}
 use Rattle.pam_host.specs.declared.met.Met.{Met}
-
-abbrev pub no_kinds : Kinds
-no_kinds = record { auth = false; account = false; password = false; session = false }
-
-abbrev pub with_kind : Kind → Kinds → Kinds
-with_kind Auth kinds = record kinds { auth = true }
-with_kind Account kinds = record kinds { account = true }
-with_kind Password kinds = record kinds { password = true }
-with_kind Session kinds = record kinds { session = true }
 
 -- those that are known, and the stack of a service that is none of the earlier ones
 abbrev pub also_met : ℕ → Kind → Option Met → Met

@@ -3,10 +3,11 @@ use Rattle.std.specs.Prelude.{ℕ, List, [], decimal}
 use Rattle.std.specs.List.{flat_map}
 use Rattle.pam_codes.specs.ControlText.{control_text}
 use Rattle.pam_codes.specs.SetText.{name_of, set_text}
+use Rattle.pam_drawing.specs.Drawing.{target_text}
 use Rattle.pam_drawing.specs.Escaped.{escaped}
 use Rattle.pam_picture.specs.Rows.{rows}
 use Rattle.pam_picture.specs.Labels.{label_text}
-use Rattle.pam_picture.specs.Picture.{asked_words, bend_text, target_id}
+use Rattle.pam_picture.specs.Picture.{asked_words, bend_text}
 use Rattle.pam_picture.specs.declared.mark.Mark.{Mark}
 use Rattle.pam_picture.specs.declared.mark.Mark.TheVariants as mark
 use Rattle.pam_picture.specs.declared.stop.Stop.{Stop}
@@ -25,7 +26,7 @@ mark_text (mark.Class class) = set_text class
 mark_text (mark.Control control) = control_text control
 mark_text (mark.Rows text) = rows text.now
 mark_text (mark.Stop stop) = stop_text stop
-mark_text (mark.Id target) = target_id target
+mark_text (mark.Id target) = target_text target
 mark_text (mark.Bend height bend) = bend_text height bend
 mark_text (mark.Label forked class note) = label_text forked class note
 

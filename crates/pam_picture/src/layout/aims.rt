@@ -33,8 +33,8 @@ impl Grid {
     fn spot(&self, nodes: &[Node], target: Target) -> Aim {
         match target {
             Target::At(index) => Aim {
-                lane: number_at(&self.lanes.of_nodes, index),
-                column: match nodes.get(index) {
+                lane: number_at(&self.lanes.of_nodes, index as usize),
+                column: match nodes.get(index as usize) {
                     Some(node) => node.module_number,
                     None => 0,
                 },

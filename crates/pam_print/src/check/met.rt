@@ -5,7 +5,8 @@ ghost use Rattle.pam_codes.specs.Out.{Writes};
 ghost use Rattle.pam_print.specs.Check.{if_kind, kinds_text, met_if_any, met_text, others_if_any, others_text};
 
 use pam_codes::{Device, Out, Piece};
-use pam_host::{Kinds, Met};
+use pam_facts::Kinds;
+use pam_host::Met;
 use pam_parts::text_at;
 use pam_sentences::put_name;
 use std::io::Write;

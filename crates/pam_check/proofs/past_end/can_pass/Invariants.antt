@@ -2,7 +2,7 @@
 use Rattle.std.proofs.Common.{◌≡◌, ◌<◌, ◌&&◌, false, ℕ}
 use Rattle.pam_codes.specs.Set.{is_in}
 use Rattle.pam_dispatch.specs.State.{action_of}
-use Rattle.pam_check.specs.Asked.{is_past_end}
+use Rattle.pam_graph.specs.PastEnds.{is_past_end}
 use Rattle.pam_check.proofs.past_end.can_pass.Given as goal
 
 abbrev pub invariant-loop-number : goal.invariant-loop-number

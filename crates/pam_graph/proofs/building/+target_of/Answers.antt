@@ -62,6 +62,7 @@ loop-choice-init g t c =
       rise = subst (LeastRise 0 0) (sym c.in_ok-edges.ensures.items) (omega arith);
       cached = c.at-fork.ensures.cache;
       keys = c.requires.keys;
+      fits = c.requires.fits;
       new = c.in_default-find.ensures.none;
       apart = λ key h before. h;
       walks = ap (λ (x : List Edge). flat_map (walks_by (walks_of nodes) c.in-Some.module_number) x
@@ -90,6 +91,7 @@ target_of-requires g t c κs within =
     (is.rest ∙ ap (λ (p : Place). after_answer (rest_of program p) is.code) c.at-fork.ensures.place) in
     let keys = c.loop-choice.invariant.keys in
     let cached = c.loop-choice.invariant.cached in
+    let fits = c.loop-choice.invariant.fits in
     let d = c.decreases in
     search rules
 
@@ -121,6 +123,7 @@ loop-choice-preserved g t c =
           (subst (λ (h : ℕ). LeastRise 0 h (edges ++ edge ∷ [])) (sym low.1) (LeastRise-push 0 c.loop-choice.bound edges edge i.rise low.0));
       cached = e.cache;
       keys = e.keys;
+      fits = e.fits;
       new = e.apart (node_key program c.args.place.now) i.new
           (before-later m n _ _ (asked-equal _ _ c.in_default-find.ensures.rests ∙ asked) later);
       apart = λ key h before. e.apart key (i.apart key h before) (before-trans m n _ _ _ before asked later);

@@ -1,4 +1,4 @@
-use Rattle.std.proofs.Common.{◌≡◌, ◌-◌, ◌≤◌, ◌++◌}
+use Rattle.std.proofs.Common.{◌≡◌, ◌-◌, ◌≤◌, ◌++◌, length}
 use Rattle.std.specs.List.{flat_map}
 use Rattle.pam_dispatch.specs.Flat.{modules_of, rest_of}
 use Rattle.pam_dispatch.specs.Keys.{DiffersFrom, KeyValue, rest_at}
@@ -25,6 +25,7 @@ invariant-loop-choice g l =
       rise : LeastRise 0 l.bound l.edges.items;
       cached : IsCacheFor allows l.program l.draft.cache;
       keys : AreReachedKeys allows l.program l.draft.places;
+      fits : length l.draft.places ≤ l.limit;
       new : DiffersFrom (node_key l.program l.place) l.draft.places;
       apart : (key : KeyValue) → DiffersFrom key l.fn.draft.places → IsBefore (rest_at l.program key) (rest_of l.program l.place)
           → DiffersFrom key l.draft.places;
