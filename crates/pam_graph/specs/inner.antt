@@ -1,6 +1,7 @@
 -- What no public contract cites.
 pub mod Accounts
 pub mod Building
+pub mod Caches
 pub mod Deciding
 pub mod Frames
 pub mod Parts

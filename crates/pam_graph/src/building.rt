@@ -12,20 +12,21 @@ ghost use Rattle.pam_graph.specs.declared.node.Target.TheVariants.{At};
 ghost use Rattle.pam_graph.specs.declared.error.GraphError.TheVariants.{TooManyNodes};
 ghost use Rattle.pam_graph.specs.declared.graph.TheConstants.{MAX_NODES};
 ghost use Rattle.pam_graph.specs.inner.Building.{IsBefore, IsBuilt, IsExtended};
+ghost use Rattle.pam_graph.specs.inner.Caches.{AreCachesFor};
 ghost use Rattle.pam_graph.specs.Order.{IsAbove, numbers_of};
 ghost use Rattle.pam_graph.specs.Places.{AreNodesOf};
 ghost use Rattle.pam_graph.specs.Reached.{AreReachedKeys, IsReached, IsReason, node_key};
 ghost use Rattle.pam_graph.specs.Walks.{walks, walks_of, walks_to};
-ghost use Rattle.pam_paths.specs.Cached.{IsCacheFor};
 ghost use Rattle.pam_paths.specs.Computed.{listing};
 ghost use Rattle.pam_paths.specs.Listing.{IsListing};
 ghost use Rattle.pam_paths.specs.Paths.{path_of, path_through};
 
+use crate::caches::{fork_at, new_caches};
 use crate::error::GraphError;
 use crate::graph::{Graph, MAX_NODES};
 use crate::node::{Edge, Node, Target};
 use pam_dispatch::{Place, PlaceTable, Program};
-use pam_paths::{ClassCache, Fork, Knowledge};
+use pam_paths::{ClassCache, Knowledge};
 use std::alloc::Global;
 
 /// A graph while it is built.
@@ -35,7 +36,7 @@ pub(crate) struct Draft {
     /// The place of each node, by the key of its representative.
     pub(crate) places: PlaceTable,
     /// The classes computed last for each module.
-    pub(crate) cache: ClassCache,
+    pub(crate) caches: Vec<ClassCache>,
 }
 
 /// The index of the node for `place`.
@@ -62,7 +63,7 @@ fn add(
     ensures target { IfOk result (λ target. target ≡ At (length draft.old.nodes.items)) }
     ensures node { OnOk result (draft.new.nodes.items ≡ draft.old.nodes.items ++ node ∷ []) }
     ensures place { OnOk result (draft.new.places ≡ draft.old.places ++ node_key program.now place.now ∷ []) }
-    ensures cache { draft.new.cache ≡ draft.old.cache }
+    ensures caches { draft.new.caches.items ≡ draft.old.caches.items }
     ensures fits { OnOk result (length draft.new.places ≤ limit) }
     ensures many { IfErr result (λ e. e ≡ TooManyNodes → (keys : List KeyValue) × (keys ≡ draft.old.places ++ node_key program.now place.now ∷ [])
         × (limit < length keys) × AreDifferent keys) }
@@ -91,12 +92,12 @@ pub(crate) fn target_of<K: Knowledge>(
     requires place { IsPlaceOf program.now place.now }
     requires rise { AsksRise 0 (modules_of program.now) (rest_of program.now place.now) }
     requires built { IsBuilt (K.allows knowledge.now) program.now draft.old.nodes.items draft.old.places }
-    requires cache { IsCacheFor (K.allows knowledge.now) program.now draft.old.cache }
+    requires caches { AreCachesFor (K.allows knowledge.now) program.now draft.old.caches.items }
     requires reached { IsReached (K.allows knowledge.now) program.now place.now }
     requires keys { AreReachedKeys (K.allows knowledge.now) program.now draft.old.places }
     requires fits { length draft.old.places ≤ limit }
     ensures fits { OnOk result (length draft.new.places ≤ limit) }
-    ensures cache { IsCacheFor (K.allows knowledge.now) program.now draft.new.cache }
+    ensures caches { AreCachesFor (K.allows knowledge.now) program.now draft.new.caches.items }
     ensures keys { OnOk result (AreReachedKeys (K.allows knowledge.now) program.now draft.new.places) }
 
     // Places of modules that are asked earlier are not added.
@@ -116,7 +117,7 @@ pub(crate) fn target_of<K: Knowledge>(
     if let Some(index) = find(program, &draft.places, place) {
         return Ok(Target::At(index as u32));
     }
-    let fork = Fork::at(program, knowledge, &mut draft.cache, place, module_number);
+    let fork = fork_at(program, knowledge, &mut draft.caches, place, module_number);
     let mut edges = Vec::with_capacity(alloc, fork.choices())?;
     let mut bound = 0;
     while let Some(choice) = fork.choice(program, bound) {
@@ -173,7 +174,7 @@ impl Graph {
         let mut draft = Draft {
             nodes: Vec::new(alloc),
             places: PlaceTable::new(alloc),
-            cache: ClassCache::new(),
+            caches: new_caches(alloc)?,
         };
         let first = program.first();
         let start = target_of(alloc, program, knowledge, limit, &first, &mut draft)?;

@@ -2,6 +2,7 @@
 #![tactic(auto)]
 
 mod building;
+mod caches;
 mod decisions;
 mod direction;
 mod error;

@@ -8,6 +8,7 @@ use Rattle.pam_dispatch.specs.Runs.{AsksRise, after_answer, asked_module}
 use Rattle.pam_graph.specs.declared.node.Edge.{Edge}
 use Rattle.pam_graph.specs.declared.node.Node.{Node}
 use Rattle.pam_graph.specs.inner.Building.{modules_left}
+use Rattle.pam_graph.specs.inner.Caches.{AreCachesFor}
 use Rattle.pam_graph.specs.Order.{AreAbove, IsNode, LeastRise, numbers_of}
 use Rattle.pam_graph.specs.Reached.{node_key}
 use Rattle.pam_graph.specs.Walks.{walks_by, walks_of}
@@ -16,8 +17,6 @@ use Rattle.pam_graph.proofs.Growing.{added-above, added-built, added-extended, a
 use Rattle.pam_graph.proofs.Growing.{built-length, extended-trans, found-above, left-at, left-fewer, listing-end, node-for, walks-all, walks-choice}
 use Rattle.pam_graph.proofs.Reaching.{added-apart, added-keys, added-reason, added-rests, before-later, before-trans, get-at, key-apart, reached-on}
 use Rattle.pam_graph.proofs.Rests.{asked-equal, before-equal, listing-equal, rise-equal, state-equal}
-use Rattle.pam_paths.specs.declared.class_cache.ClassCache.{ClassCache}
-use Rattle.pam_paths.specs.Cached.{IsCacheFor}
 use Rattle.pam_paths.specs.Forks.{paths_from}
 use Rattle.pam_paths.proofs.FrameLists.{AsksRise-lower, rise_after}
 use Rattle.pam_graph.proofs.building.+target_of.Goals as goal
@@ -60,13 +59,13 @@ loop-choice-init g t c =
       extended = ([], sym (append-nil _));
       later = subst (AreAbove (numbers_of nodes) c.in-Some.module_number) (sym c.in_ok-edges.ensures.items) tt;
       rise = subst (LeastRise 0 0) (sym c.in_ok-edges.ensures.items) (omega arith);
-      cached = c.at-fork.ensures.cache;
+      cached = c.fork_at-fork.ensures.caches;
       keys = c.requires.keys;
       fits = c.requires.fits;
       new = c.in_default-find.ensures.none;
       apart = λ key h before. h;
       walks = ap (λ (x : List Edge). flat_map (walks_by (walks_of nodes) c.in-Some.module_number) x
-          ++ paths_from allows c.args.program.now c.at-fork.result 0) c.in_ok-edges.ensures.items ∙ c.at-fork.ensures.paths;
+          ++ paths_from allows c.args.program.now c.fork_at-fork.result 0) c.in_ok-edges.ensures.items ∙ c.fork_at-fork.ensures.paths;
     }
 
 pub target_of-requires : goal.target_of-requires
@@ -76,10 +75,10 @@ target_of-requires g t c κs within =
     let n = modules_of program in
     let m = c.in-Some.module_number in
     let after = rest_of program c.in-Some-choice.choice.place in
-    let is = c.in-Some-choice.ensures.choice allows c.at-fork.ensures.fork in
+    let is = c.in-Some-choice.ensures.choice allows c.fork_at-fork.ensures.fork in
     let asked : asked_module (rest_of program c.args.place.now) ≡ Some m = sym (c.in-Some.ensures program c.requires.place) in
     let k = rise_after 0 n m 0 _ c.requires.rise asked in
-    let later : AsksRise m n after = subst (λ (x : ℕ). AsksRise x n after) c.at-fork.ensures.number is.rise in
+    let later : AsksRise m n after = subst (λ (x : ℕ). AsksRise x n after) c.fork_at-fork.ensures.number is.rise in
     let rise : AsksRise 0 n after = AsksRise-lower 0 m n after (omega arith) later in
     let few = left-fewer m n after later k.1 in
     let here = left-at m n (rest_of program c.args.place.now) asked in
@@ -87,8 +86,8 @@ target_of-requires g t c κs within =
     let built = c.loop-choice.invariant.built in
     let place = is.place in
     let reached = reached-on allows program m is.code c.args.place.now c.in-Some-choice.choice.place c.requires.reached asked is.is_code
-    (subst (λ (x : ℕ). allows x is.code ≡ true) c.at-fork.ensures.number is.allowed)
-    (is.rest ∙ ap (λ (p : Place). after_answer (rest_of program p) is.code) c.at-fork.ensures.place) in
+    (subst (λ (x : ℕ). allows x is.code ≡ true) c.fork_at-fork.ensures.number is.allowed)
+    (is.rest ∙ ap (λ (p : Place). after_answer (rest_of program p) is.code) c.fork_at-fork.ensures.place) in
     let keys = c.loop-choice.invariant.keys in
     let cached = c.loop-choice.invariant.cached in
     let fits = c.loop-choice.invariant.fits in
@@ -111,8 +110,8 @@ loop-choice-preserved g t c =
     let low = c.in-Some-choice.ensures.least in
     let edge : Edge = record { class = choice.class; target = c.in_ok-target.target } in
     let asked : asked_module (rest_of program c.args.place.now) ≡ Some m = sym (c.in-Some.ensures program c.requires.place) in
-    let is = c.in-Some-choice.ensures.choice allows c.at-fork.ensures.fork in
-    let later : AsksRise m n (rest_of program choice.place) = subst (λ (x : ℕ). AsksRise x n (rest_of program choice.place)) c.at-fork.ensures.number is.rise in
+    let is = c.in-Some-choice.ensures.choice allows c.fork_at-fork.ensures.fork in
+    let later : AsksRise m n (rest_of program choice.place) = subst (λ (x : ℕ). AsksRise x n (rest_of program choice.place)) c.fork_at-fork.ensures.number is.rise in
     record {
       bound = low.2;
       built = e.built;
@@ -121,15 +120,15 @@ loop-choice-preserved g t c =
           (AreAbove-push (numbers_of new) m edges edge (above-extended old new m edges e.extended i.later) (e.above m later));
       rise = subst (LeastRise 0 choice.next) (sym pushed)
           (subst (λ (h : ℕ). LeastRise 0 h (edges ++ edge ∷ [])) (sym low.1) (LeastRise-push 0 c.loop-choice.bound edges edge i.rise low.0));
-      cached = e.cache;
+      cached = e.caches;
       keys = e.keys;
       fits = e.fits;
       new = e.apart (node_key program c.args.place.now) i.new
           (before-later m n _ _ (asked-equal _ _ c.in_default-find.ensures.rests ∙ asked) later);
       apart = λ key h before. e.apart key (i.apart key h before) (before-trans m n _ _ _ before asked later);
-      walks = ap (λ (x : List Edge). flat_map (walks_by (walks_of new) m) x ++ paths_from allows program c.at-fork.result choice.next) pushed
-          ∙ walks-choice allows program c.at-fork.result c.loop-choice.bound m old new edges choice c.in_ok-target.target _
-          e.extended i.later c.at-fork.ensures.number (c.in-Some-choice.ensures.paths allows c.at-fork.ensures.fork) e.walks i.walks;
+      walks = ap (λ (x : List Edge). flat_map (walks_by (walks_of new) m) x ++ paths_from allows program c.fork_at-fork.result choice.next) pushed
+          ∙ walks-choice allows program c.fork_at-fork.result c.loop-choice.bound m old new edges choice c.in_ok-target.target _
+          e.extended i.later c.fork_at-fork.ensures.number (c.in-Some-choice.ensures.paths allows c.fork_at-fork.ensures.fork) e.walks i.walks;
     }
 
 pub returns-clause-built : goal.returns-clause-built
@@ -139,7 +138,7 @@ returns-clause-built g t c =
     let nodes = c.loop-choice.draft.nodes.items in
     let node : Node = record { module_number = c.in-Some.module_number; state = c.state-state.result; edges = c.loop-choice.edges } in
     let i = c.loop-choice.invariant in
-    let none = c.in_default-choice.ensures.none allows c.at-fork.ensures.fork in
+    let none = c.in_default-choice.ensures.none allows c.fork_at-fork.ensures.fork in
     let asked = sym (c.in-Some.ensures program c.requires.place) in
     let k = rise_after 0 (modules_of program) c.in-Some.module_number 0 _ c.requires.rise asked in
     let valid : IsNode (numbers_of nodes) node = record {
@@ -154,7 +153,7 @@ returns-clause-built g t c =
     c.add.result i.built valid
     (node-for (modules_of program) c.in-Some.module_number (rest_at program key) node (asked-equal _ _ same ∙ asked)
     (rise-equal 0 (modules_of program) _ _ same c.requires.rise) refl (c.state-state.ensures program c.requires.place ∙ sym (state-equal _ _ same)))
-    (walks-all allows program c.at-fork.result c.loop-choice.bound node nodes _ none i.walks ∙ sym (listing-equal allows _ _ same)) c.add.ensures.node
+    (walks-all allows program c.fork_at-fork.result c.loop-choice.bound node nodes _ none i.walks ∙ sym (listing-equal allows _ _ same)) c.add.ensures.node
     (added-rests program c.loop-choice.draft.places c.add.new.draft.places key c.add.result c.add.ensures.place)
 
 pub returns-clause-extended : goal.returns-clause-extended
@@ -177,17 +176,17 @@ returns-clause-walks g t c =
     let nodes = c.loop-choice.draft.nodes.items in
     let node : Node = record { module_number = c.in-Some.module_number; state = c.state-state.result; edges = c.loop-choice.edges } in
     let i = c.loop-choice.invariant in
-    let none = c.in_default-choice.ensures.none allows c.at-fork.ensures.fork in
+    let none = c.in_default-choice.ensures.none allows c.fork_at-fork.ensures.fork in
     added-walks allows program nodes c.add.new.draft.nodes.items node (rest_of program c.args.place.now) c.add.result
-    (walks-all allows program c.at-fork.result c.loop-choice.bound node nodes _ none i.walks) c.add.ensures.node c.add.ensures.target
+    (walks-all allows program c.fork_at-fork.result c.loop-choice.bound node nodes _ none i.walks) c.add.ensures.node c.add.ensures.target
 
 pub add-requires-clause-same : goal.add-requires-clause-same
 add-requires-clause-same g t c =
     built-length _ c.args.program.now c.loop-choice.draft.nodes.items c.loop-choice.draft.places c.loop-choice.invariant.built
 
-pub returns-clause-cache : goal.returns-clause-cache
-returns-clause-cache g t c =
-    subst (λ (x : ClassCache). IsCacheFor (g.K.Knowledge.allows c.args.knowledge.now) c.args.program.now x) (sym c.add.ensures.cache)
+pub returns-clause-caches : goal.returns-clause-caches
+returns-clause-caches g t c =
+    subst (AreCachesFor (g.K.Knowledge.allows c.args.knowledge.now) c.args.program.now) (sym c.add.ensures.caches)
     c.loop-choice.invariant.cached
 
 pub returns-clause-keys : goal.returns-clause-keys

@@ -3,10 +3,10 @@ use Rattle.std.specs.List.{flat_map}
 use Rattle.pam_dispatch.specs.Flat.{modules_of, rest_of}
 use Rattle.pam_dispatch.specs.Keys.{DiffersFrom, KeyValue, rest_at}
 use Rattle.pam_graph.specs.inner.Building.{IsBefore, IsBuilt, IsExtended, modules_left}
+use Rattle.pam_graph.specs.inner.Caches.{AreCachesFor}
 use Rattle.pam_graph.specs.Order.{AreAbove, LeastRise, numbers_of}
 use Rattle.pam_graph.specs.Reached.{AreReachedKeys, node_key}
 use Rattle.pam_graph.specs.Walks.{walks_by, walks_of}
-use Rattle.pam_paths.specs.Cached.{IsCacheFor}
 use Rattle.pam_paths.specs.Computed.{listing}
 use Rattle.pam_paths.specs.Forks.{paths_from}
 use Rattle.pam_graph.proofs.building.+target_of.Given as goal
@@ -23,7 +23,7 @@ invariant-loop-choice g l =
       extended : IsExtended l.fn.draft.nodes.items l.draft.nodes.items;
       later : AreAbove (numbers_of l.draft.nodes.items) l.module_number l.edges.items;
       rise : LeastRise 0 l.bound l.edges.items;
-      cached : IsCacheFor allows l.program l.draft.cache;
+      cached : AreCachesFor allows l.program l.draft.caches.items;
       keys : AreReachedKeys allows l.program l.draft.places;
       fits : length l.draft.places ≤ l.limit;
       new : DiffersFrom (node_key l.program l.place) l.draft.places;

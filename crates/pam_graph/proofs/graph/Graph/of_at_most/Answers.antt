@@ -48,5 +48,5 @@ unfolding AreReachedKeys
 target_of-requires-clause-keys g c =
     subst (AreReachedKeys (g.K.Knowledge.allows c.args.knowledge.now) c.args.program.now) (sym c.new-2.ensures) tt
 
-pub target_of-requires-clause-cache : goal.target_of-requires-clause-cache
-target_of-requires-clause-cache g c = c.new-3.ensures (g.K.Knowledge.allows c.args.knowledge.now) c.args.program.now
+pub target_of-requires-clause-caches : goal.target_of-requires-clause-caches
+target_of-requires-clause-caches g c = c.in_ok-new_caches.ensures (g.K.Knowledge.allows c.args.knowledge.now) c.args.program.now
