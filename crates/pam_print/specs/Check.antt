@@ -34,12 +34,12 @@ use Rattle.pam_sentences.specs.Tables.{table_sentence}
 -- THE PLACE OF A FINDING
 
 -- a file as a whole has no line
-abbrev pub line_text : ℕ → List ℕ
-line_text line = if line == 0 then [] else codes ":" ++ decimal line
+abbrev pub number_text : ℕ → List ℕ
+number_text line = if line == 0 then [] else codes ":" ++ decimal line
 
 -- `PATH:LINE: `
 unfoldable pub place_text : List (List ℕ) → Place → List ℕ
-place_text paths place = shown_name (path_of paths place.file) ++ line_text place.line ++ codes ": "
+place_text paths place = shown_name (path_of paths place.file) ++ number_text place.line ++ codes ": "
 
 -- THE STACKS THAT MEET IT
 
@@ -130,7 +130,7 @@ finding_line names entry word =
 
 -- A LINE FOR A PROBLEM OF A TABLE: `PATH:LINE: LEVEL: NUMBER NAME: SENTENCE`
 abbrev pub table_place : TablePathsText → TableFinding → List ℕ
-table_place paths finding = shown_name (path_of_table paths finding.table) ++ line_text finding.line ++ codes ": "
+table_place paths finding = shown_name (path_of_table paths finding.table) ++ number_text finding.line ++ codes ": "
 
 abbrev pub table_heading : TableFinding → List ℕ
 table_heading finding =
@@ -162,12 +162,12 @@ unfoldable pub unused_line : List ℕ → ℕ → List ℕ
 unused_line accept line = shown_name accept ++ codes ":" ++ decimal line ++ codes ": warning: S8 NothingAccepted: " ++ say.unused_sentence ++ codes "\n"
 
 -- ONE LINE
-abbrev pub check_line : Line → List ℕ
-check_line (Found names entry word) = finding_line names entry word
-check_line (InTable paths finding) = table_line paths finding
-check_line (Unused accept line) = unused_line accept line
-check_line (Last services counts) = last_line services counts
+abbrev pub line_text : Line → List ℕ
+line_text (Found names entry word) = finding_line names entry word
+line_text (InTable paths finding) = table_line paths finding
+line_text (Unused accept line) = unused_line accept line
+line_text (Last services counts) = last_line services counts
 
 -- THE TEXT of `check`: which lines come, in which order, says `check_lines`
 abbrev pub check_text : CheckValue → List ℕ
-check_text value = check_lines check_line value
+check_text value = check_lines line_text value

@@ -76,9 +76,9 @@ fn put_unused<W: Write>(accept: &[u8], line: u32, out: &mut Out<W>) -> Result<()
 }
 
 impl CheckLines for AsText {
-    ghost use Rattle.pam_print.specs.Check.{check_line};
+    ghost use Rattle.pam_print.specs.Check.{line_text};
 
-    ghost line = { check_line };
+    ghost line = { line_text };
 
     fn put_line<W: Write>(&self, told: CheckLine<'_>, out: &mut Out<W>) -> Result<(), Device> {
         match told {

@@ -2,7 +2,7 @@
 
 ghost use Rattle.std.specs.List.{flat_map};
 ghost use Rattle.pam_codes.specs.Out.{Writes};
-ghost use Rattle.pam_print.specs.Check.{answer_text, answers_text, finding_line, kind_of_service, line_text, next_answer};
+ghost use Rattle.pam_print.specs.Check.{answer_text, answers_text, finding_line, kind_of_service, next_answer, number_text};
 ghost use Rattle.pam_print.specs.Check.{met_unless, of_service, place_text, rest_text, sentence, subject_text};
 ghost use Rattle.pam_print.specs.Check.{way_in_at, way_text};
 ghost use Rattle.pam_parts.specs.CheckNames.{names_view, word_of};
@@ -21,7 +21,7 @@ use std::io::Write;
 
 /// Writes `:LINE`, but nothing for a file as a whole.
 pub(super) fn put_line_number<W: Write>(line: usize, out: &mut Out<W>) -> Result<(), Device>
-    ensures { Writes W.contents out.old out.new result (line_text line) }
+    ensures { Writes W.contents out.old out.new result (number_text line) }
 {
     if line == 0 {
         return Ok(());

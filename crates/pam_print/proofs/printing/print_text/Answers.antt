@@ -4,7 +4,7 @@ use Rattle.pam_parts.specs.Findings.{IsCheckBy}
 use Rattle.pam_report.specs.Reply as spec
 use Rattle.pam_report.specs.ReplyViews.{check_view, outcomes_view, run_view, stack_view}
 use Rattle.pam_report.specs.declared.report.replies.Reply.TheVariants as replies
-use Rattle.pam_print.specs.Check.{check_line}
+use Rattle.pam_print.specs.Check.{line_text}
 use Rattle.pam_print.specs.Text.{IsText}
 use Rattle.pam_print.proofs.printing.print_text.Goals as goal
 
@@ -42,4 +42,4 @@ returns-in-Graph g c = reply-is g.W.Write.contents IsText _ _ _ (replies.Graph c
 
 pub returns-in-Check : goal.returns-in-Check
 returns-in-Check g c = reply-is g.W.Write.contents IsText _ _ _ (replies.Check c.in-Check.check) _ c.in-Check.is
-    (printed-as g.W.Write.contents (IsCheckBy check_line) IsText _ _ (spec.Check (check_view c.in-Check.check)) (λ text h. h) _ c.write_check.ensures)
+    (printed-as g.W.Write.contents (IsCheckBy line_text) IsText _ _ (spec.Check (check_view c.in-Check.check)) (λ text h. h) _ c.write_check.ensures)
