@@ -34,6 +34,8 @@ fn cache_number(state: State) -> usize
 }
 
 /// Empty caches.
+// Not put in line: what it makes them with shall not stay on the stack while a graph is built.
+#[inline(never)]
 pub(crate) fn new_caches(alloc: Global) -> Result<Vec<ClassCache>, AllocError>
     ensures { (allows : Allowance) (program : List FlatItem) → IfOk result (λ caches. AreCachesFor allows program caches.items) }
 {

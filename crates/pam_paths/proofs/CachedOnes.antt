@@ -1,9 +1,10 @@
 -- Classes that are kept of modules.
-use Rattle.std.proofs.Common.{◌≡◌, ◌≢◌, Bool, true, false, eqb, refl, ℕ, ◌-◌, ◌<◌, ◌≤◌, List, Some, ap, sym, ◌∙◌, subst, arith, get_or, length, slice_set}
+use Rattle.std.proofs.Common.{◌≡◌, ◌≢◌, Bool, true, false, eqb, refl, ℕ, ◌-◌, ◌<◌, ◌≤◌, List, None, Option, Some, ap, sym, ◌∙◌, subst, arith, get_or, length, slice_set}
 use Rattle.std.proofs.lemmas.List.{get_or-set_other}
 use Rattle.std.proofs.lemmas.Bool.{eqb-true, eqb-false}
 use Rattle.std.proofs.lemmas.Grind.{get_or-set_at}
 use Rattle.std.specs.List.{list_any}
+use Rattle.std.specs.Prelude.{MatchOption}
 use Rattle.pam_codes.specs.Set.{codes_where}
 use Rattle.pam_codes.specs.declared.action.Action.{Action}
 use Rattle.pam_dispatch.specs.declared.asked.Situation.{Situation}
@@ -20,9 +21,9 @@ use Rattle.pam_paths.specs.declared.class_cache.CachedClasses.{CachedClasses}
 use Rattle.pam_paths.specs.Computed.{is_offered}
 use Rattle.pam_paths.specs.Frames.{AreClasses, offered_at}
 use Rattle.pam_paths.specs.inner.Frames.{IsFrame}
-use Rattle.pam_paths.specs.Cached.{AreCached, IsCachedFor}
+use Rattle.pam_paths.specs.Cached.{AreCached, IsCachedFor, StandsFor, has_reset}
 use Rattle.pam_paths.specs.Listing.{Allowance}
-use Rattle.pam_paths.proofs.Situations.{from-normal, has_reset, normal, same-offered, to-normal}
+use Rattle.pam_paths.proofs.Situations.{from-normal, normal, represented, same-offered, to-normal}
 
 -- a module with one control is asked in one way in each situation
 same-ask : (a b : Ask) → a.module_number ≡ b.module_number → a.control ≡ b.control → situation_of a ≡ situation_of b → a ≡ b
@@ -35,28 +36,49 @@ same-ask a b number control situation =
 some-is : (s t : Situation) → Some s ≡ Some t → s ≡ t
 some-is s t e = cc
 
+-- the representative of a situation stands for it
+pub own-stands : (cached : Option Situation) (situation : Situation) (ask : Ask) → cached ≡ Some situation →
+    situation ≡ representative true (situation_of ask) → StandsFor cached ask
+own-stands cached situation ask is own =
+    (situation, is, ap (representative (has_reset ask)) own ∙ represented (has_reset ask) (situation_of ask))
+
+-- and without a reset so does one that differs in the entry state
+pub like-stands : (cached : Option Situation) (situation : Situation) (ask : Ask) →
+    MatchOption cached ⊥ (λ last. representative false last ≡ representative false situation) →
+    situation ≡ representative true (situation_of ask) → has_reset ask ≡ false → StandsFor cached ask
+like-stands None situation ask like own none = absurd like
+like-stands (Some last) situation ask like own none = (
+  last,
+  refl,
+  subst (λ (b : Bool). representative b last ≡ representative b (situation_of ask)) (sym none)
+      (like ∙ ap (representative false) own ∙ represented false (situation_of ask)),
+)
+
 module _ (allows : Allowance) (program : List FlatItem) (number : ℕ) where
   -- classes computed at a place are those of the module that is asked there, in each situation with the same representative
   pub cached-of : (at : Place) (kept : CachedClasses) → IsPlaceOf program at → asked_module (rest_of program at) ≡ Some number →
       ((other : Place) → IsPlaceOf program other → asked_module (rest_of program other) ≡ Some number →
       (next_ask (rest_of program other)).control ≡ control_at program number) →
-      kept.resets ≡ list_any is_reset (control_at program number) →
-      kept.situation ≡ Some (representative kept.resets (situation_of (next_ask (rest_of program at)))) →
+      kept.situation ≡ Some (representative true (situation_of (next_ask (rest_of program at)))) →
       kept.classes.offered ≡ offered_at allows (rest_of program at) → AreClasses (next_ask (rest_of program at)) kept.classes →
       IsCachedFor allows program number kept
   unfolding IsCachedFor
-  cached-of at kept there here control resets situation offered classes place valid asked is =
+  cached-of at kept there here control situation offered classes place valid asked stands =
       let here_asked = next_ask (rest_of program at) in
       let there_asked = next_ask (rest_of program place) in
-      let here_resets : kept.resets ≡ has_reset here_asked = resets ∙ sym (ap (list_any is_reset) (control at there here)) in
-      let there_resets : kept.resets ≡ has_reset there_asked = resets ∙ sym (ap (list_any is_reset) (control place valid asked)) in
-      let same : normal kept.resets here_asked ≡ normal kept.resets there_asked =
+      let resets = has_reset there_asked in
+      let alike : resets ≡ has_reset here_asked =
+      ap (list_any is_reset) (control place valid asked ∙ sym (control at there here)) in
+      let last : stands.0 ≡ representative true (situation_of here_asked) = some-is _ _ (sym stands.1 ∙ situation) in
+      let one : representative resets (situation_of here_asked) ≡ representative resets (situation_of there_asked) =
+      sym (represented resets (situation_of here_asked)) ∙ sym (ap (representative resets) last) ∙ stands.2 in
+      let same : normal resets here_asked ≡ normal resets there_asked =
       same-ask _ _ (number-next_ask (rest_of program at) number here ∙ sym (number-next_ask (rest_of program place) number asked))
-      (control at there here ∙ sym (control place valid asked)) (some-is _ _ (sym situation ∙ is)) in (
-        offered ∙ sym (same-offered kept.resets here_asked here_resets allows) ∙ ap (λ (a : Ask). codes_where (is_offered allows a)) same
-            ∙ same-offered kept.resets there_asked there_resets allows,
-        from-normal kept.resets there_asked there_resets kept.classes
-            (subst (λ (a : Ask). AreClasses a kept.classes) same (to-normal kept.resets here_asked here_resets kept.classes classes)),
+      (control at there here ∙ sym (control place valid asked)) one in (
+        offered ∙ sym (same-offered resets here_asked alike allows) ∙ ap (λ (a : Ask). codes_where (is_offered allows a)) same
+            ∙ same-offered resets there_asked refl allows,
+        from-normal resets there_asked refl kept.classes
+            (subst (λ (a : Ask). AreClasses a kept.classes) same (to-normal resets here_asked alike kept.classes classes)),
       )
 
   -- those of one module are replaced

@@ -6,17 +6,18 @@ use Rattle.pam_codes.specs.Set.{codes_where}
 use Rattle.pam_codes.specs.inner.SetBits.{codes_where-same}
 use Rattle.pam_codes.specs.declared.action.Action.{Action}
 use Rattle.pam_codes.specs.declared.action.Action.TheVariants.{Ignore, Ok, Done, Bad, Die, Reset, Jump}
+use Rattle.pam_dispatch.specs.declared.asked.Situation.{Situation}
 use Rattle.pam_dispatch.specs.declared.state.Impression.{Impression}
 use Rattle.pam_dispatch.specs.declared.state.Impression.TheVariants.{Undef, Positive, Negative}
 use Rattle.pam_dispatch.specs.declared.state.State.{State}
 use Rattle.pam_dispatch.specs.declared.step.Outcome.{Outcome}
-use Rattle.pam_dispatch.specs.Representatives.{is_reset}
 use Rattle.pam_dispatch.specs.Runs.{Ask, outcome_of, situation_of}
-use Rattle.pam_dispatch.specs.Situations.{representative}
+use Rattle.pam_dispatch.specs.Situations.{entry_told, representative, status_told}
 use Rattle.pam_dispatch.specs.State.{act, action_of, left_of, perm_denied, start_state, state_with, success}
 use Rattle.pam_dispatch.proofs.EqualRests.{outcome-same}
 use Rattle.pam_dispatch.proofs.Places.{asked_with}
 use Rattle.pam_paths.specs.declared.classes.Classes.{Classes}
+use Rattle.pam_paths.specs.Cached.{has_reset}
 use Rattle.pam_paths.specs.Classes.{class_at, class_of, impression_number, least, same_outcome}
 use Rattle.pam_paths.specs.Computed.{is_offered}
 use Rattle.pam_paths.specs.Frames.{AreClasses}
@@ -133,6 +134,33 @@ module _ (entry : State) (status : ℕ) (before : eqb 2 (impression_number entry
       (outcome (act y d (state_with Negative success) entry after) (left_of y d (state_with Negative success) after)))
       (of-told x c after success))
 
+-- a representative has itself as its representative, also without the entry state
+abbrev told : Bool → ℕ
+told is_denied = cond is_denied perm_denied success
+
+told-once : (is_denied : Bool) → told (eqb (told is_denied) perm_denied) ≡ told is_denied
+told-once true = refl
+told-once false = refl
+
+status-twice : (resets : Bool) (impression entered_in : Impression) (entered_with status : ℕ) →
+    status_told impression (entry_told resets (state_with entered_in entered_with)).impression (status_told impression entered_in status)
+    ≡ status_told impression (entry_told resets (state_with entered_in entered_with)).impression status
+status-twice resets Undef entered_in entered_with status = refl
+status-twice resets Positive entered_in entered_with status = refl
+status-twice true Negative Undef entered_with status = told-once (eqb status 6)
+status-twice true Negative Positive entered_with status = told-once (eqb status 6)
+status-twice true Negative Negative entered_with status = refl
+status-twice false Negative Undef entered_with status = told-once (eqb status 6)
+status-twice false Negative Positive entered_with status = told-once (eqb status 6)
+status-twice false Negative Negative entered_with status = refl
+
+abbrev with-status : Bool → Situation → ℕ → Situation
+with-status resets s status = record { state = state_with s.state.impression status; entry = entry_told resets s.entry; items_after = s.items_after }
+
+pub represented : (resets : Bool) (s : Situation) → representative resets (representative true s) ≡ representative resets s
+represented resets s =
+    ap (with-status resets s) (status-twice resets s.state.impression s.entry.impression s.entry.status s.state.status)
+
 abbrev same_of : Ask → ℕ → ℕ → Bool
 same_of ask c d = same_outcome (outcome_of ask c) (outcome_of ask d)
 
@@ -167,10 +195,6 @@ told-alike number control Negative status Undef entered_with after c d =
     failed-alike number control (state_with Undef entered_with) after c d status refl refl
 told-alike number control Negative status Positive entered_with after c d =
     failed-alike number control (state_with Positive entered_with) after c d status refl refl
-
--- whether a control has the action reset
-abbrev pub has_reset : Ask → Bool
-has_reset ask = list_any is_reset ask.control
 
 class-told : (ask : Ask) (code : ℕ) → class_of (normal true ask) code ≡ class_of ask code
 unfolding class_at

@@ -1,6 +1,6 @@
 //! The classes computed last for each module.
 
-ghost use Rattle.std.specs.Prelude.{◌≡◌, ◌≤◌, IsTrue, List, Some};
+ghost use Rattle.std.specs.Prelude.{◌≡◌, ◌≤◌, IsTrue, List, MatchOption, Some, false};
 ghost use Rattle.pam_conf.specs.declared.stack.TheConstants.{MAX_MODULES};
 ghost use Rattle.pam_dispatch.specs.declared.flat_item.FlatItem.{FlatItem};
 ghost use Rattle.pam_dispatch.specs.Flat.{IsPlaceOf, modules_of, rest_of};
@@ -19,31 +19,35 @@ use pam_dispatch::{MAX_MODULES, Place, Situation, has_reset};
 #[derive(Clone, Copy, Debug)]
 pub(crate) struct CachedClasses {
     pub(crate) situation: Option<Situation>,
-    /// Whether the control of the module has the action `reset`.
-    pub(crate) resets: bool,
     pub(crate) classes: Classes,
 }
 
 impl CachedClasses {
-    /// The classes of a module that is asked in this situation.
-    fn of(situation: &Situation, resets: bool, classes: &Classes) -> CachedClasses
-        ensures situation { result.situation ≡ Some (representative resets situation.now) }
-        ensures resets { result.resets ≡ resets }
+    fn of(situation: &Situation, classes: &Classes) -> CachedClasses
+        ensures situation { result.situation ≡ Some situation.now }
         ensures classes { result.classes ≡ classes.now }
     {
         CachedClasses {
-            situation: Some(situation.representative(resets)),
-            resets,
+            situation: Some(*situation),
             classes: *classes,
         }
     }
 
-    /// Whether they are also those of the module in this situation.
     fn is_of(&self, situation: &Situation) -> bool
-        ensures { IsTrue result → self.now.situation ≡ Some (representative self.now.resets situation.now) }
+        ensures { IsTrue result → self.now.situation ≡ Some situation.now }
     {
         match self.situation {
-            Some(last) => last == situation.representative(self.resets),
+            Some(last) => last == *situation,
+            None => false,
+        }
+    }
+
+    /// Whether the two situations differ at most in what does not count where a control has no `reset`.
+    fn is_like(&self, situation: &Situation) -> bool
+        ensures { IsTrue result → MatchOption self.now.situation ⊥ (λ last. representative false last ≡ representative false situation.now) }
+    {
+        match self.situation {
+            Some(last) => last.representative(false) == situation.representative(false),
             None => false,
         }
     }
@@ -63,7 +67,6 @@ impl ClassCache {
         ClassCache {
             modules: [CachedClasses {
                 situation: None,
-                resets: true,
                 classes: Classes::default(),
             }; MAX_MODULES],
         }
@@ -86,15 +89,20 @@ impl ClassCache {
         ensures offered { result.offered ≡ offered_at (K.allows scope.now.knowledge.now) (rest_of scope.now.program.now place.now) }
         ensures classes { AreClasses (next_ask (rest_of scope.now.program.now place.now)) result }
     {
-        let situation = scope.program.asked(place).situation();
+        let situation = scope.program.asked(place).situation().representative(true);
         let cached = &self.modules[module_number - 1];
         if cached.is_of(&situation) {
             return cached.classes;
         }
+        if cached.is_like(&situation) {
+            let resets = has_reset(scope.program.control(module_number));
+            if !resets {
+                return cached.classes;
+            }
+        }
         let allowed = scope.knowledge.allowed(module_number);
         let classes = Classes::at(scope.program, place, module_number, allowed);
-        let resets = has_reset(scope.program.control(module_number));
-        self.modules[module_number - 1] = CachedClasses::of(&situation, resets, &classes);
+        self.modules[module_number - 1] = CachedClasses::of(&situation, &classes);
         classes
     }
 }
