@@ -24,8 +24,8 @@ TE11 = b"pamcheck: TE11 Memory\n"
 # The line of another fault has no memory: its status alone is left.
 UNSAID = "unsaid"
 # The answer is whole. The standard library's `collect` moves a list that it has made into memory that just fits it, and
-# keeps the list where it is if that is refused. There are two: the words, and the service in lower case; `graph` makes the
-# second one twice.
+# keeps the list where it is if that is refused. There are three: the words, the service in lower case, which `graph` makes
+# twice, and the caches that each graph is made with.
 KEPT = "kept"
 
 # The words are gathered, and their list fitted; standard output gets its buffer; `clap` reads the words.
@@ -35,15 +35,19 @@ STACKS = WORDS + [E17]
 # The moment takes no memory, so there is no M3. The service is put into lower case, and fitted.
 LOGINS = STACKS + [KEPT]
 TABLES = LOGINS + [TE11]
-# The flat program, and the texts of a page or a graph and what is counted over it; a cursor takes no memory.
+# The flat program, and the texts of a page; a cursor takes no memory.
 PAGES = LOGINS + [E17]
 TABLE_PAGES = TABLES + [E17]
+# The caches of a graph, the graph, and what is counted over it.
+GRAPH = [KEPT, E17]
+GRAPHS = PAGES + GRAPH
+TABLE_GRAPHS = TABLE_PAGES + GRAPH
 # A comparison reads two configurations and the facts file, then the returns file; then it compares.
 COMPARES = STACKS
 TABLE_COMPARES = STACKS + [TE11, E17]
 # The title of a drawing, which has the service in lower case once more, and the layout of a picture.
-DRAWINGS = PAGES + [KEPT, E17]
-TABLE_DRAWINGS = TABLE_PAGES + [KEPT, E17]
+DRAWINGS = GRAPHS + [KEPT, E17]
+TABLE_DRAWINGS = TABLE_GRAPHS + [KEPT, E17]
 
 # The facts and the findings; then the list of the services, by which findings are accepted; then the findings that are listed, and
 # the names of the files, among which the right words for wrong ones are; and to print, the lists of the paths and of the services.
@@ -74,14 +78,14 @@ ASKED = [
     ([*ACCOUNT, *ACCESS_TABLE], TABLE_PAGES),
     ([*ACCOUNT, "--user", "alice", *TIME_TABLE], TABLE_PAGES),
     ([*ACCOUNT, *ACCESS_TABLE, *TIME_TABLE, *RETURNS_FILE], TABLE_PAGES),
-    ([*PATHS, "--decision", "success", "--before", "12.0"], PAGES),
-    ([*ACCOUNT, "--asks", "1", *ACCESS_TABLE, *RETURNS_FILE], TABLE_PAGES),
+    ([*PATHS, "--decision", "success", "--before", "12.0"], GRAPHS),
+    ([*ACCOUNT, "--asks", "1", *ACCESS_TABLE, *RETURNS_FILE], TABLE_GRAPHS),
     (["access", "login", *ACCESS_TABLE, "--rhost", "10.1.2.3", "nodefgroup"], TABLES),
     (["time", "login", *TIME_TABLE, "--user", "alice", "--tty", "tty1"], TABLES),
     (["time", "login", "--time", "time", "--user", "alice", "--at-unix", "1715400000",
       "--zone", "CET-1CEST,M3.5.0,M10.5.0/3"], TABLES),
-    (["outcomes", "login", "auth", "--dir", "stack"], PAGES),
-    (["outcomes", "login", "account", "--dir", "stack", *ACCESS_TABLE, *TIME_TABLE, *RETURNS_FILE], TABLE_PAGES),
+    (["outcomes", "login", "auth", "--dir", "stack"], GRAPHS),
+    (["outcomes", "login", "account", "--dir", "stack", *ACCESS_TABLE, *TIME_TABLE, *RETURNS_FILE], TABLE_GRAPHS),
     (["graph", "login", "auth", "--dir", "stack"], DRAWINGS),
     (["graph", "login", "account", "--dir", "stack", "--format", "mermaid", *ACCESS_TABLE, *TIME_TABLE, *RETURNS_FILE],
      TABLE_DRAWINGS),
@@ -96,7 +100,7 @@ ASKED = [
     (["compare", "pam.conf", "pam.conf", "--conf"], COMPARES),
     (["show", "login", "auth", "--dir", "big", "--json"], STACKS),
     (["decide", "login", "auth", *["success"] * 3, "--dir", "stack", "--json"], STACKS),
-    (["outcomes", "login", "account", "--dir", "stack", "--json", *ACCESS_TABLE, *RETURNS_FILE], TABLE_PAGES),
+    (["outcomes", "login", "account", "--dir", "stack", "--json", *ACCESS_TABLE, *RETURNS_FILE], TABLE_GRAPHS),
     (["access", "login", *ACCESS_TABLE, "--rhost", "10.1.2.3", "--json"], TABLES),
     (["time", "login", *TIME_TABLE, "--user", "alice", "--json"], TABLES),
     (["compare", "new", "old", "--json", *RETURNS_FILE], TABLE_COMPARES),
