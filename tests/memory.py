@@ -24,8 +24,9 @@ TE11 = b"pamcheck: TE11 Memory\n"
 # The line of another fault has no memory: its status alone is left.
 UNSAID = "unsaid"
 # The answer is whole. The standard library's `collect` moves a list that it has made into memory that just fits it, and
-# keeps the list where it is if that is refused. There are three: the words, the service in lower case, which `graph` makes
-# twice, and the caches that each graph is made with.
+# keeps the list where it is if that is refused. There are two: the words, and the service in lower case; `graph` makes the
+# second one twice. For the caches that a graph is made with it asks for all room at once, and again as the list grows if that is
+# refused.
 KEPT = "kept"
 
 # The words are gathered, and their list fitted; standard output gets its buffer; `clap` reads the words.
@@ -51,10 +52,16 @@ TABLE_DRAWINGS = TABLE_GRAPHS + [KEPT, E17]
 
 # The facts and the findings; then the list of the services, by which findings are accepted; then the findings that are listed, and
 # the names of the files, among which the right words for wrong ones are; and to print, the lists of the paths and of the services.
-# The three lists ask for room again where it is refused once.
-CHECKS = STACKS + [KEPT, E17] + [KEPT] * 2
-# With more than four paths, their list grows.
-LONG_CHECKS = CHECKS + [KEPT]
+# The three lists ask for room again where it is refused once. With more than four paths, their list grows.
+LISTS = [KEPT, E17] + [KEPT] * 2
+# The two graphs of a stack. If it has no modules, nothing else takes memory between them.
+STACK_GRAPHS = {"+": GRAPH * 2, "-": [KEPT, *GRAPH]}
+
+
+def checks(stacks):
+    """The phases of a check of stacks, each with modules (`+`) or without (`-`)."""
+    return STACKS + [phase for stack in stacks for phase in STACK_GRAPHS[stack]] + LISTS
+
 
 TREE = {"d": FOLDER, "stack": {"login": STACK}, "pam.conf": b"login auth required a.so x\n" * 40, "access": ACCESS,
         "group": GROUP, "time": TIME, "returns": RETURNS, "facts": b"pam_own passes auth success\n", "accept": b"S6\nS2 login auth\n",
@@ -90,11 +97,11 @@ ASKED = [
     (["graph", "login", "account", "--dir", "stack", "--format", "mermaid", *ACCESS_TABLE, *TIME_TABLE, *RETURNS_FILE],
      TABLE_DRAWINGS),
     (["graph", "login", "account", "--dir", "stack", "--format", "svg", *ACCESS_TABLE, *RETURNS_FILE], TABLE_DRAWINGS),
-    (["check", "--dir", "d"], LONG_CHECKS),
-    (["check", "LOGIN", "--dir", "d", "--vendor-dir", "stack"], LONG_CHECKS),
-    (["check", "--conf", "pam.conf", "--fail-on", "note"], CHECKS),
+    (["check", "--dir", "d"], [*checks("++--+---++--+---"), KEPT]),
+    (["check", "LOGIN", "--dir", "d", "--vendor-dir", "stack"], [*checks("++--"), KEPT]),
+    (["check", "--conf", "pam.conf", "--fail-on", "note"], checks("+---")),
     (["show", "login", "auth", "--dir", "d", "--with", "login=d/common", "--with=new=d/other"], STACKS),
-    (["check", "--dir", "stack", "--modules", "m", "--facts", "facts", "--accept", "accept"], CHECKS),
+    (["check", "--dir", "stack", "--modules", "m", "--facts", "facts", "--accept", "accept"], checks("++--")),
     (["compare", "old", "new"], COMPARES),
     (["compare", "new", "old", "LOGIN", "auth", "--modules", "m", "--facts", "facts", *RETURNS_FILE], TABLE_COMPARES),
     (["compare", "pam.conf", "pam.conf", "--conf"], COMPARES),
