@@ -58,9 +58,14 @@ LISTS = [KEPT, E17] + [KEPT] * 2
 STACK_GRAPHS = {"+": GRAPH * 2, "-": [KEPT, *GRAPH]}
 
 
+def judged(stacks):
+    """The phases until stacks are judged, each with modules (`+`) or without (`-`)."""
+    return STACKS + [phase for stack in stacks for phase in STACK_GRAPHS[stack]]
+
+
 def checks(stacks):
-    """The phases of a check of stacks, each with modules (`+`) or without (`-`)."""
-    return STACKS + [phase for stack in stacks for phase in STACK_GRAPHS[stack]] + LISTS
+    """The phases of a check of these stacks."""
+    return judged(stacks) + LISTS
 
 
 TREE = {"d": FOLDER, "stack": {"login": STACK}, "pam.conf": b"login auth required a.so x\n" * 40, "access": ACCESS,
@@ -126,7 +131,7 @@ ASKED = [
     (["time", "login", "--time", "time", "--user", "alice", "--at", "2024-05-06"], [*STACKS, UNSAID]),
     (["access", "login", *ACCESS_TABLE, "listsep=,"], [*TABLES, UNSAID]),
     (["check", "--dir", "stack", "--facts", "group"], [*STACKS, UNSAID]),
-    (["check", "--dir", "stack", "--accept", "group"], [*STACKS, UNSAID]),
+    (["check", "--dir", "stack", "--accept", "group"], [*judged("++--"), UNSAID]),
     (["compare", "old", "gone"], [*STACKS, UNSAID]),
     (["compare", "old", "new", "--returns", "group"], [*STACKS, UNSAID]),
     ([*PATHS, "--after", "3"], [*PAGES, UNSAID]),
