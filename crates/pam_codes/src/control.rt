@@ -300,7 +300,7 @@ fn equals_sign(token: &[u8]) -> Result<(), ControlError>
 }
 
 /// Reads the rest of the pair that begins with `word`.
-#[tactic(auto, using(crate::proofs::PairSteps::bad_subject, crate::proofs::PairSteps::no_sign, crate::proofs::PairSteps::bad_sign, crate::proofs::PairSteps::no_action, crate::proofs::PairSteps::bad_action, crate::proofs::PairSteps::whole_pair))]
+#[tactic(auto, using(crate::proofs::PairSteps::whole_pair))]
 fn pair(word: &[u8], tokens: &mut Tokens) -> Result<(Subject, Action), ControlError>
     ensures pair { MatchResult result
         (λ p. pairs_of (word.now ∷ tokens_of tokens.old.rest.now) ≡ with_front p (pairs_of (tokens_of tokens.new.rest.now)))
@@ -308,14 +308,19 @@ fn pair(word: &[u8], tokens: &mut Tokens) -> Result<(Subject, Action), ControlEr
     ensures less { length (tokens_of tokens.new.rest.now) ≤ length (tokens_of tokens.old.rest.now) }
     ensures action { IfOk result (λ p. IsAction p.1) }
 {
+    #[tactic(auto, using(crate::proofs::PairSteps::bad_subject))]
     let subject = Subject::from_name(word)?;
+    #[tactic(auto, using(crate::proofs::PairSteps::no_sign))]
     let Some(sign) = tokens.next() else {
         return Err(ControlError::BadControl);
     };
+    #[tactic(auto, using(crate::proofs::PairSteps::bad_sign))]
     equals_sign(sign)?;
+    #[tactic(auto, using(crate::proofs::PairSteps::no_action))]
     let Some(name) = tokens.next() else {
         return Err(ControlError::BadAction);
     };
+    #[tactic(auto, using(crate::proofs::PairSteps::bad_action))]
     let action = Action::from_name(name)?;
     Ok((subject, action))
 }

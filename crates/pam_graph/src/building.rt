@@ -79,7 +79,7 @@ fn add(
 
 /// Where a run that has come to `place` continues: a node, added after all that it leads to if it is not there yet, or an
 /// end.
-// It calls itself once for each module of a path: so its frame is small, and what it calls is not put in line.
+// It calls itself once for each module of a path, so its frame is small and what it calls is not inlined.
 pub(crate) fn target_of<K: Knowledge>(
     alloc: Global,
     program: &Program,

@@ -34,7 +34,7 @@ fn cache_number(state: State) -> usize
 }
 
 /// Empty caches.
-// Not put in line: what it makes them with shall not stay on the stack while a graph is built.
+// Not inlined, so that its temporaries do not stay on the stack while a graph is built.
 #[inline(never)]
 pub(crate) fn new_caches(alloc: Global) -> Result<Vec<ClassCache>, AllocError>
     ensures { (allows : Allowance) (program : List FlatItem) → IfOk result (λ caches. AreCachesFor allows program caches.items) }
@@ -43,7 +43,7 @@ pub(crate) fn new_caches(alloc: Global) -> Result<Vec<ClassCache>, AllocError>
 }
 
 /// The fork at a place, whose classes are computed if the module was not asked in a situation like it last.
-// Not put in line: a caller that calls itself for each choice shall need little stack.
+// Not inlined, since its caller calls itself for each choice and must use little stack.
 #[inline(never)]
 pub(crate) fn fork_at<K: Knowledge>(
     program: &Program,

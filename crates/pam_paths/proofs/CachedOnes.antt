@@ -36,13 +36,13 @@ same-ask a b number control situation =
 some-is : (s t : Situation) → Some s ≡ Some t → s ≡ t
 some-is s t e = cc
 
--- the representative of a situation stands for it
+-- a kept situation that represents that of the question stands for it
 pub own-stands : (cached : Option Situation) (situation : Situation) (ask : Ask) → cached ≡ Some situation →
     situation ≡ representative true (situation_of ask) → StandsFor cached ask
 own-stands cached situation ask is own =
     (situation, is, ap (representative (has_reset ask)) own ∙ represented (has_reset ask) (situation_of ask))
 
--- and without a reset so does one that differs in the entry state
+-- so does one that differs in the entry state alone, where the control has no reset
 pub like-stands : (cached : Option Situation) (situation : Situation) (ask : Ask) →
     MatchOption cached ⊥ (λ last. representative false last ≡ representative false situation) →
     situation ≡ representative true (situation_of ask) → has_reset ask ≡ false → StandsFor cached ask

@@ -79,7 +79,7 @@ impl Fork {
     }
 
     /// The first choice whose least code is at or after `bound`.
-    // Not put in line: a caller that calls itself for each choice shall need little stack.
+    // Not inlined, since its caller calls itself for each choice and must use little stack.
     #[inline(never)]
     pub fn choice(&self, program: &Program, bound: u8) -> Option<Choice>
         requires fork { (allows : Allowance) × IsFork allows program.now self.now }

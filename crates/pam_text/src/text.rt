@@ -100,7 +100,7 @@ impl<'a> Text<'a> {
     }
 
     /// Passes over blank lines and comments, and over the blanks that the next line with another byte begins with.
-    // Not put in line: among the values of its callers each byte takes more instructions.
+    // Not inlined: inside its callers each byte takes more instructions.
     #[inline(never)]
     pub fn skip_blanks(&mut self)
         ensures lines { filled_lines (text_lines (text_left self.new)) ≡ filled_lines (text_lines (text_left self.old)) }
