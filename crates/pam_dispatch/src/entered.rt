@@ -1,6 +1,6 @@
 //! The states in which the open lists were entered.
 
-ghost use Rattle.std.specs.Prelude.{◌≡◌, ◌<◌, List, min, slice_index_or, slice_set, take};
+ghost use Rattle.std.specs.Prelude.{◌≡◌, ◌<◌, IsTrue, List, min, slice_index_or, slice_set, take};
 ghost use Rattle.pam_dispatch.specs.declared.entered.TheConstants.{LISTS};
 ghost use Rattle.pam_dispatch.specs.declared.flat_item.FlatItem.{FlatItem};
 ghost use Rattle.pam_dispatch.specs.inner.ReadLevels.{AreReadLevels};
@@ -30,6 +30,30 @@ fn keep_levels(states: &mut [State; LISTS], count: usize, levels: &ReadLevels)
     }
 }
 
+/// Whether the first `count` states in `kept` are those that `keep_levels` makes of `states`.
+#[inline(always)]
+fn are_kept(
+    kept: &[State; LISTS],
+    states: &[State; LISTS],
+    count: usize,
+    levels: &ReadLevels,
+) -> bool
+    ensures { (rest : List FlatItem) → AreReadLevels rest levels.now → IsTrue result
+        → take (min count LISTS) kept.now ≡ take (min count LISTS) (read_states 0 rest states.now) }
+{
+    for level in 0..count.min(LISTS) {
+        let state = if levels[level] {
+            states[level]
+        } else {
+            State::start()
+        };
+        if kept[level] != state {
+            return false;
+        }
+    }
+    true
+}
+
 impl Entered {
     ghost use Rattle.pam_dispatch.specs.State.{start_state};
 
@@ -49,6 +73,15 @@ impl Entered {
         let mut kept = *self;
         keep_levels(&mut kept.states, count, levels);
         kept
+    }
+
+    /// Whether the states of the first `count` lists are those that `at_levels` keeps of `other`.
+    #[inline(always)]
+    pub(crate) fn are_at_levels(&self, other: &Entered, count: usize, levels: &ReadLevels) -> bool
+        ensures { (rest : List FlatItem) → AreReadLevels rest levels.now → IsTrue result
+            → take (min count LISTS) self.now.states ≡ take (min count LISTS) (read_states 0 rest other.now.states) }
+    {
+        are_kept(&self.states, &other.states, count, levels)
     }
 
     /// Enters the list at `level` in this state.

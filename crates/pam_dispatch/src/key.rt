@@ -1,14 +1,16 @@
 //! Keys of places.
 
-ghost use Rattle.std.specs.Prelude.{◌≡◌, List};
+ghost use Rattle.std.specs.Prelude.{◌≡◌, IsTrue, List, drop};
 ghost use Rattle.pam_dispatch.specs.declared.flat_item.FlatItem.{FlatItem};
 ghost use Rattle.pam_dispatch.specs.Flat.{rest_of};
+ghost use Rattle.pam_dispatch.specs.inner.ReadLevels.{AreReadLevels};
 ghost use Rattle.pam_dispatch.specs.Keys.{key_of, rest_at};
 ghost use Rattle.pam_dispatch.specs.Representatives.{AreEqualRests, representative_of};
 
 use crate::entered::{Entered, LISTS};
 use crate::place::Place;
 use crate::program::Program;
+use crate::read_levels::ReadLevels;
 use crate::state::State;
 use std::hash::{Hash, Hasher};
 use std::marker::Model;
@@ -97,19 +99,40 @@ impl Place {
 }
 
 impl Program {
+    /// The levels of the lists whose entry states a reset can still read, from `place` on.
+    #[inline(always)]
+    fn read_levels_at(&self, place: &Place) -> &ReadLevels
+        ensures { AreReadLevels (drop place.now.position self.now) result.now }
+    {
+        let left = self.flat_items.len().saturating_sub(place.position);
+        &self.read_levels[left]
+    }
+
     /// The key of the place that represents all those which differ from `place` only in entry states that no reset can still read.
     /// The rest of a run from the places with this key on is equal to that from `place` on.
     pub fn key_at(&self, place: &Place) -> PlaceKey
         ensures key { result ≡ key_of (representative_of self.now place.now) }
         ensures rests { AreEqualRests (rest_at self.now result) (rest_of self.now place.now) }
     {
-        let left = self.flat_items.len().saturating_sub(place.position);
         let depth = usize::from(place.depth);
         PlaceKey {
             position: place.position,
             depth,
             state: place.state,
-            entered: place.entered.at_levels(depth, &self.read_levels[left]),
+            entered: place.entered.at_levels(depth, self.read_levels_at(place)),
         }
+    }
+
+    /// Whether `key` is the one that `key_at` gives for `place`.
+    #[inline(always)]
+    pub(crate) fn is_key_at(&self, key: &PlaceKey, place: &Place) -> bool
+        ensures { IsTrue result → key.now ≡ key_of (representative_of self.now place.now) }
+    {
+        key.position == place.position
+            && key.depth == usize::from(place.depth)
+            && key.state == place.state
+            && key
+                .entered
+                .are_at_levels(&place.entered, key.depth, self.read_levels_at(place))
     }
 }

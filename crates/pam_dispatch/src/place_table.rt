@@ -1,10 +1,14 @@
 //! Places that are found again.
 
-ghost use Rattle.std.specs.Prelude.{◌≡◌, ◌∷◌, ◌++◌, [], IfNone, IfSome, List, OnErr, OnOk, Some, length, slice_get};
-ghost use Rattle.pam_dispatch.specs.Keys.{AreDifferent, DiffersFrom};
+ghost use Rattle.std.specs.Prelude.{◌≡◌, ◌∷◌, ◌++◌, [], IfNone, IfSome, IsTrue, List, OnErr, OnOk, Some, length, slice_get};
+ghost use Rattle.pam_dispatch.specs.Flat.{rest_of};
+ghost use Rattle.pam_dispatch.specs.Keys.{AreDifferent, DiffersFrom, key_of, rest_at};
+ghost use Rattle.pam_dispatch.specs.Representatives.{AreEqualRests, representative_of};
 
 use crate::error::Memory;
 use crate::key::PlaceKey;
+use crate::place::Place;
+use crate::program::Program;
 use indexmap::IndexSet;
 use std::alloc::Global;
 use std::marker::Model;
@@ -48,6 +52,29 @@ impl PlaceTable {
         ensures none { IfNone result (DiffersFrom key.now self.now) }
     {
         self.keys.get_index_of(key)
+    }
+
+    /// Whether the place with this index represents `place`.
+    #[inline(always)]
+    fn has_at(&self, program: &Program, place: &Place, index: usize) -> bool
+        ensures { IsTrue result → slice_get self.now index ≡ Some (key_of (representative_of program.now place.now)) }
+    {
+        match self.keys.get_index(index) {
+            Some(key) => program.is_key_at(key, place),
+            None => false,
+        }
+    }
+
+    /// The index of the place that represents `place`, as `Program::key_at` says. It is found at once if it is `guess`.
+    pub fn find_at(&self, program: &Program, place: &Place, guess: usize) -> Option<usize>
+        ensures found { IfSome result (λ index. slice_get self.now index ≡ Some (key_of (representative_of program.now place.now))) }
+        ensures none { IfNone result (DiffersFrom (key_of (representative_of program.now place.now)) self.now) }
+        ensures rests { AreEqualRests (rest_at program.now (key_of (representative_of program.now place.now))) (rest_of program.now place.now) }
+    {
+        if self.has_at(program, place, guess) {
+            return Some(guess);
+        }
+        self.find(&program.key_at(place))
     }
 
     /// Adds a place by its key. Returns `Memory` if allocation fails.

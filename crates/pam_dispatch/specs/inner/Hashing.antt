@@ -14,7 +14,7 @@ use Rattle.pam_dispatch.specs.Hashing.{state_input, key_input, same_state, same_
 state_of : (i : Impression) (s : ℕ) → State
 state_of i s = record { impression = i; status = s }
 
-same_state-true : (a b : State) → same_state a b ≡ true → a ≡ b
+pub same_state-true : (a b : State) → same_state a b ≡ true → a ≡ b
 unfolding state_of
 same_state-true a b t =
     let parts = and_parts (sameb the_type a.impression b.impression) (eqb a.status b.status) t in
