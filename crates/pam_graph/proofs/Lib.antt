@@ -1,6 +1,7 @@
 pub mod Accounting
 pub mod Counting
 pub mod Deciding
+pub mod Drafts
 pub mod Following
 pub mod FrameLists
 pub mod Growing

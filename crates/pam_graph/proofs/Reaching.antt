@@ -2,17 +2,17 @@
 use Rattle.std.proofs.Common.{◌≡◌, ◌≢◌, ℕ, ◌<◌, true, List, [], ◌∷◌, ◌++◌, Some, Result, Ok}
 use Rattle.std.proofs.Common.{Err, map, refl, sym, ◌∙◌, ap, subst, arith, length, slice_get, slice_index_or, suc, zero}
 use Rattle.std.proofs.lemmas.List.{map-append}
-use Rattle.std.specs.Prelude.{IfErr, OnOk}
+use Rattle.std.specs.Prelude.{IfErr, IsSome, OnOk}
 use Rattle.pam_dispatch.specs.declared.flat_item.FlatItem.{FlatItem}
 use Rattle.pam_dispatch.specs.declared.place.Place.{Place}
-use Rattle.pam_dispatch.specs.Flat.{rest_of, runs_of}
+use Rattle.pam_dispatch.specs.Flat.{IsPlaceOf, rest_of, runs_of}
 use Rattle.pam_dispatch.specs.Keys.{AreDifferent, DiffersFrom, KeyValue, rest_at}
 use Rattle.pam_dispatch.specs.Runs.{AsksRise, Runs, after_answer, asked_module, asks, ends, outcome_of}
 use Rattle.pam_graph.specs.declared.error.GraphError.{GraphError}
 use Rattle.pam_graph.specs.declared.error.GraphError.TheVariants.{Memory, TooManyNodes}
 use Rattle.pam_graph.specs.declared.node.Target.{Target}
 use Rattle.pam_graph.specs.inner.Building.{IsBefore}
-use Rattle.pam_graph.specs.Reached.{AreAllowed, AreReachedKeys, IsReached, IsReachedKey, IsReason, after_answers}
+use Rattle.pam_graph.specs.Reached.{AreAllowed, AreReachedKeys, IsReached, IsReachedKey, IsReason, after_answers, node_key}
 use Rattle.pam_paths.specs.Listing.{Allowance}
 
 -- LATER MODULES
@@ -71,6 +71,11 @@ reached-on allows program m code place after h asked low may is =
       allowed-push allows m runs h.0 code h.1 (ap asked_module (sym h.2) ∙ asked) low may,
       is ∙ ap (λ (r : Runs). after_answer r code) h.2 ∙ sym (answers-push runs h.0 code),
     )
+
+pub key-reached : (allows : Allowance) (program : List FlatItem) (place : Place) → IsPlaceOf program place → IsSome (asked_module (rest_of program place)) →
+    IsReached allows program place → IsReachedKey allows program (node_key program place)
+key-reached allows program place is asking reached =
+    record { place = place; is_place = is; asks = asking; reached = reached; is_key = refl }
 
 AreReachedKeys-push : (allows : Allowance) (program : List FlatItem) (keys : List KeyValue) (key : KeyValue) → AreReachedKeys allows program keys →
     IsReachedKey allows program key → AreReachedKeys allows program (keys ++ key ∷ [])

@@ -1,29 +1,27 @@
 //! Builds the graph of the runs of a program.
 
-ghost use Rattle.std.specs.Prelude.{◌≡◌, ◌∷◌, ◌++◌, ◌≤◌, ◌<◌, [], IfErr, IfNone, IfOk, IfSome, List, OnOk, Some, ℕ, length, slice_get};
+ghost use Rattle.std.specs.Prelude.{◌≡◌, ◌∷◌, ◌++◌, ◌≤◌, ◌<◌, [], IfErr, IfNone, IfOk, IfSome, IsSome, List, OnOk, Some, length, slice_get};
 ghost use Rattle.pam_conf.specs.Stack.{Items};
 ghost use Rattle.pam_conf.specs.declared.stack.TheConstants.{MAX_MODULES};
 ghost use Rattle.pam_dispatch.specs.Flat.{IsPlaceOf, modules_of, rest_of, runs_of};
 ghost use Rattle.pam_dispatch.specs.Keys.{AreDifferent, DiffersFrom, KeyValue, rest_at};
 ghost use Rattle.pam_dispatch.specs.Representatives.{AreEqualRests};
-ghost use Rattle.pam_dispatch.specs.Runs.{AsksRise};
+ghost use Rattle.pam_dispatch.specs.Runs.{AsksRise, asked_module};
 ghost use Rattle.pam_dispatch.specs.Tree.{runs_of_stack};
 ghost use Rattle.pam_graph.specs.declared.node.Target.TheVariants.{At};
 ghost use Rattle.pam_graph.specs.declared.error.GraphError.TheVariants.{TooManyNodes};
 ghost use Rattle.pam_graph.specs.declared.graph.TheConstants.{MAX_NODES};
-ghost use Rattle.pam_graph.specs.inner.Building.{IsBefore, IsBuilt, IsExtended};
-ghost use Rattle.pam_graph.specs.inner.Caches.{AreCachesFor};
-ghost use Rattle.pam_graph.specs.Order.{IsAbove, numbers_of};
+ghost use Rattle.pam_graph.specs.inner.Building.{Continues, IsDraft};
 ghost use Rattle.pam_graph.specs.Places.{AreNodesOf};
-ghost use Rattle.pam_graph.specs.Reached.{AreReachedKeys, IsReached, IsReason, node_key};
-ghost use Rattle.pam_graph.specs.Walks.{walks, walks_of, walks_to};
-ghost use Rattle.pam_paths.specs.Computed.{listing};
+ghost use Rattle.pam_graph.specs.Reached.{IsReached, IsReason, node_key};
+ghost use Rattle.pam_graph.specs.Walks.{walks};
 ghost use Rattle.pam_paths.specs.Listing.{IsListing};
 ghost use Rattle.pam_paths.specs.Paths.{path_of, path_through};
 
 use crate::caches::{fork_at, new_caches};
 use crate::error::GraphError;
 use crate::graph::{Graph, MAX_NODES};
+use crate::last_nodes::LastNodes;
 use crate::node::{Edge, Node, Target};
 use pam_dispatch::{Place, PlaceTable, Program};
 use pam_paths::{ClassCache, Knowledge};
@@ -37,16 +35,29 @@ pub(crate) struct Draft {
     pub(crate) places: PlaceTable,
     /// The classes computed last for each module.
     pub(crate) caches: Vec<ClassCache>,
+    pub(crate) last_nodes: LastNodes,
 }
 
-/// The index of the node for `place`.
-#[inline(never)]
-fn find(program: &Program, places: &PlaceTable, place: &Place) -> Option<usize>
+/// The index of the node for `place`, at which the module with this number is asked.
+#[inline(always)]
+fn find(
+    program: &Program,
+    places: &PlaceTable,
+    last_nodes: &mut LastNodes,
+    place: &Place,
+    module_number: usize,
+) -> Option<usize>
     ensures found { IfSome result (λ index. slice_get places.now index ≡ Some (node_key program.now place.now)) }
     ensures none { IfNone result (DiffersFrom (node_key program.now place.now) places.now) }
     ensures rests { AreEqualRests (rest_at program.now (node_key program.now place.now)) (rest_of program.now place.now) }
 {
-    places.find(&program.key_at(place))
+    let state = place.state();
+    let last = last_nodes.of(module_number, &state);
+    let found = places.find_at(program, place, last)?;
+    if found != last {
+        last_nodes.set(module_number, &state, u32::try_from(found).unwrap_or(0));
+    }
+    Some(found)
 }
 
 /// Adds a node for `place`, if there are fewer than `limit`.
@@ -73,13 +84,18 @@ fn add(
         return Err(GraphError::TooManyNodes);
     }
     let index = draft.nodes.len() as u32;
+    draft
+        .last_nodes
+        .set(node.module_number, &node.state, index);
     draft.nodes.push(node)?;
     Ok(Target::At(index))
 }
 
 /// Where a run that has come to `place` continues: a node, added after all that it leads to if it is not there yet, or an
 /// end.
-// It calls itself once for each module of a path, so its frame is small and what it calls is not inlined.
+// Inlined into the loop below, since most edges lead to a node that is there.
+#[cycle(building)]
+#[inline(always)]
 pub(crate) fn target_of<K: Knowledge>(
     alloc: Global,
     program: &Program,
@@ -91,32 +107,54 @@ pub(crate) fn target_of<K: Knowledge>(
     requires few { modules_of program.now ≤ MAX_MODULES }
     requires place { IsPlaceOf program.now place.now }
     requires rise { AsksRise 0 (modules_of program.now) (rest_of program.now place.now) }
-    requires built { IsBuilt (K.allows knowledge.now) program.now draft.old.nodes.items draft.old.places }
-    requires caches { AreCachesFor (K.allows knowledge.now) program.now draft.old.caches.items }
     requires reached { IsReached (K.allows knowledge.now) program.now place.now }
-    requires keys { AreReachedKeys (K.allows knowledge.now) program.now draft.old.places }
-    requires fits { length draft.old.places ≤ limit }
-    ensures fits { OnOk result (length draft.new.places ≤ limit) }
-    ensures caches { AreCachesFor (K.allows knowledge.now) program.now draft.new.caches.items }
-    ensures keys { OnOk result (AreReachedKeys (K.allows knowledge.now) program.now draft.new.places) }
-
-    // Places of modules that are asked earlier are not added.
-    ensures apart { (key : KeyValue) → DiffersFrom key draft.old.places → IsBefore (rest_at program.now key) (rest_of program.now place.now)
-        → OnOk result (DiffersFrom key draft.new.places) }
+    requires draft { IsDraft limit (K.allows knowledge.now) program.now draft.old }
+    ensures draft { OnOk result (IsDraft limit (K.allows knowledge.now) program.now draft.new) }
+    ensures continues { IfOk result (Continues (K.allows knowledge.now) program.now place.now draft.old draft.new) }
     ensures reason { IfErr result (IsReason limit (K.allows knowledge.now) program.now) }
-    ensures built { OnOk result (IsBuilt (K.allows knowledge.now) program.now draft.new.nodes.items draft.new.places) }
-    ensures extended { OnOk result (IsExtended draft.old.nodes.items draft.new.nodes.items) }
-    ensures above { (low : ℕ) → AsksRise low (modules_of program.now) (rest_of program.now place.now)
-        → IfOk result (IsAbove (numbers_of draft.new.nodes.items) low) }
-    ensures walks { IfOk result (λ target.
-        walks_to (walks_of draft.new.nodes.items) target ≡ listing (K.allows knowledge.now) (rest_of program.now place.now)) }
 {
     let Some(module_number) = place.module() else {
         return Ok(Target::End(program.decision(place).code()));
     };
-    if let Some(index) = find(program, &draft.places, place) {
+    if let Some(index) = find(
+        program,
+        &draft.places,
+        &mut draft.last_nodes,
+        place,
+        module_number,
+    ) {
         return Ok(Target::At(index as u32));
     }
+    node_at(alloc, program, knowledge, limit, place, draft)
+}
+
+/// Adds the node for `place`, after all that it leads to.
+// It calls itself once for each module of a path, so its frame is small and what else it calls is not inlined.
+#[cycle(building)]
+#[inline(never)]
+fn node_at<K: Knowledge>(
+    alloc: Global,
+    program: &Program,
+    knowledge: &K,
+    limit: u32,
+    place: &Place,
+    draft: &mut Draft,
+) -> Result<Target, GraphError>
+    requires few { modules_of program.now ≤ MAX_MODULES }
+    requires place { IsPlaceOf program.now place.now }
+    requires rise { AsksRise 0 (modules_of program.now) (rest_of program.now place.now) }
+    requires reached { IsReached (K.allows knowledge.now) program.now place.now }
+    requires draft { IsDraft limit (K.allows knowledge.now) program.now draft.old }
+    requires asking { IsSome (asked_module (rest_of program.now place.now)) }
+    requires rests { AreEqualRests (rest_at program.now (node_key program.now place.now)) (rest_of program.now place.now) }
+    requires new { DiffersFrom (node_key program.now place.now) draft.old.places }
+    ensures draft { OnOk result (IsDraft limit (K.allows knowledge.now) program.now draft.new) }
+    ensures continues { IfOk result (Continues (K.allows knowledge.now) program.now place.now draft.old draft.new) }
+    ensures reason { IfErr result (IsReason limit (K.allows knowledge.now) program.now) }
+{
+    let Some(module_number) = place.module() else {
+        unreachable!()
+    };
     let fork = fork_at(program, knowledge, &mut draft.caches, place, module_number);
     let mut edges = Vec::with_capacity(alloc, fork.choices())?;
     let mut bound = 0;
@@ -175,6 +213,7 @@ impl Graph {
             nodes: Vec::new(alloc),
             places: PlaceTable::new(alloc),
             caches: new_caches(alloc)?,
+            last_nodes: LastNodes::none(alloc, program.modules())?,
         };
         let first = program.first();
         let start = target_of(alloc, program, knowledge, limit, &first, &mut draft)?;

@@ -9,6 +9,7 @@ mod error;
 mod frames;
 mod goal;
 mod graph;
+mod last_nodes;
 pub mod laws;
 mod node;
 mod past_ends;

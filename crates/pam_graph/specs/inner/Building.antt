@@ -1,13 +1,18 @@
 -- For private contracts and proofs alone: a graph while it is built.
-use Rattle.std.specs.Prelude.{◌≡◌, ℕ, ◌+◌, ◌-◌, ◌<◌, List, [], ◌∷◌, ◌++◌, Some, map}
+use Rattle.std.specs.Prelude.{◌≡◌, ℕ, ◌+◌, ◌-◌, ◌<◌, ◌≤◌, List, [], ◌∷◌, ◌++◌, Some, length, map}
 use Rattle.pam_dispatch.specs.declared.flat_item.FlatItem.{FlatItem}
-use Rattle.pam_dispatch.specs.Flat.{modules_of}
-use Rattle.pam_dispatch.specs.Keys.{KeyValue, rest_at}
+use Rattle.pam_dispatch.specs.declared.place.Place.{Place}
+use Rattle.pam_dispatch.specs.Flat.{modules_of, rest_of}
+use Rattle.pam_dispatch.specs.Keys.{DiffersFrom, KeyValue, rest_at}
 use Rattle.pam_dispatch.specs.Runs.{AsksRise, Runs, asked_module, ends, asks, state_in}
 use Rattle.pam_dispatch.specs.declared.state.State.{State}
+use Rattle.pam_graph.specs.declared.building.Draft.{Draft}
 use Rattle.pam_graph.specs.declared.node.Node.{Node}
-use Rattle.pam_graph.specs.Order.{AreNodes, numbers_of}
-use Rattle.pam_graph.specs.Walks.{walks_of}
+use Rattle.pam_graph.specs.declared.node.Target.{Target}
+use Rattle.pam_graph.specs.inner.Caches.{AreCachesFor}
+use Rattle.pam_graph.specs.Order.{AreNodes, IsAbove, numbers_of}
+use Rattle.pam_graph.specs.Reached.{AreReachedKeys}
+use Rattle.pam_graph.specs.Walks.{walks_of, walks_to}
 use Rattle.pam_paths.specs.Computed.{listing}
 use Rattle.pam_paths.specs.Listing.{Allowance}
 
@@ -56,6 +61,26 @@ IsBefore (asks ask next) (asks later after) = ask.module_number < later.module_n
 -- nodes were added at the end
 abbrev pub IsExtended : List Node → List Node → Type 0
 IsExtended old new = (more : List Node) × (new ≡ old ++ more)
+
+-- a draft of the graph of a program's runs, of at most `limit` nodes
+pub record IsDraft (limit : ℕ) (allows : Allowance) (program : List FlatItem) (draft : Draft) : Type 0 where
+  pub built : IsBuilt allows program draft.nodes.items draft.places
+  pub cached : AreCachesFor allows program draft.caches.items
+  pub keys : AreReachedKeys allows program draft.places
+  pub fits : length draft.places ≤ limit
+
+-- nodes and places to which others were added, so that the walks from a target on are the paths from a place on; places of modules
+-- that are asked earlier were not added
+pub record IsContinued (allows : Allowance) (program : List FlatItem) (place : Place) (old : List Node) (old_places : List KeyValue)
+    (new : List Node) (new_places : List KeyValue) (target : Target) : Type 0 where
+  pub extended : IsExtended old new
+  pub apart : (key : KeyValue) → DiffersFrom key old_places → IsBefore (rest_at program key) (rest_of program place) → DiffersFrom key new_places
+  pub above : (low : ℕ) → AsksRise low (modules_of program) (rest_of program place) → IsAbove (numbers_of new) low target
+  pub walks : walks_to (walks_of new) target ≡ listing allows (rest_of program place)
+
+-- a draft was extended so that a target continues the runs that have come to a place
+abbrev pub Continues : Allowance → List FlatItem → Place → Draft → Draft → Target → Type 0
+Continues allows program place old new = IsContinued allows program place old.nodes.items old.places new.nodes.items new.places
 
 -- a measure of what is left of a run: the number of modules from the one that is asked to the last
 abbrev pub modules_left : ℕ → Runs → ℕ

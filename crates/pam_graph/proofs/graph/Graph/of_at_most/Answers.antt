@@ -1,5 +1,6 @@
-use Rattle.std.proofs.Common.{◌∙◌, [], ap, arith, subst, sym}
+use Rattle.std.proofs.Common.{◌∙◌, [], List, ap, arith, length, subst, sym}
 use Rattle.pam_dispatch.specs.Flat.{modules_of, runs_of}
+use Rattle.pam_dispatch.specs.Keys.{KeyValue}
 use Rattle.pam_graph.specs.Reached.{AreAllowed, AreReachedKeys, after_answers}
 use Rattle.pam_graph.proofs.Growing.{built-empty}
 use Rattle.pam_graph.proofs.Placing.{built-at}
@@ -10,8 +11,17 @@ use Rattle.pam_paths.proofs.Listings.{listing-is, some_assignment}
 use Rattle.pam_paths.proofs.Trees.{listing-tree}
 use Rattle.pam_graph.proofs.graph.Graph.of_at_most.Goals as goal
 
-pub target_of-requires-clause-built : goal.target_of-requires-clause-built
-target_of-requires-clause-built g c = built-empty _ c.args.program.now _ _ c.new.ensures.items c.new-2.ensures
+pub target_of-requires-clause-draft : goal.target_of-requires-clause-draft
+unfolding AreReachedKeys
+target_of-requires-clause-draft g c =
+    let allows = g.K.Knowledge.allows c.args.knowledge.now in
+    let program = c.args.program.now in
+    record {
+      built = built-empty _ program _ _ c.new.ensures.items c.new-2.ensures;
+      cached = c.in_ok-new_caches.ensures allows program;
+      keys = subst (AreReachedKeys allows program) (sym c.new-2.ensures) tt;
+      fits = omega (arith, ap (λ (x : List KeyValue). length x) c.new-2.ensures);
+    }
 
 pub returns-clause-listing : goal.returns-clause-listing
 returns-clause-listing g c =
@@ -21,7 +31,7 @@ returns-clause-listing g c =
     let some = some_assignment allows n
     (λ m first last. g.met.K.Knowledge.lawful c.args.knowledge.now m first (omega (arith, last, c.first-first.ensures.few))) in
     subst (IsListing allows n (path_of (runs_of program)))
-    (sym (c.in_ok-start.ensures.walks ∙ ap (listing allows) c.first-first.ensures.whole))
+    (sym (c.in_ok-start.ensures.continues.walks ∙ ap (listing allows) c.first-first.ensures.whole))
     (listing-is allows n (runs_of program) c.first-first.ensures.rise some.0 some.1)
 
 pub returns-clause-nodes : goal.returns-clause-nodes
@@ -32,8 +42,8 @@ returns-clause-nodes g c =
     (λ m first last. g.met.K.Knowledge.lawful c.args.knowledge.now m first (omega (arith, last, c.first-first.ensures.few))) in (
       c.target_of.new.draft.places,
       c.len-count.ensures.different,
-      built-at allows program some.0 some.1 c.target_of.new.draft.nodes.items c.target_of.new.draft.places c.in_ok-start.ensures.built
-          c.in_ok-start.ensures.keys,
+      built-at allows program some.0 some.1 c.target_of.new.draft.nodes.items c.target_of.new.draft.places c.in_ok-start.ensures.draft.built
+          c.in_ok-start.ensures.draft.keys,
     )
 
 pub returns-clause-stack : goal.returns-clause-stack
@@ -42,11 +52,3 @@ returns-clause-stack g c items is = listing-tree _ _ _ items is _ (returns-claus
 pub target_of-requires-clause-reached : goal.target_of-requires-clause-reached
 unfolding AreAllowed after_answers
 target_of-requires-clause-reached g c = ([], tt, c.first-first.ensures.whole)
-
-pub target_of-requires-clause-keys : goal.target_of-requires-clause-keys
-unfolding AreReachedKeys
-target_of-requires-clause-keys g c =
-    subst (AreReachedKeys (g.K.Knowledge.allows c.args.knowledge.now) c.args.program.now) (sym c.new-2.ensures) tt
-
-pub target_of-requires-clause-caches : goal.target_of-requires-clause-caches
-target_of-requires-clause-caches g c = c.in_ok-new_caches.ensures (g.K.Knowledge.allows c.args.knowledge.now) c.args.program.now

@@ -5,71 +5,93 @@ use Rattle.pam_dispatch.specs.declared.place.Place.{Place}
 use Rattle.pam_dispatch.specs.Flat.{modules_of, rest_of}
 use Rattle.pam_dispatch.specs.Keys.{rest_at}
 use Rattle.pam_dispatch.specs.Runs.{AsksRise, after_answer, asked_module}
+use Rattle.pam_graph.specs.declared.building.Draft.{Draft}
 use Rattle.pam_graph.specs.declared.node.Edge.{Edge}
 use Rattle.pam_graph.specs.declared.node.Node.{Node}
-use Rattle.pam_graph.specs.inner.Building.{modules_left}
+use Rattle.pam_graph.specs.inner.Building.{IsDraft, modules_left}
 use Rattle.pam_graph.specs.inner.Caches.{AreCachesFor}
 use Rattle.pam_graph.specs.Order.{AreAbove, IsNode, LeastRise, numbers_of}
 use Rattle.pam_graph.specs.Reached.{node_key}
 use Rattle.pam_graph.specs.Walks.{walks_by, walks_of}
+use Rattle.pam_graph.proofs.Drafts.{added-continued, added-draft}
 use Rattle.pam_graph.proofs.Growing.{AreAbove-push, LeastRise-more, LeastRise-push, above-extended}
 use Rattle.pam_graph.proofs.Growing.{added-above, added-built, added-extended, added-walks, built-found}
 use Rattle.pam_graph.proofs.Growing.{built-length, extended-trans, found-above, left-at, left-fewer, listing-end, node-for, walks-all, walks-choice}
-use Rattle.pam_graph.proofs.Reaching.{added-apart, added-keys, added-reason, added-rests, before-later, before-trans, get-at, key-apart, reached-on}
+use Rattle.pam_graph.proofs.Reaching.{added-apart, added-keys, added-reason, added-rests, before-later, before-trans, get-at, key-apart, key-reached, reached-on}
 use Rattle.pam_graph.proofs.Rests.{asked-equal, before-equal, listing-equal, rise-equal, state-equal}
 use Rattle.pam_paths.specs.Forks.{paths_from}
 use Rattle.pam_paths.proofs.FrameLists.{AsksRise-lower, rise_after}
-use Rattle.pam_graph.proofs.building.+target_of.Goals as goal
+use Rattle.pam_graph.proofs.building.+building.Goals as goal
 
-pub returns-in_default-clause-walks : goal.returns-in_default-clause-walks
-returns-in_default-clause-walks g t c =
+pub target_of-returns-in_default-clause-continues : goal.target_of-returns-in_default-clause-continues
+target_of-returns-in_default-clause-continues g t c =
     let program = c.args.program.now in
-    listing-end _ (rest_of program c.args.place.now) c.code.result
-    (sym (c.module.ensures program c.requires.place) ∙ c.in_default.is) (c.code.ensures ∙ c.decision.ensures)
+    record {
+      extended = ([], sym (append-nil _));
+      apart = λ key h before. h;
+      above = λ low rise. tt;
+      walks = listing-end _ (rest_of program c.args.place.now) c.code.result
+          (sym (c.module.ensures program c.requires.place) ∙ c.in_default.is) (c.code.ensures ∙ c.decision.ensures);
+    }
 
-pub returns-in-Some-find-clause-above : goal.returns-in-Some-find-clause-above
-returns-in-Some-find-clause-above g t c low rise =
+pub target_of-returns-in-Some-find-clause-draft : goal.target_of-returns-in-Some-find-clause-draft
+target_of-returns-in-Some-find-clause-draft g t c =
+    let d = c.requires.draft in
+    record { built = d.built; cached = d.cached; keys = d.keys; fits = d.fits }
+
+pub target_of-returns-in-Some-find-clause-continues : goal.target_of-returns-in-Some-find-clause-continues
+target_of-returns-in-Some-find-clause-continues g t c =
     let program = c.args.program.now in
-    let at = c.args.place.now in
+    let nodes = c.args.draft.now.nodes.items in
+    let places = c.args.draft.now.places in
     let asked = sym (c.module.ensures program c.requires.place) ∙ c.in-Some.is in
-    let key = node_key program at in
-    let k = get-at c.args.draft.now.places c.in-Some-find.index key c.in-Some-find.ensures.found in
+    let key = node_key program c.args.place.now in
+    let k = get-at places c.in-Some-find.index key c.in-Some-find.ensures.found in
     let same = c.in-Some-find.ensures.rests in
-    found-above _ program c.args.draft.now.nodes.items c.args.draft.now.places c.in-Some-find.index low (modules_of program) c.in-Some.module_number
-    key (rest_at program key) c.requires.built k.0 (ap (rest_at program) k.1) (asked-equal _ _ same ∙ asked) (rise-equal low (modules_of program) _ _ same rise)
+    let built = c.requires.draft.built in
+    record {
+      extended = ([], sym (append-nil _));
+      apart = λ key h before. h;
+      above = λ low rise. found-above _ program nodes places c.in-Some-find.index low (modules_of program) c.in-Some.module_number
+          key (rest_at program key) built k.0 (ap (rest_at program) k.1) (asked-equal _ _ same ∙ asked) (rise-equal low (modules_of program) _ _ same rise);
+      walks = built-found _ program nodes places c.in-Some-find.index key (rest_at program key) built k.0 (ap (rest_at program) k.1)
+          ∙ listing-equal _ _ _ same;
+    }
 
-pub returns-in-Some-find-clause-walks : goal.returns-in-Some-find-clause-walks
-returns-in-Some-find-clause-walks g t c =
-    let program = c.args.program.now in
-    let at = c.args.place.now in
-    let key = node_key program at in
-    let k = get-at c.args.draft.now.places c.in-Some-find.index key c.in-Some-find.ensures.found in
-    built-found _ program c.args.draft.now.nodes.items c.args.draft.now.places c.in-Some-find.index key (rest_at program key) c.requires.built
-    k.0 (ap (rest_at program) k.1)
-    ∙ listing-equal _ _ _ c.in-Some-find.ensures.rests
+pub target_of-node_at-requires : goal.target_of-node_at-requires
+target_of-node_at-requires g t c κs within =
+    let d = c.requires.draft in
+    let now = c.args.draft.now in
+    let found : Draft = record { nodes = now.nodes; places = now.places; caches = now.caches; last_nodes = c.find.new.last_nodes } in
+    let draft : IsDraft c.args.limit (g.K.Knowledge.allows c.args.knowledge.now) c.args.program.now found =
+    record { built = d.built; cached = d.cached; keys = d.keys; fits = d.fits } in
+    let asking : IsSome (asked_module (rest_of c.args.program.now c.args.place.now)) =
+    subst IsSome (sym (sym (c.module.ensures c.args.program.now c.requires.place) ∙ c.in-Some.is)) refl in
+    let rests = c.in_default-find.ensures.rests in
+    let new = c.in_default-find.ensures.none in
+    let k = c.decreases in
+    search rules
 
-pub loop-choice-init : goal.loop-choice-init
+pub node_at-loop-choice-init : goal.node_at-loop-choice-init
 unfolding AreAbove LeastRise
-loop-choice-init g t c =
+node_at-loop-choice-init g t c =
     let allows = g.K.Knowledge.allows c.args.knowledge.now in
     let nodes = c.args.draft.now.nodes.items in
+    let d = c.requires.draft in
     record {
       bound = omega arith;
-      built = c.requires.built;
+      draft = record { built = d.built; cached = c.fork_at-fork.ensures.caches; keys = d.keys; fits = d.fits };
       extended = ([], sym (append-nil _));
       later = subst (AreAbove (numbers_of nodes) c.in-Some.module_number) (sym c.in_ok-edges.ensures.items) tt;
       rise = subst (LeastRise 0 0) (sym c.in_ok-edges.ensures.items) (omega arith);
-      cached = c.fork_at-fork.ensures.caches;
-      keys = c.requires.keys;
-      fits = c.requires.fits;
-      new = c.in_default-find.ensures.none;
+      new = c.requires.new;
       apart = λ key h before. h;
       walks = ap (λ (x : List Edge). flat_map (walks_by (walks_of nodes) c.in-Some.module_number) x
           ++ paths_from allows c.args.program.now c.fork_at-fork.result 0) c.in_ok-edges.ensures.items ∙ c.fork_at-fork.ensures.paths;
     }
 
-pub target_of-requires : goal.target_of-requires
-target_of-requires g t c κs within =
+pub node_at-target_of-requires : goal.node_at-target_of-requires
+node_at-target_of-requires g t c κs within =
     let allows = g.K.Knowledge.allows c.args.knowledge.now in
     let program = c.args.program.now in
     let n = modules_of program in
@@ -83,19 +105,16 @@ target_of-requires g t c κs within =
     let few = left-fewer m n after later k.1 in
     let here = left-at m n (rest_of program c.args.place.now) asked in
     let smaller : modules_left n after < modules_left n (rest_of program c.args.place.now) = omega (arith, few, here) in
-    let built = c.loop-choice.invariant.built in
     let place = is.place in
     let reached = reached-on allows program m is.code c.args.place.now c.in-Some-choice.choice.place c.requires.reached asked is.is_code
     (subst (λ (x : ℕ). allows x is.code ≡ true) c.fork_at-fork.ensures.number is.allowed)
     (is.rest ∙ ap (λ (p : Place). after_answer (rest_of program p) is.code) c.fork_at-fork.ensures.place) in
-    let keys = c.loop-choice.invariant.keys in
-    let cached = c.loop-choice.invariant.cached in
-    let fits = c.loop-choice.invariant.fits in
+    let draft = c.loop-choice.invariant.draft in
     let d = c.decreases in
     search rules
 
-pub loop-choice-preserved : goal.loop-choice-preserved
-loop-choice-preserved g t c =
+pub node_at-loop-choice-preserved : goal.node_at-loop-choice-preserved
+node_at-loop-choice-preserved g t c =
     let allows = g.K.Knowledge.allows c.args.knowledge.now in
     let program = c.args.program.now in
     let n = modules_of program in
@@ -105,7 +124,7 @@ loop-choice-preserved g t c =
     let edges = c.loop-choice.edges.items in
     let choice = c.in-Some-choice.choice in
     let i = c.loop-choice.invariant in
-    let e = c.in_ok-target.ensures in
+    let e = c.in_ok-target.ensures.continues in
     let pushed = c.in_ok-push.ensures.items in
     let low = c.in-Some-choice.ensures.least in
     let edge : Edge = record { class = choice.class; target = c.in_ok-target.target } in
@@ -114,28 +133,30 @@ loop-choice-preserved g t c =
     let later : AsksRise m n (rest_of program choice.place) = subst (λ (x : ℕ). AsksRise x n (rest_of program choice.place)) c.fork_at-fork.ensures.number is.rise in
     record {
       bound = low.2;
-      built = e.built;
+      draft = c.in_ok-target.ensures.draft;
       extended = extended-trans c.args.draft.now.nodes.items old new i.extended e.extended;
       later = subst (AreAbove (numbers_of new) m) (sym pushed)
           (AreAbove-push (numbers_of new) m edges edge (above-extended old new m edges e.extended i.later) (e.above m later));
       rise = subst (LeastRise 0 choice.next) (sym pushed)
           (subst (λ (h : ℕ). LeastRise 0 h (edges ++ edge ∷ [])) (sym low.1) (LeastRise-push 0 c.loop-choice.bound edges edge i.rise low.0));
-      cached = e.caches;
-      keys = e.keys;
-      fits = e.fits;
       new = e.apart (node_key program c.args.place.now) i.new
-          (before-later m n _ _ (asked-equal _ _ c.in_default-find.ensures.rests ∙ asked) later);
+          (before-later m n _ _ (asked-equal _ _ c.requires.rests ∙ asked) later);
       apart = λ key h before. e.apart key (i.apart key h before) (before-trans m n _ _ _ before asked later);
       walks = ap (λ (x : List Edge). flat_map (walks_by (walks_of new) m) x ++ paths_from allows program c.fork_at-fork.result choice.next) pushed
           ∙ walks-choice allows program c.fork_at-fork.result c.loop-choice.bound m old new edges choice c.in_ok-target.target _
           e.extended i.later c.fork_at-fork.ensures.number (c.in-Some-choice.ensures.paths allows c.fork_at-fork.ensures.fork) e.walks i.walks;
     }
 
-pub returns-clause-built : goal.returns-clause-built
-returns-clause-built g t c =
+pub node_at-add-requires-clause-same : goal.node_at-add-requires-clause-same
+node_at-add-requires-clause-same g t c =
+    built-length _ c.args.program.now c.loop-choice.draft.nodes.items c.loop-choice.draft.places c.loop-choice.invariant.draft.built
+
+pub node_at-returns-clause-draft : goal.node_at-returns-clause-draft
+node_at-returns-clause-draft g t c =
     let allows = g.K.Knowledge.allows c.args.knowledge.now in
     let program = c.args.program.now in
     let nodes = c.loop-choice.draft.nodes.items in
+    let places = c.loop-choice.draft.places in
     let node : Node = record { module_number = c.in-Some.module_number; state = c.state-state.result; edges = c.loop-choice.edges } in
     let i = c.loop-choice.invariant in
     let none = c.in_default-choice.ensures.none allows c.fork_at-fork.ensures.fork in
@@ -147,81 +168,44 @@ returns-clause-built g t c =
       later = i.later;
       rise = LeastRise-more 0 c.loop-choice.bound 31 c.loop-choice.edges.items i.rise i.bound;
     } in
-    let same = c.in_default-find.ensures.rests in
+    let same = c.requires.rests in
     let key = node_key program c.args.place.now in
-    added-built allows program nodes c.add.new.draft.nodes.items c.loop-choice.draft.places c.add.new.draft.places node (rest_at program key)
-    c.add.result i.built valid
+    let reached = key-reached allows program c.args.place.now c.requires.place c.requires.asking c.requires.reached in
+    added-draft c.args.limit allows program c.add.new.draft c.add.result
+    (added-built allows program nodes c.add.new.draft.nodes.items places c.add.new.draft.places node (rest_at program key) c.add.result i.draft.built valid
     (node-for (modules_of program) c.in-Some.module_number (rest_at program key) node (asked-equal _ _ same ∙ asked)
     (rise-equal 0 (modules_of program) _ _ same c.requires.rise) refl (c.state-state.ensures program c.requires.place ∙ sym (state-equal _ _ same)))
     (walks-all allows program c.fork_at-fork.result c.loop-choice.bound node nodes _ none i.walks ∙ sym (listing-equal allows _ _ same)) c.add.ensures.node
-    (added-rests program c.loop-choice.draft.places c.add.new.draft.places key c.add.result c.add.ensures.place)
+    (added-rests program places c.add.new.draft.places key c.add.result c.add.ensures.place))
+    (subst (AreCachesFor allows program) (sym c.add.ensures.caches) i.draft.cached)
+    (added-keys c.args.limit allows program places c.add.new.draft.places key c.add.result i.draft.keys reached c.add.ensures.place)
+    c.add.ensures.fits
 
-pub returns-clause-extended : goal.returns-clause-extended
-returns-clause-extended g t c =
-    added-extended c.loop-choice.draft.nodes.items c.add.new.draft.nodes.items c.args.draft.now.nodes.items _ c.add.result
-    c.loop-choice.invariant.extended c.add.ensures.node
-
-pub returns-clause-above : goal.returns-clause-above
-returns-clause-above g t c low rise =
-    let program = c.args.program.now in
-    let node : Node = record { module_number = c.in-Some.module_number; state = c.state-state.result; edges = c.loop-choice.edges } in
-    let asked = sym (c.in-Some.ensures program c.requires.place) in
-    let k = rise_after low (modules_of program) c.in-Some.module_number 0 _ rise asked in
-    added-above c.loop-choice.draft.nodes.items c.add.new.draft.nodes.items node low c.add.result k.0 c.add.ensures.node c.add.ensures.target
-
-pub returns-clause-walks : goal.returns-clause-walks
-returns-clause-walks g t c =
+pub node_at-returns-clause-continues : goal.node_at-returns-clause-continues
+node_at-returns-clause-continues g t c =
     let allows = g.K.Knowledge.allows c.args.knowledge.now in
     let program = c.args.program.now in
     let nodes = c.loop-choice.draft.nodes.items in
+    let places = c.loop-choice.draft.places in
+    let new = c.add.new.draft in
+    let key = node_key program c.args.place.now in
     let node : Node = record { module_number = c.in-Some.module_number; state = c.state-state.result; edges = c.loop-choice.edges } in
     let i = c.loop-choice.invariant in
     let none = c.in_default-choice.ensures.none allows c.fork_at-fork.ensures.fork in
-    added-walks allows program nodes c.add.new.draft.nodes.items node (rest_of program c.args.place.now) c.add.result
-    (walks-all allows program c.fork_at-fork.result c.loop-choice.bound node nodes _ none i.walks) c.add.ensures.node c.add.ensures.target
-
-pub add-requires-clause-same : goal.add-requires-clause-same
-add-requires-clause-same g t c =
-    built-length _ c.args.program.now c.loop-choice.draft.nodes.items c.loop-choice.draft.places c.loop-choice.invariant.built
-
-pub returns-clause-caches : goal.returns-clause-caches
-returns-clause-caches g t c =
-    subst (AreCachesFor (g.K.Knowledge.allows c.args.knowledge.now) c.args.program.now) (sym c.add.ensures.caches)
-    c.loop-choice.invariant.cached
-
-pub returns-clause-keys : goal.returns-clause-keys
-returns-clause-keys g t c =
-    let program = c.args.program.now in
     let asked = sym (c.in-Some.ensures program c.requires.place) in
-    added-keys c.args.limit (g.K.Knowledge.allows c.args.knowledge.now) program c.loop-choice.draft.places c.add.new.draft.places
-    (node_key program c.args.place.now) c.add.result c.loop-choice.invariant.keys
-    (record {
-      place = c.args.place.now;
-      is_place = c.requires.place;
-      asks = subst IsSome (sym asked) refl;
-      reached = c.requires.reached;
-      is_key = refl;
-    })
-    c.add.ensures.place
+    added-continued allows program c.args.place.now c.args.draft.now new c.add.result
+    (added-extended nodes new.nodes.items c.args.draft.now.nodes.items _ c.add.result i.extended c.add.ensures.node)
+    (λ other h before. added-apart c.args.limit allows program places new.places other key c.add.result (i.apart other h before)
+    (key-apart program other key (before-equal _ _ _ c.requires.rests before)) c.add.ensures.place)
+    (λ low rise. let k = rise_after low (modules_of program) c.in-Some.module_number 0 _ rise asked in
+    added-above nodes new.nodes.items node low c.add.result k.0 c.add.ensures.node c.add.ensures.target)
+    (added-walks allows program nodes new.nodes.items node (rest_of program c.args.place.now) c.add.result
+    (walks-all allows program c.fork_at-fork.result c.loop-choice.bound node nodes _ none i.walks) c.add.ensures.node c.add.ensures.target)
 
-pub returns-clause-apart : goal.returns-clause-apart
-returns-clause-apart g t c key h before =
+pub node_at-returns-clause-reason : goal.node_at-returns-clause-reason
+node_at-returns-clause-reason g t c =
+    let allows = g.K.Knowledge.allows c.args.knowledge.now in
     let program = c.args.program.now in
-    added-apart c.args.limit (g.K.Knowledge.allows c.args.knowledge.now) program c.loop-choice.draft.places c.add.new.draft.places key
-    (node_key program c.args.place.now) c.add.result (c.loop-choice.invariant.apart key h before)
-    (key-apart program key (node_key program c.args.place.now) (before-equal _ _ _ c.in_default-find.ensures.rests before)) c.add.ensures.place
-
-pub returns-clause-reason : goal.returns-clause-reason
-returns-clause-reason g t c =
-    let program = c.args.program.now in
-    let asked = sym (c.in-Some.ensures program c.requires.place) in
-    added-reason c.args.limit (g.K.Knowledge.allows c.args.knowledge.now) program c.loop-choice.draft.places (node_key program c.args.place.now)
-    c.add.result c.loop-choice.invariant.keys
-    (record {
-      place = c.args.place.now;
-      is_place = c.requires.place;
-      asks = subst IsSome (sym asked) refl;
-      reached = c.requires.reached;
-      is_key = refl;
-    })
+    added-reason c.args.limit allows program c.loop-choice.draft.places (node_key program c.args.place.now) c.add.result
+    c.loop-choice.invariant.draft.keys (key-reached allows program c.args.place.now c.requires.place c.requires.asking c.requires.reached)
     c.add.ensures.many
