@@ -1,5 +1,5 @@
 -- The part of the walks that is left, by the frames of the walk that was followed last.
-use Rattle.std.specs.Prelude.{ℕ, ◌+◌, Bool, List, [], ◌∷◌, ◌++◌, drop, map, reverse, slice_index_or}
+use Rattle.std.specs.Prelude.{ℕ, Bool, List, [], ◌∷◌, ◌++◌, drop, map, reverse, slice_index_or}
 use Rattle.std.specs.Prelude.{Option, None, Some}
 use Rattle.std.specs.List.{flat_map}
 use Rattle.pam_graph.specs.declared.direction.Direction.{Direction}

@@ -16,6 +16,7 @@ ghost use Rattle.pam_paths.specs.Paths.{PathValue};
 use crate::error::GraphError;
 use crate::graph::Graph;
 use crate::node::{Edge, Node, Target};
+use crate::tally::sum_of;
 use crate::ways::counts_of;
 use pam_codes::{Code, CodeSet};
 use pam_paths::Path;
@@ -189,5 +190,12 @@ impl Decisions<'_> {
         ensures { result ≡ fit (length (meeting (Decides (code ∷ [])) self.now)) }
     {
         self.counts[usize::from(code.number())]
+    }
+
+    /// The number of all walks; `None` if it is 2^128 or more.
+    pub fn total(&self) -> Option<u128>
+        ensures { result ≡ fit (length self.now) }
+    {
+        sum_of(&self.counts)
     }
 }

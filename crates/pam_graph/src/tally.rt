@@ -1,6 +1,6 @@
 //! The number of walks that meet a goal.
 
-ghost use Rattle.std.specs.Prelude.{◌≡◌, ◌||◌, [], IfOk, Some, length};
+ghost use Rattle.std.specs.Prelude.{◌≡◌, ◌||◌, [], IfOk, Some, fold, length};
 ghost use Rattle.std.specs.List.{list_any};
 ghost use Rattle.pam_graph.specs.Goals.{fit, meeting, meets};
 ghost use Rattle.pam_graph.specs.Order.{AreNodes};
@@ -33,6 +33,17 @@ pub(crate) fn plus(one: Option<u128>, other: Option<u128>) -> Option<u128>
         },
         None => None,
     }
+}
+
+/// The sum of some numbers, if all are known and it fits.
+pub(crate) fn sum_of(numbers: &[Option<u128>]) -> Option<u128>
+    ensures { result ≡ fold plus (Some 0) numbers.now }
+{
+    let mut sum = Some(0);
+    for number in numbers {
+        sum = plus(sum, *number);
+    }
+    sum
 }
 
 /// Whether the goal is met by a step along `edge`, from a node of the module with this number.

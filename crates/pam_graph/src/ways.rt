@@ -1,6 +1,6 @@
 //! The number of walks that come to each decision, counted from the start on: in how many ways runs come to each node.
 
-ghost use Rattle.std.specs.Prelude.{◌≡◌, ◌*◌, ◌+◌, [], IfOk, List, Some, ℕ, length, replicate};
+ghost use Rattle.std.specs.Prelude.{◌≡◌, ◌*◌, ◌+◌, [], Bool, IfOk, List, Some, ℕ, length, replicate};
 ghost use Rattle.std.specs.List.{flat_map};
 ghost use Rattle.pam_codes.specs.declared.code.TheConstants.{CODES};
 ghost use Rattle.pam_graph.specs.Goals.{fit};
@@ -27,8 +27,8 @@ fn come_to(
     requires within { IsWithin (length ways.old.items) target.now }
     ensures few { length ends.new.items ≡ CODES }
     ensures long { length ways.new.items ≡ length ways.old.items }
-    ensures accounts { (all : List PathValue) (known : List (List PathValue)) (n : ℕ) (left : ℕ → ℕ) → number ≡ fit n
-        → Accounts all known ends.old.items ways.old.items (λ code. n * deciders code (walks_to known target.now) + left code)
+    ensures accounts { (all : List PathValue) (known : List (List PathValue)) (n : ℕ) (left : (ℕ → Bool) → ℕ) → number ≡ fit n
+        → Accounts all known ends.old.items ways.old.items (λ test. n * deciders test (walks_to known target.now) + left test)
         → Accounts all known ends.new.items ways.new.items left }
 {
     match target {
@@ -57,8 +57,8 @@ fn go_on_by(
     ensures few { length ends.new.items ≡ CODES }
     ensures long { length ways.new.items ≡ length ways.old.items }
     ensures accounts { (all : List PathValue) (known : List (List PathValue)) (n m : ℕ) → number ≡ fit n
-        → Accounts all known ends.old.items ways.old.items (λ code. n * deciders code (flat_map (walks_by known m) edges.now))
-        → Accounts all known ends.new.items ways.new.items (λ code. 0) }
+        → Accounts all known ends.old.items ways.old.items (λ test. n * deciders test (flat_map (walks_by known m) edges.now))
+        → Accounts all known ends.new.items ways.new.items (λ test. 0) }
 {
     for edge in edges {
         come_to(number, &edge.target, ends, ways);

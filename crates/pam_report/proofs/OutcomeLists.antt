@@ -1,5 +1,5 @@
 -- The outcomes of some walks, code by code.
-use Rattle.std.proofs.Common.{◌≡◌, ℕ, ◌+◌, List, [], ◌∷◌, ◌++◌, ap, arith, length, refl, sym, ◌∙◌, map}
+use Rattle.std.proofs.Common.{◌≡◌, ℕ, ◌+◌, List, [], ◌∷◌, ◌++◌, ap, arith, refl, sym, ◌∙◌, map}
 use Rattle.std.specs.List.{flat_map, range_with_len}
 use Rattle.std.proofs.lemmas.List.{flat_map_more, map-id}
 use Rattle.std.proofs.lemmas.List.FromFn.{map-range_with_len_more}
@@ -7,7 +7,7 @@ use Rattle.pam_codes.specs.Code.{all_codes}
 use Rattle.pam_codes.specs.declared.code.TheConstants.{CODES}
 use Rattle.pam_conf.specs.Stack.{Items}
 use Rattle.pam_conf.specs.declared.rule.Kind.{Kind}
-use Rattle.pam_graph.specs.Goals.{fit, meeting}
+use Rattle.pam_graph.specs.Goals.{meeting}
 use Rattle.pam_graph.specs.declared.goal.Goal.TheVariants.{Any}
 use Rattle.pam_paths.specs.Paths.{PathValue}
 use Rattle.pam_report.specs.Outcomes.{outcome_among, outcomes, outcomes_value}
@@ -45,9 +45,6 @@ outcomes-all paths found n e h = h ∙ ap (λ (k : ℕ). flat_map (outcome_among
 pub all-meet : (paths : List PathValue) → meeting Any paths ≡ paths
 all-meet [] = refl
 all-meet (path ∷ paths) = ap (λ (l : List PathValue). path ∷ l) (all-meet paths)
-
-pub total-is : (paths : List PathValue) → fit (length (meeting Any paths)) ≡ fit (length paths)
-total-is paths = ap (λ (l : List PathValue). fit (length l)) (all-meet paths)
 
 -- the value of outcomes that are found
 pub outcomes_value-is : (service : List ℕ) (kind : Kind) (items : Items) (found : Outcomes) (paths : List PathValue) → AreOutcomes found paths →

@@ -24,7 +24,7 @@ use jiff::civil::DateTime;
 use pam_codes::{CODES, Code};
 use pam_conf::{Files, Kind, Stack};
 use pam_dispatch::Program;
-use pam_graph::{Decisions, Goal, Graph, GraphError};
+use pam_graph::{Decisions, Graph, GraphError};
 use pam_paths::{Known, Path};
 use pam_settings::Setting;
 use pam_times::MomentError;
@@ -100,7 +100,7 @@ fn outcomes_of(alloc: Global, graph: &Graph) -> Result<Outcomes, GraphError>
     for number in 0..CODES {
         push_outcome(&decisions, code_numbered(number), &mut found)?;
     }
-    let total = graph.count(alloc, &Goal::Any)?;
+    let total = decisions.total();
     Ok(Outcomes { found, total })
 }
 

@@ -17,7 +17,7 @@ returns-in-At-clause-accounts c all known n left is a =
     subst (λ (x : Option ℕ). Accounts all known ends (set ways i x) left)
     (sym (c.plus-sum.ensures ∙ ap (λ (x : Option ℕ). plus x c.args.number) c.index.ensures))
     (come-at all known ends ways c.args.number c.index.result.now n left is i (subst (IsWithin (length ways)) c.in-At.is c.requires.within)
-    (subst (λ (t : Target). Accounts all known ends ways (λ code. n * deciders code (walks_to known t) + left code)) c.in-At.is a))
+    (subst (λ (t : Target). Accounts all known ends ways (λ test. n * deciders test (walks_to known t) + left test)) c.in-At.is a))
 
 pub returns-in-End-clause-accounts : goal.returns-in-End-clause-accounts
 returns-in-End-clause-accounts c all known n left is a =
@@ -28,5 +28,5 @@ returns-in-End-clause-accounts c all known n left is a =
     subst (λ (x : Option ℕ). Accounts all known (set ends i x) ways left)
     (sym (c.plus-sum-in-End.ensures ∙ ap (λ (x : Option ℕ). plus x c.args.number) c.index-in-End.ensures))
     (come-end all known ends ways c.args.number c.index-in-End.result.now n left is i
-    (omega (arith, c.requires.few, c.number.ensures.range, c.from-index.ensures))
-    (subst (λ (t : Target). Accounts all known ends ways (λ code. n * deciders code (walks_to known t) + left code)) (c.in-End.is ∙ ap End (sym same)) a))
+    (omega (arith, c.number.ensures.range, c.from-index.ensures)) c.requires.few
+    (subst (λ (t : Target). Accounts all known ends ways (λ test. n * deciders test (walks_to known t) + left test)) (c.in-End.is ∙ ap End (sym same)) a))

@@ -21,9 +21,9 @@ loop-number-init c =
     record {
       few = c.come_to.ensures.few;
       within = omega (arith, long);
-      accounts = subst (λ (ns : List Node). Accounts all (walks_of ns) c.come_to.new.ends.items c.come_to.new.ways.items (λ code. 0))
+      accounts = subst (λ (ns : List Node). Accounts all (walks_of ns) c.come_to.new.ends.items c.come_to.new.ways.items (λ test. 0))
           (sym (ap (λ (n : ℕ). take n nodes) long ∙ take_all (length nodes) nodes (omega arith)))
-          (c.come_to.ensures.accounts all (walks_of nodes) 1 (λ code. 0) one-way
+          (c.come_to.ensures.accounts all (walks_of nodes) 1 (λ test. 0) one-way
           (begins all (walks_of nodes) c.in_ok-ends.ends.items c.in_ok-ways.ways.items (length nodes) start c.in_ok-ends.ensures c.in_ok-ways.ensures refl));
     }
 
@@ -56,12 +56,12 @@ loop-number-preserved c =
     record {
       few = c.go_on_by.ensures.few;
       within = omega (arith, c.go_on_by.ensures.long, l);
-      accounts = subst (λ (n : ℕ). Accounts all (walks_of (take n nodes)) c.go_on_by.new.ends.items c.go_on_by.new.ways.items (λ code. 0))
+      accounts = subst (λ (n : ℕ). Accounts all (walks_of (take n nodes)) c.go_on_by.new.ends.items c.go_on_by.new.ways.items (λ test. 0))
           (sym c.go_on_by.ensures.long)
           (c.go_on_by.ensures.accounts all known left.0 node.module_number left.1
           (subst
           (λ (es : List Edge). Accounts all known c.loop-number.ends.items new
-          (λ code. left.0 * deciders code (flat_map (walks_by known node.module_number) es)))
+          (λ test. left.0 * deciders test (flat_map (walks_by known node.module_number) es)))
           (sym c.deref.ensures.value) left.2));
     }
 

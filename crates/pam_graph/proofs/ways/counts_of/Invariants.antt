@@ -8,7 +8,7 @@ abbrev pub invariant-loop-number : goal.invariant-loop-number
 invariant-loop-number l = record {
   few : length l.ends.items ≡ CODES;
   within : length l.ways.items ≤ length l.nodes;
-  accounts : Accounts (walks_to (walks_of l.nodes) l.start) (walks_of (take (length l.ways.items) l.nodes)) l.ends.items l.ways.items (λ code. 0);
+  accounts : Accounts (walks_to (walks_of l.nodes) l.start) (walks_of (take (length l.ways.items) l.nodes)) l.ends.items l.ways.items (λ test. 0);
 }
 
 abbrev pub decreases-loop-number : goal.decreases-loop-number

@@ -41,21 +41,21 @@ loop-edge-preserved c =
       long = c.come_to.ensures.long ∙ c.loop-edge.invariant.long;
       within = subst (λ (n : ℕ). AreWithin n rest) (sym c.come_to.ensures.long)
           (subst (AreWithin (length c.loop-edge.ways.items)) (left k) c.loop-edge.invariant.within).1;
-      accounts = λ all known n m is a. c.come_to.ensures.accounts all known n (λ code. n * deciders code (flat_map (walks_by known m) rest)) is
+      accounts = λ all known n m is a. c.come_to.ensures.accounts all known n (λ test. n * deciders test (flat_map (walks_by known m) rest)) is
           (left-is all known c.loop-edge.ends.items c.loop-edge.ways.items
-          (λ code. n * deciders code (flat_map (walks_by known m) (drop c.loop-edge.edge-index c.args.edges.now)))
-          (λ code. n * deciders code (walks_to known edge.target) + n * deciders code (flat_map (walks_by known m) rest))
-          (λ code. edges-left known m n code edge rest
-          ∙ ap (λ (es : List Edge). n * deciders code (flat_map (walks_by known m) es)) (sym (left k)))
+          (λ test. n * deciders test (flat_map (walks_by known m) (drop c.loop-edge.edge-index c.args.edges.now)))
+          (λ test. n * deciders test (walks_to known edge.target) + n * deciders test (flat_map (walks_by known m) rest))
+          (λ test. edges-left known m n test edge rest
+          ∙ ap (λ (es : List Edge). n * deciders test (flat_map (walks_by known m) es)) (sym (left k)))
           (c.loop-edge.invariant.accounts all known n m is a));
     }
 
 pub returns-clause-accounts : goal.returns-clause-accounts
 returns-clause-accounts c all known n m is a =
     left-is all known c.loop-edge.ends.items c.loop-edge.ways.items
-    (λ code. n * deciders code (flat_map (walks_by known m) (drop c.loop-edge.edge-index c.args.edges.now)))
-    (λ code. 0)
-    (λ code. none-left known m n code
-    ∙ ap (λ (es : List Edge). n * deciders code (flat_map (walks_by known m) es))
+    (λ test. n * deciders test (flat_map (walks_by known m) (drop c.loop-edge.edge-index c.args.edges.now)))
+    (λ test. 0)
+    (λ test. none-left known m n test
+    ∙ ap (λ (es : List Edge). n * deciders test (flat_map (walks_by known m) es))
     (sym (drop_all c.loop-edge.edge-index c.args.edges.now c.loop-edge-test.false)))
     (c.loop-edge.invariant.accounts all known n m is a)

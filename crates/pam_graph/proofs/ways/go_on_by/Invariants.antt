@@ -14,6 +14,6 @@ invariant-loop-edge l = record {
   long : length l.ways.items ≡ length l.fn.ways.items;
   within : AreWithin (length l.ways.items) (drop l.edge-index l.edges);
   accounts : (all : List PathValue) (known : List (List PathValue)) (n m : ℕ) → l.number ≡ fit n →
-      Accounts all known l.fn.ends.items l.fn.ways.items (λ code. n * deciders code (flat_map (walks_by known m) l.edges)) →
-      Accounts all known l.ends.items l.ways.items (λ code. n * deciders code (flat_map (walks_by known m) (drop l.edge-index l.edges)));
+      Accounts all known l.fn.ends.items l.fn.ways.items (λ test. n * deciders test (flat_map (walks_by known m) l.edges)) →
+      Accounts all known l.ends.items l.ways.items (λ test. n * deciders test (flat_map (walks_by known m) (drop l.edge-index l.edges)));
 }

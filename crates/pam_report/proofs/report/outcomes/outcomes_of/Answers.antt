@@ -1,7 +1,8 @@
-use Rattle.std.proofs.Common.{◌≡◌, ◌++◌, ◌∙◌, List, ap, arith, map}
+use Rattle.std.proofs.Common.{◌≡◌, ◌++◌, ◌∙◌, List, ap, arith, length, map}
 use Rattle.pam_codes.specs.declared.code.TheConstants.{CODES}
+use Rattle.pam_graph.specs.Goals.{fit}
 use Rattle.pam_graph.specs.Walks.{walks}
-use Rattle.pam_report.proofs.OutcomeLists.{outcomes-all, outcomes-more, total-is}
+use Rattle.pam_report.proofs.OutcomeLists.{outcomes-all, outcomes-more}
 use Rattle.pam_paths.specs.Paths.{PathValue}
 use Rattle.pam_report.specs.Outcomes.{outcome_among}
 use Rattle.pam_report.specs.ReplyViews.{outcome_view}
@@ -18,5 +19,5 @@ returns c =
     let all : c.loop-number.number ≡ CODES = omega (arith, c.loop-number-test.false, c.loop-number.auto.number-end) in
     record {
       found = outcomes-all (walks c.args.graph.now) _ c.loop-number.number all c.loop-number.invariant;
-      total = c.in_ok-total.ensures ∙ total-is (walks c.args.graph.now);
+      total = c.total-total.ensures ∙ ap (λ (ws : List PathValue). fit (length ws)) c.in_ok-decisions.ensures;
     }
