@@ -84,9 +84,7 @@ fn add(
         return Err(GraphError::TooManyNodes);
     }
     let index = draft.nodes.len() as u32;
-    draft
-        .last_nodes
-        .set(node.module_number, &node.state, index);
+    draft.last_nodes.set(node.module_number, &node.state, index);
     draft.nodes.push(node)?;
     Ok(Target::At(index))
 }

@@ -1,5 +1,5 @@
 -- The places of problems: their order, and that two problems have two places.
-use Rattle.std.proofs.Common.{◌≡◌, ℕ, ◌+◌, ◌-◌, cond, nat_lt, if◌then◌else◌, Bool, true, false, [], ◌∷◌, refl, sym, ◌∙◌, ap, subst, inl, inr}
+use Rattle.std.proofs.Common.{◌≡◌, ℕ, ◌+◌, ◌-◌, ◌≤◌, arith, cond, nat_lt, if◌then◌else◌, Bool, true, false, [], ◌∷◌, refl, sym, ◌∙◌, ap, subst, inl, inr}
 use Rattle.std.proofs.Common.{Option, Some, None, slice_index_or, IfSome, nat_cmp}
 use Rattle.std.specs.BTreeMap.{Updates, get, is_at}
 use Rattle.std.specs.Cmp.{IsTotalOrder}
@@ -19,13 +19,28 @@ use Rattle.pam_conf.specs.declared.rule.Kind.TheVariants.{Auth, Account, Passwor
 use Rattle.pam_released.specs.declared.difference.Difference.{Difference}
 use Rattle.pam_released.specs.declared.difference.Difference.TheVariants.{CarriageReturn, ContinuedOverBlank, BackslashBlank, BackslashComment}
 use Rattle.pam_released.specs.declared.difference.Difference.TheVariants.{EndsInContinuation, CapitalInBrackets, LongLine, EmptyModuleName, DroppedBlank}
-use Rattle.pam_host.specs.Problems.{compare_places, kind_of, number_of_kind, place_of, rank_of, rank_of_difference, rank_of_fault, service_of}
+use Rattle.pam_released.specs.Findings.{number_of}
+use Rattle.pam_host.specs.Problems.{compare_places, kind_of, number_of_kind, place_of, rank_of, rank_of_fault, service_of}
 use Rattle.pam_host.specs.inner.Table.{Puts, Removes, Table, finding_at}
 use Rattle.pam_host.specs.declared.problem.Place.{Place}
 use Rattle.pam_host.specs.declared.problem.Problem.{Problem}
 use Rattle.pam_host.specs.declared.problem.Problem.TheVariants as problems
 use Rattle.pam_host.specs.declared.problem.Spot.{Spot}
 use Rattle.pam_host.specs.declared.report.Finding.{Finding}
+
+-- THE NUMBER OF A DIFFERENCE
+
+pub number_small : (difference : Difference) → number_of difference ≤ 9
+unfolding number_of
+number_small CarriageReturn = omega arith
+number_small ContinuedOverBlank = omega arith
+number_small BackslashBlank = omega arith
+number_small BackslashComment = omega arith
+number_small EndsInContinuation = omega arith
+number_small CapitalInBrackets = omega arith
+number_small LongLine = omega arith
+number_small EmptyModuleName = omega arith
+number_small DroppedBlank = omega arith
 
 -- FROM A PLACE TO ITS PROBLEM
 
@@ -109,8 +124,8 @@ of_walk faults.FileTooLong = refl
 of_walk faults.Memory = refl
 of_walk faults.TooManyFollowed = refl
 
-of_difference : (difference : Difference) → problem_of (40 + rank_of_difference difference) 0 0 ≡ problems.Released difference
-unfolding problem_of
+of_difference : (difference : Difference) → problem_of (40 + number_of difference) 0 0 ≡ problems.Released difference
+unfolding problem_of number_of
 of_difference CarriageReturn = refl
 of_difference ContinuedOverBlank = refl
 of_difference BackslashBlank = refl

@@ -7,9 +7,7 @@ use Rattle.pam_conf.specs.declared.error.FaultKind.{FaultKind}
 use Rattle.pam_conf.specs.declared.error.FaultKind.TheVariants as faults
 use Rattle.pam_conf.specs.declared.rule.Kind.{Kind}
 use Rattle.pam_conf.specs.declared.rule.Kind.TheVariants.{Auth, Account, Password, Session}
-use Rattle.pam_released.specs.declared.difference.Difference.{Difference}
-use Rattle.pam_released.specs.declared.difference.Difference.TheVariants.{CarriageReturn, ContinuedOverBlank, BackslashBlank, BackslashComment}
-use Rattle.pam_released.specs.declared.difference.Difference.TheVariants.{EndsInContinuation, CapitalInBrackets, LongLine, EmptyModuleName, DroppedBlank}
+use Rattle.pam_released.specs.Findings.{number_of}
 use Rattle.pam_host.specs.contracts.problem.PlaceOrd.TheImpl as place_order
 use Rattle.pam_host.specs.declared.problem.Place.{Place}
 use Rattle.pam_host.specs.declared.problem.Problem.{Problem}
@@ -40,23 +38,11 @@ rank_of_fault faults.FileTooLong = 16
 rank_of_fault faults.Memory = 17
 rank_of_fault faults.TooManyFollowed = 18
 
--- the number after `L`
-abbrev pub rank_of_difference : Difference → ℕ
-rank_of_difference CarriageReturn = 1
-rank_of_difference ContinuedOverBlank = 2
-rank_of_difference BackslashBlank = 3
-rank_of_difference BackslashComment = 4
-rank_of_difference EndsInContinuation = 5
-rank_of_difference CapitalInBrackets = 6
-rank_of_difference LongLine = 7
-rank_of_difference EmptyModuleName = 8
-rank_of_difference DroppedBlank = 9
-
 -- E1 to E18 of lines come first, then those of walks, then L1 to L9, A5, and S1 to S14
 abbrev pub rank_of : Problem → ℕ
 rank_of (problems.Fault fault) = rank_of_fault fault
 rank_of (problems.Walk fault) = 20 + rank_of_fault fault
-rank_of (problems.Released difference) = 40 + rank_of_difference difference
+rank_of (problems.Released difference) = 40 + number_of difference
 rank_of problems.EmptySeparator = 50
 rank_of (problems.LetsNobodyIn service kind) = 51
 rank_of (problems.LetsAnybodyIn service) = 52

@@ -1,7 +1,7 @@
 //! What can be wrong with a host, and where.
 
 ghost use Rattle.std.specs.Prelude.{◌≡◌, ◌≤◌};
-ghost use Rattle.pam_host.specs.Problems.{kind_of, number_of_kind, place_of, rank_of, rank_of_control, rank_of_difference, rank_of_fault, service_of};
+ghost use Rattle.pam_host.specs.Problems.{kind_of, number_of_kind, place_of, rank_of, rank_of_control, rank_of_fault, service_of};
 
 use pam_codes::ControlError;
 use pam_conf::{FaultKind, Kind};
@@ -126,24 +126,6 @@ fn rank_of_fault(fault: FaultKind) -> u8
     }
 }
 
-/// The number after `L`.
-fn rank_of_difference(difference: Difference) -> u8
-    ensures value { result ≡ rank_of_difference difference }
-    ensures bound { result ≤ 9 }
-{
-    match difference {
-        Difference::CarriageReturn => 1,
-        Difference::ContinuedOverBlank => 2,
-        Difference::BackslashBlank => 3,
-        Difference::BackslashComment => 4,
-        Difference::EndsInContinuation => 5,
-        Difference::CapitalInBrackets => 6,
-        Difference::LongLine => 7,
-        Difference::EmptyModuleName => 8,
-        Difference::DroppedBlank => 9,
-    }
-}
-
 fn number_of_kind(kind: Kind) -> u8
     ensures { result ≡ number_of_kind kind }
 {
@@ -156,13 +138,14 @@ fn number_of_kind(kind: Kind) -> u8
 }
 
 impl Problem {
+    #[tactic(auto, using(crate::proofs::Places::number_small))]
     fn rank(self) -> u8
         ensures { result ≡ rank_of self }
     {
         match self {
             Problem::Fault(fault) => rank_of_fault(fault),
             Problem::Walk(fault) => 20 + rank_of_fault(fault),
-            Problem::Released(difference) => 40 + rank_of_difference(difference),
+            Problem::Released(difference) => 40 + difference.number(),
             Problem::EmptySeparator => 50,
             Problem::LetsNobodyIn { .. } => 51,
             Problem::LetsAnybodyIn { .. } => 52,
