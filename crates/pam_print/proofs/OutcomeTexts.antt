@@ -1,5 +1,5 @@
 -- The lines of `outcomes`.
-use Rattle.std.proofs.Common.{◌≡◌, ◌≤◌, ℕ, List, [], ◌∷◌, ◌++◌, Option, Some, arith, codes, length, map, refl, slice_get}
+use Rattle.std.proofs.Common.{◌≡◌, ℕ, List, ◌∷◌, ◌++◌, Option, codes, map, refl}
 use Rattle.std.specs.List.{flat_map}
 use Rattle.pam_codes.specs.SetText.{set_text}
 use Rattle.pam_conf.specs.Stack.{Items, module_count}
@@ -17,12 +17,6 @@ use Rattle.pam_parts.specs.Ways.{count_text}
 use Rattle.pam_print.specs.Header.{code_name, header_text}
 use Rattle.pam_print.specs.Outcomes.{named_step, named_steps, next_step, outcome_line, total_line}
 use Rattle.pam_print.specs.WordText.{word_text}
-use Rattle.pam_page.proofs.LineParts.{set_text-one}
-
-pub one_code : (class : List ℕ) (code : ℕ) → length class ≤ 1 → Some code ≡ slice_get class 0 → code_name code ≡ set_text class
-one_code [] code few first = absurd (let k : ⊥ = cc in k)
-one_code (c ∷ []) code few first = set_text-one (c ∷ []) code refl first
-one_code (c ∷ d ∷ cs) code few first = absurd (omega (arith, few))
 
 pub named_step-is : (items : Items) (step : StepValue) (number : ℕ) (path name class : List ℕ) → number ≡ step.module_number → path ≡ path_at number items
     → name ≡ name_of_path path → class ≡ step.class → codes " " ++ word_text name ++ codes " " ++ set_text class ≡ named_step items step

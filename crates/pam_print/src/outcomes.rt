@@ -3,7 +3,6 @@
 ghost use Rattle.std.specs.Prelude.{map};
 ghost use Rattle.std.specs.List.{flat_map};
 ghost use Rattle.pam_codes.specs.Out.{Writes, WritesAndFlushes};
-ghost use Rattle.pam_codes.specs.SetText.{set_text};
 ghost use Rattle.pam_paths.specs.Steps.{step_seen};
 ghost use Rattle.pam_report.specs.ReplyViews.{outcome_view, outcomes_view};
 ghost use Rattle.pam_parts.specs.Ways.{count_text};
@@ -14,7 +13,7 @@ use crate::decide::name_of;
 use crate::header::put_header;
 use crate::word::put_word;
 use itoa::Buffer;
-use pam_codes::{CodeSet, Device, Out};
+use pam_codes::{Device, Out};
 use pam_known::name_of_path;
 use pam_parts::ModulePaths;
 use pam_paths::PathStep;
@@ -32,19 +31,6 @@ fn put_count<W: Write>(count: Option<u128>, out: &mut Out<W>) -> Result<(), Devi
     out.put(buffer.format(count).as_bytes())
 }
 
-/// Writes a class. Most have one code, whose name is written at once.
-fn put_class<W: Write>(class: CodeSet, out: &mut Out<W>) -> Result<(), Device>
-    ensures { Writes W.contents out.old out.new result (set_text class) }
-{
-    if class.len() > 1 {
-        return class.write_text(out);
-    }
-    match class.least() {
-        Some(code) => out.put(name_of(code)),
-        None => class.write_text(out),
-    }
-}
-
 /// Writes ` NAME CLASS`.
 #[tactic(auto, unfolding(crate::specs::Outcomes::named_step))]
 fn put_named_step<W: Write>(
@@ -57,7 +43,7 @@ fn put_named_step<W: Write>(
     out.put(b" ")?;
     put_word(name_of_path(modules.path(step.number())), out)?;
     out.put(b" ")?;
-    put_class(step.class(), out)
+    step.class().write_text(out)
 }
 
 fn put_next_step<W: Write>(

@@ -34,5 +34,5 @@ pub returns : goal.returns
 returns g c =
     let step = step_seen c.args.step.now in
     writes-is _ _ _ _ _ _
-    (writes-then _ _ _ (all-then (all-then c.in_ok-put.ensures c.in_ok-put_word.ensures) c.in_ok-put-2.ensures) c.put_class.ensures)
+    (writes-then _ _ _ (all-then (all-then c.in_ok-put.ensures c.in_ok-put_word.ensures) c.in_ok-put-2.ensures) c.write_text.ensures)
     (named_step-is c.args.modules.now step c.number.result _ _ c.class.result c.number.ensures c.path.ensures c.name_of_path.ensures c.class.ensures)
