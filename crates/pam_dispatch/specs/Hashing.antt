@@ -6,15 +6,9 @@ use Rattle.pam_dispatch.specs.contracts.state.Impression.{the_type}
 use Rattle.std.specs.Prelude.{ℕ, ◌+◌, ◌*◌, ◌++◌, List}
 use Rattle.std.specs.Hash as fed
 use Rattle.std.specs.List.{flat_map}
-use Rattle.pam_dispatch.specs.declared.state.Impression.{Impression}
-use Rattle.pam_dispatch.specs.declared.state.Impression.TheVariants.{Undef, Positive, Negative}
 use Rattle.pam_dispatch.specs.declared.state.State.{State}
 use Rattle.pam_dispatch.specs.Keys.{KeyValue}
-
-abbrev pub impression_number : Impression → ℕ
-impression_number Undef = 0
-impression_number Positive = 1
-impression_number Negative = 2
+use Rattle.pam_dispatch.specs.State.{impression_number}
 
 -- a state, as one number
 abbrev pub state_input : State → List (List ℕ)

@@ -8,6 +8,12 @@ use Rattle.pam_dispatch.specs.declared.state.State.{State}
 -- the codes that the rules name
 pub use Rattle.pam_codes.specs.Code.{success, perm_denied, ignored}
 
+-- impressions, numbered
+abbrev pub impression_number : Impression → ℕ
+impression_number Undef = 0
+impression_number Positive = 1
+impression_number Negative = 2
+
 -- a state, by its parts
 abbrev pub state_with : Impression → ℕ → State
 state_with impression status = record { impression = impression; status = status }

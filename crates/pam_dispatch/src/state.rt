@@ -2,7 +2,7 @@
 
 ghost use Rattle.std.specs.Prelude.{◌≡◌, IsTrue};
 ghost use Rattle.pam_dispatch.specs.Alike.{looks_at_code, takes_refused, takes_accepted};
-ghost use Rattle.pam_dispatch.specs.State.{start_state, accepted, refused};
+ghost use Rattle.pam_dispatch.specs.State.{start_state, accepted, impression_number, refused};
 ghost use Rattle.pam_dispatch.specs.declared.state.Impression.TheVariants.{Negative};
 
 use pam_codes::{Action, Code};
@@ -14,6 +14,20 @@ pub enum Impression {
     Undef,
     Positive,
     Negative,
+}
+
+impl Impression {
+    /// Its number: 0 for `Undef`, 1 for `Positive` and 2 for `Negative`.
+    #[inline(always)]
+    pub fn number(self) -> u8
+        ensures { result ≡ impression_number self }
+    {
+        match self {
+            Impression::Undef => 0,
+            Impression::Positive => 1,
+            Impression::Negative => 2,
+        }
+    }
 }
 
 /// The state of a run through a stack: pam.conf(5).
@@ -116,12 +130,7 @@ impl Hash for State {
 
     fn hash<H: Hasher>(&self, state: &mut H) {
         let status = self.status.number();
-        let impression = match self.impression {
-            Impression::Undef => 0,
-            Impression::Positive => 1,
-            Impression::Negative => 2,
-        };
-        state.write_u8(status * 4 + impression);
+        state.write_u8(status * 4 + self.impression.number());
     }
 }
 

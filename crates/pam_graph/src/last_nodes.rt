@@ -1,7 +1,7 @@
 //! The nodes found last, while a graph is built.
 
 use pam_codes::CODES;
-use pam_dispatch::{Impression, State};
+use pam_dispatch::State;
 use std::alloc::{AllocError, Global};
 
 /// The number of states: each impression with each status.
@@ -16,16 +16,12 @@ pub(crate) struct LastNodes {
 
 /// The position of the index for a module, by its number, and a state.
 fn position(module_number: usize, state: &State) -> usize {
-    let impression = match state.impression {
-        Impression::Undef => 0,
-        Impression::Positive => CODES,
-        Impression::Negative => 2 * CODES,
-    };
+    let state_number = usize::from(state.impression.number()) * CODES
+        + usize::from(state.status.number());
     module_number
         .saturating_sub(1)
         .saturating_mul(STATES)
-        .saturating_add(impression)
-        .saturating_add(usize::from(state.status.number()))
+        .saturating_add(state_number)
 }
 
 impl LastNodes {

@@ -1,5 +1,6 @@
 -- Classes that are kept of modules.
-use Rattle.std.proofs.Common.{◌≡◌, ◌≢◌, Bool, true, false, eqb, refl, ℕ, ◌-◌, ◌<◌, ◌≤◌, List, None, Option, Some, ap, sym, ◌∙◌, subst, arith, get_or, length, slice_set}
+use Rattle.std.proofs.Common.{◌≡◌, ◌≢◌, Bool, true, false, eqb, refl, ℕ, ◌-◌, ◌<◌, ◌≤◌, List, None, Option, Some, ap, sym, ◌∙◌, subst, arith}
+use Rattle.std.proofs.Common.{get_or, length, slice_set}
 use Rattle.std.proofs.lemmas.List.{get_or-set_other}
 use Rattle.std.proofs.lemmas.Bool.{eqb-true, eqb-false}
 use Rattle.std.proofs.lemmas.Grind.{get_or-set_at}
@@ -36,7 +37,7 @@ same-ask a b number control situation =
 some-is : (s t : Situation) → Some s ≡ Some t → s ≡ t
 some-is s t e = cc
 
--- a kept situation that represents that of the question stands for it
+-- a kept situation stands for the question if it is what represents the question's own situation
 pub own-stands : (cached : Option Situation) (situation : Situation) (ask : Ask) → cached ≡ Some situation →
     situation ≡ representative true (situation_of ask) → StandsFor cached ask
 own-stands cached situation ask is own =

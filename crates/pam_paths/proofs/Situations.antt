@@ -13,12 +13,12 @@ use Rattle.pam_dispatch.specs.declared.state.State.{State}
 use Rattle.pam_dispatch.specs.declared.step.Outcome.{Outcome}
 use Rattle.pam_dispatch.specs.Runs.{Ask, outcome_of, situation_of}
 use Rattle.pam_dispatch.specs.Situations.{entry_told, representative, status_told}
-use Rattle.pam_dispatch.specs.State.{act, action_of, left_of, perm_denied, start_state, state_with, success}
+use Rattle.pam_dispatch.specs.State.{act, action_of, impression_number, left_of, perm_denied, start_state, state_with, success}
 use Rattle.pam_dispatch.proofs.EqualRests.{outcome-same}
 use Rattle.pam_dispatch.proofs.Places.{asked_with}
 use Rattle.pam_paths.specs.declared.classes.Classes.{Classes}
 use Rattle.pam_paths.specs.Cached.{has_reset}
-use Rattle.pam_paths.specs.Classes.{class_at, class_of, impression_number, least, same_outcome}
+use Rattle.pam_paths.specs.Classes.{class_at, class_of, least, same_outcome}
 use Rattle.pam_paths.specs.Computed.{is_offered}
 use Rattle.pam_paths.specs.Frames.{AreClasses}
 use Rattle.pam_paths.specs.Listing.{Allowance}

@@ -1,5 +1,5 @@
 -- The part of a listing that is left, by the frames of the path that an explorer returned last.
-use Rattle.std.specs.Prelude.{◌≡◌, ℕ, Bool, true, false, ◌+◌, ◌-◌, ◌<◌, List, [], ◌∷◌, ◌++◌, map, reverse}
+use Rattle.std.specs.Prelude.{◌≡◌, ℕ, Bool, true, false, ◌-◌, ◌<◌, List, [], ◌∷◌, ◌++◌, map, reverse}
 use Rattle.std.specs.List.{range_with_len}
 use Rattle.pam_codes.specs.Set.{codes_where, is_in}
 use Rattle.pam_dispatch.specs.declared.flat_item.FlatItem.{FlatItem}

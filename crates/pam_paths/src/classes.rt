@@ -10,13 +10,13 @@ ghost use Rattle.pam_dispatch.specs.declared.place.Place.{Place};
 ghost use Rattle.pam_dispatch.specs.Flat.{IsPlaceOf, control_at, modules_of, rest_of};
 ghost use Rattle.pam_dispatch.specs.Runs.{asked_module, next_ask, outcome_of};
 ghost use Rattle.pam_dispatch.specs.Settled.{keeps_failure};
-ghost use Rattle.pam_paths.specs.Classes.{class_at, class_of, impression_number, least, same_outcome};
+ghost use Rattle.pam_paths.specs.Classes.{class_at, class_of, least, same_outcome};
 ghost use Rattle.pam_paths.specs.Frames.{AreClasses, offered_at};
 ghost use Rattle.pam_paths.specs.Listing.{Allowance};
 ghost use Rattle.pam_paths.specs.inner.Sharing.{is_offered_by, shared_code};
 
 use pam_codes::{Action, Code, CodeSet, Part};
-use pam_dispatch::{Impression, Outcome, Place, Program, Question, State, keeps_failure};
+use pam_dispatch::{Outcome, Place, Program, Question, State, keeps_failure};
 
 /// The classes computed for a module that is asked.
 #[derive(Clone, Copy, Debug)]
@@ -42,21 +42,11 @@ impl Default for Classes {
     }
 }
 
-fn impression_number(impression: Impression) -> u8
-    ensures { result ≡ impression_number impression }
-{
-    match impression {
-        Impression::Undef => 0,
-        Impression::Positive => 1,
-        Impression::Negative => 2,
-    }
-}
-
 #[tactic(auto, unfolding(crate::specs::Classes::same_outcome))]
 fn is_same(one: &Outcome, other: &Outcome) -> bool
     ensures { result ≡ same_outcome one.now other.now }
 {
-    impression_number(one.state.impression) == impression_number(other.state.impression)
+    one.state.impression.number() == other.state.impression.number()
         && one.state.status == other.state.status
         && one.left == other.left
 }

@@ -15,11 +15,12 @@ abbrev onto_piece : List ℕ → List (List ℕ) → List (List ℕ)
 onto_piece [] lines = lines
 onto_piece (p ∷ piece) lines = onto_line (p ∷ piece) lines
 
-abbrev with_got : Bool → List ℕ → Option (List (List ℕ)) → Option (List (List ℕ))
+-- what was read, after what was got before it inside a line
+abbrev pub with_got : Bool → List ℕ → Option (List (List ℕ)) → Option (List (List ℕ))
 with_got true got read = option_map (onto_line got) read
 with_got false got read = read
 
-onto_twice : (s t : List ℕ) (ls : List (List ℕ)) → onto_line s (onto_line t ls) ≡ onto_line (s ++ t) ls
+pub onto_twice : (s t : List ℕ) (ls : List (List ℕ)) → onto_line s (onto_line t ls) ≡ onto_line (s ++ t) ls
 onto_twice s t [] = refl
 onto_twice s t (l ∷ ls) = ap (λ (r : List ℕ). r ∷ ls) (sym (append_assoc s t l))
 

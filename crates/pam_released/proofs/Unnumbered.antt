@@ -10,6 +10,7 @@ use Rattle.pam_released.specs.Numbered.{NumberedLine, numbered_152, numbered_170
 use Rattle.pam_released.specs.Readings.{NumberedRule, numbered_readings, numbered_rules, rules_by}
 use Rattle.pam_released.specs.Rules.{Reading, line_reading, line_readings, rules_152, rules_170}
 use Rattle.pam_released.specs.Words.{released_words}
+use Rattle.pam_released.proofs.Buffer.{onto_twice, with_got}
 use Rattle.pam_released.specs.declared.release.Release.{Release}
 use Rattle.pam_released.specs.declared.release.Release.TheVariants.{Older, Newer}
 
@@ -84,14 +85,6 @@ buffer_alike line start got piece inside (b ∷ bs) =
     ∙ sym (plain_step got piece inside b bs)
 
 -- 1.7.0
-
-abbrev with_got : Bool → List ℕ → Option (List (List ℕ)) → Option (List (List ℕ))
-with_got true got read = option_map (onto_line got) read
-with_got false got read = read
-
-onto_twice : (s t : List ℕ) (ls : List (List ℕ)) → onto_line s (onto_line t ls) ≡ onto_line (s ++ t) ls
-onto_twice s t [] = refl
-onto_twice s t (l ∷ ls) = ap (λ (r : List ℕ). r ∷ ls) (sym (append_assoc s t l))
 
 goes_alike : (inside : Bool) (got part : List ℕ) (o : Option (List (List ℕ))) → (inside ≡ false → got ≡ []) →
     option_map (onto_line (got ++ part)) o ≡ with_got inside got (option_map (onto_line part) o)

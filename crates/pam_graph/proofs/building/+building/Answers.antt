@@ -17,7 +17,8 @@ use Rattle.pam_graph.proofs.Drafts.{added-continued, added-draft}
 use Rattle.pam_graph.proofs.Growing.{AreAbove-push, LeastRise-more, LeastRise-push, above-extended}
 use Rattle.pam_graph.proofs.Growing.{added-above, added-built, added-extended, added-walks, built-found}
 use Rattle.pam_graph.proofs.Growing.{built-length, extended-trans, found-above, left-at, left-fewer, listing-end, node-for, walks-all, walks-choice}
-use Rattle.pam_graph.proofs.Reaching.{added-apart, added-keys, added-reason, added-rests, before-later, before-trans, get-at, key-apart, key-reached, reached-on}
+use Rattle.pam_graph.proofs.Reaching.{added-apart, added-keys, added-reason, added-rests, before-later, before-trans}
+use Rattle.pam_graph.proofs.Reaching.{get-at, key-apart, key-reached, reached-on}
 use Rattle.pam_graph.proofs.Rests.{asked-equal, before-equal, listing-equal, rise-equal, state-equal}
 use Rattle.pam_paths.specs.Forks.{paths_from}
 use Rattle.pam_paths.proofs.FrameLists.{AsksRise-lower, rise_after}
@@ -130,7 +131,8 @@ node_at-loop-choice-preserved g t c =
     let edge : Edge = record { class = choice.class; target = c.in_ok-target.target } in
     let asked : asked_module (rest_of program c.args.place.now) ≡ Some m = sym (c.in-Some.ensures program c.requires.place) in
     let is = c.in-Some-choice.ensures.choice allows c.fork_at-fork.ensures.fork in
-    let later : AsksRise m n (rest_of program choice.place) = subst (λ (x : ℕ). AsksRise x n (rest_of program choice.place)) c.fork_at-fork.ensures.number is.rise in
+    let later : AsksRise m n (rest_of program choice.place) =
+    subst (λ (x : ℕ). AsksRise x n (rest_of program choice.place)) c.fork_at-fork.ensures.number is.rise in
     record {
       bound = low.2;
       draft = c.in_ok-target.ensures.draft;
