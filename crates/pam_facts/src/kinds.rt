@@ -56,7 +56,7 @@ pub struct Kinds {
 
 impl Kinds {
     /// No kind.
-    pub fn none() -> Kinds
+    pub fn empty() -> Kinds
         ensures { result ≡ no_kinds }
     {
         Kinds {
@@ -83,7 +83,7 @@ impl Kinds {
     pub(crate) fn named(word: &[u8]) -> Option<Kinds>
         ensures { result ≡ kinds_named word.now }
     {
-        let mut kinds = Kinds::none();
+        let mut kinds = Kinds::empty();
         for name in Names::of(word) {
             kinds.insert(Kind::from_name(name)?);
         }

@@ -52,7 +52,7 @@ fn find(
     ensures rests { AreEqualRests (rest_at program.now (node_key program.now place.now)) (rest_of program.now place.now) }
 {
     let state = place.state();
-    let last = last_nodes.of(module_number, &state);
+    let last = last_nodes.get(module_number, &state);
     let found = places.find_at(program, place, last)?;
     if found != last {
         last_nodes.set(module_number, &state, u32::try_from(found).unwrap_or(0));
@@ -211,7 +211,7 @@ impl Graph {
             nodes: Vec::new(alloc),
             places: PlaceTable::new(alloc),
             caches: new_caches(alloc)?,
-            last_nodes: LastNodes::none(alloc, program.modules())?,
+            last_nodes: LastNodes::new(alloc, program.modules())?,
         };
         let first = program.first();
         let start = target_of(alloc, program, knowledge, limit, &first, &mut draft)?;

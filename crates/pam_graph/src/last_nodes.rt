@@ -26,7 +26,7 @@ fn position(module_number: usize, state: &State) -> usize {
 
 impl LastNodes {
     /// No nodes, for a program with this number of modules.
-    pub(crate) fn none(alloc: Global, modules: usize) -> Result<LastNodes, AllocError> {
+    pub(crate) fn new(alloc: Global, modules: usize) -> Result<LastNodes, AllocError> {
         let mut indices = Vec::new(alloc);
         indices.resize(modules.saturating_mul(STATES), 0)?;
         Ok(LastNodes { indices })
@@ -34,7 +34,7 @@ impl LastNodes {
 
     /// The index for a module, by its number, and a state.
     #[inline(always)]
-    pub(crate) fn of(&self, module_number: usize, state: &State) -> usize {
+    pub(crate) fn get(&self, module_number: usize, state: &State) -> usize {
         match self.indices.get(position(module_number, state)) {
             Some(index) => *index as usize,
             None => 0,

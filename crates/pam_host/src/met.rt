@@ -35,7 +35,7 @@ impl Met {
         ensures { result ≡ also_met service kind None }
     {
         Met {
-            kinds: with_kind(Kinds::none(), kind),
+            kinds: with_kind(Kinds::empty(), kind),
             first: service,
             second: None,
             last: service,
