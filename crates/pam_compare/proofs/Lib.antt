@@ -8,6 +8,7 @@ pub mod Many
 pub mod Matched
 pub mod Meeting
 pub mod Names
+pub mod Passing
 pub mod Possible
 pub mod Ranges
 pub mod Reaching

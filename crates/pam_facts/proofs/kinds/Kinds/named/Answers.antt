@@ -6,7 +6,7 @@ pub loop-name-init : goal.loop-name-init
 loop-name-init c = record {
   can = tt;
   finite = tt;
-  same = rw (c.into_iter-name-iterator.ensures.into_iter_gives, c.none-kinds.ensures) (at_start _ _ c.of-name-items.ensures);
+  same = rw (c.into_iter-name-iterator.ensures.into_iter_gives, c.empty-kinds.ensures) (at_start _ _ c.of-name-items.ensures);
 }
 
 pub returns-in_err-from_name : goal.returns-in_err-from_name
