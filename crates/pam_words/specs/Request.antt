@@ -155,20 +155,31 @@ time_task rows =
 abbrev pub explain_task : List Row → Result TaskText Refusal
 explain_task rows = Ok (explain (first_of (codes "number") rows))
 
-abbrev pub task_of : Text → List Row → Result TaskText Refusal
-task_of command rows =
-    if bytes_eq command (codes "check") then check_task rows
-    else if bytes_eq command (codes "compare") then compare_task rows
-    else if bytes_eq command (codes "show") then show_task rows
-    else if bytes_eq command (codes "decide") then decide_task rows
-    else if bytes_eq command (codes "paths") then paths_task rows
-    else if bytes_eq command (codes "outcomes") then outcomes_task rows
-    else if bytes_eq command (codes "graph") then graph_task rows
-    else if bytes_eq command (codes "access") then access_task rows
+-- the task of a command that reads no configuration
+abbrev pub other_task_of : Text → List Row → Result TaskText Refusal
+other_task_of command rows =
+    if bytes_eq command (codes "access") then access_task rows
     else if bytes_eq command (codes "time") then time_task rows
     else if bytes_eq command (codes "explain") then explain_task rows
     else if bytes_eq command (codes "facts") then Ok facts
     else Ok version
+
+-- the task of a command about one stack, or of one without a configuration
+abbrev pub stack_task_of : Text → List Row → Result TaskText Refusal
+stack_task_of command rows =
+    if bytes_eq command (codes "show") then show_task rows
+    else if bytes_eq command (codes "decide") then decide_task rows
+    else if bytes_eq command (codes "paths") then paths_task rows
+    else if bytes_eq command (codes "outcomes") then outcomes_task rows
+    else if bytes_eq command (codes "graph") then graph_task rows
+    else other_task_of command rows
+
+-- THE TASK of a command
+abbrev pub task_of : Text → List Row → Result TaskText Refusal
+task_of command rows =
+    if bytes_eq command (codes "check") then check_task rows
+    else if bytes_eq command (codes "compare") then compare_task rows
+    else stack_task_of command rows
 
 -- THE REQUEST of a command, or its first refusal. A command without SERVICE has the empty service
 abbrev pub request_of : Text → List Row → Result RequestText Refusal

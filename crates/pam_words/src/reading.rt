@@ -5,7 +5,7 @@ ghost use Rattle.std.specs.Char.{is_ascii_digit};
 ghost use Rattle.std.specs.List.{list_all};
 ghost use Rattle.std.specs.Option.{option_copied};
 ghost use Rattle.clap.specs.Words.{found_of, rows_of, first_of, all_of, takes, fault_of, subcommand_of};
-ghost use Rattle.pam_words.specs.Request.{access_task, decide_task, request_of, stack_of, task_of, time_task};
+ghost use Rattle.pam_words.specs.Request.{access_task, decide_task, other_task_of, request_of, stack_of, stack_task_of, task_of, time_task};
 ghost use Rattle.pam_words.specs.Decisions.{code_named as code_of_name, codes_named as codes_of_names};
 ghost use Rattle.pam_words.specs.Values.{codes_of_rows, is_on as is_on_in, output_of};
 ghost use Rattle.pam_words.specs.Values.{instant_of, kind_of_rows, login_of, moment_of, seconds_of, source_of, text_of, texts_of as texts_in};
@@ -251,24 +251,11 @@ fn time<'a>(matches: &ArgMatches<'a>) -> Result<Task<'a>, Usage>
     })
 }
 
-fn task<'a>(alloc: Global, command: &str, matches: &ArgMatches<'a>) -> Result<Task<'a>, Usage>
-    ensures { GivesTask (task_of command.now (rows_of (found_of matches.now))) result }
+/// Returns the task of a command that reads no configuration.
+fn other_task<'a>(alloc: Global, command: &str, matches: &ArgMatches<'a>) -> Result<Task<'a>, Usage>
+    ensures { GivesTask (other_task_of command.now (rows_of (found_of matches.now))) result }
 {
-    if command == "check" {
-        checks::check(alloc, matches)
-    } else if command == "compare" {
-        compare::compare(alloc, matches)
-    } else if command == "show" {
-        show::show(matches)
-    } else if command == "decide" {
-        decide(alloc, matches)
-    } else if command == "paths" {
-        paths::paths(alloc, matches)
-    } else if command == "outcomes" {
-        knowledge::outcomes(alloc, matches)
-    } else if command == "graph" {
-        graph::graph(alloc, matches)
-    } else if command == "access" {
+    if command == "access" {
         access(alloc, matches)
     } else if command == "time" {
         time(matches)
@@ -278,6 +265,38 @@ fn task<'a>(alloc: Global, command: &str, matches: &ArgMatches<'a>) -> Result<Ta
         Ok(Task::Facts)
     } else {
         Ok(Task::Version)
+    }
+}
+
+/// Returns the task of a command about one stack, or of one that reads no configuration.
+fn stack_task<'a>(alloc: Global, command: &str, matches: &ArgMatches<'a>) -> Result<Task<'a>, Usage>
+    ensures { GivesTask (stack_task_of command.now (rows_of (found_of matches.now))) result }
+{
+    if command == "show" {
+        show::show(matches)
+    } else if command == "decide" {
+        decide(alloc, matches)
+    } else if command == "paths" {
+        paths::paths(alloc, matches)
+    } else if command == "outcomes" {
+        knowledge::outcomes(alloc, matches)
+    } else if command == "graph" {
+        graph::graph(alloc, matches)
+    } else {
+        other_task(alloc, command, matches)
+    }
+}
+
+/// Returns the task of a command.
+fn task<'a>(alloc: Global, command: &str, matches: &ArgMatches<'a>) -> Result<Task<'a>, Usage>
+    ensures { GivesTask (task_of command.now (rows_of (found_of matches.now))) result }
+{
+    if command == "check" {
+        checks::check(alloc, matches)
+    } else if command == "compare" {
+        compare::compare(alloc, matches)
+    } else {
+        stack_task(alloc, command, matches)
     }
 }
 
