@@ -9,7 +9,7 @@ use Rattle.pam_codes.proofs.SameActions.{same_action-true}
 use Rattle.pam_codes.specs.Action.{same_action}
 use Rattle.pam_codes.specs.ControlText.{same_actions}
 use Rattle.pam_codes.specs.declared.action.Action.{Action}
-use Rattle.pam_compare.proofs.Matched.{texts-equal}
+use Rattle.pam_compare.proofs.Passing.{texts-equal}
 use Rattle.pam_compare.specs.Matching.{same_texts}
 use Rattle.pam_conf.specs.Stack.{End, Items, ModuleText, ThenModule, ThenSub, first_there, module_at, module_count}
 use Rattle.pam_conf.specs.declared.rule.Kind.{Kind}
