@@ -7,11 +7,11 @@ ghost use Rattle.pam_compare.specs.declared.change.Change.{Change};
 ghost use Rattle.pam_compare.specs.declared.situation.Situation.{Situation};
 ghost use Rattle.pam_compare.specs.Changes.{change_of};
 ghost use Rattle.pam_compare.specs.Comparison.{AreChanges, IsComparison, decision_in};
-ghost use Rattle.pam_compare.specs.inner.Naming.{AreNames, IsKnown, IsPossible, by_code};
+ghost use Rattle.pam_compare.specs.inner.Naming.{IsPossible, by_code};
 ghost use Rattle.pam_paths.specs.Listing.{Allowance};
 ghost use Rattle.pam_compare.specs.inner.Nodes.{AreNodes, IsBegun, IsNoted, IsSearched, IsVisited, KeepsNodes};
 ghost use Rattle.pam_compare.specs.inner.Turn.{IsTurn};
-ghost use Rattle.pam_compare.specs.inner.Ways.{AreEnds, AreReached, IsNaming};
+ghost use Rattle.pam_compare.specs.inner.Ways.{AreEnds, AreReached, IsNaming, IsNamingFor};
 
 use crate::change::Change;
 use crate::expanding::{Fork, expand};
@@ -187,12 +187,7 @@ fn changes_of(
     requires reached { AreReached pair.now.old.now pair.now.new.now pair.now.naming.now.names.items pair.now.naming.now.possible.items searched.now.nodes }
     requires ends { AreEnds pair.now.old.now pair.now.new.now searched.now.nodes searched.now.found }
     ensures { (old_allows new_allows : Allowance) (partners : List (Option ℕ))
-        → AreNames old_allows new_allows (modules_of pair.now.old.now) (modules_of pair.now.new.now) partners pair.now.naming.now.names.items
-        → ((a : Assignment)
-        → IsKnown old_allows new_allows (modules_of pair.now.old.now) (modules_of pair.now.new.now) pair.now.naming.now.names.items a
-        → IsPossible pair.now.naming.now.possible.items a)
-        → ((a : Assignment) → IsPossible pair.now.naming.now.possible.items a
-        → IsKnown old_allows new_allows (modules_of pair.now.old.now) (modules_of pair.now.new.now) pair.now.naming.now.names.items a)
+        → IsNamingFor old_allows new_allows pair.now.old.now pair.now.new.now partners pair.now.naming.now
         → IsSearched pair.now.old.now pair.now.new.now pair.now.naming.now.names.items pair.now.naming.now.possible.items searched.now.found
         → IfOk result (AreChanges old_allows new_allows pair.now.old.now pair.now.new.now partners) }
 {
@@ -209,6 +204,23 @@ fn changes_of(
         refuses,
         tells,
     })
+}
+
+/// Compares the decisions of two stacks by the answers of names. `usual` has one that is possible for each name.
+// A call of its own, so that few values are owned where the search may run out of memory.
+fn compare_named(alloc: Global, pair: &Pair<'_>, usual: &[Code]) -> Result<Comparison, Memory>
+    requires naming { IsNaming pair.now.old.now pair.now.new.now pair.now.naming.now }
+    requires usual { IsPossible pair.now.naming.now.possible.items (by_code usual.now) }
+    ensures { (old_allows new_allows : Allowance) (partners : List (Option ℕ))
+        → IsNamingFor old_allows new_allows pair.now.old.now pair.now.new.now partners pair.now.naming.now
+        → IfOk result (IsComparison old_allows new_allows pair.now.old.now pair.now.new.now partners) }
+{
+    let searched = search(alloc, pair, MAX_SITUATIONS)?;
+    if searched.nodes.len() > MAX_SITUATIONS {
+        return Ok(Comparison::NotKnown);
+    }
+    let changes = changes_of(alloc, pair, usual, &searched)?;
+    Ok(Comparison::Known(changes))
 }
 
 /// Compares the decisions of two stacks under all answers that are known to be possible. A module of one stack and one of the
@@ -232,10 +244,5 @@ pub fn compare<K: Knowledge, L: Knowledge>(
         new,
         naming: &naming,
     };
-    let searched = search(alloc, &pair, MAX_SITUATIONS)?;
-    if searched.nodes.len() > MAX_SITUATIONS {
-        return Ok(Comparison::NotKnown);
-    }
-    let changes = changes_of(alloc, &pair, &usual, &searched)?;
-    Ok(Comparison::Known(changes))
+    compare_named(alloc, &pair, &usual)
 }

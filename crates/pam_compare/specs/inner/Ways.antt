@@ -6,6 +6,7 @@ use Rattle.pam_codes.specs.Set.{is_in}
 use Rattle.pam_dispatch.specs.declared.flat_item.FlatItem.{FlatItem}
 use Rattle.pam_dispatch.specs.Flat.{modules_of, rest_of, runs_of}
 use Rattle.pam_dispatch.specs.Runs.{Assignment, AsksRise, Runs, asked_module}
+use Rattle.pam_paths.specs.Listing.{Allowance}
 use Rattle.pam_compare.specs.declared.change.Change.{Change}
 use Rattle.pam_compare.specs.declared.change.Change.TheVariants.{Admits, Refuses, Tells}
 use Rattle.pam_compare.specs.declared.held.HeldAnswer.{HeldAnswer}
@@ -17,7 +18,7 @@ use Rattle.pam_compare.specs.declared.situation.Situation.{Situation}
 use Rattle.pam_compare.specs.Changes.{change_of}
 use Rattle.pam_compare.specs.Comparison.{decision_in}
 use Rattle.pam_compare.specs.Held.{Holds}
-use Rattle.pam_compare.specs.inner.Naming.{AreLast, by_name, name_of}
+use Rattle.pam_compare.specs.inner.Naming.{AreLast, AreNames, IsKnown, IsPossible, by_name, name_of}
 use Rattle.pam_compare.specs.inner.Nodes.{IsAt, Stop}
 use Rattle.pam_compare.specs.Situations.{Comes}
 use Rattle.pam_compare.specs.inner.Trails.{Follows, IsCovered, IsTrail, answers_on}
@@ -29,6 +30,14 @@ pub record IsNaming (old new : List FlatItem) (naming : Naming) : Type 0 where
   pub old_modules : naming.old_modules ≡ modules_of old
   pub possible : length naming.possible.items ≡ modules_of old + modules_of new + 1
   pub low : (j : ℕ) → 0 < j → j ≤ modules_of new → name_of naming.names.items j ≤ modules_of old + modules_of new
+
+-- each name has the codes that the knowledge of both stacks allows
+pub record IsNamingFor (old_allows new_allows : Allowance) (old new : List FlatItem) (partners : List (Option ℕ)) (naming : Naming) : Type 0 where
+  pub names : AreNames old_allows new_allows (modules_of old) (modules_of new) partners naming.names.items
+  pub possible : (a : Assignment) → IsKnown old_allows new_allows (modules_of old) (modules_of new) naming.names.items a →
+      IsPossible naming.possible.items a
+  pub exact : (a : Assignment) → IsPossible naming.possible.items a →
+      IsKnown old_allows new_allows (modules_of old) (modules_of new) naming.names.items a
 
 -- the answer of a step is possible
 pub record IsFit (possible : List (List ℕ)) (w : Way) : Type 0 where

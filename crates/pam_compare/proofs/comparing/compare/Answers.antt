@@ -1,15 +1,12 @@
-use Rattle.std.proofs.Common.{Global, Option, Vec, arith, subst, sym}
-use Rattle.std.specs.Prelude.{IfNone, IfSome}
-use Rattle.pam_codes.specs.declared.code.Code.{Code}
+use Rattle.std.proofs.Common.{Option, subst, sym}
+use Rattle.std.specs.Prelude.{IfNone}
 use Rattle.pam_dispatch.specs.Runs.{Assignment}
 use Rattle.pam_compare.specs.declared.change.Change.{Change}
 use Rattle.pam_compare.specs.declared.change.Change.TheVariants.{Admits, Refuses, Tells}
 use Rattle.pam_compare.specs.declared.witness.Witness.{Witness}
 use Rattle.pam_compare.specs.Comparison.{IsShown, NeverChanges}
-use Rattle.pam_compare.specs.inner.Naming.{IsPossible, by_code}
-use Rattle.pam_compare.specs.declared.comparing.TheConstants.{MAX_SITUATIONS}
+use Rattle.pam_compare.specs.inner.Naming.{IsPossible}
 use Rattle.pam_compare.proofs.Agreeing.{never-any}
-use Rattle.pam_compare.proofs.Many.{many}
 use Rattle.pam_compare.proofs.comparing.compare.Goals as goal
 
 pub returns-in_default : goal.returns-in_default
@@ -31,14 +28,8 @@ returns-in_default g c =
       tells = subst (Shown Tells) (sym c.no_changes.ensures.tells) (never Tells);
     }
 
-pub returns-then-len-gt-MAX_SITUATIONS : goal.returns-then-len-gt-MAX_SITUATIONS
-returns-then-len-gt-MAX_SITUATIONS g c =
-    let naming = c.in_ok-naming.naming in
+pub returns : goal.returns
+returns g c =
     let told = c.in_ok-naming.ensures in
-    let found = c.in_ok-searched.ensures in
-    let can = subst (λ o. IfSome o (λ (codes : Vec Code Global). IsPossible naming.possible.items (by_code codes.items))) c.in-Some.is
-    c.in_ok-usual.ensures.some in
-    many (g.K.Knowledge.allows c.args.old_known.now) (g.L.Knowledge.allows c.args.new_known.now) c.args.old.now c.args.new.now c.args.matching.now
-    naming.names.items naming.possible.items told.names told.exact c.in_ok-searched.searched.nodes (by_code c.in-Some.usual.items) can found.nodes found.reached
-    MAX_SITUATIONS (omega (arith, c.len.ensures.count, c.if-len-gt-MAX_SITUATIONS.true)) c.len.ensures.different c.len.ensures.old_places
-    c.len.ensures.new_places c.len.ensures.held_lists
+    c.compare_named.ensures (g.K.Knowledge.allows c.args.old_known.now) (g.L.Knowledge.allows c.args.new_known.now) c.args.matching.now
+    (record { names = told.names; possible = told.possible; exact = told.exact })
