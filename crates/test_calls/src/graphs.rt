@@ -114,21 +114,27 @@ pub(crate) fn goals_of(alloc: Global, stack: &Stack) -> Result<Vec<Goal>, Error>
     Ok(goals)
 }
 
+/// How many goals have the same walks in the graph as paths in the listing; and how many goals there are.
+fn agreeing(alloc: Global, stack: &Stack, program: &Program) -> Result<(usize, usize), Error> {
+    let graph = Graph::of(alloc, program, &Free)?;
+    let goals = goals_of(alloc, stack)?;
+    let mut jumps = Vec::new(alloc);
+    push_jumps(stack.items(), &mut jumps)?;
+    let mut same: usize = 0;
+    for goal in &goals {
+        if agrees(alloc, program, &graph, *goal, &jumps)? {
+            same = same.saturating_add(1);
+        }
+    }
+    Ok((same, goals.len()))
+}
+
 /// Prints how many goals have the same walks in the graph as paths in the listing.
 pub(crate) fn graph(rt: &HostRuntime, service: &str) -> Result<(), Error> {
     let alloc = rt.alloc();
     let stack = stack_of(rt, service)?;
     let program = Program::of(alloc, &stack)?;
-    let graph = Graph::of(alloc, &program, &Free)?;
-    let goals = goals_of(alloc, &stack)?;
-    let mut jumps = Vec::new(alloc);
-    push_jumps(stack.items(), &mut jumps)?;
-    let mut same: usize = 0;
-    for goal in &goals {
-        if agrees(alloc, &program, &graph, *goal, &jumps)? {
-            same = same.saturating_add(1);
-        }
-    }
-    println!(rt; "{same} of {} goals agree", goals.len())?;
+    let (same, goals) = agreeing(alloc, &stack, &program)?;
+    println!(rt; "{same} of {goals} goals agree")?;
     Ok(())
 }

@@ -5,6 +5,7 @@ use crate::lines::line_of;
 use crate::stacks::stack_of;
 use anyhow::Error;
 use pam_codes::{CodeSet, Out};
+use pam_conf::Stack;
 use pam_dispatch::Program;
 use pam_graph::{Goal, Graph};
 use pam_page::{LineTexts, Listing, put_page};
@@ -75,6 +76,17 @@ fn text_of(alloc: Global, lines: &[Vec<u8>]) -> Result<Vec<u8>, Error> {
     Ok(text)
 }
 
+/// Whether the listing has these lines.
+fn has_lines(
+    alloc: Global,
+    listing: &mut Listing<'_, Free>,
+    lines: &[Vec<u8>],
+) -> Result<bool, Error> {
+    let page = page_of(alloc, listing)?;
+    let text = text_of(alloc, lines)?;
+    Ok(page.as_slice() == text.as_slice())
+}
+
 /// Whether the walks that meet a goal, after a cursor and before it, are those of the explorer.
 fn agrees(
     alloc: Global,
@@ -86,12 +98,31 @@ fn agrees(
 ) -> Result<bool, Error> {
     let parts = parts_of(alloc, program, &goal, jumps, cursor)?;
     let after = graph.walks_after(alloc, goal, cursor)?;
-    let after = page_of(alloc, &mut Listing::WalksForward(after))?;
+    if !has_lines(alloc, &mut Listing::WalksForward(after), &parts.after)? {
+        return Ok(false);
+    }
     let before = graph.walks_before(alloc, goal, cursor)?;
-    let before = page_of(alloc, &mut Listing::WalksBackward(before))?;
-    let after_is = text_of(alloc, &parts.after)?;
-    let before_is = text_of(alloc, &parts.before)?;
-    Ok(after.as_slice() == after_is.as_slice() && before.as_slice() == before_is.as_slice())
+    has_lines(alloc, &mut Listing::WalksBackward(before), &parts.before)
+}
+
+/// How many goals have the same walks after a cursor, and before it, as paths in the listing; and how many goals there are.
+fn agreeing(
+    alloc: Global,
+    stack: &Stack,
+    program: &Program,
+    cursor: &Cursor,
+) -> Result<(usize, usize), Error> {
+    let graph = Graph::of(alloc, program, &Free)?;
+    let goals = goals_of(alloc, stack)?;
+    let mut jumps = Vec::new(alloc);
+    push_jumps(stack.items(), &mut jumps)?;
+    let mut same: usize = 0;
+    for goal in &goals {
+        if agrees(alloc, program, &graph, *goal, &jumps, cursor)? {
+            same = same.saturating_add(1);
+        }
+    }
+    Ok((same, goals.len()))
 }
 
 /// Prints how many goals have the same walks after a cursor, and before it, as paths in the listing.
@@ -99,17 +130,8 @@ pub(crate) fn walks(rt: &HostRuntime, service: &str, text: &str) -> Result<(), E
     let alloc = rt.alloc();
     let stack = stack_of(rt, service)?;
     let program = Program::of(alloc, &stack)?;
-    let graph = Graph::of(alloc, &program, &Free)?;
     let cursor = Cursor::read(text.as_bytes())?;
-    let goals = goals_of(alloc, &stack)?;
-    let mut jumps = Vec::new(alloc);
-    push_jumps(stack.items(), &mut jumps)?;
-    let mut same: usize = 0;
-    for goal in &goals {
-        if agrees(alloc, &program, &graph, *goal, &jumps, &cursor)? {
-            same = same.saturating_add(1);
-        }
-    }
-    println!(rt; "{same} of {} goals agree", goals.len())?;
+    let (same, goals) = agreeing(alloc, &stack, &program, &cursor)?;
+    println!(rt; "{same} of {goals} goals agree")?;
     Ok(())
 }
