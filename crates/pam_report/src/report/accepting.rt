@@ -187,6 +187,23 @@ struct Reported<'x> {
     paths: TablePaths<'x>,
 }
 
+/// Returns the lines that accept none of these findings and problems.
+// A call of its own, so that the keys of all are gone before what is not accepted is listed.
+fn unused_lines(
+    alloc: Global,
+    names: &Names<'_>,
+    reported: &Reported<'_>,
+    accept: &AcceptFile,
+) -> Result<Vec<u32>, AllocError>
+    ensures { let keys = spec.all_keys names.now.files.now (map (λ s. s.now) names.now.services.items) reported.now.found.now
+        (table_paths_view reported.now.paths) reported.now.tables.now in
+        IfOk result (λ unused. unused.items ≡ spec.lines_without keys accept.now) }
+{
+    let mut keys = names.keys(alloc, reported.found)?;
+    push_keys(alloc, &mut keys, &reported.paths, reported.tables)?;
+    unused(alloc, &keys, accept)
+}
+
 /// Returns which of these findings and problems are not accepted, and the lines that accept none.
 fn list_reported(
     alloc: Global,
@@ -198,9 +215,7 @@ fn list_reported(
         (table_paths_view reported.entry.paths) reported.entry.tables.now) }
 {
     let names = names_of(alloc, files, reported.services)?;
-    let mut keys = names.keys(alloc, reported.found)?;
-    push_keys(alloc, &mut keys, &reported.paths, reported.tables)?;
-    let unused = unused(alloc, &keys, accept)?;
+    let unused = unused_lines(alloc, &names, &reported, accept)?;
     let found = not_accepted(alloc, &names, reported.found, accept)?;
     let tables = tables_not_accepted(alloc, &reported.paths, reported.tables, accept)?;
     Ok(Listed {
