@@ -19,6 +19,8 @@
 //! - `fact KIND PATH [ARGUMENT]...`: the class of the module at this path, and the codes that it can answer.
 #![tactic(auto)]
 
+ghost use Rattle.std.specs.Prelude.{◌≤◌, length};
+
 mod assignments;
 mod changes;
 mod cursors;
@@ -84,6 +86,41 @@ fn list(
     Ok(())
 }
 
+/// Runs a test of what files say.
+fn test_files(rt: &HostRuntime, words: &[&str]) -> Result<(), Error>
+    requires { 2 ≤ length words.now }
+{
+    match words[0] {
+        "fact" if words.len() >= 3 => facts::print_fact(rt, words[1], words[2], &words[3..]),
+        "table" => facts::read_back(rt),
+        "findings" => released::print_findings(rt, words[1], &words[2..]),
+        "access" if words.len() >= 3 => old_tables::print_access(rt, words[1], &words[2..]),
+        "time" => old_tables::print_time(rt, &words[1..]),
+        "separators" => old_tables::print_separators(rt, &words[1..]),
+        _ => {
+            println!(rt; "no such test")?;
+            Ok(())
+        }
+    }
+}
+
+/// Runs a test of graphs and stacks, or of what files say.
+fn test_stacks(rt: &HostRuntime, words: &[&str]) -> Result<(), Error>
+    requires { 2 ≤ length words.now }
+{
+    match words[0] {
+        "graph" => graphs::graph(rt, words[1]),
+        "walks" if words.len() == 3 => walks::walks(rt, words[1], words[2]),
+        "assign" => assignments::assign(rt, words[1]),
+        "sound" => sound::print_soundness(rt, &words[1..]),
+        "changes" => changes::print_changes(rt, &words[1..]),
+        "measure" if words.len() >= 4 => {
+            measured::measure(rt, words[1], words[2].parse()?, &words[3..])
+        }
+        _ => test_files(rt, words),
+    }
+}
+
 /// Runs the test of a line.
 fn test(rt: &HostRuntime, words: &[&str]) -> Result<(), Error> {
     if words.len() < 2 {
@@ -103,24 +140,7 @@ fn test(rt: &HostRuntime, words: &[&str]) -> Result<(), Error> {
         "page" if words.len() >= 5 => pages::page(rt, words),
         "ways" => ways::ways(rt, words[1]),
         "cursor" if words.len() == 3 => cursors::cursor(rt, words[1], words[2]),
-        "graph" => graphs::graph(rt, words[1]),
-        "walks" if words.len() == 3 => walks::walks(rt, words[1], words[2]),
-        "assign" => assignments::assign(rt, words[1]),
-        "fact" if words.len() >= 3 => facts::print_fact(rt, words[1], words[2], &words[3..]),
-        "table" => facts::read_back(rt),
-        "findings" => released::print_findings(rt, words[1], &words[2..]),
-        "sound" => sound::print_soundness(rt, &words[1..]),
-        "changes" => changes::print_changes(rt, &words[1..]),
-        "access" if words.len() >= 3 => old_tables::print_access(rt, words[1], &words[2..]),
-        "time" => old_tables::print_time(rt, &words[1..]),
-        "separators" => old_tables::print_separators(rt, &words[1..]),
-        "measure" if words.len() >= 4 => {
-            measured::measure(rt, words[1], words[2].parse()?, &words[3..])
-        }
-        _ => {
-            println!(rt; "no such test")?;
-            Ok(())
-        }
+        _ => test_stacks(rt, words),
     }
 }
 
