@@ -1,7 +1,7 @@
-//! Tables that are too long, and groups.
+//! Tables and returns files that are too long, and groups.
 
 use crate::tests::same::same;
-use pam_tables::{AccessOptions, AccessTable, Groups, Table, TableError, TableFault};
+use pam_tables::{AccessOptions, AccessTable, Groups, ReturnTable, Table, TableError, TableFault};
 use pam_text::Texts;
 use pam_times::{TimeError, TimeFault, TimeTable};
 use std::alloc::Global;
@@ -24,6 +24,10 @@ fn group_fault(alloc: Global, bytes: &[u8]) -> Option<TableError> {
     Groups::read(alloc, bytes).err()
 }
 
+fn returns_fault(alloc: Global, bytes: &[u8]) -> Option<TableError> {
+    ReturnTable::read(alloc, bytes).err()
+}
+
 fn time_fault(alloc: Global, bytes: &[u8]) -> Option<TimeError> {
     TimeTable::read(alloc, bytes).err()
 }
@@ -35,6 +39,8 @@ fn tables_of_one_byte_too_many(rt: HostRuntime) -> Result<(), Fail> {
     same(&rt, "access", &access, &too_long(Table::Access));
     let groups = group_fault(rt.alloc(), &long);
     same(&rt, "groups", &groups, &too_long(Table::Group));
+    let returns = returns_fault(rt.alloc(), &long);
+    same(&rt, "returns", &returns, &too_long(Table::Returns));
     let too_long = TimeError {
         fault: TimeFault::TooLong,
         line: 0,
