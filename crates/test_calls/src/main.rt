@@ -1,42 +1,30 @@
-//! Calls of the libraries: tests of the paths of stacks, of findings and of what stacks do to everybody; what `benches/` measures;
-//! and calls that take memory, one after another, with the word `refusals`. Other words are a test, and without words each line of
-//! standard input is one:
+//! Calls of the libraries: tests of the paths of stacks, of findings and of facts; what `benches/` measures; and calls that take
+//! memory, one after another, with the word `refusals`. Other words are a test, and without words each line of standard input is one:
 //!
 //! - `list SERVICE FIRST LAST [NUMBER=NAME,...]...`: how many paths there are, and the lines from FIRST to LAST.
 //! - `first SERVICE COUNT`: the lines of the first COUNT paths.
 //! - `page SERVICE LIMIT from -`, or with `after CURSOR` or `before CURSOR`; then `[NUMBER=NAME,...]...`: a page.
-//! - `ways SERVICE`: whether the paths after each path, and those before it, are exactly the others.
 //! - `cursor SERVICE TEXT`: whether a cursor is accepted or refused, in both directions.
-//! - `assign SERVICE`: whether each assignment of three codes agrees with exactly one path, which has its decision.
 //! - `findings folder TEXT` or `findings pam.conf TEXT`: where released Linux-PAM reads this file otherwise. In TEXT `\n`, `\r`,
 //!   `\t` and `\s` are a line feed, a carriage return, a tab and a space, `\L` is a thousand letters, and `\\` a backslash.
-//! - `sound TEXT` or `sound TEXT | INNER`: what this stack does to everybody, where INNER is the file `inner`.
 //! - `table rows`: the number of rows of the table of facts, if each of them is read back.
 //! - `access ARGUMENT TEXT`, `time TEXT`: where the modules of released Linux-PAM read this table otherwise, an access table with one
 //!   argument (`-` for none), or a time table; `separators ARGUMENT...`: whether one is a separator without a value.
-//! - `changes TEXT | NEW`: which kinds of changes there are from the first stack to the second.
 //! - `measure WHAT COUNT FILE...`: what is measured of a stack.
 //! - `fact KIND PATH [ARGUMENT]...`: the class of the module at this path, and the codes that it can answer.
 #![tactic(auto)]
 
 ghost use Rattle.std.specs.Prelude.{◌≤◌, length};
 
-mod assignments;
-mod changes;
 mod cursors;
 mod facts;
-mod graphs;
 mod lines;
 mod measured;
 mod old_tables;
 mod pages;
 mod refusals;
 mod released;
-mod sound;
-mod spelled;
 mod stacks;
-mod walks;
-mod ways;
 
 use anyhow::Error;
 use pam_paths::{Explorer, Free, Path};
@@ -104,23 +92,6 @@ fn test_files(rt: &HostRuntime, words: &[&str]) -> Result<(), Error>
     }
 }
 
-/// Runs a test of graphs and stacks, or of what files say.
-fn test_stacks(rt: &HostRuntime, words: &[&str]) -> Result<(), Error>
-    requires { 2 ≤ length words.now }
-{
-    match words[0] {
-        "graph" => graphs::graph(rt, words[1]),
-        "walks" if words.len() == 3 => walks::walks(rt, words[1], words[2]),
-        "assign" => assignments::assign(rt, words[1]),
-        "sound" => sound::print_soundness(rt, &words[1..]),
-        "changes" => changes::print_changes(rt, &words[1..]),
-        "measure" if words.len() >= 4 => {
-            measured::measure(rt, words[1], words[2].parse()?, &words[3..])
-        }
-        _ => test_files(rt, words),
-    }
-}
-
 /// Runs the test of a line.
 fn test(rt: &HostRuntime, words: &[&str]) -> Result<(), Error> {
     if words.len() < 2 {
@@ -138,9 +109,11 @@ fn test(rt: &HostRuntime, words: &[&str]) -> Result<(), Error> {
         }
         "first" if words.len() == 3 => first(rt, words[1], words[2].parse()?),
         "page" if words.len() >= 5 => pages::page(rt, words),
-        "ways" => ways::ways(rt, words[1]),
         "cursor" if words.len() == 3 => cursors::cursor(rt, words[1], words[2]),
-        _ => test_stacks(rt, words),
+        "measure" if words.len() >= 4 => {
+            measured::measure(rt, words[1], words[2].parse()?, &words[3..])
+        }
+        _ => test_files(rt, words),
     }
 }
 
