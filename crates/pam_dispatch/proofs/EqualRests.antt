@@ -92,41 +92,49 @@ cond-two : (t : Bool) (a b c d : Runs) → (t ≡ true → AreEqualRests a c) �
 cond-two true a b c d h k = h refl
 cond-two false a b c d h k = k refl
 
+-- an item is deeper than the list, or skipped, or met; entry states that are the same for it are so for what follows
+equal-item : (item : FlatItem) (rest : List FlatItem) (level skip : ℕ) (es fs : List State) (deeper skipped met deeper' skipped' met' : Runs) →
+    Agree (item ∷ rest) level es fs →
+    (Agree rest level es fs → AreEqualRests deeper deeper') →
+    (Agree rest level es fs → AreEqualRests skipped skipped') →
+    (level_of item ≤ level → Agree rest (level_of item) es fs → AreEqualRests met met') →
+    AreEqualRests (cond (ltb level (level_of item)) deeper (cond (eqb (level_of item) level && ltb 0 skip) skipped met))
+    (cond (ltb level (level_of item)) deeper' (cond (eqb (level_of item) level && ltb 0 skip) skipped' met'))
+equal-item item rest level skip es fs deeper skipped met deeper' skipped' met' agree at_deeper at_skipped at_met =
+    let here = level_of item in
+    cond-two (ltb level here) _ _ _ _
+    (λ t. let above : level < here = ltb-true level here t in
+    at_deeper (λ l low read. agree l low (read-later item rest l (omega (arith, low, above)) read)))
+    (λ f. let below : here ≤ level = ltb-false level here f in
+    cond-two (eqb here level && ltb 0 skip) _ _ _ _
+    (λ t. let same : here ≡ level = eqb-true here level (and_parts (eqb here level) (ltb 0 skip) t).0 in
+    at_skipped (λ l low read. agree l low (read-later item rest l (omega (arith, low, same)) read)))
+    (λ g. at_met below (λ l low read. agree l (omega (arith, low, below)) (read-later item rest l low read))))
+
 equal : (ts : List FlatItem) (level skip : ℕ) (es fs : List State) (s : State) → length es ≡ length fs → Agree ts level es fs →
     AreEqualRests (resume ts level skip es s) (resume ts level skip fs s)
 unfolding resume AreEqualRests
 equal [] level skip es fs s long agree = refl
 equal (Module here m control after ∷ ts) level skip es fs s long agree =
-    let item : FlatItem = Module here m control after in
-    cond-two (ltb level here) _ _ _ _
-    (λ t. let above : level < here = ltb-true level here t in
-    equal ts level skip es fs s long (λ l low read. agree l low (read-later item ts l (omega (arith, low, above)) read)))
-    (λ f. let below : here ≤ level = ltb-false level here f in
-    cond-two (eqb here level && ltb 0 skip) _ _ _ _
-    (λ t. let same : here ≡ level = eqb-true here level (and_parts (eqb here level) (ltb 0 skip) t).0 in
-    equal ts level (skip - 1) es fs s long (λ l low read. agree l low (read-later item ts l (omega (arith, low, same)) read)))
-    (λ g. (
+    equal-item (Module here m control after) ts level skip es fs _ _ _ _ _ _ agree
+    (equal ts level skip es fs s long)
+    (equal ts level (skip - 1) es fs s long)
+    (λ below later. (
       refl,
       refl,
       outcome-same m control s (get_or es here start_state) (get_or fs here start_state) after (λ r. agree here below (read-here here m control after ts r)),
       λ o. equal ts here (after - o.left) (take (here + 1) es) (take (here + 1) fs) o.state (length-taken (here + 1) es fs long)
-          (agree-taken ts here es fs (λ l low read. agree l (omega (arith, low, below)) (read-later item ts l low read))),
-    )))
+          (agree-taken ts here es fs later),
+    ))
 equal (Substack here ∷ ts) level skip es fs s long agree =
-    let item : FlatItem = Substack here in
-    cond-two (ltb level here) _ _ _ _
-    (λ t. let above : level < here = ltb-true level here t in
-    equal ts level skip es fs s long (λ l low read. agree l low (read-later item ts l (omega (arith, low, above)) read)))
-    (λ f. let below : here ≤ level = ltb-false level here f in
-    cond-two (eqb here level && ltb 0 skip) _ _ _ _
-    (λ t. let same : here ≡ level = eqb-true here level (and_parts (eqb here level) (ltb 0 skip) t).0 in
-    equal ts level (skip - 1) es fs s long (λ l low read. agree l low (read-later item ts l (omega (arith, low, same)) read)))
-    (λ g. let taken = length-taken (here + 1) es fs long in
+    equal-item (Substack here) ts level skip es fs _ _ _ _ _ _ agree
+    (equal ts level skip es fs s long)
+    (equal ts level (skip - 1) es fs s long)
+    (λ below later. let taken = length-taken (here + 1) es fs long in
     let few : length (take (here + 1) es) ≤ here + 1 = omega (arith, length-take (here + 1) es) in
     equal ts (here + 1) 0 (take (here + 1) es ++ s ∷ []) (take (here + 1) fs ++ s ∷ []) s
     (length-append (take (here + 1) es) (s ∷ []) ∙ omega (arith, taken) ∙ sym (length-append (take (here + 1) fs) (s ∷ [])))
-    (agree-entered ts here (take (here + 1) es) (take (here + 1) fs) s taken few
-    (agree-taken ts here es fs (λ l low read. agree l (omega (arith, low, below)) (read-later item ts l low read))))))
+    (agree-entered ts here (take (here + 1) es) (take (here + 1) fs) s taken few (agree-taken ts here es fs later)))
 
 -- THE REPRESENTATIVE
 
