@@ -8,6 +8,7 @@ pub mod ModuleParts
 pub mod Numbering
 pub mod OpenRuns
 pub mod Places
+pub mod PositionTables
 pub mod Positions
 pub mod ReadTables
 pub mod Resume

@@ -1,9 +1,9 @@
 -- The levels of the lists whose entry states a reset can still read, as they are stored.
-use Rattle.std.proofs.Common.{◌≡◌, ℕ, ◌+◌, ◌-◌, ◌<◌, ◌≤◌, Bool, false, ◌&&◌, ◌||◌, List, [], ◌∷◌, ◌++◌, refl, sym, ◌∙◌, ap, arith, cond, drop, eqb, get_or}
-use Rattle.std.proofs.Common.{inl, inr, length, ltb, replicate, slice_get, slice_set, Some, subst, suc, take, true, zero}
+use Rattle.std.proofs.Common.{◌≡◌, ℕ, ◌+◌, ◌-◌, ◌<◌, ◌≤◌, Bool, false, ◌&&◌, ◌||◌, List, [], ◌∷◌, refl, sym, ◌∙◌, ap, arith, cond, eqb, get_or}
+use Rattle.std.proofs.Common.{inl, inr, length, ltb, replicate, slice_get, slice_set, Some, suc, take, true, zero}
 use Rattle.std.specs.List.{list_any}
 use Rattle.std.proofs.lemmas.Bool.{and_left, cases_lt, cond-false, cond-true, eq-eqb, le-ltb, lt-ltb, ne_eqb}
-use Rattle.std.proofs.lemmas.List.{drop_all, get_or-set_other, get_or-set_same, get_or_append_left, get_or_push, length-set}
+use Rattle.std.proofs.lemmas.List.{get_or-set_other, get_or-set_same, length-set}
 use Rattle.std.proofs.lemmas.List.Folds.{list_any_at, list_any_more}
 use Rattle.std.proofs.lemmas.Option.{get_or_from_slice_get, slice_get_within}
 use Rattle.pam_codes.specs.declared.action.Action.{Action}
@@ -13,7 +13,7 @@ use Rattle.pam_dispatch.specs.declared.state.State.{State}
 use Rattle.pam_dispatch.specs.State.{start_state}
 use Rattle.pam_dispatch.specs.Flat.{level_of}
 use Rattle.pam_dispatch.specs.inner.Flat.{IsBounded}
-use Rattle.pam_dispatch.specs.inner.ReadLevels.{AreReadLevels, IsReadTable}
+use Rattle.pam_dispatch.specs.inner.ReadLevels.{AreReadLevels}
 use Rattle.pam_dispatch.specs.Representatives.{is_read, is_reset, resets}
 
 -- RESETS
@@ -81,43 +81,6 @@ levels-item item rest after levels own read bounded long low high is = record {
   where
     here : ℕ
     here = level_of item
-
-module _ (program : List FlatItem) where
-  -- the levels from one more position on are stored
-  pub table-more : (table : List (List Bool)) (levels : List Bool) (at next : ℕ) → next ≤ length program → at + 1 ≡ next →
-      length table ≡ length program - next + 1 →
-      ((left : ℕ) → left ≤ length program - next → AreReadLevels (drop (length program - left) program) (get_or table left [])) →
-      AreReadLevels (drop at program) levels →
-      (left : ℕ) → left ≤ length program - at → AreReadLevels (drop (length program - left) program) (get_or (table ++ levels ∷ []) left [])
-  table-more table levels at next within is long each last left few =
-      elim (cases_lt left (length table)) [
-        | inl k ↦
-            subst (λ (l : List Bool). AreReadLevels (drop (length program - left) program) l) (sym (get_or_append_left table (levels ∷ []) [] left k))
-            (each left (omega (arith, long, k)))
-        | inr k ↦
-            let same : at ≡ length program - left = omega (arith, long, k, few, within, is) in
-            let end : length table ≡ left = omega (arith, long, k, few, within, is) in
-            subst (λ (l : List Bool). AreReadLevels (drop (length program - left) program) l) (sym (get_or_push table levels [] left end))
-            (subst (λ (n : ℕ). AreReadLevels (drop n program) levels) same last)
-      ]
-
-  -- the levels that are stored for a position
-  pub table-at : (table : List (List Bool)) (at : ℕ) → IsReadTable program table →
-      AreReadLevels (drop at program) (get_or table (length program - at) [])
-  table-at table at read =
-      elim (cases_lt (length program) at) [
-        | inl k ↦
-            let none : length program - (length program - at) ≡ length program = omega (arith, k) in
-            let past : drop (length program - (length program - at)) program ≡ drop at program =
-            drop_all (length program - (length program - at)) program (omega (arith, none)) ∙ sym (drop_all at program (omega (arith, k))) in
-            subst (λ (ts : List FlatItem). AreReadLevels ts (get_or table (length program - at) [])) past (read.each (length program - at) (omega arith))
-        | inr k ↦
-            let same : length program - (length program - at) ≡ at = omega (arith, k) in
-            subst (λ (n : ℕ). AreReadLevels (drop n program) (get_or table (length program - at) [])) same (read.each (length program - at) (omega arith))
-      ]
-
-  pub table-within : (table : List (List Bool)) (at : ℕ) → IsReadTable program table → length program - at < length table
-  table-within table at read = omega (arith, read.long)
 
 -- ENTRY STATES THAT ARE KEPT
 

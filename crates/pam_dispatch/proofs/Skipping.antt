@@ -1,12 +1,13 @@
 -- The stretches of items on one level, as they are stored, and what they skip.
-use Rattle.std.proofs.Common.{◌≡◌, ◌≢◌, ℕ, ◌+◌, ◌-◌, ◌≤◌, ◌<◌, Bool, true, false, List, [], ◌∷◌, ◌++◌, ◌∙◌}
-use Rattle.std.proofs.Common.{ap, arith, cond, drop, eqb, get_or, inl, inr, length, refl, subst, suc, sym, zero}
-use Rattle.std.proofs.lemmas.Bool.{cases_lt, cond-false, cond-true, eq-eqb, eqb-true, ne_eqb}
-use Rattle.std.proofs.lemmas.List.{drop-drop, get_or_append_left, get_or_push, length-drop}
+use Rattle.std.proofs.Common.{◌≡◌, ◌≢◌, ℕ, ◌+◌, ◌-◌, ◌≤◌, ◌<◌, Bool, true, false, List, [], ◌∷◌, ◌∙◌}
+use Rattle.std.proofs.Common.{ap, arith, cond, drop, eqb, get_or, length, refl, subst, suc, sym, zero}
+use Rattle.std.proofs.lemmas.Bool.{cond-false, cond-true, eq-eqb, eqb-true, ne_eqb}
+use Rattle.std.proofs.lemmas.List.{drop-drop, length-drop}
 use Rattle.pam_dispatch.specs.declared.flat_item.FlatItem.{FlatItem}
 use Rattle.pam_dispatch.specs.declared.state.State.{State}
 use Rattle.pam_dispatch.specs.Flat.{level_of, resume}
-use Rattle.pam_dispatch.specs.inner.Stretches.{IsStretchTable, begins_on, stretch_of}
+use Rattle.pam_dispatch.specs.inner.Stretches.{IsStretchOf, IsStretchTable, begins_on, stretch_of}
+use Rattle.pam_dispatch.proofs.PositionTables.{table-at}
 use Rattle.pam_dispatch.proofs.Resume.{at_index, resume-item}
 
 -- HOW LONG A STRETCH IS
@@ -48,39 +49,21 @@ stretch-anew item (next ∷ rest) level first other =
 
 -- THE STORED LENGTHS
 
-pub stretch-at : (program : List FlatItem) (table : List ℕ) (at : ℕ) → IsStretchTable program table → at ≤ length program →
+pub stretch-at : (program : List FlatItem) (table : List ℕ) (at : ℕ) → IsStretchTable program table →
     get_or table (length program - at) 0 ≡ stretch_of (drop at program)
-stretch-at program table at stored within =
-    let back : length program - (length program - at) ≡ at = omega (arith, within) in
-    stored.each (length program - at) (omega arith) ∙ ap (λ (k : ℕ). stretch_of (drop k program)) back
+stretch-at program table at stored = table-at IsStretchOf 0 program table at stored
 
 -- a stored length is that of some items which are there
-pub stored-within : (program : List FlatItem) (table : List ℕ) (at : ℕ) → IsStretchTable program table → at ≤ length program →
+pub stored-within : (program : List FlatItem) (table : List ℕ) (at : ℕ) → IsStretchTable program table →
     get_or table (length program - at) 0 ≤ length program - at
-stored-within program table at stored within =
-    omega (arith, stretch-at program table at stored within, stretch-within (drop at program), length-drop at program)
+stored-within program table at stored =
+    omega (arith, stretch-at program table at stored, stretch-within (drop at program), length-drop at program)
 
 pub stored-some : (program : List FlatItem) (table : List ℕ) (at : ℕ) → IsStretchTable program table → at < length program →
     0 < get_or table (length program - at) 0
 stored-some program table at stored within =
     let some : 0 < length (drop at program) = omega (arith, length-drop at program, within) in
-    omega (arith, stretch-at program table at stored (omega (arith, within)), stretch-some (drop at program) some)
-
--- the lengths from one more position on
-pub table-on : (program : List FlatItem) (table : List ℕ) (n at after : ℕ) → at + 1 ≡ after → after ≤ length program →
-    length table ≡ length program - after + 1 →
-    ((left : ℕ) → left ≤ length program - after → get_or table left 0 ≡ stretch_of (drop (length program - left) program)) →
-    n ≡ stretch_of (drop at program) → (left : ℕ) → left ≤ length program - at →
-    get_or (table ++ n ∷ []) left 0 ≡ stretch_of (drop (length program - left) program)
-table-on program table n at after one within long each last left few =
-    elim (cases_lt left (length table)) [
-      | inl l ↦ get_or_append_left table (n ∷ []) 0 left l ∙ each left (omega (arith, long, l))
-      | inr l ↦
-          let same : left ≡ length table = omega (arith, long, l, few, one, within) in
-          let here : at ≡ length program - left = omega (arith, long, same, one, within) in
-          ap (λ (k : ℕ). get_or (table ++ n ∷ []) k 0) same ∙ get_or_push table n 0 (length table) refl ∙ last
-          ∙ ap (λ (k : ℕ). stretch_of (drop k program)) here
-    ]
+    omega (arith, stretch-at program table at stored, stretch-some (drop at program) some)
 
 -- WHAT IS SKIPPED
 
@@ -114,6 +97,6 @@ pub resume-from : (program : List FlatItem) (table : List ℕ) (at n level skip 
     → resume (drop (at + n) program) level (skip - n) es s ≡ resume (drop at program) level skip es s
 resume-from program table at n level skip item d es s stored within is first few enough =
     let here : drop at program ≡ item ∷ drop (at + 1) program = at_index program at d item within is in
-    let length-here : get_or table (length program - at) 0 ≡ stretch_of (drop at program) = stretch-at program table at stored (omega (arith, within)) in
+    let length-here : get_or table (length program - at) 0 ≡ stretch_of (drop at program) = stretch-at program table at stored in
     ap (λ (x : List FlatItem). resume x level (skip - n) es s) (sym (drop-drop n at program))
     ∙ resume-stretch (drop at program) n level skip es s (subst (IsFirstLevel level) (sym here) first) (omega (arith, few, length-here)) enough

@@ -1,7 +1,8 @@
 -- For private contracts and proofs alone: the stretches of items on one level, as they are stored.
-use Rattle.std.specs.Prelude.{◌≡◌, ℕ, ◌+◌, ◌-◌, ◌≤◌, ◌==◌, Bool, false, if◌then◌else◌, List, [], ◌∷◌, drop, length, slice_index_or}
+use Rattle.std.specs.Prelude.{◌≡◌, ℕ, ◌+◌, ◌==◌, Bool, false, if◌then◌else◌, List, [], ◌∷◌}
 use Rattle.pam_dispatch.specs.declared.flat_item.FlatItem.{FlatItem}
 use Rattle.pam_dispatch.specs.Flat.{level_of}
+use Rattle.pam_dispatch.specs.inner.PositionTables.{IsTableFrom}
 
 -- whether the first item is on a level
 abbrev pub begins_on : ℕ → List FlatItem → Bool
@@ -13,7 +14,9 @@ unfoldable pub stretch_of : List FlatItem → ℕ
 stretch_of [] = 0
 stretch_of (item ∷ rest) = 1 + (if begins_on (level_of item) rest then stretch_of rest else 0)
 
+abbrev pub IsStretchOf : List FlatItem → ℕ → Type 0
+IsStretchOf rest number = number ≡ stretch_of rest
+
 -- that number from each position on, the last position first
-pub record IsStretchTable (program : List FlatItem) (table : List ℕ) : Type 0 where
-  pub long : length table ≡ length program + 1
-  pub each : (left : ℕ) → left ≤ length program → slice_index_or table left 0 ≡ stretch_of (drop (length program - left) program)
+abbrev pub IsStretchTable : List FlatItem → List ℕ → Type 0
+IsStretchTable program table = IsTableFrom IsStretchOf 0 0 program table

@@ -51,7 +51,7 @@ pub overflow_add-position-then-skip-gt0 : goal.overflow_add-position-then-skip-g
 overflow_add-position-then-skip-gt0 c =
     let l = c.loop-position in
     let within = c.loop-position-test.true in
-    omega (arith, c.min-skipped.ensures, stored-within c.args.program.now c.args.stretches.now l.position c.requires.stretches (omega (arith, within)), within)
+    omega (arith, c.min-skipped.ensures, stored-within c.args.program.now c.args.stretches.now l.position c.requires.stretches, within)
 
 pub loop-position-smaller-then-skip-gt0 : goal.loop-position-smaller-then-skip-gt0
 loop-position-smaller-then-skip-gt0 c =
