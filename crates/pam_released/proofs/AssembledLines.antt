@@ -1,22 +1,14 @@
 -- Logical lines that are appended one after another.
-use Rattle.std.proofs.Common.{◌≡◌, ◌+◌, ◌++◌, ◌∙◌, ℕ, Bool, true, false, List, [], ◌∷◌, map, cond, ap, sym, refl, Option, Some, None, append-nil, append_assoc}
+use Rattle.std.proofs.Common.{◌≡◌, ◌+◌, ◌++◌, ◌∙◌, ℕ, Bool, true, false, List, [], ◌∷◌, cond, ap, sym, refl, Option, Some, None, append_assoc}
 use Rattle.std.specs.Option.{option_map}
 use Rattle.pam_released.specs.Lines.{before_hash, front_part, goes_on, without_start_blanks}
 use Rattle.pam_released.specs.Numbered.{NumberedLine, numbered_152, numbered_170, numbered_end, with_line}
-use Rattle.pam_released.specs.inner.Numbered.{line_view}
-use Rattle.pam_released.specs.declared.assembly.LogicalLine.{LogicalLine}
-
-abbrev pub with_front : List NumberedLine → Option (List NumberedLine) → Option (List NumberedLine)
-with_front front read = option_map (λ more. front ++ more) read
+use Rattle.pam_released.specs.inner.Numbered.{with_front}
 
 front_one : (front : List NumberedLine) (x : NumberedLine) (o : Option (List NumberedLine)) →
     with_front (front ++ x ∷ []) o ≡ with_front front (option_map (λ more. x ∷ more) o)
 front_one front x None = refl
 front_one front x (Some more) = ap (λ (r : List NumberedLine). Some r) (append_assoc front (x ∷ []) more)
-
-pub view_pushed : (lines : List LogicalLine) (line : LogicalLine) → map line_view (lines ++ line ∷ []) ≡ map line_view lines ++ line_view line ∷ []
-view_pushed [] line = refl
-view_pushed (l ∷ lines) line = ap (λ (r : List NumberedLine). line_view l ∷ r) (view_pushed lines line)
 
 -- 1.5.2
 
@@ -24,15 +16,9 @@ pub pieces_end : (line start : ℕ) (got bytes : List ℕ) (inside : Bool) → b
 unfolding numbered_152
 pieces_end line start got bytes inside none = rw none refl
 
-pub refused_end : (front : List NumberedLine) (inside : Bool) (read whole : Option (List NumberedLine)) → read ≡ numbered_end inside → inside ≡ true →
-    with_front front read ≡ whole → None ≡ whole
-refused_end front inside read whole is goes h =
-    ap (with_front front) (sym (is ∙ ap numbered_end goes)) ∙ h
-
-pub read_end : (front : List NumberedLine) (inside : Bool) (read whole : Option (List NumberedLine)) → read ≡ numbered_end inside → inside ≡ false →
-    with_front front read ≡ whole → Some front ≡ whole
-read_end front inside read whole is goes h =
-    ap (λ (r : List NumberedLine). Some r) (sym (append-nil front)) ∙ ap (with_front front) (sym (is ∙ ap numbered_end goes)) ∙ h
+pub finished : (front : List NumberedLine) (inside : Bool) (read whole found : Option (List NumberedLine)) → found ≡ with_front front (numbered_end inside) →
+    read ≡ numbered_end inside → with_front front read ≡ whole → found ≡ whole
+finished front inside read whole found is end h = is ∙ ap (with_front front) (sym end) ∙ h
 
 -- 1.7.0
 
@@ -85,18 +71,16 @@ line_ends front line start got inside text lines rest whole split goes some h =
     ∙ ap (with_front front) (sym (line_ended line start got inside text lines rest split goes
     ∙ one_line start (got ++ without_start_blanks (before_hash text)) (numbered_170 (line + 1) (line + 1) [] false rest) some)) ∙ h
 
-pub line_kept : (lines pushed : List LogicalLine) (kept : LogicalLine) (line start : ℕ) (got joined new : List ℕ) (inside : Bool) (text : List ℕ)
-    (all rest : List (List ℕ)) (whole : Option (List NumberedLine)) → pushed ≡ lines ++ kept ∷ [] → line_view kept ≡ (start, joined) →
+pub line_kept : (front pushed : List NumberedLine) (line start : ℕ) (got joined new : List ℕ) (inside : Bool) (text : List ℕ)
+    (all rest : List (List ℕ)) (whole : Option (List NumberedLine)) → pushed ≡ front ++ (start, joined) ∷ [] →
     joined ≡ got ++ without_start_blanks (before_hash text) → (joined ≡ [] → ⊥) → new ≡ [] → all ≡ text ∷ rest → goes_on text ≡ false →
-    with_front (map line_view lines) (numbered_170 line start got inside all) ≡ whole →
-    with_front (map line_view pushed) (numbered_170 (line + 1) (line + 1) new false rest) ≡ whole
-line_kept lines pushed kept line start got joined new inside text all rest whole push is join some none split goes h =
-    ap (λ (r : List ℕ). with_front (map line_view pushed) (numbered_170 (line + 1) (line + 1) r false rest)) none
-    ∙ ap (λ (r : List LogicalLine). with_front (map line_view r) (numbered_170 (line + 1) (line + 1) [] false rest)) push
-    ∙ ap (λ (r : List NumberedLine). with_front r (numbered_170 (line + 1) (line + 1) [] false rest)) (view_pushed lines kept)
-    ∙ ap (λ (r : NumberedLine). with_front (map line_view lines ++ r ∷ []) (numbered_170 (line + 1) (line + 1) [] false rest)) is
-    ∙ ap (λ (r : List ℕ). with_front (map line_view lines ++ (start, r) ∷ []) (numbered_170 (line + 1) (line + 1) [] false rest)) join
-    ∙ line_ends (map line_view lines) line start got inside text all rest whole split goes (λ e. some (join ∙ e)) h
+    with_front front (numbered_170 line start got inside all) ≡ whole →
+    with_front pushed (numbered_170 (line + 1) (line + 1) new false rest) ≡ whole
+line_kept front pushed line start got joined new inside text all rest whole push join some none split goes h =
+    ap (λ (r : List ℕ). with_front pushed (numbered_170 (line + 1) (line + 1) r false rest)) none
+    ∙ ap (λ (r : List NumberedLine). with_front r (numbered_170 (line + 1) (line + 1) [] false rest)) push
+    ∙ ap (λ (r : List ℕ). with_front (front ++ (start, r) ∷ []) (numbered_170 (line + 1) (line + 1) [] false rest)) join
+    ∙ line_ends front line start got inside text all rest whole split goes (λ e. some (join ∙ e)) h
 
 pub line_gone : (front : List NumberedLine) (line start : ℕ) (got joined : List ℕ) (inside : Bool) (text : List ℕ) (all rest : List (List ℕ))
     (whole : Option (List NumberedLine)) → joined ≡ got ++ without_start_blanks (before_hash text) → joined ≡ [] → all ≡ text ∷ rest →

@@ -1,10 +1,10 @@
 //! The logical lines of a file, as released Linux-PAM assembles them.
 
-ghost use Rattle.std.specs.Prelude.{◌≡◌, ◌+◌, ◌*◌, ◌<◌, ◌≤◌, ◌++◌, [], Bool, ℕ, List, IfOk, IfSome, MatchOption, OnOk, if◌then◌else◌, length, map};
+ghost use Rattle.std.specs.Prelude.{◌≡◌, ◌+◌, ◌*◌, ◌<◌, ◌≤◌, ◌∷◌, ◌++◌, [], Bool, ℕ, List, IfOk, IfSome, MatchOption, OnOk, false, if◌then◌else◌, length, map};
 ghost use Rattle.std.specs.Option.{option_map};
 ghost use Rattle.pam_released.specs.Lines.{front_part, without_start_blanks};
-ghost use Rattle.pam_released.specs.Numbered.{numbered_152, numbered_lines, numbered_piece};
-ghost use Rattle.pam_released.specs.inner.Numbered.{line_view};
+ghost use Rattle.pam_released.specs.Numbered.{numbered_152, numbered_end, numbered_lines, numbered_piece};
+ghost use Rattle.pam_released.specs.inner.Numbered.{line_view, with_front};
 ghost use Rattle.pam_released.specs.declared.release.Release.TheVariants.{Older, Newer};
 
 use crate::lines::{
@@ -90,76 +90,112 @@ fn push_trimmed(text: &mut Vec<u8>, line: &[u8]) -> Result<(), AllocError>
     Ok(())
 }
 
+/// The logical lines of a file so far, and the one that is being read.
+#[derive(Drop)]
+struct Assembly {
+    lines: Vec<LogicalLine>,
+    /// The bytes that have been read of it.
+    text: Vec<u8>,
+    /// The number of the physical line that is read next.
+    number: u32,
+    /// That of its first physical line.
+    start: u32,
+    /// Whether what has been read of it goes on.
+    inside: bool,
+}
+
+impl Assembly {
+    fn new(alloc: Global) -> Assembly
+        ensures lines { result.lines.items ≡ [] }
+        ensures text { result.text.items ≡ [] }
+        ensures numbers { (result.number ≡ 1) × (result.start ≡ 1) }
+        ensures inside { result.inside ≡ false }
+    {
+        Assembly {
+            lines: Vec::new(alloc),
+            text: Vec::new(alloc),
+            number: 1,
+            start: 1,
+            inside: false,
+        }
+    }
+
+    /// Keeps the logical line that has been read.
+    fn keep_line(&mut self, alloc: Global) -> Result<(), AllocError>
+        ensures lines { OnOk result (map line_view self.new.lines.items ≡ map line_view self.old.lines.items ++ (self.old.start, self.old.text.items) ∷ []) }
+        ensures text { OnOk result (self.new.text.items ≡ []) }
+        ensures number { self.new.number ≡ self.old.number }
+    {
+        let text = std::mem::replace(&mut self.text, Vec::new(alloc));
+        let number = self.start;
+        self.lines.push(LogicalLine { number, text })?;
+        Ok(())
+    }
+
+    /// The lines, after the last byte; `None` if the last one goes on.
+    fn finish(self) -> Option<Vec<LogicalLine>>
+        ensures { option_map (λ lines. map line_view lines.items) result ≡ with_front (map line_view self.lines.items) (numbered_end self.inside) }
+    {
+        if self.inside {
+            return None;
+        }
+        Some(self.lines)
+    }
+}
+
 /// The logical lines of 1.5.2.
 fn lines_152(alloc: Global, source: Source<'_>) -> Result<Option<Vec<LogicalLine>>, AllocError>
     ensures { IfOk result (λ found. option_map (λ lines. map line_view lines.items) found ≡ numbered_lines Older source.entry.bytes.now) }
 {
-    let mut lines = Vec::new(alloc);
-    let mut text = Vec::new(alloc);
+    let mut assembly = Assembly::new(alloc);
     let mut rest = source.bytes;
-    let mut number: u32 = 1;
-    let mut start: u32 = 1;
-    let mut inside = false;
-    while let Some((piece, after, is_whole)) = split_piece(text.len(), rest) {
+    while let Some((piece, after, is_whole)) = split_piece(assembly.text.len(), rest) {
         if is_whole {
-            number += 1;
+            assembly.number += 1;
         }
         if is_blank_line(piece) {
-            start = if inside { start } else { number };
+            assembly.start = if assembly.inside {
+                assembly.start
+            } else {
+                assembly.number
+            };
         } else if goes_on(piece) {
-            push_front(&mut text, piece)?;
-            inside = true;
+            push_front(&mut assembly.text, piece)?;
+            assembly.inside = true;
         } else {
-            text.extend_from_slice(before_hash(piece))?;
-            lines.push(LogicalLine {
-                number: start,
-                text,
-            })?;
-            text = Vec::new(alloc);
-            start = number;
-            inside = false;
+            assembly.text.extend_from_slice(before_hash(piece))?;
+            assembly.keep_line(alloc)?;
+            assembly.start = assembly.number;
+            assembly.inside = false;
         }
         rest = after;
     }
-    if inside {
-        return Ok(None);
-    }
-    Ok(Some(lines))
+    Ok(assembly.finish())
 }
 
 /// The logical lines of 1.7.0 that are not empty.
 fn lines_170(alloc: Global, source: Source<'_>) -> Result<Option<Vec<LogicalLine>>, AllocError>
     ensures { IfOk result (λ found. option_map (λ lines. map line_view lines.items) found ≡ numbered_lines Newer source.entry.bytes.now) }
 {
-    let mut lines = Vec::new(alloc);
-    let mut text = Vec::new(alloc);
+    let mut assembly = Assembly::new(alloc);
     let mut rest = source.bytes;
-    let mut number: u32 = 1;
-    let mut start: u32 = 1;
-    let mut inside = false;
     while let Some((line, after)) = split_line(rest) {
-        number += 1;
+        assembly.number += 1;
         if goes_on(line) {
-            push_trimmed(&mut text, line)?;
-            inside = true;
+            push_trimmed(&mut assembly.text, line)?;
+            assembly.inside = true;
         } else {
-            text.extend_from_slice(without_start_blanks(before_hash(line)))?;
-            if !text.is_empty() {
-                lines.push(LogicalLine {
-                    number: start,
-                    text,
-                })?;
-                text = Vec::new(alloc);
+            let last = without_start_blanks(before_hash(line));
+            assembly.text.extend_from_slice(last)?;
+            if !assembly.text.is_empty() {
+                assembly.keep_line(alloc)?;
             }
-            start = number;
-            inside = false;
+            assembly.start = assembly.number;
+            assembly.inside = false;
         }
         rest = after;
     }
-    if inside {
-        return Ok(None);
-    }
-    Ok(Some(lines))
+    Ok(assembly.finish())
 }
 
 /// The logical lines of a file by a release, without those that it passes over; `None` where it refuses the file.
