@@ -1,5 +1,5 @@
 //! The rules of the lines of a file: pam.conf(5).
-ghost use Rattle.std.specs.Prelude.{◌≡◌, ◌<◌, ◌∷◌, ◌++◌, [], IfOk, IfSome, MatchOption, Ok, OnOk, filter, length, map};
+ghost use Rattle.std.specs.Prelude.{◌≡◌, ◌<◌, ◌∷◌, ◌++◌, [], IfOk, IfSome, IsTrue, List, MatchOption, Ok, OnOk, filter, length, map, ℕ};
 ghost use Rattle.std.specs.List.{cons_option, list_all};
 ghost use Rattle.std.specs.Option.{option_map};
 ghost use Rattle.std.specs.Result.{result_transpose};
@@ -13,7 +13,7 @@ ghost use Rattle.pam_conf.specs.FileRules.{line_results};
 ghost use Rattle.pam_conf.specs.inner.Kept.{kept_view};
 ghost use Rattle.pam_conf.specs.Lines.{at_line, fault_of_source, line_rule_of, rules_in, rules_of};
 ghost use Rattle.pam_conf.specs.inner.Lines.{fault_at as fault_at_line};
-ghost use Rattle.pam_conf.specs.Rule.{rule_view};
+ghost use Rattle.pam_conf.specs.Rule.{RuleText, rule_view};
 ghost use Rattle.pam_conf.specs.inner.Wanted.{with_rule, only_wanted, wants};
 
 use crate::error::{FaultKind, RuleFault};
@@ -80,7 +80,7 @@ fn text_rules(
     let mut joined = Vec::new(alloc);
     let mut rules = Vec::new(alloc);
     while let Some(line) = next_filled_line(&mut text, &mut joined)? {
-        if !is_blank_line(line.bytes) {
+        if !is_passed_over(form, line.bytes, wanted) {
             take_rule(alloc, form, line, wanted, &mut rules)?;
         }
     }
@@ -123,27 +123,18 @@ pub(crate) fn is_blank_line(bytes: &[u8]) -> bool
     bytes.iter().all(|byte| is_blank_byte(*byte))
 }
 
-/// Appends the rule of a line, if it has one and it is wanted.
-fn take_rule(
-    alloc: Global,
-    form: Form,
-    line: Line<'_>,
-    wanted: Wanted<'_>,
-    rules: &mut Vec<KeptRule>,
-) -> Result<(), RuleFault>
-    ensures { let meant = at_line line.entry.number (line_rule_of form line.entry.number line.entry.bytes.now) in
-        Gives FaultTells (λ _. map kept_view rules.new.items) result (with_rule wanted.entry (map kept_view rules.old.items) meant) }
+/// Whether a line certainly has no fault, and no rule that is wanted. Does not allocate.
+fn is_passed_over(form: Form, line: &[u8], wanted: Wanted<'_>) -> bool
+    ensures { IsTrue result → (number : ℕ) (rules : List RuleText) →
+        with_rule wanted.entry rules (at_line number (line_rule_of form number line.now)) ≡ Ok rules }
 {
-    if is_unwanted(form, line.bytes, wanted) {
-        return Ok(());
-    }
-    read_rule(alloc, form, line, wanted, rules)
+    is_blank_line(line) || is_unwanted(form, line, wanted)
 }
 
-/// Like `take_rule`, for a rule that may be wanted.
+/// Appends the rule of a line, if it has one and it is wanted.
 // A function of its own, so that the place for a rule, which is large, is not prepared for each line.
 #[inline(never)]
-fn read_rule(
+fn take_rule(
     alloc: Global,
     form: Form,
     line: Line<'_>,
