@@ -5,13 +5,13 @@ ghost use Rattle.std.specs.List.{list_any};
 ghost use Rattle.std.specs.Option.{option_map};
 ghost use Rattle.pam_conf.specs.Files.{position_of};
 ghost use Rattle.pam_conf.specs.ItemsOf.{items_of, module_text};
-ghost use Rattle.pam_conf.specs.inner.Progress.{HasRules, IsRead, IsTable, Passes, Refuses, Walks, count_of, in_file, of_kind, reads_by};
+ghost use Rattle.pam_conf.specs.inner.Progress.{GoesOn, HasRules, IsRead, IsTable, Passes, Refuses, count_of, deeper_in, file_walk, in_file, of_kind, reads_by};
 ghost use Rattle.pam_conf.specs.inner.Calls.{arguments_in, control_in, path_in};
 ghost use Rattle.pam_conf.specs.inner.Kept.{call_words, kept_view};
 ghost use Rattle.pam_conf.specs.Tells.{ErrorTells, UnlessMemory};
 ghost use Rattle.pam_text.specs.Gives.{Gives};
 ghost use Rattle.pam_conf.specs.Survey.{with_file};
-ghost use Rattle.pam_conf.specs.Walk.{counts, deeper, failed, fault_at, followed, include_walk, rule_walk, rules_at, rules_walk, target_walk, walk};
+ghost use Rattle.pam_conf.specs.Walk.{counts, failed, fault_at, followed, include_walk, rule_walk, rules_at, rules_walk, target_walk};
 ghost use Rattle.pam_conf.specs.inner.Wanted.{only_wanted};
 ghost use Rattle.pam_conf.specs.declared.stack.TheConstants.{MAX_MODULES};
 ghost use Rattle.pam_conf.specs.declared.trail.TheConstants.{MAX_OPEN_FILES};
@@ -180,13 +180,15 @@ impl Walker<'_> {
         requires table { HasRules self.now.files.now self.now.kind self.now.read progress.old.table.items }
         requires within { file < length self.now.files.now.entries }
         ensures table { OnOk result (HasRules self.now.files.now self.now.kind self.now.read progress.new.table.items) }
-        ensures walked { Walks (is_some self.now.read) (count_of progress.old) (items_of items.old.items)
-            (walk self.now.files.now (reads_by self.now.files.now self.now.read) self.now.kind (option_map (λ s. s.now) self.now.service)
-            (MAX_OPEN_FILES - length trail.now) trail.now file)
-            (count_of progress.new) (items_of items.new.items) result }
+        ensures walked { GoesOn self.now progress.old items.old.items (file_walk self.now trail.now file) progress.new items.new.items result }
     {
         match self.read {
-            None => self.walk_unread(progress, trail, file, items),
+            None => {
+                let rules = self.take_rules(&mut progress.table, file)?;
+                self.walk_rules(progress, trail, file, rules.as_slice(), items)?;
+                progress.table[file] = Some(rules);
+                Ok(())
+            }
             Some(read) => {
                 let Some(found) = read.get(file) else {
                     unreachable!()
@@ -194,30 +196,6 @@ impl Walker<'_> {
                 self.walk_rules(progress, trail, file, found.rules.as_slice(), items)
             }
         }
-    }
-
-    /// Walks `file`, whose rules are in the table or are still to be read.
-    #[cycle(walk)]
-    fn walk_unread(
-        &self,
-        progress: &mut Progress,
-        trail: &Trail,
-        file: usize,
-        items: &mut Vec<Item>,
-    ) -> Result<(), ConfError>
-        requires unread { self.now.read ≡ None }
-        requires table { HasRules self.now.files.now self.now.kind self.now.read progress.old.table.items }
-        requires within { file < length self.now.files.now.entries }
-        ensures table { OnOk result (HasRules self.now.files.now self.now.kind self.now.read progress.new.table.items) }
-        ensures walked { Walks (is_some self.now.read) (count_of progress.old) (items_of items.old.items)
-            (walk self.now.files.now (reads_by self.now.files.now self.now.read) self.now.kind (option_map (λ s. s.now) self.now.service)
-            (MAX_OPEN_FILES - length trail.now) trail.now file)
-            (count_of progress.new) (items_of items.new.items) result }
-    {
-        let rules = self.take_rules(&mut progress.table, file)?;
-        self.walk_rules(progress, trail, file, rules.as_slice(), items)?;
-        progress.table[file] = Some(rules);
-        Ok(())
     }
 
     /// Walks `file`, the last of `trail`, by these rules if they have been read before.
@@ -234,10 +212,7 @@ impl Walker<'_> {
         requires read { IsRead self.now.files.now (reads_by self.now.files.now self.now.read) self.now.kind
             (option_map (λ s. s.now) self.now.service) file (option_map (λ r. r.now) read) }
         ensures table { OnOk result (HasRules self.now.files.now self.now.kind self.now.read progress.new.table.items) }
-        ensures walked { Walks (is_some self.now.read) (count_of progress.old) (items_of items.old.items)
-            (walk self.now.files.now (reads_by self.now.files.now self.now.read) self.now.kind (option_map (λ s. s.now) self.now.service)
-            (MAX_OPEN_FILES - length trail.now) trail.now file)
-            (count_of progress.new) (items_of items.new.items) result }
+        ensures walked { GoesOn self.now progress.old items.old.items (file_walk self.now trail.now file) progress.new items.new.items result }
     {
         match read {
             None => self.walk_file(progress, trail, file, items),
@@ -257,11 +232,9 @@ impl Walker<'_> {
     ) -> Result<(), ConfError>
         requires table { HasRules self.now.files.now self.now.kind self.now.read progress.old.table.items }
         ensures table { OnOk result (HasRules self.now.files.now self.now.kind self.now.read progress.new.table.items) }
-        ensures walked { Walks (is_some self.now.read) (count_of progress.old) (items_of items.old.items)
+        ensures walked { GoesOn self.now progress.old items.old.items
             (rules_walk self.now.files.now (reads_by self.now.files.now self.now.read) self.now.kind (option_map (λ s. s.now) self.now.service)
-            (deeper self.now.files.now (reads_by self.now.files.now self.now.read) self.now.kind (option_map (λ s. s.now) self.now.service)
-            (MAX_OPEN_FILES - length trail.now)) trail.now file (map kept_view rules.now))
-            (count_of progress.new) (items_of items.new.items) result }
+            (deeper_in self.now trail.now) trail.now file (map kept_view rules.now)) progress.new items.new.items result }
     {
         for rule in rules {
             self.walk_rule(progress, trail, file, rule, items)?;
@@ -281,11 +254,9 @@ impl Walker<'_> {
     ) -> Result<(), ConfError>
         requires table { HasRules self.now.files.now self.now.kind self.now.read progress.old.table.items }
         ensures table { OnOk result (HasRules self.now.files.now self.now.kind self.now.read progress.new.table.items) }
-        ensures walked { Walks (is_some self.now.read) (count_of progress.old) (items_of items.old.items)
+        ensures walked { GoesOn self.now progress.old items.old.items
             (rule_walk self.now.files.now (reads_by self.now.files.now self.now.read) self.now.kind (option_map (λ s. s.now) self.now.service)
-            (deeper self.now.files.now (reads_by self.now.files.now self.now.read) self.now.kind (option_map (λ s. s.now) self.now.service)
-            (MAX_OPEN_FILES - length trail.now)) trail.now file (kept_view rule.now))
-            (count_of progress.new) (items_of items.new.items) result }
+            (deeper_in self.now trail.now) trail.now file (kept_view rule.now)) progress.new items.new.items result }
     {
         if !self.counts(rule) {
             return Ok(());
@@ -331,8 +302,7 @@ impl Walker<'_> {
     fn find(&self, trail: &Trail, target: &[u8]) -> Result<usize, FaultKind>
         ensures found { IfOk result (λ p. (position_of target.now self.now.files.now.entries ≡ Some p) × (list_any (λ q. q == p) trail.now ≡ false)
             × (MAX_OPEN_FILES - length trail.now ≡ 0 → ⊥)) }
-        ensures fault { IfErr result (λ fault. target_walk (deeper self.now.files.now (reads_by self.now.files.now self.now.read) self.now.kind
-            (option_map (λ s. s.now) self.now.service) (MAX_OPEN_FILES - length trail.now)) trail.now
+        ensures fault { IfErr result (λ fault. target_walk (deeper_in self.now trail.now) trail.now
             (position_of target.now self.now.files.now.entries) ≡ Err fault) }
         ensures own { IfErr result (λ fault. fault ≡ FaultKind.Memory → ⊥) }
     {
@@ -370,9 +340,7 @@ impl Walker<'_> {
     ) -> Result<Option<usize>, ConfError>
         requires table { HasRules self.now.files.now self.now.kind self.now.read progress.old.table.items }
         ensures table { OnOk result (HasRules self.now.files.now self.now.kind self.now.read progress.new.table.items) }
-        ensures walked { let found = target_walk (deeper self.now.files.now (reads_by self.now.files.now self.now.read) self.now.kind
-            (option_map (λ s. s.now) self.now.service)
-            (MAX_OPEN_FILES - length trail.now)) trail.now (position_of target.now self.now.files.now.entries) in
+        ensures walked { let found = target_walk (deeper_in self.now trail.now) trail.now (position_of target.now self.now.files.now.entries) in
             MatchResult result
             (λ o. MatchOption o
             (IsErrAnd found (λ fault. Passes (is_some self.now.read) (count_of progress.old) (items_of items.old.items)

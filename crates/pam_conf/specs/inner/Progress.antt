@@ -1,27 +1,33 @@
 -- For private contracts and proofs alone: the progress of a walk, by its effect on any continuation: pam.conf(5), on include and
 -- substack.
-use Rattle.std.specs.Prelude.{◌≡◌, ℕ, Bool, true, false, ◌+◌, ◌==◌, List, [], ◌∷◌, ◌++◌, length, map, filter, slice_index_or, if◌then◌else◌}
-use Rattle.std.specs.Prelude.{Option, Some, None, Result, Ok, Err, MatchResult, Vec}
+use Rattle.std.specs.Prelude.{◌≡◌, ℕ, Bool, true, false, ◌+◌, ◌-◌, ◌==◌, List, [], ◌∷◌, ◌++◌, is_some, length, map, filter, slice_index_or}
+use Rattle.std.specs.Prelude.{Option, Some, None, Result, Ok, Err, MatchResult, Vec, if◌then◌else◌}
 use Rattle.std.specs.Borrow.{Bor}
 use Rattle.std.specs.Global.{Global}
+use Rattle.std.specs.Option.{option_map}
 use Rattle.pam_conf.specs.inner.FileRules.{files_read}
 use Rattle.pam_conf.specs.Files.{Folder}
+use Rattle.pam_conf.specs.ItemsOf.{items_of}
 use Rattle.pam_conf.specs.inner.FilesRead.{file_view}
 use Rattle.pam_conf.specs.inner.Kept.{kept_view}
 use Rattle.pam_conf.specs.Rule.{RuleText}
 use Rattle.pam_conf.specs.Survey.{good_at, with_file}
 use Rattle.pam_conf.specs.Tells.{UnlessMemory}
 use Rattle.pam_conf.specs.Stack.{Items, joined, module_count}
-use Rattle.pam_conf.specs.Walk.{Walk, Event, Met, Followed, Failed, Deeper, Reads, numbered, is_of_kind, read_walk, rules_at, rules_walk, fault_at}
+use Rattle.pam_conf.specs.Walk.{Walk, Event, Met, Followed, Failed, Deeper, Reads, deeper, numbered, is_of_kind, read_walk, rules_at, rules_walk, fault_at}
+use Rattle.pam_conf.specs.Walk.{walk}
 use Rattle.pam_conf.specs.declared.conf_error.ConfError.{ConfError}
 use Rattle.pam_conf.specs.declared.error.FaultKind.TheVariants.{TooManyFollowed, TooManyModules}
 use Rattle.pam_conf.specs.declared.error.RuleFault.{RuleFault}
 use Rattle.pam_conf.specs.declared.rule.Kind.{Kind}
 use Rattle.pam_conf.specs.declared.kept.KeptRule.{KeptRule}
 use Rattle.pam_conf.specs.declared.rule_files.FileRules.{FileRules}
+use Rattle.pam_conf.specs.declared.stack.Item.{Item}
 use Rattle.pam_conf.specs.declared.stack.TheConstants.{MAX_MODULES}
+use Rattle.pam_conf.specs.declared.trail.TheConstants.{MAX_OPEN_FILES}
 use Rattle.pam_conf.specs.declared.walk.TheConstants.{MAX_FOLLOWS}
 use Rattle.pam_conf.specs.declared.progress.Progress.{Progress}
+use Rattle.pam_conf.specs.declared.walk.Walker.{Walker}
 
 -- what a walk has counted and noted so far
 pub record Count : Type 0 where
@@ -119,3 +125,20 @@ reads_by folder (Some before) = good_at folder
 abbrev pub HasRules : Folder → Kind → Before → List (Option (Vec KeptRule Global)) → Type 0
 HasRules folder kind None table = IsTable folder kind table
 HasRules folder kind (Some before) table = map file_view before.now ≡ files_read folder
+
+-- WHAT A WALKER DOES
+
+-- the files that the rules of one at the end of a trail lead to
+abbrev pub deeper_in : Walker → List ℕ → Deeper
+deeper_in walker trail =
+    deeper walker.files.now (reads_by walker.files.now walker.read) walker.kind (option_map (λ s. s.now) walker.service) (MAX_OPEN_FILES - length trail)
+
+-- the walk of a file, the last of a trail
+abbrev pub file_walk : Walker → List ℕ → ℕ → Walk
+file_walk walker trail file =
+    walk walker.files.now (reads_by walker.files.now walker.read) walker.kind (option_map (λ s. s.now) walker.service) (MAX_OPEN_FILES - length trail) trail
+    file
+
+-- what a walk comes to, in the words of who walks
+abbrev pub GoesOn : Walker → Progress → List Item → Walk → Progress → List Item → Result (Unit {0}) ConfError → Type 0
+GoesOn walker old items w new new_items result = Walks (is_some walker.read) (count_of old) (items_of items) w (count_of new) (items_of new_items) result

@@ -71,50 +71,50 @@ follow-returns-clause-walked t c =
 pub walk_file-returns-in-Some-get-clause-walked : goal.walk_file-returns-in-Some-get-clause-walked
 walk_file-returns-in-Some-get-clause-walked t c =
     subst (λ (w : Walk). Walks (is_some c.args.self.now.read) (count_of c.args.progress.now) (items_of c.args.items.now.items) w
-    (count_of c.walk_rules.new.progress) (items_of c.walk_rules.new.items.items) c.walk_rules.result)
+    (count_of c.walk_rules-in-Some.new.progress) (items_of c.walk_rules-in-Some.new.items.items) c.walk_rules-in-Some.result)
     (lemmas.walk-rules c.args.self.now.files.now (reads_by c.args.self.now.files.now c.args.self.now.read) c.args.self.now.kind
-    (service_of c.args.self.now.service) (MAX_OPEN_FILES - length c.args.trail.now) c.args.trail.now c.args.file (map kept_view c.as_slice.result.now)
-    (read_before c.args.self.now.files.now c.args.self.now.read c.in-Some.read c.args.file c.in-Some-get.found (map kept_view c.as_slice.result.now)
+    (service_of c.args.self.now.service) (MAX_OPEN_FILES - length c.args.trail.now) c.args.trail.now c.args.file (map kept_view c.as_slice-in-Some.result.now)
+    (read_before c.args.self.now.files.now c.args.self.now.read c.in-Some.read c.args.file c.in-Some-get.found (map kept_view c.as_slice-in-Some.result.now)
     c.in-Some.is (has_read c.args.self.now.files.now c.args.self.now.kind c.args.self.now.read c.in-Some.read _ c.in-Some.is c.requires.table)
-    c.in-Some-get.ensures.lookup (ap (map kept_view) c.as_slice.ensures.value))) c.walk_rules.ensures.walked
+    c.in-Some-get.ensures.lookup (ap (map kept_view) c.as_slice-in-Some.ensures.value))) c.walk_rules-in-Some.ensures.walked
 
-pub walk_unread-returns-in_err-rules-clause-walked : goal.walk_unread-returns-in_err-rules-clause-walked
-walk_unread-returns-in_err-rules-clause-walked t c =
+pub walk_file-returns-in_err-rules-in-None-clause-walked : goal.walk_file-returns-in_err-rules-in-None-clause-walked
+walk_file-returns-in_err-rules-in-None-clause-walked t c =
     let p = err_from_is_err_and c.from_residual.result c.from_residual.ensures.1 in
     rw (p.1, p.2) (lemmas.file-refused c.args.self.now.files.now (reads_by c.args.self.now.files.now c.args.self.now.read) c.args.self.now.kind
     (service_of c.args.self.now.service) (is_some c.args.self.now.read)
-    (count_of c.args.progress.now) (MAX_OPEN_FILES - length c.args.trail.now) c.args.trail.now c.args.file c.in_err-rules.field-0.0
-    (ap is_some c.requires.unread) (unread-fault _ _ c.args.self.now.kind c.args.file _ c.requires.unread c.in_err-rules.ensures.rules))
+    (count_of c.args.progress.now) (MAX_OPEN_FILES - length c.args.trail.now) c.args.trail.now c.args.file c.in_err-rules-in-None.field-0.0
+    (ap is_some c.in-None.is) (unread-fault _ _ c.args.self.now.kind c.args.file _ c.in-None.is c.in_err-rules-in-None.ensures.rules))
 
-pub walk_unread-walk_rules-requires : goal.walk_unread-walk_rules-requires
-walk_unread-walk_rules-requires t c = (omega arith, stored _ _ _ _ c.requires.unread c.take_rules.ensures.table)
+pub walk_file-walk_rules-requires : goal.walk_file-walk_rules-requires
+walk_file-walk_rules-requires t c = (omega arith, stored _ _ _ _ c.in-None.is c.take_rules.ensures.table)
 
-pub walk_unread-returns-in_err-walk_rules-clause-walked : goal.walk_unread-returns-in_err-walk_rules-clause-walked
-walk_unread-returns-in_err-walk_rules-clause-walked t c =
-    let p = err_from_is_err_and c.from_residual-in_err-walk_rules.result c.from_residual-in_err-walk_rules.ensures.1 in
+pub walk_file-returns-in_err-walk_rules-in-None-clause-walked : goal.walk_file-returns-in_err-walk_rules-in-None-clause-walked
+walk_file-returns-in_err-walk_rules-in-None-clause-walked t c =
+    let p = err_from_is_err_and c.from_residual-in_err-walk_rules-in-None.result c.from_residual-in_err-walk_rules-in-None.ensures.1 in
     rw (p.1, p.2) (lemmas.file-rules_refused c.args.self.now.files.now (reads_by c.args.self.now.files.now c.args.self.now.read) c.args.self.now.kind
     (service_of c.args.self.now.service) (is_some c.args.self.now.read)
-    (count_of c.args.progress.now) (count_of c.walk_rules.new.progress) c.args.trail.now c.args.file c.in_ok-rules.rules.items c.as_slice.result.now
-    c.in_err-walk_rules.field-0.0
-    (unread-rules _ _ c.args.self.now.kind c.args.file _ c.requires.unread c.in_ok-rules.ensures.rules) c.as_slice.ensures.value
-    c.in_err-walk_rules.ensures.walked)
+    (count_of c.args.progress.now) (count_of c.walk_rules.new.progress) c.args.trail.now c.args.file c.in_ok-rules-in-None.rules.items c.as_slice.result.now
+    c.in_err-walk_rules-in-None.field-0.0
+    (unread-rules _ _ c.args.self.now.kind c.args.file _ c.in-None.is c.in_ok-rules-in-None.ensures.rules) c.as_slice.ensures.value
+    c.in_err-walk_rules-in-None.ensures.walked)
 
-pub walk_unread-returns-clause-table : goal.walk_unread-returns-clause-table
-walk_unread-returns-clause-table t c =
-    let table = taken _ _ _ _ c.requires.unread c.in_ok-walk_rules.ensures.table in
-    stored _ _ _ _ c.requires.unread
-    (table-set c.args.self.now.files.now c.args.self.now.kind c.walk_rules.new.progress.table.items c.args.file (Some c.in_ok-rules.rules)
+pub walk_file-returns-in_ok-walk_rules-in-None-clause-table : goal.walk_file-returns-in_ok-walk_rules-in-None-clause-table
+walk_file-returns-in_ok-walk_rules-in-None-clause-table t c =
+    let table = taken _ _ _ _ c.in-None.is c.in_ok-walk_rules-in-None.ensures.table in
+    stored _ _ _ _ c.in-None.is
+    (table-set c.args.self.now.files.now c.args.self.now.kind c.walk_rules.new.progress.table.items c.args.file (Some c.in_ok-rules-in-None.rules)
     (omega (arith, c.requires.within, table.full)) table
-    (lemmas.kept-read c.args.self.now.kind c.args.file (rules_at c.args.self.now.files.now c.args.file) _ c.in_ok-rules.ensures.rules))
+    (lemmas.kept-read c.args.self.now.kind c.args.file (rules_at c.args.self.now.files.now c.args.file) _ c.in_ok-rules-in-None.ensures.rules))
 
-pub walk_unread-returns-clause-walked : goal.walk_unread-returns-clause-walked
-walk_unread-returns-clause-walked t c =
+pub walk_file-returns-in_ok-walk_rules-in-None-clause-walked : goal.walk_file-returns-in_ok-walk_rules-in-None-clause-walked
+walk_file-returns-in_ok-walk_rules-in-None-clause-walked t c =
     lemmas.file-walked c.args.self.now.files.now (reads_by c.args.self.now.files.now c.args.self.now.read) c.args.self.now.kind
     (service_of c.args.self.now.service) (is_some c.args.self.now.read)
     (count_of c.args.progress.now) (count_of c.walk_rules.new.progress) (items_of c.args.items.now.items)
-    (items_of c.walk_rules.new.items.items) c.args.trail.now c.args.file c.in_ok-rules.rules.items c.as_slice.result.now
-    (unread-rules _ _ c.args.self.now.kind c.args.file _ c.requires.unread c.in_ok-rules.ensures.rules) c.as_slice.ensures.value
-    c.in_ok-walk_rules.ensures.walked
+    (items_of c.walk_rules.new.items.items) c.args.trail.now c.args.file c.in_ok-rules-in-None.rules.items c.as_slice.result.now
+    (unread-rules _ _ c.args.self.now.kind c.args.file _ c.in-None.is c.in_ok-rules-in-None.ensures.rules) c.as_slice.ensures.value
+    c.in_ok-walk_rules-in-None.ensures.walked
 
 -- A RULE
 

@@ -7,19 +7,16 @@ use Rattle.pam_conf.proofs.WalkLemmas.{Leads, walk_of}
 use Rattle.pam_conf.proofs.walk.Walker.+walk.Given as goal
 
 abbrev pub decreases-follow : goal.decreases-follow
-decreases-follow l = 5 * (MAX_OPEN_FILES - length l.trail.now)
+decreases-follow l = 4 * (MAX_OPEN_FILES - length l.trail.now)
 
 abbrev pub decreases-walk_rule : goal.decreases-walk_rule
-decreases-walk_rule l = 5 * (MAX_OPEN_FILES - length l.trail.now) + 1
+decreases-walk_rule l = 4 * (MAX_OPEN_FILES - length l.trail.now) + 1
 
 abbrev pub decreases-walk_rules : goal.decreases-walk_rules
-decreases-walk_rules l = 5 * (MAX_OPEN_FILES - length l.trail.now) + 2
-
-abbrev pub decreases-walk_unread : goal.decreases-walk_unread
-decreases-walk_unread l = 5 * (MAX_OPEN_FILES - length l.trail.now) + 3
+decreases-walk_rules l = 4 * (MAX_OPEN_FILES - length l.trail.now) + 2
 
 abbrev pub decreases-walk_file : goal.decreases-walk_file
-decreases-walk_file l = 5 * (MAX_OPEN_FILES - length l.trail.now) + 4
+decreases-walk_file l = 4 * (MAX_OPEN_FILES - length l.trail.now) + 3
 
 -- the walk so far leads to that of the rules that are left
 abbrev pub invariant-walk_rules-loop-rule : goal.invariant-walk_rules-loop-rule
