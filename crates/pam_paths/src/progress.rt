@@ -8,7 +8,7 @@ ghost use Rattle.pam_dispatch.specs.Runs.{AsksRise};
 ghost use Rattle.pam_paths.specs.Computed.{listing};
 ghost use Rattle.pam_paths.specs.Directions.{ordered};
 ghost use Rattle.pam_paths.specs.Frames.{ahead, coming};
-ghost use Rattle.pam_paths.specs.inner.Frames.{AreFirstSteps, AreFrames, IsExploring, path_to, under};
+ghost use Rattle.pam_paths.specs.inner.Frames.{AreFirstSteps, AreFrames, ComesTo, IsExploring, path_to, under};
 ghost use Rattle.pam_paths.specs.Cached.{AreCached};
 ghost use Rattle.pam_paths.specs.inner.Work.{CountsOn};
 
@@ -49,17 +49,9 @@ impl Progress {
     fn advance<K: Knowledge>(&mut self, scope: &Scope<'_, K>) -> Option<()>
         requires few { modules_of scope.now.program.now ≤ MAX_MODULES }
         requires frames { AreFrames (K.allows scope.now.knowledge.now) scope.now.program.now 0 self.old.frames.items }
-        ensures none { IfNone result (ahead scope.now.direction (K.allows scope.now.knowledge.now) scope.now.program.now self.old.frames.items ≡ []) }
-        ensures emptied { IfNone result (self.new.frames.items ≡ []) }
-        ensures place { IfSome result (λ _. IsPlaceOf scope.now.program.now self.new.place) }
-        ensures frames { AreFrames (K.allows scope.now.knowledge.now) scope.now.program.now 0 self.new.frames.items }
-        ensures rise { IfSome result (λ _. AsksRise (length self.new.frames.items) (modules_of scope.now.program.now)
-            (rest_of scope.now.program.now self.new.place)) }
-        ensures earlier { take (length self.new.frames.items - 1) self.new.frames.items ≡ take (length self.new.frames.items - 1) self.old.frames.items }
-        ensures paths { IfSome result (λ _. ahead scope.now.direction (K.allows scope.now.knowledge.now) scope.now.program.now self.old.frames.items
-            ≡ under self.new.frames.items
-            (ordered scope.now.direction (listing (K.allows scope.now.knowledge.now) (rest_of scope.now.program.now self.new.place)))
-            ++ ahead scope.now.direction (K.allows scope.now.knowledge.now) scope.now.program.now self.new.frames.items) }
+        ensures next { ComesTo scope.now.direction (K.allows scope.now.knowledge.now) scope.now.program.now
+            (ahead scope.now.direction (K.allows scope.now.knowledge.now) scope.now.program.now self.old.frames.items)
+            self.old.frames.items self.new.frames.items self.new.place result }
         ensures cache { self.new.cache ≡ self.old.cache }
         ensures work { self.new.work ≤ self.old.work + length self.old.frames.items }
         ensures grows { CountsOn self.old.work self.new.work }
@@ -87,19 +79,9 @@ impl Progress {
     /// left.
     fn go_on<K: Knowledge>(&mut self, scope: &Scope<'_, K>, at_start: bool) -> Option<()>
         requires exploring { IsExploring (K.allows scope.now.knowledge.now) scope.now.program.now at_start self.old.frames.items }
-        ensures none { IfNone result (coming scope.now.direction (K.allows scope.now.knowledge.now) scope.now.program.now at_start
-            self.old.frames.items ≡ []) }
-        ensures emptied { IfNone result (self.new.frames.items ≡ []) }
-        ensures place { IfSome result (λ _. IsPlaceOf scope.now.program.now self.new.place) }
-        ensures frames { AreFrames (K.allows scope.now.knowledge.now) scope.now.program.now 0 self.new.frames.items }
-        ensures rise { IfSome result (λ _. AsksRise (length self.new.frames.items) (modules_of scope.now.program.now)
-            (rest_of scope.now.program.now self.new.place)) }
-        ensures earlier { take (length self.new.frames.items - 1) self.new.frames.items ≡ take (length self.new.frames.items - 1) self.old.frames.items }
-        ensures paths { IfSome result (λ _. coming scope.now.direction (K.allows scope.now.knowledge.now) scope.now.program.now at_start
-            self.old.frames.items
-            ≡ under self.new.frames.items
-            (ordered scope.now.direction (listing (K.allows scope.now.knowledge.now) (rest_of scope.now.program.now self.new.place)))
-            ++ ahead scope.now.direction (K.allows scope.now.knowledge.now) scope.now.program.now self.new.frames.items) }
+        ensures next { ComesTo scope.now.direction (K.allows scope.now.knowledge.now) scope.now.program.now
+            (coming scope.now.direction (K.allows scope.now.knowledge.now) scope.now.program.now at_start self.old.frames.items)
+            self.old.frames.items self.new.frames.items self.new.place result }
         ensures cache { self.new.cache ≡ self.old.cache }
         ensures work { self.new.work ≤ self.old.work + modules_of scope.now.program.now }
         ensures grows { CountsOn self.old.work self.new.work }

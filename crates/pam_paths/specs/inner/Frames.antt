@@ -1,19 +1,21 @@
 -- For private contracts and proofs alone: the part of a listing that is left, by the frames of the path that an explorer returned
 -- last.
-use Rattle.std.specs.Prelude.{◌≡◌, ℕ, Bool, true, ◌+◌, ◌-◌, ◌<◌, ◌≤◌, if◌then◌else◌, List, [], ◌∷◌, ◌++◌, length, map, take, Some}
+use Rattle.std.specs.Prelude.{◌≡◌, ℕ, Bool, true, ◌+◌, ◌-◌, ◌<◌, ◌≤◌, if◌then◌else◌, List, [], ◌∷◌, ◌++◌, length, map, take}
+use Rattle.std.specs.Prelude.{IfNone, IfSome, Option, Some}
 use Rattle.pam_conf.specs.declared.stack.TheConstants.{MAX_MODULES}
 use Rattle.pam_dispatch.specs.declared.flat_item.FlatItem.{FlatItem}
+use Rattle.pam_dispatch.specs.declared.place.Place.{Place}
 use Rattle.pam_dispatch.specs.declared.settled.SettledRun.{SettledRun}
 use Rattle.pam_dispatch.specs.Flat.{IsPlaceOf, modules_of, rest_of}
 use Rattle.pam_dispatch.specs.Runs.{Runs, ends, asks, AsksRise, asked_module, next_ask, outcome_of}
 use Rattle.pam_paths.specs.declared.direction.Direction.{Direction}
 use Rattle.pam_paths.specs.declared.frames.Frame.{Frame}
 use Rattle.pam_paths.specs.Computed.{after_step, is_offered, listing}
-use Rattle.pam_paths.specs.Directions.{past}
+use Rattle.pam_paths.specs.Directions.{ordered, past}
 use Rattle.pam_paths.specs.Listing.{Allowance}
 use Rattle.pam_paths.specs.Paths.{PathValue, StepValue, step_of}
 use Rattle.pam_paths.specs.Tail.{tail_from}
-use Rattle.pam_paths.specs.Frames.{branches_in, step_in, offered_at, AreClasses}
+use Rattle.pam_paths.specs.Frames.{ahead, branches_in, step_in, offered_at, AreClasses}
 
 -- steps are those of the frames, as far as there are both
 abbrev pub AreFirstSteps : List Frame → List StepValue → Type 0
@@ -58,3 +60,15 @@ pub record IsExploring (allows : Allowance) (program : List FlatItem) (at_start 
   pub few : modules_of program ≤ MAX_MODULES
   pub valid : AreFrames allows program 0 frames
   pub start : at_start ≡ true → frames ≡ []
+
+-- of the paths that were left, those from a place on are next, after the steps of the frames; or there was none. All frames but the
+-- last are those that were there
+pub record ComesTo (direction : Direction) (allows : Allowance) (program : List FlatItem) (left : List PathValue) (old new : List Frame)
+    (next : Place) (found : Option (Unit {0})) : Type 0 where
+  pub none : IfNone found (left ≡ [])
+  pub emptied : IfNone found (new ≡ [])
+  pub place : IfSome found (λ _. IsPlaceOf program next)
+  pub frames : AreFrames allows program 0 new
+  pub rise : IfSome found (λ _. AsksRise (length new) (modules_of program) (rest_of program next))
+  pub earlier : take (length new - 1) new ≡ take (length new - 1) old
+  pub paths : IfSome found (λ _. left ≡ under new (ordered direction (listing allows (rest_of program next))) ++ ahead direction allows program new)

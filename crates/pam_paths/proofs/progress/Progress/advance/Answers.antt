@@ -55,21 +55,23 @@ returns-in-Some g c =
     let at : n - 1 ≡ length items - 1 = ap (λ (x : ℕ). x - 1) count in
     let longer : length fs + 1 ≡ length (fs ++ h ∷ []) = sym (length-append fs (h ∷ [])) in
     record {
-      none = tt;
-      emptied = tt;
-      place = of.place;
-      frames = k.frames;
-      rise = subst (λ x. AsksRise x (modules_of program) (rest_of program next)) (longer ∙ ap (λ (l : List Frame). length l) (sym k.is))
-          (frame_after allows program (length fs) f b.code next k.was.is of.rest);
-      earlier = front_changed c.args.self.now.frames.items fs _ h
-          (front_popped c.args.self.now.frames.items items fs i.earlier (ap (λ (x : ℕ). take x items) at)) k.is;
-      paths = i.same
-          ∙ ap (λ (x : List Frame). ahead d allows program x) k.was.split
-          ∙ ahead-next d allows program fs f h below
-          (ap (ahead_of d allows r) (sym c.past-bound.ensures.value)
-          ∙ branch_followed d allows program r f h c.past-bound.result b.code b.class below
-          (ap (λ (x : Place). rest_of program x) (sym k.place)) k.number refl refl (of.paths allows k.was.is.offered))
-          ∙ ap (λ (x : List Frame). under x below ++ ahead d allows program x) (sym k.is);
+      next = record {
+        none = tt;
+        emptied = tt;
+        place = of.place;
+        frames = k.frames;
+        rise = subst (λ x. AsksRise x (modules_of program) (rest_of program next)) (longer ∙ ap (λ (l : List Frame). length l) (sym k.is))
+            (frame_after allows program (length fs) f b.code next k.was.is of.rest);
+        earlier = front_changed c.args.self.now.frames.items fs _ h
+            (front_popped c.args.self.now.frames.items items fs i.earlier (ap (λ (x : ℕ). take x items) at)) k.is;
+        paths = i.same
+            ∙ ap (λ (x : List Frame). ahead d allows program x) k.was.split
+            ∙ ahead-next d allows program fs f h below
+            (ap (ahead_of d allows r) (sym c.past-bound.ensures.value)
+            ∙ branch_followed d allows program r f h c.past-bound.result b.code b.class below
+            (ap (λ (x : Place). rest_of program x) (sym k.place)) k.number refl refl (of.paths allows k.was.is.offered))
+            ∙ ap (λ (x : List Frame). under x below ++ ahead d allows program x) (sym k.is);
+      };
       cache = i.cache;
       work = omega (arith, i.work, c.branch_ahead.ensures.work, count, some);
       grows = counts-then _ _ _ i.grows c.branch_ahead.ensures.grows;
@@ -107,15 +109,19 @@ loop-self-preserved g c =
       grows = counts-then _ _ _ i.grows c.branch_ahead.ensures.grows;
     }
 
-pub returns-clause-none : goal.returns-clause-none
+pub returns-clause-next : goal.returns-clause-next
 unfolding ahead
-returns-clause-none g c =
+returns-clause-next g c =
     let items = c.loop-self.self.frames.items in
+    let i = c.loop-self.invariant in
     let none : length items ≡ 0 = search rules in
-    c.loop-self.invariant.same
-    ∙ ap (λ (x : List Frame). ahead c.args.scope.now.direction (g.K.Knowledge.allows c.args.scope.now.knowledge.now) c.args.scope.now.program.now x)
-    (nil_from_length items none)
-
-pub returns-clause-emptied : goal.returns-clause-emptied
-returns-clause-emptied g c =
-    let none : length c.loop-self.self.frames.items ≡ 0 = search rules in nil_from_length c.loop-self.self.frames.items none
+    let empty : items ≡ [] = nil_from_length items none in
+    record {
+      none = i.same ∙ ap (ahead c.args.scope.now.direction (g.K.Knowledge.allows c.args.scope.now.knowledge.now) c.args.scope.now.program.now) empty;
+      emptied = empty;
+      place = tt;
+      frames = i.frames;
+      rise = tt;
+      earlier = subst (λ (x : List Frame). take (length x - 1) x ≡ take (length x - 1) c.args.self.now.frames.items) (sym empty) refl;
+      paths = tt;
+    }

@@ -15,7 +15,7 @@ use Rattle.pam_paths.proofs.progress.Progress.follow.Goals.{After-as_slice}
 
 pub returns-in_default-clause-stays : goal.returns-in_default-clause-stays
 unfolding coming ahead
-returns-in_default-clause-stays g c = rw c.in_default.ensures.emptied refl
+returns-in_default-clause-stays g c = rw c.in_default.ensures.next.emptied refl
 
 -- the steps that the path shares with the one before it are those of frames that stay
 within : (g : Over) (c : After-as_slice g) → c.shared_count-shared.result ≤ length c.go_on.new.self.frames.items - 1
@@ -33,7 +33,7 @@ same g c =
     let few : c.shared_count-shared.result ≤ length (map step_seen steps) =
     omega (arith, c.shared_count-shared.ensures.within, told, length-map steps step_seen) in
     shared_steps step_in _ c.args.self.now.frames.items c.go_on.new.self.frames.items c.as_slice.result.now c.shared_count-shared.result first
-    c.in-Some.ensures.earlier (ap (take _) c.as_slice.ensures.value ∙ c.descend-rest.ensures.earlier) few (within g c)
+    c.in-Some.ensures.next.earlier (ap (take _) c.as_slice.ensures.value ∙ c.descend-rest.ensures.earlier) few (within g c)
 
 pub retell-requires-clause-same : goal.retell-requires-clause-same
 retell-requires-clause-same g c = same g (goal.at.retell-requires-clause-same g c).After-as_slice
@@ -44,7 +44,7 @@ retell-requires-clause-tail g c = told-alike c.last-tail.result.now _ _ c.last-t
 pub returns-clause-path : goal.returns-clause-path
 returns-clause-path g c =
     first-path c.args.scope.now.direction (g.K.Knowledge.allows c.args.scope.now.knowledge.now) c.args.scope.now.program.now _
-    c.descend-rest.new.self.frames.items c.descend-rest.result c.retell.new.steps.items _ (c.in-Some.ensures.paths ∙ c.descend-rest.ensures.path)
+    c.descend-rest.new.self.frames.items c.descend-rest.result c.retell.new.steps.items _ (c.in-Some.ensures.next.paths ∙ c.descend-rest.ensures.path)
     (steps-told _ c.as_slice.result.now c.descend-rest.new.self.frames.items c.last-tail.result.now c.modules.result (modules_of c.args.scope.now.program.now) _
     c.retell.ensures c.as_slice.ensures.value c.last-tail.ensures c.modules.ensures.count)
     c.code-path-inside.ensures
