@@ -37,7 +37,7 @@ same-ask a b number control situation =
 some-is : (s t : Situation) → Some s ≡ Some t → s ≡ t
 some-is s t e = cc
 
--- a kept situation stands for the question if it is what represents the question's own situation
+-- a kept situation serves if it is the representative of the question's situation
 pub own-stands : (cached : Option Situation) (situation : Situation) (ask : Ask) → cached ≡ Some situation →
     situation ≡ representative true (situation_of ask) → StandsFor cached ask
 own-stands cached situation ask is own =
