@@ -44,8 +44,8 @@ loop-position-preserved c =
     let now : c.if-here-level.length ≡ stretch_of (drop (position - 1) ts) = last ∙ ap stretch_of (sym here) in
     record {
       within = omega (arith, i.within);
-      stored = table-more IsStretchOf 0 ts c.loop-position.table.items c.push-in-loop-position.new.self.items c.if-here-level.length position c.in_ok-push-2.ensures.items
-          c.loop-position-test.true i.within i.stored now;
+      stored = table-more IsStretchOf 0 ts c.loop-position.table.items c.push-in-loop-position.new.self.items c.if-here-level.length position
+          c.in_ok-push-2.ensures.items c.loop-position-test.true i.within i.stored now;
       last = now;
       level = subst (IsFirstLevel c.level-here.result) (sym here) (sym level);
     }
