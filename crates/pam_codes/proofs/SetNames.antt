@@ -7,10 +7,10 @@ use Rattle.std.proofs.lemmas.Option.{get_or_from_slice_get}
 use Rattle.pam_text.specs.declared.out.Out.{Out}
 use Rattle.pam_codes.specs.Code.{all_codes, code_names}
 use Rattle.pam_text.specs.Out.{TookAll, TookFront}
-use Rattle.pam_codes.specs.Set.{codes_where, is_in, IsCodeSet}
+use Rattle.pam_codes.specs.Set.{codes_where, is_in}
 use Rattle.pam_codes.specs.inner.SetBits.{codes_where-same, is_in-codes_where}
 use Rattle.pam_codes.specs.SetText.{name_of, names_text, set_text}
-use Rattle.pam_codes.proofs.Firsts.{first_and_rest, none_first, rest_of_set}
+use Rattle.pam_codes.proofs.Firsts.{first_and_rest, none_first}
 use Rattle.pam_text.proofs.Writing.{all-is, all-none, all-then, front-is, front-longer, front-then}
 
 -- the names of codes, each after a comma, but the first after another separator
@@ -62,23 +62,19 @@ module _ {W : Type 0} (contents : W → Option (List ℕ)) (old : Out W) (set : 
     pub AreWritten-failed : (new : Out W) → TookFront contents mid new (separator ++ (name ++ [])) → TookFront contents old new (names_text set)
     AreWritten-failed new failed = front-is (front-longer (names_after (codes ",") (drop 1 remaining)) (front-then now.took failed)) whole
 
-    pub AreWritten-more : (new : Out W) (next : List ℕ) → TookAll contents mid new (separator ++ (name ++ [])) → IsCodeSet remaining →
-        next ≡ codes_where (λ c. is_in c remaining && not (is_in c (code ∷ []))) → AreWritten contents old new (codes ",") next set
-    AreWritten-more new next more is_set next_is = record {
+    pub AreWritten-more : (new : Out W) (next : List ℕ) → TookAll contents mid new (separator ++ (name ++ [])) → next ≡ drop 1 remaining →
+        AreWritten contents old new (codes ",") next set
+    AreWritten-more new next more next_is = record {
       written = now.written ++ (separator ++ (name ++ []));
       took = all-then now.took more;
       parts =
-          ap (λ (cs : List ℕ). (now.written ++ (separator ++ (name ++ []))) ++ names_after (codes ",") cs)
-          (next_is ∙ rest_of_set remaining code (drop 1 remaining) is_set (first_and_rest remaining code first))
-          ∙ whole;
+          ap (λ (cs : List ℕ). (now.written ++ (separator ++ (name ++ []))) ++ names_after (codes ",") cs) next_is ∙ whole;
     }
 
 -- the set has one code less
-pub less_codes : (remaining next : List ℕ) (code : ℕ) → slice_get remaining 0 ≡ Some code → IsCodeSet remaining →
-    next ≡ codes_where (λ c. is_in c remaining && not (is_in c (code ∷ []))) → length next < length remaining
-less_codes remaining next code first is_set next_is =
-    let rest = first_and_rest remaining code first in
-    omega (arith, ap (λ (cs : List ℕ). length cs) (next_is ∙ rest_of_set remaining code (drop 1 remaining) is_set rest), ap (λ (cs : List ℕ). length cs) rest)
+pub less_codes : (remaining next : List ℕ) (code : ℕ) → slice_get remaining 0 ≡ Some code → next ≡ drop 1 remaining → length next < length remaining
+less_codes remaining next code first next_is =
+    omega (arith, ap (λ (cs : List ℕ). length cs) next_is, ap (λ (cs : List ℕ). length cs) (first_and_rest remaining code first))
 
 -- the text of a set, by the number of codes
 pub set_text-any : (set : List ℕ) → length set ≡ 31 → set_text set ≡ codes "any"

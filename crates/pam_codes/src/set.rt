@@ -1,7 +1,7 @@
 //! Sets of return codes.
 
 ghost use Rattle.std.specs.Prelude.{◌≡◌, ◌↔◌, ◌==◌, ◌||◌, ◌&&◌, ◌<◌, ◌≤◌, ◌-◌, ◌^◌, ℕ, false, min, not};
-ghost use Rattle.std.specs.Prelude.{◌∷◌, [], IfNone, IfSome, IsTrue, length, slice_get};
+ghost use Rattle.std.specs.Prelude.{◌∷◌, [], IfNone, IfSome, IsTrue, drop, length, slice_get};
 ghost use Rattle.pam_codes.specs.Code.{all_codes};
 ghost use Rattle.pam_codes.specs.Set.{codes_where, is_in, IsCodeSet};
 
@@ -106,6 +106,16 @@ impl CodeSet {
             return None;
         }
         Code::new(self.bits.trailing_zeros() as u8)
+    }
+
+    /// Takes the least code by number out of the set; `None` if the set is empty.
+    pub fn take_least(&mut self) -> Option<Code>
+        ensures first { result ≡ slice_get self.old 0 }
+        ensures rest { self.new ≡ drop 1 self.old }
+    {
+        let code = self.least()?;
+        *self = self.without(CodeSet::single(code));
+        Some(code)
     }
 
     /// The least code whose number is at least `first`.

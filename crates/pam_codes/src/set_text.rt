@@ -33,11 +33,10 @@ impl CodeSet {
     {
         let mut separator = b"".as_slice();
         let mut remaining = self;
-        while let Some(code) = remaining.least() {
+        while let Some(code) = remaining.take_least() {
             let name = code.name().as_bytes();
             out.put_line(&[Piece::Bytes(separator), Piece::Bytes(name)])?;
             separator = b",".as_slice();
-            remaining = remaining.without(CodeSet::single(code));
         }
         Ok(())
     }

@@ -35,10 +35,9 @@ fn put_codes<W: Write>(set: CodeSet, out: &mut Out<W>) -> Result<(), Device>
 {
     let mut later = false;
     let mut remaining = set;
-    while let Some(code) = remaining.least() {
+    while let Some(code) = remaining.take_least() {
         put_code(later, code, out)?;
         later = true;
-        remaining = remaining.without(CodeSet::single(code));
     }
     out.put(b"]")
 }

@@ -1,8 +1,7 @@
-use Rattle.std.proofs.Common.{◌≡◌, ◌∙◌, ◌&&◌, ◌∷◌, List, ℕ, [], ap, drop, not, refl, sym, true}
-use Rattle.pam_codes.proofs.Firsts.{first_and_rest, none_first, rest_of_set}
+use Rattle.std.proofs.Common.{◌∙◌, ◌∷◌, List, ℕ, [], ap, drop, refl, sym, true}
+use Rattle.pam_codes.proofs.Firsts.{first_and_rest, none_first}
 use Rattle.pam_codes.proofs.SetNames.{less_codes}
 use Rattle.pam_codes.proofs.Writing.{all-none, all-then, err-front, front-is, front-longer, front-then, writes-is, writes-then}
-use Rattle.pam_codes.specs.Set.{codes_where, is_in}
 use Rattle.pam_json_lines.proofs.Arrays.{item-more, items-all, rest_text}
 use Rattle.pam_json.specs.Steps.{code_string}
 use Rattle.pam_json.proofs.steps.put_codes.Goals as goal
@@ -19,23 +18,17 @@ returns-in_err-put_code g c =
     (item-more code_string l.invariant.front _ l.later c.in-Some.code l.remaining (drop 1 l.remaining) first l.invariant.parts))
 
 pub loop-code-smaller : goal.loop-code-smaller
-loop-code-smaller g c =
-    let remaining = c.loop-code.remaining in
-    less_codes remaining _ c.in-Some.code (sym c.in-Some.ensures.first) c.in-Some.ensures.order
-    (c.without-remaining.ensures ∙ ap (λ (one : List ℕ). codes_where (λ x. is_in x remaining && not (is_in x one))) c.single.ensures)
+loop-code-smaller g c = less_codes c.loop-code.remaining _ c.in-Some.code (sym c.in-Some.ensures.first) c.in-Some.ensures.rest
 
 pub loop-code-preserved : goal.loop-code-preserved
 loop-code-preserved g c =
     let l = c.loop-code in
     let code = c.in-Some.code in
     let first = first_and_rest l.remaining code (sym c.in-Some.ensures.first) in
-    let next : c.without-remaining.result ≡ drop 1 l.remaining =
-    c.without-remaining.ensures ∙ ap (λ (one : List ℕ). codes_where (λ x. is_in x l.remaining && not (is_in x one))) c.single.ensures
-    ∙ rest_of_set l.remaining code (drop 1 l.remaining) c.in-Some.ensures.order first in
     record {
       front = _;
-      parts = item-more code_string l.invariant.front _ l.later code l.remaining c.without-remaining.result
-          (first ∙ ap (λ (cs : List ℕ). code ∷ cs) (sym next)) l.invariant.parts;
+      parts = item-more code_string l.invariant.front _ l.later code l.remaining c.take_least.new.self
+          (first ∙ ap (λ (cs : List ℕ). code ∷ cs) (sym c.in-Some.ensures.rest)) l.invariant.parts;
       took = all-then l.invariant.took c.in_ok-put_code.ensures;
     }
 
