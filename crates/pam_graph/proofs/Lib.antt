@@ -9,6 +9,7 @@ pub mod Paging
 pub mod Passing
 pub mod Placing
 pub mod Reaching
+pub mod Remaining
 pub mod Rests
 pub mod Sides
 pub mod Tables

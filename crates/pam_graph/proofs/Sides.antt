@@ -24,6 +24,7 @@ use Rattle.pam_graph.specs.Walks.{table, walks_at, walks_by, walks_of, walks_to}
 use Rattle.pam_graph.specs.inner.Within.{AreWithin, IsWithin, height}
 use Rattle.pam_graph.proofs.Counting.{wanted-stepped}
 use Rattle.pam_graph.proofs.Growing.{AreAbove-more}
+use Rattle.pam_graph.proofs.Remaining.{item-left}
 use Rattle.pam_graph.proofs.Tables.{edges-added, length-walks_of, table-append, table-begins}
 use Rattle.pam_graph.proofs.Withins.{AreAbove-within}
 use Rattle.pam_paths.specs.Computed.{after_step}
@@ -69,7 +70,7 @@ length-in Backward es = length-reverse es
 pub drop-in : (d : Direction) (es : List Edge) (i : ℕ) (e : Edge) → i < length es → e ≡ slice_index_or (edges_in d es) i e →
     drop i (edges_in d es) ≡ e ∷ drop (i + 1) (edges_in d es)
 drop-in d es i e l is =
-    drop_more (edges_in d es) i e (omega (arith, l, length-in d es)) ∙ ap (λ (x : Edge). x ∷ drop (i + 1) (edges_in d es)) (sym is)
+    item-left (edges_in d es) i e (omega (arith, l, length-in d es)) is
 
 above-at : (numbers : List ℕ) (low : ℕ) (es : List Edge) (i : ℕ) (e : Edge) → AreAbove numbers low es → i < length es →
     IsAbove numbers low (slice_index_or es i e).target

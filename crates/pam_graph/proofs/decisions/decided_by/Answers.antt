@@ -1,8 +1,8 @@
-use Rattle.std.proofs.Common.{◌+◌, ◌∙◌, ◌∷◌, List, ℕ, ap, drop, length, subst, sym}
-use Rattle.std.proofs.lemmas.List.{drop_all, drop_more}
-use Rattle.pam_graph.specs.declared.node.Edge.{Edge}
+use Rattle.std.proofs.Common.{◌+◌, ◌∙◌, List, ℕ, ap, drop, length, subst, sym}
+use Rattle.std.proofs.lemmas.List.{drop_all}
 use Rattle.pam_graph.specs.inner.Deciding.{with_edges}
 use Rattle.pam_graph.specs.inner.Within.{AreWithin}
+use Rattle.pam_graph.proofs.Remaining.{item-left}
 use Rattle.pam_graph.proofs.decisions.decided_by.Goals as goal
 
 pub loop-edge-init : goal.loop-edge-init
@@ -16,7 +16,7 @@ unfolding AreWithin
 with_target-codes-requires c =
     let edges = c.args.edges.now in
     let i = c.loop-edge.edge-index in
-    let left = drop_more edges i c.edge-item.result c.loop-edge-test.true ∙ ap (λ (x : Edge). x ∷ drop (i + 1) edges) (sym c.edge-item.is) in
+    let left = item-left edges i c.edge-item.result c.loop-edge-test.true c.edge-item.is in
     (subst (AreWithin (length c.args.known.now)) left c.loop-edge.invariant.within).0
 
 pub loop-edge-preserved : goal.loop-edge-preserved
@@ -25,7 +25,7 @@ loop-edge-preserved c =
     let edges = c.args.edges.now in
     let known = c.args.known.now in
     let i = c.loop-edge.edge-index in
-    let left = drop_more edges i c.edge-item.result c.loop-edge-test.true ∙ ap (λ (x : Edge). x ∷ drop (i + 1) edges) (sym c.edge-item.is) in
+    let left = item-left edges i c.edge-item.result c.loop-edge-test.true c.edge-item.is in
     record {
       codes = ap (λ (x : List ℕ). with_edges known x (drop (i + 1) edges)) c.with_target-codes.ensures
           ∙ sym (ap (with_edges known c.loop-edge.codes) left) ∙ c.loop-edge.invariant.codes;

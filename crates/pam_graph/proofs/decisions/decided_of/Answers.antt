@@ -1,13 +1,13 @@
 use Rattle.std.proofs.Common.{◌≡◌, ◌+◌, ◌++◌, ◌∙◌, ◌∷◌, [], List, ℕ, ap, arith, drop, length, subst, sym}
-use Rattle.std.proofs.lemmas.List.{drop_all, drop_more, length-append}
+use Rattle.std.proofs.lemmas.List.{drop_all, length-append}
 use Rattle.pam_graph.specs.declared.node.Edge.{Edge}
-use Rattle.pam_graph.specs.declared.node.Node.{Node}
 use Rattle.pam_graph.specs.Order.{AreNodes}
 use Rattle.pam_graph.specs.inner.Deciding.{decided_by, with_edges}
 use Rattle.pam_graph.specs.Walks.{table}
 use Rattle.pam_graph.specs.inner.Within.{AreWithin}
 use Rattle.pam_graph.proofs.Deciding.{decided-table}
 use Rattle.pam_graph.proofs.Withins.{first-within}
+use Rattle.pam_graph.proofs.Remaining.{item-left}
 use Rattle.pam_graph.proofs.decisions.decided_of.Goals as goal
 
 pub decided_by-codes-requires : goal.decided_by-codes-requires
@@ -15,7 +15,7 @@ decided_by-codes-requires c =
     let nodes = c.args.nodes.now in
     let i = c.loop-node.node-index in
     let known = c.loop-node.known.items in
-    let left = drop_more nodes i c.node-item.result c.loop-node-test.true ∙ ap (λ (x : Node). x ∷ drop (i + 1) nodes) (sym c.node-item.is) in
+    let left = item-left nodes i c.node-item.result c.loop-node-test.true c.node-item.is in
     let order = c.loop-node.invariant.order in
     let within = first-within order.0 c.node-item.result (drop (i + 1) nodes) (subst (AreNodes order.0) left order.2) in
     subst (λ (es : List Edge). AreWithin (length c.deref.result.now) es) (sym c.deref-in-loop-node.ensures.value)
@@ -30,7 +30,7 @@ loop-node-preserved c =
     let known = c.loop-node.known.items in
     let rest = drop (i + 1) nodes in
     let node = c.node-item.result in
-    let left = drop_more nodes i node c.loop-node-test.true ∙ ap (λ (x : Node). x ∷ rest) (sym c.node-item.is) in
+    let left = item-left nodes i node c.loop-node-test.true c.node-item.is in
     let codes : c.decided_by-codes.result ≡ decided_by known node =
     c.decided_by-codes.ensures ∙ ap (with_edges c.deref.result.now []) c.deref-in-loop-node.ensures.value
     ∙ ap (λ (x : List (List ℕ)). decided_by x node) c.deref.ensures.value in

@@ -1,8 +1,8 @@
-use Rattle.std.proofs.Common.{◌+◌, ◌∙◌, ◌∷◌, Bool, Option, ℕ, ap, drop, length, subst, sym}
-use Rattle.std.proofs.lemmas.List.{drop_all, drop_more}
-use Rattle.pam_graph.specs.declared.node.Edge.{Edge}
+use Rattle.std.proofs.Common.{◌+◌, ◌∙◌, Bool, Option, ℕ, ap, drop, length, subst, sym}
+use Rattle.std.proofs.lemmas.List.{drop_all}
 use Rattle.pam_graph.specs.inner.Tallies.{count_to, plus, sum_from}
 use Rattle.pam_graph.specs.inner.Within.{AreWithin}
+use Rattle.pam_graph.proofs.Remaining.{item-left}
 use Rattle.pam_graph.proofs.tally.count_by.Goals as goal
 
 pub count_to-requires : goal.count_to-requires
@@ -10,7 +10,7 @@ unfolding AreWithin
 count_to-requires c =
     let edges = c.args.edges.now in
     let i = c.loop-edge.edge-index in
-    let left = drop_more edges i c.edge-item.result c.loop-edge-test.true ∙ ap (λ (x : Edge). x ∷ drop (i + 1) edges) (sym c.edge-item.is) in
+    let left = item-left edges i c.edge-item.result c.loop-edge-test.true c.edge-item.is in
     (subst (AreWithin (length c.args.tallies.now)) left c.loop-edge.invariant.within).0
 
 pub loop-edge-preserved : goal.loop-edge-preserved
@@ -22,7 +22,7 @@ loop-edge-preserved c =
     let tallies = c.args.tallies.now in
     let i = c.loop-edge.edge-index in
     let count = c.loop-edge.count in
-    let left = drop_more edges i c.edge-item.result c.loop-edge-test.true ∙ ap (λ (x : Edge). x ∷ drop (i + 1) edges) (sym c.edge-item.is) in
+    let left = item-left edges i c.edge-item.result c.loop-edge-test.true c.edge-item.is in
     record {
       sum = ap (λ (x : Option ℕ). sum_from goal is_met c.args.number tallies x (drop (i + 1) edges)) (c.plus-count.ensures ∙ ap (plus count) (c.count_to.ensures
           ∙ ap (λ (t : Bool). count_to goal t tallies c.edge-item.result.target) c.met_after-is_met_after.ensures))

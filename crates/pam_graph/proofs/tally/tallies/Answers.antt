@@ -1,6 +1,5 @@
 use Rattle.std.proofs.Common.{◌≡◌, ◌+◌, ◌++◌, ◌∙◌, ◌∷◌, [], List, ℕ, ap, arith, drop, length, subst, sym}
-use Rattle.std.proofs.lemmas.List.{drop_all, drop_more, length-append}
-use Rattle.pam_graph.specs.declared.node.Node.{Node}
+use Rattle.std.proofs.lemmas.List.{drop_all, length-append}
 use Rattle.pam_graph.specs.declared.tally.Tally.{Tally}
 use Rattle.pam_graph.specs.Order.{AreNodes}
 use Rattle.pam_graph.specs.inner.Tallies.{tally_by}
@@ -8,6 +7,7 @@ use Rattle.pam_graph.specs.Walks.{table}
 use Rattle.pam_graph.specs.inner.Within.{AreWithin}
 use Rattle.pam_graph.proofs.Counting.{tallies-table}
 use Rattle.pam_graph.proofs.Withins.{first-within}
+use Rattle.pam_graph.proofs.Remaining.{item-left}
 use Rattle.pam_graph.proofs.tally.tallies.Goals as goal
 
 pub tally_by-tally-requires : goal.tally_by-tally-requires
@@ -15,7 +15,7 @@ tally_by-tally-requires c =
     let nodes = c.args.nodes.now in
     let i = c.loop-node.node-index in
     let known = c.loop-node.tallies.items in
-    let left = drop_more nodes i c.node-item.result c.loop-node-test.true ∙ ap (λ (x : Node). x ∷ drop (i + 1) nodes) (sym c.node-item.is) in
+    let left = item-left nodes i c.node-item.result c.loop-node-test.true c.node-item.is in
     let order = c.loop-node.invariant.order in
     let within = first-within order.0 c.node-item.result (drop (i + 1) nodes) (subst (AreNodes order.0) left order.2) in
     subst (λ (x : List Tally). AreWithin (length x) c.node-item.result.edges.items) (sym c.deref.ensures.value)
@@ -30,7 +30,7 @@ loop-node-preserved c =
     let known = c.loop-node.tallies.items in
     let rest = drop (i + 1) nodes in
     let node = c.node-item.result in
-    let left = drop_more nodes i node c.loop-node-test.true ∙ ap (λ (x : Node). x ∷ rest) (sym c.node-item.is) in
+    let left = item-left nodes i node c.loop-node-test.true c.node-item.is in
     let tally : c.tally_by-tally.result ≡ tally_by goal known node =
     c.tally_by-tally.ensures ∙ ap (λ (x : List Tally). tally_by goal x node) c.deref.ensures.value in
     let pushed = c.in_ok-push.ensures.items in

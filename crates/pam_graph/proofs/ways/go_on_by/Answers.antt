@@ -1,20 +1,18 @@
 use Rattle.std.proofs.Common.{◌≡◌, ◌*◌, ◌+◌, ◌∙◌, ◌∷◌, List, ℕ, ap, drop, length, refl, subst, sym}
-use Rattle.std.proofs.lemmas.List.{drop_all, drop_more}
+use Rattle.std.proofs.lemmas.List.{drop_all}
 use Rattle.std.specs.List.{flat_map}
 use Rattle.pam_graph.specs.declared.node.Edge.{Edge}
 use Rattle.pam_graph.specs.Walks.{walks_by, walks_to}
 use Rattle.pam_graph.specs.inner.Accounts.{deciders}
 use Rattle.pam_graph.specs.inner.Within.{AreWithin}
 use Rattle.pam_graph.proofs.Accounting.{edges-left, left-is, none-left}
+use Rattle.pam_graph.proofs.Remaining.{item-left}
 use Rattle.pam_graph.proofs.ways.go_on_by.Goals as goal
 use Rattle.pam_graph.proofs.ways.go_on_by.Goals.{After-edge-item}
 
 left : (c : After-edge-item) →
     drop c.loop-edge.edge-index c.args.edges.now ≡ c.edge-item.result ∷ drop (c.loop-edge.edge-index + 1) c.args.edges.now
-left c =
-    let edges = c.args.edges.now in
-    let i = c.loop-edge.edge-index in
-    drop_more edges i c.edge-item.result c.loop-edge-test.true ∙ ap (λ (x : Edge). x ∷ drop (i + 1) edges) (sym c.edge-item.is)
+left c = item-left c.args.edges.now c.loop-edge.edge-index c.edge-item.result c.loop-edge-test.true c.edge-item.is
 
 pub loop-edge-init : goal.loop-edge-init
 loop-edge-init c = record {
