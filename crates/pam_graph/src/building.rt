@@ -89,88 +89,93 @@ fn add(
     Ok(Target::At(index))
 }
 
-/// Where a run that has come to `place` continues: a node, added after all that it leads to if it is not there yet, or an
-/// end.
-// Inlined into the loop below, since most edges lead to a node that is there.
-#[cycle(building)]
-#[inline(always)]
-pub(crate) fn target_of<K: Knowledge>(
+/// What a graph is built of: the runs of a program that a knowledge allows, in at most `limit` nodes.
+#[derive(Drop)]
+struct Builder<'a, K: Knowledge> {
     alloc: Global,
-    program: &Program,
-    knowledge: &K,
+    program: &'a Program,
+    knowledge: &'a K,
     limit: u32,
-    place: &Place,
-    draft: &mut Draft,
-) -> Result<Target, GraphError>
-    requires few { modules_of program.now ≤ MAX_MODULES }
-    requires place { IsPlaceOf program.now place.now }
-    requires rise { AsksRise 0 (modules_of program.now) (rest_of program.now place.now) }
-    requires reached { IsReached (K.allows knowledge.now) program.now place.now }
-    requires draft { IsDraft limit (K.allows knowledge.now) program.now draft.old }
-    ensures draft { OnOk result (IsDraft limit (K.allows knowledge.now) program.now draft.new) }
-    ensures continues { IfOk result (Continues (K.allows knowledge.now) program.now place.now draft.old draft.new) }
-    ensures reason { IfErr result (IsReason limit (K.allows knowledge.now) program.now) }
-{
-    let Some(module_number) = place.module() else {
-        return Ok(Target::End(program.decision(place).code()));
-    };
-    if let Some(index) = find(
-        program,
-        &draft.places,
-        &mut draft.last_nodes,
-        place,
-        module_number,
-    ) {
-        return Ok(Target::At(index as u32));
-    }
-    node_at(alloc, program, knowledge, limit, place, draft)
 }
 
-/// Adds the node for `place`, after all that it leads to.
-// It calls itself once for each module of a path, so its frame is small and what else it calls is not inlined.
-#[cycle(building)]
-#[inline(never)]
-fn node_at<K: Knowledge>(
-    alloc: Global,
-    program: &Program,
-    knowledge: &K,
-    limit: u32,
-    place: &Place,
-    draft: &mut Draft,
-) -> Result<Target, GraphError>
-    requires few { modules_of program.now ≤ MAX_MODULES }
-    requires place { IsPlaceOf program.now place.now }
-    requires rise { AsksRise 0 (modules_of program.now) (rest_of program.now place.now) }
-    requires reached { IsReached (K.allows knowledge.now) program.now place.now }
-    requires draft { IsDraft limit (K.allows knowledge.now) program.now draft.old }
-    requires asking { IsSome (asked_module (rest_of program.now place.now)) }
-    requires rests { AreEqualRests (rest_at program.now (node_key program.now place.now)) (rest_of program.now place.now) }
-    requires new { DiffersFrom (node_key program.now place.now) draft.old.places }
-    ensures draft { OnOk result (IsDraft limit (K.allows knowledge.now) program.now draft.new) }
-    ensures continues { IfOk result (Continues (K.allows knowledge.now) program.now place.now draft.old draft.new) }
-    ensures reason { IfErr result (IsReason limit (K.allows knowledge.now) program.now) }
-{
-    let Some(module_number) = place.module() else {
-        unreachable!()
-    };
-    let fork = fork_at(program, knowledge, &mut draft.caches, place, module_number);
-    let mut edges = Vec::with_capacity(alloc, fork.choices())?;
-    let mut bound = 0;
-    while let Some(choice) = fork.choice(program, bound) {
-        let target = target_of(alloc, program, knowledge, limit, &choice.place, draft)?;
-        edges.push(Edge {
-            class: choice.class,
-            target,
-        })?;
-        bound = choice.next;
+impl<K: Knowledge> Builder<'_, K> {
+    /// Where a run that has come to `place` continues: a node, added after all that it leads to if it is not there yet, or an
+    /// end.
+    // Inlined into the loop below, since most edges lead to a node that is there.
+    #[cycle(building)]
+    #[inline(always)]
+    fn target_of(&self, place: &Place, draft: &mut Draft) -> Result<Target, GraphError>
+        requires few { modules_of self.now.program.now ≤ MAX_MODULES }
+        requires place { IsPlaceOf self.now.program.now place.now }
+        requires rise { AsksRise 0 (modules_of self.now.program.now) (rest_of self.now.program.now place.now) }
+        requires reached { IsReached (K.allows self.now.knowledge.now) self.now.program.now place.now }
+        requires draft { IsDraft self.now.limit (K.allows self.now.knowledge.now) self.now.program.now draft.old }
+        ensures draft { OnOk result (IsDraft self.now.limit (K.allows self.now.knowledge.now) self.now.program.now draft.new) }
+        ensures continues { IfOk result (Continues (K.allows self.now.knowledge.now) self.now.program.now place.now draft.old draft.new) }
+        ensures reason { IfErr result (IsReason self.now.limit (K.allows self.now.knowledge.now) self.now.program.now) }
+    {
+        let Some(module_number) = place.module() else {
+            return Ok(Target::End(self.program.decision(place).code()));
+        };
+        if let Some(index) = find(
+            self.program,
+            &draft.places,
+            &mut draft.last_nodes,
+            place,
+            module_number,
+        ) {
+            // The limit says that a node's index fits.
+            let _limit = self.limit;
+            return Ok(Target::At(index as u32));
+        }
+        self.node_at(place, draft)
     }
-    let state = place.state();
-    let node = Node {
-        module_number,
-        state,
-        edges,
-    };
-    add(limit, program, draft, place, node)
+
+    /// Adds the node for `place`, after all that it leads to.
+    // It calls itself once for each module of a path, so its frame is small and what else it calls is not inlined.
+    #[cycle(building)]
+    #[inline(never)]
+    fn node_at(&self, place: &Place, draft: &mut Draft) -> Result<Target, GraphError>
+        requires few { modules_of self.now.program.now ≤ MAX_MODULES }
+        requires place { IsPlaceOf self.now.program.now place.now }
+        requires rise { AsksRise 0 (modules_of self.now.program.now) (rest_of self.now.program.now place.now) }
+        requires reached { IsReached (K.allows self.now.knowledge.now) self.now.program.now place.now }
+        requires draft { IsDraft self.now.limit (K.allows self.now.knowledge.now) self.now.program.now draft.old }
+        requires asking { IsSome (asked_module (rest_of self.now.program.now place.now)) }
+        requires rests { AreEqualRests (rest_at self.now.program.now (node_key self.now.program.now place.now)) (rest_of self.now.program.now place.now) }
+        requires new { DiffersFrom (node_key self.now.program.now place.now) draft.old.places }
+        ensures draft { OnOk result (IsDraft self.now.limit (K.allows self.now.knowledge.now) self.now.program.now draft.new) }
+        ensures continues { IfOk result (Continues (K.allows self.now.knowledge.now) self.now.program.now place.now draft.old draft.new) }
+        ensures reason { IfErr result (IsReason self.now.limit (K.allows self.now.knowledge.now) self.now.program.now) }
+    {
+        let Some(module_number) = place.module() else {
+            unreachable!()
+        };
+        let fork = fork_at(
+            self.program,
+            self.knowledge,
+            &mut draft.caches,
+            place,
+            module_number,
+        );
+        let mut edges = Vec::with_capacity(self.alloc, fork.choices())?;
+        let mut bound = 0;
+        while let Some(choice) = fork.choice(self.program, bound) {
+            let target = self.target_of(&choice.place, draft)?;
+            edges.push(Edge {
+                class: choice.class,
+                target,
+            })?;
+            bound = choice.next;
+        }
+        let state = place.state();
+        let node = Node {
+            module_number,
+            state,
+            edges,
+        };
+        add(self.limit, self.program, draft, place, node)
+    }
 }
 
 impl Graph {
@@ -190,31 +195,20 @@ impl Graph {
         ensures nodes { IfOk result (λ graph. AreNodesOf (K.allows knowledge.now) program.now graph.nodes) }
         ensures reason { IfErr result (IsReason MAX_NODES (K.allows knowledge.now) program.now) }
     {
-        Graph::of_at_most(alloc, program, knowledge, MAX_NODES)
-    }
-
-    /// The graph, if it has at most `limit` nodes.
-    pub(crate) fn of_at_most<K: Knowledge>(
-        alloc: Global,
-        program: &Program,
-        knowledge: &K,
-        limit: u32,
-    ) -> Result<Graph, GraphError>
-        ensures listing { IfOk result (λ graph.
-            IsListing (K.allows knowledge.now) (modules_of program.now) (path_of (runs_of program.now)) (walks graph)) }
-        ensures stack { (items : Items) → runs_of program.now ≡ runs_of_stack items → IfOk result (λ graph.
-            IsListing (K.allows knowledge.now) (modules_of program.now) (path_through items) (walks graph)) }
-        ensures nodes { IfOk result (λ graph. AreNodesOf (K.allows knowledge.now) program.now graph.nodes) }
-        ensures reason { IfErr result (IsReason limit (K.allows knowledge.now) program.now) }
-    {
         let mut draft = Draft {
             nodes: Vec::new(alloc),
             places: PlaceTable::new(alloc),
             caches: new_caches(alloc)?,
             last_nodes: LastNodes::new(alloc, program.modules())?,
         };
+        let builder = Builder {
+            alloc,
+            program,
+            knowledge,
+            limit: MAX_NODES,
+        };
         let first = program.first();
-        let start = target_of(alloc, program, knowledge, limit, &first, &mut draft)?;
+        let start = builder.target_of(&first, &mut draft)?;
         // A table says with its length that its places differ.
         let _count = draft.places.len();
         Ok(Graph {

@@ -8,28 +8,28 @@ use Rattle.pam_graph.specs.Reached.{node_key}
 use Rattle.pam_graph.specs.Walks.{walks_by, walks_of}
 use Rattle.pam_paths.specs.Computed.{listing}
 use Rattle.pam_paths.specs.Forks.{paths_from}
-use Rattle.pam_graph.proofs.building.+building.Given as goal
+use Rattle.pam_graph.proofs.building.Builder.+building.Given as goal
 
 abbrev pub decreases-target_of : goal.decreases-target_of
-decreases-target_of g l = 2 * modules_left (modules_of l.program.now) (rest_of l.program.now l.place.now) + 1
+decreases-target_of g l = 2 * modules_left (modules_of l.self.now.program.now) (rest_of l.self.now.program.now l.place.now) + 1
 
 abbrev pub decreases-node_at : goal.decreases-node_at
-decreases-node_at g l = 2 * modules_left (modules_of l.program.now) (rest_of l.program.now l.place.now)
+decreases-node_at g l = 2 * modules_left (modules_of l.self.now.program.now) (rest_of l.self.now.program.now l.place.now)
 
 abbrev pub invariant-node_at-loop-choice : goal.invariant-node_at-loop-choice
 invariant-node_at-loop-choice g l =
-    let allows = g.K.Knowledge.allows l.knowledge in
+    let allows = g.K.Knowledge.allows l.self.knowledge.now in
     record {
       bound : l.bound ≤ 31;
-      draft : IsDraft l.limit allows l.program l.draft;
+      draft : IsDraft l.self.limit allows l.self.program.now l.draft;
       extended : IsExtended l.fn.draft.nodes.items l.draft.nodes.items;
       later : AreAbove (numbers_of l.draft.nodes.items) l.module_number l.edges.items;
       rise : LeastRise 0 l.bound l.edges.items;
-      new : DiffersFrom (node_key l.program l.place) l.draft.places;
-      apart : (key : KeyValue) → DiffersFrom key l.fn.draft.places → IsBefore (rest_at l.program key) (rest_of l.program l.place)
+      new : DiffersFrom (node_key l.self.program.now l.place) l.draft.places;
+      apart : (key : KeyValue) → DiffersFrom key l.fn.draft.places → IsBefore (rest_at l.self.program.now key) (rest_of l.self.program.now l.place)
           → DiffersFrom key l.draft.places;
-      walks : flat_map (walks_by (walks_of l.draft.nodes.items) l.module_number) l.edges.items ++ paths_from allows l.program l.fork l.bound
-          ≡ listing allows (rest_of l.program l.place);
+      walks : flat_map (walks_by (walks_of l.draft.nodes.items) l.module_number) l.edges.items ++ paths_from allows l.self.program.now l.fork l.bound
+          ≡ listing allows (rest_of l.self.program.now l.place);
     }
 
 abbrev pub decreases-node_at-loop-choice : goal.decreases-node_at-loop-choice

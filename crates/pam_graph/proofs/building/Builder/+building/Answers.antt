@@ -22,11 +22,11 @@ use Rattle.pam_graph.proofs.Reaching.{get-at, key-apart, key-reached, reached-on
 use Rattle.pam_graph.proofs.Rests.{asked-equal, before-equal, listing-equal, rise-equal, state-equal}
 use Rattle.pam_paths.specs.Forks.{paths_from}
 use Rattle.pam_paths.proofs.FrameLists.{AsksRise-lower, rise_after}
-use Rattle.pam_graph.proofs.building.+building.Goals as goal
+use Rattle.pam_graph.proofs.building.Builder.+building.Goals as goal
 
 pub target_of-returns-in_default-clause-continues : goal.target_of-returns-in_default-clause-continues
 target_of-returns-in_default-clause-continues g t c =
-    let program = c.args.program.now in
+    let program = c.args.self.now.program.now in
     record {
       extended = ([], sym (append-nil _));
       apart = λ key h before. h;
@@ -42,7 +42,7 @@ target_of-returns-in-Some-find-clause-draft g t c =
 
 pub target_of-returns-in-Some-find-clause-continues : goal.target_of-returns-in-Some-find-clause-continues
 target_of-returns-in-Some-find-clause-continues g t c =
-    let program = c.args.program.now in
+    let program = c.args.self.now.program.now in
     let nodes = c.args.draft.now.nodes.items in
     let places = c.args.draft.now.places in
     let asked = sym (c.module.ensures program c.requires.place) ∙ c.in-Some.is in
@@ -64,10 +64,10 @@ target_of-node_at-requires g t c κs within =
     let d = c.requires.draft in
     let now = c.args.draft.now in
     let found : Draft = record { nodes = now.nodes; places = now.places; caches = now.caches; last_nodes = c.find.new.last_nodes } in
-    let draft : IsDraft c.args.limit (g.K.Knowledge.allows c.args.knowledge.now) c.args.program.now found =
+    let draft : IsDraft c.args.self.now.limit (g.K.Knowledge.allows c.args.self.now.knowledge.now) c.args.self.now.program.now found =
     record { built = d.built; cached = d.cached; keys = d.keys; fits = d.fits } in
-    let asking : IsSome (asked_module (rest_of c.args.program.now c.args.place.now)) =
-    subst IsSome (sym (sym (c.module.ensures c.args.program.now c.requires.place) ∙ c.in-Some.is)) refl in
+    let asking : IsSome (asked_module (rest_of c.args.self.now.program.now c.args.place.now)) =
+    subst IsSome (sym (sym (c.module.ensures c.args.self.now.program.now c.requires.place) ∙ c.in-Some.is)) refl in
     let rests = c.in_default-find.ensures.rests in
     let new = c.in_default-find.ensures.none in
     let k = c.decreases in
@@ -76,7 +76,7 @@ target_of-node_at-requires g t c κs within =
 pub node_at-loop-choice-init : goal.node_at-loop-choice-init
 unfolding AreAbove LeastRise
 node_at-loop-choice-init g t c =
-    let allows = g.K.Knowledge.allows c.args.knowledge.now in
+    let allows = g.K.Knowledge.allows c.args.self.now.knowledge.now in
     let nodes = c.args.draft.now.nodes.items in
     let d = c.requires.draft in
     record {
@@ -88,13 +88,13 @@ node_at-loop-choice-init g t c =
       new = c.requires.new;
       apart = λ key h before. h;
       walks = ap (λ (x : List Edge). flat_map (walks_by (walks_of nodes) c.in-Some.module_number) x
-          ++ paths_from allows c.args.program.now c.fork_at-fork.result 0) c.in_ok-edges.ensures.items ∙ c.fork_at-fork.ensures.paths;
+          ++ paths_from allows c.args.self.now.program.now c.fork_at-fork.result 0) c.in_ok-edges.ensures.items ∙ c.fork_at-fork.ensures.paths;
     }
 
 pub node_at-target_of-requires : goal.node_at-target_of-requires
 node_at-target_of-requires g t c κs within =
-    let allows = g.K.Knowledge.allows c.args.knowledge.now in
-    let program = c.args.program.now in
+    let allows = g.K.Knowledge.allows c.args.self.now.knowledge.now in
+    let program = c.args.self.now.program.now in
     let n = modules_of program in
     let m = c.in-Some.module_number in
     let after = rest_of program c.in-Some-choice.choice.place in
@@ -116,8 +116,8 @@ node_at-target_of-requires g t c κs within =
 
 pub node_at-loop-choice-preserved : goal.node_at-loop-choice-preserved
 node_at-loop-choice-preserved g t c =
-    let allows = g.K.Knowledge.allows c.args.knowledge.now in
-    let program = c.args.program.now in
+    let allows = g.K.Knowledge.allows c.args.self.now.knowledge.now in
+    let program = c.args.self.now.program.now in
     let n = modules_of program in
     let m = c.in-Some.module_number in
     let old = c.loop-choice.draft.nodes.items in
@@ -151,12 +151,12 @@ node_at-loop-choice-preserved g t c =
 
 pub node_at-add-requires-clause-same : goal.node_at-add-requires-clause-same
 node_at-add-requires-clause-same g t c =
-    built-length _ c.args.program.now c.loop-choice.draft.nodes.items c.loop-choice.draft.places c.loop-choice.invariant.draft.built
+    built-length _ c.args.self.now.program.now c.loop-choice.draft.nodes.items c.loop-choice.draft.places c.loop-choice.invariant.draft.built
 
 pub node_at-returns-clause-draft : goal.node_at-returns-clause-draft
 node_at-returns-clause-draft g t c =
-    let allows = g.K.Knowledge.allows c.args.knowledge.now in
-    let program = c.args.program.now in
+    let allows = g.K.Knowledge.allows c.args.self.now.knowledge.now in
+    let program = c.args.self.now.program.now in
     let nodes = c.loop-choice.draft.nodes.items in
     let places = c.loop-choice.draft.places in
     let node : Node = record { module_number = c.in-Some.module_number; state = c.state-state.result; edges = c.loop-choice.edges } in
@@ -173,20 +173,20 @@ node_at-returns-clause-draft g t c =
     let same = c.requires.rests in
     let key = node_key program c.args.place.now in
     let reached = key-reached allows program c.args.place.now c.requires.place c.requires.asking c.requires.reached in
-    added-draft c.args.limit allows program c.add.new.draft c.add.result
+    added-draft c.args.self.now.limit allows program c.add.new.draft c.add.result
     (added-built allows program nodes c.add.new.draft.nodes.items places c.add.new.draft.places node (rest_at program key) c.add.result i.draft.built valid
     (node-for (modules_of program) c.in-Some.module_number (rest_at program key) node (asked-equal _ _ same ∙ asked)
     (rise-equal 0 (modules_of program) _ _ same c.requires.rise) refl (c.state-state.ensures program c.requires.place ∙ sym (state-equal _ _ same)))
     (walks-all allows program c.fork_at-fork.result c.loop-choice.bound node nodes _ none i.walks ∙ sym (listing-equal allows _ _ same)) c.add.ensures.node
     (added-rests program places c.add.new.draft.places key c.add.result c.add.ensures.place))
     (subst (AreCachesFor allows program) (sym c.add.ensures.caches) i.draft.cached)
-    (added-keys c.args.limit allows program places c.add.new.draft.places key c.add.result i.draft.keys reached c.add.ensures.place)
+    (added-keys c.args.self.now.limit allows program places c.add.new.draft.places key c.add.result i.draft.keys reached c.add.ensures.place)
     c.add.ensures.fits
 
 pub node_at-returns-clause-continues : goal.node_at-returns-clause-continues
 node_at-returns-clause-continues g t c =
-    let allows = g.K.Knowledge.allows c.args.knowledge.now in
-    let program = c.args.program.now in
+    let allows = g.K.Knowledge.allows c.args.self.now.knowledge.now in
+    let program = c.args.self.now.program.now in
     let nodes = c.loop-choice.draft.nodes.items in
     let places = c.loop-choice.draft.places in
     let new = c.add.new.draft in
@@ -197,7 +197,7 @@ node_at-returns-clause-continues g t c =
     let asked = sym (c.in-Some.ensures program c.requires.place) in
     added-continued allows program c.args.place.now c.args.draft.now new c.add.result
     (added-extended nodes new.nodes.items c.args.draft.now.nodes.items _ c.add.result i.extended c.add.ensures.node)
-    (λ other h before. added-apart c.args.limit allows program places new.places other key c.add.result (i.apart other h before)
+    (λ other h before. added-apart c.args.self.now.limit allows program places new.places other key c.add.result (i.apart other h before)
     (key-apart program other key (before-equal _ _ _ c.requires.rests before)) c.add.ensures.place)
     (λ low rise. let k = rise_after low (modules_of program) c.in-Some.module_number 0 _ rise asked in
     added-above nodes new.nodes.items node low c.add.result k.0 c.add.ensures.node c.add.ensures.target)
@@ -206,8 +206,8 @@ node_at-returns-clause-continues g t c =
 
 pub node_at-returns-clause-reason : goal.node_at-returns-clause-reason
 node_at-returns-clause-reason g t c =
-    let allows = g.K.Knowledge.allows c.args.knowledge.now in
-    let program = c.args.program.now in
-    added-reason c.args.limit allows program c.loop-choice.draft.places (node_key program c.args.place.now) c.add.result
+    let allows = g.K.Knowledge.allows c.args.self.now.knowledge.now in
+    let program = c.args.self.now.program.now in
+    added-reason c.args.self.now.limit allows program c.loop-choice.draft.places (node_key program c.args.place.now) c.add.result
     c.loop-choice.invariant.draft.keys (key-reached allows program c.args.place.now c.requires.place c.requires.asking c.requires.reached)
     c.add.ensures.many

@@ -9,7 +9,7 @@ use Rattle.pam_paths.specs.Listing.{IsListing}
 use Rattle.pam_paths.specs.Paths.{path_of}
 use Rattle.pam_paths.proofs.Listings.{listing-is, some_assignment}
 use Rattle.pam_paths.proofs.Trees.{listing-tree}
-use Rattle.pam_graph.proofs.graph.Graph.of_at_most.Goals as goal
+use Rattle.pam_graph.proofs.graph.Graph.of.Goals as goal
 
 pub target_of-requires-clause-draft : goal.target_of-requires-clause-draft
 unfolding AreReachedKeys
