@@ -11,8 +11,8 @@ use Rattle.pam_graph.specs.declared.node.Node.{Node}
 use Rattle.pam_graph.specs.Frames.{ahead, along, coming, step_in, under}
 use Rattle.pam_graph.specs.inner.Frames.{AreFirstSteps, AreFrames, walk_to}
 use Rattle.pam_graph.specs.Order.{AreNodes, numbers_of}
-use Rattle.pam_graph.proofs.FrameLists.{under-nil}
 use Rattle.pam_paths.specs.Paths.{PathValue, StepValue}
+use Rattle.pam_paths.proofs.FrameLists.{after_steps-nil}
 
 -- no frames
 pub no-steps : (frames : List Frame) (steps : List StepValue) → frames ≡ [] → AreFirstSteps frames steps
@@ -40,7 +40,7 @@ module _ (d : Direction) (goal : Goal) (nodes : List Node) where
       coming d goal nodes pending fs ≡ ahead d goal nodes fs
   unfolding coming
   coming-ahead None fs none = refl
-  coming-ahead (Some way) fs none = ap (λ (x : List PathValue). x ++ ahead d goal nodes fs) (ap (under fs) none ∙ under-nil fs)
+  coming-ahead (Some way) fs none = ap (λ (x : List PathValue). x ++ ahead d goal nodes fs) (ap (under fs) none ∙ after_steps-nil (map step_in fs))
 
 -- WHAT IS FOUND
 

@@ -18,30 +18,13 @@ use Rattle.pam_graph.specs.Tallies.{wanted, wanted_of}
 use Rattle.pam_graph.specs.Walks.{walks_to}
 use Rattle.pam_graph.proofs.Counting.{ended}
 use Rattle.pam_graph.proofs.Sides.{node-valid, number-at}
-use Rattle.pam_paths.specs.Computed.{after_step}
+use Rattle.pam_paths.specs.Computed.{after_step, after_steps}
 use Rattle.pam_paths.specs.Paths.{PathValue}
-
--- WALKS UNDER FRAMES
-
-pub under-append : (fs : List Frame) (xs ys : List PathValue) → under fs (xs ++ ys) ≡ under fs xs ++ under fs ys
-unfolding under
-under-append [] xs ys = refl
-under-append (f ∷ fs) xs ys =
-    ap (map (after_step (step_in f))) (under-append fs xs ys) ∙ map-append (after_step (step_in f)) (under fs xs) (under fs ys)
-
-under-push : (fs : List Frame) (f : Frame) (ps : List PathValue) → under (fs ++ f ∷ []) ps ≡ under fs (map (after_step (step_in f)) ps)
-unfolding under
-under-push [] f ps = refl
-under-push (g ∷ fs) f ps = ap (map (after_step (step_in g))) (under-push fs f ps)
-
-pub under-nil : (fs : List Frame) → under fs [] ≡ []
-unfolding under
-under-nil [] = refl
-under-nil (f ∷ fs) = ap (map (after_step (step_in f))) (under-nil fs)
+use Rattle.pam_paths.proofs.FrameLists.{after_steps-append, after_steps-nil, after_steps-push}
 
 -- a walk that ends
 under-end : (fs : List Frame) (decision : ℕ) → under fs (ended decision ∷ []) ≡ walk_to fs decision ∷ []
-unfolding under
+unfolding after_steps
 under-end [] decision = refl
 under-end (f ∷ fs) decision = ap (map (after_step (step_in f))) (under-end fs decision)
 
@@ -79,7 +62,7 @@ edges-are nodes i node l is = get_or-map edges_of nodes i node [] l ∙ ap edges
 
 module _ (d : Direction) (goal : Goal) (nodes : List Node) where
   ahead-push : (fs : List Frame) (f : Frame) → ahead d goal nodes (fs ++ f ∷ []) ≡ under fs (left_at d goal nodes f) ++ ahead d goal nodes fs
-  unfolding ahead under
+  unfolding ahead after_steps
   ahead-push [] f = sym (append-nil _)
   ahead-push (g ∷ fs) f =
       ap (λ (x : List PathValue). map (after_step (step_in g)) x ++ left_at d goal nodes g) (ahead-push fs f)
@@ -93,7 +76,7 @@ module _ (d : Direction) (goal : Goal) (nodes : List Node) where
   ahead-none all fs f is e =
       ap (ahead d goal nodes) is ∙ ahead-push fs f
       ∙ ap (λ (x : List PathValue). under fs x ++ ahead d goal nodes fs) e
-      ∙ ap (λ (x : List PathValue). x ++ ahead d goal nodes fs) (under-nil fs)
+      ∙ ap (λ (x : List PathValue). x ++ ahead d goal nodes fs) (after_steps-nil (map step_in fs))
 
   -- the walks below an edge of a frame, and those ahead of it
   pub ahead-enter : (fs : List Frame) (g : Frame) (below walks : List PathValue) → walks ≡ map (after_step (step_in g)) below ++ left_at d goal nodes g →
@@ -101,9 +84,9 @@ module _ (d : Direction) (goal : Goal) (nodes : List Node) where
   ahead-enter fs g below walks is =
       let here = map (after_step (step_in g)) below in
       ap (λ (x : List PathValue). under fs x ++ ahead d goal nodes fs) is
-      ∙ ap (λ (x : List PathValue). x ++ ahead d goal nodes fs) (under-append fs here (left_at d goal nodes g))
+      ∙ ap (λ (x : List PathValue). x ++ ahead d goal nodes fs) (after_steps-append (map step_in fs) here (left_at d goal nodes g))
       ∙ append_assoc (under fs here) (under fs (left_at d goal nodes g)) (ahead d goal nodes fs)
-      ∙ ap (λ (x : List PathValue). x ++ (under fs (left_at d goal nodes g) ++ ahead d goal nodes fs)) (sym (under-push fs g below))
+      ∙ ap (λ (x : List PathValue). x ++ (under fs (left_at d goal nodes g) ++ ahead d goal nodes fs)) (sym (after_steps-push step_in fs g below))
       ∙ ap (λ (x : List PathValue). under (fs ++ g ∷ []) below ++ x) (sym (ahead-push fs g))
 
   pub ahead-next : (all fs : List Frame) (f g : Frame) (below : List PathValue) → all ≡ fs ++ f ∷ [] →

@@ -18,7 +18,7 @@ use Rattle.pam_graph.specs.declared.node.Node.{Node}
 use Rattle.pam_graph.specs.declared.node.Target.{Target}
 use Rattle.pam_graph.specs.declared.node.Target.TheVariants.{At, End}
 use Rattle.pam_graph.specs.declared.retrace.Turn.{Turn}
-use Rattle.pam_graph.specs.Frames.{ahead, along, coming, edges_in, known_in, under, wanted_by}
+use Rattle.pam_graph.specs.Frames.{ahead, along, coming, edges_in, known_in, step_in, under, wanted_by}
 use Rattle.pam_graph.specs.Goals.{meeting, meets}
 use Rattle.pam_graph.specs.Order.{AreNodes, IsAbove, LeastRise, number_of, numbers_of}
 use Rattle.pam_graph.specs.inner.Parts.{IsTurn, is_beyond, is_past, is_past_end, part, part_by}
@@ -27,12 +27,13 @@ use Rattle.pam_graph.specs.inner.Tallies.{met_by}
 use Rattle.pam_graph.specs.Walks.{walks_by, walks_to}
 use Rattle.pam_graph.specs.WalksLeft.{WalksLeft}
 use Rattle.pam_graph.proofs.Counting.{ended, filter-map, wanted-stepped}
-use Rattle.pam_graph.proofs.FrameLists.{ahead-enter, edges-are, under-nil}
+use Rattle.pam_graph.proofs.FrameLists.{ahead-enter, edges-are}
 use Rattle.pam_graph.proofs.Sides.{drop-in, filter-reverse, wanted-first, walks-in}
 use Rattle.pam_paths.specs.Classes.{least}
 use Rattle.pam_paths.specs.Computed.{after_step}
 use Rattle.pam_paths.specs.Pages.{after, before}
 use Rattle.pam_paths.specs.Paths.{PathValue, StepValue, key_of, precedes}
+use Rattle.pam_paths.proofs.FrameLists.{after_steps-nil}
 
 -- FILTERED LISTS
 
@@ -344,7 +345,7 @@ pub taken : (d : Direction) (goal : Goal) (nodes : List Node) (fs : List Frame) 
     under fs (cond t (along d goal nodes way) []) ++ ahead d goal nodes fs ≡ coming d goal nodes (cond t (Some way) None) fs
 unfolding coming
 taken d goal nodes fs way true = refl
-taken d goal nodes fs way false = ap (λ (x : List PathValue). x ++ ahead d goal nodes fs) (under-nil fs)
+taken d goal nodes fs way false = ap (λ (x : List PathValue). x ++ ahead d goal nodes fs) (after_steps-nil (map step_in fs))
 
 -- THE FRAME AT WHICH A KEY TURNS OFF
 

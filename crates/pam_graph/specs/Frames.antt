@@ -11,7 +11,7 @@ use Rattle.pam_graph.specs.declared.node.Edge.{Edge}
 use Rattle.pam_graph.specs.declared.node.Node.{Node}
 use Rattle.pam_graph.specs.Tallies.{wanted_of}
 use Rattle.pam_graph.specs.Walks.{walks_by, walks_of, walks_to}
-use Rattle.pam_paths.specs.Computed.{after_step}
+use Rattle.pam_paths.specs.Computed.{after_step, after_steps}
 use Rattle.pam_paths.specs.Paths.{PathValue, StepValue}
 
 -- in the order of a direction: some edges, and some walks
@@ -53,9 +53,8 @@ left_at direction goal nodes frame =
     (drop frame.next (edges_in direction (edges_at nodes frame.node)))
 
 -- the walks, each with the steps of the frames before it
-unfoldable pub under : List Frame → List PathValue → List PathValue
-under [] walks = walks
-under (frame ∷ frames) walks = map (after_step (step_in frame)) (under frames walks)
+abbrev pub under : List Frame → List PathValue → List PathValue
+under frames walks = after_steps (map step_in frames) walks
 
 -- the wanted walks after all that begin with the steps of the frames
 unfoldable pub ahead : Direction → Goal → List Node → List Frame → List PathValue

@@ -13,7 +13,7 @@ use Rattle.pam_paths.specs.declared.direction.Direction.{Direction}
 use Rattle.pam_paths.specs.declared.direction.Direction.TheVariants.{Forward, Backward}
 use Rattle.pam_paths.specs.declared.frames.Frame.{Frame}
 use Rattle.pam_paths.specs.Classes.{Member}
-use Rattle.pam_paths.specs.Computed.{after_step, listing}
+use Rattle.pam_paths.specs.Computed.{after_step, after_steps, listing}
 use Rattle.pam_paths.specs.Directions.{ordered, past}
 use Rattle.pam_paths.specs.inner.Directions.{outset}
 use Rattle.pam_paths.specs.Frames.{AreClasses, ahead, ahead_of, coming, offered_at, step_in}
@@ -25,23 +25,25 @@ use Rattle.pam_paths.proofs.Listings.{some_assignment, listing-has}
 abbrev path : List StepValue → ℕ → PathValue
 path s d = record { steps = s; decision = d }
 
--- PATHS UNDER FRAMES
+-- PATHS AFTER STEPS
 
-pub under-append : (fs : List Frame) (xs ys : List PathValue) → under fs (xs ++ ys) ≡ under fs xs ++ under fs ys
-unfolding under
-under-append [] xs ys = refl
-under-append (f ∷ fs) xs ys =
-    ap (map (after_step (step_in f))) (under-append fs xs ys) ∙ map-append (after_step (step_in f)) (under fs xs) (under fs ys)
+pub after_steps-append : (steps : List StepValue) (xs ys : List PathValue) → after_steps steps (xs ++ ys) ≡ after_steps steps xs ++ after_steps steps ys
+unfolding after_steps
+after_steps-append [] xs ys = refl
+after_steps-append (step ∷ steps) xs ys =
+    ap (map (after_step step)) (after_steps-append steps xs ys) ∙ map-append (after_step step) (after_steps steps xs) (after_steps steps ys)
 
-pub under-push : (fs : List Frame) (f : Frame) (ps : List PathValue) → under (fs ++ f ∷ []) ps ≡ under fs (map (after_step (step_in f)) ps)
-unfolding under
-under-push [] f ps = refl
-under-push (g ∷ fs) f ps = ap (map (after_step (step_in g))) (under-push fs f ps)
+pub after_steps-nil : (steps : List StepValue) → after_steps steps [] ≡ []
+unfolding after_steps
+after_steps-nil [] = refl
+after_steps-nil (step ∷ steps) = ap (map (after_step step)) (after_steps-nil steps)
 
-pub under-nil : (fs : List Frame) → under fs [] ≡ []
-unfolding under
-under-nil [] = refl
-under-nil (f ∷ fs) = ap (map (after_step (step_in f))) (under-nil fs)
+-- one more frame, whatever its step is made of
+pub after_steps-push : {F : Type 0} (step : F → StepValue) (fs : List F) (f : F) (ps : List PathValue) →
+    after_steps (map step (fs ++ f ∷ [])) ps ≡ after_steps (map step fs) (map (after_step (step f)) ps)
+unfolding after_steps
+after_steps-push step [] f ps = refl
+after_steps-push step (g ∷ fs) f ps = ap (map (after_step (step g))) (after_steps-push step fs f ps)
 
 -- THE FRAMES OF A PROGRAM
 
@@ -147,7 +149,7 @@ module _ (d : Direction) (allows : Allowance) (program : List FlatItem) where
   from f = ahead_of d allows (rest_of program f.place) (past d f.code)
 
   pub ahead-push : (fs : List Frame) (f : Frame) → ahead d allows program (fs ++ f ∷ []) ≡ under fs (from f) ++ ahead d allows program fs
-  unfolding ahead under
+  unfolding ahead after_steps
   ahead-push [] f = sym (append-nil _)
   ahead-push (g ∷ fs) f =
       let step = map (after_step (step_in g)) in
@@ -160,7 +162,7 @@ module _ (d : Direction) (allows : Allowance) (program : List FlatItem) where
   ahead-none fs f e =
       ahead-push fs f
       ∙ ap (λ (x : List PathValue). under fs x ++ ahead d allows program fs) e
-      ∙ ap (λ (x : List PathValue). x ++ ahead d allows program fs) (under-nil fs)
+      ∙ ap (λ (x : List PathValue). x ++ ahead d allows program fs) (after_steps-nil (map step_in fs))
 
   -- the paths below a frame's branch, and those ahead of it
   pub ahead-enter : (fs : List Frame) (g : Frame) (below paths : List PathValue) → paths ≡ map (after_step (step_in g)) below ++ from g →
@@ -168,9 +170,9 @@ module _ (d : Direction) (allows : Allowance) (program : List FlatItem) where
   ahead-enter fs g below paths is =
       let here = map (after_step (step_in g)) below in
       ap (λ (x : List PathValue). under fs x ++ ahead d allows program fs) is
-      ∙ ap (λ (x : List PathValue). x ++ ahead d allows program fs) (under-append fs here (from g))
+      ∙ ap (λ (x : List PathValue). x ++ ahead d allows program fs) (after_steps-append (map step_in fs) here (from g))
       ∙ append_assoc (under fs here) (under fs (from g)) (ahead d allows program fs)
-      ∙ ap (λ (x : List PathValue). x ++ (under fs (from g) ++ ahead d allows program fs)) (sym (under-push fs g below))
+      ∙ ap (λ (x : List PathValue). x ++ (under fs (from g) ++ ahead d allows program fs)) (sym (after_steps-push step_in fs g below))
       ∙ ap (λ (x : List PathValue). under (fs ++ g ∷ []) below ++ x) (sym (ahead-push fs g))
 
   pub ahead-next : (fs : List Frame) (f g : Frame) (below : List PathValue) → from f ≡ map (after_step (step_in g)) below ++ from g →
@@ -193,7 +195,7 @@ module _ (d : Direction) (allows : Allowance) (program : List FlatItem) where
   pub coming-all : (at_start : Bool) (fs : List Frame) (place : Place) → at_start ≡ true → IsExploring allows program at_start fs →
       rest_of program place ≡ runs_of program →
       coming d allows program at_start fs ≡ under fs (ordered d (listing allows (rest_of program place))) ++ ahead d allows program fs
-  unfolding coming under ahead
+  unfolding coming after_steps ahead
   coming-all false fs place e is whole = absurd (false≢true e)
   coming-all true fs place e is whole =
       let none : fs ≡ [] = is.start refl in

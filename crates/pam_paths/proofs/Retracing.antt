@@ -1,6 +1,6 @@
 -- The frames of a cursor, and the codes that are left.
-use Rattle.std.proofs.Common.{◌≡◌, ◌≢◌, ℕ, drop-cons, ◌+◌, ◌<◌, ◌≤◌, ◌&&◌, Bool, true, false, List, [], ◌∷◌, ◌++◌, map, cond, suc, refl, sym, ◌∙◌, ap, subst}
-use Rattle.std.proofs.Common.{arith, length, drop, get_or, append_assoc, append-nil, Some, None}
+use Rattle.std.proofs.Common.{◌≡◌, ◌≢◌, ℕ, drop-cons, ◌+◌, ◌<◌, ◌≤◌, ◌&&◌, Bool, true, false, List, [], ◌∷◌, ◌++◌, map, cond, suc, refl, sym, ◌∙◌, ap}
+use Rattle.std.proofs.Common.{subst, arith, length, drop, get_or, append_assoc, append-nil, Some, None}
 use Rattle.std.proofs.lemmas.Bool.{false≢true}
 use Rattle.std.proofs.lemmas.List.{length-append}
 use Rattle.pam_dispatch.specs.declared.flat_item.FlatItem.{FlatItem}
@@ -9,7 +9,7 @@ use Rattle.pam_dispatch.specs.Runs.{Runs, after_answer, asked_module, asks, ends
 use Rattle.pam_paths.specs.declared.direction.Direction.{Direction}
 use Rattle.pam_paths.specs.declared.frames.Frame.{Frame}
 use Rattle.pam_paths.specs.Classes.{class_of, least}
-use Rattle.pam_paths.specs.Computed.{after_step, is_offered, listing}
+use Rattle.pam_paths.specs.Computed.{after_step, after_steps, is_offered, listing}
 use Rattle.pam_paths.specs.Cursor.{accepted, too_long, too_short, not_least}
 use Rattle.pam_paths.specs.Directions.{past}
 use Rattle.pam_paths.specs.Frames.{ahead, ahead_of, branches_in, step_in}
@@ -17,7 +17,7 @@ use Rattle.pam_paths.specs.inner.Frames.{AreFrames, IsFrame, part, under}
 use Rattle.pam_paths.specs.Listing.{Allowance}
 use Rattle.pam_paths.specs.Paths.{PathValue, StepValue, step_of}
 use Rattle.pam_paths.specs.inner.Retrace.{further, verdict_of}
-use Rattle.pam_paths.proofs.FrameLists.{ahead-push, pushed, under-append, under-nil, under-push}
+use Rattle.pam_paths.proofs.FrameLists.{after_steps-append, after_steps-nil, after_steps-push, ahead-push, pushed}
 use Rattle.pam_paths.proofs.Verdicts.{verdict-head, verdict-other}
 
 -- at a module, by the first code that is left
@@ -62,7 +62,7 @@ part-asked d allows (asks ask next) q m c k e at =
 
 under-cond : (fs : List Frame) (b : Bool) (xs : List PathValue) → under fs (cond b xs []) ≡ cond b (under fs xs) []
 under-cond fs true xs = refl
-under-cond fs false xs = under-nil fs
+under-cond fs false xs = after_steps-nil (map step_in fs)
 
 module _ (d : Direction) (allows : Allowance) (program : List FlatItem) (fs : List Frame) (f : Frame) (r q : Runs) (m c : ℕ) (k : List ℕ)
     (asking : asked_module r ≡ Some m) (here : r ≡ rest_of program f.place) (code : f.code ≡ c)
@@ -76,12 +76,13 @@ module _ (d : Direction) (allows : Allowance) (program : List FlatItem) (fs : Li
       let inner = part d allows q k in
       is
       ∙ ap (λ (x : List PathValue). under fs x ++ ahead d allows program fs) (part-asked d allows r q m c k asking at)
-      ∙ ap (λ (x : List PathValue). x ++ ahead d allows program fs) (under-append fs (cond b (map (after_step (step_of (next_ask r) c)) inner) []) rest)
+      ∙ ap (λ (x : List PathValue). x ++ ahead d allows program fs)
+      (after_steps-append (map step_in fs) (cond b (map (after_step (step_of (next_ask r) c)) inner) []) rest)
       ∙ append_assoc (under fs (cond b (map (after_step (step_of (next_ask r) c)) inner) [])) (under fs rest) (ahead d allows program fs)
       ∙ ap (λ (x : List PathValue). x ++ (under fs rest ++ ahead d allows program fs))
       (under-cond fs b (map (after_step (step_of (next_ask r) c)) inner)
       ∙ ap (λ (x : StepValue). cond b (under fs (map (after_step x) inner)) []) (sym step)
-      ∙ ap (λ (x : List PathValue). cond b x []) (sym (under-push fs f inner)))
+      ∙ ap (λ (x : List PathValue). cond b x []) (sym (after_steps-push step_in fs f inner)))
       ∙ ap (λ (x : List PathValue). cond b (under (fs ++ f ∷ []) inner) [] ++ x)
       (ap (λ (x : ℕ). under fs (ahead_of d allows r (past d x)) ++ ahead d allows program fs) (sym code)
       ∙ ap (λ (x : Runs). under fs (ahead_of d allows x (past d f.code)) ++ ahead d allows program fs) here
@@ -124,12 +125,12 @@ first_frames allows program fs e = subst (AreFrames allows program 0) (sym e) tt
 
 pub first_part : (d : Direction) (allows : Allowance) (program : List FlatItem) (fs : List Frame) (paths : List PathValue) → fs ≡ [] →
     paths ≡ under fs paths ++ ahead d allows program fs
-unfolding under ahead
+unfolding after_steps ahead
 first_part d allows program fs paths e = sym (append-nil paths) ∙ ap (λ (x : List Frame). under x paths ++ ahead d allows program x) (sym e)
 
 -- at an end nothing is left below the frames
 nothing : (fs : List Frame) (offered : Bool) (paths : List PathValue) → paths ≡ [] → cond offered (under fs paths) [] ≡ []
-nothing fs true paths e = ap (under fs) e ∙ under-nil fs
+nothing fs true paths e = ap (under fs) e ∙ after_steps-nil (map step_in fs)
 nothing fs false paths e = refl
 
 pub nothing_left : (d : Direction) (allows : Allowance) (program : List FlatItem) (fs : List Frame) (r : Runs) (offered : Bool) (k : List ℕ) →

@@ -21,7 +21,7 @@ use Rattle.pam_paths.specs.declared.direction.Direction.TheVariants.{Forward, Ba
 use Rattle.pam_paths.specs.declared.frames.Frame.{Frame}
 use Rattle.pam_paths.specs.declared.path.PathStep.{PathStep}
 use Rattle.pam_paths.specs.Classes.{class_at, class_of, least, same_outcome}
-use Rattle.pam_paths.specs.Computed.{after_step, branches, is_offered, listing}
+use Rattle.pam_paths.specs.Computed.{after_step, after_steps, branches, is_offered, listing}
 use Rattle.pam_paths.specs.Directions.{ordered}
 use Rattle.pam_paths.specs.Frames.{ahead, coming, step_in}
 use Rattle.pam_paths.specs.inner.Frames.{AreFirstSteps, path_to, under}
@@ -171,7 +171,7 @@ ordered-settled Backward allows first count s r h lawful = ap reverse (listing-s
 
 under-path : (fs : List Frame) (steps : List StepValue) (decision : ℕ) →
     under fs (record { steps = steps; decision = decision } ∷ []) ≡ record { steps = map step_in fs ++ steps; decision = decision } ∷ []
-unfolding under
+unfolding after_steps
 under-path [] steps decision = refl
 under-path (f ∷ fs) steps decision = ap (map (after_step (step_in f))) (under-path fs steps decision)
 

@@ -13,6 +13,11 @@ use Rattle.pam_paths.specs.Paths.{PathValue, StepValue, step_of}
 abbrev pub after_step : StepValue → PathValue → PathValue
 after_step step path = record { steps = step ∷ path.steps; decision = path.decision }
 
+-- paths, each with these steps at the start
+unfoldable pub after_steps : List StepValue → List PathValue → List PathValue
+after_steps [] paths = paths
+after_steps (step ∷ steps) paths = map (after_step step) (after_steps steps paths)
+
 -- a code begins a branch if it is the least of its class and the class has an allowed code
 unfoldable pub is_offered : Allowance → Ask → ℕ → Bool
 is_offered allows ask code =

@@ -10,7 +10,7 @@ use Rattle.pam_dispatch.specs.Flat.{IsPlaceOf, modules_of, rest_of}
 use Rattle.pam_dispatch.specs.Runs.{Runs, ends, asks, AsksRise, asked_module, next_ask, outcome_of}
 use Rattle.pam_paths.specs.declared.direction.Direction.{Direction}
 use Rattle.pam_paths.specs.declared.frames.Frame.{Frame}
-use Rattle.pam_paths.specs.Computed.{after_step, is_offered, listing}
+use Rattle.pam_paths.specs.Computed.{after_step, after_steps, is_offered, listing}
 use Rattle.pam_paths.specs.Directions.{ordered, past}
 use Rattle.pam_paths.specs.Listing.{Allowance}
 use Rattle.pam_paths.specs.Paths.{PathValue, StepValue, step_of}
@@ -29,9 +29,8 @@ path_to modules frames rest = record {
 }
 
 -- the paths, each with the steps of the frames before it
-unfoldable pub under : List Frame → List PathValue → List PathValue
-under [] paths = paths
-under (frame ∷ frames) paths = map (after_step (step_in frame)) (under frames paths)
+abbrev pub under : List Frame → List PathValue → List PathValue
+under frames paths = after_steps (map step_in frames) paths
 
 -- the paths after a key
 unfoldable pub part : Direction → Allowance → Runs → List ℕ → List PathValue

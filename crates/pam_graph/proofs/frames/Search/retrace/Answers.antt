@@ -1,19 +1,20 @@
-use Rattle.std.proofs.Common.{◌+◌, ◌∙◌, ◌++◌, ◌∷◌, List, Option, ℕ, ap, append-nil, drop, false, length, slice_index_or, subst, sym, true}
+use Rattle.std.proofs.Common.{◌+◌, ◌∙◌, ◌++◌, ◌∷◌, List, Option, ℕ, ap, append-nil, drop, false, length, map, slice_index_or, subst, sym, true}
 use Rattle.std.proofs.lemmas.List.{drop_all, drop_more}
 use Rattle.pam_graph.specs.declared.frames.Frame.{Frame}
 use Rattle.pam_graph.specs.declared.frames.Way.{Way}
 use Rattle.pam_graph.specs.declared.node.Target.{Target}
-use Rattle.pam_graph.specs.Frames.{ahead, along, coming, under}
+use Rattle.pam_graph.specs.Frames.{ahead, along, coming, step_in, under}
 use Rattle.pam_graph.specs.inner.Frames.{AreFrames}
 use Rattle.pam_graph.specs.Order.{IsAbove, numbers_of}
 use Rattle.pam_graph.specs.inner.Parts.{is_past_end, part, part_along}
-use Rattle.pam_graph.proofs.FrameLists.{under-nil}
 use Rattle.pam_graph.proofs.Turning.{past-end, past-key, taken}
 use Rattle.pam_graph.proofs.frames.Search.retrace.Goals as goal
+use Rattle.pam_paths.specs.Computed.{after_steps}
 use Rattle.pam_paths.specs.Paths.{PathValue}
+use Rattle.pam_paths.proofs.FrameLists.{after_steps-nil}
 
 pub loop-code-init : goal.loop-code-init
-unfolding AreFrames under ahead
+unfolding AreFrames after_steps ahead
 loop-code-init c =
     let s = c.args.self.now in
     let start : Way = record { target = c.args.start; is_met = false } in
@@ -55,7 +56,7 @@ returns-in_default-retrace_code-clause-walks c =
     ∙ c.retrace_code.ensures.walks rest
     ∙ ap (λ (o : Option Way). under new (part_along s.direction s.goal.now s.nodes.now rest o) ++ ahead s.direction s.goal.now s.nodes.now new)
     c.in_default-retrace_code.is
-    ∙ ap (λ (x : List PathValue). x ++ ahead s.direction s.goal.now s.nodes.now new) (under-nil new))
+    ∙ ap (λ (x : List PathValue). x ++ ahead s.direction s.goal.now s.nodes.now new) (after_steps-nil (map step_in new)))
 
 pub returns-clause-walks : goal.returns-clause-walks
 returns-clause-walks c =

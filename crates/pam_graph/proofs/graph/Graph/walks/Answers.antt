@@ -10,6 +10,7 @@ use Rattle.pam_graph.specs.inner.Tallies.{tallies_of}
 use Rattle.pam_graph.specs.Walks.{GraphValue}
 use Rattle.pam_graph.proofs.Sides.{known-at}
 use Rattle.pam_graph.proofs.Following.{no-steps}
+use Rattle.pam_paths.specs.Computed.{after_steps}
 use Rattle.pam_graph.proofs.graph.Graph.walks.Goals as goal
 
 pub invariant_of-result : goal.invariant_of-result
@@ -24,7 +25,7 @@ invariant_of-result c = (
 )
 
 pub returns-clause-walks : goal.returns-clause-walks
-unfolding coming under ahead
+unfolding coming after_steps ahead
 returns-clause-walks c =
     let g = c.args.self.now in
     ap (λ (x : List Frame). under x (along Forward c.args.goal g.nodes (record { target = c.start.result; is_met = false }))
