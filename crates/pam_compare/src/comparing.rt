@@ -17,7 +17,7 @@ use crate::change::Change;
 use crate::expanding::{Fork, expand};
 use crate::held::HeldAfter;
 use crate::matching::Matching;
-use crate::naming::Naming;
+use crate::naming::{Naming, Sides};
 use crate::node::{Node, Pair};
 use crate::nodes::{Found, Nodes, Way};
 use crate::turn::{Turn, next_turn};
@@ -235,7 +235,14 @@ pub fn compare<K: Knowledge, L: Knowledge>(
 ) -> Result<Comparison, Memory>
     ensures { IfOk result (IsComparison (K.allows old_known.now) (L.allows new_known.now) old.now new.now matching.now) }
 {
-    let naming = Naming::of(alloc, old, new, matching, old_known, new_known)?;
+    let sides = Sides {
+        old,
+        new,
+        matching,
+        old_known,
+        new_known,
+    };
+    let naming = Naming::of(alloc, &sides)?;
     let Some(usual) = usual_codes(alloc, &naming)? else {
         return Ok(Comparison::Known(no_changes()));
     };

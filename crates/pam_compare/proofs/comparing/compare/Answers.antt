@@ -17,7 +17,7 @@ returns-in_default g c =
     let new = c.args.new.now in
     let partners = c.args.matching.now in
     let naming = c.in_ok-naming.naming in
-    let told = c.in_ok-naming.ensures in
+    let told = c.in_ok-naming.ensures.known in
     let none = subst (λ o. IfNone o ((a : Assignment) → IsPossible naming.possible.items a → ⊥)) c.in_default.is c.in_ok-usual.ensures.none in
     let never : (change : Change) → NeverChanges old_allows new_allows old new partners change =
     never-any old_allows new_allows old new partners naming.names.items told.names naming.possible.items told.possible none in
@@ -30,6 +30,5 @@ returns-in_default g c =
 
 pub returns : goal.returns
 returns g c =
-    let told = c.in_ok-naming.ensures in
     c.compare_named.ensures (g.K.Knowledge.allows c.args.old_known.now) (g.L.Knowledge.allows c.args.new_known.now) c.args.matching.now
-    (record { names = told.names; possible = told.possible; exact = told.exact })
+    c.in_ok-naming.ensures.known

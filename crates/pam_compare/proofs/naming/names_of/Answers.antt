@@ -9,10 +9,10 @@ loop-index-preserved g c =
     let inv = c.loop-index.invariant in
     let before = c.loop-index.names.items in
     let more = c.in_ok-push-2.ensures.items in
-    let name = c.name_for-name.result in
+    let name = c.name_for.result in
     let longer = ap (λ (l : List ℕ). length l) more ∙ length_push before name in
-    let Named : ℕ → ℕ → Type 0 = λ j n. IsName (g.K.Knowledge.allows c.args.old_known.now) (g.L.Knowledge.allows c.args.new_known.now) c.args.old_modules
-    c.args.matching.now j n in
+    let Named : ℕ → ℕ → Type 0 = λ j n. IsName (g.K.Knowledge.allows c.args.sides.now.old_known.now) (g.L.Knowledge.allows c.args.sides.now.new_known.now) c.args.old_modules
+    c.args.sides.now.matching.now j n in
     record {
       count = omega (arith, longer, inv.count);
       named = λ j positive most.
@@ -21,7 +21,7 @@ loop-index-preserved g c =
                 let last : j ≡ c.loop-index.index + 1 = omega (arith, above, most) in
                 let at : length before ≡ j = omega (arith, inv.count, last) in
                 subst (Named j) (sym (ap (λ (l : List ℕ). name_of l j) more ∙ get_or_push before name 0 j at))
-                (subst (λ (k : ℕ). Named k name) (sym last) c.name_for-name.ensures)
+                (subst (λ (k : ℕ). Named k name) (sym last) c.name_for.ensures)
             | inr earlier ↦
                 subst (Named j) (sym (ap (λ (l : List ℕ). name_of l j) more ∙ get_or_append_left before (name ∷ []) 0 j (omega (arith, inv.count, earlier))))
                 (inv.named j positive earlier)

@@ -6,5 +6,6 @@ abbrev pub invariant-loop-index : goal.invariant-loop-index
 invariant-loop-index g l = record {
   count : length l.names.items ≡ l.index + 1;
   named : (j : ℕ) → 0 < j → j ≤ l.index →
-      IsName (g.K.Knowledge.allows l.old_known) (g.L.Knowledge.allows l.new_known) l.old_modules l.matching j (name_of l.names.items j);
+      IsName (g.K.Knowledge.allows l.sides.old_known.now) (g.L.Knowledge.allows l.sides.new_known.now) l.old_modules l.sides.matching.now j
+      (name_of l.names.items j);
 }

@@ -12,7 +12,7 @@ returns-clause-possible g c a known =
     let first = c.in_ok-sets.ensures in
     let second = c.in_ok-append_allowed.ensures in
     let third = c.in_ok-append_allowed-2.ensures in
-    let allows = g.K.Knowledge.allows c.args.old_known.now in
+    let allows = g.K.Knowledge.allows c.args.sides.now.old_known.now in
     c.narrow_all.ensures.possible a known.codes known.new
     (third.possible a c.args.old_modules (omega (arith, first.count, second.count)) known.codes known.own
     (second.possible a 0 (omega (arith, first.count)) known.codes
@@ -24,7 +24,7 @@ returns-clause-exact g c a h =
     let first = c.in_ok-sets.ensures in
     let second = c.in_ok-append_allowed.ensures in
     let third = c.in_ok-append_allowed-2.ensures in
-    let allows = g.K.Knowledge.allows c.args.old_known.now in
+    let allows = g.K.Knowledge.allows c.args.sides.now.old_known.now in
     let narrowed = c.narrow_all.ensures.exact a h in
     let of_new = third.exact a c.args.old_modules (omega (arith, first.count, second.count)) narrowed.0 in
     let of_old = second.exact a 0 (omega (arith, first.count)) of_new.0 in
