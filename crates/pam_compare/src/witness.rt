@@ -7,8 +7,8 @@ ghost use Rattle.pam_paths.specs.Listing.{Allowance};
 ghost use Rattle.pam_compare.specs.declared.change.Change.{Change};
 ghost use Rattle.pam_compare.specs.declared.nodes.Way.{Way};
 ghost use Rattle.pam_compare.specs.Comparison.{IsWitness, decision_in};
-ghost use Rattle.pam_compare.specs.inner.Naming.{AreNames, IsKnown, IsPossible, by_code, name_of};
-ghost use Rattle.pam_compare.specs.inner.Trails.{IsTrail, answers_on};
+ghost use Rattle.pam_compare.specs.inner.Naming.{AreNames, IsKnown, IsPossible, by_code, by_name};
+ghost use Rattle.pam_compare.specs.inner.Trails.{AreAnswers, IsTrail, answers_on};
 ghost use Rattle.pam_compare.specs.inner.Ways.{AreReached, IsEnd, IsNaming};
 
 use crate::naming::{Naming, possible_at, value_at};
@@ -91,8 +91,7 @@ fn old_answers(
     trail: &[Way],
 ) -> Result<Vec<Code>, Memory>
     requires { modules ≤ 256 }
-    ensures count { IfOk result (λ codes. length codes.items ≡ modules) }
-    ensures answers { IfOk result (λ codes. (i : ℕ) → 0 < i → i ≤ modules → answers_of codes.items i ≡ answers_on (by_code usual.now) trail.now i) }
+    ensures { IfOk result (λ codes. AreAnswers modules (answers_on (by_code usual.now) trail.now) codes.items) }
 {
     let mut codes = Vec::new(alloc);
     for index in 0..modules {
@@ -110,9 +109,7 @@ fn new_answers(
     trail: &[Way],
 ) -> Result<Vec<Code>, Memory>
     requires { modules ≤ 256 }
-    ensures count { IfOk result (λ codes. length codes.items ≡ modules) }
-    ensures answers { IfOk result (λ codes. (j : ℕ) → 0 < j → j ≤ modules
-        → answers_of codes.items j ≡ answers_on (by_code usual.now) trail.now (name_of names.now j)) }
+    ensures { IfOk result (λ codes. AreAnswers modules (by_name names.now (answers_on (by_code usual.now) trail.now)) codes.items) }
 {
     let mut codes = Vec::new(alloc);
     for index in 0..modules {

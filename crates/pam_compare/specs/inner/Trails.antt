@@ -1,8 +1,8 @@
 -- For private contracts and proofs alone: the steps on the way to a node of a comparison, the last one first.
-use Rattle.std.specs.Prelude.{◌≡◌, ◌≢◌, ◌⊎◌, ◌==◌, ◌<◌, ◌≤◌, ℕ, IsTrue, List, [], ◌∷◌, Option, Some, if◌then◌else◌, slice_get, slice_index_or}
+use Rattle.std.specs.Prelude.{◌≡◌, ◌≢◌, ◌⊎◌, ◌==◌, ◌<◌, ◌≤◌, ℕ, IsTrue, List, [], ◌∷◌, Option, Some, if◌then◌else◌, length, slice_get, slice_index_or}
 use Rattle.pam_codes.specs.Code.{all_codes}
 use Rattle.pam_codes.specs.Set.{is_in}
-use Rattle.pam_dispatch.specs.Runs.{Assignment, Runs, asked_module}
+use Rattle.pam_dispatch.specs.Runs.{Assignment, Runs, answers_of, asked_module}
 use Rattle.pam_compare.specs.declared.held.HeldAnswer.{HeldAnswer}
 use Rattle.pam_compare.specs.declared.nodes.Way.{Way}
 use Rattle.pam_compare.specs.declared.turn.Turn.{Turn}
@@ -27,6 +27,11 @@ with_answer a name code n = if n == name then code else a n
 unfoldable pub answers_on : Assignment → List Way → Assignment
 answers_on base [] = base
 answers_on base (w ∷ trail) = with_answer (answers_on base trail) w.name w.code
+
+-- a list has the answers of this many modules, from module 1 on
+pub record AreAnswers (modules : ℕ) (a : Assignment) (codes : List ℕ) : Type 0 where
+  pub count : length codes ≡ modules
+  pub each : (i : ℕ) → 0 < i → i ≤ modules → answers_of codes i ≡ a i
 
 -- what is held tells as much of an answer as a step does
 abbrev pub IsKept : List HeldAnswer → Way → Type 0

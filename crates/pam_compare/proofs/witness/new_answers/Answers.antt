@@ -1,23 +1,13 @@
-use Rattle.std.proofs.Common.{◌∙◌, ℕ, List, ap, arith, length}
-use Rattle.std.proofs.lemmas.List.{length_push}
-use Rattle.pam_compare.specs.inner.Naming.{by_code, name_of}
+use Rattle.std.proofs.Common.{◌∙◌, ap, arith, subst}
+use Rattle.pam_compare.specs.inner.Naming.{by_code}
 use Rattle.pam_compare.specs.inner.Trails.{answers_on}
-use Rattle.pam_compare.proofs.Witnessing.{answers-push}
+use Rattle.pam_compare.proofs.Witnessing.{answers-none, answers-push}
 use Rattle.pam_compare.proofs.witness.new_answers.Goals as goal
+
+pub loop-index-init : goal.loop-index-init
+loop-index-init c = answers-none _ _ c.new-codes.ensures.items
 
 pub loop-index-preserved : goal.loop-index-preserved
 loop-index-preserved c =
-    let inv = c.loop-index.invariant in
-    let codes = c.loop-index.codes.items in
-    let pushed = c.in_ok-push.ensures.items in
-    let longer = ap (λ (l : List ℕ). length l) pushed ∙ length_push codes c.answer_on.result in
-    let base = by_code c.args.usual.now in
-    let trail = c.args.trail.now in
-    record {
-      count = omega (arith, longer, inv.count);
-      answers = answers-push codes c.answer_on.result c.loop-index.index _ (λ (j : ℕ). answers_on base trail (name_of c.args.names.now j)) inv.count
-          pushed inv.answers (c.answer_on.ensures ∙ ap (answers_on base trail) c.value_at.ensures);
-    }
-
-pub returns-clause-answers : goal.returns-clause-answers
-returns-clause-answers c i positive most = c.loop-index.invariant.answers i positive (omega (arith, most))
+    answers-push _ _ _ _ _ c.loop-index.invariant c.in_ok-push.ensures.items
+    (c.answer_on.ensures ∙ ap (answers_on (by_code c.args.usual.now) c.args.trail.now) c.value_at.ensures)

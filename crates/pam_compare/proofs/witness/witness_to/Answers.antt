@@ -1,10 +1,10 @@
-use Rattle.std.proofs.Common.{◌≡◌, ◌<◌, ◌≤◌, ◌∙◌, ℕ, List, ap, subst, sym}
+use Rattle.std.proofs.Common.{◌≡◌, ◌∙◌, ℕ, List, ap, subst, sym}
 use Rattle.pam_dispatch.specs.Flat.{modules_of, rest_of, runs_of}
 use Rattle.pam_dispatch.specs.Runs.{Assignment, answers_of}
 use Rattle.pam_compare.specs.declared.nodes.Way.{Way}
 use Rattle.pam_compare.specs.Comparison.{decision_in}
-use Rattle.pam_compare.specs.inner.Naming.{by_code, name_of}
-use Rattle.pam_compare.specs.inner.Trails.{IsTrail, answers_on}
+use Rattle.pam_compare.specs.inner.Naming.{by_code, by_name}
+use Rattle.pam_compare.specs.inner.Trails.{AreAnswers, IsTrail, answers_on}
 use Rattle.pam_compare.proofs.Reaching.{possible-on, way-at}
 use Rattle.pam_compare.proofs.Trails.{one-trail}
 use Rattle.pam_compare.proofs.Witnessing.{is-witness}
@@ -29,18 +29,18 @@ returns c old_allows new_allows partners change named exact end =
     let a : Assignment = answers_on base way.trail in
     let old = pair.old.now in
     let new = pair.new.now in
-    let of_old : (i : ℕ) → 0 < i → i ≤ modules_of old → answers_of c.in_ok-old_codes.old_codes.items i ≡ a i =
-    λ i positive most.
-    c.in_ok-old_codes.ensures.answers i positive (subst (λ (n : ℕ). i ≤ n) (sym c.modules.ensures.count) most)
-    ∙ ap (λ (l : List Way). answers_on base l i) (c.deref-2.ensures.value ∙ trail) in
-    let of_new : (j : ℕ) → 0 < j → j ≤ modules_of new → answers_of c.in_ok-new_codes.new_codes.items j ≡ a (name_of naming.names.items j) =
-    λ j positive most.
-    c.in_ok-new_codes.ensures.answers j positive (subst (λ (n : ℕ). j ≤ n) (sym c.modules-2.ensures.count) most)
-    ∙ ap (λ (l : List Way). answers_on base l (name_of c.deref-3.result.now j)) (c.deref-4.ensures.value ∙ trail)
-    ∙ ap (λ (l : List ℕ). a (name_of l j)) c.deref-3.ensures.value in
+    let of_old : AreAnswers (modules_of old) a c.in_ok-old_codes.old_codes.items =
+    subst (λ (l : List Way). AreAnswers (modules_of old) (answers_on base l) c.in_ok-old_codes.old_codes.items) (c.deref-2.ensures.value ∙ trail)
+    (subst (λ (n : ℕ). AreAnswers n (answers_on base c.deref-2.result.now) c.in_ok-old_codes.old_codes.items) c.modules.ensures.count
+    c.in_ok-old_codes.ensures) in
+    let of_new : AreAnswers (modules_of new) (by_name naming.names.items a) c.in_ok-new_codes.new_codes.items =
+    subst (λ (l : List ℕ). AreAnswers (modules_of new) (by_name l a) c.in_ok-new_codes.new_codes.items) c.deref-3.ensures.value
+    (subst (λ (l : List Way). AreAnswers (modules_of new) (by_name c.deref-3.result.now (answers_on base l)) c.in_ok-new_codes.new_codes.items)
+    (c.deref-4.ensures.value ∙ trail)
+    (subst (λ (n : ℕ). AreAnswers n (by_name c.deref-3.result.now (answers_on base c.deref-4.result.now)) c.in_ok-new_codes.new_codes.items)
+    c.modules-2.ensures.count c.in_ok-new_codes.ensures)) in
     is-witness old_allows new_allows old new partners naming.names.items naming.possible.items named exact c.modules.ensures.rise c.modules-2.ensures.rise
     (rest_of old end.node.old) (rest_of new end.node.new) change end.change_is a (possible-on naming.possible.items base way.trail c.requires.usual way.fits)
-    (way.old_comes a (way.follows base)) (way.new_comes a (way.follows base)) _ (c.in_ok-old_codes.ensures.count ∙ c.modules.ensures.count)
-    (c.in_ok-new_codes.ensures.count ∙ c.modules-2.ensures.count) of_old of_new
+    (way.old_comes a (way.follows base)) (way.new_comes a (way.follows base)) _ of_old of_new
     (c.decided-old.ensures ∙ ap (λ (l : List ℕ). decision_in (runs_of old) (answers_of l)) c.deref-5.ensures.value)
     (c.decided-new.ensures ∙ ap (λ (l : List ℕ). decision_in (runs_of new) (answers_of l)) c.deref-6.ensures.value)
