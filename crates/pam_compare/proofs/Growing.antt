@@ -23,7 +23,7 @@ use Rattle.pam_compare.specs.declared.held_lists.Link.{Link}
 use Rattle.pam_compare.specs.declared.situation.Situation.{Situation}
 use Rattle.pam_compare.specs.Held.{Holds}
 use Rattle.pam_compare.specs.inner.HeldLists.{AreLinks, IsListed}
-use Rattle.pam_compare.specs.inner.Nodes.{AreHeldAt, AreNodes, ArePlaces, IsAt, IsDone, IsMet, IsNew, IsNoted, IsStored, IsVisited, Keeps, KeepsNodes}
+use Rattle.pam_compare.specs.inner.Nodes.{AreHeldAt, AreNodes, ArePlaces, IsAt, IsDone, IsLeftAt, IsMet, IsNew, IsNoted, IsStored, IsVisited, Keeps, KeepsNodes}
 use Rattle.pam_compare.specs.inner.Nodes.{Stop, list_of}
 use Rattle.pam_compare.proofs.Lists.{listed-kept}
 
@@ -242,84 +242,87 @@ pushed-cases keys after value e p k s at =
       | inr new ↦ inr (sym new.0, new.1, p)
     ]
 
--- a situation and its node, where its places and its list are stored
-stored-at : (after : Nodes) (op np : Places) (lists : HeldLists) (situation s : Situation) (n : Stop) → after.old_places ≡ op → after.new_places ≡ np →
-    after.held_lists ≡ lists → s ≡ situation → slice_get op.places.items situation.old ≡ Some n.old → slice_get np.places.items situation.new ≡ Some n.new →
-    IsListed lists.links.keys situation.held n.held → IsAt after s n
-stored-at after op np lists situation s n e f g same at_old at_new listed = record {
-  old = ap (λ (x : Places). slice_get x.places.items s.old) e ∙ ap (λ (x : Situation). slice_get op.places.items x.old) same ∙ at_old;
-  new = ap (λ (x : Places). slice_get x.places.items s.new) f ∙ ap (λ (x : Situation). slice_get np.places.items x.new) same ∙ at_new;
-  held = subst (λ (x : HeldLists). IsListed x.links.keys s.held n.held) (sym g)
-      (subst (λ (x : Situation). IsListed lists.links.keys x.held n.held) (sym same) listed);
-}
+-- situations stay nodes where their places and lists are kept
+pub tables-grown : (old new : List FlatItem) (before after : Nodes) → KeepsNodes before after → after.situations.keys ≡ before.situations.keys →
+    ArePlaces old after.old_places.places.items after.old_places.keys → ArePlaces new after.new_places.places.items after.new_places.keys →
+    AreLinks after.held_lists.links.keys → AreNodes old new before → AreNodes old new after
+tables-grown old new before after keeps same is_old is_new links are =
+    let was : (k : ℕ) (s : Situation) → slice_get after.situations.keys k ≡ Some s → slice_get before.situations.keys k ≡ Some s =
+    λ k s at. sym (ap (λ (l : List Situation). slice_get l k) same) ∙ at in
+    record {
+      of_old = is_old;
+      of_new = is_new;
+      links = links;
+      within = λ k s at. let w = are.within k s (was k s at) in (longer _ _ s.old keeps.of_old w.0, longer _ _ s.new keeps.of_new w.1);
+      listed = λ k s at. let w = are.listed k s (was k s at) in (w.0, listed-kept _ _ s.held w.0 keeps.held_lists w.1);
+    }
 
-pub new-added : (old new : List FlatItem) (before after : Nodes) (op np : Places) (lists : HeldLists) (situation s : Situation) (n : Stop) (k : ℕ)
-    (left right : Runs) (way : Way) → after.old_places ≡ op → after.new_places ≡ np → after.held_lists ≡ lists → s ≡ situation →
-    slice_get op.places.items situation.old ≡ Some n.old → slice_get np.places.items situation.new ≡ Some n.new →
-    IsListed lists.links.keys situation.held n.held → rest_of old n.old ≡ left → rest_of new n.new ≡ right →
-    k ≡ length before.situations.keys → after.ways.items ≡ before.ways.items ++ way ∷ [] → IsNew old new before after left right n.held way k s
-new-added old new before after op np lists situation s n k left right way e f g same at_old at_new listed l r index ways = record {
-  node = n;
-  is_at = stored-at after op np lists situation s n e f g same at_old at_new listed;
-  left_is = l;
-  right_is = r;
-  held_is = refl;
-  index = index;
+pub situation-keeps : (before after : Nodes) → after.old_places ≡ before.old_places → after.new_places ≡ before.new_places →
+    after.held_lists ≡ before.held_lists → Keeps before.situations.keys after.situations.keys → Keeps before.ways.items after.ways.items →
+    KeepsNodes before after
+situation-keeps before after of_old of_new lists situations ways = record {
+  of_old = keeps-equal _ _ (ap (λ (x : Places). x.places.items) of_old);
+  of_new = keeps-equal _ _ (ap (λ (x : Places). x.places.items) of_new);
+  held_lists = keeps-equal _ _ (ap (λ (x : HeldLists). x.links.keys) lists);
+  situations = situations;
   ways = ways;
 }
 
-pub nodes-added : (old new : List FlatItem) (before after : Nodes) (op np : Places) (lists : HeldLists) (situation : Situation) (n : Stop) →
-    AreNodes old new before →
-    ArePlaces old op.places.items op.keys → ArePlaces new np.places.items np.keys → AreLinks lists.links.keys →
-    Keeps before.old_places.places.items op.places.items → Keeps before.new_places.places.items np.places.items →
-    Keeps before.held_lists.links.keys lists.links.keys →
-    after.old_places ≡ op → after.new_places ≡ np → after.held_lists ≡ lists →
-    ((k : ℕ) (s : Situation) → slice_get after.situations.keys k ≡ Some s → (slice_get before.situations.keys k ≡ Some s) ⊎ (s ≡ situation)) →
-    slice_get op.places.items situation.old ≡ Some n.old → slice_get np.places.items situation.new ≡ Some n.new →
-    IsListed lists.links.keys situation.held n.held → AreNodes old new after
-nodes-added old new before after op np lists situation n are is_old is_new is_links keeps_old keeps_new keeps_lists e f g only at_old at_new listed =
-    let into : (k n : ℕ) → k < length op.places.items → n < length np.places.items →
-    (k < length after.old_places.places.items) × (n < length after.new_places.places.items) =
-    λ k n less fewer. (
-      subst (λ (x : Places). k < length x.places.items) (sym e) less,
-      subst (λ (x : Places). n < length x.places.items) (sym f) fewer,
-    ) in
-    let in_lists : (number : ℕ) (held : List HeldAnswer) → IsListed lists.links.keys number held →
-    (held : List HeldAnswer) × IsListed after.held_lists.links.keys number held =
-    λ number held is. (held, subst (λ (x : HeldLists). IsListed x.links.keys number held) (sym g) is) in
-    record {
-      of_old = subst (λ (x : Places). ArePlaces old x.places.items x.keys) (sym e) is_old;
-      of_new = subst (λ (x : Places). ArePlaces new x.places.items x.keys) (sym f) is_new;
-      links = subst (λ (x : HeldLists). AreLinks x.links.keys) (sym g) is_links;
-      within = λ k s at. elim (only k s at) [
-        | inl was ↦ let w = are.within k s was in
-            into s.old s.new (longer _ _ s.old keeps_old w.0) (longer _ _ s.new keeps_new w.1)
-        | inr same ↦ into s.old s.new
-            (subst (λ (x : Situation). x.old < length op.places.items) (sym same) (slice_get_within op.places.items situation.old n.old at_old))
-            (subst (λ (x : Situation). x.new < length np.places.items) (sym same) (slice_get_within np.places.items situation.new n.new at_new))
-      ];
-      listed = λ k s at. elim (only k s at) [
-        | inl was ↦ let w = are.listed k s was in in_lists s.held w.0 (listed-kept _ _ s.held w.0 keeps_lists w.1)
-        | inr same ↦ in_lists s.held n.held (subst (λ (x : Situation). IsListed lists.links.keys x.held n.held) (sym same) listed)
-      ];
-    }
+-- one more situation, whose places and list are stored
+module _ (old new : List FlatItem) (before after : Nodes) (situation : Situation) (left right : Runs) (held : List HeldAnswer)
+    (of_old : after.old_places ≡ before.old_places) (of_new : after.new_places ≡ before.new_places) (lists : after.held_lists ≡ before.held_lists)
+    (there : IsLeftAt old new before left right held situation) where
+  is-at : IsAt after situation there.node
+  is-at = record {
+    old = ap (λ (x : Places). slice_get x.places.items situation.old) of_old ∙ there.is_at.old;
+    new = ap (λ (x : Places). slice_get x.places.items situation.new) of_new ∙ there.is_at.new;
+    held = subst (λ (x : HeldLists). IsListed x.links.keys situation.held there.node.held) (sym lists) there.is_at.held;
+  }
 
-pub met-added : (old new : List FlatItem) (after : Nodes) (op np : Places) (lists : HeldLists) (situation s : Situation) (n : Stop) (k : ℕ)
-    (a : Assignment) (left right : Runs) → after.old_places ≡ op → after.new_places ≡ np → after.held_lists ≡ lists →
-    slice_get after.situations.keys k ≡ Some s → s ≡ situation →
-    slice_get op.places.items situation.old ≡ Some n.old → slice_get np.places.items situation.new ≡ Some n.new →
-    IsListed lists.links.keys situation.held n.held → rest_of old n.old ≡ left → rest_of new n.new ≡ right →
-    Holds a n.held → IsMet old new after a left right
-met-added old new after op np lists situation s n k a left right e f g at same at_old at_new listed l r h = record {
-  index = k;
-  situation = s;
-  node = n;
-  is_there = at;
-  is_at = stored-at after op np lists situation s n e f g same at_old at_new listed;
-  left_is = l;
-  right_is = r;
-  holds = h;
-}
+  pub nodes-added : AreNodes old new before →
+      ((k : ℕ) (s : Situation) → slice_get after.situations.keys k ≡ Some s → (slice_get before.situations.keys k ≡ Some s) ⊎ (s ≡ situation)) →
+      AreNodes old new after
+  nodes-added are only =
+      let Within : Situation → Places → Places → Type 0 = λ s o n. (s.old < length o.places.items) × (s.new < length n.places.items) in
+      record {
+        of_old = subst (λ (x : Places). ArePlaces old x.places.items x.keys) (sym of_old) are.of_old;
+        of_new = subst (λ (x : Places). ArePlaces new x.places.items x.keys) (sym of_new) are.of_new;
+        links = subst (λ (x : HeldLists). AreLinks x.links.keys) (sym lists) are.links;
+        within = λ k s at. elim (only k s at) [
+          | inl was ↦ subst (λ x. Within s x after.new_places) (sym of_old) (subst (Within s before.old_places) (sym of_new) (are.within k s was))
+          | inr same ↦ subst (λ x. Within x after.old_places after.new_places) (sym same)
+              (slice_get_within _ situation.old there.node.old is-at.old, slice_get_within _ situation.new there.node.new is-at.new)
+        ];
+        listed = λ k s at. elim (only k s at) [
+          | inl was ↦ let w = are.listed k s was in (w.0, subst (λ (x : HeldLists). IsListed x.links.keys s.held w.0) (sym lists) w.1)
+          | inr same ↦ (there.node.held, subst (λ (x : Situation). IsListed after.held_lists.links.keys x.held there.node.held) (sym same) is-at.held)
+        ];
+      }
+
+  pub new-added : (all : Nodes) (way : Way) (k : ℕ) (s : Situation) → s ≡ situation → k ≡ length all.situations.keys →
+      after.ways.items ≡ all.ways.items ++ way ∷ [] → IsNew old new all after left right held way k s
+  new-added all way k s same index ways = record {
+    node = there.node;
+    is_at = subst (λ (x : Situation). IsAt after x there.node) (sym same) is-at;
+    left_is = there.left_is;
+    right_is = there.right_is;
+    held_is = there.held_is;
+    index = index;
+    ways = ways;
+  }
+
+  pub met-added : (a : Assignment) (k : ℕ) (s : Situation) → slice_get after.situations.keys k ≡ Some s → s ≡ situation → Holds a held →
+      IsMet old new after a left right
+  met-added a k s at same holds = record {
+    index = k;
+    situation = s;
+    node = there.node;
+    is_there = at;
+    is_at = subst (λ (x : Situation). IsAt after x there.node) (sym same) is-at;
+    left_is = there.left_is;
+    right_is = there.right_is;
+    holds = subst (Holds a) (sym there.held_is) holds;
+  }
 
 -- LINKS
 

@@ -14,7 +14,7 @@ ghost use Rattle.pam_compare.specs.inner.HeldLists.{same_link};
 ghost use Rattle.pam_compare.specs.inner.Ways.{found_at};
 ghost use Rattle.pam_dispatch.specs.Keys.{AreDifferent};
 ghost use Rattle.std.specs.List.{IsDistinct};
-ghost use Rattle.pam_compare.specs.inner.Nodes.{AreAdded, AreHeldAt, AreNodes, ArePlaces, IsAt, IsMet, IsNoted, Keeps, KeepsNodes, list_of, stop_of};
+ghost use Rattle.pam_compare.specs.inner.Nodes.{AreAdded, AreHeldAt, AreNodes, ArePlaces, IsAt, IsLeftAt, IsMet, IsNoted, Keeps, KeepsNodes, list_of, stop_of};
 
 use crate::change::Change;
 use crate::held::HeldAfter;
@@ -168,6 +168,29 @@ impl Nodes {
         }
     }
 
+    /// The situation with these places and what is held there after the one before it on the way. Stores them, unless they are there.
+    fn situation_of(
+        &mut self,
+        old_place: &Place,
+        new_place: &Place,
+        after: &HeldAfter,
+        parent: usize,
+    ) -> Result<Situation, Memory>
+        ensures situations { OnOk result (self.new.situations ≡ self.old.situations) }
+        ensures ways { OnOk result (self.new.ways ≡ self.old.ways) }
+        ensures keeps { OnOk result (KeepsNodes self.old self.new) }
+        ensures nodes { (old new : List FlatItem) (held : List HeldAnswer) → AreNodes old new self.old → AreHeldAt self.old parent held
+            → IsPlaceOf old old_place.now → IsPlaceOf new new_place.now → OnOk result (AreNodes old new self.new) }
+        ensures at { (old new : List FlatItem) (held : List HeldAnswer) → AreNodes old new self.old → AreHeldAt self.old parent held
+            → IfOk result (IsLeftAt old new self.new (rest_of old old_place.now) (rest_of new new_place.now) (held_in after.now held)) }
+    {
+        let old = self.old_places.index_of(old_place)?;
+        let new = self.new_places.index_of(new_place)?;
+        let before = self.list_at(parent);
+        let held = self.held_lists.number_after(before, after)?;
+        Ok(Situation { old, new, held })
+    }
+
     /// Adds the situation with these places and what is held there after the one before it on the way, unless it is there.
     pub(crate) fn add(
         &mut self,
@@ -187,15 +210,7 @@ impl Nodes {
             → AreHeldAt self.old way.parent held → ((name : ℕ) → a name < 31) → Holds a (held_in after.now held)
             → OnOk result (IsMet old new self.new a (rest_of old old_place.now) (rest_of new new_place.now)) }
     {
-        let old_index = self.old_places.index_of(old_place)?;
-        let new_index = self.new_places.index_of(new_place)?;
-        let before = self.list_at(way.parent);
-        let list = self.held_lists.number_after(before, after)?;
-        let situation = Situation {
-            old: old_index,
-            new: new_index,
-            held: list,
-        };
+        let situation = self.situation_of(old_place, new_place, after, way.parent)?;
         self.add_situation(situation, way)?;
         Ok(())
     }

@@ -68,6 +68,14 @@ pub record IsAt (nodes : Nodes) (s : Situation) (n : Stop) : Type 0 where
   pub new : slice_get nodes.new_places.places.items s.new ≡ Some n.new
   pub held : IsListed nodes.held_lists.links.keys s.held n.held
 
+-- a situation is where these runs are left, with these answers held
+pub record IsLeftAt (old new : List FlatItem) (nodes : Nodes) (left right : Runs) (held : List HeldAnswer) (s : Situation) : Type 0 where
+  pub node : Stop
+  pub is_at : IsAt nodes s node
+  pub left_is : rest_of old node.old ≡ left
+  pub right_is : rest_of new node.new ≡ right
+  pub held_is : node.held ≡ held
+
 -- the number of the list that is held at a situation, if there is one
 abbrev pub list_of : Option Situation → ℕ
 list_of None = 0
