@@ -1,12 +1,12 @@
 -- The stacks that meet a problem, one after another.
-use Rattle.std.proofs.Common.{◌≡◌, ◌⊎◌, ◌↔◌, ℕ, ◌+◌, ◌<◌, ◌≤◌, true, cond, List, [], ◌∷◌, ◌++◌, refl, sym, ◌∙◌, ap, subst, inl, inr, arith, Option}
+use Rattle.std.proofs.Common.{◌≡◌, ◌⊎◌, ◌↔◌, ℕ, ◌+◌, ◌<◌, ◌≤◌, Bool, true, cond, List, [], ◌∷◌, ◌++◌, refl, sym, ◌∙◌, ap, subst, inl, inr, arith, Option}
 use Rattle.std.proofs.Common.{Some, None, slice_get, length-append}
 use Rattle.std.specs.Prelude.{◌==◌, unwrap_or}
 use Rattle.std.proofs.lemmas.Bool.{cases_Bool, eqb-true, eq-eqb, false≢true}
 use Rattle.pam_conf.specs.declared.rule.Kind.{Kind}
 use Rattle.pam_conf.specs.declared.rule.Kind.TheVariants.{Auth, Account, Password, Session}
 use Rattle.pam_paths.specs.Classes.{Member}
-use Rattle.pam_host.specs.inner.Meeting.{Changes, MetSoFar, also_met}
+use Rattle.pam_host.specs.inner.Meeting.{Changes, MetSoFar, also_met, met_again, met_anew}
 use Rattle.pam_host.specs.Met.{AreMet, IsMetByNone, RiseFrom}
 use Rattle.pam_facts.specs.Kinds.{has_kind, no_kinds, with_kind}
 use Rattle.pam_facts.specs.declared.kinds.Kinds.{Kinds}
@@ -128,7 +128,7 @@ module _ (service : ℕ) (kind : Kind) (P Q : ℕ → Kind → Type 0) (upto : (
         count = refl;
       }
 
-  same-met : (met : Met) → met.last ≡ service → AreMet P met → AreMet Q (record met { kinds = with_kind kind met.kinds })
+  same-met : (met : Met) → met.last ≡ service → AreMet P met → AreMet Q (met_again kind met)
   same-met met e h = record {
     kinds = more-kinds met.kinds h.kinds;
     positions = h.positions;
@@ -147,13 +147,7 @@ module _ (service : ℕ) (kind : Kind) (P Q : ℕ → Kind → Type 0) (upto : (
     count = h.count;
   }
 
-  new-met : (met : Met) → (met.last ≡ service → ⊥) → AreMet P met → AreMet Q record {
-    kinds = with_kind kind met.kinds;
-    first = met.first;
-    second = Some (unwrap_or met.second service);
-    last = service;
-    services = met.services + 1;
-  }
+  new-met : (met : Met) → (met.last ≡ service → ⊥) → AreMet P met → AreMet Q (met_anew service kind met)
   new-met met apart h =
       let ps : List ℕ = h.positions in
       let at_last : (k : Kind) × P met.last k = (h.members met.last).0 h.last in
@@ -186,17 +180,10 @@ module _ (service : ℕ) (kind : Kind) (P Q : ℕ → Kind → Type 0) (upto : (
   pub one-more-met : (old : Option Met) → MetSoFar P old → AreMet Q (also_met service kind old)
   one-more-met None h = first-met h
   one-more-met (Some met) h =
-      let same : Met = record met { kinds = with_kind kind met.kinds } in
-      let new : Met = record {
-        kinds = with_kind kind met.kinds;
-        first = met.first;
-        second = Some (unwrap_or met.second service);
-        last = service;
-        services = met.services + 1;
-      } in
+      let Is : Bool → Type 0 = λ t. AreMet Q (cond t (met_again kind met) (met_anew service kind met)) in
       elim (cases_Bool (met.last == service)) [
-        | inl t ↦ subst (λ b. AreMet Q (cond b same new)) (sym t) (same-met met (eqb-true _ _ t) h)
-        | inr f ↦ subst (λ b. AreMet Q (cond b same new)) (sym f) (new-met met (λ e. false≢true (sym f ∙ eq-eqb _ _ e)) h)
+        | inl t ↦ subst Is (sym t) (same-met met (eqb-true _ _ t) h)
+        | inr f ↦ subst Is (sym f) (new-met met (λ e. false≢true (sym f ∙ eq-eqb _ _ e)) h)
       ]
 
 -- the same stacks once more
@@ -219,32 +206,18 @@ module _ (P Q : ℕ → Kind → Type 0) (same : (s : ℕ) (k : Kind) → P s k 
 
 settled : (service : ℕ) (kind : Kind) (met : Met) → met.last ≡ service → with_kind kind met.kinds ≡ met.kinds → also_met service kind (Some met) ≡ met
 settled service kind met e h =
-    ap (λ b. cond b (record met { kinds = with_kind kind met.kinds }) (record {
-      kinds = with_kind kind met.kinds;
-      first = met.first;
-      second = Some (unwrap_or met.second service);
-      last = service;
-      services = met.services + 1;
-    }))
-    (eq-eqb _ _ e)
+    ap (λ b. cond b (met_again kind met) (met_anew service kind met)) (eq-eqb _ _ e)
     ∙ ap (λ (kinds : Kinds). record met { kinds = kinds }) h
 
 pub also-twice : (service : ℕ) (kind : Kind) (old : Option Met) → also_met service kind (Some (also_met service kind old)) ≡ also_met service kind old
 also-twice service kind None = settled service kind (also_met service kind None) refl (with-with kind no_kinds)
 also-twice service kind (Some met) =
-    let same : Met = record met { kinds = with_kind kind met.kinds } in
-    let new : Met = record {
-      kinds = with_kind kind met.kinds;
-      first = met.first;
-      second = Some (unwrap_or met.second service);
-      last = service;
-      services = met.services + 1;
-    } in
+    let again : Met = met_again kind met in
+    let anew : Met = met_anew service kind met in
+    let Is : Bool → Type 0 = λ t. also_met service kind (Some (cond t again anew)) ≡ cond t again anew in
     elim (cases_Bool (met.last == service)) [
-      | inl t ↦ subst (λ b. also_met service kind (Some (cond b same new)) ≡ cond b same new) (sym t)
-          (settled service kind same (eqb-true _ _ t) (with-with kind met.kinds))
-      | inr f ↦ subst (λ b. also_met service kind (Some (cond b same new)) ≡ cond b same new) (sym f)
-          (settled service kind new refl (with-with kind met.kinds))
+      | inl t ↦ subst Is (sym t) (settled service kind again (eqb-true _ _ t) (with-with kind met.kinds))
+      | inr f ↦ subst Is (sym f) (settled service kind anew refl (with-with kind met.kinds))
     ]
 
 -- ONE CHANGE AND THEN ANOTHER

@@ -6,7 +6,7 @@ ghost use Rattle.std.specs.Option.{option_map_or};
 ghost use Rattle.pam_conf.specs.ItemsOf.{module_text};
 ghost use Rattle.pam_conf.specs.Stack.{module_at};
 ghost use Rattle.pam_paths.specs.Classes.{Member};
-ghost use Rattle.pam_host.specs.inner.Looked.{OfModule, OfModules, OfNumber, OfRule, spot_at};
+ghost use Rattle.pam_host.specs.inner.Looked.{OfModule, OfModules, OfRule, spot_at};
 ghost use Rattle.pam_host.specs.StackProblems.{InItems};
 ghost use Rattle.pam_host.specs.inner.Table.{Adds};
 ghost use Rattle.pam_host.specs.Verdicts.{HasOther, denies_or_warns, is_other};
@@ -18,6 +18,17 @@ use crate::separators::lacks_separator;
 use pam_conf::{Kind, Module, Stack};
 use pam_facts::module_name;
 use std::alloc::AllocError;
+
+/// A problem of a module, at its line.
+fn spot_of(module: &Module, problem: Problem) -> Spot
+    ensures { result ≡ spot_at (module_text «module».now) problem }
+{
+    Spot {
+        file: Some(module.file),
+        line: module.line,
+        problem,
+    }
+}
 
 /// Appends a problem of the module with this number.
 fn push_module(
@@ -31,11 +42,7 @@ fn push_module(
     let Some(module) = stack.module(number) else {
         return Ok(());
     };
-    spots.push(Spot {
-        file: Some(module.file),
-        line: module.line,
-        problem,
-    })?;
+    spots.push(spot_of(module, problem))?;
     Ok(())
 }
 
@@ -49,11 +56,7 @@ fn push_if(
     ensures { OnOk result (Adds (λ spot. (has ≡ true) × (spot ≡ spot_at (module_text «module».now) problem)) spots.old.items spots.new.items) }
 {
     if has {
-        spots.push(Spot {
-            file: Some(module.file),
-            line: module.line,
-            problem,
-        })?;
+        spots.push(spot_of(module, problem))?;
     }
     Ok(())
 }
@@ -82,24 +85,6 @@ fn push_of_rule(
     Ok(())
 }
 
-/// Appends the problems that the module with this number has by itself.
-fn push_of_number(
-    spots: &mut Vec<Spot>,
-    modules: &Modules<'_, '_>,
-    service: &[u8],
-    kind: Kind,
-    stack: &Stack,
-    number: usize,
-) -> Result<(), AllocError>
-    ensures { OnOk result (Adds (OfNumber modules.now service.now kind stack.now number) spots.old.items spots.new.items) }
-{
-    let Some(module) = stack.module(number) else {
-        return Ok(());
-    };
-    push_of_rule(spots, modules, service, kind, module)?;
-    Ok(())
-}
-
 /// Appends the problems that modules have by themselves.
 pub(crate) fn push_modules(
     spots: &mut Vec<Spot>,
@@ -113,7 +98,9 @@ pub(crate) fn push_modules(
     // The items say that the modules are numbered from 1 on.
     let _items = stack.items();
     for index in 0..stack.modules() {
-        push_of_number(spots, modules, service, kind, stack, index + 1)?;
+        if let Some(module) = stack.module(index + 1) {
+            push_of_rule(spots, modules, service, kind, module)?;
+        }
     }
     Ok(())
 }

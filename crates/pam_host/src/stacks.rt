@@ -175,15 +175,9 @@ impl Checker<'_, '_> {
         stack_is_sound_survey();
         let is_sound = is_sound(self.rules, &survey);
         push_walk(spots, &survey.faults)?;
-        let Survey {
-            stack,
-            faults: _,
-            reached: _,
-            other_answers: _,
-        } = survey;
-        let stack = match stack {
-            Some(stack) => stack,
-            None => return Ok(None),
+        let Survey { stack, .. } = survey;
+        let Some(stack) = stack else {
+            return Ok(None);
         };
         push_modules(spots, self.modules, name, at.kind, &stack)?;
         if !is_sound {

@@ -7,10 +7,10 @@ use Rattle.pam_host.proofs.Adding.{walk-seen}
 use Rattle.pam_host.proofs.Seen.{looks-judged, looks-none, looks-unsound, stack-of}
 use Rattle.pam_host.proofs.stacks.Checker.look.Goals as goal
 
-pub returns-in-None : goal.returns-in-None
-returns-in-None c is =
+pub returns-in_default : goal.returns-in_default
+returns-in_default c is =
     looks-none c.args.self.now.rules.now c.args.self.now.modules.now c.args.name.now c.args.at.service c.args.at.kind (survey_text c.args.survey) is
-    c.stack_is_sound_survey.ensures.sound c.in-None.is c.push_walk.new.spots.items c.args.asked.now.items
+    c.stack_is_sound_survey.ensures.sound c.in_default.is c.push_walk.new.spots.items c.args.asked.now.items
     (walk-seen c.args.survey.faults.items c.deref.result.now c.args.spots.now.items c.push_walk.new.spots.items c.requires.none c.deref.ensures.value
     c.in_ok-push_walk.ensures)
 
