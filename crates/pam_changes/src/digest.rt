@@ -1,7 +1,8 @@
 //! A digest of two stacks, by which an equal pair is found again.
 
+use crate::pair::BothStacks;
 use pam_codes::{Action, CODES, Code, Control};
-use pam_conf::{Item, Kind, Module, Stack};
+use pam_conf::{Item, Kind, Module};
 
 /// The prime of FNV-1a, of 64 bits.
 const PRIME: u64 = 0x0000_0100_0000_01b3;
@@ -76,10 +77,10 @@ fn kind_number(kind: Kind) -> u64 {
 }
 
 /// The digest of two stacks of a kind. Those with the same items have the same digest, and others seldom.
-pub(crate) fn digest_of(kind: Kind, old: &Stack, new: &Stack) -> u64 {
+pub(crate) fn digest_of(stacks: &BothStacks) -> u64 {
     let mut digest = Digest { value: OFFSET };
-    digest.add(kind_number(kind));
-    digest.add_items(old.items());
-    digest.add_items(new.items());
+    digest.add(kind_number(stacks.kind));
+    digest.add_items(stacks.old.items());
+    digest.add_items(stacks.new.items());
     digest.value
 }

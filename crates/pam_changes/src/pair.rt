@@ -41,6 +41,15 @@ pub enum Decisions {
     NotKnown,
 }
 
+/// The stacks that two configurations give a service, by its position, for a kind.
+#[derive(Drop)]
+pub(crate) struct BothStacks {
+    pub service: usize,
+    pub kind: Kind,
+    pub old: Stack,
+    pub new: Stack,
+}
+
 /// Two stacks of a kind that are not the same, and how they differ.
 #[derive(Drop)]
 pub struct StackPair {
@@ -175,21 +184,24 @@ impl Matched<'_> {
 }
 
 impl StackPair {
-    /// Compares two stacks, which are met first at this service.
+    /// Compares two stacks, which are met first at their service.
     pub(crate) fn of(
         alloc: Global,
         sides: &Sides<'_, '_>,
-        service: usize,
-        kind: Kind,
-        old: Stack,
-        new: Stack,
+        stacks: BothStacks,
     ) -> Result<StackPair, AllocError>
         ensures pair { IfOk result (IsPair (sides_view sides.now)) }
-        ensures service { IfOk result (λ pair. pair.service ≡ service) }
-        ensures kind { IfOk result (λ pair. pair.kind ≡ kind) }
-        ensures old { IfOk result (λ pair. pair.old ≡ old) }
-        ensures new { IfOk result (λ pair. pair.new ≡ new) }
+        ensures service { IfOk result (λ pair. pair.service ≡ stacks.service) }
+        ensures kind { IfOk result (λ pair. pair.kind ≡ stacks.kind) }
+        ensures old { IfOk result (λ pair. pair.old ≡ stacks.old) }
+        ensures new { IfOk result (λ pair. pair.new ≡ stacks.new) }
     {
+        let BothStacks {
+            service,
+            kind,
+            old,
+            new,
+        } = stacks;
         let matching = matching_of(alloc, &old, &new)?;
         let modules = ModuleChanges::of(alloc, &old, &new, &matching)?;
         let matched = Matched {

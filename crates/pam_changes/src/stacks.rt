@@ -12,7 +12,7 @@ ghost use Rattle.pam_conf.specs.declared.rule.Kind.{Kind as KindText};
 
 use crate::digest::digest_of;
 use crate::known::are_there_alike;
-use crate::pair::StackPair;
+use crate::pair::{BothStacks, StackPair};
 use crate::same::are_same;
 use crate::sides::{Side, Sides};
 use indexmap::IndexMap;
@@ -100,12 +100,7 @@ fn stack_of(
     if !is_sound(rules, &survey) {
         return walked(alloc, side, name, kind);
     }
-    let Survey {
-        stack,
-        faults: _,
-        reached: _,
-        other_answers: _,
-    } = survey;
+    let Survey { stack, .. } = survey;
     match stack {
         Some(stack) => Ok(Ok(stack)),
         None => walked(alloc, side, name, kind),
@@ -159,8 +154,8 @@ impl Found {
     }
 
     /// The position of a pair of these stacks, if it is found.
-    fn find(&self, kind: Kind, old: &Stack, new: &Stack, digest: u64) -> Option<usize>
-        ensures { IfSome result (λ k. HasItemsAt kind old.now new.now (slice_get self.now.pairs.items k)) }
+    fn find(&self, stacks: &BothStacks, digest: u64) -> Option<usize>
+        ensures { IfSome result (λ k. HasItemsAt stacks.now.kind stacks.now.old stacks.now.new (slice_get self.now.pairs.items k)) }
     {
         let Some(position) = self.by_digest.get(&digest) else {
             return None;
@@ -169,7 +164,7 @@ impl Found {
         let Some(pair) = self.pairs.get(position) else {
             return None;
         };
-        if has_items(kind, old, new, pair) {
+        if has_items(stacks, pair) {
             return Some(position);
         }
         None
@@ -189,50 +184,36 @@ impl Found {
 }
 
 /// Whether a pair has the items of these stacks.
-fn has_items(kind: Kind, old: &Stack, new: &Stack, pair: &StackPair) -> bool
-    ensures { IsTrue result → HasItems kind old.now new.now pair.now }
+fn has_items(stacks: &BothStacks, pair: &StackPair) -> bool
+    ensures { IsTrue result → HasItems stacks.now.kind stacks.now.old stacks.now.new pair.now }
 {
-    pair.kind == kind && are_same(&pair.old, old) && are_same(&pair.new, new)
+    pair.kind == stacks.kind && are_same(&pair.old, &stacks.old) && are_same(&pair.new, &stacks.new)
 }
 
 impl Comparer<'_, '_> {
     /// The position of a pair of these two stacks, which is added if there is none.
-    fn position(
-        &self,
-        found: &mut Found,
-        service: usize,
-        kind: Kind,
-        old: Stack,
-        new: Stack,
-    ) -> Result<usize, AllocError>
+    fn position(&self, found: &mut Found, stacks: BothStacks) -> Result<usize, AllocError>
         ensures adds { OnOk result (AddsPairs (sides_view self.now.sides.now) found.old found.new) }
-        ensures pair { IfOk result (λ k. HasItemsAt kind old new (slice_get found.new.pairs.items k)) }
+        ensures pair { IfOk result (λ k. HasItemsAt stacks.kind stacks.old stacks.new (slice_get found.new.pairs.items k)) }
     {
-        let digest = digest_of(kind, &old, &new);
-        if let Some(position) = found.find(kind, &old, &new, digest) {
+        let digest = digest_of(&stacks);
+        if let Some(position) = found.find(&stacks, digest) {
             return Ok(position);
         }
-        let pair = StackPair::of(self.alloc, self.sides, service, kind, old, new)?;
+        let pair = StackPair::of(self.alloc, self.sides, stacks)?;
         let position = found.push(pair, digest)?;
         Ok(position)
     }
 
     /// What changes from one stack to another.
-    fn change(
-        &self,
-        found: &mut Found,
-        service: usize,
-        kind: Kind,
-        old: Stack,
-        new: Stack,
-    ) -> Result<StackChange, AllocError>
+    fn change(&self, found: &mut Found, stacks: BothStacks) -> Result<StackChange, AllocError>
         ensures adds { OnOk result (AddsPairs (sides_view self.now.sides.now) found.old found.new) }
-        ensures change { IfOk result (IsChange (sides_view self.now.sides.now) found.new.pairs.items kind (Ok old) (Ok new)) }
+        ensures change { IfOk result (IsChange (sides_view self.now.sides.now) found.new.pairs.items stacks.kind (Ok stacks.old) (Ok stacks.new)) }
     {
-        if are_same(&old, &new) && are_there_alike(self.sides, &old) {
+        if are_same(&stacks.old, &stacks.new) && are_there_alike(self.sides, &stacks.old) {
             return Ok(StackChange::Same);
         }
-        let position = self.position(found, service, kind, old, new)?;
+        let position = self.position(found, stacks)?;
         Ok(StackChange::Differs(position))
     }
 
@@ -250,7 +231,15 @@ impl Comparer<'_, '_> {
     {
         match old {
             Ok(old) => match new {
-                Ok(new) => self.change(found, service, kind, old, new),
+                Ok(new) => {
+                    let stacks = BothStacks {
+                        service,
+                        kind,
+                        old,
+                        new,
+                    };
+                    self.change(found, stacks)
+                }
                 Err(new) => Ok(refused(None, Some(new))),
             },
             Err(old) => Ok(refused(Some(old), fault_of(new))),
