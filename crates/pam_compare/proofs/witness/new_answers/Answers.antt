@@ -1,4 +1,4 @@
-use Rattle.std.proofs.Common.{◌∙◌, ap, arith, subst}
+use Rattle.std.proofs.Common.{◌∙◌, ap}
 use Rattle.pam_compare.specs.inner.Naming.{by_code}
 use Rattle.pam_compare.specs.inner.Trails.{answers_on}
 use Rattle.pam_compare.proofs.Witnessing.{answers-none, answers-push}

@@ -1,6 +1,3 @@
-use Rattle.std.proofs.Common.{arith, subst}
-use Rattle.pam_compare.specs.inner.Naming.{by_code}
-use Rattle.pam_compare.specs.inner.Trails.{answers_on}
 use Rattle.pam_compare.proofs.Witnessing.{answers-none, answers-push}
 use Rattle.pam_compare.proofs.witness.old_answers.Goals as goal
 
