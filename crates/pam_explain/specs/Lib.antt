@@ -6,6 +6,7 @@ pub mod OldTables
 pub mod Paths
 pub mod Released
 pub mod Rules
+pub mod Shared
 pub mod Stacks
 pub mod Tables
 pub mod Views

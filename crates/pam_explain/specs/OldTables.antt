@@ -1,6 +1,7 @@
 -- What released Linux-PAM reads otherwise in tables: access.conf(5), time.conf(5).
 use Rattle.std.specs.Prelude.{List, [], ◌∷◌, ◌++◌, codes}
 use Rattle.pam_explain.specs.Explanation.{Explanation}
+use Rattle.pam_explain.specs.Shared.{end_line}
 use Rattle.pam_explain.specs.declared.explanation.Level.TheVariants.{Note, Warning}
 
 -- lines and tokens of an access table
@@ -41,8 +42,7 @@ access_lines =
       linux_pam =
           codes "1.5.2 and 1.7.0 pass over it. A last line that keeps out all others\n"
           ++ codes "then keeps out nobody.";
-      mending =
-          codes "end the line with a line feed: echo >>FILE.";
+      mending = end_line;
     }
     ∷ record {
       number = codes "A3";
@@ -165,8 +165,7 @@ time_lines =
       linux_pam =
           codes "1.5.2 and 1.7.0 read no times in it, so the rule denies at all\n"
           ++ codes "times.";
-      mending =
-          codes "end the line with a line feed: echo >>FILE.";
+      mending = end_line;
     }
     ∷ record {
       number = codes "T2";

@@ -1,6 +1,7 @@
 -- Faults of cursors and moments.
 use Rattle.std.specs.Prelude.{List, [], ◌∷◌, ◌++◌, codes}
 use Rattle.pam_explain.specs.Explanation.{Explanation}
+use Rattle.pam_explain.specs.Shared.{fault_of_words, own_cursor, take_cursor}
 use Rattle.pam_explain.specs.declared.explanation.Level.TheVariants.{Error}
 
 -- cursors
@@ -18,8 +19,7 @@ cursors =
           ∷ codes "auth required pam_unix.so"
           ∷ codes "$ pamcheck paths login auth --dir . --after 1,2"
           ∷ [];
-      linux_pam =
-          codes "a cursor is pamcheck's own.";
+      linux_pam = own_cursor;
       mending =
           codes "copy the cursor from the last line of a page.";
     }
@@ -36,11 +36,8 @@ cursors =
           ∷ codes "auth optional pam_unix.so"
           ∷ codes "$ pamcheck paths login auth --dir . --after 3"
           ∷ [];
-      linux_pam =
-          codes "a cursor is pamcheck's own.";
-      mending =
-          codes "list the paths of the stack as it is now, and take a cursor from\n"
-          ++ codes "there.";
+      linux_pam = own_cursor;
+      mending = take_cursor;
     }
     ∷ record {
       number = codes "C3";
@@ -55,11 +52,8 @@ cursors =
           ∷ codes "auth required pam_unix.so"
           ∷ codes "$ pamcheck paths login auth --dir . --after 0"
           ∷ [];
-      linux_pam =
-          codes "a cursor is pamcheck's own.";
-      mending =
-          codes "list the paths of the stack as it is now, and take a cursor from\n"
-          ++ codes "there.";
+      linux_pam = own_cursor;
+      mending = take_cursor;
     }
     ∷ record {
       number = codes "C4";
@@ -73,11 +67,8 @@ cursors =
           ∷ codes "auth required pam_unix.so"
           ∷ codes "$ pamcheck paths login auth --dir . --after 0.0"
           ∷ [];
-      linux_pam =
-          codes "a cursor is pamcheck's own.";
-      mending =
-          codes "list the paths of the stack as it is now, and take a cursor from\n"
-          ++ codes "there.";
+      linux_pam = own_cursor;
+      mending = take_cursor;
     }
     ∷ []
 
@@ -95,8 +86,7 @@ moments =
           codes "$ echo 'login;*;*;Al0800-1800' >time.conf"
           ∷ codes "$ pamcheck time login --time time.conf --user alice --at-unix 253402207201"
           ∷ [];
-      linux_pam =
-          codes "this is a fault of the words that pamcheck was given.";
+      linux_pam = fault_of_words;
       mending =
           codes "count the seconds since 1970-01-01 00:00 UTC. A time in\n"
           ++ codes "milliseconds has three digits too many.";
@@ -112,8 +102,7 @@ moments =
           codes "$ echo 'login;*;*;Al0800-1800' >time.conf"
           ∷ codes "$ pamcheck time login --time time.conf --user alice --at-unix 0 --zone CET"
           ∷ [];
-      linux_pam =
-          codes "this is a fault of the words that pamcheck was given.";
+      linux_pam = fault_of_words;
       mending =
           codes "write a rule such as CET-1CEST,M3.5.0,M10.5.0/3. The last line of\n"
           ++ codes "a file in /usr/share/zoneinfo is one.";
@@ -128,8 +117,7 @@ moments =
           codes "$ echo 'login;*;*;Al0800-1800' >time.conf"
           ∷ codes "$ pamcheck time login --time time.conf --user alice --at 2024-02-30T07:59"
           ∷ [];
-      linux_pam =
-          codes "this is a fault of the words that pamcheck was given.";
+      linux_pam = fault_of_words;
       mending =
           codes "write YYYY-MM-DDTHH:MM, or the same with :SS.";
     }

@@ -1,6 +1,7 @@
 -- Faults of a rule by itself.
 use Rattle.std.specs.Prelude.{List, [], ◌∷◌, ◌++◌, codes}
 use Rattle.pam_explain.specs.Explanation.{Explanation}
+use Rattle.pam_explain.specs.Shared.{control_fails, restore_file, rule_fails}
 use Rattle.pam_explain.specs.declared.explanation.Level.TheVariants.{Error}
 
 -- files that are no text, and rules of which a part is missing or wrong
@@ -18,9 +19,7 @@ broken_rules =
           ∷ [];
       linux_pam =
           codes "it does not refuse such a file, and reads on.";
-      mending =
-          codes "restore the file from a copy. If only the byte is wrong, tr -d\n"
-          ++ codes "'\\000' removes it.";
+      mending = restore_file;
     }
     ∷ record {
       number = codes "E2";
@@ -33,8 +32,7 @@ broken_rules =
           codes "# login"
           ∷ codes "auth required"
           ∷ [];
-      linux_pam =
-          codes "1.5.2 and 1.7.0 make a rule of it that always fails.";
+      linux_pam = rule_fails;
       mending =
           codes "write the words that are missing, or remove the line.";
     }
@@ -49,8 +47,7 @@ broken_rules =
           codes "# login"
           ∷ codes "auht required pam_unix.so"
           ∷ [];
-      linux_pam =
-          codes "1.5.2 and 1.7.0 make a rule of it that always fails.";
+      linux_pam = rule_fails;
       mending =
           codes "correct the word. A - before it is allowed: it only keeps a\n"
           ++ codes "missing module out of the system log.";
@@ -66,9 +63,7 @@ broken_rules =
           codes "# login"
           ∷ codes "auth requird pam_unix.so"
           ∷ [];
-      linux_pam =
-          codes "where 1.5.2 and 1.7.0 cannot read a control, each answer of the\n"
-          ++ codes "module counts as a failure (bad), success too.";
+      linux_pam = control_fails;
       mending =
           codes "write required, requisite, sufficient, optional, include or\n"
           ++ codes "substack, or pairs such as [success=1 default=ignore].";
@@ -91,9 +86,7 @@ broken_controls =
           ∷ codes "auth requisite pam_deny.so"
           ∷ codes "auth required pam_permit.so"
           ∷ [];
-      linux_pam =
-          codes "where 1.5.2 and 1.7.0 cannot read a control, each answer of the\n"
-          ++ codes "module counts as a failure (bad), success too.";
+      linux_pam = control_fails;
       mending =
           codes "correct the name; pam.conf(5) lists them all. default stands for\n"
           ++ codes "each code that is not named.";
@@ -108,9 +101,7 @@ broken_controls =
           codes "# login"
           ∷ codes "auth [success=don default=die] pam_unix.so"
           ∷ [];
-      linux_pam =
-          codes "where 1.5.2 and 1.7.0 cannot read a control, each answer of the\n"
-          ++ codes "module counts as a failure (bad), success too.";
+      linux_pam = control_fails;
       mending =
           codes "write ignore, bad, die, ok, done, reset, or the number of items to\n"
           ++ codes "jump over, which has at most 9 digits.";

@@ -1,6 +1,7 @@
 -- Faults of a stack: files that rules name, and limits.
 use Rattle.std.specs.Prelude.{List, [], ◌∷◌, ◌++◌, codes}
 use Rattle.pam_explain.specs.Explanation.{Explanation}
+use Rattle.pam_explain.specs.Shared.{deep_substacks, fault_of_run, fault_of_words, free_memory, no_limit, own_limit, rule_fails}
 use Rattle.pam_explain.specs.declared.explanation.Level.TheVariants.{Error, Warning}
 
 -- files that rules name
@@ -17,8 +18,7 @@ broken_includes =
           codes "# login"
           ∷ codes "auth include"
           ∷ [];
-      linux_pam =
-          codes "1.5.2 and 1.7.0 make a rule of it that always fails.";
+      linux_pam = rule_fails;
       mending =
           codes "write the name of the file, or remove the line.";
     }
@@ -69,8 +69,7 @@ broken_includes =
           codes "$ for n in $(seq 1 16); do echo \"auth include f$((n+1))\" >f$n; done"
           ∷ codes "$ echo 'auth required pam_unix.so' >f17"
           ∷ [];
-      linux_pam =
-          codes "pam.conf(5) names no limit. This one is pamcheck's.";
+      linux_pam = no_limit;
       mending =
           codes "include fewer files in one another.";
     }
@@ -88,8 +87,7 @@ missing_and_long_files =
       example =
           codes "$ yes 'auth required pam_unix.so' | head -n 257 >login"
           ∷ [];
-      linux_pam =
-          codes "pam.conf(5) names no limit. This one is pamcheck's.";
+      linux_pam = no_limit;
       mending =
           codes "remove rules, or files that are included more than once.";
     }
@@ -159,11 +157,8 @@ limits =
           codes "The system gave no memory. This says nothing of the configuration.";
       example =
           [];
-      linux_pam =
-          codes "this is a fault of pamcheck's run alone.";
-      mending =
-          codes "free memory, or raise the limit of the process, and run pamcheck\n"
-          ++ codes "again.";
+      linux_pam = fault_of_run;
+      mending = free_memory;
     }
     ∷ record {
       number = codes "E18";
@@ -176,8 +171,7 @@ limits =
           codes "$ yes 'auth include common' | head -n 257 >login"
           ∷ codes "$ echo '# no rules yet' >common"
           ∷ [];
-      linux_pam =
-          codes "pam.conf(5) names no limit. This one is pamcheck's.";
+      linux_pam = no_limit;
       mending =
           codes "include fewer files.";
     }
@@ -190,16 +184,8 @@ limits =
           ++ codes "there, and the states in which the open substacks began. outcomes, graph, and\n"
           ++ codes "paths with --decision or --asks look at each of them. paths without these has\n"
           ++ codes "no such limit. A picture, graph --format svg, has 400 places at most.";
-      example =
-          codes "$ for n in $(seq 1 15); do"
-          ∷ codes "> printf 'auth required pam_unix.so\\nauth substack f%d\\n' $((n+1)) >f$n"
-          ∷ codes "> echo 'auth [success=ok ignore=reset default=bad] pam_ldap.so' >>f$n"
-          ∷ codes "> done"
-          ∷ codes "$ echo 'auth required pam_unix.so' >f16"
-          ∷ codes "$ pamcheck outcomes f1 auth --dir ."
-          ∷ [];
-      linux_pam =
-          codes "this limit is pamcheck's. The stack itself may be sound.";
+      example = deep_substacks (codes "$ pamcheck outcomes f1 auth --dir ." ∷ []);
+      linux_pam = own_limit;
       mending =
           codes "give a returns file with what the modules can answer (--returns),\n"
           ++ codes "or use fewer substacks in one another.";
@@ -216,8 +202,7 @@ limits =
           ∷ codes "auth required pam_unix.so"
           ∷ codes "$ pamcheck decide login auth success success --dir ."
           ∷ [];
-      linux_pam =
-          codes "this is a fault of the words that pamcheck was given.";
+      linux_pam = fault_of_words;
       mending =
           codes "give a code for each module, in the order of their numbers. show\n"
           ++ codes "prints these numbers.";

@@ -1,6 +1,7 @@
 -- Faults of tables.
 use Rattle.std.specs.Prelude.{List, [], ◌∷◌, ◌++◌, codes}
 use Rattle.pam_explain.specs.Explanation.{Explanation}
+use Rattle.pam_explain.specs.Shared.{fault_of_run, free_memory, own_accept_file, own_returns_file, restore_file}
 use Rattle.pam_explain.specs.declared.explanation.Level.TheVariants.{Error, Note}
 
 -- lines of a table
@@ -189,9 +190,7 @@ lists_and_groups =
       linux_pam =
           codes "access.conf(5), time.conf(5) and group(5) say nothing of such\n"
           ++ codes "files.";
-      mending =
-          codes "restore the file from a copy. If only the byte is wrong, tr -d\n"
-          ++ codes "'\\000' removes it.";
+      mending = restore_file;
     }
     ∷ record {
       number = codes "TE11";
@@ -202,11 +201,8 @@ lists_and_groups =
           ++ codes "table.";
       example =
           [];
-      linux_pam =
-          codes "this is a fault of pamcheck's run alone.";
-      mending =
-          codes "free memory, or raise the limit of the process, and run pamcheck\n"
-          ++ codes "again.";
+      linux_pam = fault_of_run;
+      mending = free_memory;
     }
     ∷ []
 
@@ -241,8 +237,7 @@ returns_files =
           ∷ codes "pam_unix.so succes"
           ∷ codes "$ pamcheck paths login auth --dir . --returns returns"
           ∷ [];
-      linux_pam =
-          codes "a returns file is pamcheck's own, and Linux-PAM does not read it.";
+      linux_pam = own_returns_file;
       mending =
           codes "correct the name: success, auth_err and the other codes of pam(3),\n"
           ++ codes "without the prefix PAM_.";
@@ -261,8 +256,7 @@ returns_files =
           ∷ codes "/lib/security/pam_unix.so success"
           ∷ codes "$ pamcheck paths login auth --dir . --returns returns"
           ∷ [];
-      linux_pam =
-          codes "a returns file is pamcheck's own, and Linux-PAM does not read it.";
+      linux_pam = own_returns_file;
       mending =
           codes "write the name of the file alone, as pam_unix.so.";
     }
@@ -283,8 +277,7 @@ accept_and_facts_files =
           ∷ codes "$ mkdir m; echo login S2 > m/accept"
           ∷ codes "$ pamcheck check --dir . --accept m/accept"
           ∷ [];
-      linux_pam =
-          codes "an accept file is pamcheck's own, and Linux-PAM does not read it.";
+      linux_pam = own_accept_file;
       mending =
           codes "write L1 login:3 for a line, S2 login auth for a stack, and S7\n"
           ++ codes "Login for a file as a whole.";

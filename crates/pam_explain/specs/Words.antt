@@ -1,6 +1,7 @@
 -- Faults of the words of the command line, and of reads and writes.
 use Rattle.std.specs.Prelude.{List, [], ◌∷◌, ◌++◌, codes}
 use Rattle.pam_explain.specs.Explanation.{Explanation}
+use Rattle.pam_explain.specs.Shared.{fault_of_run, fault_of_words, free_memory, give_one}
 use Rattle.pam_explain.specs.declared.explanation.Level.TheVariants.{Error}
 
 -- words that name what is asked about
@@ -16,8 +17,7 @@ sources_and_names =
       example =
           codes "$ pamcheck show \"$(printf '\\377')\" auth --dir ."
           ∷ [];
-      linux_pam =
-          codes "this is a fault of the words that pamcheck was given.";
+      linux_pam = fault_of_words;
       mending =
           codes "write the word in UTF-8, or rename the file that it names.";
     }
@@ -46,8 +46,7 @@ sources_and_names =
       example =
           codes "$ pamcheck show login atuh --dir ."
           ∷ [];
-      linux_pam =
-          codes "this is a fault of the words that pamcheck was given.";
+      linux_pam = fault_of_words;
       mending =
           codes "write auth, account, password or session.";
     }
@@ -60,8 +59,7 @@ sources_and_names =
       example =
           codes "$ pamcheck decide login auth succes --dir ."
           ∷ [];
-      linux_pam =
-          codes "this is a fault of the words that pamcheck was given.";
+      linux_pam = fault_of_words;
       mending =
           codes "write success, auth_err or another code of pam(3), without the\n"
           ++ codes "prefix PAM_.";
@@ -81,8 +79,7 @@ questions =
       example =
           codes "$ pamcheck paths login auth --dir . --access access.conf"
           ∷ [];
-      linux_pam =
-          codes "this is a fault of the words that pamcheck was given.";
+      linux_pam = fault_of_words;
       mending =
           codes "add --user, and where the table asks for them --rhost and --tty.";
     }
@@ -96,8 +93,7 @@ questions =
       example =
           codes "$ pamcheck time login --time time.conf --user alice"
           ∷ [];
-      linux_pam =
-          codes "this is a fault of the words that pamcheck was given.";
+      linux_pam = fault_of_words;
       mending =
           codes "give --at 2024-05-11T07:59, or --at-unix with the seconds and, if\n"
           ++ codes "it is not UTC, --zone.";
@@ -110,11 +106,8 @@ questions =
           codes "The system gave no memory while the words of the command line were read.";
       example =
           [];
-      linux_pam =
-          codes "this is a fault of pamcheck's run alone.";
-      mending =
-          codes "free memory, or raise the limit of the process, and run pamcheck\n"
-          ++ codes "again.";
+      linux_pam = fault_of_run;
+      mending = free_memory;
     }
     ∷ record {
       number = codes "U8";
@@ -126,10 +119,8 @@ questions =
       example =
           codes "$ pamcheck paths login auth --dir . --after 0 --before 1"
           ∷ [];
-      linux_pam =
-          codes "this is a fault of the words that pamcheck was given.";
-      mending =
-          codes "give one of the two.";
+      linux_pam = fault_of_words;
+      mending = give_one;
     }
     ∷ []
 
@@ -147,8 +138,7 @@ filters_and_forms =
           ∷ codes "auth required pam_unix.so"
           ∷ codes "$ pamcheck paths login auth --dir . --asks 2"
           ∷ [];
-      linux_pam =
-          codes "this is a fault of the words that pamcheck was given.";
+      linux_pam = fault_of_words;
       mending =
           codes "take the number from the lines that show prints.";
     }
@@ -164,8 +154,7 @@ filters_and_forms =
           ∷ codes "auth required pam_unix.so"
           ∷ codes "$ pamcheck paths login auth --dir . --set pam_unx.so=success"
           ∷ [];
-      linux_pam =
-          codes "this is a fault of the words that pamcheck was given.";
+      linux_pam = fault_of_words;
       mending =
           codes "take the name, number or place from the lines that show prints.";
     }
@@ -178,10 +167,8 @@ filters_and_forms =
       example =
           codes "$ pamcheck paths login auth --dir . --decision success --asks 1"
           ∷ [];
-      linux_pam =
-          codes "this is a fault of the words that pamcheck was given.";
-      mending =
-          codes "give one of the two.";
+      linux_pam = fault_of_words;
+      mending = give_one;
     }
     ∷ record {
       number = codes "U12";
@@ -192,8 +179,7 @@ filters_and_forms =
       example =
           codes "$ pamcheck graph login auth --dir . --format png"
           ∷ [];
-      linux_pam =
-          codes "this is a fault of the words that pamcheck was given.";
+      linux_pam = fault_of_words;
       mending =
           codes "write dot or mermaid, in small letters. Graphviz makes a picture\n"
           ++ codes "of the first: dot -Tpng.";
@@ -212,8 +198,7 @@ settings_and_files =
       example =
           codes "$ pamcheck paths login auth --dir . --set pam_unix.so"
           ∷ [];
-      linux_pam =
-          codes "this is a fault of the words that pamcheck was given.";
+      linux_pam = fault_of_words;
       mending =
           codes "write --set KEY=CODES, as --set pam_unix.so=success,auth_err.";
     }
@@ -228,8 +213,7 @@ settings_and_files =
       example =
           codes "$ pamcheck check --dir no-such-folder"
           ∷ [];
-      linux_pam =
-          codes "this is a fault of pamcheck's run alone.";
+      linux_pam = fault_of_run;
       mending =
           codes "correct the name, or run pamcheck as a user who may read it.";
     }
@@ -245,8 +229,7 @@ settings_and_files =
           ∷ codes "auth required pam_unix.so"
           ∷ codes "$ pamcheck show login auth --dir . >/dev/full"
           ∷ [];
-      linux_pam =
-          codes "this is a fault of pamcheck's run alone.";
+      linux_pam = fault_of_run;
       mending =
           codes "make room, and run pamcheck again.";
     }
@@ -264,8 +247,7 @@ names_and_candidates =
       example =
           codes "$ pamcheck check --dir . --fail-on fatal"
           ∷ [];
-      linux_pam =
-          codes "this is a fault of the words that pamcheck was given.";
+      linux_pam = fault_of_words;
       mending =
           codes "write error, warning or note, in small letters.";
     }
@@ -278,8 +260,7 @@ names_and_candidates =
       example =
           codes "$ pamcheck explain E20"
           ∷ [];
-      linux_pam =
-          codes "this is a fault of the words that pamcheck was given.";
+      linux_pam = fault_of_words;
       mending =
           codes "write a number as E15. The command explain alone lists all.";
     }
@@ -293,8 +274,7 @@ names_and_candidates =
       example =
           codes "$ pamcheck show login auth --dir . --with login"
           ∷ [];
-      linux_pam =
-          codes "this is a fault of the words that pamcheck was given.";
+      linux_pam = fault_of_words;
       mending =
           codes "write --with NAME=FILE, as --with sshd=/tmp/sshd, beside --dir or\n"
           ++ codes "--root.";
@@ -309,8 +289,7 @@ names_and_candidates =
       example =
           codes "$ pamcheck show login auth --dir . --as linux-pam-1.6"
           ∷ [];
-      linux_pam =
-          codes "this is a fault of the words that pamcheck was given.";
+      linux_pam = fault_of_words;
       mending =
           codes "write linux-pam-1.5 or linux-pam-1.7, without --json.";
     }

@@ -8,6 +8,7 @@ mod old_tables;
 mod paths;
 mod released;
 mod rules;
+mod shared;
 mod stacks;
 mod table;
 mod tables;

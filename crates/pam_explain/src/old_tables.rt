@@ -5,6 +5,7 @@ ghost use Rattle.pam_explain.specs.OldTables as spec;
 ghost use Rattle.pam_explain.specs.Views.{explanation_view};
 
 use crate::explanation::{Explanation, Level};
+use crate::shared::END_LINE;
 
 static ACCESS_LINES: [Explanation; 4] = [
     Explanation {
@@ -43,7 +44,7 @@ static ACCESS_LINES: [Explanation; 4] = [
             "1.5.2 and 1.7.0 pass over it. A last line that keeps out all others\n",
             "then keeps out nobody."
         ),
-        mending: "end the line with a line feed: echo >>FILE.",
+        mending: END_LINE,
     },
     Explanation {
         number: "A3",
@@ -162,7 +163,7 @@ static TIME_LINES: [Explanation; 4] = [
             "1.5.2 and 1.7.0 read no times in it, so the rule denies at all\n",
             "times."
         ),
-        mending: "end the line with a line feed: echo >>FILE.",
+        mending: END_LINE,
     },
     Explanation {
         number: "T2",

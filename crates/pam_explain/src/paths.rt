@@ -5,6 +5,7 @@ ghost use Rattle.pam_explain.specs.Paths as spec;
 ghost use Rattle.pam_explain.specs.Views.{explanation_view};
 
 use crate::explanation::{Explanation, Level};
+use crate::shared::{FAULT_OF_WORDS, OWN_CURSOR, TAKE_CURSOR};
 
 static CURSORS: [Explanation; 4] = [
     Explanation {
@@ -20,7 +21,7 @@ static CURSORS: [Explanation; 4] = [
             "auth required pam_unix.so",
             "$ pamcheck paths login auth --dir . --after 1,2",
         ],
-        linux_pam: "a cursor is pamcheck's own.",
+        linux_pam: OWN_CURSOR,
         mending: "copy the cursor from the last line of a page.",
     },
     Explanation {
@@ -37,11 +38,8 @@ static CURSORS: [Explanation; 4] = [
             "auth optional pam_unix.so",
             "$ pamcheck paths login auth --dir . --after 3",
         ],
-        linux_pam: "a cursor is pamcheck's own.",
-        mending: concat!(
-            "list the paths of the stack as it is now, and take a cursor from\n",
-            "there."
-        ),
+        linux_pam: OWN_CURSOR,
+        mending: TAKE_CURSOR,
     },
     Explanation {
         number: "C3",
@@ -57,11 +55,8 @@ static CURSORS: [Explanation; 4] = [
             "auth required pam_unix.so",
             "$ pamcheck paths login auth --dir . --after 0",
         ],
-        linux_pam: "a cursor is pamcheck's own.",
-        mending: concat!(
-            "list the paths of the stack as it is now, and take a cursor from\n",
-            "there."
-        ),
+        linux_pam: OWN_CURSOR,
+        mending: TAKE_CURSOR,
     },
     Explanation {
         number: "C4",
@@ -76,11 +71,8 @@ static CURSORS: [Explanation; 4] = [
             "auth required pam_unix.so",
             "$ pamcheck paths login auth --dir . --after 0.0",
         ],
-        linux_pam: "a cursor is pamcheck's own.",
-        mending: concat!(
-            "list the paths of the stack as it is now, and take a cursor from\n",
-            "there."
-        ),
+        linux_pam: OWN_CURSOR,
+        mending: TAKE_CURSOR,
     },
 ];
 
@@ -104,7 +96,7 @@ static MOMENTS: [Explanation; 3] = [
             "$ echo 'login;*;*;Al0800-1800' >time.conf",
             "$ pamcheck time login --time time.conf --user alice --at-unix 253402207201",
         ],
-        linux_pam: "this is a fault of the words that pamcheck was given.",
+        linux_pam: FAULT_OF_WORDS,
         mending: concat!(
             "count the seconds since 1970-01-01 00:00 UTC. A time in\n",
             "milliseconds has three digits too many."
@@ -122,7 +114,7 @@ static MOMENTS: [Explanation; 3] = [
             "$ echo 'login;*;*;Al0800-1800' >time.conf",
             "$ pamcheck time login --time time.conf --user alice --at-unix 0 --zone CET",
         ],
-        linux_pam: "this is a fault of the words that pamcheck was given.",
+        linux_pam: FAULT_OF_WORDS,
         mending: concat!(
             "write a rule such as CET-1CEST,M3.5.0,M10.5.0/3. The last line of\n",
             "a file in /usr/share/zoneinfo is one."
@@ -137,7 +129,7 @@ static MOMENTS: [Explanation; 3] = [
             "$ echo 'login;*;*;Al0800-1800' >time.conf",
             "$ pamcheck time login --time time.conf --user alice --at 2024-02-30T07:59",
         ],
-        linux_pam: "this is a fault of the words that pamcheck was given.",
+        linux_pam: FAULT_OF_WORDS,
         mending: "write YYYY-MM-DDTHH:MM, or the same with :SS.",
     },
 ];

@@ -5,6 +5,7 @@ ghost use Rattle.pam_explain.specs.Rules as spec;
 ghost use Rattle.pam_explain.specs.Views.{explanation_view};
 
 use crate::explanation::{Explanation, Level};
+use crate::shared::{CONTROL_FAILS, RESTORE_FILE, RULE_FAILS};
 
 static BROKEN_RULES: [Explanation; 4] = [
     Explanation {
@@ -17,10 +18,7 @@ static BROKEN_RULES: [Explanation; 4] = [
         ),
         example: &["$ printf 'auth required pam_unix.so\\0\\n' >login"],
         linux_pam: "it does not refuse such a file, and reads on.",
-        mending: concat!(
-            "restore the file from a copy. If only the byte is wrong, tr -d\n",
-            "'\\000' removes it."
-        ),
+        mending: RESTORE_FILE,
     },
     Explanation {
         number: "E2",
@@ -31,7 +29,7 @@ static BROKEN_RULES: [Explanation; 4] = [
             "all three, and in pam.conf the service before them."
         ),
         example: &["# login", "auth required"],
-        linux_pam: "1.5.2 and 1.7.0 make a rule of it that always fails.",
+        linux_pam: RULE_FAILS,
         mending: "write the words that are missing, or remove the line.",
     },
     Explanation {
@@ -43,7 +41,7 @@ static BROKEN_RULES: [Explanation; 4] = [
             "in no stack, and what it was to check is not checked."
         ),
         example: &["# login", "auht required pam_unix.so"],
-        linux_pam: "1.5.2 and 1.7.0 make a rule of it that always fails.",
+        linux_pam: RULE_FAILS,
         mending: concat!(
             "correct the word. A - before it is allowed: it only keeps a\n",
             "missing module out of the system log."
@@ -58,10 +56,7 @@ static BROKEN_RULES: [Explanation; 4] = [
             "This one is not a keyword, and not pairs CODE=ACTION in one pair of brackets."
         ),
         example: &["# login", "auth requird pam_unix.so"],
-        linux_pam: concat!(
-            "where 1.5.2 and 1.7.0 cannot read a control, each answer of the\n",
-            "module counts as a failure (bad), success too."
-        ),
+        linux_pam: CONTROL_FAILS,
         mending: concat!(
             "write required, requisite, sufficient, optional, include or\n",
             "substack, or pairs such as [success=1 default=ignore]."
@@ -91,10 +86,7 @@ static BROKEN_CONTROLS: [Explanation; 4] = [
             "auth requisite pam_deny.so",
             "auth required pam_permit.so",
         ],
-        linux_pam: concat!(
-            "where 1.5.2 and 1.7.0 cannot read a control, each answer of the\n",
-            "module counts as a failure (bad), success too."
-        ),
+        linux_pam: CONTROL_FAILS,
         mending: concat!(
             "correct the name; pam.conf(5) lists them all. default stands for\n",
             "each code that is not named."
@@ -106,10 +98,7 @@ static BROKEN_CONTROLS: [Explanation; 4] = [
         level: Level::Error,
         meaning: "In a control in brackets, the word after = is not an action.",
         example: &["# login", "auth [success=don default=die] pam_unix.so"],
-        linux_pam: concat!(
-            "where 1.5.2 and 1.7.0 cannot read a control, each answer of the\n",
-            "module counts as a failure (bad), success too."
-        ),
+        linux_pam: CONTROL_FAILS,
         mending: concat!(
             "write ignore, bad, die, ok, done, reset, or the number of items to\n",
             "jump over, which has at most 9 digits."

@@ -5,6 +5,9 @@ ghost use Rattle.pam_explain.specs.Stacks as spec;
 ghost use Rattle.pam_explain.specs.Views.{explanation_view};
 
 use crate::explanation::{Explanation, Level};
+use crate::shared::{
+    FAULT_OF_RUN, FAULT_OF_WORDS, FREE_MEMORY, NO_LIMIT, OWN_LIMIT, RULE_FAILS, deep_substacks,
+};
 
 static BROKEN_INCLUDES: [Explanation; 4] = [
     Explanation {
@@ -16,7 +19,7 @@ static BROKEN_INCLUDES: [Explanation; 4] = [
             "meant are not in the stack."
         ),
         example: &["# login", "auth include"],
-        linux_pam: "1.5.2 and 1.7.0 make a rule of it that always fails.",
+        linux_pam: RULE_FAILS,
         mending: "write the name of the file, or remove the line.",
     },
     Explanation {
@@ -60,7 +63,7 @@ static BROKEN_INCLUDES: [Explanation; 4] = [
             "$ for n in $(seq 1 16); do echo \"auth include f$((n+1))\" >f$n; done",
             "$ echo 'auth required pam_unix.so' >f17",
         ],
-        linux_pam: "pam.conf(5) names no limit. This one is pamcheck's.",
+        linux_pam: NO_LIMIT,
         mending: "include fewer files in one another.",
     },
 ];
@@ -79,7 +82,7 @@ static MISSING_AND_LONG_FILES: [Explanation; 4] = [
         level: Level::Error,
         meaning: "A stack has more than 256 modules, those of included files among them.",
         example: &["$ yes 'auth required pam_unix.so' | head -n 257 >login"],
-        linux_pam: "pam.conf(5) names no limit. This one is pamcheck's.",
+        linux_pam: NO_LIMIT,
         mending: "remove rules, or files that are included more than once.",
     },
     Explanation {
@@ -151,11 +154,8 @@ static LIMITS: [Explanation; 4] = [
         level: Level::Error,
         meaning: "The system gave no memory. This says nothing of the configuration.",
         example: &[],
-        linux_pam: "this is a fault of pamcheck's run alone.",
-        mending: concat!(
-            "free memory, or raise the limit of the process, and run pamcheck\n",
-            "again."
-        ),
+        linux_pam: FAULT_OF_RUN,
+        mending: FREE_MEMORY,
     },
     Explanation {
         number: "E18",
@@ -169,7 +169,7 @@ static LIMITS: [Explanation; 4] = [
             "$ yes 'auth include common' | head -n 257 >login",
             "$ echo '# no rules yet' >common",
         ],
-        linux_pam: "pam.conf(5) names no limit. This one is pamcheck's.",
+        linux_pam: NO_LIMIT,
         mending: "include fewer files.",
     },
     Explanation {
@@ -182,15 +182,8 @@ static LIMITS: [Explanation; 4] = [
             "paths with --decision or --asks look at each of them. paths without these has\n",
             "no such limit. A picture, graph --format svg, has 400 places at most."
         ),
-        example: &[
-            "$ for n in $(seq 1 15); do",
-            "> printf 'auth required pam_unix.so\\nauth substack f%d\\n' $((n+1)) >f$n",
-            "> echo 'auth [success=ok ignore=reset default=bad] pam_ldap.so' >>f$n",
-            "> done",
-            "$ echo 'auth required pam_unix.so' >f16",
-            "$ pamcheck outcomes f1 auth --dir .",
-        ],
-        linux_pam: "this limit is pamcheck's. The stack itself may be sound.",
+        example: deep_substacks!["$ pamcheck outcomes f1 auth --dir ."],
+        linux_pam: OWN_LIMIT,
         mending: concat!(
             "give a returns file with what the modules can answer (--returns),\n",
             "or use fewer substacks in one another."
@@ -209,7 +202,7 @@ static LIMITS: [Explanation; 4] = [
             "auth required pam_unix.so",
             "$ pamcheck decide login auth success success --dir .",
         ],
-        linux_pam: "this is a fault of the words that pamcheck was given.",
+        linux_pam: FAULT_OF_WORDS,
         mending: concat!(
             "give a code for each module, in the order of their numbers. show\n",
             "prints these numbers."

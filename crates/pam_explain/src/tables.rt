@@ -5,6 +5,7 @@ ghost use Rattle.pam_explain.specs.Tables as spec;
 ghost use Rattle.pam_explain.specs.Views.{explanation_view};
 
 use crate::explanation::{Explanation, Level};
+use crate::shared::{FAULT_OF_RUN, FREE_MEMORY, OWN_ACCEPT_FILE, OWN_RETURNS_FILE, RESTORE_FILE};
 
 static TABLE_LINES: [Explanation; 3] = [
     Explanation {
@@ -201,10 +202,7 @@ static LISTS_AND_GROUPS: [Explanation; 4] = [
             "access.conf(5), time.conf(5) and group(5) say nothing of such\n",
             "files."
         ),
-        mending: concat!(
-            "restore the file from a copy. If only the byte is wrong, tr -d\n",
-            "'\\000' removes it."
-        ),
+        mending: RESTORE_FILE,
     },
     Explanation {
         number: "TE11",
@@ -215,11 +213,8 @@ static LISTS_AND_GROUPS: [Explanation; 4] = [
             "table."
         ),
         example: &[],
-        linux_pam: "this is a fault of pamcheck's run alone.",
-        mending: concat!(
-            "free memory, or raise the limit of the process, and run pamcheck\n",
-            "again."
-        ),
+        linux_pam: FAULT_OF_RUN,
+        mending: FREE_MEMORY,
     },
 ];
 
@@ -255,7 +250,7 @@ static RETURNS_FILES: [Explanation; 3] = [
             "pam_unix.so succes",
             "$ pamcheck paths login auth --dir . --returns returns",
         ],
-        linux_pam: "a returns file is pamcheck's own, and Linux-PAM does not read it.",
+        linux_pam: OWN_RETURNS_FILE,
         mending: concat!(
             "correct the name: success, auth_err and the other codes of pam(3),\n",
             "without the prefix PAM_."
@@ -276,7 +271,7 @@ static RETURNS_FILES: [Explanation; 3] = [
             "/lib/security/pam_unix.so success",
             "$ pamcheck paths login auth --dir . --returns returns",
         ],
-        linux_pam: "a returns file is pamcheck's own, and Linux-PAM does not read it.",
+        linux_pam: OWN_RETURNS_FILE,
         mending: "write the name of the file alone, as pam_unix.so.",
     },
 ];
@@ -300,7 +295,7 @@ static ACCEPT_AND_FACTS_FILES: [Explanation; 2] = [
             "$ mkdir m; echo login S2 > m/accept",
             "$ pamcheck check --dir . --accept m/accept",
         ],
-        linux_pam: "an accept file is pamcheck's own, and Linux-PAM does not read it.",
+        linux_pam: OWN_ACCEPT_FILE,
         mending: concat!(
             "write L1 login:3 for a line, S2 login auth for a stack, and S7\n",
             "Login for a file as a whole."

@@ -5,6 +5,7 @@ ghost use Rattle.pam_explain.specs.Words as spec;
 ghost use Rattle.pam_explain.specs.Views.{explanation_view};
 
 use crate::explanation::{Explanation, Level};
+use crate::shared::{FAULT_OF_RUN, FAULT_OF_WORDS, FREE_MEMORY, GIVE_ONE};
 
 static SOURCES_AND_NAMES: [Explanation; 4] = [
     Explanation {
@@ -16,7 +17,7 @@ static SOURCES_AND_NAMES: [Explanation; 4] = [
             "text of the parser, which names them."
         ),
         example: &["$ pamcheck show \"$(printf '\\377')\" auth --dir ."],
-        linux_pam: "this is a fault of the words that pamcheck was given.",
+        linux_pam: FAULT_OF_WORDS,
         mending: "write the word in UTF-8, or rename the file that it names.",
     },
     Explanation {
@@ -40,7 +41,7 @@ static SOURCES_AND_NAMES: [Explanation; 4] = [
         level: Level::Error,
         meaning: "The word after the service is not a kind.",
         example: &["$ pamcheck show login atuh --dir ."],
-        linux_pam: "this is a fault of the words that pamcheck was given.",
+        linux_pam: FAULT_OF_WORDS,
         mending: "write auth, account, password or session.",
     },
     Explanation {
@@ -49,7 +50,7 @@ static SOURCES_AND_NAMES: [Explanation; 4] = [
         level: Level::Error,
         meaning: "A word is not the name of a return code.",
         example: &["$ pamcheck decide login auth succes --dir ."],
-        linux_pam: "this is a fault of the words that pamcheck was given.",
+        linux_pam: FAULT_OF_WORDS,
         mending: concat!(
             "write success, auth_err or another code of pam(3), without the\n",
             "prefix PAM_."
@@ -74,7 +75,7 @@ static QUESTIONS: [Explanation; 4] = [
             "depends on who logs in."
         ),
         example: &["$ pamcheck paths login auth --dir . --access access.conf"],
-        linux_pam: "this is a fault of the words that pamcheck was given.",
+        linux_pam: FAULT_OF_WORDS,
         mending: "add --user, and where the table asks for them --rhost and --tty.",
     },
     Explanation {
@@ -86,7 +87,7 @@ static QUESTIONS: [Explanation; 4] = [
             "that do not fit."
         ),
         example: &["$ pamcheck time login --time time.conf --user alice"],
-        linux_pam: "this is a fault of the words that pamcheck was given.",
+        linux_pam: FAULT_OF_WORDS,
         mending: concat!(
             "give --at 2024-05-11T07:59, or --at-unix with the seconds and, if\n",
             "it is not UTC, --zone."
@@ -98,11 +99,8 @@ static QUESTIONS: [Explanation; 4] = [
         level: Level::Error,
         meaning: "The system gave no memory while the words of the command line were read.",
         example: &[],
-        linux_pam: "this is a fault of pamcheck's run alone.",
-        mending: concat!(
-            "free memory, or raise the limit of the process, and run pamcheck\n",
-            "again."
-        ),
+        linux_pam: FAULT_OF_RUN,
+        mending: FREE_MEMORY,
     },
     Explanation {
         number: "U8",
@@ -113,8 +111,8 @@ static QUESTIONS: [Explanation; 4] = [
             "those before one."
         ),
         example: &["$ pamcheck paths login auth --dir . --after 0 --before 1"],
-        linux_pam: "this is a fault of the words that pamcheck was given.",
-        mending: "give one of the two.",
+        linux_pam: FAULT_OF_WORDS,
+        mending: GIVE_ONE,
     },
 ];
 
@@ -136,7 +134,7 @@ static FILTERS_AND_FORMS: [Explanation; 4] = [
             "auth required pam_unix.so",
             "$ pamcheck paths login auth --dir . --asks 2",
         ],
-        linux_pam: "this is a fault of the words that pamcheck was given.",
+        linux_pam: FAULT_OF_WORDS,
         mending: "take the number from the lines that show prints.",
     },
     Explanation {
@@ -152,7 +150,7 @@ static FILTERS_AND_FORMS: [Explanation; 4] = [
             "auth required pam_unix.so",
             "$ pamcheck paths login auth --dir . --set pam_unx.so=success",
         ],
-        linux_pam: "this is a fault of the words that pamcheck was given.",
+        linux_pam: FAULT_OF_WORDS,
         mending: "take the name, number or place from the lines that show prints.",
     },
     Explanation {
@@ -161,8 +159,8 @@ static FILTERS_AND_FORMS: [Explanation; 4] = [
         level: Level::Error,
         meaning: "Both --decision and --asks are given.",
         example: &["$ pamcheck paths login auth --dir . --decision success --asks 1"],
-        linux_pam: "this is a fault of the words that pamcheck was given.",
-        mending: "give one of the two.",
+        linux_pam: FAULT_OF_WORDS,
+        mending: GIVE_ONE,
     },
     Explanation {
         number: "U12",
@@ -170,7 +168,7 @@ static FILTERS_AND_FORMS: [Explanation; 4] = [
         level: Level::Error,
         meaning: "The word after --format is not a format that graph can draw.",
         example: &["$ pamcheck graph login auth --dir . --format png"],
-        linux_pam: "this is a fault of the words that pamcheck was given.",
+        linux_pam: FAULT_OF_WORDS,
         mending: concat!(
             "write dot or mermaid, in small letters. Graphviz makes a picture\n",
             "of the first: dot -Tpng."
@@ -192,7 +190,7 @@ static SETTINGS_AND_FILES: [Explanation; 3] = [
         level: Level::Error,
         meaning: "A value of --set does not have the form KEY=CODES.",
         example: &["$ pamcheck paths login auth --dir . --set pam_unix.so"],
-        linux_pam: "this is a fault of the words that pamcheck was given.",
+        linux_pam: FAULT_OF_WORDS,
         mending: "write --set KEY=CODES, as --set pam_unix.so=success,auth_err.",
     },
     Explanation {
@@ -205,7 +203,7 @@ static SETTINGS_AND_FILES: [Explanation; 3] = [
             "where the host is not sound."
         ),
         example: &["$ pamcheck check --dir no-such-folder"],
-        linux_pam: "this is a fault of pamcheck's run alone.",
+        linux_pam: FAULT_OF_RUN,
         mending: "correct the name, or run pamcheck as a user who may read it.",
     },
     Explanation {
@@ -221,7 +219,7 @@ static SETTINGS_AND_FILES: [Explanation; 3] = [
             "auth required pam_unix.so",
             "$ pamcheck show login auth --dir . >/dev/full",
         ],
-        linux_pam: "this is a fault of pamcheck's run alone.",
+        linux_pam: FAULT_OF_RUN,
         mending: "make room, and run pamcheck again.",
     },
 ];
@@ -240,7 +238,7 @@ static NAMES_AND_CANDIDATES: [Explanation; 4] = [
         level: Level::Error,
         meaning: "The word after --fail-on is not a level.",
         example: &["$ pamcheck check --dir . --fail-on fatal"],
-        linux_pam: "this is a fault of the words that pamcheck was given.",
+        linux_pam: FAULT_OF_WORDS,
         mending: "write error, warning or note, in small letters.",
     },
     Explanation {
@@ -249,7 +247,7 @@ static NAMES_AND_CANDIDATES: [Explanation; 4] = [
         level: Level::Error,
         meaning: "No fault or finding has the number that explain was given.",
         example: &["$ pamcheck explain E20"],
-        linux_pam: "this is a fault of the words that pamcheck was given.",
+        linux_pam: FAULT_OF_WORDS,
         mending: "write a number as E15. The command explain alone lists all.",
     },
     Explanation {
@@ -261,7 +259,7 @@ static NAMES_AND_CANDIDATES: [Explanation; 4] = [
             "--conf, whose one file is for all services and has no NAME."
         ),
         example: &["$ pamcheck show login auth --dir . --with login"],
-        linux_pam: "this is a fault of the words that pamcheck was given.",
+        linux_pam: FAULT_OF_WORDS,
         mending: concat!(
             "write --with NAME=FILE, as --with sshd=/tmp/sshd, beside --dir or\n",
             "--root."
@@ -276,7 +274,7 @@ static NAMES_AND_CANDIDATES: [Explanation; 4] = [
             "stands beside --json: these rules have no JSON."
         ),
         example: &["$ pamcheck show login auth --dir . --as linux-pam-1.6"],
-        linux_pam: "this is a fault of the words that pamcheck was given.",
+        linux_pam: FAULT_OF_WORDS,
         mending: "write linux-pam-1.5 or linux-pam-1.7, without --json.",
     },
 ];
