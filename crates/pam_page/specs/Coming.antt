@@ -1,5 +1,5 @@
 -- A listing, as contracts see it: its remaining paths, its direction and its work.
-use Rattle.std.specs.Prelude.{ℕ, ◌+◌, ◌*◌, List, codes}
+use Rattle.std.specs.Prelude.{◌≡◌, ℕ, ◌+◌, ◌*◌, ◌≤◌, List, codes}
 use Rattle.pam_paths.specs.Paths.{PathValue}
 use Rattle.pam_page.specs.declared.listing.Listing.{Listing}
 use Rattle.pam_page.specs.declared.listing.Listing.TheVariants.{Forward, Backward, WalksForward, WalksBackward}
@@ -38,3 +38,12 @@ most_steps (Forward explorer) = 64 * (explorer.modules + 1)
 most_steps (Backward before) = 64 * (before.modules + 1)
 most_steps (WalksForward walks) = 0
 most_steps (WalksBackward walks) = 0
+
+-- what following at most `count` paths leaves: the same side, and no more work than each of them can make
+abbrev pub GoesOn : {K : Type 0} → ℕ → Listing K → Listing K → Type 0
+GoesOn count old new = record {
+  same_side : side new ≡ side old;
+  same_most : most_steps new ≡ most_steps old;
+  bounded : work new ≤ work old + most_steps old * count;
+  grows : work old ≤ work new;
+}

@@ -1,19 +1,16 @@
 -- the lines so far are written or kept, and the later paths remain
-use Rattle.std.proofs.Common.{◌≡◌, ◌+◌, ◌*◌, ◌≤◌, take, drop, length}
+use Rattle.std.proofs.Common.{◌≡◌, ◌≤◌, take, drop, length}
 use Rattle.std.specs.List.{flat_map}
-use Rattle.pam_page.specs.Coming.{coming, followed, most_steps, side, work}
+use Rattle.pam_page.specs.Coming.{GoesOn, coming, followed}
 use Rattle.pam_page.specs.inner.Lines.{Holds}
 use Rattle.pam_page.specs.Page.{path_line}
 use Rattle.pam_page.proofs.page.put_lines.Given as goal
 
 abbrev pub invariant-loop-count : goal.invariant-loop-count
 invariant-loop-count g l = record {
-  written : Holds g.W.Write.contents l.initial.out l.out l.lines (flat_map path_line (take l.count (coming l.fn.listing)));
+  written : Holds g.W.Write.contents l.initial.out l.out l.lines.lines (flat_map path_line (take l.count (coming l.fn.listing)));
   left : coming l.listing ≡ drop l.count (coming l.fn.listing);
-  side : side l.listing ≡ side l.fn.listing;
-  kept : l.texts ≡ take (length l.texts) (followed l.listing).steps;
+  kept : l.lines.texts ≡ take (length l.lines.texts) (followed l.listing).steps;
   within : l.count ≤ length (coming l.fn.listing);
-  same : most_steps l.listing ≡ most_steps l.fn.listing;
-  steps : work l.listing ≤ work l.fn.listing + most_steps l.fn.listing * l.count;
-  grows : work l.fn.listing ≤ work l.listing;
+  listing : GoesOn l.count l.fn.listing l.listing;
 }
