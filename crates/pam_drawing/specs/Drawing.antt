@@ -217,8 +217,16 @@ abbrev pub last_line : Format → List ℕ
 last_line Dot = codes "}\n"
 last_line Mermaid = []
 
+-- the nodes, after their columns, and then the ends
+unfoldable pub shapes_text : Format → Items → GraphValue → List ℕ
+shapes_text format items graph =
+    columns_text format items ++ flat_map (node_text format items) (drawn_nodes graph.nodes) ++ ends_text format graph
+
+-- the edges; the first of them comes from the start
+unfoldable pub start_and_edges : Format → GraphValue → List ℕ
+start_and_edges format graph = start_text format graph.start ++ flat_map (node_edges format) (drawn_nodes graph.nodes)
+
 -- THE DRAWING of a graph of the runs of a stack
 unfoldable pub drawing : Format → List ℕ → Items → GraphValue → List ℕ
 drawing format title items graph =
-    title_text format title ++ columns_text format items ++ flat_map (node_text format items) (drawn_nodes graph.nodes) ++ ends_text format graph
-    ++ start_text format graph.start ++ flat_map (node_edges format) (drawn_nodes graph.nodes) ++ last_line format
+    title_text format title ++ shapes_text format items graph ++ start_and_edges format graph ++ last_line format

@@ -2,7 +2,7 @@
 
 ghost use Rattle.std.specs.Prelude.{◌≡◌};
 ghost use Rattle.pam_codes.specs.Out.{Writes};
-ghost use Rattle.pam_drawing.specs.Drawing.{drawing, first_lines, last_line, next_lines, title_text};
+ghost use Rattle.pam_drawing.specs.Drawing.{drawing, first_lines, last_line, next_lines, shapes_text, start_and_edges, title_text};
 ghost use Rattle.pam_drawing.specs.declared.format.Format.TheVariants.{Dot, Mermaid};
 
 use crate::edge::{put_all_edges, put_ends, put_start};
@@ -70,6 +70,34 @@ fn put_last_line<W: Write>(format: Format, out: &mut Out<W>) -> Result<(), Devic
     }
 }
 
+/// Writes the nodes, after their columns, and then the ends.
+#[tactic(auto, unfolding(crate::specs::Drawing::shapes_text))]
+fn put_shapes<W: Write>(
+    format: Format,
+    graph: &Graph,
+    stack: &Stack,
+    out: &mut Out<W>,
+) -> Result<(), Device>
+    ensures { Writes W.contents out.old out.new result (shapes_text format stack.now graph.now) }
+{
+    put_columns(format, stack, out)?;
+    put_nodes(format, stack, graph.nodes(), out)?;
+    put_ends(format, graph, out)
+}
+
+/// Writes the edges; the first of them comes from the start.
+#[tactic(auto, unfolding(crate::specs::Drawing::start_and_edges))]
+fn put_start_and_edges<W: Write>(
+    format: Format,
+    graph: &Graph,
+    out: &mut Out<W>,
+) -> Result<(), Device>
+    ensures { Writes W.contents out.old out.new result (start_and_edges format graph.now) }
+{
+    put_start(format, graph.start(), out)?;
+    put_all_edges(format, graph.nodes(), out)
+}
+
 #[tactic(auto, unfolding(crate::specs::Drawing::drawing))]
 fn put_drawing<W: Write>(
     format: Format,
@@ -81,11 +109,8 @@ fn put_drawing<W: Write>(
     ensures { Writes W.contents out.old out.new result (drawing format title.now stack.now graph.now) }
 {
     put_title(format, title, out)?;
-    put_columns(format, stack, out)?;
-    put_nodes(format, stack, graph.nodes(), out)?;
-    put_ends(format, graph, out)?;
-    put_start(format, graph.start(), out)?;
-    put_all_edges(format, graph.nodes(), out)?;
+    put_shapes(format, graph, stack, out)?;
+    put_start_and_edges(format, graph, out)?;
     put_last_line(format, out)
 }
 
