@@ -177,16 +177,7 @@ pub(crate) fn nearest_right<'a>(
         FaultKind::BadKind => nearest_kind(alloc, word),
         FaultKind::Control(error) => nearest_control(alloc, error, word),
         FaultKind::NoService => Ok(nearest(names, word)),
-        FaultKind::NulByte
-        | FaultKind::MissingField
-        | FaultKind::MissingTarget
-        | FaultKind::BadTarget
-        | FaultKind::Cycle
-        | FaultKind::TooDeep
-        | FaultKind::TooManyModules
-        | FaultKind::IncludeInSingleFile
-        | FaultKind::FileTooLong
-        | FaultKind::Memory
-        | FaultKind::TooManyFollowed => Ok(None),
+        // The sentences of all others name no word.
+        _ => Ok(None),
     }
 }
