@@ -16,7 +16,7 @@ use Rattle.pam_graph.specs.declared.node.Node.{Node}
 use Rattle.pam_graph.specs.declared.node.Target.{Target}
 use Rattle.pam_graph.specs.declared.node.Target.TheVariants.{At, End}
 use Rattle.pam_graph.specs.declared.tally.Tally.{Tally}
-use Rattle.pam_graph.specs.Goals.{fit, meets}
+use Rattle.pam_graph.specs.Goals.{fit, meeting, meets}
 use Rattle.pam_graph.specs.inner.Tallies.{count_to, has_walks, met_at_end, met_by, number, plus, step_by}
 use Rattle.pam_graph.specs.Tallies.{wanted, wanted_of}
 use Rattle.pam_graph.specs.inner.Tallies.{sum_from, tallies_of, tally_at, tally_by, tally_of}
@@ -213,7 +213,6 @@ module _ (goal : Goal) (is_met : Bool) (known : List (List PathValue)) (tallies 
   pub some-onward : has_walks (count_to goal is_met tallies t) ≡ true → onward ≡ [] → ⊥
   some-onward h none = false≢true (ap (λ (x : List PathValue). nat_lt 0 (length x)) (sym none) ∙ sym has-onward ∙ h)
 
--- whether a walk meets a goal
-pub any-meets : (goal : Goal) (known : List (List PathValue)) (t : Target) →
-    has_walks (count_to goal false (map (tally_of goal) known) t) ≡ list_any (meets goal) (walks_to known t)
-any-meets goal known t = has-onward goal false known (map (tally_of goal) known) t refl ∙ some-filter (meets goal) (walks_to known t)
+-- whether a walk meets a goal, from the number of those that do
+pub any-counted : (goal : Goal) (walks : List PathValue) → has_walks (fit (length (meeting goal walks))) ≡ list_any (meets goal) walks
+any-counted goal walks = has-fit (length (meeting goal walks)) ∙ some-filter (meets goal) walks

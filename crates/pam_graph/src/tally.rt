@@ -168,7 +168,6 @@ impl Graph {
     pub fn is_met(&self, alloc: Global, goal: &Goal) -> Result<bool, GraphError>
         ensures { IfOk result (λ is. is ≡ list_any (meets goal.now) (walks self.now)) }
     {
-        let tallies = tallies(alloc, goal, &self.nodes)?;
-        Ok(has_walks(count_to(goal, false, &tallies, &self.start)))
+        Ok(has_walks(self.count(alloc, goal)?))
     }
 }
