@@ -14,7 +14,7 @@ use crate::sides::{Side, Sides};
 use pam_codes::CodeSet;
 use pam_compare::Matching;
 use pam_conf::{Kind, Module, Stack};
-use pam_facts::is_there;
+use pam_facts::{is_there, replace_codes};
 use pam_known::name_of_path;
 use pam_paths::Known;
 use pam_settings::Setting;
@@ -95,11 +95,7 @@ fn add_told(sides: &Sides<'_, '_>, there: Option<&Texts>, stack: &Stack, known: 
         (λ number. unwrap_or (told_at told.returns told.settings (option_map (λ t. t.now) there.entry) stack.now number) (base number)) }
 {
     for index in 0..stack.modules() {
-        if let Some(codes) = told_at(sides, there, stack, index + 1) {
-            // A set says with its length that its codes are in order.
-            let _count = codes.len();
-            known.set(index + 1, codes);
-        }
+        replace_codes(known, index + 1, told_at(sides, there, stack, index + 1));
     }
 }
 

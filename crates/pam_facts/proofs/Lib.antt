@@ -5,7 +5,6 @@ pub mod FactSteps
 pub mod HeadSteps
 pub mod KindSteps
 pub mod LawSteps
-pub mod MissingCodes
 pub mod Replaced
 pub mod RowSteps
 pub mod TableSteps

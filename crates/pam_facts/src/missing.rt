@@ -8,6 +8,7 @@ ghost use Rattle.pam_facts.specs.Answers.{Allows};
 ghost use Rattle.pam_facts.specs.Missing.{if_missing, missing_at, where_there};
 
 use crate::answers::{is_there, module_unknown};
+use crate::replacing::replace_codes;
 use pam_codes::CodeSet;
 use pam_conf::{Module, Stack};
 use pam_paths::Known;
@@ -45,8 +46,6 @@ pub fn set_missing(there: Option<&Texts>, stack: &Stack, known: &mut Known)
         → Allows (module_count stack.now) known.new (where_there (option_map (λ t. t.now) there.entry) stack.now codes) }
 {
     for index in 0..stack.modules() {
-        if let Some(codes) = missing_at(there, stack, index + 1) {
-            known.set(index + 1, codes);
-        }
+        replace_codes(known, index + 1, missing_at(there, stack, index + 1));
     }
 }

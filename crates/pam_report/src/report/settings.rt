@@ -18,7 +18,7 @@ use super::known_stack::KnownStack;
 use crate::fault::Fault;
 use pam_codes::CodeSet;
 use pam_conf::{Files, Module, Stack};
-use pam_facts::set_missing;
+use pam_facts::{replace_codes, set_missing};
 use pam_known::name_of_path;
 use pam_paths::Known;
 use pam_settings::Setting;
@@ -107,11 +107,7 @@ fn set_codes(files: &Files, settings: &[Setting<'_>], stack: &Stack, known: &mut
         (λ number. unwrap_or (set_at_number files.now (map setting_view settings.now) stack.now number) (base number)) }
 {
     for index in 0..stack.modules() {
-        if let Some(codes) = set_at(files, settings, stack, index + 1) {
-            // A set says with its length that its codes are in order.
-            let _count = codes.len();
-            known.set(index + 1, codes);
-        }
+        replace_codes(known, index + 1, set_at(files, settings, stack, index + 1));
     }
 }
 
