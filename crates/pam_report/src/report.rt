@@ -1,10 +1,11 @@
 //! Replies to requests: each is computed, and nothing is written.
 
-ghost use Rattle.std.specs.Prelude.{◌≡◌, ◌≤◌, unwrap_or};
+ghost use Rattle.std.specs.Prelude.{◌≡◌, ◌≤◌, is_some, unwrap_or};
 ghost use Rattle.pam_report.specs.Answer.{AnswersBy, Replies};
 ghost use Rattle.pam_report.specs.Finds.{Finds};
 ghost use Rattle.pam_report.specs.Inputs.{files_given, no_files};
 ghost use Rattle.pam_report.specs.Memory.{WantsOnly, wants};
+ghost use Rattle.pam_report.specs.Moments.{IsGivenMoment};
 ghost use Rattle.pam_report.specs.Reply.{status_number};
 ghost use Rattle.pam_report.specs.inner.Tasks.{IsAboutRuns, IsAboutService};
 
@@ -42,7 +43,7 @@ use decide::decided;
 use explain::explained;
 pub use graph::{GraphReply, MAX_PICTURE_NODES};
 use graph::{DrawingRequest, answer_graph};
-use known_stack::StackRequest;
+use known_stack::{Sources, StackRequest};
 use outcomes::answer_outcomes;
 pub use outcomes::{Outcome, Outcomes, OutcomesReply};
 use pam_conf::{Files, Form, Kind};
@@ -115,6 +116,28 @@ fn stack_request<'a>(
     }
 }
 
+/// What the runs of a stack are found from.
+fn sources_of<'x, 's>(
+    alloc: Global,
+    files: &'x Files,
+    inputs: &'x Inputs,
+    knowledge: &'x KnowledgeSource<'s>,
+) -> Sources<'x, 's>
+    ensures files { result.files.now ≡ files.now }
+    ensures inputs { result.inputs.now ≡ inputs.now }
+    ensures settings { result.settings.now ≡ knowledge.now.settings.items }
+    ensures moment { IsGivenMoment knowledge.now.moment result.moment }
+    ensures given { is_some result.moment ≡ is_some knowledge.now.moment }
+{
+    Sources {
+        alloc,
+        files,
+        inputs,
+        settings: &knowledge.settings,
+        moment: given_moment(knowledge.moment),
+    }
+}
+
 /// Returns the reply to a request about the runs of a stack: what they come to, by which paths, or a drawing of them.
 #[tactic(auto, unfolding(crate::specs::Answer::AnswersBy))]
 fn reply_about_runs<'a>(
@@ -143,8 +166,7 @@ fn reply_about_runs<'a>(
                 part: *part,
                 filter: *filter,
             };
-            let moment = given_moment(knowledge.moment);
-            answer_paths(alloc, &page, moment, &knowledge.settings, files, inputs)
+            answer_paths(&sources_of(alloc, files, inputs, knowledge), &page)
         }
         Task::Outcomes {
             kind,
@@ -152,8 +174,7 @@ fn reply_about_runs<'a>(
             ..
         } => {
             let stack = stack_request(service, *kind, knowledge);
-            let moment = given_moment(knowledge.moment);
-            answer_outcomes(alloc, &stack, moment, &knowledge.settings, files, inputs)
+            answer_outcomes(&sources_of(alloc, files, inputs, knowledge), &stack)
         }
         Task::Graph {
             kind,
@@ -165,8 +186,7 @@ fn reply_about_runs<'a>(
                 stack: stack_request(service, *kind, knowledge),
                 format: *format,
             };
-            let moment = given_moment(knowledge.moment);
-            answer_graph(alloc, &drawing, moment, &knowledge.settings, files, inputs)
+            answer_graph(&sources_of(alloc, files, inputs, knowledge), &drawing)
         }
         _ => unreachable!(),
     }

@@ -1,19 +1,26 @@
 -- For private contracts and proofs alone: a known stack that is found, or why there is none.
-use Rattle.std.specs.Prelude.{◌≡◌, ⊤, ℕ, List, Option, Result, Ok, Err}
+use Rattle.std.specs.Prelude.{◌≡◌, ⊤, ℕ, List, Option, Result, Ok, Err, is_some, map}
 use Rattle.pam_conf.specs.Stack.{Items, module_count}
 use Rattle.pam_known.specs.Knowledge.{Agree, allows_codes}
 use Rattle.pam_known.specs.Reads.{IsOfRead, TablesRead}
 use Rattle.pam_known.specs.Tables.{TablesText, TimedText}
 use Rattle.pam_known.specs.declared.error.KnownError.{KnownError}
 use Rattle.pam_paths.specs.Known.{may_answer}
+use Rattle.pam_paths.specs.Listing.{Allowance}
 use Rattle.pam_paths.specs.declared.knowledge.Known.{Known}
+use Rattle.pam_settings.specs.Settings.{setting_view}
+use Rattle.pam_report.specs.Answer.{stack_at}
 use Rattle.pam_report.specs.Fault.{known_fault}
 use Rattle.pam_report.specs.KnownStack.{KnownItems}
-use Rattle.pam_report.specs.Finds.{IsConfFault, IsTableFault, IsTimeFault}
+use Rattle.pam_report.specs.Finds.{Finds, IsConfFault, IsTableFault, IsTimeFault}
+use Rattle.pam_report.specs.Memory.{WantsOnly, of_paths, paths_tables}
 use Rattle.pam_report.specs.Reply.{Answer}
 use Rattle.pam_report.specs.declared.fault.Fault.{Fault}
 use Rattle.pam_report.specs.declared.fault.Fault.TheVariants as faults
 use Rattle.pam_report.specs.declared.report.known_stack.KnownStack.{KnownStack}
+use Rattle.pam_report.specs.declared.report.known_stack.Sources.{Sources}
+use Rattle.pam_report.specs.declared.report.known_stack.StackRequest.{StackRequest}
+use Rattle.pam_report.specs.declared.report.replies.Reply.{Reply}
 
 -- an answer that is the fault of a result
 abbrev pub IsErrOf : {A : Type 0} → Result A Fault → Answer → Type 0
@@ -39,6 +46,20 @@ pub record AreCodesOf (items : Items) (known : Known) (told : Result KnownItems 
 abbrev pub FindsKnown : Items → Result Known Fault → Result KnownItems Fault → Type 0
 FindsKnown items (Ok known) told = AreCodesOf items known told
 FindsKnown items (Err fault) told = IsFaultOf told fault
+
+-- the stack that is asked for, with the codes that its modules may return
+abbrev pub stack_from : Sources → StackRequest → Result KnownItems Fault
+stack_from sources asked =
+    stack_at asked.service.now asked.kind asked.login (map setting_view sources.settings.now) sources.inputs.now sources.moment sources.files.now
+
+-- memory runs out only as it may where the runs of a stack are found
+abbrev pub WantsForRuns : Sources → Result Reply Fault → Type 0
+WantsForRuns sources result = WantsOnly (of_paths (paths_tables (is_some sources.moment) sources.inputs.now)) result
+
+-- a call finds an answer that this relation has of a known stack
+abbrev pub FindsOf : (Items → Allowance → Answer → Type 0) → KnownStack → Result Reply Fault → Type 0
+FindsOf IsAnswerOf found result =
+    (allows : Allowance) → Agree (module_count found.stack) (may_answer found.known) allows → Finds result (IsAnswerOf found.stack allows)
 
 abbrev pub FindsStack : Result KnownStack Fault → Result KnownItems Fault → Type 0
 FindsStack (Ok found) told = AreCodesOf found.stack found.known told

@@ -1,29 +1,20 @@
 //! The `graph` command: the graph of all runs of a stack.
 
-ghost use Rattle.std.specs.Prelude.{◌≡◌, is_some, map};
-ghost use Rattle.pam_conf.specs.Stack.{module_count};
-ghost use Rattle.pam_known.specs.Knowledge.{Agree};
+ghost use Rattle.std.specs.Prelude.{◌≡◌};
 ghost use Rattle.pam_paths.specs.Known.{may_answer};
-ghost use Rattle.pam_paths.specs.Listing.{Allowance};
-ghost use Rattle.pam_report.specs.Answer.{stack_at};
 ghost use Rattle.pam_report.specs.Finds.{Finds};
 ghost use Rattle.pam_report.specs.Graph.{IsGraphReply, IsGraphReplyOf, has_too_many};
 ghost use Rattle.pam_report.specs.inner.GraphViews.{FindsGraph};
-ghost use Rattle.pam_report.specs.Memory.{WantsOnly, of_paths, paths_tables};
+ghost use Rattle.pam_report.specs.inner.Known.{FindsOf, WantsForRuns, stack_from};
 ghost use Rattle.pam_report.specs.inner.Memory.{WantsWork};
-ghost use Rattle.pam_settings.specs.Settings.{setting_view};
 
-use super::known_stack::{KnownStack, StackRequest, known_stack};
+use super::known_stack::{KnownStack, Sources, StackRequest, known_stack};
 use super::replies::Reply;
 use crate::fault::Fault;
-use crate::inputs::Inputs;
-use jiff::civil::DateTime;
-use pam_conf::{Files, Kind, Stack};
+use pam_conf::{Kind, Stack};
 use pam_dispatch::Program;
 use pam_graph::{Graph, GraphError};
 use pam_paths::Known;
-use pam_settings::Setting;
-use pam_times::MomentError;
 use pam_words::GraphFormat;
 use std::alloc::Global;
 
@@ -79,8 +70,7 @@ fn answer_known<'a>(
     request: &DrawingRequest<'a>,
     found: KnownStack,
 ) -> Result<Reply<'a>, Fault>
-    ensures answer { (allows : Allowance) → Agree (module_count found.stack) (may_answer found.known) allows
-        → Finds result (IsGraphReplyOf request.now.format request.now.stack.service.now request.now.stack.kind found.stack allows) }
+    ensures answer { FindsOf (IsGraphReplyOf request.now.format request.now.stack.service.now request.now.stack.kind) found result }
     ensures wants { WantsWork result }
 {
     let graph = match graph_of(alloc, &found.stack, &found.known) {
@@ -101,20 +91,15 @@ fn answer_known<'a>(
 
 /// Returns the graph of the stack that is asked for.
 pub(super) fn answer_graph<'a>(
-    alloc: Global,
+    sources: &Sources<'_, '_>,
     request: &DrawingRequest<'a>,
-    moment: Option<Result<DateTime, MomentError>>,
-    settings: &[Setting<'_>],
-    files: &Files,
-    inputs: &Inputs,
 ) -> Result<Reply<'a>, Fault>
     ensures answer { let asked = request.now.stack in
-        let stack = stack_at asked.service.now asked.kind asked.login (map setting_view settings.now) inputs.now moment files.now in
-        Finds result (IsGraphReply request.now.format asked.service.now asked.kind stack) }
-    ensures wants { WantsOnly (of_paths (paths_tables (is_some moment) inputs.now)) result }
+        Finds result (IsGraphReply request.now.format asked.service.now asked.kind (stack_from sources.now asked)) }
+    ensures wants { WantsForRuns sources.now result }
 {
-    match known_stack(alloc, &request.stack, moment, settings, files, inputs) {
-        Ok(found) => answer_known(alloc, request, found),
+    match known_stack(sources, &request.stack) {
+        Ok(found) => answer_known(sources.alloc, request, found),
         Err(fault) => Err(fault),
     }
 }

@@ -1,18 +1,16 @@
 //! What the commands about paths begin with: the stack of a service, and what is known of the answers of its modules.
 
-ghost use Rattle.std.specs.Prelude.{◌≡◌, IfErr, None, is_some, map, option_map};
+ghost use Rattle.std.specs.Prelude.{◌≡◌, IfErr, None, is_some, option_map};
 ghost use Rattle.jiff.specs.Types.{DateTime as CivilTime};
 ghost use Rattle.pam_conf.specs.Resolution.{resolved};
 ghost use Rattle.pam_report.specs.Answer.{login_at};
 ghost use Rattle.pam_known.specs.Knowledge.{knowledge};
 ghost use Rattle.pam_known.specs.Reads.{tables_read};
 ghost use Rattle.pam_known.specs.Tables.{tables_view, timed_view};
-ghost use Rattle.pam_report.specs.Inputs.{tables_given as tables_in, there_given};
-ghost use Rattle.pam_report.specs.inner.Known.{FindsKnown, FindsStack, IsFaultOfRead, with_time};
+ghost use Rattle.pam_report.specs.Inputs.{tables_given as tables_in};
+ghost use Rattle.pam_report.specs.inner.Known.{FindsKnown, FindsStack, IsFaultOfRead, stack_from, with_time};
 ghost use Rattle.pam_report.specs.KnownStack.{known_at as stack_at, known_items, known_stack as stack_known, known_then as stack_then};
 ghost use Rattle.pam_report.specs.Memory.{IsWanting, of_paths, paths_tables};
-ghost use Rattle.pam_report.specs.Settings.{with_settings as settled};
-ghost use Rattle.pam_settings.specs.Settings.{setting_view};
 ghost use Rattle.pam_tables.specs.Login.{login_view};
 
 use super::login::{login_to, lowered};
@@ -36,6 +34,16 @@ pub(super) struct StackRequest<'a> {
     pub service: &'a str,
     pub kind: Kind,
     pub login: Login<'a>,
+}
+
+/// What the runs of a stack are found from: the files, the tables, the codes that are set, and the moment, if one is given.
+#[derive(Clone, Copy)]
+pub(super) struct Sources<'x, 's> {
+    pub alloc: Global,
+    pub files: &'x Files,
+    pub inputs: &'x Inputs,
+    pub settings: &'x [Setting<'s>],
+    pub moment: Option<Result<DateTime, MomentError>>,
 }
 
 /// A stack, and the codes that its modules may return.
@@ -146,22 +154,22 @@ fn known_to(
 
 /// Returns the stack, and the codes that its modules may return by tables and the returns file, or the first fault: of the
 /// configuration, then of the moment, then of the tables.
-fn told_stack(
-    alloc: Global,
-    request: &StackRequest<'_>,
-    moment: Option<Result<DateTime, MomentError>>,
-    files: &Files,
-    inputs: &Inputs,
-) -> Result<KnownStack, Fault>
-    ensures stack { FindsStack result (stack_known request.now.kind (login_at request.now.service.now request.now.login) inputs.now moment
-        (resolved files.now request.now.service.now request.now.kind)) }
-    ensures wants { IfErr result (IsWanting (of_paths (paths_tables (is_some moment) inputs.now))) }
+fn told_stack(sources: &Sources<'_, '_>, request: &StackRequest<'_>) -> Result<KnownStack, Fault>
+    ensures stack { FindsStack result (stack_known request.now.kind (login_at request.now.service.now request.now.login) sources.now.inputs.now
+        sources.now.moment (resolved sources.now.files.now request.now.service.now request.now.kind)) }
+    ensures wants { IfErr result (IsWanting (of_paths (paths_tables (is_some sources.now.moment) sources.now.inputs.now))) }
 {
-    let stack = match resolve(alloc, files, request.service.as_bytes(), request.kind) {
+    let alloc = sources.alloc;
+    let stack = match resolve(
+        alloc,
+        sources.files,
+        request.service.as_bytes(),
+        request.kind,
+    ) {
         Ok(stack) => stack,
         Err(error) => return Err(Fault::Conf(error)),
     };
-    match known_to(alloc, request, moment, inputs, &stack) {
+    match known_to(alloc, request, sources.moment, sources.inputs, &stack) {
         Ok(known) => Ok(KnownStack { stack, known }),
         Err(fault) => Err(fault),
     }
@@ -170,20 +178,21 @@ fn told_stack(
 /// Returns the stack, and the codes that its modules may return, or the first fault: of the configuration, then of the moment, then of
 /// the tables, then that a key of a setting names no module.
 pub(super) fn known_stack(
-    alloc: Global,
+    sources: &Sources<'_, '_>,
     request: &StackRequest<'_>,
-    moment: Option<Result<DateTime, MomentError>>,
-    settings: &[Setting<'_>],
-    files: &Files,
-    inputs: &Inputs,
 ) -> Result<KnownStack, Fault>
-    ensures stack { let told = stack_known request.now.kind (login_at request.now.service.now request.now.login) inputs.now moment
-        (resolved files.now request.now.service.now request.now.kind) in
-        FindsStack result (settled files.now (there_given inputs.now) (map setting_view settings.now) told) }
-    ensures wants { IfErr result (IsWanting (of_paths (paths_tables (is_some moment) inputs.now))) }
+    ensures stack { FindsStack result (stack_from sources.now request.now) }
+    ensures wants { IfErr result (IsWanting (of_paths (paths_tables (is_some sources.now.moment) sources.now.inputs.now))) }
 {
-    match told_stack(alloc, request, moment, files, inputs) {
-        Ok(found) => with_settings(files, inputs.there(), settings, found),
+    match told_stack(sources, request) {
+        Ok(found) => {
+            with_settings(
+                sources.files,
+                sources.inputs.there(),
+                sources.settings,
+                found,
+            )
+        }
         Err(fault) => Err(fault),
     }
 }

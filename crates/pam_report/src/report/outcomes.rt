@@ -1,33 +1,24 @@
 //! The `outcomes` command: in how many ways a stack comes to each decision, and the first of them.
 
-ghost use Rattle.std.specs.Prelude.{◌≡◌, ◌++◌, ◌<◌, IfOk, OnOk, is_some, map};
+ghost use Rattle.std.specs.Prelude.{◌≡◌, ◌++◌, ◌<◌, IfOk, OnOk, map};
 ghost use Rattle.pam_codes.specs.declared.code.TheConstants.{CODES};
-ghost use Rattle.pam_conf.specs.Stack.{module_count};
 ghost use Rattle.pam_graph.specs.Walks.{walks};
-ghost use Rattle.pam_known.specs.Knowledge.{Agree};
 ghost use Rattle.pam_paths.specs.Known.{may_answer};
-ghost use Rattle.pam_paths.specs.Listing.{Allowance};
-ghost use Rattle.pam_report.specs.Answer.{stack_at};
 ghost use Rattle.pam_report.specs.Finds.{Finds};
-ghost use Rattle.pam_report.specs.Memory.{WantsOnly, of_paths, paths_tables};
+ghost use Rattle.pam_report.specs.inner.Known.{FindsOf, WantsForRuns, stack_from};
 ghost use Rattle.pam_report.specs.inner.Memory.{WantsWork};
 ghost use Rattle.pam_report.specs.inner.OutcomeViews.{AreOutcomes, FindsOutcomes, as_list};
 ghost use Rattle.pam_report.specs.Outcomes.{IsOutcomes, IsOutcomesOf, outcome_among};
 ghost use Rattle.pam_report.specs.ReplyViews.{outcome_view};
-ghost use Rattle.pam_settings.specs.Settings.{setting_view};
 
-use super::known_stack::{KnownStack, StackRequest, known_stack};
+use super::known_stack::{KnownStack, Sources, StackRequest, known_stack};
 use super::replies::Reply;
 use crate::fault::Fault;
-use crate::inputs::Inputs;
-use jiff::civil::DateTime;
 use pam_codes::{CODES, Code};
-use pam_conf::{Files, Kind, Stack};
+use pam_conf::{Kind, Stack};
 use pam_dispatch::Program;
 use pam_graph::{Decisions, Graph, GraphError};
 use pam_paths::{Known, Path};
-use pam_settings::Setting;
-use pam_times::MomentError;
 use std::alloc::Global;
 
 /// A decision, the number of paths that end in it, and the first of these. A number of 2^128 or more is `None`.
@@ -130,8 +121,7 @@ fn answer_known<'a>(
     request: &StackRequest<'a>,
     found: KnownStack,
 ) -> Result<Reply<'a>, Fault>
-    ensures answer { (allows : Allowance) → Agree (module_count found.stack) (may_answer found.known) allows
-        → Finds result (IsOutcomesOf request.now.service.now request.now.kind found.stack allows) }
+    ensures answer { FindsOf (IsOutcomesOf request.now.service.now request.now.kind) found result }
     ensures wants { WantsWork result }
 {
     match stack_outcomes(alloc, &found.stack, &found.known) {
@@ -147,20 +137,14 @@ fn answer_known<'a>(
 
 /// Returns the outcomes of the stack that is asked for.
 pub(super) fn answer_outcomes<'a>(
-    alloc: Global,
+    sources: &Sources<'_, '_>,
     request: &StackRequest<'a>,
-    moment: Option<Result<DateTime, MomentError>>,
-    settings: &[Setting<'_>],
-    files: &Files,
-    inputs: &Inputs,
 ) -> Result<Reply<'a>, Fault>
-    ensures answer { let stack = stack_at request.now.service.now request.now.kind request.now.login
-        (map setting_view settings.now) inputs.now moment files.now in
-        Finds result (IsOutcomes request.now.service.now request.now.kind stack) }
-    ensures wants { WantsOnly (of_paths (paths_tables (is_some moment) inputs.now)) result }
+    ensures answer { Finds result (IsOutcomes request.now.service.now request.now.kind (stack_from sources.now request.now)) }
+    ensures wants { WantsForRuns sources.now result }
 {
-    match known_stack(alloc, request, moment, settings, files, inputs) {
-        Ok(found) => answer_known(alloc, request, found),
+    match known_stack(sources, request) {
+        Ok(found) => answer_known(sources.alloc, request, found),
         Err(fault) => Err(fault),
     }
 }

@@ -1,37 +1,28 @@
 //! The `paths` command: a page of the paths through a stack.
 
-ghost use Rattle.std.specs.Prelude.{◌≡◌, ◌≤◌, is_some, map, max};
+ghost use Rattle.std.specs.Prelude.{◌≡◌, ◌≤◌, max};
 ghost use Rattle.jiff.specs.Types.{DateTime as CivilTime};
-ghost use Rattle.pam_conf.specs.Stack.{module_count};
-ghost use Rattle.pam_known.specs.Knowledge.{Agree};
 ghost use Rattle.pam_paths.specs.Known.{may_answer};
-ghost use Rattle.pam_paths.specs.Listing.{Allowance};
-ghost use Rattle.pam_report.specs.Answer.{stack_at};
 ghost use Rattle.pam_report.specs.Finds.{Finds};
-ghost use Rattle.pam_report.specs.Memory.{WantsOnly, of_paths, paths_tables};
+ghost use Rattle.pam_report.specs.inner.Known.{FindsOf, WantsForRuns, stack_from};
 ghost use Rattle.pam_report.specs.inner.Memory.{WantsWork};
 ghost use Rattle.pam_report.specs.PageView.{FindsPage, Renders, goal_of, graph_of, page_value};
 ghost use Rattle.pam_report.specs.inner.PageView.{ListsPart, page_view};
 ghost use Rattle.pam_report.specs.Paths.{IsPage, IsPageOf, IsProgramOf, page_of};
 ghost use Rattle.pam_report.specs.Reply.{Page};
 ghost use Rattle.pam_report.specs.ReplyViews.{reply_view};
-ghost use Rattle.pam_settings.specs.Settings.{setting_view};
 ghost use Rattle.pam_words.specs.declared.wanted.PagePart.TheVariants.{After, Before, Whole};
 
 use super::goal_pages::{GoalGraph, answer_asking, answer_goal, render_walks};
-use super::known_stack::{KnownStack, StackRequest, known_stack};
+use super::known_stack::{KnownStack, Sources, StackRequest, known_stack};
 use super::renderer::PageRenderer;
 use super::replies::Reply;
 use crate::fault::Fault;
-use crate::inputs::Inputs;
-use jiff::civil::DateTime;
-use pam_conf::{Files, Kind, Stack};
+use pam_conf::{Kind, Stack};
 use pam_dispatch::Program;
 use pam_graph::Goal;
 use pam_page::Listing;
 use pam_paths::{Cursor, Explorer, Known};
-use pam_settings::Setting;
-use pam_times::MomentError;
 use pam_words::{PagePart, PathFilter};
 use std::alloc::Global;
 
@@ -193,8 +184,7 @@ fn answer_filtered<'a>(
     program: Program,
 ) -> Result<Reply<'a>, Fault>
     requires { IsProgramOf program found.stack }
-    ensures answer { (allows : Allowance) → Agree (module_count found.stack) (may_answer found.known) allows
-        → Finds result (IsPageOf (page_view request.now) found.stack allows) }
+    ensures answer { FindsOf (IsPageOf (page_view request.now)) found result }
     ensures wants { WantsWork result }
 {
     match request.filter {
@@ -233,8 +223,7 @@ fn answer_known<'a>(
     request: &PageRequest<'a>,
     found: KnownStack,
 ) -> Result<Reply<'a>, Fault>
-    ensures answer { (allows : Allowance) → Agree (module_count found.stack) (may_answer found.known) allows
-        → Finds result (IsPageOf (page_view request.now) found.stack allows) }
+    ensures answer { FindsOf (IsPageOf (page_view request.now)) found result }
     ensures wants { WantsWork result }
 {
     match Program::of(alloc, &found.stack) {
@@ -245,20 +234,14 @@ fn answer_known<'a>(
 
 /// Returns the page of the stack that is asked for.
 pub(super) fn answer_paths<'a>(
-    alloc: Global,
+    sources: &Sources<'_, '_>,
     request: &PageRequest<'a>,
-    moment: Option<Result<DateTime, MomentError>>,
-    settings: &[Setting<'_>],
-    files: &Files,
-    inputs: &Inputs,
 ) -> Result<Reply<'a>, Fault>
-    ensures answer { let asked = request.now.stack in
-        let stack = stack_at asked.service.now asked.kind asked.login (map setting_view settings.now) inputs.now moment files.now in
-        Finds result (IsPage (page_view request.now) stack) }
-    ensures wants { WantsOnly (of_paths (paths_tables (is_some moment) inputs.now)) result }
+    ensures answer { Finds result (IsPage (page_view request.now) (stack_from sources.now request.now.stack)) }
+    ensures wants { WantsForRuns sources.now result }
 {
-    match known_stack(alloc, &request.stack, moment, settings, files, inputs) {
-        Ok(found) => answer_known(alloc, request, found),
+    match known_stack(sources, &request.stack) {
+        Ok(found) => answer_known(sources.alloc, request, found),
         Err(fault) => Err(fault),
     }
 }
