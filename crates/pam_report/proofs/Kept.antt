@@ -2,7 +2,9 @@
 use Rattle.std.proofs.Common.{◌≡◌, ◌∙◌, ℕ, ◌+◌, ◌<◌, Bool, true, false, List, [], ◌∷◌, ◌++◌, ap, append-nil, cond, get_or, length, map, sym, take}
 use Rattle.std.proofs.lemmas.List.{map-append, take_more}
 use Rattle.std.proofs.lemmas.List.Elements.{filter-append, filter_more}
-use Rattle.std.specs.Prelude.{filter}
+use Rattle.std.specs.Prelude.{filter, not}
+use Rattle.pam_accept.specs.Lines.{Accepted}
+use Rattle.pam_report.specs.Accepting.{accepts}
 
 module _ {A : Type 0} (p : A → Bool) (xs : List A) (i : ℕ) (d : A) (kept : List A) where
   pub kept-with : i < length xs → kept ≡ filter p (take i xs) → p (get_or xs i d) ≡ true → kept ++ get_or xs i d ∷ [] ≡ filter p (take (i + 1) xs)
@@ -14,6 +16,20 @@ module _ {A : Type 0} (p : A → Bool) (xs : List A) (i : ℕ) (d : A) (kept : L
   kept-without h e t =
       let x = get_or xs i d in
       e ∙ sym (filter_more p xs i d h ∙ ap (λ (b : Bool). filter p (take i xs) ++ cond b (x ∷ []) []) t ∙ append-nil (filter p (take i xs)))
+
+-- what has a key that no line has, one after another
+module _ {A : Type 0} (lines : List Accepted) (key : A → List ℕ) (xs : List A) (i : ℕ) (x : A) (kept : List A) where
+  abbrev is_left : A → Bool
+  is_left one = not (accepts lines (key one))
+
+  pub unaccepted-with : i < length xs → x ≡ get_or xs i x → kept ≡ filter is_left (take i xs) → accepts lines (key x) ≡ false →
+      kept ++ x ∷ [] ≡ filter is_left (take (i + 1) xs)
+  unaccepted-with h is e f =
+      ap (λ (y : A). kept ++ y ∷ []) is ∙ kept-with is_left xs i x kept h e (ap is_left (sym is) ∙ ap not f)
+
+  pub unaccepted-without : i < length xs → x ≡ get_or xs i x → kept ≡ filter is_left (take i xs) → accepts lines (key x) ≡ true →
+      kept ≡ filter is_left (take (i + 1) xs)
+  unaccepted-without h is e t = kept-without is_left xs i x kept h e (ap is_left (sym is) ∙ ap not t)
 
 -- the numbers of the views that pass a test, one after another
 module _ {A B : Type 0} (view : A → B) (number : B → ℕ) (p : B → Bool) (xs : List A) (i : ℕ) (d : A) where

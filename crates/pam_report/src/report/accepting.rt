@@ -1,6 +1,6 @@
 //! The findings that are meant to be, by an accept file.
 
-ghost use Rattle.std.specs.Prelude.{◌≡◌, ◌++◌, IfOk, OnOk, Some, map};
+ghost use Rattle.std.specs.Prelude.{◌≡◌, ◌++◌, IfOk, List, OnOk, Some, filter, map, not, ℕ};
 ghost use Rattle.std.specs.List.{list_any};
 ghost use Rattle.std.specs.Option.{option_map};
 ghost use Rattle.std.specs.Str.{bytes_eq};
@@ -9,7 +9,7 @@ ghost use Rattle.pam_report.specs.inner.Accepting as inner;
 ghost use Rattle.pam_report.specs.Fault.{file_at};
 ghost use Rattle.pam_report.specs.TablePaths.{table_paths_view};
 
-use super::table_keys::{problems_of, push_keys, tables_not_accepted};
+use super::table_keys::problems_of;
 use crate::fault::push_pieces;
 use crate::names::{kind_name, problem_name, stack_of};
 use crate::tables::TablePaths;
@@ -49,6 +49,16 @@ pub(super) fn push_line(key: &mut Vec<u8>, name: &[u8], line: usize) -> Result<(
         return Ok(());
     }
     push_pieces(key, &[Piece::Bytes(b":"), Piece::Number(line as u64)])
+}
+
+/// What gives each of what is found a key, by which a line of an accept file names it.
+pub(super) trait Keys<T> {
+    /// The key of what is found.
+    ghost key_of: { Self → T → List ℕ };
+
+    /// Returns the key of what is found.
+    fn key(&self, alloc: Global, found: &T) -> Result<Vec<u8>, AllocError>
+        ensures { IfOk result (λ key. key.items ≡ key_of self.now found.now) };
 }
 
 /// The names of files and services.
@@ -112,47 +122,57 @@ impl Names<'_> {
             None => Ok(()),
         }
     }
+}
+
+impl Keys<(Place, Finding)> for Names<'_> {
+    ghost use Rattle.std.specs.Prelude.{map};
+    ghost use Rattle.pam_report.specs.Accepting.{key_of};
+
+    ghost key_of = { λ names entry. key_of names.files.now (map (λ s. s.now) names.services.items) entry };
 
     /// Returns the key of a finding: its number and its place.
     #[tactic(auto, unfolding(crate::specs::Accepting::key_of))]
-    fn key(&self, alloc: Global, place: &Place, finding: Finding) -> Result<Vec<u8>, AllocError>
-        ensures { IfOk result (λ key. key.items ≡ spec.key_of self.now.files.now (map (λ s. s.now) self.now.services.items) (place.now, finding)) }
-    {
-        let mut key = Vec::from_slice(alloc, number_in(problem_name(finding.problem).as_bytes()))?;
-        match stack_of(finding.problem) {
+    fn key(&self, alloc: Global, found: &(Place, Finding)) -> Result<Vec<u8>, AllocError> {
+        let problem = found.1.problem;
+        let mut key = Vec::from_slice(alloc, number_in(problem_name(problem).as_bytes()))?;
+        match stack_of(problem) {
             Some(stack) => self.push_stack(&mut key, stack)?,
-            None => self.push_file(&mut key, place)?,
+            None => self.push_file(&mut key, &found.0)?,
         }
         Ok(key)
     }
-
-    /// Returns the keys of findings, in order.
-    fn keys(&self, alloc: Global, found: &[(Place, Finding)]) -> Result<Texts, AllocError>
-        ensures { IfOk result (λ keys. keys ≡ map (spec.key_of self.now.files.now (map (λ s. s.now) self.now.services.items)) found.now) }
-    {
-        let mut keys = Texts::new(alloc);
-        for entry in found {
-            let key = self.key(alloc, &entry.0, entry.1)?;
-            keys.push(&key)?;
-        }
-        Ok(keys)
-    }
 }
 
-/// Returns the findings that no line accepts.
-fn not_accepted(
+/// Appends the keys of what is found, in order.
+fn push_keys<T, K: Keys<T>>(
     alloc: Global,
-    names: &Names<'_>,
-    found: &[(Place, Finding)],
+    keys: &mut Texts,
+    by: &K,
+    found: &[T],
+) -> Result<(), AllocError>
+    ensures { OnOk result (keys.new ≡ keys.old ++ map (K.key_of by.now) found.now) }
+{
+    for one in found {
+        let key = by.key(alloc, one)?;
+        keys.push(&key)?;
+    }
+    Ok(())
+}
+
+/// Returns what no line accepts.
+fn not_accepted<T: Copy, K: Keys<T>>(
+    alloc: Global,
+    by: &K,
+    found: &[T],
     accept: &AcceptFile,
-) -> Result<Vec<(Place, Finding)>, AllocError>
-    ensures { IfOk result (λ kept. kept.items ≡ spec.not_accepted accept.now names.now.files.now (map (λ s. s.now) names.now.services.items) found.now) }
+) -> Result<Vec<T>, AllocError>
+    ensures { IfOk result (λ kept. kept.items ≡ filter (λ one. not (spec.accepts accept.now (K.key_of by.now one))) found.now) }
 {
     let mut kept = Vec::new(alloc);
-    for entry in found {
-        let key = names.key(alloc, &entry.0, entry.1)?;
+    for one in found {
+        let key = by.key(alloc, one)?;
         if !accept.accepts(&key) {
-            kept.push(*entry)?;
+            kept.push(*one)?;
         }
     }
     Ok(kept)
@@ -199,7 +219,8 @@ fn unused_lines(
         (table_paths_view reported.now.paths) reported.now.tables.now in
         IfOk result (λ unused. unused.items ≡ spec.lines_without keys accept.now) }
 {
-    let mut keys = names.keys(alloc, reported.found)?;
+    let mut keys = Texts::new(alloc);
+    push_keys(alloc, &mut keys, names, reported.found)?;
     push_keys(alloc, &mut keys, &reported.paths, reported.tables)?;
     unused(alloc, &keys, accept)
 }
@@ -217,7 +238,7 @@ fn list_reported(
     let names = names_of(alloc, files, reported.services)?;
     let unused = unused_lines(alloc, &names, &reported, accept)?;
     let found = not_accepted(alloc, &names, reported.found, accept)?;
-    let tables = tables_not_accepted(alloc, &reported.paths, reported.tables, accept)?;
+    let tables = not_accepted(alloc, &reported.paths, reported.tables, accept)?;
     Ok(Listed {
         found,
         tables,

@@ -1,8 +1,8 @@
--- the findings so far that no line accepts
-use Rattle.std.proofs.Common.{◌≡◌, map, take}
-use Rattle.pam_report.specs.Accepting.{not_accepted}
+-- what no line accepts of what is found so far
+use Rattle.std.proofs.Common.{◌≡◌, not, take}
+use Rattle.std.specs.Prelude.{filter}
+use Rattle.pam_report.specs.Accepting.{accepts}
 use Rattle.pam_report.proofs.report.accepting.not_accepted.Given as goal
 
-abbrev pub invariant-loop-entry : goal.invariant-loop-entry
-invariant-loop-entry l =
-    l.kept.items ≡ not_accepted l.accept l.names.files.now (map (λ s. s.now) l.names.services.items) (take l.entry-index l.found)
+abbrev pub invariant-loop-one : goal.invariant-loop-one
+invariant-loop-one g l = l.kept.items ≡ filter (λ one. not (accepts l.accept (g.K.Keys.key_of l.by one))) (take l.one-index l.found)
