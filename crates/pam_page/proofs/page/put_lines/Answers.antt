@@ -75,7 +75,8 @@ returns-clause-written g c =
     let l = c.loop-count in
     writes-is _ _ _ _ _ _ (writes-then _ _ _ (holds-written _ _ l.invariant.written c.in_ok-write-2.ensures.written) c.put_rest.ensures.written)
     (page_rest path_line last_line (side c.args.listing.now) _ (coming c.args.listing.now) _ l.count (c.args.limit - 1) c.args.limit
-    (omega (arith, c.requires.some)) (omega (arith, c.loop-count-test.false, l.auto.count-end)) l.invariant.within l.invariant.left l.invariant.listing.same_side)
+    (omega (arith, c.requires.some)) (omega (arith, c.loop-count-test.false, l.auto.count-end)) l.invariant.within l.invariant.left
+    l.invariant.listing.same_side)
 
 pub replace-requires : goal.replace-requires
 replace-requires g c =
