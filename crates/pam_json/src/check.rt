@@ -37,9 +37,7 @@ impl CheckLines for AsJson {
 
     fn put_line<W: Write>(&self, told: CheckLine<'_>, out: &mut Out<W>) -> Result<(), Device> {
         match told {
-            CheckLine::Found { names, entry, word } => {
-                put_finding(names, &entry.0, entry.1, word, out)
-            }
+            CheckLine::Found(found) => put_finding(found, out),
             CheckLine::InTable { paths, finding } => put_table_finding(paths, finding, out),
             CheckLine::Unused { accept, line } => put_unused(accept, line, out),
             CheckLine::Last { services, counts } => put_checked(services, counts, out),

@@ -63,20 +63,11 @@ impl CompareLines for AsJson {
         match told {
             CompareLine::OnlyInOld(name) => put_only_line(name, b"old", out),
             CompareLine::OnlyInNew(name) => put_only_line(name, b"new", out),
-            CompareLine::Refused { head, old, new } => put_refused(head, old, new, out),
+            CompareLine::Refused(stack) => put_refused(stack, out),
             CompareLine::As { head, first } => put_as(head, first, out),
-            CompareLine::Arguments {
-                head,
-                pair,
-                matched,
-            } => put_arguments(head, pair, matched, out),
-            CompareLine::Change {
-                head,
-                pair,
-                change,
-                shown,
-            } => put_change(head, pair, change, shown, out),
-            CompareLine::Same { head, pair } => put_same(head, pair, out),
+            CompareLine::Arguments(stack, matched) => put_arguments(stack, matched, out),
+            CompareLine::Change(stack, change, shown) => put_change(stack, change, shown, out),
+            CompareLine::Same(stack) => put_same(stack, out),
             CompareLine::NotKnown(head) => put_not_known(head, out),
             CompareLine::Last { stacks, counts } => put_counts(stacks, counts, out),
         }

@@ -138,8 +138,19 @@ fn write_listed<W: Write>(
 
 /// Renders a page as JSON.
 #[derive(Clone, Copy)]
-struct PageJson<'p> {
-    page: &'p PathsPage<'p>,
+pub(crate) struct PageJson<'p> {
+    pub(crate) page: &'p PathsPage<'p>,
+}
+
+impl PageJson<'_> {
+    /// Writes the page. Finds a cursor that is refused before the first byte.
+    // Never inlined, else each command has room for what it has.
+    #[inline(never)]
+    pub(crate) fn write<W: Write>(&self, alloc: Global, out: &mut Out<W>) -> Result<(), Fault>
+        ensures { PrintsBy W.contents IsJson out.old out.new result (Page (page_value self.now.page.now)) }
+    {
+        self.page.render(alloc, self, out)
+    }
 }
 
 impl<W: Write> PageRenderer<Out<W>> for PageJson<'_> {
@@ -149,17 +160,4 @@ impl<W: Write> PageRenderer<Out<W>> for PageJson<'_> {
     fn render(&self, listing: &mut Listing<'_, Known>, out: &mut Out<W>) -> Result<(), Fault> {
         write_listed(self.page, listing, out)
     }
-}
-
-/// Writes a page. Finds a cursor that is refused before the first byte.
-// Never inlined, else each command has room for what it has.
-#[inline(never)]
-pub(crate) fn write_page<W: Write>(
-    alloc: Global,
-    page: &PathsPage<'_>,
-    out: &mut Out<W>,
-) -> Result<(), Fault>
-    ensures { PrintsBy W.contents IsJson out.old out.new result (Page (page_value page.now)) }
-{
-    page.render(alloc, &PageJson { page }, out)
 }

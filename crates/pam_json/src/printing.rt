@@ -6,7 +6,7 @@ ghost use Rattle.pam_json.specs.Text.{PrintsIfAny};
 use crate::decide::write_run;
 use crate::form::AsJson;
 use crate::outcomes::write_outcomes;
-use crate::paths::write_page;
+use crate::paths::PageJson;
 use crate::tables::{write_access, write_time};
 use pam_codes::Out;
 use pam_parts::{told, write_check, write_compared, write_stack};
@@ -30,7 +30,7 @@ pub fn print_if_any<W: Write>(
         Reply::Access(answer) => Some(told(write_access(*answer, out))),
         Reply::Time(answer) => Some(told(write_time(*answer, out))),
         Reply::Outcomes(outcomes) => Some(told(write_outcomes(outcomes, out))),
-        Reply::Paths(page) => Some(write_page(alloc, page, out)),
+        Reply::Paths(page) => Some(PageJson { page }.write(alloc, out)),
         Reply::Check(check) => Some(write_check(&AsJson, alloc, check, out)),
         Reply::Compared(compared) => Some(told(write_compared(&AsJson, compared, out))),
         _ => None,

@@ -9,9 +9,9 @@ ghost use Rattle.pam_json.specs.Show.{module_json, sub_json};
 use crate::form::AsJson;
 use crate::header::put_stack;
 use pam_codes::{Control, Device, Out};
-use pam_conf::{Files, Module, Sub};
+use pam_conf::{Module, Sub};
 use pam_json_lines::{Member, Written, put_line, put_strings};
-use pam_parts::{StackLine, StackLines, name_at};
+use pam_parts::{RulePlace, StackLine, StackLines, name_at};
 use pam_text::Texts;
 use std::io::Write;
 
@@ -47,19 +47,18 @@ impl Written for ModuleValue<'_> {
 /// Writes the line of a module.
 #[tactic(auto, unfolding(crate::specs::Show::module_json))]
 fn put_module<'x, W: Write>(
-    files: &'x Files,
-    depth: usize,
+    at: RulePlace<'x>,
     module: &'x Module,
     out: &mut Out<W>,
 ) -> Result<(), Device>
-    ensures { Writes W.contents out.old out.new result (module_json files.now depth (module_text «module».now)) }
+    ensures { Writes W.contents out.old out.new result (module_json at.entry.files.now at.entry.level (module_text «module».now)) }
 {
     put_line(
         &[
             Member::text("kind", b"module"),
-            Member::number("depth", depth as u64),
+            Member::number("depth", at.level as u64),
             Member::number("number", module.number as u64),
-            Member::readable("file", name_at(files, module.file)),
+            Member::readable("file", name_at(at.files, module.file)),
             Member::number("line", module.line as u64),
             Member::boolean("dashed", module.dashed),
             Member::written("control", ModuleValue::Control(&module.control)),
@@ -72,15 +71,15 @@ fn put_module<'x, W: Write>(
 
 /// Writes the line of a substack.
 #[tactic(auto, unfolding(crate::specs::Show::sub_json))]
-fn put_sub<W: Write>(files: &Files, depth: usize, sub: &Sub, out: &mut Out<W>) -> Result<(), Device>
-    ensures { Writes W.contents out.old out.new result (sub_json files.now depth sub.now.text) }
+fn put_sub<W: Write>(at: RulePlace<'_>, sub: &Sub, out: &mut Out<W>) -> Result<(), Device>
+    ensures { Writes W.contents out.old out.new result (sub_json at.entry.files.now at.entry.level sub.now.text) }
 {
     let members: [Member<'_, ()>; 5] = [
         Member::text("kind", b"substack"),
-        Member::number("depth", depth as u64),
-        Member::readable("file", name_at(files, sub.file)),
+        Member::number("depth", at.level as u64),
+        Member::readable("file", name_at(at.files, sub.file)),
         Member::number("line", sub.line as u64),
-        Member::readable("target", name_at(files, sub.target)),
+        Member::readable("target", name_at(at.files, sub.target)),
     ];
     put_line(&members, out)
 }
@@ -92,17 +91,9 @@ impl StackLines for AsJson {
 
     fn put_line<W: Write>(&self, told: StackLine<'_>, out: &mut Out<W>) -> Result<(), Device> {
         match told {
-            StackLine::Head {
-                service,
-                kind,
-                modules,
-            } => put_stack(service, kind, modules, out),
-            StackLine::Module {
-                files,
-                level,
-                module,
-            } => put_module(files, level, module, out),
-            StackLine::Sub { files, level, sub } => put_sub(files, level, sub, out),
+            StackLine::Head(head) => put_stack(head.service, head.kind, head.modules, out),
+            StackLine::Module(at, module) => put_module(at, module, out),
+            StackLine::Sub(at, sub) => put_sub(at, sub, out),
         }
     }
 }

@@ -15,10 +15,10 @@ side_view side = record { files = side_files side.files; fault = side.fault.now 
 abbrev pub line_view : CompareLine → spec.Line
 line_view (lines.OnlyInOld service) = spec.OnlyInOld service.now
 line_view (lines.OnlyInNew service) = spec.OnlyInNew service.now
-line_view (lines.Refused head old new) = spec.Refused (head_view head) (side_view old) (side_view new)
+line_view (lines.Refused stack) = spec.Refused (head_view stack.head) (side_view stack.old) (side_view stack.new)
 line_view (lines.As head first) = spec.As (head_view head) (head_view first)
-line_view (lines.Arguments head pair matched) = spec.Arguments (head_view head) pair.now matched
-line_view (lines.Change head pair change shown) = spec.Change (head_view head) pair.now change.now shown.now
-line_view (lines.Same head pair) = spec.Same (head_view head) pair.now
+line_view (lines.Arguments stack matched) = spec.Arguments (head_view stack.head) stack.pair.now matched
+line_view (lines.Change stack change shown) = spec.Change (head_view stack.head) stack.pair.now change.now shown.now
+line_view (lines.Same stack) = spec.Same (head_view stack.head) stack.pair.now
 line_view (lines.NotKnown head) = spec.NotKnown (head_view head)
 line_view (lines.Last stacks counts) = spec.Last stacks counts

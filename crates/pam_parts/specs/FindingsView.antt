@@ -6,7 +6,7 @@ use Rattle.pam_parts.specs.declared.findings.line.CheckLine.{CheckLine}
 use Rattle.pam_parts.specs.declared.findings.line.CheckLine.TheVariants as lines
 
 abbrev pub line_view : CheckLine → spec.Line
-line_view (lines.Found names entry word) = spec.Found (names_view names.now) entry.now (word_of word)
+line_view (lines.Found found) = spec.Found (names_view found.names.now) found.entry.now (word_of found.word)
 line_view (lines.InTable paths finding) = spec.InTable (table_paths_view paths.now) finding
 line_view (lines.Unused accept line) = spec.Unused accept.now line
 line_view (lines.Last services counts) = spec.Last services counts

@@ -5,6 +5,6 @@ use Rattle.pam_parts.specs.declared.items.line.StackLine.{StackLine}
 use Rattle.pam_parts.specs.declared.items.line.StackLine.TheVariants as lines
 
 abbrev pub line_view : StackLine → spec.Line
-line_view (lines.Head service kind modules) = spec.Head service.now kind modules
-line_view (lines.Module files level module') = spec.Module files.now level (module_text module'.now)
-line_view (lines.Sub files level sub) = spec.Sub files.now level sub.now.text
+line_view (lines.Head head) = spec.Head head.service.now head.kind head.modules
+line_view (lines.Module at module') = spec.Module at.files.now at.level (module_text module'.now)
+line_view (lines.Sub at sub) = spec.Sub at.files.now at.level sub.now.text

@@ -10,7 +10,7 @@ mod pair;
 mod stack;
 
 use crate::changes::compared_count;
-pub use line::{CompareLine, Head, Side};
+pub use line::{CompareLine, DifferingStack, Head, RefusedStack, Side};
 use pam_changes::{ComparedService, ComparedStack};
 use pam_report::CompareReply;
 use pam_text::{Device, Out};

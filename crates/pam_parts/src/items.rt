@@ -9,7 +9,7 @@ ghost use Rattle.pam_parts.specs.Items.{items_lines, stack_lines};
 
 mod line;
 
-pub use line::StackLine;
+pub use line::{RulePlace, StackHead, StackLine};
 use pam_conf::{Files, Form, Item};
 use pam_report::StackReply;
 use pam_text::{Device, Out};
@@ -43,17 +43,11 @@ fn put_items<L: StackLines, W: Write>(
     ensures { Writes W.contents out.old out.new result (items_lines L.line files.now level (items_of items.now)) }
 {
     for item in items {
+        let at = RulePlace { files, level };
         match item {
-            Item::Module(module) => {
-                let told = StackLine::Module {
-                    files,
-                    level,
-                    module,
-                };
-                lines.put_line(told, out)?;
-            }
+            Item::Module(module) => lines.put_line(StackLine::Module(at, module), out)?,
             Item::Sub(sub) => {
-                lines.put_line(StackLine::Sub { files, level, sub }, out)?;
+                lines.put_line(StackLine::Sub(at, sub), out)?;
                 put_items(lines, files, level + 1, &sub.items, out)?;
             }
         }
@@ -70,12 +64,12 @@ fn write_in<L: StackLines, W: Write>(
     requires { (stack_view reply.now).files ≡ files.now }
     ensures { WritesAndFlushes W.contents out.old out.new result (stack_lines L.line (stack_view reply.now)) }
 {
-    let head = StackLine::Head {
+    let head = StackHead {
         service: reply.service,
         kind: reply.kind,
         modules: reply.stack.modules(),
     };
-    lines.put_line(head, out)?;
+    lines.put_line(StackLine::Head(head), out)?;
     put_items(lines, files, 0, reply.stack.items(), out)?;
     out.finish()
 }

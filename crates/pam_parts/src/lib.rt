@@ -12,9 +12,11 @@ mod writes;
 
 pub use changes::{compared_count, file_of, is_grave, occurrence, service_at};
 pub use check::{Counts, Names, counts_of, names_of, path_of, stacks_of, text_at, word_at};
-pub use compared::{CompareLine, CompareLines, Head, Side, write_compared};
+pub use compared::{
+    CompareLine, CompareLines, DifferingStack, Head, RefusedStack, Side, write_compared,
+};
 pub use files::name_at;
-pub use findings::{CheckLine, CheckLines, write_check};
-pub use items::{StackLine, StackLines, write_stack};
+pub use findings::{CheckLine, CheckLines, FoundProblem, write_check};
+pub use items::{RulePlace, StackHead, StackLine, StackLines, write_stack};
 pub use module_paths::ModulePaths;
 pub use writes::told;

@@ -82,9 +82,7 @@ impl CheckLines for AsText {
 
     fn put_line<W: Write>(&self, told: CheckLine<'_>, out: &mut Out<W>) -> Result<(), Device> {
         match told {
-            CheckLine::Found { names, entry, word } => {
-                put_finding(names, &entry.0, entry.1, word, out)
-            }
+            CheckLine::Found(found) => put_finding(found, out),
             CheckLine::InTable { paths, finding } => put_table_finding(paths, finding, out),
             CheckLine::Unused { accept, line } => put_unused(accept, line, out),
             CheckLine::Last { services, counts } => put_last_line(services, counts, out),

@@ -75,20 +75,11 @@ impl CompareLines for AsText {
         match told {
             CompareLine::OnlyInOld(name) => put_only_line(name, b" only in old\n", out),
             CompareLine::OnlyInNew(name) => put_only_line(name, b" only in new\n", out),
-            CompareLine::Refused { head, old, new } => put_refused(head, old, new, out),
+            CompareLine::Refused(stack) => put_refused(stack, out),
             CompareLine::As { head, first } => put_as(head, first, out),
-            CompareLine::Arguments {
-                head,
-                pair,
-                matched,
-            } => put_argument_line(head, pair, matched, out),
-            CompareLine::Change {
-                head,
-                pair,
-                change,
-                shown,
-            } => put_change(head, pair, change, shown, out),
-            CompareLine::Same { head, pair } => put_same(head, pair, out),
+            CompareLine::Arguments(stack, matched) => put_argument_line(stack, matched, out),
+            CompareLine::Change(stack, change, shown) => put_change(stack, change, shown, out),
+            CompareLine::Same(stack) => put_same(stack, out),
             CompareLine::NotKnown(head) => put_not_known(head, out),
             CompareLine::Last { stacks, counts } => put_last_line(stacks, counts, out),
         }

@@ -65,9 +65,20 @@ fn write_listed<W: Write>(
 
 /// Renders a page as text.
 #[derive(Clone, Copy)]
-struct PageText<'p> {
-    alloc: Global,
-    page: &'p PathsPage<'p>,
+pub(crate) struct PageText<'p> {
+    pub(crate) alloc: Global,
+    pub(crate) page: &'p PathsPage<'p>,
+}
+
+impl PageText<'_> {
+    /// Writes the page. Finds a cursor that is refused before the first byte.
+    // Never inlined, else each command has room for what it has.
+    #[inline(never)]
+    pub(crate) fn write<W: Write>(&self, out: &mut Out<W>) -> Result<(), Fault>
+        ensures { Prints W.contents out.old out.new result (Page (page_value self.now.page.now)) }
+    {
+        self.page.render(self.alloc, self, out)
+    }
 }
 
 impl<W: Write> PageRenderer<Out<W>> for PageText<'_> {
@@ -77,17 +88,4 @@ impl<W: Write> PageRenderer<Out<W>> for PageText<'_> {
     fn render(&self, listing: &mut Listing<'_, Known>, out: &mut Out<W>) -> Result<(), Fault> {
         write_listed(self.alloc, self.page, listing, out)
     }
-}
-
-/// Writes a page. Finds a cursor that is refused before the first byte.
-// Never inlined, else each command has room for what it has.
-#[inline(never)]
-pub(crate) fn write_page<W: Write>(
-    alloc: Global,
-    page: &PathsPage<'_>,
-    out: &mut Out<W>,
-) -> Result<(), Fault>
-    ensures { Prints W.contents out.old out.new result (Page (page_value page.now)) }
-{
-    page.render(alloc, &PageText { alloc, page }, out)
 }

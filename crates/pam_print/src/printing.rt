@@ -13,7 +13,7 @@ use crate::drawing::write_drawing;
 use crate::explain::{write_explanation, write_explanations};
 use crate::form::AsText;
 use crate::outcomes::write_outcomes;
-use crate::paths::write_page;
+use crate::paths::PageText;
 use crate::released::write_released;
 use crate::tables::{write_access, write_time};
 use pam_codes::Out;
@@ -70,7 +70,7 @@ fn print_text<W: Write>(alloc: Global, reply: &Reply<'_>, out: &mut Out<W>) -> R
         Reply::Facts => told(write_known(out)),
         Reply::Version => told(write_version(out)),
         Reply::Graph(drawing) => write_drawing(alloc, drawing, out),
-        Reply::Paths(page) => write_page(alloc, page, out),
+        Reply::Paths(page) => PageText { alloc, page }.write(out),
     }
 }
 

@@ -11,7 +11,7 @@ use crate::header::put_header;
 use crate::word::put_word;
 use pam_codes::{Device, Out, Piece};
 use pam_conf::{Files, Module, Sub};
-use pam_parts::{StackLine, StackLines, name_at};
+use pam_parts::{RulePlace, StackLine, StackLines, name_at};
 use pam_text::Texts;
 use std::io::Write;
 
@@ -62,17 +62,12 @@ pub(crate) fn put_words<W: Write>(words: &Texts, out: &mut Out<W>) -> Result<(),
 
 /// Writes the start of a module's line, up to its control.
 #[tactic(auto, unfolding(crate::specs::Show::module_front))]
-fn put_front<W: Write>(
-    files: &Files,
-    level: usize,
-    module: &Module,
-    out: &mut Out<W>,
-) -> Result<(), Device>
-    ensures { Writes W.contents out.old out.new result (module_front files.now level (module_text «module».now)) }
+fn put_front<W: Write>(at: RulePlace<'_>, module: &Module, out: &mut Out<W>) -> Result<(), Device>
+    ensures { Writes W.contents out.old out.new result (module_front at.entry.files.now at.entry.level (module_text «module».now)) }
 {
-    put_indent(level, out)?;
+    put_indent(at.level, out)?;
     out.put_line(&[Piece::Number(module.number as u64), Piece::Bytes(b" ")])?;
-    put_place(files, module.file, module.line, out)?;
+    put_place(at.files, module.file, module.line, out)?;
     put_dash(module.dashed, out)
 }
 
@@ -87,15 +82,10 @@ fn put_dash<W: Write>(dashed: bool, out: &mut Out<W>) -> Result<(), Device>
 
 /// Writes the line of a module.
 #[tactic(auto, unfolding(crate::specs::Show::module_line))]
-fn put_module<W: Write>(
-    files: &Files,
-    level: usize,
-    module: &Module,
-    out: &mut Out<W>,
-) -> Result<(), Device>
-    ensures { Writes W.contents out.old out.new result (module_line files.now level (module_text «module».now)) }
+fn put_module<W: Write>(at: RulePlace<'_>, module: &Module, out: &mut Out<W>) -> Result<(), Device>
+    ensures { Writes W.contents out.old out.new result (module_line at.entry.files.now at.entry.level (module_text «module».now)) }
 {
-    put_front(files, level, module, out)?;
+    put_front(at, module, out)?;
     module.control.write_text(out)?;
     put_one_word(&module.path, out)?;
     put_words(&module.arguments, out)?;
@@ -104,15 +94,15 @@ fn put_module<W: Write>(
 
 /// Writes the line of a substack.
 #[tactic(auto, unfolding(crate::specs::Show::sub_line))]
-fn put_sub<W: Write>(files: &Files, level: usize, sub: &Sub, out: &mut Out<W>) -> Result<(), Device>
-    ensures { Writes W.contents out.old out.new result (sub_line files.now level sub.now.text) }
+fn put_sub<W: Write>(at: RulePlace<'_>, sub: &Sub, out: &mut Out<W>) -> Result<(), Device>
+    ensures { Writes W.contents out.old out.new result (sub_line at.entry.files.now at.entry.level sub.now.text) }
 {
-    put_indent(level, out)?;
+    put_indent(at.level, out)?;
     out.put(b"sub ")?;
-    put_place(files, sub.file, sub.line, out)?;
+    put_place(at.files, sub.file, sub.line, out)?;
     out.put_line(&[
         Piece::Bytes(b" "),
-        Piece::Bytes(name_at(files, sub.target)),
+        Piece::Bytes(name_at(at.files, sub.target)),
         Piece::Bytes(b"\n"),
     ])
 }
@@ -124,17 +114,9 @@ impl StackLines for AsText {
 
     fn put_line<W: Write>(&self, told: StackLine<'_>, out: &mut Out<W>) -> Result<(), Device> {
         match told {
-            StackLine::Head {
-                service,
-                kind,
-                modules,
-            } => put_header(service, kind, modules, out),
-            StackLine::Module {
-                files,
-                level,
-                module,
-            } => put_module(files, level, module, out),
-            StackLine::Sub { files, level, sub } => put_sub(files, level, sub, out),
+            StackLine::Head(head) => put_header(head.service, head.kind, head.modules, out),
+            StackLine::Module(at, module) => put_module(at, module, out),
+            StackLine::Sub(at, sub) => put_sub(at, sub, out),
         }
     }
 }

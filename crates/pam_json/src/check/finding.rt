@@ -14,10 +14,9 @@ use super::values::FindingValue;
 use crate::header::{name_in, number_in};
 use pam_codes::{Device, Out};
 use pam_conf::Kind;
-use pam_host::{Finding, Level, Met, Place};
+use pam_host::{Level, Met};
 use pam_json_lines::{Member, put_line};
-use pam_misspelled::Misspelled;
-use pam_parts::{Names, path_of, text_at};
+use pam_parts::{FoundProblem, Names, path_of, text_at};
 use pam_report::{
     TablePaths, kind_name, problem_name, stack_of, table_problem_level, table_problem_name,
 };
@@ -83,15 +82,14 @@ fn type_of(stack: Option<(usize, Kind)>) -> Option<&'static [u8]>
 
 /// Writes the line of a finding, with the word that is wrong if it is known.
 #[tactic(auto, unfolding(crate::specs::Check::finding_json))]
-pub(super) fn put_finding<'x, W: Write>(
-    names: &'x Names<'x>,
-    place: &Place,
-    finding: Finding,
-    word: Option<&'x Misspelled>,
-    out: &mut Out<W>,
-) -> Result<(), Device>
-    ensures { Writes W.contents out.old out.new result (finding_json (names_view names.now) place.now finding (word_of word.entry)) }
+pub(super) fn put_finding<W: Write>(found: FoundProblem<'_>, out: &mut Out<W>) -> Result<(), Device>
+    ensures { let names = names_view found.entry.names.now in
+        let entry = found.entry.entry.now in
+        Writes W.contents out.old out.new result (finding_json names entry.0 entry.1 (word_of found.entry.word)) }
 {
+    let FoundProblem { names, entry, word } = found;
+    let place = &entry.0;
+    let finding = entry.1;
     let problem = finding.problem;
     let name = problem_name(problem);
     let stack = stack_of(problem);

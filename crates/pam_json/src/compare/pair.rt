@@ -9,26 +9,26 @@ ghost use Rattle.pam_json.specs.inner.Written.{change_value};
 
 use super::values::ChangeValue;
 use crate::header::name_of;
-use pam_changes::{MatchedPair, Shown, StackPair};
+use pam_changes::{MatchedPair, Shown};
 use pam_codes::{Device, Out};
 use pam_compare::MAX_SITUATIONS;
 use pam_conf::Stack;
 use pam_json_lines::{Member, put_line};
-use pam_parts::{Head, occurrence};
+use pam_parts::{DifferingStack, Head, occurrence};
 use pam_report::{kind_name, path_at};
 use std::io::Write;
 
 /// Writes two decisions, and the modules that are asked with the answers that lead to them.
 #[tactic(auto, unfolding(crate::specs::Compare::change_json))]
 pub(super) fn put_change<'x, W: Write>(
-    head: Head<'x>,
-    pair: &'x StackPair,
+    stack: DifferingStack<'x>,
     change: &'static [u8],
     shown: &'x Shown,
     out: &mut Out<W>,
 ) -> Result<(), Device>
-    ensures { Writes W.contents out.old out.new result (change_json (head_view head.entry) pair.now change.now shown.now) }
+    ensures { Writes W.contents out.old out.new result (change_json (head_view stack.entry.head) stack.entry.pair.now change.now shown.now) }
 {
+    let DifferingStack { head, pair } = stack;
     let steps = ChangeValue::Steps {
         pair,
         asked: &shown.asked,
@@ -49,13 +49,10 @@ pub(super) fn put_change<'x, W: Write>(
 
 /// Writes that the decisions are the same, and what changes in the modules.
 #[tactic(auto, unfolding(crate::specs::Compare::same_json))]
-pub(super) fn put_same<'x, W: Write>(
-    head: Head<'x>,
-    pair: &'x StackPair,
-    out: &mut Out<W>,
-) -> Result<(), Device>
-    ensures { Writes W.contents out.old out.new result (same_json (head_view head.entry) pair.now) }
+pub(super) fn put_same<W: Write>(stack: DifferingStack<'_>, out: &mut Out<W>) -> Result<(), Device>
+    ensures { Writes W.contents out.old out.new result (same_json (head_view stack.entry.head) stack.entry.pair.now) }
 {
+    let DifferingStack { head, pair } = stack;
     let modules = &pair.modules;
     put_line(
         &[
@@ -94,13 +91,13 @@ pub(super) fn put_not_known<W: Write>(head: Head<'_>, out: &mut Out<W>) -> Resul
 /// Writes the arguments of two modules that are matched.
 #[tactic(auto, unfolding(crate::specs::Compare::arguments_json))]
 pub(super) fn put_arguments<'x, W: Write>(
-    head: Head<'x>,
-    pair: &'x StackPair,
+    stack: DifferingStack<'x>,
     matched: MatchedPair,
     out: &mut Out<W>,
 ) -> Result<(), Device>
-    ensures { Writes W.contents out.old out.new result (arguments_json (head_view head.entry) pair.now matched) }
+    ensures { Writes W.contents out.old out.new result (arguments_json (head_view stack.entry.head) stack.entry.pair.now matched) }
 {
+    let DifferingStack { head, pair } = stack;
     let old = ChangeValue::Arguments {
         stack: &pair.old,
         number: matched.old,

@@ -9,20 +9,17 @@ ghost use Rattle.pam_parts.specs.ComparedView.{head_view, side_view};
 use super::values::ChangeValue;
 use pam_codes::{Device, Out};
 use pam_json_lines::{Member, put_line};
-use pam_parts::{Head, Side};
+use pam_parts::{Head, RefusedStack};
 use pam_report::kind_name;
 use std::io::Write;
 
 /// Writes the first fault of each configuration.
 #[tactic(auto, unfolding(crate::specs::Compare::refused_json))]
-pub(super) fn put_refused<'x, W: Write>(
-    head: Head<'x>,
-    old: Side<'x>,
-    new: Side<'x>,
-    out: &mut Out<W>,
-) -> Result<(), Device>
-    ensures { Writes W.contents out.old out.new result (refused_json (head_view head.entry) (side_view old.entry) (side_view new.entry)) }
+pub(super) fn put_refused<W: Write>(stack: RefusedStack<'_>, out: &mut Out<W>) -> Result<(), Device>
+    ensures { Writes W.contents out.old out.new result
+        (refused_json (head_view stack.entry.head) (side_view stack.entry.old) (side_view stack.entry.new)) }
 {
+    let RefusedStack { head, old, new } = stack;
     let old = ChangeValue::Fault {
         files: old.files,
         fault: old.fault,

@@ -18,6 +18,21 @@ pub struct Side<'x> {
     pub fault: &'x Option<ConfError>,
 }
 
+/// A stack that some configuration refuses, and what each says of its service.
+#[derive(Clone, Copy)]
+pub struct RefusedStack<'x> {
+    pub head: Head<'x>,
+    pub old: Side<'x>,
+    pub new: Side<'x>,
+}
+
+/// A stack that is not the same in both configurations, as the stack of a service.
+#[derive(Clone, Copy)]
+pub struct DifferingStack<'x> {
+    pub head: Head<'x>,
+    pub pair: &'x StackPair,
+}
+
 /// A line of a comparison.
 #[derive(Clone, Copy)]
 pub enum CompareLine<'x> {
@@ -26,39 +41,17 @@ pub enum CompareLine<'x> {
     /// A service that the new configuration alone has.
     OnlyInNew(&'x [u8]),
     /// A stack that some configuration refuses.
-    Refused {
-        head: Head<'x>,
-        old: Side<'x>,
-        new: Side<'x>,
-    },
+    Refused(RefusedStack<'x>),
     /// A stack with the same items as one that was told before.
-    As {
-        head: Head<'x>,
-        first: Head<'x>,
-    },
+    As { head: Head<'x>, first: Head<'x> },
     /// Matched modules with other arguments.
-    Arguments {
-        head: Head<'x>,
-        pair: &'x StackPair,
-        matched: MatchedPair,
-    },
-    /// Two decisions, and what changes: `admits`, `refuses` or `tells`.
-    Change {
-        head: Head<'x>,
-        pair: &'x StackPair,
-        change: &'static [u8],
-        shown: &'x Shown,
-    },
+    Arguments(DifferingStack<'x>, MatchedPair),
+    /// What changes, `admits`, `refuses` or `tells`, and the two decisions.
+    Change(DifferingStack<'x>, &'static [u8], &'x Shown),
     /// The same decisions, and what changes in the modules.
-    Same {
-        head: Head<'x>,
-        pair: &'x StackPair,
-    },
+    Same(DifferingStack<'x>),
     /// Stacks that can be in too many situations.
     NotKnown(Head<'x>),
     /// The last line: the number of stacks, and what changes in how many.
-    Last {
-        stacks: usize,
-        counts: Counts,
-    },
+    Last { stacks: usize, counts: Counts },
 }

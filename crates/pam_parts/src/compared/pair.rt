@@ -6,33 +6,24 @@ ghost use Rattle.pam_parts.specs.Compared.{Arguments, change_if_any, changes_lin
 ghost use Rattle.pam_parts.specs.ComparedView.{head_view};
 
 use super::CompareLines;
-use super::line::{CompareLine, Head};
+use super::line::{CompareLine, DifferingStack};
 use crate::changes::is_grave;
-use pam_changes::{Decisions, MatchedPair, Shown, ShownChanges, StackPair};
+use pam_changes::{Decisions, MatchedPair, Shown, ShownChanges};
 use pam_text::{Device, Out};
 use std::io::Write;
 
 fn put_change_if_any<L: CompareLines, W: Write>(
     lines: &L,
-    head: Head<'_>,
-    pair: &StackPair,
+    stack: DifferingStack<'_>,
     change: &'static [u8],
     shown: &Option<Shown>,
     out: &mut Out<W>,
 ) -> Result<(), Device>
     ensures { Writes W.contents out.old out.new result
-        (change_if_any L.line (head_view head.entry) pair.now change.now shown.now) }
+        (change_if_any L.line (head_view stack.entry.head) stack.entry.pair.now change.now shown.now) }
 {
     match shown {
-        Some(shown) => lines.put_line(
-            CompareLine::Change {
-                head,
-                pair,
-                change,
-                shown,
-            },
-            out,
-        ),
+        Some(shown) => lines.put_line(CompareLine::Change(stack, change, shown), out),
         None => Ok(()),
     }
 }
@@ -40,93 +31,73 @@ fn put_change_if_any<L: CompareLines, W: Write>(
 /// Writes who is let in now, and who is no longer.
 fn put_grave<L: CompareLines, W: Write>(
     lines: &L,
-    head: Head<'_>,
-    pair: &StackPair,
+    stack: DifferingStack<'_>,
     changes: &ShownChanges,
     out: &mut Out<W>,
 ) -> Result<(), Device>
-    ensures { Writes W.contents out.old out.new result (grave_lines L.line (head_view head.entry) pair.now changes.now) }
+    ensures { Writes W.contents out.old out.new result (grave_lines L.line (head_view stack.entry.head) stack.entry.pair.now changes.now) }
 {
-    put_change_if_any(lines, head, pair, b"admits", &changes.admits, out)?;
-    put_change_if_any(lines, head, pair, b"refuses", &changes.refuses, out)
+    put_change_if_any(lines, stack, b"admits", &changes.admits, out)?;
+    put_change_if_any(lines, stack, b"refuses", &changes.refuses, out)
 }
 
 /// Writes which failure changes, or that no decision does.
 fn put_tells<L: CompareLines, W: Write>(
     lines: &L,
-    head: Head<'_>,
-    pair: &StackPair,
+    stack: DifferingStack<'_>,
     tells: &Option<Shown>,
     out: &mut Out<W>,
 ) -> Result<(), Device>
-    ensures { Writes W.contents out.old out.new result (tells_lines L.line (head_view head.entry) pair.now tells.now) }
+    ensures { Writes W.contents out.old out.new result (tells_lines L.line (head_view stack.entry.head) stack.entry.pair.now tells.now) }
 {
     match tells {
-        Some(shown) => lines.put_line(
-            CompareLine::Change {
-                head,
-                pair,
-                change: b"tells",
-                shown,
-            },
-            out,
-        ),
-        None => lines.put_line(CompareLine::Same { head, pair }, out),
+        Some(shown) => lines.put_line(CompareLine::Change(stack, b"tells", shown), out),
+        None => lines.put_line(CompareLine::Same(stack), out),
     }
 }
 
 /// Writes who is let in now, and who is no longer; only if there is neither, which failure changes.
 fn put_changes<L: CompareLines, W: Write>(
     lines: &L,
-    head: Head<'_>,
-    pair: &StackPair,
+    stack: DifferingStack<'_>,
     changes: &ShownChanges,
     out: &mut Out<W>,
 ) -> Result<(), Device>
-    ensures { Writes W.contents out.old out.new result (changes_lines L.line (head_view head.entry) pair.now changes.now) }
+    ensures { Writes W.contents out.old out.new result (changes_lines L.line (head_view stack.entry.head) stack.entry.pair.now changes.now) }
 {
     if is_grave(changes) {
-        put_grave(lines, head, pair, changes, out)
+        put_grave(lines, stack, changes, out)
     } else {
-        put_tells(lines, head, pair, &changes.tells, out)
+        put_tells(lines, stack, &changes.tells, out)
     }
 }
 
 fn put_decisions<L: CompareLines, W: Write>(
     lines: &L,
-    head: Head<'_>,
-    pair: &StackPair,
+    stack: DifferingStack<'_>,
     out: &mut Out<W>,
 ) -> Result<(), Device>
     ensures { Writes W.contents out.old out.new result
-        (decisions_lines L.line (head_view head.entry) pair.now pair.now.decisions) }
+        (decisions_lines L.line (head_view stack.entry.head) stack.entry.pair.now stack.entry.pair.now.decisions) }
 {
-    match &pair.decisions {
-        Decisions::Known(changes) => put_changes(lines, head, pair, changes, out),
-        Decisions::NotKnown => lines.put_line(CompareLine::NotKnown(head), out),
+    match &stack.pair.decisions {
+        Decisions::Known(changes) => put_changes(lines, stack, changes, out),
+        Decisions::NotKnown => lines.put_line(CompareLine::NotKnown(stack.head), out),
     }
 }
 
 /// Writes the arguments of modules that are matched.
 fn put_arguments<L: CompareLines, W: Write>(
     lines: &L,
-    head: Head<'_>,
-    pair: &StackPair,
+    stack: DifferingStack<'_>,
     matched: &[MatchedPair],
     out: &mut Out<W>,
 ) -> Result<(), Device>
     ensures { Writes W.contents out.old out.new result
-        (flat_map (λ m. L.line (Arguments (head_view head.entry) pair.now m)) matched.now) }
+        (flat_map (λ m. L.line (Arguments (head_view stack.entry.head) stack.entry.pair.now m)) matched.now) }
 {
     for modules in matched {
-        lines.put_line(
-            CompareLine::Arguments {
-                head,
-                pair,
-                matched: *modules,
-            },
-            out,
-        )?;
+        lines.put_line(CompareLine::Arguments(stack, *modules), out)?;
     }
     Ok(())
 }
@@ -134,12 +105,11 @@ fn put_arguments<L: CompareLines, W: Write>(
 /// Writes the lines of two stacks.
 pub(super) fn put_pair<L: CompareLines, W: Write>(
     lines: &L,
-    head: Head<'_>,
-    pair: &StackPair,
+    stack: DifferingStack<'_>,
     out: &mut Out<W>,
 ) -> Result<(), Device>
-    ensures { Writes W.contents out.old out.new result (pair_lines L.line (head_view head.entry) pair.now) }
+    ensures { Writes W.contents out.old out.new result (pair_lines L.line (head_view stack.entry.head) stack.entry.pair.now) }
 {
-    put_arguments(lines, head, pair, &pair.modules.arguments, out)?;
-    put_decisions(lines, head, pair, out)
+    put_arguments(lines, stack, &stack.pair.modules.arguments, out)?;
+    put_decisions(lines, stack, out)
 }

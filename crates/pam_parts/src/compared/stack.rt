@@ -5,7 +5,7 @@ ghost use Rattle.pam_report.specs.ReplyViews.{compare_view};
 ghost use Rattle.pam_parts.specs.Compared.{lines_of_stack, pair_at};
 
 use super::CompareLines;
-use super::line::{CompareLine, Head, Side};
+use super::line::{CompareLine, DifferingStack, Head, RefusedStack, Side};
 use super::pair::put_pair;
 use crate::changes::service_at;
 use pam_changes::{ComparedService, ComparedStack, StackChange, StackPair};
@@ -28,7 +28,7 @@ fn put_pair_at<L: CompareLines, W: Write>(
         kind: stack.kind,
     };
     if stack.service == pair.service {
-        return put_pair(lines, head, pair, out);
+        return put_pair(lines, DifferingStack { head, pair }, out);
     }
     let first = Head {
         service: service_at(services, pair.service),
@@ -62,7 +62,7 @@ pub(super) fn put_stack<L: CompareLines, W: Write>(
                 files: reply.new,
                 fault: new,
             };
-            lines.put_line(CompareLine::Refused { head, old, new }, out)
+            lines.put_line(CompareLine::Refused(RefusedStack { head, old, new }), out)
         }
         StackChange::Differs(position) => match reply.changes.pairs.get(*position) {
             Some(pair) => put_pair_at(lines, &reply.changes.services, stack, pair, out),

@@ -6,15 +6,19 @@ use pam_misspelled::Misspelled;
 use pam_report::TablePaths;
 use pam_table_check::TableFinding;
 
+/// A finding, beside the names that its line uses and the word that is wrong, if it is known.
+#[derive(Clone, Copy)]
+pub struct FoundProblem<'x> {
+    pub names: &'x Names<'x>,
+    pub entry: &'x (Place, Finding),
+    pub word: Option<&'x Misspelled>,
+}
+
 /// A line of a check.
 #[derive(Clone, Copy)]
 pub enum CheckLine<'x> {
-    /// A finding, beside the names that it needs and the word that is wrong, if it is known.
-    Found {
-        names: &'x Names<'x>,
-        entry: &'x (Place, Finding),
-        word: Option<&'x Misspelled>,
-    },
+    /// A finding.
+    Found(FoundProblem<'x>),
     /// A problem of a table, beside the path of each table.
     InTable {
         paths: &'x TablePaths<'x>,

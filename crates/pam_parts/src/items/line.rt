@@ -2,25 +2,28 @@
 
 use pam_conf::{Files, Kind, Module, Sub};
 
-/// A line of a stack, whose rules are in files.
+/// A stack: its service, its kind and the number of its modules.
+#[derive(Clone, Copy)]
+pub struct StackHead<'x> {
+    pub service: &'x str,
+    pub kind: Kind,
+    pub modules: usize,
+}
+
+/// Where a rule stands: the files, and the number of substacks that it is nested in.
+#[derive(Clone, Copy)]
+pub struct RulePlace<'x> {
+    pub files: &'x Files,
+    pub level: usize,
+}
+
+/// A line of a stack.
 #[derive(Clone, Copy)]
 pub enum StackLine<'x> {
-    /// The first line: the service, the kind and the number of modules.
-    Head {
-        service: &'x str,
-        kind: Kind,
-        modules: usize,
-    },
-    /// A module, nested in this number of substacks.
-    Module {
-        files: &'x Files,
-        level: usize,
-        module: &'x Module,
-    },
-    /// The rule of a substack, nested in this number of others.
-    Sub {
-        files: &'x Files,
-        level: usize,
-        sub: &'x Sub,
-    },
+    /// The first line.
+    Head(StackHead<'x>),
+    /// A module.
+    Module(RulePlace<'x>, &'x Module),
+    /// The rule of a substack.
+    Sub(RulePlace<'x>, &'x Sub),
 }

@@ -14,7 +14,7 @@ use pam_conf::{Form, Kind, Stack};
 use pam_host::{Answered, Finding, Met, Place, Problem, WayIn};
 use pam_known::name_of_path;
 use pam_misspelled::Misspelled;
-use pam_parts::{Names, path_of, text_at};
+use pam_parts::{FoundProblem, Names, path_of, text_at};
 use pam_report::{kind_name, path_at, problem_name, stack_of};
 use pam_sentences::{level_name, put_name, put_said};
 use std::io::Write;
@@ -191,16 +191,13 @@ fn put_sentence<W: Write>(
 
 /// Writes `PLACE: LEVEL: NUMBER NAME: SENTENCE`.
 #[tactic(auto, unfolding(crate::specs::Check::finding_line))]
-pub(super) fn put_finding<W: Write>(
-    names: &Names<'_>,
-    place: &Place,
-    finding: Finding,
-    word: Option<&Misspelled>,
-    out: &mut Out<W>,
-) -> Result<(), Device>
+pub(super) fn put_finding<W: Write>(found: FoundProblem<'_>, out: &mut Out<W>) -> Result<(), Device>
     ensures { Writes W.contents out.old out.new result
-        (finding_line (names_view names.now) (place.now, finding) (word_of word.entry)) }
+        (finding_line (names_view found.entry.names.now) found.entry.entry.now (word_of found.entry.word)) }
 {
+    let FoundProblem { names, entry, word } = found;
+    let place = &entry.0;
+    let finding = entry.1;
     put_place(names, place, out)?;
     out.put_line(&[
         Piece::Bytes(level_name(finding.problem.level()).as_bytes()),

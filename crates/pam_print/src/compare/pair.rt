@@ -6,23 +6,23 @@ ghost use Rattle.pam_print.specs.Compare.{argument_line, change_line, not_known_
 
 use super::parts::{Part, put_parts};
 use crate::decide::name_of;
-use pam_changes::{MatchedPair, Shown, StackPair};
+use pam_changes::{MatchedPair, Shown};
 use pam_codes::{Device, Out};
 use pam_compare::MAX_SITUATIONS;
-use pam_parts::Head;
+use pam_parts::{DifferingStack, Head};
 use std::io::Write;
 
 /// Writes `SERVICE KIND CHANGE: CODE becomes CODE where MODULE CODE, MODULE CODE`.
 #[tactic(auto, unfolding(crate::specs::Compare::change_line))]
 pub(super) fn put_change<'x, W: Write>(
-    head: Head<'x>,
-    pair: &'x StackPair,
+    stack: DifferingStack<'x>,
     change: &'x [u8],
     shown: &'x Shown,
     out: &mut Out<W>,
 ) -> Result<(), Device>
-    ensures { Writes W.contents out.old out.new result (change_line (head_view head.entry) pair.now change.now shown.now) }
+    ensures { Writes W.contents out.old out.new result (change_line (head_view stack.entry.head) stack.entry.pair.now change.now shown.now) }
 {
+    let DifferingStack { head, pair } = stack;
     put_parts(
         &[
             Part::Head(head),
@@ -45,13 +45,10 @@ pub(super) fn put_change<'x, W: Write>(
 
 /// Writes `SERVICE KIND same decisions`, and what changes in the modules.
 #[tactic(auto, unfolding(crate::specs::Compare::same_line))]
-pub(super) fn put_same<'x, W: Write>(
-    head: Head<'x>,
-    pair: &'x StackPair,
-    out: &mut Out<W>,
-) -> Result<(), Device>
-    ensures { Writes W.contents out.old out.new result (same_line (head_view head.entry) pair.now) }
+pub(super) fn put_same<W: Write>(stack: DifferingStack<'_>, out: &mut Out<W>) -> Result<(), Device>
+    ensures { Writes W.contents out.old out.new result (same_line (head_view stack.entry.head) stack.entry.pair.now) }
 {
+    let DifferingStack { head, pair } = stack;
     put_parts(
         &[
             Part::Head(head),
@@ -82,13 +79,13 @@ pub(super) fn put_not_known<W: Write>(head: Head<'_>, out: &mut Out<W>) -> Resul
 /// Writes `SERVICE KIND arguments of MODULE: "ARGUMENTS" becomes "ARGUMENTS"`.
 #[tactic(auto, unfolding(crate::specs::Compare::argument_line))]
 pub(super) fn put_argument_line<'x, W: Write>(
-    head: Head<'x>,
-    pair: &'x StackPair,
+    stack: DifferingStack<'x>,
     matched: MatchedPair,
     out: &mut Out<W>,
 ) -> Result<(), Device>
-    ensures { Writes W.contents out.old out.new result (argument_line (head_view head.entry) pair.now matched) }
+    ensures { Writes W.contents out.old out.new result (argument_line (head_view stack.entry.head) stack.entry.pair.now matched) }
 {
+    let DifferingStack { head, pair } = stack;
     put_parts(
         &[
             Part::Head(head),

@@ -6,19 +6,16 @@ ghost use Rattle.pam_parts.specs.ComparedView.{head_view, side_view};
 
 use super::parts::{Part, put_parts};
 use pam_codes::{Device, Out};
-use pam_parts::{Head, Side};
+use pam_parts::{Head, RefusedStack};
 use std::io::Write;
 
 /// Writes `SERVICE KIND refused: old FAULT, new FAULT`.
 #[tactic(auto, unfolding(crate::specs::Compare::refused_line))]
-pub(super) fn put_refused<'x, W: Write>(
-    head: Head<'x>,
-    old: Side<'x>,
-    new: Side<'x>,
-    out: &mut Out<W>,
-) -> Result<(), Device>
-    ensures { Writes W.contents out.old out.new result (refused_line (head_view head.entry) (side_view old.entry) (side_view new.entry)) }
+pub(super) fn put_refused<W: Write>(stack: RefusedStack<'_>, out: &mut Out<W>) -> Result<(), Device>
+    ensures { Writes W.contents out.old out.new result
+        (refused_line (head_view stack.entry.head) (side_view stack.entry.old) (side_view stack.entry.new)) }
 {
+    let RefusedStack { head, old, new } = stack;
     put_parts(
         &[
             Part::Head(head),

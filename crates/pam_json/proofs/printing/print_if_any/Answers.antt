@@ -47,7 +47,7 @@ returns-in-Outcomes g c =
 
 pub returns-in-Paths : goal.returns-in-Paths
 returns-in-Paths g c =
-    written g.W.Write.contents _ _ _ (replies.Paths c.in-Paths.page) _ c.in-Paths.is refl c.write_page.ensures
+    written g.W.Write.contents _ _ _ (replies.Paths c.in-Paths.page) _ c.in-Paths.is refl c.write.ensures
 
 pub returns-in-Check : goal.returns-in-Check
 returns-in-Check g c =

@@ -35,7 +35,7 @@ returns-in-Outcomes g c =
     c.write_outcomes.ensures)
 
 pub returns-in-Paths : goal.returns-in-Paths
-returns-in-Paths g c = reply-is g.W.Write.contents IsText _ _ _ (replies.Paths c.in-Paths.page) _ c.in-Paths.is c.write_page.ensures
+returns-in-Paths g c = reply-is g.W.Write.contents IsText _ _ _ (replies.Paths c.in-Paths.page) _ c.in-Paths.is c.write.ensures
 
 pub returns-in-Graph : goal.returns-in-Graph
 returns-in-Graph g c = reply-is g.W.Write.contents IsText _ _ _ (replies.Graph c.in-Graph.drawing) _ c.in-Graph.is c.write_drawing.ensures

@@ -18,7 +18,7 @@ returns-in_err-put_one_word g c =
     (front-is
     (front-longer (codes "\n")
     (front-longer (words_text m.arguments) (front-then (all-then c.in_ok-put_front.ensures c.in_ok-write_text.ensures) c.in_err-put_one_word.ensures)))
-    (module_line-is c.args.files.now c.args.level m c.deref.result.now m.arguments c.deref.ensures.value refl))
+    (module_line-is c.args.at.files.now c.args.at.level m c.deref.result.now m.arguments c.deref.ensures.value refl))
 
 pub returns-in_err-put_words : goal.returns-in_err-put_words
 returns-in_err-put_words g c =
@@ -27,7 +27,7 @@ returns-in_err-put_words g c =
     (front-is
     (front-longer (codes "\n") (front-then (all-then (all-then c.in_ok-put_front.ensures c.in_ok-write_text.ensures) c.in_ok-put_one_word.ensures)
     c.in_err-put_words.ensures))
-    (module_line-is c.args.files.now c.args.level m c.deref.result.now m.arguments c.deref.ensures.value refl))
+    (module_line-is c.args.at.files.now c.args.at.level m c.deref.result.now m.arguments c.deref.ensures.value refl))
 
 pub returns : goal.returns
 returns g c =
@@ -36,4 +36,4 @@ returns g c =
     (writes-then _ (codes "\n") _
     (all-then (all-then (all-then c.in_ok-put_front.ensures c.in_ok-write_text.ensures) c.in_ok-put_one_word.ensures) c.in_ok-put_words.ensures)
     c.put.ensures)
-    (module_line-is c.args.files.now c.args.level m c.deref.result.now m.arguments c.deref.ensures.value refl)
+    (module_line-is c.args.at.files.now c.args.at.level m c.deref.result.now m.arguments c.deref.ensures.value refl)

@@ -26,10 +26,10 @@ then one other ones others e f = ap₂ {A = List ℕ × Data} {B = Members} {C =
 pub returns : goal.returns
 unfolding finding_json
 returns g c =
-    let services = (names_view c.args.names.now).services in
+    let services = (names_view c.args.found.names.now).services in
     let stack = c.stack_of-stack.ensures in
     let name = c.problem_name-name.ensures in
-    let met = c.met_unless-met.ensures ∙ ap (λ (s : Option (ℕ × Kind)). met_unless c.args.finding.met s) stack in
+    let met = c.met_unless-met.ensures ∙ ap (λ (s : Option (ℕ × Kind)). met_unless c.args.found.entry.now.1.met s) stack in
     let level = c.as_bytes.ensures.value ∙ c.level_name.ensures ∙ ap (λ (l : Level). level_name l) c.level.ensures in
     let of-stack = c.service_of.ensures ∙ ap (λ (s : Option (ℕ × Kind)). option_map (λ one. text_at services one.0) s) stack in
     let type = c.type_of.ensures ∙ ap (λ (s : Option (ℕ × Kind)). option_map kind_name (option_map (λ one. one.1) s)) stack in

@@ -10,7 +10,7 @@ use Rattle.pam_parts.proofs.compared.pair.put_arguments.Goals as goal
 pub returns-in_err-put_line : goal.returns-in_err-put_line
 returns-in_err-put_line g c =
     let matched = c.args.matched.now in
-    let text = λ (m : MatchedPair). g.L.CompareLines.line (Arguments (head_view c.args.head) c.args.pair.now m) in
+    let text = λ (m : MatchedPair). g.L.CompareLines.line (Arguments (head_view c.args.stack.head) c.args.stack.pair.now m) in
     let index = c.loop-modules.modules-index in
     err-front _ c.from_residual.ensures.0
     (front-is (front-longer (flat_map text (drop (index + 1) matched)) (front-then c.loop-modules.invariant c.in_err-put_line.ensures))

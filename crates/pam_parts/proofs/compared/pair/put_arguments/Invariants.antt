@@ -9,4 +9,4 @@ use Rattle.pam_parts.proofs.compared.pair.put_arguments.Given as goal
 abbrev pub invariant-loop-modules : goal.invariant-loop-modules
 invariant-loop-modules g l =
     TookAll g.W.Write.contents l.initial.out l.out
-    (flat_map (λ m. g.L.CompareLines.line (Arguments (head_view l.head) l.pair m)) (take l.modules-index l.matched))
+    (flat_map (λ m. g.L.CompareLines.line (Arguments (head_view l.stack.head) l.stack.pair.now m)) (take l.modules-index l.matched))

@@ -8,8 +8,8 @@ use Rattle.pam_parts.proofs.compared.pair.put_pair.Goals as goal
 
 pub returns-in_err-put_arguments : goal.returns-in_err-put_arguments
 returns-in_err-put_arguments g c =
-    let head = head_view c.args.head in
-    let pair = c.args.pair.now in
+    let head = head_view c.args.stack.head in
+    let pair = c.args.stack.pair.now in
     let line = λ (m : MatchedPair). g.L.CompareLines.line (Arguments head pair m) in
     err-front _ c.from_residual.ensures.0
     (front-longer (decisions_lines g.L.CompareLines.line head pair pair.decisions)
@@ -17,5 +17,5 @@ returns-in_err-put_arguments g c =
 
 pub returns : goal.returns
 returns g c =
-    let line = λ (m : MatchedPair). g.L.CompareLines.line (Arguments (head_view c.args.head) c.args.pair.now m) in
+    let line = λ (m : MatchedPair). g.L.CompareLines.line (Arguments (head_view c.args.stack.head) c.args.stack.pair.now m) in
     writes-then _ _ _ (all-is c.in_ok-put_arguments.ensures (ap (flat_map line) c.deref.ensures.value)) c.put_decisions.ensures

@@ -7,10 +7,10 @@ use Rattle.pam_print.proofs.check.finding.put_finding.Goals as goal
 
 pub returns-in_err-put_line : goal.returns-in_err-put_line
 returns-in_err-put_line g c =
-    let names = names_view c.args.names.now in
-    let place = c.args.place.now in
-    let finding = c.args.finding in
-    let word = word_of c.args.word in
+    let names = names_view c.args.found.names.now in
+    let place = c.args.found.entry.now.0 in
+    let finding = c.args.found.entry.now.1 in
+    let word = word_of c.args.found.word in
     err-front _ c.from_residual-in_err-put_line.ensures.0
     (front-is
     (front-longer (codes "\n")
@@ -20,19 +20,19 @@ returns-in_err-put_line g c =
 
 pub returns-in_err-put_sentence : goal.returns-in_err-put_sentence
 returns-in_err-put_sentence g c =
-    let names = names_view c.args.names.now in
-    let word = word_of c.args.word in
+    let names = names_view c.args.found.names.now in
+    let word = word_of c.args.found.word in
     let before = all-then c.in_ok-put_place.ensures c.in_ok-put_line.ensures in
     err-front _ c.from_residual-in_err-put_sentence.ensures.0
     (front-is (front-longer (codes "\n") (front-then before c.in_err-put_sentence.ensures))
-    (finding_line-is names c.args.place.now c.args.finding word c.as_bytes.result.now c.as_bytes-2.result.now
+    (finding_line-is names c.args.found.entry.now.0 c.args.found.entry.now.1 word c.as_bytes.result.now c.as_bytes-2.result.now
     (rw (c.as_bytes.ensures.value, c.level_name.ensures, c.level.ensures) refl) (c.as_bytes-2.ensures.value ∙ c.problem_name.ensures)))
 
 pub returns : goal.returns
 returns g c =
-    let names = names_view c.args.names.now in
-    let word = word_of c.args.word in
+    let names = names_view c.args.found.names.now in
+    let word = word_of c.args.found.word in
     let before = all-then c.in_ok-put_place.ensures c.in_ok-put_line.ensures in
     writes-is _ _ _ _ _ _ (writes-then _ _ _ (all-then before c.in_ok-put_sentence.ensures) c.put.ensures)
-    (finding_line-is names c.args.place.now c.args.finding word c.as_bytes.result.now c.as_bytes-2.result.now
+    (finding_line-is names c.args.found.entry.now.0 c.args.found.entry.now.1 word c.as_bytes.result.now c.as_bytes-2.result.now
     (rw (c.as_bytes.ensures.value, c.level_name.ensures, c.level.ensures) refl) (c.as_bytes-2.ensures.value ∙ c.problem_name.ensures))

@@ -9,6 +9,6 @@ pub returns : goal.returns
 unfolding argument_line
 returns g c =
     writes-is _ _ _ _ _ _ c.put_parts.ensures
-    (parts-8 (head_text (head_view c.args.head)) (codes " arguments of ") (module_text c.args.pair.now.new c.args.matched.new) (codes ": \"")
-    (arguments_text c.args.pair.now.old c.args.matched.old) (codes "\" becomes \"")
-    (arguments_text c.args.pair.now.new c.args.matched.new) (codes "\"\n"))
+    (parts-8 (head_text (head_view c.args.stack.head)) (codes " arguments of ") (module_text c.args.stack.pair.now.new c.args.matched.new) (codes ": \"")
+    (arguments_text c.args.stack.pair.now.old c.args.matched.old) (codes "\" becomes \"")
+    (arguments_text c.args.stack.pair.now.new c.args.matched.new) (codes "\"\n"))

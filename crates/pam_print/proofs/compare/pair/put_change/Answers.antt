@@ -11,7 +11,8 @@ unfolding change_line
 returns g c =
     let shown = c.args.shown.now in
     writes-is _ _ _ _ _ _ c.put_parts.ensures
-    (change-parts (head_text (head_view c.args.head)) c.args.change.now c.name_of.result.now c.name_of-2.result.now
-    (asked_texts c.args.pair.now c.deref.result.now) (code_name shown.witness.old) (code_name shown.witness.new)
-    (asked_texts c.args.pair.now shown.asked.items) (c.name_of.ensures ∙ ap code_name c.code.ensures) (c.name_of-2.ensures ∙ ap code_name c.code-2.ensures)
-    (ap (asked_texts c.args.pair.now) c.deref.ensures.value))
+    (change-parts (head_text (head_view c.args.stack.head)) c.args.change.now c.name_of.result.now c.name_of-2.result.now
+    (asked_texts c.args.stack.pair.now c.deref.result.now) (code_name shown.witness.old) (code_name shown.witness.new)
+    (asked_texts c.args.stack.pair.now shown.asked.items) (c.name_of.ensures ∙ ap code_name c.code.ensures)
+    (c.name_of-2.ensures ∙ ap code_name c.code-2.ensures)
+    (ap (asked_texts c.args.stack.pair.now) c.deref.ensures.value))

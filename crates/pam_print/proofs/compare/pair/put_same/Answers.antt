@@ -9,4 +9,4 @@ pub returns : goal.returns
 unfolding same_line
 returns g c =
     writes-is _ _ _ _ _ _ c.put_parts.ensures
-    (parts-4 (head_text (head_view c.args.head)) (codes " same decisions") (module_changes c.args.pair.now) (codes "\n"))
+    (parts-4 (head_text (head_view c.args.stack.head)) (codes " same decisions") (module_changes c.args.stack.pair.now) (codes "\n"))

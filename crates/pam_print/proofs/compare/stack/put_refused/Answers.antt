@@ -10,5 +10,5 @@ pub returns : goal.returns
 unfolding refused_line
 returns g c =
     writes-is _ _ _ _ _ _ c.put_parts.ensures
-    (parts-6 (head_text (head_view c.args.head)) (codes " refused: old ") (side_text (side_files c.args.old.files) c.args.old.fault.now)
-    (codes ", new ") (side_text (side_files c.args.new.files) c.args.new.fault.now) (codes "\n"))
+    (parts-6 (head_text (head_view c.args.stack.head)) (codes " refused: old ") (side_text (side_files c.args.stack.old.files) c.args.stack.old.fault.now)
+    (codes ", new ") (side_text (side_files c.args.stack.new.files) c.args.stack.new.fault.now) (codes "\n"))
