@@ -11,8 +11,9 @@ loop-index-preserved g c =
     let more = c.in_ok-push-2.ensures.items in
     let name = c.name_for.result in
     let longer = ap (λ (l : List ℕ). length l) more ∙ length_push before name in
-    let Named : ℕ → ℕ → Type 0 = λ j n. IsName (g.K.Knowledge.allows c.args.sides.now.old_known.now) (g.L.Knowledge.allows c.args.sides.now.new_known.now) c.args.old_modules
-    c.args.sides.now.matching.now j n in
+    let sides = c.args.sides.now in
+    let Named : ℕ → ℕ → Type 0 =
+    λ j n. IsName (g.K.Knowledge.allows sides.old_known.now) (g.L.Knowledge.allows sides.new_known.now) c.args.old_modules sides.matching.now j n in
     record {
       count = omega (arith, longer, inv.count);
       named = λ j positive most.

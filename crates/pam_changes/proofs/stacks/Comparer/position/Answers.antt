@@ -12,5 +12,5 @@ returns-clause-adds c =
 
 pub returns-clause-pair : goal.returns-clause-pair
 returns-clause-pair c =
-    has-items c.args.stacks.kind c.args.stacks.old c.args.stacks.new c.in_ok-pair.pair _ c.in_ok-position.ensures.position c.in_ok-pair.ensures.kind c.in_ok-pair.ensures.old
-    c.in_ok-pair.ensures.new
+    has-items c.args.stacks.kind c.args.stacks.old c.args.stacks.new c.in_ok-pair.pair _ c.in_ok-position.ensures.position c.in_ok-pair.ensures.kind
+    c.in_ok-pair.ensures.old c.in_ok-pair.ensures.new
