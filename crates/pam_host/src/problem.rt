@@ -163,45 +163,22 @@ impl Problem {
         }
     }
 
-    /// The service of a problem that names one, else 0.
-    fn service(self) -> usize
-        ensures { result ≡ service_of self }
+    /// The service of a problem that names one, else 0; and the number of its kind, if it names one, and 1 for S5 of a dashed rule,
+    /// else 0.
+    fn service_and_kind(self) -> (usize, u8)
+        ensures service { result.0 ≡ service_of self }
+        ensures kind { result.1 ≡ kind_of self }
     {
         match self {
-            Problem::LetsNobodyIn { service, .. }
-            | Problem::LetsAnybodyIn { service }
-            | Problem::TooLarge { service, .. }
-            | Problem::OtherAnswers { service, .. } => service,
+            Problem::LetsNobodyIn { service, kind }
+            | Problem::TooLarge { service, kind }
+            | Problem::OtherAnswers { service, kind } => (service, number_of_kind(kind)),
+            Problem::LetsAnybodyIn { service } => (service, 0),
+            Problem::NoModule { is_dashed } => (0, u8::from(is_dashed)),
             Problem::Fault(_)
             | Problem::Walk(_)
             | Problem::Released(_)
             | Problem::EmptySeparator
-            | Problem::NeverAsked
-            | Problem::JumpPastEnd
-            | Problem::NoModule { .. }
-            | Problem::NoOther
-            | Problem::UnreachableName
-            | Problem::LeftOver
-            | Problem::JumpIntoInclude
-            | Problem::NoFunction
-            | Problem::CallerIsRoot => 0,
-        }
-    }
-
-    /// The number of the kind of a problem that names one, and 1 for S5 of a dashed rule; else 0.
-    fn kind_number(self) -> u8
-        ensures { result ≡ kind_of self }
-    {
-        match self {
-            Problem::LetsNobodyIn { kind, .. }
-            | Problem::TooLarge { kind, .. }
-            | Problem::OtherAnswers { kind, .. } => number_of_kind(kind),
-            Problem::NoModule { is_dashed } => u8::from(is_dashed),
-            Problem::Fault(_)
-            | Problem::Walk(_)
-            | Problem::Released(_)
-            | Problem::EmptySeparator
-            | Problem::LetsAnybodyIn { .. }
             | Problem::NeverAsked
             | Problem::JumpPastEnd
             | Problem::NoOther
@@ -209,7 +186,7 @@ impl Problem {
             | Problem::LeftOver
             | Problem::JumpIntoInclude
             | Problem::NoFunction
-            | Problem::CallerIsRoot => 0,
+            | Problem::CallerIsRoot => (0, 0),
         }
     }
 }
@@ -220,12 +197,13 @@ impl Spot {
     pub fn place(self) -> Place
         ensures { result ≡ place_of self }
     {
+        let (service, kind) = self.problem.service_and_kind();
         Place {
             file: self.file,
             line: self.line,
             rank: self.problem.rank(),
-            service: self.problem.service(),
-            kind: self.problem.kind_number(),
+            service,
+            kind,
         }
     }
 }
