@@ -95,13 +95,13 @@ fn metadata_at<R: std::rt::Files>(rt: &R, path: Path<'_>) -> io::Result<Option<M
 
 /// What is at a path below a folder after links are followed.
 #[derive(Drop)]
-struct Found {
-    reached: Reached,
+pub(super) struct Found {
+    pub(super) reached: Reached,
     metadata: Metadata,
 }
 
 /// Looks at a path below a folder. Returns `None` if it leads nowhere.
-fn found_at<R: std::rt::Files>(
+pub(super) fn found_at<R: std::rt::Files>(
     rt: &R,
     alloc: Global,
     folder: Folder<'_>,
@@ -112,19 +112,6 @@ fn found_at<R: std::rt::Files>(
     };
     match metadata_at(rt, reached.path.as_path())? {
         Some(metadata) => Ok(Some(Found { reached, metadata })),
-        None => Ok(None),
-    }
-}
-
-/// Returns how what is at a path below a folder is reached, if anything is there after links are followed.
-pub(super) fn find_there<R: std::rt::Files>(
-    rt: &R,
-    alloc: Global,
-    folder: Folder<'_>,
-    path: &str,
-) -> io::Result<Option<Reached>> {
-    match found_at(rt, alloc, folder, path)? {
-        Some(found) => Ok(Some(found.reached)),
         None => Ok(None),
     }
 }

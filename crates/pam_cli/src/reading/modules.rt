@@ -4,7 +4,7 @@ ghost use Rattle.std.specs.Prelude.{◌≡◌, ◌⊎◌, IfErr, map};
 ghost use Rattle.pam_paths.specs.Classes.{Member};
 ghost use Rattle.pam_cli.specs.Sources.{IsInSource, IsUnread};
 
-use crate::reading::files::{entry_names, find_folder, find_there, unread};
+use crate::reading::files::{entry_names, find_folder, found_at, unread};
 use crate::reading::inside::Folder;
 use indexmap::IndexSet;
 use pam_conf::Files;
@@ -157,7 +157,7 @@ fn is_at_root<R: std::rt::Files>(
     root: Folder<'_>,
     path: &str,
 ) -> Result<bool, AllocError> {
-    match find_there(rt, alloc, root, path.trim_start_matches('/')) {
+    match found_at(rt, alloc, root, path.trim_start_matches('/')) {
         Ok(found) => Ok(found.is_some()),
         Err(error) if error.kind() == ErrorKind::OutOfMemory => Err(AllocError),
         Err(_) => Ok(true),

@@ -7,7 +7,7 @@ ghost use Rattle.pam_cli.specs.inner.Sources.{AddsCandidate, AddsFile, AddsFiles
 ghost use Rattle.pam_words.specs.Wanted.{candidate_view};
 
 use crate::reading::files::{
-    bytes_if_there, entry_names, find_folder, find_there, named_file, regular_bytes, unread,
+    bytes_if_there, entry_names, find_folder, found_at, named_file, regular_bytes, unread,
 };
 use crate::reading::inside::Folder;
 use indexmap::IndexSet;
@@ -215,9 +215,9 @@ fn system_files<R: std::rt::Files + AllocGlobal + Clone + Drop>(
     ensures { IfOk result (λ found. IsOfRoot (map candidate_view candidates.now) root.entry.shown.now found.files found.paths) }
 {
     let shown = Path::new(root.shown).join(alloc, VENDOR)?;
-    match find_there(rt, alloc, root, VENDOR) {
-        Ok(Some(reached)) => {
-            let vendor = root.inner(shown.as_str(), &reached);
+    match found_at(rt, alloc, root, VENDOR) {
+        Ok(Some(found)) => {
+            let vendor = root.inner(shown.as_str(), &found.reached);
             over_files(rt, alloc, folder, vendor, candidates)
         }
         Ok(None) => folder_files(rt, alloc, folder, candidates),
