@@ -5,11 +5,12 @@ ghost use Rattle.pam_conf.specs.Stack.{Items, module_count};
 ghost use Rattle.pam_dispatch.specs.Flat.{modules_of};
 ghost use Rattle.pam_graph.specs.Goals.{meeting};
 ghost use Rattle.pam_graph.specs.Walks.{walks as walks_of};
+ghost use Rattle.pam_known.specs.Knowledge.{Agree};
 ghost use Rattle.pam_paths.specs.Known.{may_answer};
-ghost use Rattle.pam_paths.specs.Listing.{IsListingAfter, IsListingBefore};
+ghost use Rattle.pam_paths.specs.Listing.{Allowance, IsListingAfter, IsListingBefore};
 ghost use Rattle.pam_paths.specs.Pages.{after, before};
 ghost use Rattle.pam_paths.specs.Paths.{path_through};
-ghost use Rattle.pam_report.specs.inner.Known.{FindsOf};
+ghost use Rattle.pam_report.specs.Finds.{Finds};
 ghost use Rattle.pam_report.specs.inner.Memory.{WantsWork};
 ghost use Rattle.pam_report.specs.PageView.{Renders};
 ghost use Rattle.pam_report.specs.inner.PageView.{IsRefused, IsSide, ListsPaths, ListsWalks, page_view};
@@ -24,7 +25,7 @@ use crate::fault::Fault;
 use pam_dispatch::Program;
 use pam_graph::{Goal, Graph, GraphError};
 use pam_page::Listing;
-use pam_paths::{Cursor, Explorer, Known};
+use pam_paths::{Cursor, Explorer};
 use pam_words::PagePart;
 use std::alloc::Global;
 
@@ -33,6 +34,14 @@ use std::alloc::Global;
 pub(super) struct GoalGraph {
     pub goal: Goal,
     pub graph: Graph,
+}
+
+/// The walks that meet a goal, and what renders a page of them.
+#[derive(Drop)]
+struct WalksPage<'a, R> {
+    alloc: Global,
+    walks: &'a GoalGraph,
+    renderer: &'a R,
 }
 
 /// Returns the cursor of a text, if it is that of a path of the stack.
@@ -72,61 +81,68 @@ fn cursor_before(paging: &Paging<'_>, text: &str) -> Result<Cursor, Fault>
     }
 }
 
-impl GoalGraph {
-    /// Returns the listing of the walks that meet the goal.
-    // Never inlined, as the next two: else the stack has room for the listings of all three.
-    #[inline(never)]
-    fn walks(&self, alloc: Global) -> Result<Listing<'_, Known>, Fault>
-        ensures { ListsPaths (meeting self.now.goal (walks_of self.now.graph)) (codes "after") result }
-    {
-        match self.graph.walks(alloc, self.goal) {
-            Ok(walks) => Ok(Listing::WalksForward(walks)),
-            Err(_) => Err(Fault::Memory),
-        }
+/// Renders the walks that meet a goal.
+#[inline(never)]
+fn render_all_walks<T, R: PageRenderer<T>>(
+    page: &WalksPage<'_, R>,
+    target: &mut T,
+) -> Result<(), Fault>
+    ensures { let graph = page.now.walks.now in Renders (R.renders page.now.renderer.now) target.old target.new result
+        (ListsPaths (meeting graph.goal (walks_of graph.graph)) (codes "after")) }
+{
+    match page.walks.graph.walks(page.alloc, page.walks.goal) {
+        Ok(walks) => page
+            .renderer
+            .render(&mut Listing::WalksForward(walks), target),
+        Err(_) => Err(Fault::Memory),
     }
+}
 
-    /// Returns the listing of the walks after a cursor that meet the goal.
-    #[inline(never)]
-    fn walks_after(&self, alloc: Global, cursor: &Cursor) -> Result<Listing<'_, Known>, Fault>
-        ensures { ListsPaths (meeting self.now.goal (after cursor.now (walks_of self.now.graph))) (codes "after") result }
+/// Renders the walks after a cursor that meet a goal.
+#[inline(never)]
+fn render_walks_after<T, R: PageRenderer<T>>(
+    page: &WalksPage<'_, R>,
+    cursor: &Cursor,
+    target: &mut T,
+) -> Result<(), Fault>
+    ensures { let graph = page.now.walks.now in Renders (R.renders page.now.renderer.now) target.old target.new result
+        (ListsPaths (meeting graph.goal (after cursor.now (walks_of graph.graph))) (codes "after")) }
+{
+    match page
+        .walks
+        .graph
+        .walks_after(page.alloc, page.walks.goal, cursor)
     {
-        match self.graph.walks_after(alloc, self.goal, cursor) {
-            Ok(walks) => Ok(Listing::WalksForward(walks)),
-            Err(_) => Err(Fault::Memory),
-        }
+        Ok(walks) => page
+            .renderer
+            .render(&mut Listing::WalksForward(walks), target),
+        Err(_) => Err(Fault::Memory),
     }
+}
 
-    /// Returns the listing of the walks before a cursor that meet the goal, the last one first.
-    #[inline(never)]
-    fn walks_before(&self, alloc: Global, cursor: &Cursor) -> Result<Listing<'_, Known>, Fault>
-        ensures { ListsPaths (meeting self.now.goal (before cursor.now (walks_of self.now.graph))) (codes "before") result }
+/// Renders the walks before a cursor that meet a goal, the last one first.
+#[inline(never)]
+fn render_walks_before<T, R: PageRenderer<T>>(
+    page: &WalksPage<'_, R>,
+    cursor: &Cursor,
+    target: &mut T,
+) -> Result<(), Fault>
+    ensures { let graph = page.now.walks.now in Renders (R.renders page.now.renderer.now) target.old target.new result
+        (ListsPaths (meeting graph.goal (before cursor.now (walks_of graph.graph))) (codes "before")) }
+{
+    match page
+        .walks
+        .graph
+        .walks_before(page.alloc, page.walks.goal, cursor)
     {
-        match self.graph.walks_before(alloc, self.goal, cursor) {
-            Ok(walks) => Ok(Listing::WalksBackward(walks)),
-            Err(_) => Err(Fault::Memory),
-        }
-    }
-
-    /// Returns the listing of the walks of a part that meet the goal.
-    fn part(&self, paging: &Paging<'_>, part: PagePart<'_>) -> Result<Listing<'_, Known>, Fault>
-        ensures { ListsWalks paging.now self.now.graph self.now.goal part.entry result }
-    {
-        match part {
-            PagePart::Whole => self.walks(paging.alloc),
-            PagePart::After(text) => match cursor_after(paging, text) {
-                Ok(cursor) => self.walks_after(paging.alloc, &cursor),
-                Err(fault) => Err(fault),
-            },
-            PagePart::Before(text) => match cursor_before(paging, text) {
-                Ok(cursor) => self.walks_before(paging.alloc, &cursor),
-                Err(fault) => Err(fault),
-            },
-        }
+        Ok(walks) => page
+            .renderer
+            .render(&mut Listing::WalksBackward(walks), target),
+        Err(_) => Err(Fault::Memory),
     }
 }
 
 /// Renders the walks of a part that meet a goal.
-#[inline(never)]
 pub(super) fn render_walks<T, R: PageRenderer<T>>(
     paging: &Paging<'_>,
     walks: &GoalGraph,
@@ -137,9 +153,21 @@ pub(super) fn render_walks<T, R: PageRenderer<T>>(
     ensures { Renders (R.renders renderer.now) target.old target.new result
         (ListsWalks paging.now walks.now.graph walks.now.goal part.entry) }
 {
-    match walks.part(paging, part) {
-        Ok(mut listing) => renderer.render(&mut listing, target),
-        Err(fault) => Err(fault),
+    let page = WalksPage {
+        alloc: paging.alloc,
+        walks,
+        renderer,
+    };
+    match part {
+        PagePart::Whole => render_all_walks(&page, target),
+        PagePart::After(text) => match cursor_after(paging, text) {
+            Ok(cursor) => render_walks_after(&page, &cursor, target),
+            Err(fault) => Err(fault),
+        },
+        PagePart::Before(text) => match cursor_before(paging, text) {
+            Ok(cursor) => render_walks_before(&page, &cursor, target),
+            Err(fault) => Err(fault),
+        },
     }
 }
 
@@ -152,7 +180,8 @@ pub(super) fn answer_goal<'a>(
     goal: Goal,
 ) -> Result<Reply<'a>, Fault>
     requires { IsProgramOf program found.stack }
-    ensures answer { FindsOf (IsMeetingPage goal (page_view request.now)) found result }
+    ensures answer { (allows : Allowance) → Agree (module_count found.stack) (may_answer found.known) allows
+        → Finds result (IsMeetingPage goal (page_view request.now) found.stack allows) }
     ensures wants { WantsWork result }
 {
     match Graph::of(alloc, &program, &found.known) {
@@ -171,7 +200,8 @@ pub(super) fn answer_asking<'a>(
     number: u32,
 ) -> Result<Reply<'a>, Fault>
     requires { IsProgramOf program found.stack }
-    ensures answer { FindsOf (IsAskingPage (nat_lt (module_count found.stack) number) number (page_view request.now)) found result }
+    ensures answer { (allows : Allowance) → Agree (module_count found.stack) (may_answer found.known) allows
+        → Finds result (IsAskingPage (nat_lt (module_count found.stack) number) number (page_view request.now) found.stack allows) }
     ensures wants { WantsWork result }
 {
     let module_number = number as usize;
