@@ -11,14 +11,14 @@ use Rattle.std.specs.Option.{option_map_or}
 use Rattle.pam_text.specs.Source.{source_fault}
 use Rattle.pam_text.specs.declared.source.TheConstants.{MAX_FILE_BYTES}
 use Rattle.pam_text.specs.declared.source.SourceFault.{SourceFault}
-use Rattle.pam_text.specs.declared.source.SourceFault.TheVariants as source
-use Rattle.pam_accept.specs.Error.{TellsFault, bad_line, no_memory, source_error}
+use Rattle.pam_accept.specs.Error.{TellsFault}
 use Rattle.pam_accept.specs.Keys.{is_finding}
 use Rattle.pam_accept.specs.Lines.{Accepted, accepted_lines, lines_from, physical_lines, onto_accepted, onto_lines}
 use Rattle.pam_accept.specs.inner.Lines.{AddsLine, before_lines}
 use Rattle.pam_accept.specs.Words.{words_of}
 use Rattle.pam_accept.proofs.WordSteps.{texts}
 use Rattle.pam_accept.specs.declared.error.AcceptError.{AcceptError}
+use Rattle.pam_accept.specs.declared.error.AcceptError.TheVariants.{BadAccept, Memory, Source}
 
 -- the byte at which a file is cut
 abbrev pub is_feed : ℕ → Bool
@@ -27,12 +27,9 @@ is_feed b = b == 10
 -- ---- one line
 
 -- a failed allocation tells nothing of the lines
-pub memory_told : {Y : Type 0} (e : AcceptError) (meant : Result Y AcceptError) → e ≡ no_memory → TellsFault e.fault e meant
-memory_told e meant is = rw is refl
-
 pub memory_fails : (number : ℕ) (line : List ℕ) (old new : List Accepted) (result : Result (Unit {0}) AcceptError) (e : AcceptError)
-    → result ≡ Err e → e ≡ no_memory → AddsLine number line old new result
-memory_fails number line old new result e is none = rw (is, none) (λ others. refl)
+    → result ≡ Err e → e ≡ Memory → AddsLine number line old new result
+memory_fails number line old new result e is none = rw (is, none) (λ others. tt)
 
 one_before : (old : List Accepted) (line : Accepted) (others : Result (List Accepted) AcceptError)
     → before_lines (old ++ line ∷ []) others ≡ before_lines old (onto_accepted line others)
@@ -50,15 +47,15 @@ module _ (number : ℕ) (old : List Accepted) (words : List (Bor (List ℕ))) (a
 
   -- words that are read, where there are some
   chosen : (good : Bool) → eqb (length words) 0 ≡ false → is_finding (texts words) ≡ good
-      → onto_lines number all others ≡ cond good (onto_accepted (number, join_with_byte 32 (texts words)) others) (Err (bad_line number))
+      → onto_lines number all others ≡ cond good (onto_accepted (number, join_with_byte 32 (texts words)) others) (Err (BadAccept number))
   chosen good some is = rw (sym are) (with_words words some is)
     where
       with_words : (ws : List (Bor (List ℕ))) → eqb (length ws) 0 ≡ false → is_finding (texts ws) ≡ good
-          → onto_lines number (texts ws) others ≡ cond good (onto_accepted (number, join_with_byte 32 (texts ws)) others) (Err (bad_line number))
+          → onto_lines number (texts ws) others ≡ cond good (onto_accepted (number, join_with_byte 32 (texts ws)) others) (Err (BadAccept number))
       with_words [] h e = absurd (cc)
-      with_words (w ∷ ws) h e = ap (λ t. cond t (onto_accepted (number, join_with_byte 32 (texts (w ∷ ws))) others) (Err (bad_line number))) e
+      with_words (w ∷ ws) h e = ap (λ t. cond t (onto_accepted (number, join_with_byte 32 (texts (w ∷ ws))) others) (Err (BadAccept number))) e
 
-  pub line_refused : eqb (length words) 0 ≡ false → is_finding (texts words) ≡ false → before_lines old (onto_lines number all others) ≡ Err (bad_line number)
+  pub line_refused : eqb (length words) 0 ≡ false → is_finding (texts words) ≡ false → before_lines old (onto_lines number all others) ≡ Err (BadAccept number)
   line_refused some bad = ap (before_lines old) (chosen false some bad)
 
   pub line_added : (new : List Accepted) (key : List ℕ) → eqb (length words) 0 ≡ false → is_finding (texts words) ≡ true
@@ -82,15 +79,13 @@ lines_begin others read none = ap (λ (lines : List Accepted). before_lines line
 -- a file without a fault of the bytes as a whole
 pub whole_file : (bytes : List ℕ) → source_fault bytes ≡ None → lines_from 1 (physical_lines bytes) ≡ accepted_lines bytes
 unfolding accepted_lines
-whole_file bytes none = sym (ap (λ (o : Option SourceFault). option_map_or (λ f. Err (source_error f)) o (lines_from 1 (physical_lines bytes))) none)
+whole_file bytes none = sym (ap (λ (o : Option SourceFault). option_map_or (λ f. Err (Source f)) o (lines_from 1 (physical_lines bytes))) none)
 
-pub source_told : (bytes : List ℕ) (fault : SourceFault) (e : AcceptError) → source_fault bytes ≡ Some fault → e ≡ source_error fault
-    → TellsFault e.fault e (accepted_lines bytes)
+pub source_told : (bytes : List ℕ) (fault : SourceFault) (e : AcceptError) → source_fault bytes ≡ Some fault → e ≡ Source fault
+    → TellsFault e (accepted_lines bytes)
 unfolding accepted_lines
-source_told bytes source.TooLong e is from =
-    rw from (ap (λ (o : Option SourceFault). option_map_or (λ f. Err (source_error f)) o (lines_from 1 (physical_lines bytes))) is)
-source_told bytes (source.NulByte line) e is from =
-    rw from (ap (λ (o : Option SourceFault). option_map_or (λ f. Err (source_error f)) o (lines_from 1 (physical_lines bytes))) is)
+source_told bytes fault e is from =
+    rw from (ap (λ (o : Option SourceFault). option_map_or (λ f. Err (Source f)) o (lines_from 1 (physical_lines bytes))) is)
 
 -- the lines of a file, those that are seen, and those that are read
 module _ (parts : List (List ℕ)) (seen : List (Bor (List ℕ))) (line : Bor (List ℕ)) (read : List Accepted) (all : Result (List Accepted) AcceptError)
@@ -113,7 +108,7 @@ module _ (parts : List (List ℕ)) (seen : List (Bor (List ℕ))) (line : Bor (L
   line_read number new count added = added after ∙ ap (λ n. before_lines read (onto_lines (n + 1) (words_of line.now) after)) count ∙ this_line
 
   pub line_fails : (number : ℕ) (new : List Accepted) (e : AcceptError) → number ≡ length seen → AddsLine (number + 1) line.now read new (Err e)
-      → TellsFault e.fault e all
+      → TellsFault e all
   line_fails number new e count fails =
       rw (sym (ap (λ n. before_lines read (onto_lines (n + 1) (words_of line.now) after)) count ∙ this_line)) (fails after)
 

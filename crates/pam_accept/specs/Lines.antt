@@ -3,10 +3,10 @@ use Rattle.std.specs.Prelude.{ℕ, ◌+◌, ◌==◌, List, [], ◌∷◌, Resul
 use Rattle.std.specs.List.{join_with_byte, slice_split}
 use Rattle.std.specs.Option.{option_map_or}
 use Rattle.pam_text.specs.Source.{source_fault}
-use Rattle.pam_accept.specs.Error.{bad_line, source_error}
 use Rattle.pam_accept.specs.Keys.{is_finding}
 use Rattle.pam_accept.specs.Words.{words_of}
 use Rattle.pam_accept.specs.declared.error.AcceptError.{AcceptError}
+use Rattle.pam_accept.specs.declared.error.AcceptError.TheVariants.{BadAccept, Source}
 
 -- a line that accepts a finding: its number, and the finding's key
 abbrev pub Accepted : Type 0
@@ -21,7 +21,7 @@ onto_accepted line (Err e) = Err e
 abbrev pub onto_lines : ℕ → List (List ℕ) → Result (List Accepted) AcceptError → Result (List Accepted) AcceptError
 onto_lines number [] others = others
 onto_lines number words others =
-    if is_finding words then onto_accepted (number, join_with_byte 32 words) others else Err (bad_line number)
+    if is_finding words then onto_accepted (number, join_with_byte 32 words) others else Err (BadAccept number)
 
 -- the lines that accept findings, numbered from this one, or the first fault
 unfoldable pub lines_from : ℕ → List (List ℕ) → Result (List Accepted) AcceptError
@@ -34,4 +34,4 @@ physical_lines bytes = slice_split (λ b. b == 10) bytes
 -- THE LINES of an accept file that accept findings, or its first fault
 unfoldable pub accepted_lines : List ℕ → Result (List Accepted) AcceptError
 accepted_lines bytes =
-    option_map_or (λ fault. Err (source_error fault)) (source_fault bytes) (lines_from 1 (physical_lines bytes))
+    option_map_or (λ fault. Err (Source fault)) (source_fault bytes) (lines_from 1 (physical_lines bytes))

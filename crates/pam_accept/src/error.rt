@@ -1,67 +1,66 @@
 //! The faults of accept files.
 
+ghost use Rattle.std.specs.Prelude.{◌≡◌};
+ghost use Rattle.pam_accept.specs.Error.{line_of};
+
 use pam_text::SourceFault;
 use std::alloc::{AllocError, AllocFailed};
 use thiserror::Error;
 
-/// Why an accept file or a line of it is invalid.
+/// A fault of an accept file.
 #[derive(Clone, Copy, Debug, PartialEq, Eq, Error)]
-pub enum AcceptFault {
-    #[error("the line is no number of a finding with a place")]
-    BadAccept,
-    #[error("a NUL byte")]
-    NulByte,
+pub enum AcceptError {
+    /// The number of the line, from 1.
+    #[error("line {0}: the line is no number of a finding with a place")]
+    BadAccept(u32),
     #[error("no memory")]
     Memory,
-    #[error("the file is too long")]
-    TooLong,
+    /// A fault of the bytes as a whole.
+    #[error("{0}")]
+    Source(SourceFault),
 }
 
-/// A fault of an accept file, with the number of its line from 1. The line is 0 if an allocation failed or the file is
-/// too long.
-#[derive(Clone, Copy, Debug, PartialEq, Eq, Error)]
-#[error("line {line}: {fault}")]
-pub struct AcceptError {
-    pub fault: AcceptFault,
-    pub line: u32,
+impl AcceptError {
+    /// The number of the line, from 1. It is 0 if an allocation failed or the file is too long.
+    pub fn line(self) -> u32
+        ensures { result ≡ line_of self }
+    {
+        match self {
+            AcceptError::BadAccept(line) | AcceptError::Source(SourceFault::NulByte(line)) => line,
+            AcceptError::Memory | AcceptError::Source(SourceFault::TooLong) => 0,
+        }
+    }
 }
 
 impl From<SourceFault> for AcceptError {
     ghost use Rattle.std.specs.Prelude.{◌≡◌};
-    ghost use Rattle.pam_accept.specs.Error.{source_error};
+    ghost use Rattle.pam_accept.specs.declared.error.AcceptError.TheVariants.{Source};
 
-    ghost from_gives = { λ fault error. error ≡ source_error fault };
+    ghost from_gives = { λ fault error. error ≡ Source fault };
 
     fn from(fault: SourceFault) -> AcceptError {
-        let (fault, line) = match fault {
-            SourceFault::TooLong => (AcceptFault::TooLong, 0),
-            SourceFault::NulByte(line) => (AcceptFault::NulByte, line),
-        };
-        AcceptError { fault, line }
+        AcceptError::Source(fault)
     }
 }
 
 impl From<AllocError> for AcceptError {
     ghost use Rattle.std.specs.Prelude.{◌≡◌};
-    ghost use Rattle.pam_accept.specs.Error.{no_memory};
+    ghost use Rattle.pam_accept.specs.declared.error.AcceptError.TheVariants.{Memory};
 
-    ghost from_gives = { λ _ error. error ≡ no_memory };
+    ghost from_gives = { λ _ error. error ≡ Memory };
 
     fn from(_: AllocError) -> AcceptError {
-        AcceptError {
-            fault: AcceptFault::Memory,
-            line: 0,
-        }
+        AcceptError::Memory
     }
 }
 
 impl<T: Drop> From<AllocFailed<T>> for AcceptError {
     ghost use Rattle.std.specs.Prelude.{◌≡◌};
-    ghost use Rattle.pam_accept.specs.Error.{no_memory};
+    ghost use Rattle.pam_accept.specs.declared.error.AcceptError.TheVariants.{Memory};
 
-    ghost from_gives = { λ _ error. error ≡ no_memory };
+    ghost from_gives = { λ _ error. error ≡ Memory };
 
     fn from(_: AllocFailed<T>) -> AcceptError {
-        AcceptError::from(AllocError)
+        AcceptError::Memory
     }
 }

@@ -52,8 +52,7 @@ fn keys_of(alloc: Global, lines: &[AcceptLine]) -> Result<IndexSet<Vec<u8>>, All
 impl AcceptFile {
     /// Reads an accept file, or returns its first fault. An empty file accepts nothing.
     ///
-    /// `TooLong` (line 0) comes first, then `NulByte`, then the lines from the top. A failed allocation is `Memory`, with line
-    /// 0.
+    /// `Source` comes first, then the lines from the top. A failed allocation is `Memory`.
     pub fn read(alloc: Global, bytes: &[u8]) -> Result<AcceptFile, AcceptError>
         ensures { Gives (λ file. file) result (accepted_lines bytes.now) }
     {

@@ -7,6 +7,6 @@ mod keys;
 mod lines;
 mod words;
 
-pub use error::{AcceptError, AcceptFault};
+pub use error::AcceptError;
 pub use file::AcceptFile;
 pub use lines::AcceptLine;

@@ -6,7 +6,7 @@ ghost use Rattle.pam_accept.specs.Lines.{accepted_lines, lines_from, physical_li
 ghost use Rattle.pam_accept.specs.inner.Lines.{AddsLine};
 ghost use Rattle.pam_accept.specs.Views.{line_view};
 
-use crate::error::{AcceptError, AcceptFault};
+use crate::error::AcceptError;
 use crate::keys::{is_finding, key_of};
 use crate::words::words;
 use pam_text::Source;
@@ -35,10 +35,7 @@ fn add_line(
         return Ok(());
     }
     if !is_finding(&words) {
-        return Err(AcceptError {
-            fault: AcceptFault::BadAccept,
-            line: number,
-        });
+        return Err(AcceptError::BadAccept(number));
     }
     let key = key_of(alloc, &words)?;
     lines.push(AcceptLine { number, key })?;

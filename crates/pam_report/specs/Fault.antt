@@ -5,9 +5,9 @@ use Rattle.std.specs.Option.{option_map}
 use Rattle.pam_conf.specs.Files.{Folder}
 use Rattle.pam_conf.specs.declared.error.FaultKind.{FaultKind}
 use Rattle.pam_conf.specs.declared.error.FaultKind.TheVariants as conf
+use Rattle.pam_accept.specs.Error.{line_of as accept_line}
 use Rattle.pam_accept.specs.declared.error.AcceptError.{AcceptError}
-use Rattle.pam_accept.specs.declared.error.AcceptFault.{AcceptFault}
-use Rattle.pam_accept.specs.declared.error.AcceptFault.TheVariants as accept
+use Rattle.pam_accept.specs.declared.error.AcceptError.TheVariants as accept
 use Rattle.pam_facts.specs.declared.error.FactsError.{FactsError}
 use Rattle.pam_facts.specs.declared.error.FactsFault.{FactsFault}
 use Rattle.pam_facts.specs.declared.error.FactsFault.TheVariants as facts
@@ -33,10 +33,6 @@ abbrev pub fault_of_facts : FactsFault → FactsError → Fault
 fault_of_facts facts.Memory e = faults.Memory
 fault_of_facts fault e = faults.Facts e
 
-abbrev pub fault_of_accept : AcceptFault → AcceptError → Fault
-fault_of_accept accept.Memory e = faults.Memory
-fault_of_accept fault e = faults.Accept e
-
 -- the fault of a table that modules read
 abbrev pub known_fault : KnownError → Fault
 known_fault (known.Table e) = faults.Table e
@@ -47,7 +43,8 @@ abbrev pub facts_fault : FactsError → Fault
 facts_fault e = fault_of_facts e.fault e
 
 abbrev pub accept_fault : AcceptError → Fault
-accept_fault e = fault_of_accept e.fault e
+accept_fault accept.Memory = faults.Memory
+accept_fault e = faults.Accept e
 
 -- the row of a fault in the table
 abbrev pub row_of : Fault → Row
@@ -55,7 +52,7 @@ row_of (faults.Conf e) = conf_row e.kind
 row_of (faults.Table e) = table_row e.fault
 row_of (faults.Time e) = time_row e.fault
 row_of (faults.Facts e) = facts_row e.fault
-row_of (faults.Accept e) = accept_row e.fault
+row_of (faults.Accept e) = accept_row e
 row_of (faults.Moment e) = moment_row e
 row_of (faults.Count e) = count_row
 row_of faults.TooManyStates = graph_row
@@ -102,7 +99,7 @@ place_of files (faults.Conf e) = line_place (conf_file files e.at e.kind) e.line
 place_of files (faults.Table e) = line_place (table_file e.table e.fault) e.line
 place_of files (faults.Time e) = line_place (time_file e.fault) e.line
 place_of files (faults.Facts e) = line_place (Some (codes "facts")) e.line
-place_of files (faults.Accept e) = line_place (Some (codes "accept")) e.line
+place_of files (faults.Accept e) = line_place (Some (codes "accept")) (accept_line e)
 place_of files (faults.Count e) = concat (codes " want " ∷ decimal e.modules ∷ [])
 place_of files (faults.Cursor e) = cursor_place e
 place_of files fault = []

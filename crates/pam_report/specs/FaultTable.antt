@@ -2,8 +2,9 @@
 use Rattle.std.specs.Prelude.{ℕ, List, codes}
 use Rattle.pam_codes.specs.declared.error.ControlError.{ControlError}
 use Rattle.pam_codes.specs.declared.error.ControlError.TheVariants.{BadControl, BadValue, BadAction, ZeroJump, OpenBracket}
-use Rattle.pam_accept.specs.declared.error.AcceptFault.{AcceptFault}
-use Rattle.pam_accept.specs.declared.error.AcceptFault.TheVariants as accept
+use Rattle.pam_accept.specs.declared.error.AcceptError.{AcceptError}
+use Rattle.pam_accept.specs.declared.error.AcceptError.TheVariants as accept
+use Rattle.pam_text.specs.declared.source.SourceFault.TheVariants as source
 use Rattle.pam_conf.specs.declared.error.FaultKind.{FaultKind}
 use Rattle.pam_conf.specs.declared.error.FaultKind.TheVariants as conf
 use Rattle.pam_facts.specs.declared.error.FactsFault.{FactsFault}
@@ -134,11 +135,11 @@ facts_row facts.NulByte = row (codes "TE10 NulByte") 4
 facts_row facts.Memory = row (codes "TE11 Memory") 6
 facts_row facts.TooLong = row (codes "TE12 TableTooLong") 4
 
-unfoldable pub accept_row : AcceptFault → Row
-accept_row accept.BadAccept = row (codes "TE15 BadAccept") 4
-accept_row accept.NulByte = row (codes "TE10 NulByte") 4
+unfoldable pub accept_row : AcceptError → Row
+accept_row (accept.BadAccept line) = row (codes "TE15 BadAccept") 4
 accept_row accept.Memory = row (codes "TE11 Memory") 6
-accept_row accept.TooLong = row (codes "TE12 TableTooLong") 4
+accept_row (accept.Source (source.NulByte line)) = row (codes "TE10 NulByte") 4
+accept_row (accept.Source source.TooLong) = row (codes "TE12 TableTooLong") 4
 
 -- the name of a table, which is its place in a line
 abbrev pub table_name : Table → List ℕ

@@ -1,6 +1,6 @@
 -- Want of memory: the faults that a failed allocation may give, by the task.
 use Rattle.std.specs.Prelude.{◌≡◌, ◌≢◌, ⊤, Bool, ◌&&◌, true, false, is_some, Result, IfErr}
-use Rattle.pam_accept.specs.declared.error.AcceptFault.TheVariants as accept
+use Rattle.pam_accept.specs.declared.error.AcceptError.TheVariants as accept
 use Rattle.pam_conf.specs.declared.error.FaultKind.TheVariants as conf
 use Rattle.pam_facts.specs.declared.error.FactsFault.TheVariants as facts
 use Rattle.pam_known.specs.Reads.{TablesRead}
@@ -92,7 +92,7 @@ IsWanting wants (faults.Conf e) = e.kind ≡ conf.Memory → wants.configuration
 IsWanting wants (faults.Table e) = e.fault ≡ reasons.Memory → wants_table wants e.table ≡ true
 IsWanting wants (faults.Time e) = e.fault ≡ times.Memory → wants.time ≡ true
 IsWanting wants (faults.Facts e) = e.fault ≢ facts.Memory
-IsWanting wants (faults.Accept e) = e.fault ≢ accept.Memory
+IsWanting wants (faults.Accept e) = e ≢ accept.Memory
 IsWanting wants _ = ⊤
 
 -- the same, for a result

@@ -11,7 +11,7 @@ mod row;
 mod table;
 
 use crate::inputs::InputError;
-use pam_accept::{AcceptError, AcceptFault};
+use pam_accept::AcceptError;
 use pam_codes::Piece;
 use pam_conf::{ConfError, FaultKind, Files};
 use pam_dispatch::WrongCount;
@@ -101,8 +101,8 @@ pub(crate) fn facts_fault(error: FactsError) -> Fault
 pub(crate) fn accept_fault(error: AcceptError) -> Fault
     ensures { result ≡ spec.accept_fault error }
 {
-    match error.fault {
-        AcceptFault::Memory => Fault::Memory,
+    match error {
+        AcceptError::Memory => Fault::Memory,
         _ => Fault::Accept(error),
     }
 }
@@ -116,7 +116,7 @@ fn row_of(fault: &Fault) -> Row
         Fault::Table(error) => table_row(error.fault),
         Fault::Time(error) => time_row(error.fault),
         Fault::Facts(error) => facts_row(error.fault),
-        Fault::Accept(error) => accept_row(error.fault),
+        Fault::Accept(error) => accept_row(*error),
         Fault::Moment(error) => moment_row(*error),
         Fault::Count(_) => count_row(),
         Fault::TooManyStates => graph_row(),
@@ -240,7 +240,7 @@ pub fn fault_text(alloc: Global, fault: &Fault, files: &Files) -> Result<Vec<u8>
         Fault::Table(error) => line_at(alloc, row, table_file(error), u64::from(error.line)),
         Fault::Time(error) => line_at(alloc, row, time_file(error.fault), u64::from(error.line)),
         Fault::Facts(error) => line_at(alloc, row, Some(b"facts"), u64::from(error.line)),
-        Fault::Accept(error) => line_at(alloc, row, Some(b"accept"), u64::from(error.line)),
+        Fault::Accept(error) => line_at(alloc, row, Some(b"accept"), u64::from(error.line())),
         Fault::Count(error) => line(
             alloc,
             row,

@@ -1,5 +1,5 @@
 -- For private contracts and proofs alone: the lines of an accept file.
-use Rattle.std.specs.Prelude.{◌≡◌, ℕ, ◌+◌, List, ◌++◌, Result, Ok, Err, MatchResult}
+use Rattle.std.specs.Prelude.{◌≡◌, ℕ, List, ◌++◌, Result, Ok, Err, MatchResult}
 use Rattle.pam_accept.specs.Error.{TellsFault}
 use Rattle.pam_accept.specs.Words.{words_of}
 use Rattle.pam_accept.specs.declared.error.AcceptError.{AcceptError}
@@ -15,4 +15,4 @@ abbrev pub AddsLine : ℕ → List ℕ → List Accepted → List Accepted → R
 AddsLine number line old new result =
     (others : Result (List Accepted) AcceptError) → MatchResult result
     (λ _. before_lines new others ≡ before_lines old (onto_lines number (words_of line) others))
-    (λ e. TellsFault e.fault e (before_lines old (onto_lines number (words_of line) others)))
+    (λ e. TellsFault e (before_lines old (onto_lines number (words_of line) others)))

@@ -1,7 +1,7 @@
 -- For private contracts and proofs alone: which findings are not reported.
 use Rattle.std.specs.Prelude.{◌≡◌, ◌≢◌, ⊤, ℕ, List, Ok, Err}
 use Rattle.pam_accept.specs.Lines.{Accepted, accepted_lines}
-use Rattle.pam_accept.specs.declared.error.AcceptFault.TheVariants as accept_faults
+use Rattle.pam_accept.specs.declared.error.AcceptError.TheVariants as accept
 use Rattle.pam_conf.specs.Files.{Folder}
 use Rattle.pam_facts.specs.Reading.{known_rows}
 use Rattle.pam_facts.specs.Rows.{Row}
@@ -33,6 +33,6 @@ IsAccepted inputs lines = accepted_lines (accept_given inputs) ≡ Ok lines
 
 -- a fault of the accept file, or a failed allocation
 abbrev pub IsUnaccepted : Inputs → Fault → Type 0
-IsUnaccepted inputs (faults.Accept e) = (accepted_lines (accept_given inputs) ≡ Err e) × (e.fault ≢ accept_faults.Memory)
+IsUnaccepted inputs (faults.Accept e) = (accepted_lines (accept_given inputs) ≡ Err e) × (e ≢ accept.Memory)
 IsUnaccepted inputs faults.Memory = ⊤
 IsUnaccepted inputs fault = ⊥

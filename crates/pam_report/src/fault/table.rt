@@ -6,12 +6,13 @@ ghost use Rattle.pam_report.specs.inner.FaultViews.{row_view};
 
 use super::row::Row;
 use crate::inputs::InputError;
-use pam_accept::AcceptFault;
+use pam_accept::AcceptError;
 use pam_codes::ControlError;
 use pam_conf::FaultKind;
 use pam_facts::FactsFault;
 use pam_paths::CursorError;
 use pam_tables::{Table, TableFault};
+use pam_text::SourceFault;
 use pam_times::{MomentError, TimeFault};
 use pam_words::Usage;
 
@@ -173,14 +174,14 @@ pub(super) fn facts_row(fault: FactsFault) -> Row
 }
 
 #[tactic(auto, unfolding(crate::specs::FaultTable::accept_row))]
-pub(super) fn accept_row(fault: AcceptFault) -> Row
-    ensures { row_view result ≡ spec.accept_row fault }
+pub(super) fn accept_row(error: AcceptError) -> Row
+    ensures { row_view result ≡ spec.accept_row error }
 {
-    match fault {
-        AcceptFault::BadAccept => Row::of("TE15 BadAccept", BAD_TABLE),
-        AcceptFault::NulByte => Row::of("TE10 NulByte", BAD_TABLE),
-        AcceptFault::Memory => Row::of("TE11 Memory", NO_MEMORY),
-        AcceptFault::TooLong => Row::of("TE12 TableTooLong", BAD_TABLE),
+    match error {
+        AcceptError::BadAccept(_) => Row::of("TE15 BadAccept", BAD_TABLE),
+        AcceptError::Memory => Row::of("TE11 Memory", NO_MEMORY),
+        AcceptError::Source(SourceFault::NulByte(_)) => Row::of("TE10 NulByte", BAD_TABLE),
+        AcceptError::Source(SourceFault::TooLong) => Row::of("TE12 TableTooLong", BAD_TABLE),
     }
 }
 
