@@ -1,7 +1,9 @@
 -- The candidates of `--with NAME=FILE`.
-use Rattle.std.specs.Prelude.{Bool, false, true, List, [], ◌∷◌, Option, Some, None}
+use Rattle.std.specs.Prelude.{Bool, false, true, List, [], ◌∷◌, Option, Some, None, Result, Ok, Err}
+use Rattle.std.specs.Option.{option_map_or}
 use Rattle.clap.specs.Lexer.{name_and_value}
 use Rattle.clap.specs.Words.{Text}
+use Rattle.pam_words.specs.Asked.{Refusal, candidate_form}
 use Rattle.pam_words.specs.Decisions.{both}
 
 -- a name and a file, neither of which is empty
@@ -21,7 +23,7 @@ candidates_in [] = Some []
 candidates_in (text ∷ texts) = both (candidate_of text) (candidates_in texts)
 
 -- the candidates of the values of `--with`, which may have none beside `--conf`
-abbrev pub candidates_beside : Bool → Option (List Text) → Option (List (Text × Text))
-candidates_beside has_conf None = Some []
-candidates_beside true (Some texts) = None
-candidates_beside false (Some texts) = candidates_in texts
+abbrev pub candidates_beside : Bool → Option (List Text) → Result (List (Text × Text)) Refusal
+candidates_beside has_conf None = Ok []
+candidates_beside true (Some texts) = Err candidate_form
+candidates_beside false (Some texts) = option_map_or Ok (candidates_in texts) (Err candidate_form)

@@ -5,7 +5,7 @@ use Rattle.pam_conf.specs.declared.Kind.{Kind}
 use Rattle.clap.specs.Words.{Row, Text, first_of}
 use Rattle.pam_words.specs.Asked.{KnowledgeText, MomentText, Refusal, RequestText, SourceText, TaskText}
 use Rattle.pam_words.specs.Asked.{access, check, compare, decide, explain, facts, graph, outcomes, paths, show, time, version}
-use Rattle.pam_words.specs.Asked.{both_ends, both_filters, candidate_form, code_name, format_name, kind_name, level_name}
+use Rattle.pam_words.specs.Asked.{both_ends, both_filters, code_name, format_name, kind_name, level_name}
 use Rattle.pam_words.specs.Asked.{login, moment, release_form, source}
 use Rattle.pam_words.specs.Decisions.{decisions_of}
 use Rattle.pam_words.specs.Settings.{settings_of}
@@ -185,5 +185,5 @@ task_of command rows =
 abbrev pub request_of : Text → List Row → Result RequestText Refusal
 request_of command rows =
     task_of command rows >>= λ task.
-    or_refuse (candidates_of rows) candidate_form (λ candidates.
-    Ok (record { service = text_of (codes "service") rows; task = task; candidates = candidates; output = output_of rows }))
+    candidates_of rows >>= λ candidates.
+    Ok (record { service = text_of (codes "service") rows; task = task; candidates = candidates; output = output_of rows })

@@ -1,6 +1,6 @@
 -- The command line: the values that the rows found by `clap` spell.
 use Rattle.std.specs.Prelude.{Bool, ◌&&◌, ◌||◌, true, false, not, ℕ, ℤ, pos, nat_le, nat_lt, List, [], codes, length}
-use Rattle.std.specs.Prelude.{Option, Some, None, is_some, option_map, unwrap_or, if◌then◌else◌}
+use Rattle.std.specs.Prelude.{Option, Some, None, Result, is_some, option_map, unwrap_or, if◌then◌else◌}
 use Rattle.std.specs.Char.{is_ascii_digit}
 use Rattle.std.specs.List.{list_all}
 use Rattle.std.specs.Option.{option_and_then, option_map_or}
@@ -10,7 +10,7 @@ use Rattle.pam_conf.specs.Rule.{kind_named}
 use Rattle.pam_conf.specs.declared.Kind.{Kind}
 use Rattle.clap.specs.ValueTests.{accepts}
 use Rattle.clap.specs.Words.{Row, Text, all_of, first_of}
-use Rattle.pam_words.specs.Asked.{LoginText, MomentText, PartText, SourceText, after, before, civil, conf, dir, instant, over, root, whole}
+use Rattle.pam_words.specs.Asked.{LoginText, MomentText, PartText, Refusal, SourceText, after, before, civil, conf, dir, instant, over, root, whole}
 use Rattle.pam_words.specs.Candidates.{candidates_beside}
 use Rattle.pam_words.specs.Decisions.{codes_named}
 use Rattle.pam_words.specs.Words.{number_parser}
@@ -74,7 +74,7 @@ abbrev pub side_in : Text → List Row → Option SourceText
 side_in id rows = side_of (is_on (codes "conf") rows) (is_on (codes "root") rows) (text_of id rows)
 
 -- the candidates for files of the source
-abbrev pub candidates_of : List Row → Option (List (Text × Text))
+abbrev pub candidates_of : List Row → Result (List (Text × Text)) Refusal
 candidates_of rows = candidates_beside (has (codes "conf") rows) (all_of (codes "with") rows)
 
 abbrev pub kind_of_rows : List Row → Option Kind

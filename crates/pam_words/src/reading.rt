@@ -316,16 +316,13 @@ fn read<'a>(alloc: Global, command: &str, matches: &ArgMatches<'a>) -> Result<Re
     ensures { Answers (request_of command.now (rows_of (found_of matches.now))) result }
 {
     let task = task(alloc, command, matches)?;
-    match candidates::candidates(alloc, matches) {
-        Ok(Some(candidates)) => Ok(Request {
-            service: text(matches, "service"),
-            task,
-            candidates,
-            output: output(matches),
-        }),
-        Ok(None) => Err(Usage::CandidateForm),
-        Err(_) => Err(Usage::Memory),
-    }
+    let candidates = candidates::candidates(alloc, matches)?;
+    Ok(Request {
+        service: text(matches, "service"),
+        task,
+        candidates,
+        output: output(matches),
+    })
 }
 
 /// Converts an error of `clap`.

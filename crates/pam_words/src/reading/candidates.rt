@@ -4,11 +4,11 @@ ghost use Rattle.std.specs.Prelude.{◌≡◌, IfOk, map, option_map};
 ghost use Rattle.clap.specs.Words.{found_of, rows_of};
 ghost use Rattle.pam_words.specs.Candidates.{candidate_of, candidates_in as candidates_in_texts};
 ghost use Rattle.pam_words.specs.Values.{candidates_of};
-ghost use Rattle.pam_words.specs.Wanted.{candidate_view};
+ghost use Rattle.pam_words.specs.Wanted.{Gives, candidate_view};
 
 use crate::reading::knowledge::has;
 use crate::reading::values;
-use crate::wanted::Candidate;
+use crate::wanted::{Candidate, Usage};
 use clap::ArgMatches;
 use std::alloc::{AllocError, Global};
 
@@ -42,18 +42,22 @@ fn candidates_in<'a>(
     Ok(Some(candidates))
 }
 
-/// Returns the candidates. Returns `Ok(None)` if a value is none, or if any is given beside `--conf`.
+/// Returns the candidates. None may be given beside `--conf`.
 pub(crate) fn candidates<'a>(
     alloc: Global,
     matches: &ArgMatches<'a>,
-) -> Result<Option<Vec<Candidate<'a>>>, AllocError>
-    ensures { IfOk result (λ r. option_map (λ v. map candidate_view v.items) r ≡ candidates_of (rows_of (found_of matches.now))) }
+) -> Result<Vec<Candidate<'a>>, Usage>
+    ensures { Gives (λ v. map candidate_view v.items) (candidates_of (rows_of (found_of matches.now))) result }
 {
     let Some(texts) = values(matches, "with") else {
-        return Ok(Some(Vec::new(alloc)));
+        return Ok(Vec::new(alloc));
     };
     if has(matches, "conf") {
-        return Ok(None);
+        return Err(Usage::CandidateForm);
     }
-    candidates_in(alloc, texts)
+    match candidates_in(alloc, texts) {
+        Ok(Some(candidates)) => Ok(candidates),
+        Ok(None) => Err(Usage::CandidateForm),
+        Err(_) => Err(Usage::Memory),
+    }
 }
