@@ -264,7 +264,7 @@ impl Comparer<'_, '_> {
     }
 
     /// Adds what changes for a service and a kind.
-    fn add_stack(
+    fn add_change(
         &self,
         found: &mut Found,
         service: usize,
@@ -295,10 +295,10 @@ impl Comparer<'_, '_> {
             → IsFound (sides_view self.now.sides.now) names asked found.old
             → OnOk result (IsFound (sides_view self.now.sides.now) names (asked ++ map (λ k. (service, k)) (kinds_asked None)) found.new) }
     {
-        self.add_stack(found, service, name, Kind::Auth)?;
-        self.add_stack(found, service, name, Kind::Account)?;
-        self.add_stack(found, service, name, Kind::Password)?;
-        self.add_stack(found, service, name, Kind::Session)
+        self.add_change(found, service, name, Kind::Auth)?;
+        self.add_change(found, service, name, Kind::Account)?;
+        self.add_change(found, service, name, Kind::Password)?;
+        self.add_change(found, service, name, Kind::Session)
     }
 
     /// Adds what changes for a service, of this kind or of all.
@@ -314,7 +314,7 @@ impl Comparer<'_, '_> {
             → OnOk result (IsFound (sides_view self.now.sides.now) names (asked ++ map (λ k. (service, k)) (kinds_asked kind)) found.new) }
     {
         match kind {
-            Some(kind) => self.add_stack(found, service, name, kind),
+            Some(kind) => self.add_change(found, service, name, kind),
             None => self.add_all_kinds(found, service, name),
         }
     }

@@ -9,8 +9,7 @@ loop-number-init c = record { can = tt; finite = tt; same = rw (c.into_iter-numb
 
 pub returns-in-Err : goal.returns-in-Err
 returns-in-Err c =
-    let s = c.args.separators.now in
-    let line = access_line s.fields.bytes.now s.tokens.bytes.now in
+    let line = access_line c.args.separators.now.fields.bytes.now c.args.separators.now.tokens.bytes.now in
     let faulty = c.in-Err.ensures c.in-Some.number in
     rw c.new.ensures (
       refl,
@@ -20,15 +19,15 @@ returns-in-Err c =
 
 pub loop-number-preserved : goal.loop-number-preserved
 loop-number-preserved c =
-    let s = c.args.separators.now in
+    let line = access_line c.args.separators.now.fields.bytes.now c.args.separators.now.tokens.bytes.now in
     record {
       can = tt;
       finite = tt;
-      same = line_passes (access_line s.fields.bytes.now s.tokens.bytes.now) _ _ _ _ c.in-Some.ensures.steps (c.in_default.ensures c.in-Some.number)
+      same = line_passes line _ _ _ _ c.in-Some.ensures.steps (c.in_default.ensures c.in-Some.number)
           ∙ c.loop-number.invariant.same;
     }
 
 pub returns : goal.returns
 returns c =
-    let s = c.args.separators.now in
-    sym c.loop-number.invariant.same ∙ lines_done (access_line s.fields.bytes.now s.tokens.bytes.now) _ c.in-None.ensures.steps.0
+    let line = access_line c.args.separators.now.fields.bytes.now c.args.separators.now.tokens.bytes.now in
+    sym c.loop-number.invariant.same ∙ lines_done line _ c.in-None.ensures.steps.0

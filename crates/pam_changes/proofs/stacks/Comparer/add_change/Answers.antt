@@ -1,7 +1,7 @@
 use Rattle.std.proofs.Common.{refl}
 use Rattle.pam_changes.specs.Sides.{sides_view}
 use Rattle.pam_changes.proofs.Stacked.{found-more}
-use Rattle.pam_changes.proofs.stacks.Comparer.add_stack.Goals as goal
+use Rattle.pam_changes.proofs.stacks.Comparer.add_change.Goals as goal
 
 pub returns : goal.returns
 returns c names asked there found =
