@@ -267,24 +267,24 @@ pub(crate) fn asked(
 fn result_of<W: Write>(
     alloc: Global,
     request: &Request<'_>,
-    inputs: &Inputs,
+    command: &Command,
     writer: &mut W,
-) -> Result<u8, Fault> {
-    match answer(alloc, request, inputs, &mut Out::new(writer)) {
-        Ok(status) => Ok(status.number()),
-        Err(fault) => Err(fault),
+) -> Result<Result<u8, Fault>, Fail> {
+    let inputs = inputs(alloc, command)?;
+    match answer(alloc, request, &inputs, &mut Out::new(writer)) {
+        Ok(status) => Ok(Ok(status.number())),
+        Err(fault) => Ok(Err(fault)),
     }
 }
 
-/// Like `result_of`, for a command.
+/// Returns the result of a command.
 fn answered<W: Write>(
     alloc: Global,
     command: &Command,
     writer: &mut W,
 ) -> Result<Result<u8, Fault>, Fail> {
     let request = asked(alloc, command.words)?;
-    let inputs = inputs(alloc, command)?;
-    Ok(result_of(alloc, &request, &inputs, writer))
+    result_of(alloc, &request, command, writer)
 }
 
 /// Asserts that the whole text is written, then flushed once, whether or not the flush succeeds.
