@@ -10,7 +10,7 @@ pub struct StackHead<'x> {
     pub modules: usize,
 }
 
-/// Where a rule stands: the files, and the number of substacks that it is nested in.
+/// Where a rule stands: the files, and how many substacks it is nested in.
 #[derive(Clone, Copy)]
 pub struct RulePlace<'x> {
     pub files: &'x Files,
