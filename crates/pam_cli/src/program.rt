@@ -88,7 +88,12 @@ fn answer_request<R: Files + AllocGlobal + Clone + Drop, W: Write, V: Write>(
     ensures status { result ≤ 6 }
 {
     match inputs_of(rt, alloc, request) {
-        Ok(inputs) => report(alloc, request, &inputs, out, err),
+        Ok(inputs) => {
+            let status = report(alloc, request, &inputs, out, err);
+            // A call, since to prove the drop of each variant in place takes half a minute.
+            drop(inputs);
+            status
+        }
         Err(error) => refuse_input(alloc, &error, err),
     }
 }

@@ -90,8 +90,12 @@ pub fn answer<W: Write>(
         Ok(reply) => reply,
         Err(fault) => return Err(fault),
     };
-    match print(alloc, &reply, request.output, out) {
-        Ok(()) => Ok(reply.status()),
+    let status = reply.status();
+    let printed = print(alloc, &reply, request.output, out);
+    // A call, since to prove the drop of each variant in place takes half a minute.
+    drop(reply);
+    match printed {
+        Ok(()) => Ok(status),
         Err(fault) => Err(fault),
     }
 }

@@ -271,7 +271,9 @@ fn result_of<W: Write>(
     writer: &mut W,
 ) -> Result<Result<u8, Fault>, Fail> {
     let inputs = inputs(alloc, command)?;
-    match answer(alloc, request, &inputs, &mut Out::new(writer)) {
+    let answered = answer(alloc, request, &inputs, &mut Out::new(writer));
+    drop(inputs);
+    match answered {
         Ok(status) => Ok(Ok(status.number())),
         Err(fault) => Ok(Err(fault)),
     }
@@ -284,7 +286,9 @@ fn answered<W: Write>(
     writer: &mut W,
 ) -> Result<Result<u8, Fault>, Fail> {
     let request = asked(alloc, command.words)?;
-    result_of(alloc, &request, command, writer)
+    let answered = result_of(alloc, &request, command, writer);
+    drop(request);
+    answered
 }
 
 /// Asserts that the whole text is written, then flushed once, whether or not the flush succeeds.

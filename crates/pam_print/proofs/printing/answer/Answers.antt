@@ -18,28 +18,28 @@ returns-in-Err g c =
     request.service.now request.task files c.args.inputs.now c.in-Err.ensures.0 in
     (leaves, c.in-Err.ensures.1)
 
-pub returns-in-Ok-print : goal.returns-in-Ok-print
-returns-in-Ok-print g c =
+pub returns-in-Ok-printed : goal.returns-in-Ok-printed
+returns-in-Ok-printed g c =
     let request = c.args.request.now in
     let files = unwrap_or (files_given c.args.inputs.now) no_files in
-    let status = c.status.result in
+    let status = c.status-status.result in
     let leaves = answers-by (Finds (Ok c.in-Ok.reply)) (LeavesSome g.W.Write.contents (IsTextIn request.output) _ _ (Ok status))
-    (λ IsAnswer h. printed g.W.Write.contents (IsTextIn request.output) _ _ (reply_view c.in-Ok.reply) status tt c.in-Ok-print.ensures c.status.ensures
+    (λ IsAnswer h. printed g.W.Write.contents (IsTextIn request.output) _ _ (reply_view c.in-Ok.reply) status tt c.in-Ok-printed.ensures c.status-status.ensures
     IsAnswer h)
     request.service.now request.task files c.args.inputs.now c.in-Ok.ensures.0 in
     (leaves, tt)
 
-pub returns : goal.returns
-returns g c =
+pub returns-in-Err-printed : goal.returns-in-Err-printed
+returns-in-Err-printed g c =
     let request = c.args.request.now in
     let inputs = c.args.inputs.now in
     let files = unwrap_or (files_given inputs) no_files in
-    let fault = c.in-Err-print.fault in
+    let fault = c.in-Err-printed.fault in
     let reply = c.in-Ok.reply in
     let leaves = answers-by (Finds (Ok reply)) (LeavesSome g.W.Write.contents (IsTextIn request.output) _ _ (Err fault))
-    (λ IsAnswer h. unprinted g.W.Write.contents (IsTextIn request.output) _ _ fault (reply_view reply) c.in-Err-print.ensures IsAnswer h)
+    (λ IsAnswer h. unprinted g.W.Write.contents (IsTextIn request.output) _ _ fault (reply_view reply) c.in-Err-printed.ensures IsAnswer h)
     request.service.now request.task files inputs c.in-Ok.ensures.0 in
     let works = page-wants request.service.now request.task files inputs reply c.in-Ok.ensures.0 in
-    let wanting = unprinted-wants g.W.Write.contents (IsTextIn request.output) _ _ (wants request.task inputs) fault (reply_view reply) c.in-Err-print.ensures
+    let wanting = unprinted-wants g.W.Write.contents (IsTextIn request.output) _ _ (wants request.task inputs) fault (reply_view reply) c.in-Err-printed.ensures
     works in
     (leaves, wanting)
