@@ -16,7 +16,7 @@ pub enum SourceFault {
     #[error("the file is longer than 1,048,576 bytes")]
     TooLong,
     /// The line of the first one, from 1.
-    #[error("a NUL byte")]
+    #[error("line {0}: a NUL byte")]
     NulByte(u32),
 }
 

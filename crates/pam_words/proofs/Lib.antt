@@ -1,6 +1,9 @@
 pub mod Named
+pub mod NamedFirst
 pub mod Numbers
+pub mod OneCommand
 pub mod Refusals
+pub mod Rows
 pub mod SettingSteps
 pub mod Subcommand
 pub mod Subcommands

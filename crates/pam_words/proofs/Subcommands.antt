@@ -1,11 +1,12 @@
 -- A command with one more argument or command, from the contract of `clap`.
-use Rattle.std.proofs.Common.{◌≡◌, ℕ, ◌+◌, ◌<◌, ◌≤◌, ◌||◌, Bool, false, List, ap₂, refl, ◌∙◌, add-one, drop, drop-cons, get_or, length}
+use Rattle.std.proofs.Common.{◌≡◌, ℕ, ◌+◌, ◌<◌, ◌≤◌, ◌||◌, Bool, false, IfOk, List, Result, Ok, Err, ap₂, refl, ◌∙◌, add-one, drop, drop-cons, get_or, length}
+use Rattle.std.specs.declared.alloc.AllocError.{AllocError}
 use Rattle.std.proofs.lemmas.List.{drop_all}
 use Rattle.clap.specs.Words.{AddsArg, AddsSubcommand, App, Rule, app_of, rule_of, with_rule, with_subcommand}
 use Rattle.clap.specs.declared.builder.Arg.{Arg}
 use Rattle.clap.specs.declared.builder.Command.{Command}
 use Rattle.clap.specs.declared.builder.Command.TheViews.{out-Command}
-use Rattle.pam_words.specs.inner.Building.{app_of_row, rule_of_row, with_args, with_commands}
+use Rattle.pam_words.specs.inner.Building.{IsBuilt, app_of_row, rule_of_row, with_args, with_commands}
 use Rattle.pam_words.specs.declared.arguments.ArgRow.{ArgRow}
 use Rattle.pam_words.specs.declared.words.CommandRow.{CommandRow}
 
@@ -19,6 +20,11 @@ neither a b e s = rw (e, s) refl
 pub add-local : (old sub new : Command) → AddsSubcommand old sub new → (out-Command old).has_globals ≡ false → (out-Command sub).has_globals ≡ false
     → (out-Command new).has_globals ≡ false
 add-local old sub new h e s = h.globals ∙ neither _ _ e s
+
+pub built-one : (old sub : Command) (r : Result Command AllocError) (a b : App) → IfOk r (λ new. AddsSubcommand old sub new)
+    → app_of old ≡ a → app_of sub ≡ b → (out-Command old).has_globals ≡ false → (out-Command sub).has_globals ≡ false → IsBuilt r (with_subcommand a b.top)
+built-one old sub (Ok new) a b h e s old-local sub-local = (add-app old sub new a b h sub-local e s, add-local old sub new h old-local sub-local)
+built-one old sub (Err error) a b h e s old-local sub-local = tt
 
 pub add-rule : (old new : Command) (arg : Arg) (a : App) (r : Rule) → AddsArg old arg new → arg.global ≡ false → app_of old ≡ a → rule_of arg ≡ r
     → app_of new ≡ with_rule a r

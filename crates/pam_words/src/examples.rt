@@ -1,76 +1,47 @@
 //! The examples at the end of each command's help, to run in the folder `examples`.
 
-const CHECK: &str = "Examples, in the folder examples:
+pub(crate) const CHECK: &str = "Examples, in the folder examples:
   pamcheck check --dir host/pam.d
   pamcheck check sudo --dir host/pam.d --with sudo=host/sudo";
 
-const COMPARE: &str = "Examples, in the folder examples:
+pub(crate) const COMPARE: &str = "Examples, in the folder examples:
   pamcheck compare compare/old compare/new
   pamcheck compare compare/old compare/new login auth";
 
-const SHOW: &str = "Examples, in the folder examples:
+pub(crate) const SHOW: &str = "Examples, in the folder examples:
   pamcheck show login auth --dir tree
   pamcheck show sshd account --dir sshd/pam.d";
 
-const DECIDE: &str = "Examples, in the folder examples:
+pub(crate) const DECIDE: &str = "Examples, in the folder examples:
   pamcheck decide login auth auth_err auth_err success success --dir tree
   pamcheck decide login auth success ignore success success --dir tree";
 
-const PATHS: &str = "Examples, in the folder examples:
+pub(crate) const PATHS: &str = "Examples, in the folder examples:
   pamcheck paths sshd auth --dir sshd/pam.d --returns sshd/wrong-password
   pamcheck paths sshd auth --dir sshd/pam.d --decision success";
 
-const OUTCOMES: &str = "Examples, in the folder examples:
+pub(crate) const OUTCOMES: &str = "Examples, in the folder examples:
   pamcheck outcomes login auth --dir first
   pamcheck outcomes sshd auth --dir sshd/pam.d --returns sshd/ldap-down";
 
-const GRAPH: &str = "Examples, in the folder examples:
+pub(crate) const GRAPH: &str = "Examples, in the folder examples:
   pamcheck graph sshd auth --dir sshd/pam.d --returns sshd/ldap-down --format svg
   pamcheck graph sshd auth --dir sshd/pam.d --returns sshd/ldap-down --format mermaid";
 
-const ACCESS: &str = "Examples, in the folder examples:
+pub(crate) const ACCESS: &str = "Examples, in the folder examples:
   pamcheck access login --access tables/access.conf --group tables/group --user carol
   pamcheck access sshd --access tables/access.conf --user alice --rhost 10.1.2.3";
 
-const TIME: &str = "Examples, in the folder examples:
+pub(crate) const TIME: &str = "Examples, in the folder examples:
   pamcheck time games --time tables/time.conf --user alice --at 2024-05-06T07:59
   pamcheck time games --time tables/time.conf --user alice --at-unix 1715000000 --zone CET-1";
 
-const EXPLAIN: &str = "Examples:
+pub(crate) const EXPLAIN: &str = "Examples:
   pamcheck explain E15
   pamcheck explain";
 
-const FACTS: &str = "Example:
+pub(crate) const FACTS: &str = "Example:
   pamcheck facts";
 
-const VERSION: &str = "Example:
+pub(crate) const VERSION: &str = "Example:
   pamcheck version";
-
-/// Returns the examples of a command.
-pub(crate) fn examples_of(command: &str) -> &'static str {
-    if command == "check" {
-        CHECK
-    } else if command == "compare" {
-        COMPARE
-    } else if command == "show" {
-        SHOW
-    } else if command == "decide" {
-        DECIDE
-    } else if command == "paths" {
-        PATHS
-    } else if command == "outcomes" {
-        OUTCOMES
-    } else if command == "graph" {
-        GRAPH
-    } else if command == "access" {
-        ACCESS
-    } else if command == "time" {
-        TIME
-    } else if command == "explain" {
-        EXPLAIN
-    } else if command == "facts" {
-        FACTS
-    } else {
-        VERSION
-    }
-}

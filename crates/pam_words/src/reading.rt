@@ -1,6 +1,6 @@
 //! Reads a request from the words of the command line.
 
-ghost use Rattle.std.specs.Prelude.{◌≡◌, true, map, IfOk, MatchOption, option_map};
+ghost use Rattle.std.specs.Prelude.{◌≡◌, true, map, IfOk, MatchOption, option_map, slice_get};
 ghost use Rattle.std.specs.Char.{is_ascii_digit};
 ghost use Rattle.std.specs.List.{list_all};
 ghost use Rattle.std.specs.Option.{option_copied};
@@ -24,7 +24,7 @@ mod settings;
 mod show;
 
 use crate::wanted::{ConfSource, Login, Moment, OutputForm, Request, Task, Usage};
-use crate::words::pamcheck_command;
+use crate::words::command_for;
 use clap::error::ErrorKind;
 use clap::{ArgMatches, Error};
 use pam_codes::Code;
@@ -316,13 +316,18 @@ fn read<'a>(alloc: Global, command: &str, matches: &ArgMatches<'a>) -> Result<Re
     ensures { Answers (request_of command.now (rows_of (found_of matches.now))) result }
 {
     let task = task(alloc, command, matches)?;
-    let candidates = candidates::candidates(alloc, matches)?;
-    Ok(Request {
-        service: text(matches, "service"),
-        task,
-        candidates,
-        output: output(matches),
-    })
+    match candidates::candidates(alloc, matches) {
+        Ok(candidates) => Ok(Request {
+            service: text(matches, "service"),
+            task,
+            candidates,
+            output: output(matches),
+        }),
+        Err(usage) => {
+            drop(task);
+            Err(usage)
+        }
+    }
 }
 
 /// Converts an error of `clap`.
@@ -336,6 +341,16 @@ fn refused(error: Error) -> Usage
     }
 }
 
+/// Returns the first word after the name of the program, if there is one.
+fn command_name<S: AsStr>(words: &[S]) -> Option<&str>
+    ensures { option_copied result ≡ slice_get (map S.text words.now) 1 }
+{
+    match words.get(1) {
+        Some(word) => Some(word.as_str()),
+        None => None,
+    }
+}
+
 /// Reads the words of the command line, the first of which is the name of the program. Borrows them.
 // Never inlined: else its caller has room for the commands and options, of 15 kB, while it answers.
 #[inline(never)]
@@ -344,7 +359,7 @@ pub fn request<'a, S: AsStr>(alloc: Global, words: &'a [S]) -> Result<Request<'a
     ensures taken { takes pamcheck_app (map S.text words.entry.now) ≡ true → IsRead result }
     ensures refused { RefusesBy (fault_of pamcheck_app (map S.text words.entry.now)) result }
 {
-    let Ok(command) = pamcheck_command(alloc) else {
+    let Ok(command) = command_for(alloc, command_name(words)) else {
         return Err(Usage::Memory);
     };
     let matches = match command.try_get_matches_from(words) {

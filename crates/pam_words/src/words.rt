@@ -1,9 +1,11 @@
 //! The `clap` command of `pamcheck`, built from a table of its commands and their arguments.
 
-ghost use Rattle.std.specs.Prelude.{◌≡◌, false};
+ghost use Rattle.std.specs.Prelude.{◌≡◌, false, find, option_map};
+ghost use Rattle.std.specs.Option.{option_copied};
 ghost use Rattle.clap.specs.Words.{App, app_of, rule_of};
 ghost use Rattle.clap.specs.declared.builder.Command.TheViews.{out-Command as fields_of};
 ghost use Rattle.pam_words.specs.inner.Building.{IsBuilt, app_of_row, rule_of_row, with_args as with_rules, with_commands as with_apps};
+ghost use Rattle.pam_words.specs.inner.Building.{IsRowOf, app_for, app_of_one, is_named, shape_of_row};
 ghost use Rattle.pam_words.specs.Words.{with_graphs, with_hosts, with_listings, with_lookups, with_stacks};
 ghost use Rattle.pam_words.specs.Words.{bare_app, pamcheck_app, version};
 
@@ -14,7 +16,7 @@ use crate::arguments::{
     RETURNS, RHOST, ROOT, SERVICE, SERVICE_IF_NAMED, SERVICES, SET, TABLE_USER, TIME, TIME_TABLE,
     TTY, USER, VENDOR_DIR, WITH, ZONE,
 };
-use crate::examples::examples_of;
+use crate::examples;
 use crate::number::number_parser;
 use clap::{Arg, ArgAction, Command};
 use std::alloc::{AllocError, Global};
@@ -31,6 +33,7 @@ pub fn version() -> &'static str
 struct CommandRow {
     name: &'static str,
     about: &'static str,
+    examples: &'static str,
     args: &'static [ArgRow],
 }
 
@@ -41,6 +44,7 @@ static HOSTS: [CommandRow; 2] = [
     CommandRow {
         name: "check",
         about: "Checks all services for faults, and for stacks that let nobody or anybody in",
+        examples: examples::CHECK,
         args: &[
             DIR,
             VENDOR_DIR,
@@ -61,6 +65,7 @@ static HOSTS: [CommandRow; 2] = [
     CommandRow {
         name: "compare",
         about: "Compares what two configurations decide",
+        examples: examples::COMPARE,
         args: &[
             OLD,
             NEW,
@@ -82,6 +87,7 @@ static STACKS: [CommandRow; 2] = [
     CommandRow {
         name: "show",
         about: "Shows the modules of a stack",
+        examples: examples::SHOW,
         args: &[
             SERVICE, KIND, DIR, VENDOR_DIR, CONF, ROOT, WITH, RELEASE, JSON,
         ],
@@ -89,6 +95,7 @@ static STACKS: [CommandRow; 2] = [
     CommandRow {
         name: "decide",
         about: "Runs a stack with given return codes",
+        examples: examples::DECIDE,
         args: &[
             SERVICE, KIND, DIR, VENDOR_DIR, CONF, ROOT, WITH, JSON, CODES,
         ],
@@ -99,6 +106,7 @@ static STACKS: [CommandRow; 2] = [
 static LISTINGS: [CommandRow; 1] = [CommandRow {
     name: "paths",
     about: "Lists the paths through a stack",
+    examples: examples::PATHS,
     args: &[
         SERVICE, KIND, DIR, VENDOR_DIR, CONF, ROOT, WITH, JSON, LIMIT, AFTER, BEFORE, DECISION,
         ASKS, MODULES, USER, RHOST, TTY, ACCESS, TIME, GROUP, RETURNS, SET, AT, AT_UNIX, ZONE,
@@ -110,6 +118,7 @@ static GRAPHS: [CommandRow; 2] = [
     CommandRow {
         name: "outcomes",
         about: "Counts the paths through a stack by their decisions",
+        examples: examples::OUTCOMES,
         args: &[
             SERVICE, KIND, DIR, VENDOR_DIR, CONF, ROOT, WITH, JSON, MODULES, USER, RHOST, TTY,
             ACCESS, TIME, GROUP, RETURNS, SET, AT, AT_UNIX, ZONE,
@@ -118,6 +127,7 @@ static GRAPHS: [CommandRow; 2] = [
     CommandRow {
         name: "graph",
         about: "Draws the graph of a stack",
+        examples: examples::GRAPH,
         args: &[
             SERVICE, KIND, DIR, VENDOR_DIR, CONF, ROOT, WITH, FORMAT, MODULES, USER, RHOST, TTY,
             ACCESS, TIME, GROUP, RETURNS, SET, AT, AT_UNIX, ZONE,
@@ -130,6 +140,7 @@ static LOOKUPS: [CommandRow; 2] = [
     CommandRow {
         name: "access",
         about: "Looks a login up in an access table",
+        examples: examples::ACCESS,
         args: &[
             SERVICE,
             ACCESS_TABLE,
@@ -144,6 +155,7 @@ static LOOKUPS: [CommandRow; 2] = [
     CommandRow {
         name: "time",
         about: "Looks a login up in a time table",
+        examples: examples::TIME,
         args: &[
             SERVICE, TIME_TABLE, TABLE_USER, TTY, AT, AT_UNIX, ZONE, JSON,
         ],
@@ -155,16 +167,19 @@ static PAGES: [CommandRow; 3] = [
     CommandRow {
         name: "explain",
         about: "Explains a fault or finding, and how to mend it",
+        examples: examples::EXPLAIN,
         args: &[NUMBER],
     },
     CommandRow {
         name: "facts",
         about: "Lists what is known of modules",
+        examples: examples::FACTS,
         args: &[],
     },
     CommandRow {
         name: "version",
         about: "Shows the version of the program",
+        examples: examples::VERSION,
         args: &[],
     },
 ];
@@ -209,7 +224,7 @@ fn command_of<'a>(alloc: Global, row: &CommandRow) -> Result<Command<'a>, AllocE
         alloc,
         Command::new(alloc, row.name)
             .about(row.about)
-            .after_help(examples_of(row.name)),
+            .after_help(row.examples),
         row.args,
     )
 }
@@ -277,8 +292,49 @@ fn up_to_lookups<'a>(alloc: Global) -> Result<Command<'a>, AllocError>
 }
 
 /// Returns the whole command line, as a `clap` command.
-pub fn pamcheck_command<'a>(alloc: Global) -> Result<Command<'a>, AllocError>
+fn pamcheck_command<'a>(alloc: Global) -> Result<Command<'a>, AllocError>
     ensures { IsBuilt result pamcheck_app }
 {
     with_commands(alloc, up_to_lookups(alloc)?, &PAGES)
+}
+
+/// Returns the row of a table that has this name.
+#[tactic(auto, unfolding(crate::specs::inner::Building::IsRowOf))]
+fn row_in(rows: &'static [CommandRow], name: &str) -> Option<&'static CommandRow>
+    ensures { IsRowOf name.now rows.now result }
+{
+    rows.iter().find(|row| row.name == name)
+}
+
+/// Returns the row of the command that has this name.
+fn row_of(name: &str) -> Option<&'static CommandRow>
+    ensures { option_map (λ row. shape_of_row row.now) result ≡ find (is_named name.now) pamcheck_app.subs }
+{
+    row_in(&HOSTS, name)
+        .or(row_in(&STACKS, name))
+        .or(row_in(&LISTINGS, name))
+        .or(row_in(&GRAPHS, name))
+        .or(row_in(&LOOKUPS, name))
+        .or(row_in(&PAGES, name))
+}
+
+/// Returns the command line with one command alone.
+fn one_command<'a>(alloc: Global, row: &CommandRow) -> Result<Command<'a>, AllocError>
+    ensures { IsBuilt result (app_of_one (shape_of_row row.now)) }
+{
+    bare_command(alloc).subcommand(command_of(alloc, row)?)
+}
+
+/// Returns the command line for words of which the first after the name of the program is this, if there is one: with the command
+/// that it names alone, since `clap` reads the words by no other, or with all.
+pub fn command_for<'a>(alloc: Global, name: Option<&str>) -> Result<Command<'a>, AllocError>
+    ensures { IsBuilt result (app_for (option_copied name.entry)) }
+{
+    match name {
+        Some(name) => match row_of(name) {
+            Some(row) => one_command(alloc, row),
+            None => pamcheck_command(alloc),
+        },
+        None => pamcheck_command(alloc),
+    }
 }

@@ -10,7 +10,7 @@ pub struct StackHead<'x> {
     pub modules: usize,
 }
 
-/// Where a rule stands: the files, and how many substacks it is nested in.
+/// The place of a rule: the files, and how deep in substacks it is.
 #[derive(Clone, Copy)]
 pub struct RulePlace<'x> {
     pub files: &'x Files,

@@ -5,12 +5,11 @@ ghost use Rattle.pam_conf.specs.Stack.{Items, module_count};
 ghost use Rattle.pam_dispatch.specs.Flat.{modules_of};
 ghost use Rattle.pam_graph.specs.Goals.{meeting};
 ghost use Rattle.pam_graph.specs.Walks.{walks as walks_of};
-ghost use Rattle.pam_known.specs.Knowledge.{Agree};
 ghost use Rattle.pam_paths.specs.Known.{may_answer};
-ghost use Rattle.pam_paths.specs.Listing.{Allowance, IsListingAfter, IsListingBefore};
+ghost use Rattle.pam_paths.specs.Listing.{IsListingAfter, IsListingBefore};
 ghost use Rattle.pam_paths.specs.Pages.{after, before};
 ghost use Rattle.pam_paths.specs.Paths.{path_through};
-ghost use Rattle.pam_report.specs.Finds.{Finds};
+ghost use Rattle.pam_report.specs.inner.Known.{FindsOf};
 ghost use Rattle.pam_report.specs.inner.Memory.{WantsWork};
 ghost use Rattle.pam_report.specs.PageView.{Renders};
 ghost use Rattle.pam_report.specs.inner.PageView.{IsRefused, IsSide, ListsPaths, ListsWalks, page_view};
@@ -180,8 +179,7 @@ pub(super) fn answer_goal<'a>(
     goal: Goal,
 ) -> Result<Reply<'a>, Fault>
     requires { IsProgramOf program found.stack }
-    ensures answer { (allows : Allowance) → Agree (module_count found.stack) (may_answer found.known) allows
-        → Finds result (IsMeetingPage goal (page_view request.now) found.stack allows) }
+    ensures answer { FindsOf (IsMeetingPage goal (page_view request.now)) found result }
     ensures wants { WantsWork result }
 {
     match Graph::of(alloc, &program, &found.known) {
@@ -200,8 +198,7 @@ pub(super) fn answer_asking<'a>(
     number: u32,
 ) -> Result<Reply<'a>, Fault>
     requires { IsProgramOf program found.stack }
-    ensures answer { (allows : Allowance) → Agree (module_count found.stack) (may_answer found.known) allows
-        → Finds result (IsAskingPage (nat_lt (module_count found.stack) number) number (page_view request.now) found.stack allows) }
+    ensures answer { FindsOf (IsAskingPage (nat_lt (module_count found.stack) number) number (page_view request.now)) found result }
     ensures wants { WantsWork result }
 {
     let module_number = number as usize;

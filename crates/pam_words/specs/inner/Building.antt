@@ -1,10 +1,13 @@
 -- For private contracts and proofs alone: a command that is being built.
-use Rattle.std.specs.Prelude.{◌≡◌, List, [], ◌∷◌, IfOk, Result, false}
+use Rattle.std.specs.Prelude.{◌≡◌, Bool, List, [], ◌∷◌, IfOk, Option, Some, None, Result, bytes_eq, false, find, option_map}
+use Rattle.std.specs.Borrow.{Bor}
+use Rattle.std.specs.Option.{option_map_or}
 use Rattle.std.specs.declared.alloc.AllocError.{AllocError}
-use Rattle.clap.specs.Words.{App, Rule, Text, app_of, new_app, with_rule, with_subcommand}
+use Rattle.clap.specs.Words.{App, Rule, Shape, Text, app_of, new_app, with_rule, with_subcommand}
 use Rattle.clap.specs.declared.builder.Command.{Command}
 use Rattle.clap.specs.declared.builder.Command.TheViews.{out-Command as fields_of}
-use Rattle.pam_words.specs.Words.{flag_rule, number_rule, option_rule, optional_rule, repeated_option_rule, repeated_rule, required_option_rule, required_rule}
+use Rattle.pam_words.specs.Words.{bare_app, flag_rule, number_rule, option_rule, optional_rule, repeated_option_rule, repeated_rule}
+use Rattle.pam_words.specs.Words.{pamcheck_app, required_option_rule, required_rule}
 use Rattle.pam_words.specs.declared.arguments.ArgForm.{ArgForm}
 use Rattle.pam_words.specs.declared.arguments.ArgForm.TheVariants.{Positional, OptionalPositional, Repeated, Optional, RepeatedOption, Required, Number, Flag}
 use Rattle.pam_words.specs.declared.arguments.ArgRow.{ArgRow}
@@ -39,3 +42,23 @@ app_of_row row = with_args (new_app row.name.now) row.args.now
 abbrev pub with_commands : App → List CommandRow → App
 with_commands app [] = app
 with_commands app (row ∷ rows) = with_commands (with_subcommand app (app_of_row row).top) rows
+
+-- the row of a table that has this name
+unfoldable pub IsRowOf : Text → List CommandRow → Option (Bor CommandRow) → Type 0
+IsRowOf name rows found = option_map (λ row. row.now) found ≡ find (λ row. bytes_eq row.name.now name) rows
+
+abbrev pub shape_of_row : CommandRow → Shape
+shape_of_row row = (app_of_row row).top
+
+-- a command of this name
+abbrev pub is_named : Text → Shape → Bool
+is_named name s = bytes_eq s.name name
+
+-- the command line with this command alone
+abbrev pub app_of_one : Shape → App
+app_of_one s = with_subcommand bare_app s
+
+-- the command line for words with this name of a command: with that command alone, or with all where there is none
+abbrev pub app_for : Option Text → App
+app_for None = pamcheck_app
+app_for (Some name) = option_map_or app_of_one (find (is_named name) pamcheck_app.subs) pamcheck_app

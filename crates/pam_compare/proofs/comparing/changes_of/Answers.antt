@@ -27,12 +27,14 @@ returns c old_allows new_allows partners told searched =
     record {
       admits = shown old_allows new_allows old new partners naming.names.items told.names naming.possible.items told.possible found searched rise_old rise_new
           Admits found.admits (λ noted. noted) c.in_ok-admits.admits
-          (c.in_ok-admits.ensures.witness old_allows new_allows partners Admits told.names told.exact (λ k is. c.requires.ends Admits k is)) c.in_ok-admits.ensures.none;
+          (c.in_ok-admits.ensures.witness old_allows new_allows partners Admits told.names told.exact (λ k is. c.requires.ends Admits k is))
+          c.in_ok-admits.ensures.none;
       refuses = shown old_allows new_allows old new partners naming.names.items told.names naming.possible.items told.possible found searched rise_old rise_new
           Refuses found.refuses (λ noted. noted) c.in_ok-refuses.refuses
           (c.in_ok-refuses.ensures.witness old_allows new_allows partners Refuses told.names told.exact (λ k is. c.requires.ends Refuses k is))
           c.in_ok-refuses.ensures.none;
       tells = shown old_allows new_allows old new partners naming.names.items told.names naming.possible.items told.possible found searched rise_old rise_new
           Tells found.tells (λ noted. noted) c.in_ok-tells.tells
-          (c.in_ok-tells.ensures.witness old_allows new_allows partners Tells told.names told.exact (λ k is. c.requires.ends Tells k is)) c.in_ok-tells.ensures.none;
+          (c.in_ok-tells.ensures.witness old_allows new_allows partners Tells told.names told.exact (λ k is. c.requires.ends Tells k is))
+          c.in_ok-tells.ensures.none;
     }
