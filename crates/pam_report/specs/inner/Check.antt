@@ -1,5 +1,6 @@
--- For private contracts and proofs alone: which findings are not reported.
+-- For private contracts and proofs alone: which findings are reported, and which are not.
 use Rattle.std.specs.Prelude.{◌≡◌, ◌≢◌, ⊤, ℕ, List, Ok, Err}
+use Rattle.std.specs.BTreeMap.{BTreeMap}
 use Rattle.pam_accept.specs.Lines.{Accepted, accepted_lines}
 use Rattle.pam_accept.specs.declared.error.AcceptError.TheVariants as accept
 use Rattle.pam_conf.specs.Files.{Folder}
@@ -8,11 +9,20 @@ use Rattle.pam_facts.specs.Rows.{Row}
 use Rattle.pam_facts.specs.declared.error.FactsFault.TheVariants as facts_faults
 use Rattle.pam_host.specs.Report.{IsReport}
 use Rattle.pam_host.specs.Services.{checked_services}
+use Rattle.pam_host.specs.declared.problem.Place.{Place}
+use Rattle.pam_host.specs.declared.report.Finding.{Finding}
 use Rattle.pam_host.specs.declared.report.HostReport.{HostReport}
-use Rattle.pam_report.specs.Inputs.{accept_given, facts_given, there_given}
+use Rattle.pam_table_check.specs.Report.{IsTableReport}
+use Rattle.pam_table_check.specs.declared.problem.TableFinding.{TableFinding}
+use Rattle.pam_table_check.specs.declared.problem.TablePlace.{TablePlace}
+use Rattle.pam_report.specs.Accepting.{table_findings}
+use Rattle.pam_report.specs.Inputs.{accept_given, facts_given, host_tables_given, there_given}
 use Rattle.pam_report.specs.declared.fault.Fault.{Fault}
 use Rattle.pam_report.specs.declared.fault.Fault.TheVariants as faults
+use Rattle.pam_report.specs.TablePaths.{TablePathsText}
 use Rattle.pam_report.specs.declared.inputs.Inputs.{Inputs}
+use Rattle.pam_report.specs.declared.report.accepting.Listed.{Listed}
+use Rattle.pam_report.specs.inner.Accepting.{IsListed}
 
 -- a report by what the facts file says
 pub record IsReported (services : List (List ℕ)) (files : Folder) (inputs : Inputs) (report : HostReport) : Type 0 where
@@ -36,3 +46,12 @@ abbrev pub IsUnaccepted : Inputs → Fault → Type 0
 IsUnaccepted inputs (faults.Accept e) = (accepted_lines (accept_given inputs) ≡ Err e) × (e ≢ accept.Memory)
 IsUnaccepted inputs faults.Memory = ⊤
 IsUnaccepted inputs fault = ⊥
+
+-- what is listed of the findings of a report, and of the problems of the tables that its services need
+pub record IsListedFrom (files : Folder) (inputs : Inputs) (services : List (List ℕ)) (all : List (Place × Finding)) (paths : TablePathsText)
+    (listed : Listed) : Type 0 where
+  pub lines : List Accepted
+  pub accepted : IsAccepted inputs lines
+  pub tables : BTreeMap TablePlace TableFinding
+  pub table_report : IsTableReport files services (host_tables_given inputs) tables
+  pub is_listed : IsListed lines files services all paths (table_findings tables) listed

@@ -4,16 +4,17 @@ ghost use Rattle.std.specs.Prelude.{◌≡◌, [], IfOk, IfErr, MatchResult, opt
 ghost use Rattle.std.specs.Option.{option_copied, option_map_or};
 ghost use Rattle.pam_host.specs.Levels.{level_of};
 ghost use Rattle.pam_report.specs.Check.{IsCheck};
-ghost use Rattle.pam_report.specs.inner.Check.{IsAccepted, IsReported, IsUnaccepted, IsUnreported};
+ghost use Rattle.pam_report.specs.inner.Check.{IsAccepted, IsListedFrom, IsReported, IsUnaccepted, IsUnreported};
 ghost use Rattle.pam_report.specs.Finds.{Finds};
 ghost use Rattle.pam_report.specs.Inputs.{host_tables_given};
 ghost use Rattle.pam_table_check.specs.Report.{IsTableReport};
 ghost use Rattle.pam_report.specs.Memory.{WantsOnly, of_stack};
 ghost use Rattle.pam_report.specs.Reply.{check_status, counts, has_counting, has_counting_table};
 ghost use Rattle.pam_report.specs.ReplyViews.{check_view};
+ghost use Rattle.pam_report.specs.TablePaths.{table_paths_view};
 
 use super::Status;
-use super::accepting::list_findings;
+use super::accepting::{Listed, list_findings};
 use super::replies::Reply;
 use crate::fault::{Fault, accept_fault, facts_fault};
 use crate::inputs::Inputs;
@@ -148,6 +149,25 @@ fn accepted(alloc: Global, inputs: &Inputs) -> Result<AcceptFile, Fault>
     }
 }
 
+/// Lists the findings of a report, and the problems of the tables that its services need, without what the accept file accepts.
+fn list_unaccepted(
+    alloc: Global,
+    files: &Files,
+    report: &HostReport,
+    inputs: &Inputs,
+    paths: TablePaths<'_>,
+) -> Result<Listed, Fault>
+    ensures ok { IfOk result (IsListedFrom files.now inputs.now report.now.services report.now.found.entries (table_paths_view paths.entry)) }
+    ensures err { IfErr result (IsUnaccepted inputs.now) }
+{
+    let accept = accepted(alloc, inputs)?;
+    let tables = table_report(alloc, files, report, inputs)?;
+    match list_findings(alloc, files, report, &tables, paths, &accept) {
+        Ok(listed) => Ok(listed),
+        Err(_) => Err(Fault::Memory),
+    }
+}
+
 /// Returns the name of the accept file, empty if none is named.
 fn accept_name<'a>(given: &CheckFiles<'a>) -> &'a str
     ensures { result.now ≡ unwrap_or (option_copied given.now.accept) [] }
@@ -170,12 +190,8 @@ pub(super) fn checked<'a>(
 {
     a_silent_host_is_sound();
     let report = report(alloc, asked.services, files, inputs)?;
-    let accept = accepted(alloc, inputs)?;
-    let tables = table_report(alloc, files, &report, inputs)?;
     let paths = inputs.table_paths();
-    let Ok(listed) = list_findings(alloc, files, &report, &tables, paths, &accept) else {
-        return Err(Fault::Memory);
-    };
+    let listed = list_unaccepted(alloc, files, &report, inputs, paths)?;
     let Ok(misspelled) = misspelled_words(alloc, files, inputs.there(), &listed.found) else {
         return Err(Fault::Memory);
     };

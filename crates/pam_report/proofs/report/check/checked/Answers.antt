@@ -8,9 +8,10 @@ use Rattle.pam_report.proofs.report.check.checked.Goals as goal
 pub returns-clause-answer : goal.returns-clause-answer
 returns-clause-answer c =
     let reported = c.in_ok-report.ensures in
-    let listed = c.in-Ok.ensures in
+    let from = c.in_ok-listed.ensures.ok in
+    let listed = from.is_listed in
     check-of c.args.asked.services.now c.args.asked.fail_on c.args.asked.given.now c.args.files.now c.args.inputs.now reported.facts _ _ reported.known
-    c.in_ok-accept.ensures
+    from.accepted
     record {
       same_form = c.form.ensures;
       same_paths = c.paths.ensures;
@@ -20,10 +21,10 @@ returns-clause-answer c =
       all = c.in_ok-report.report.found;
       report = reported.is_report;
       same_table_paths = c.table_paths-paths.ensures;
-      all_tables = c.in_ok-tables.tables.found;
-      table_report = c.in_ok-tables.ensures.ok;
+      all_tables = from.tables;
+      table_report = from.table_report;
       not_accepted = listed.found;
-      misspelled = c.in-Ok-misspelled_words.ensures
+      misspelled = c.in-Ok.ensures
           ∙ ap (λ (there : Option (List (List ℕ))). map (misspelled_at c.args.files.now there) c.deref.result.now) c.there.ensures
           ∙ ap (map (misspelled_at c.args.files.now (there_given c.args.inputs.now))) c.deref.ensures.value;
       tables_not_accepted = listed.tables_found;
