@@ -324,6 +324,7 @@ fn read<'a>(alloc: Global, command: &str, matches: &ArgMatches<'a>) -> Result<Re
             output: output(matches),
         }),
         Err(usage) => {
+            // A call, since to prove the drop of each variant in place takes longer.
             drop(task);
             Err(usage)
         }

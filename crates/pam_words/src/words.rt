@@ -298,7 +298,7 @@ fn pamcheck_command<'a>(alloc: Global) -> Result<Command<'a>, AllocError>
     with_commands(alloc, up_to_lookups(alloc)?, &PAGES)
 }
 
-/// Returns the row of a table that has this name.
+/// Returns the row with this name in a table.
 #[tactic(auto, unfolding(crate::specs::inner::Building::IsRowOf))]
 fn row_in(rows: &'static [CommandRow], name: &str) -> Option<&'static CommandRow>
     ensures { IsRowOf name.now rows.now result }
@@ -306,7 +306,7 @@ fn row_in(rows: &'static [CommandRow], name: &str) -> Option<&'static CommandRow
     rows.iter().find(|row| row.name == name)
 }
 
-/// Returns the row of the command that has this name.
+/// Returns the row with this name.
 fn row_of(name: &str) -> Option<&'static CommandRow>
     ensures { option_map (λ row. shape_of_row row.now) result ≡ find (is_named name.now) pamcheck_app.subs }
 {
@@ -318,23 +318,20 @@ fn row_of(name: &str) -> Option<&'static CommandRow>
         .or(row_in(&PAGES, name))
 }
 
-/// Returns the command line with one command alone.
+/// Returns the command line with the command of this row and no other.
 fn one_command<'a>(alloc: Global, row: &CommandRow) -> Result<Command<'a>, AllocError>
     ensures { IsBuilt result (app_of_one (shape_of_row row.now)) }
 {
     bare_command(alloc).subcommand(command_of(alloc, row)?)
 }
 
-/// Returns the command line for words of which the first after the name of the program is this, if there is one: with the command
-/// that it names alone, since `clap` reads the words by no other, or with all.
+/// Returns the command line for words that begin with this name, after that of the program. If a command has the name, there is no
+/// other: `clap` reads such words by that command alone. If none has it, or there is no word, all are there.
 pub fn command_for<'a>(alloc: Global, name: Option<&str>) -> Result<Command<'a>, AllocError>
     ensures { IsBuilt result (app_for (option_copied name.entry)) }
 {
-    match name {
-        Some(name) => match row_of(name) {
-            Some(row) => one_command(alloc, row),
-            None => pamcheck_command(alloc),
-        },
+    match name.and_then(row_of) {
+        Some(row) => one_command(alloc, row),
         None => pamcheck_command(alloc),
     }
 }

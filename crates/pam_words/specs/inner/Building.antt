@@ -54,11 +54,11 @@ shape_of_row row = (app_of_row row).top
 abbrev pub is_named : Text → Shape → Bool
 is_named name s = bytes_eq s.name name
 
--- the command line with this command alone
+-- the command line with this command and no other
 abbrev pub app_of_one : Shape → App
 app_of_one s = with_subcommand bare_app s
 
--- the command line for words with this name of a command: with that command alone, or with all where there is none
+-- the command line for words that begin with this name: with that command and no other, or with all where none has the name
 abbrev pub app_for : Option Text → App
 app_for None = pamcheck_app
 app_for (Some name) = option_map_or app_of_one (find (is_named name) pamcheck_app.subs) pamcheck_app
