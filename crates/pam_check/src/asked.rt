@@ -4,7 +4,6 @@ ghost use Rattle.std.specs.Prelude.{◌≡◌, ℕ, ◌-◌, ◌≤◌, ◌==◌
 ghost use Rattle.std.specs.List.{range_with_len};
 ghost use Rattle.pam_conf.specs.declared.stack.TheConstants.{MAX_MODULES};
 ghost use Rattle.pam_conf.specs.Stack.{Items};
-ghost use Rattle.pam_graph.specs.declared.error.GraphError.TheVariants.{Memory};
 ghost use Rattle.pam_graph.specs.declared.graph.TheConstants.{MAX_NODES};
 ghost use Rattle.pam_graph.specs.Order.{AreNodes};
 ghost use Rattle.pam_graph.specs.Reached.{IsReason};
@@ -16,7 +15,7 @@ use crate::way_in::success;
 use pam_dispatch::{MAX_MODULES, Program};
 use pam_graph::{Graph, GraphError, Node};
 use pam_paths::Known;
-use std::alloc::Global;
+use std::alloc::{AllocError, Global};
 
 /// A mark for each module, by its number less 1.
 pub(crate) type Marks = [bool; MAX_MODULES];
@@ -72,10 +71,7 @@ impl Reached {
         // A program says with the number of its modules that they are asked in order.
         let _modules = program.modules();
         let graph = Graph::of(alloc, program, known)?;
-        // Once the graph is built, only an allocation can fail.
-        let Ok(lets_in) = graph.is_met(alloc, &success()) else {
-            return Err(GraphError::Memory);
-        };
+        let lets_in = graph.is_met(alloc, &success())?;
         Ok(Reached {
             lets_nobody_in: !lets_in,
             asked: marks_of(graph.nodes()),
@@ -88,10 +84,9 @@ pub(crate) fn unmarked(
     alloc: Global,
     marks: &Marks,
     modules: usize,
-) -> Result<Vec<usize>, GraphError>
+) -> Result<Vec<usize>, AllocError>
     requires { modules ≤ MAX_MODULES }
-    ensures numbers { IfOk result (λ numbers. numbers.items ≡ filter (λ number. not (mark_of marks.now number)) (range_with_len 1 modules)) }
-    ensures error { IfErr result (λ e. e ≡ Memory) }
+    ensures { IfOk result (λ numbers. numbers.items ≡ filter (λ number. not (mark_of marks.now number)) (range_with_len 1 modules)) }
 {
     let mut numbers = Vec::new(alloc);
     for index in 0..modules {

@@ -2,7 +2,6 @@
 
 ghost use Rattle.std.specs.Prelude.{◌≡◌, ◌∷◌, ◌++◌, [], IfErr, IfOk, OnOk, if◌then◌else◌};
 ghost use Rattle.pam_conf.specs.ItemsOf.{items_of, module_text};
-ghost use Rattle.pam_graph.specs.declared.error.GraphError.TheVariants.{Memory};
 ghost use Rattle.pam_paths.specs.Known.{may_answer};
 ghost use Rattle.pam_check.specs.Asked.{AreExactly, JumpsPastEnd};
 ghost use Rattle.pam_check.specs.inner.Marks.{AreMarks};
@@ -11,9 +10,9 @@ ghost use Rattle.pam_check.specs.inner.PastEnd.{can_pass, numbers_where, passes}
 use crate::asked::{Marks, is_marked};
 use pam_codes::{CODES, Code, CodeSet, Control};
 use pam_conf::{Item, Module, Stack};
-use pam_graph::{GraphError, is_past_end};
+use pam_graph::is_past_end;
 use pam_paths::{Knowledge, Known};
-use std::alloc::Global;
+use std::alloc::{AllocError, Global};
 
 /// Whether one of `codes` jumps past the end of a list.
 fn can_pass(control: &Control, codes: CodeSet, items_after: usize) -> bool
@@ -48,10 +47,9 @@ fn push_if_passing(
     candidate: &Module,
     items_after: usize,
     numbers: &mut Vec<usize>,
-) -> Result<(), GraphError>
-    ensures numbers { OnOk result (numbers.new.items ≡ numbers.old.items
+) -> Result<(), AllocError>
+    ensures { OnOk result (numbers.new.items ≡ numbers.old.items
         ++ (if passes (may_answer known.now) asked.now (module_text candidate.now) items_after then candidate.now.number ∷ [] else [])) }
-    ensures error { IfErr result (λ e. e ≡ Memory) }
 {
     if passes(known, asked, candidate, items_after) {
         numbers.push(candidate.number)?;
@@ -65,9 +63,8 @@ fn push_passing(
     asked: &Marks,
     items: &[Item],
     numbers: &mut Vec<usize>,
-) -> Result<(), GraphError>
-    ensures numbers { OnOk result (numbers.new.items ≡ numbers.old.items ++ numbers_where (passes (may_answer known.now) asked.now) (items_of items.now)) }
-    ensures error { IfErr result (λ e. e ≡ Memory) }
+) -> Result<(), AllocError>
+    ensures { OnOk result (numbers.new.items ≡ numbers.old.items ++ numbers_where (passes (may_answer known.now) asked.now) (items_of items.now)) }
 {
     let mut items_after = items.len();
     for item in items {
@@ -86,10 +83,9 @@ pub(crate) fn passing(
     stack: &Stack,
     known: &Known,
     asked: &Marks,
-) -> Result<Vec<usize>, GraphError>
+) -> Result<Vec<usize>, AllocError>
     requires { AreMarks (may_answer known.now) stack.now asked.now }
-    ensures numbers { IfOk result (λ numbers. AreExactly (JumpsPastEnd (may_answer known.now) stack.now) numbers.items) }
-    ensures error { IfErr result (λ e. e ≡ Memory) }
+    ensures { IfOk result (λ numbers. AreExactly (JumpsPastEnd (may_answer known.now) stack.now) numbers.items) }
 {
     let mut numbers = Vec::new(alloc);
     push_passing(known, asked, stack.items(), &mut numbers)?;

@@ -33,9 +33,5 @@ pub(crate) fn first_way_in(
     ensures reason { IfErr result (IsReason MAX_NODES (may_answer known.now) program.now) }
 {
     let graph = Graph::of(alloc, program, known)?;
-    // Once the graph is built, only an allocation can fail.
-    let Ok(way) = graph.first(alloc, success()) else {
-        return Err(GraphError::Memory);
-    };
-    Ok(way)
+    Ok(graph.first(alloc, success())?)
 }

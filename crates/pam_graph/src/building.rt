@@ -1,8 +1,9 @@
 //! Builds the graph of the runs of a program.
 
-ghost use Rattle.std.specs.Prelude.{◌≡◌, ◌∷◌, ◌++◌, ◌≤◌, ◌<◌, [], IfErr, IfNone, IfOk, IfSome, IsSome, List, OnOk, Some, length, slice_get};
+ghost use Rattle.std.specs.Prelude.{◌≡◌, ◌∷◌, ◌++◌, ◌≤◌, ◌<◌, ℕ, [], IfErr, IfNone, IfOk, IfSome, IsSome, List, OnOk, Some, length, slice_get};
 ghost use Rattle.pam_conf.specs.Stack.{Items};
 ghost use Rattle.pam_conf.specs.declared.stack.TheConstants.{MAX_MODULES};
+ghost use Rattle.pam_dispatch.specs.declared.flat_item.FlatItem.{FlatItem};
 ghost use Rattle.pam_dispatch.specs.Flat.{IsPlaceOf, modules_of, rest_of, runs_of};
 ghost use Rattle.pam_dispatch.specs.Keys.{AreDifferent, DiffersFrom, KeyValue, rest_at};
 ghost use Rattle.pam_dispatch.specs.Representatives.{AreEqualRests};
@@ -15,7 +16,7 @@ ghost use Rattle.pam_graph.specs.inner.Building.{Continues, IsDraft};
 ghost use Rattle.pam_graph.specs.Places.{AreNodesOf};
 ghost use Rattle.pam_graph.specs.Reached.{IsReached, IsReason, node_key};
 ghost use Rattle.pam_graph.specs.Walks.{walks};
-ghost use Rattle.pam_paths.specs.Listing.{IsListing};
+ghost use Rattle.pam_paths.specs.Listing.{Allowance, IsListing};
 ghost use Rattle.pam_paths.specs.Paths.{path_of, path_through};
 
 use crate::caches::{fork_at, new_caches};
@@ -25,7 +26,7 @@ use crate::last_nodes::LastNodes;
 use crate::node::{Edge, Node, Target};
 use pam_dispatch::{Place, PlaceTable, Program};
 use pam_paths::{ClassCache, Knowledge};
-use std::alloc::Global;
+use std::alloc::{AllocError, Global};
 
 /// A graph while it is built.
 #[derive(Drop)]
@@ -36,6 +37,21 @@ pub(crate) struct Draft {
     /// The classes computed last for each module.
     pub(crate) caches: Vec<ClassCache>,
     pub(crate) last_nodes: LastNodes,
+}
+
+impl Draft {
+    /// A draft with no nodes, for a program with this number of modules.
+    // Apart from its caller, which would else own each part while the next one is allocated: that takes longer to prove.
+    fn new(alloc: Global, modules: usize) -> Result<Draft, AllocError>
+        ensures { (limit : ℕ) (allows : Allowance) (program : List FlatItem) → IfOk result (IsDraft limit allows program) }
+    {
+        Ok(Draft {
+            nodes: Vec::new(alloc),
+            places: PlaceTable::new(alloc),
+            caches: new_caches(alloc)?,
+            last_nodes: LastNodes::new(alloc, modules)?,
+        })
+    }
 }
 
 /// The index of the node for `place`, at which the module with this number is asked.
@@ -195,12 +211,7 @@ impl Graph {
         ensures nodes { IfOk result (λ graph. AreNodesOf (K.allows knowledge.now) program.now graph.nodes) }
         ensures reason { IfErr result (IsReason MAX_NODES (K.allows knowledge.now) program.now) }
     {
-        let mut draft = Draft {
-            nodes: Vec::new(alloc),
-            places: PlaceTable::new(alloc),
-            caches: new_caches(alloc)?,
-            last_nodes: LastNodes::new(alloc, program.modules())?,
-        };
+        let mut draft = Draft::new(alloc, program.modules())?;
         let builder = Builder {
             alloc,
             program,

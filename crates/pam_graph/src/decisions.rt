@@ -13,14 +13,13 @@ ghost use Rattle.pam_graph.specs.declared.goal.Goal.TheVariants.{Decides};
 ghost use Rattle.pam_paths.specs.Computed.{after_step};
 ghost use Rattle.pam_paths.specs.Paths.{PathValue};
 
-use crate::error::GraphError;
 use crate::graph::Graph;
 use crate::node::{Edge, Node, Target};
 use crate::tally::sum_of;
 use crate::ways::counts_of;
 use pam_codes::{Code, CodeSet};
 use pam_paths::Path;
-use std::alloc::Global;
+use std::alloc::{AllocError, Global};
 use std::marker::Model;
 
 /// What the walks of a graph decide.
@@ -76,7 +75,7 @@ fn decided_by(known: &[CodeSet], edges: &[Edge]) -> CodeSet
 }
 
 /// The codes that the walks from each node on decide.
-fn decided_of(alloc: Global, nodes: &[Node]) -> Result<Vec<CodeSet>, GraphError>
+fn decided_of(alloc: Global, nodes: &[Node]) -> Result<Vec<CodeSet>, AllocError>
     requires { AreNodes [] nodes.now }
     ensures { IfOk result (λ known. known.items ≡ decided_of nodes.now) }
 {
@@ -151,8 +150,8 @@ fn first_from(nodes: &[Node], known: &[CodeSet], code: Code, start: Target) -> P
 }
 
 impl Graph {
-    /// What the walks decide. Returns `Memory` if allocation fails.
-    pub fn decisions(&self, alloc: Global) -> Result<Decisions<'_>, GraphError>
+    /// What the walks decide.
+    pub fn decisions(&self, alloc: Global) -> Result<Decisions<'_>, AllocError>
         ensures { IfOk result (λ decisions. decisions ≡ walks self.now) }
     {
         let known = decided_of(alloc, &self.nodes)?;

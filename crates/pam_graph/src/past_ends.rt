@@ -1,20 +1,18 @@
 //! The codes by which the modules of a stack jump past the end of their lists.
 
-ghost use Rattle.std.specs.Prelude.{◌≡◌, ◌-◌, ◌≤◌, ◌++◌, ◌&&◌, [], IfErr, IfOk, OnOk, ℕ, length, slice_index_or};
+ghost use Rattle.std.specs.Prelude.{◌≡◌, ◌-◌, ◌≤◌, ◌++◌, ◌&&◌, [], IfOk, OnOk, ℕ, length, slice_index_or};
 ghost use Rattle.pam_codes.specs.Set.{codes_where, is_in};
 ghost use Rattle.pam_conf.specs.ItemsOf.{items_of};
 ghost use Rattle.pam_conf.specs.declared.stack.TheConstants.{MAX_MODULES};
 ghost use Rattle.pam_dispatch.specs.State.{action_of};
-ghost use Rattle.pam_graph.specs.declared.error.GraphError.TheVariants.{Memory};
 ghost use Rattle.pam_graph.specs.Goals.{gives_one};
 ghost use Rattle.pam_graph.specs.PastEnds.{is_past_end, past_ends};
 
-use crate::error::GraphError;
 use pam_codes::{Action, CODES, Code, CodeSet, Control};
 use pam_conf::{Item, Stack};
 use pam_dispatch::MAX_MODULES;
 use pam_paths::Knowledge;
-use std::alloc::Global;
+use std::alloc::{AllocError, Global};
 use std::marker::Model;
 
 /// The codes by which each module of a stack may jump past the end of its list.
@@ -72,9 +70,8 @@ fn push_past_ends<K: Knowledge>(
     knowledge: &K,
     items: &[Item],
     codes: &mut Vec<CodeSet>,
-) -> Result<(), GraphError>
-    ensures codes { OnOk result (codes.new.items ≡ codes.old.items ++ past_ends (K.allows knowledge.now) (items_of items.now)) }
-    ensures error { IfErr result (λ e. e ≡ Memory) }
+) -> Result<(), AllocError>
+    ensures { OnOk result (codes.new.items ≡ codes.old.items ++ past_ends (K.allows knowledge.now) (items_of items.now)) }
 {
     let mut items_after = items.len();
     for item in items {
@@ -103,15 +100,14 @@ fn by_number(found: &[CodeSet]) -> [CodeSet; MAX_MODULES]
 }
 
 impl PastEnds {
-    /// Those of the modules of a stack, as far as `knowledge` allows them. Returns `Memory` if allocation fails.
+    /// Those of the modules of a stack, as far as `knowledge` allows them.
     pub fn of<K: Knowledge>(
         alloc: Global,
         stack: &Stack,
         knowledge: &K,
-    ) -> Result<PastEnds, GraphError>
-        ensures codes { IfOk result (λ codes. (number : ℕ) →
+    ) -> Result<PastEnds, AllocError>
+        ensures { IfOk result (λ codes. (number : ℕ) →
             slice_index_or codes (number - 1) [] ≡ slice_index_or (past_ends (K.allows knowledge.now) stack.now) (number - 1) []) }
-        ensures error { IfErr result (λ e. e ≡ Memory) }
     {
         let mut found = Vec::new(alloc);
         push_past_ends(knowledge, stack.items(), &mut found)?;

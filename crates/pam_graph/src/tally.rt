@@ -8,12 +8,11 @@ ghost use Rattle.pam_graph.specs.inner.Tallies.{count_to, has_walks, met_at_end,
 ghost use Rattle.pam_graph.specs.Walks.{walks};
 ghost use Rattle.pam_graph.specs.inner.Within.{AreWithin, IsWithin};
 
-use crate::error::GraphError;
 use crate::goal::Goal;
 use crate::graph::Graph;
 use crate::node::{Edge, Node, Target};
 use pam_codes::Code;
-use std::alloc::Global;
+use std::alloc::{AllocError, Global};
 
 /// The numbers of the walks from a node on: of all, and of those that meet the goal. `None` is a number that does not fit.
 #[derive(Clone, Copy, Debug)]
@@ -143,7 +142,7 @@ fn tally_by(goal: &Goal, tallies: &[Tally], node: &Node) -> Tally
 }
 
 /// The numbers of the walks from each node on.
-pub(crate) fn tallies(alloc: Global, goal: &Goal, nodes: &[Node]) -> Result<Vec<Tally>, GraphError>
+pub(crate) fn tallies(alloc: Global, goal: &Goal, nodes: &[Node]) -> Result<Vec<Tally>, AllocError>
     requires { AreNodes [] nodes.now }
     ensures { IfOk result (λ tallies. tallies.items ≡ tallies_of goal.now nodes.now) }
 {
@@ -156,16 +155,16 @@ pub(crate) fn tallies(alloc: Global, goal: &Goal, nodes: &[Node]) -> Result<Vec<
 }
 
 impl Graph {
-    /// The number of walks that meet `goal`; `None` if it is 2^128 or more. Returns `Memory` if allocation fails.
-    pub fn count(&self, alloc: Global, goal: &Goal) -> Result<Option<u128>, GraphError>
+    /// The number of walks that meet `goal`; `None` if it is 2^128 or more.
+    pub fn count(&self, alloc: Global, goal: &Goal) -> Result<Option<u128>, AllocError>
         ensures { IfOk result (λ count. count ≡ fit (length (meeting goal.now (walks self.now)))) }
     {
         let tallies = tallies(alloc, goal, &self.nodes)?;
         Ok(count_to(goal, false, &tallies, &self.start))
     }
 
-    /// Whether a walk meets `goal`. Returns `Memory` if allocation fails.
-    pub fn is_met(&self, alloc: Global, goal: &Goal) -> Result<bool, GraphError>
+    /// Whether a walk meets `goal`.
+    pub fn is_met(&self, alloc: Global, goal: &Goal) -> Result<bool, AllocError>
         ensures { IfOk result (λ is. is ≡ list_any (meets goal.now) (walks self.now)) }
     {
         Ok(has_walks(self.count(alloc, goal)?))

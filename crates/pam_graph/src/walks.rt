@@ -11,14 +11,13 @@ ghost use Rattle.pam_graph.specs.Walks.{walks};
 ghost use Rattle.pam_paths.specs.Pages.{after, before};
 
 use crate::direction::Direction;
-use crate::error::GraphError;
 use crate::frames::{Frame, Frames, Search, Way};
 use crate::goal::Goal;
 use crate::graph::Graph;
 use crate::tally::{Tally, tallies};
 use arrayvec::ArrayVec;
 use pam_paths::{Cursor, Path};
-use std::alloc::Global;
+use std::alloc::{AllocError, Global};
 use std::marker::Model;
 
 /// An iterator over the walks of a graph that meet a goal.
@@ -127,8 +126,8 @@ fn push_steps(frames: &[Frame], shared: usize, path: &mut Path)
 }
 
 impl Graph {
-    /// The walks that meet `goal`, in order. Returns `Memory` if allocation fails.
-    pub fn walks(&self, alloc: Global, goal: Goal) -> Result<Walks<'_>, GraphError>
+    /// The walks that meet `goal`, in order.
+    pub fn walks(&self, alloc: Global, goal: Goal) -> Result<Walks<'_>, AllocError>
         ensures walks { IfOk result (λ w. w.coming ≡ meeting goal (walks self.now)) }
         ensures path { IfOk result (λ w. w.path.steps ≡ []) }
     {
@@ -148,28 +147,26 @@ impl Graph {
         })
     }
 
-    /// The walks that meet `goal` and come after `cursor`, in order. `cursor` need not be that of a walk. Returns `Memory` if
-    /// allocation fails.
+    /// The walks that meet `goal` and come after `cursor`, in order. `cursor` need not be that of a walk.
     pub fn walks_after(
         &self,
         alloc: Global,
         goal: Goal,
         cursor: &Cursor,
-    ) -> Result<Walks<'_>, GraphError>
+    ) -> Result<Walks<'_>, AllocError>
         ensures walks { IfOk result (λ w. w.coming ≡ meeting goal (after cursor.now (walks self.now))) }
         ensures path { IfOk result (λ w. w.path.steps ≡ []) }
     {
         self.walks_past(alloc, goal, Direction::Forward, cursor)
     }
 
-    /// The walks that meet `goal` and come before `cursor`, the last one first. `cursor` need not be that of a walk. Returns
-    /// `Memory` if allocation fails.
+    /// The walks that meet `goal` and come before `cursor`, the last one first. `cursor` need not be that of a walk.
     pub fn walks_before(
         &self,
         alloc: Global,
         goal: Goal,
         cursor: &Cursor,
-    ) -> Result<Walks<'_>, GraphError>
+    ) -> Result<Walks<'_>, AllocError>
         ensures walks { IfOk result (λ w. w.coming ≡ meeting goal (before cursor.now (walks self.now))) }
         ensures path { IfOk result (λ w. w.path.steps ≡ []) }
     {
@@ -183,7 +180,7 @@ impl Graph {
         goal: Goal,
         direction: Direction,
         cursor: &Cursor,
-    ) -> Result<Walks<'_>, GraphError>
+    ) -> Result<Walks<'_>, AllocError>
         ensures walks { IfOk result (λ w. w.coming ≡ part direction cursor.now (meeting goal (ordered direction (walks self.now)))) }
         ensures path { IfOk result (λ w. w.path.steps ≡ []) }
     {
@@ -207,8 +204,8 @@ impl Graph {
         })
     }
 
-    /// The first walk that meets `goal`, if there is one. Returns `Memory` if allocation fails.
-    pub fn first(&self, alloc: Global, goal: Goal) -> Result<Option<Path>, GraphError>
+    /// The first walk that meets `goal`, if there is one.
+    pub fn first(&self, alloc: Global, goal: Goal) -> Result<Option<Path>, AllocError>
         ensures { IfOk result (λ walk. walk ≡ slice_get (meeting goal (walks self.now)) 0) }
     {
         let mut walks = self.walks(alloc, goal)?;

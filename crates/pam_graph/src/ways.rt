@@ -10,11 +10,10 @@ ghost use Rattle.pam_graph.specs.inner.Accounts.{Accounts, AreCounts, deciders};
 ghost use Rattle.pam_graph.specs.inner.Within.{AreWithin, IsWithin};
 ghost use Rattle.pam_paths.specs.Paths.{PathValue};
 
-use crate::error::GraphError;
 use crate::node::{Edge, Node, Target};
 use crate::tally::plus;
 use pam_codes::CODES;
-use std::alloc::Global;
+use std::alloc::{AllocError, Global};
 
 /// Adds `number` to the ways to `target`.
 fn come_to(
@@ -66,7 +65,7 @@ fn go_on_by(
 }
 
 /// A table of `count` numbers, which are 0.
-fn no_ways(alloc: Global, count: usize) -> Result<Vec<Option<u128>>, GraphError>
+fn no_ways(alloc: Global, count: usize) -> Result<Vec<Option<u128>>, AllocError>
     ensures { IfOk result (λ table. table.items ≡ replicate count (Some 0)) }
 {
     let mut table = Vec::with_capacity(alloc, count)?;
@@ -81,7 +80,7 @@ pub(crate) fn counts_of(
     alloc: Global,
     nodes: &[Node],
     start: &Target,
-) -> Result<Vec<Option<u128>>, GraphError>
+) -> Result<Vec<Option<u128>>, AllocError>
     requires order { AreNodes [] nodes.now }
     requires start { IsStart nodes.now start.now }
     ensures { IfOk result (λ counts. AreCounts counts.items (walks_to (walks_of nodes.now) start.now)) }

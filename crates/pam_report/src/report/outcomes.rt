@@ -19,7 +19,7 @@ use pam_conf::{Kind, Stack};
 use pam_dispatch::Program;
 use pam_graph::{Decisions, Graph, GraphError};
 use pam_paths::{Known, Path};
-use std::alloc::Global;
+use std::alloc::{AllocError, Global};
 
 /// A decision, the number of paths that end in it, and the first of these. A number of 2^128 or more is `None`.
 #[derive(Drop)]
@@ -65,7 +65,7 @@ fn push_outcome(
     decisions: &Decisions<'_>,
     decision: Code,
     found: &mut Vec<Outcome>,
-) -> Result<(), GraphError>
+) -> Result<(), AllocError>
     ensures { OnOk result (map outcome_view found.new.items ≡ map outcome_view found.old.items ++ outcome_among decisions.now decision) }
 {
     if let Some(outcome) = outcome_of(decisions, decision) {
@@ -83,7 +83,7 @@ fn code_numbered(number: usize) -> Code
 }
 
 /// Returns the outcomes of the walks of a graph.
-fn outcomes_of(alloc: Global, graph: &Graph) -> Result<Outcomes, GraphError>
+fn outcomes_of(alloc: Global, graph: &Graph) -> Result<Outcomes, AllocError>
     ensures { IfOk result (λ o. AreOutcomes o (walks graph.now)) }
 {
     let decisions = graph.decisions(alloc)?;

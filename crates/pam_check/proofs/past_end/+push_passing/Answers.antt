@@ -15,7 +15,7 @@ loop-item-preserved t c =
     let counted : c.loop-item.items_after - 1 + (index + 1) ≡ length items = omega (arith, c.loop-item.invariant.1, c.loop-item-test.true) in
     elim c.match-item.branch [
       | in-Module+in_ok-push_if_passing-in-Module w ↦ (
-        rw (w.numbers-is, w.in_ok-push_if_passing-in-Module.ensures.numbers)
+        rw (w.numbers-is, w.in_ok-push_if_passing-in-Module.ensures)
             (where-module test index (c.loop-item.items_after - 1) items c.loop-item.numbers.items c.item-item.result w.in-Module.module
             c.loop-item-test.true (sym c.item-item.is ∙ w.in-Module.is) counted
             ∙ c.loop-item.invariant.0),
@@ -23,7 +23,7 @@ loop-item-preserved t c =
       )
       | in-Sub+in_ok-push_passing-in-Sub w ↦ (
         let inner : items_of w.deref.result.now ≡ w.in-Sub.sub.inner = ap items_of w.deref.ensures.value ∙ ap (λ (s : SubList). s.inner) w.sub.view_is in
-            rw (w.numbers-is, w.in_ok-push_passing-in-Sub.ensures.numbers, inner)
+            rw (w.numbers-is, w.in_ok-push_passing-in-Sub.ensures, inner)
             (where-sub test index items c.loop-item.numbers.items c.item-item.result w.in-Sub.sub c.loop-item-test.true
             (sym c.item-item.is ∙ w.in-Sub.is)
             ∙ c.loop-item.invariant.0),
@@ -31,8 +31,8 @@ loop-item-preserved t c =
       )
     ]
 
-pub returns-clause-numbers : goal.returns-clause-numbers
-returns-clause-numbers t c =
+pub returns : goal.returns
+returns t c =
     let test = passes (may_answer c.args.known.now) c.args.asked.now in
     sym (where-end test c.loop-item.item-index c.args.items.now c.loop-item.numbers.items c.loop-item-test.false)
     ∙ c.loop-item.invariant.0

@@ -6,11 +6,11 @@ use Rattle.pam_check.specs.inner.PastEnd.{numbers_where, passes}
 use Rattle.pam_check.proofs.Passing.{exactly-jumping}
 use Rattle.pam_check.proofs.past_end.passing.Goals as goal
 
-pub returns-clause-numbers : goal.returns-clause-numbers
-returns-clause-numbers c =
+pub returns : goal.returns
+returns c =
     let allows = may_answer c.args.known.now in
     let test = passes allows c.args.asked.now in
     exactly-jumping allows c.args.stack.now c.args.asked.now c.requires c.items.ensures.numbered c.push_passing.new.numbers.items
-    (c.in_ok-push_passing.ensures.numbers
+    (c.in_ok-push_passing.ensures
     ∙ ap (λ (x : List ℕ). x ++ numbers_where test (items_of c.items.result.now)) c.new-numbers.ensures.items
     ∙ ap (λ (x : Items). numbers_where test x) c.items.ensures.items)

@@ -13,4 +13,4 @@ returns-clause-way c items of =
     let graph = c.in_ok-graph.graph in
     says-way allows items (walks graph)
     (listing-of allows c.args.program.now items of graph.nodes graph.start (c.in_ok-graph.ensures.stack items of.runs))
-    c.in-Ok.way (c.in-Ok.ensures ∙ ap (λ (g : Goal). slice_get (meeting g (walks graph)) 0) c.success.ensures)
+    c.in_ok-first.field-0 (c.in_ok-first.ensures ∙ ap (λ (g : Goal). slice_get (meeting g (walks graph)) 0) c.success.ensures)

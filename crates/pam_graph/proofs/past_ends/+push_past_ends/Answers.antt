@@ -31,7 +31,7 @@ loop-item-preserved g t c =
       | in-Sub+in_ok-push_past_ends-in-Sub w ↦ (
         let inner : items_of w.deref.result.now ≡ w.in-Sub.sub.inner = ap items_of w.deref.ensures.value ∙ ap (λ (s : SubList). s.inner) w.sub.view_is in
             ap (λ v. v.items ++ more) w.codes-is
-            ∙ ap (λ (x : List (List ℕ)). x ++ more) (w.in_ok-push_past_ends-in-Sub.ensures.codes ∙ ap (λ (x : Items). found ++ past_ends allows x) inner)
+            ∙ ap (λ (x : List (List ℕ)). x ++ more) (w.in_ok-push_past_ends-in-Sub.ensures ∙ ap (λ (x : Items). found ++ past_ends allows x) inner)
             ∙ past-sub allows index items found c.item-item.result w.in-Sub.sub c.loop-item-test.true (sym c.item-item.is ∙ w.in-Sub.is)
             ∙ c.loop-item.invariant.0,
         counted,
@@ -41,8 +41,8 @@ loop-item-preserved g t c =
     codes_of : Module → List ℕ → ℕ → List ℕ
     codes_of m allowed after = codes_where (λ code. is_in code allowed && is_past_end after (action_of (module_text m).control code))
 
-pub returns-clause-codes : goal.returns-clause-codes
-returns-clause-codes g t c =
+pub returns : goal.returns
+returns g t c =
     let allows = g.K.Knowledge.allows c.args.knowledge.now in
     sym (past-end allows c.loop-item.item-index c.args.items.now c.loop-item.codes.items c.loop-item-test.false)
     ∙ c.loop-item.invariant.0

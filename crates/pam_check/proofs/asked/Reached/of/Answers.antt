@@ -16,7 +16,7 @@ returns-clause-nobody c items of =
     let program = c.args.program.now in
     let graph = c.in_ok-graph.graph in
     says-nobody allows items (walks graph) (listing-of allows program items of graph.nodes graph.start (c.in_ok-graph.ensures.stack items of.runs))
-    c.in-Ok.lets_in (c.in-Ok.ensures ∙ ap (λ (g : Goal). list_any (meets g) (walks graph)) c.success.ensures)
+    c.in_ok-lets_in.lets_in (c.in_ok-lets_in.ensures ∙ ap (λ (g : Goal). list_any (meets g) (walks graph)) c.success.ensures)
 
 pub returns-clause-asked : goal.returns-clause-asked
 returns-clause-asked c items of number from =

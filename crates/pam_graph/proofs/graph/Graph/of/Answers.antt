@@ -1,8 +1,7 @@
-use Rattle.std.proofs.Common.{◌∙◌, [], List, ap, arith, length, subst, sym}
+use Rattle.std.proofs.Common.{◌∙◌, [], ap, arith, subst, sym}
 use Rattle.pam_dispatch.specs.Flat.{modules_of, runs_of}
-use Rattle.pam_dispatch.specs.Keys.{KeyValue}
-use Rattle.pam_graph.specs.Reached.{AreAllowed, AreReachedKeys, after_answers}
-use Rattle.pam_graph.proofs.Growing.{built-empty}
+use Rattle.pam_graph.specs.declared.graph.TheConstants.{MAX_NODES}
+use Rattle.pam_graph.specs.Reached.{AreAllowed, after_answers}
 use Rattle.pam_graph.proofs.Placing.{built-at}
 use Rattle.pam_paths.specs.Computed.{listing}
 use Rattle.pam_paths.specs.Listing.{IsListing}
@@ -12,16 +11,7 @@ use Rattle.pam_paths.proofs.Trees.{listing-tree}
 use Rattle.pam_graph.proofs.graph.Graph.of.Goals as goal
 
 pub target_of-requires-clause-draft : goal.target_of-requires-clause-draft
-unfolding AreReachedKeys
-target_of-requires-clause-draft g c =
-    let allows = g.K.Knowledge.allows c.args.knowledge.now in
-    let program = c.args.program.now in
-    record {
-      built = built-empty _ program _ _ c.new.ensures.items c.new-2.ensures;
-      cached = c.in_ok-new_caches.ensures allows program;
-      keys = subst (AreReachedKeys allows program) (sym c.new-2.ensures) tt;
-      fits = omega (arith, ap (λ (x : List KeyValue). length x) c.new-2.ensures);
-    }
+target_of-requires-clause-draft g c = c.in_ok-draft.ensures MAX_NODES (g.K.Knowledge.allows c.args.knowledge.now) c.args.program.now
 
 pub returns-clause-listing : goal.returns-clause-listing
 returns-clause-listing g c =
