@@ -15,7 +15,8 @@ use Rattle.pam_compare.specs.declared.witness.Witness.{Witness}
 use Rattle.pam_compare.specs.Changes.{change_of}
 use Rattle.pam_compare.specs.Comparison.{IsShown, IsWitness, NeverChanges, decision_in}
 use Rattle.pam_compare.specs.Agreement.{Agree}
-use Rattle.pam_compare.specs.inner.Naming.{AreNames, IsKnown, IsPossible, by_name, name_of}
+use Rattle.pam_compare.specs.Names.{AreNames, by_name, name_of}
+use Rattle.pam_compare.specs.inner.Naming.{IsKnown, IsPossible}
 use Rattle.pam_compare.specs.inner.Nodes.{IsNoted, IsSearched}
 
 -- a run looks at the answers of its modules alone

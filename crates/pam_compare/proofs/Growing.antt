@@ -23,7 +23,8 @@ use Rattle.pam_compare.specs.declared.held_lists.Link.{Link}
 use Rattle.pam_compare.specs.declared.situation.Situation.{Situation}
 use Rattle.pam_compare.specs.Held.{Holds}
 use Rattle.pam_compare.specs.inner.HeldLists.{AreLinks, IsListed}
-use Rattle.pam_compare.specs.inner.Nodes.{AreHeldAt, AreNodes, ArePlaces, IsAt, IsDone, IsLeftAt, IsMet, IsNew, IsNoted, IsStored, IsVisited, Keeps, KeepsNodes}
+use Rattle.pam_compare.specs.inner.Nodes.{AreEndsOf, AreHeldAt, AreNodes, ArePlaces, IsAt, IsDone, IsLeftAt, IsMet}
+use Rattle.pam_compare.specs.inner.Nodes.{IsNew, IsNoted, IsStored, IsVisited, Keeps, KeepsNodes}
 use Rattle.pam_compare.specs.inner.Nodes.{Stop, list_of}
 use Rattle.pam_compare.proofs.Lists.{listed-kept}
 
@@ -245,13 +246,16 @@ pushed-cases keys after value e p k s at =
 -- situations stay nodes where their places and lists are kept
 pub tables-grown : (old new : List FlatItem) (before after : Nodes) → KeepsNodes before after → after.situations.keys ≡ before.situations.keys →
     ArePlaces old after.old_places.places.items after.old_places.keys → ArePlaces new after.new_places.places.items after.new_places.keys →
+    AreEndsOf old after.old_places.places.items after.old_places.ends.items → AreEndsOf new after.new_places.places.items after.new_places.ends.items →
     AreLinks after.held_lists.links.keys → AreNodes old new before → AreNodes old new after
-tables-grown old new before after keeps same is_old is_new links are =
+tables-grown old new before after keeps same is_old is_new old_ends new_ends links are =
     let was : (k : ℕ) (s : Situation) → slice_get after.situations.keys k ≡ Some s → slice_get before.situations.keys k ≡ Some s =
     λ k s at. sym (ap (λ (l : List Situation). slice_get l k) same) ∙ at in
     record {
       of_old = is_old;
       of_new = is_new;
+      old_ends = old_ends;
+      new_ends = new_ends;
       links = links;
       within = λ k s at. let w = are.within k s (was k s at) in (longer _ _ s.old keeps.of_old w.0, longer _ _ s.new keeps.of_new w.1);
       listed = λ k s at. let w = are.listed k s (was k s at) in (w.0, listed-kept _ _ s.held w.0 keeps.held_lists w.1);
@@ -287,6 +291,8 @@ module _ (old new : List FlatItem) (before after : Nodes) (situation : Situation
       record {
         of_old = subst (λ (x : Places). ArePlaces old x.places.items x.keys) (sym of_old) are.of_old;
         of_new = subst (λ (x : Places). ArePlaces new x.places.items x.keys) (sym of_new) are.of_new;
+        old_ends = subst (λ (x : Places). AreEndsOf old x.places.items x.ends.items) (sym of_old) are.old_ends;
+        new_ends = subst (λ (x : Places). AreEndsOf new x.places.items x.ends.items) (sym of_new) are.new_ends;
         links = subst (λ (x : HeldLists). AreLinks x.links.keys) (sym lists) are.links;
         within = λ k s at. elim (only k s at) [
           | inl was ↦ subst (λ x. Within s x after.new_places) (sym of_old) (subst (Within s before.old_places) (sym of_new) (are.within k s was))

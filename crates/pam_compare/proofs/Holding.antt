@@ -69,6 +69,10 @@ or-cases : (s t : Bool) → (s || t) ≡ true → (s ≡ true) ⊎ (t ≡ true)
 or-cases true t h = inl refl
 or-cases false t h = inr h
 
+pub or-first : (s t : Bool) → s ≡ true → (s || t) ≡ true
+or-first true t e = refl
+or-first false t e = absurd (false≢true e)
+
 pub or-right : (s t : Bool) → t ≡ true → (s || t) ≡ true
 or-right true t e = refl
 or-right false t e = e

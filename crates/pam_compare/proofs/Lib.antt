@@ -1,5 +1,10 @@
 pub mod Agreeing
+pub mod Ahead
+pub mod Allowed
+pub mod Classes
 pub mod Coming
+pub mod Ends
+pub mod Few
 pub mod Fewer
 pub mod Growing
 pub mod Holding
@@ -8,12 +13,16 @@ pub mod Many
 pub mod Matched
 pub mod Meeting
 pub mod Names
+pub mod Once
 pub mod Passing
+pub mod Placing
 pub mod Possible
 pub mod Ranges
 pub mod Reaching
 pub mod Sameness
 pub mod Standing
+pub mod Stepping
 pub mod Trails
+pub mod Walking
 pub mod Witnessing
 pub mod Writing

@@ -14,9 +14,11 @@ use Rattle.pam_compare.specs.declared.turn.Turn.{Turn}
 use Rattle.pam_compare.specs.declared.turn.Turn.TheVariants.{Old, New, Both}
 use Rattle.pam_compare.specs.Changes.{change_of}
 use Rattle.pam_compare.specs.Comparison.{decision_in}
-use Rattle.pam_compare.specs.inner.Naming.{IsPossible, by_name, name_of}
+use Rattle.pam_compare.specs.Names.{by_name, name_of}
+use Rattle.pam_compare.specs.inner.Naming.{IsPossible}
 use Rattle.pam_compare.specs.inner.Nodes.{IsAt, IsBegun, IsDecided, IsDone, IsMet, IsNoted, IsSearched, IsVisited, Stop}
-use Rattle.pam_compare.specs.inner.Turn.{IsTurn, new_after, old_after, turn_name}
+use Rattle.pam_compare.specs.Walks.{new_after, old_after, turn_name}
+use Rattle.pam_compare.specs.inner.Turn.{IsTurn}
 use Rattle.pam_compare.proofs.Growing.{same-some}
 use Rattle.pam_compare.proofs.Holding.{holds-equal}
 use Rattle.pam_compare.proofs.Lists.{one-listed}

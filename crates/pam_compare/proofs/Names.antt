@@ -5,7 +5,7 @@ use Rattle.pam_codes.specs.inner.SetBits.{is_in-codes_where}
 use Rattle.pam_paths.specs.Listing.{Allowance}
 use Rattle.pam_compare.specs.Agreement.{AreTied, HaveCommonCode}
 use Rattle.pam_compare.specs.Matching.{partner_of}
-use Rattle.pam_compare.specs.inner.Naming.{IsName}
+use Rattle.pam_compare.specs.Names.{IsName}
 
 -- a code in both sets is one that passes both tests
 pub common-passes : (p q : ℕ → Bool) (s t : List ℕ) → s ≡ codes_where p → t ≡ codes_where q →

@@ -18,11 +18,13 @@ use Rattle.pam_compare.specs.declared.situation.Situation.{Situation}
 use Rattle.pam_compare.specs.declared.turn.Turn.{Turn}
 use Rattle.pam_compare.specs.declared.turn.Turn.TheVariants.{Old, New, Both}
 use Rattle.pam_compare.specs.Held.{Holds}
-use Rattle.pam_compare.specs.inner.Naming.{IsPossible, by_name, name_of}
+use Rattle.pam_compare.specs.Names.{by_name, name_of}
+use Rattle.pam_compare.specs.inner.Naming.{IsPossible}
 use Rattle.pam_compare.specs.inner.Nodes.{IsAt, Keeps, KeepsNodes, Stop}
 use Rattle.pam_compare.specs.Situations.{Comes, after_steps}
 use Rattle.pam_compare.specs.inner.Trails.{Follows, IsCovered, IsHeldAfter, IsPast, IsStep, IsTrail, answers_on}
-use Rattle.pam_compare.specs.inner.Turn.{AreAlike, IsTurn, new_after, old_after, turn_name}
+use Rattle.pam_compare.specs.Walks.{new_after, old_after, turn_name}
+use Rattle.pam_compare.specs.inner.Turn.{AreAlike, IsTurn}
 use Rattle.pam_compare.specs.inner.Ways.{AreEnds, IsFit, IsReachedAt, IsWayTo}
 use Rattle.pam_compare.proofs.Coming.{comes-on}
 use Rattle.pam_compare.proofs.Growing.{at-kept, kept}
@@ -120,7 +122,7 @@ module _ (old new : List FlatItem) (names : List ℕ) (left right : Runs) (old_l
   old-rises (New j) code is = (old_low, old_rise)
   old-rises (Both i j) code is = (i, (AsksRise-step old_low (modules_of old) left i old_rise is.0).2 code)
 
-  new-rises : (turn : Turn) (code : ℕ) → IsTurn names (asked_module left) (asked_module right) turn →
+  pub new-rises : (turn : Turn) (code : ℕ) → IsTurn names (asked_module left) (asked_module right) turn →
       (low : ℕ) × AsksRise low (modules_of new) (new_after turn right code)
   new-rises (Old i) code is = (new_low, new_rise)
   new-rises (New j) code is = (j, (AsksRise-step new_low (modules_of new) right j new_rise is).2 code)

@@ -13,7 +13,8 @@ use Rattle.pam_compare.specs.declared.witness.Witness.{Witness}
 use Rattle.pam_compare.specs.Agreement.{Agree}
 use Rattle.pam_compare.specs.Changes.{change_of}
 use Rattle.pam_compare.specs.Comparison.{IsWitness, decision_in}
-use Rattle.pam_compare.specs.inner.Naming.{AreNames, IsKnown, IsPossible, by_name}
+use Rattle.pam_compare.specs.Names.{AreNames, by_name}
+use Rattle.pam_compare.specs.inner.Naming.{IsKnown, IsPossible}
 use Rattle.pam_compare.specs.inner.Trails.{AreAnswers}
 use Rattle.pam_compare.specs.Situations.{Comes}
 use Rattle.pam_compare.proofs.Agreeing.{same-final}

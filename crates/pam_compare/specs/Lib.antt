@@ -2,6 +2,9 @@ pub mod Agreement
 pub mod Changes
 pub mod Comparison
 pub mod Held
+pub mod Laws
 pub mod Matching
+pub mod Names
 pub mod Situations
+pub mod Walks
 pub mod inner

@@ -1,6 +1,6 @@
 //! The comparison.
 
-ghost use Rattle.std.specs.Prelude.{◌≡◌, ◌<◌, ◌≤◌, ℕ, IfNone, IfOk, IfSome, IsTrue, List, None, OnOk, Option, Some, length, slice_get};
+ghost use Rattle.std.specs.Prelude.{◌≡◌, ◌+◌, ◌<◌, ◌≤◌, ℕ, IfNone, IfOk, IfSome, IsTrue, List, None, OnOk, Option, Some, length, slice_get};
 ghost use Rattle.pam_dispatch.specs.Flat.{IsPlaceOf, modules_of, rest_of, runs_of};
 ghost use Rattle.pam_dispatch.specs.Runs.{Assignment, asked_module};
 ghost use Rattle.pam_compare.specs.declared.change.Change.{Change};
@@ -10,8 +10,9 @@ ghost use Rattle.pam_compare.specs.Comparison.{AreChanges, IsComparison, decisio
 ghost use Rattle.pam_compare.specs.inner.Naming.{IsPossible, by_code};
 ghost use Rattle.pam_paths.specs.Listing.{Allowance};
 ghost use Rattle.pam_compare.specs.inner.Nodes.{AreNodes, IsBegun, IsNoted, IsSearched, IsVisited, KeepsNodes};
-ghost use Rattle.pam_compare.specs.inner.Turn.{IsTurn};
-ghost use Rattle.pam_compare.specs.inner.Ways.{AreEnds, AreReached, IsNaming, IsNamingFor};
+ghost use Rattle.pam_compare.specs.Walks.{turn_of};
+ghost use Rattle.pam_compare.specs.inner.Turn.{IsTurn, first_of};
+ghost use Rattle.pam_compare.specs.inner.Ways.{AreEnds, AreOrdered, AreReached, AreUnique, AreWalked, IsNaming, IsNamingFor};
 
 use crate::change::Change;
 use crate::expanding::{Fork, expand};
@@ -52,6 +53,8 @@ fn turn_at(pair: &Pair<'_>, node: &Node) -> Option<Turn>
     requires new { IsPlaceOf pair.now.new.now node.now.new }
     ensures turn { IfSome result (λ turn. IsTurn pair.now.naming.now.names.items (asked_module (rest_of pair.now.old.now node.now.old))
         (asked_module (rest_of pair.now.new.now node.now.new)) turn) }
+    ensures order { result ≡ turn_of pair.now.naming.now.names.items (first_of pair.now.naming.now.ranks) (asked_module (rest_of pair.now.old.now node.now.old))
+        (asked_module (rest_of pair.now.new.now node.now.new)) }
     ensures old { IfNone result (asked_module (rest_of pair.now.old.now node.now.old) ≡ None) }
     ensures new { IfNone result (asked_module (rest_of pair.now.new.now node.now.new) ≡ None) }
 {
@@ -85,10 +88,14 @@ fn visit(
     requires nodes { AreNodes pair.now.old.now pair.now.new.now nodes.old }
     requires naming { IsNaming pair.now.old.now pair.now.new.now pair.now.naming.now }
     requires reached { AreReached pair.now.old.now pair.now.new.now pair.now.naming.now.names.items pair.now.naming.now.possible.items nodes.old }
+    requires walked { AreWalked pair.now.old.now pair.now.new.now pair.now.naming.now nodes.old }
+    requires ordered { AreOrdered nodes.old.ways.items index }
     requires ends { AreEnds pair.now.old.now pair.now.new.now nodes.old found.old }
     ensures keeps { OnOk result (KeepsNodes nodes.old nodes.new) }
     ensures nodes { OnOk result (AreNodes pair.now.old.now pair.now.new.now nodes.new) }
     ensures reached { OnOk result (AreReached pair.now.old.now pair.now.new.now pair.now.naming.now.names.items pair.now.naming.now.possible.items nodes.new) }
+    ensures walked { OnOk result (AreWalked pair.now.old.now pair.now.new.now pair.now.naming.now nodes.new) }
+    ensures ordered { OnOk result (AreOrdered nodes.new.ways.items (index + 1)) }
     ensures ends { OnOk result (AreEnds pair.now.old.now pair.now.new.now nodes.new found.new) }
     ensures found { (c : Option Change) → IsNoted found.old c → IsNoted found.new c }
     ensures visited { (s : Situation) → slice_get nodes.old.situations.keys index ≡ Some s
@@ -120,6 +127,8 @@ fn begin(alloc: Global, pair: &Pair<'_>) -> Result<Nodes, Memory>
     ensures nodes { IfOk result (λ nodes. AreNodes pair.now.old.now pair.now.new.now nodes) }
     ensures reached { IfOk result (λ nodes.
         AreReached pair.now.old.now pair.now.new.now pair.now.naming.now.names.items pair.now.naming.now.possible.items nodes) }
+    ensures ordered { IfOk result (λ nodes. AreOrdered nodes.ways.items 0) }
+    ensures walked { IfOk result (λ nodes. AreWalked pair.now.old.now pair.now.new.now pair.now.naming.now nodes) }
     ensures begun { IfOk result (λ nodes. IsBegun pair.now.old.now pair.now.new.now nodes) }
 {
     let mut nodes = Nodes::new(alloc);
@@ -145,6 +154,8 @@ fn search(alloc: Global, pair: &Pair<'_>, limit: usize) -> Result<Searched, Memo
     ensures nodes { IfOk result (λ s. AreNodes pair.now.old.now pair.now.new.now s.nodes) }
     ensures reached { IfOk result (λ s.
         AreReached pair.now.old.now pair.now.new.now pair.now.naming.now.names.items pair.now.naming.now.possible.items s.nodes) }
+    ensures unique { IfOk result (λ s. AreUnique s.nodes.ways.items) }
+    ensures walked { IfOk result (λ s. AreWalked pair.now.old.now pair.now.new.now pair.now.naming.now s.nodes) }
     ensures ends { IfOk result (λ s. AreEnds pair.now.old.now pair.now.new.now s.nodes s.found) }
     ensures all { IfOk result (λ s. length s.nodes.situations.keys ≤ limit
         → IsSearched pair.now.old.now pair.now.new.now pair.now.naming.now.names.items pair.now.naming.now.possible.items s.found) }

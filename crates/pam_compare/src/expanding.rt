@@ -1,6 +1,6 @@
 //! The nodes that follow one.
 
-ghost use Rattle.std.specs.Prelude.{◌≡◌, ◌<◌, ℕ, IfNone, IfOk, IfSome, IsTrue, None, OnOk, Some, length, slice_get, slice_index_or};
+ghost use Rattle.std.specs.Prelude.{◌≡◌, ◌+◌, ◌<◌, ℕ, IfNone, IfOk, IfSome, IsTrue, None, OnOk, Some, length, slice_get, slice_index_or};
 ghost use Rattle.pam_codes.specs.Code.{all_codes};
 ghost use Rattle.pam_codes.specs.Set.{is_in};
 ghost use Rattle.pam_dispatch.specs.Flat.{IsPlaceOf, rest_of};
@@ -10,8 +10,9 @@ ghost use Rattle.pam_compare.specs.Held.{Holds};
 ghost use Rattle.pam_compare.specs.inner.Naming.{IsPossible};
 ghost use Rattle.pam_compare.specs.inner.Nodes.{AreHeldAt, AreNodes, IsFollowed, IsMet, KeepsNodes};
 ghost use Rattle.pam_compare.specs.inner.Trails.{IsStep};
-ghost use Rattle.pam_compare.specs.inner.Turn.{IsTurn, old_after, new_after, turn_name};
-ghost use Rattle.pam_compare.specs.inner.Ways.{AreReached, IsNaming, IsWayTo};
+ghost use Rattle.pam_compare.specs.Walks.{IsClass, IsLeft, old_after, new_after, turn_name, turn_of};
+ghost use Rattle.pam_compare.specs.inner.Turn.{IsTurn, first_of};
+ghost use Rattle.pam_compare.specs.inner.Ways.{AreOrdered, AreReached, AreUnique, AreWalked, HasOneMore, IsFresh, IsNaming, IsWalkTo, IsWayTo};
 
 use crate::held::{HeldAnswer, Step, held_after, held_codes};
 use crate::naming::{common, possible_at};
@@ -50,7 +51,20 @@ fn follow(
     requires held { AreHeldAt nodes.old way.parent fork.now.node.now.held.items }
     requires step { IsStep pair.now.naming.now.names.items pair.now.naming.now.possible.items (rest_of pair.now.old.now fork.now.node.now.old)
         (rest_of pair.now.new.now fork.now.node.now.new) fork.now.node.now.held.items fork.now.turn way }
+    requires walked { AreWalked pair.now.old.now pair.now.new.now pair.now.naming.now nodes.old }
+    requires walk { IsWalkTo pair.now.old.now pair.now.new.now pair.now.naming.now nodes.old.ways.items way.parent
+        (rest_of pair.now.old.now fork.now.node.now.old) (rest_of pair.now.new.now fork.now.node.now.new) fork.now.node.now.held.items }
+    requires order { turn_of pair.now.naming.now.names.items (first_of pair.now.naming.now.ranks)
+        (asked_module (rest_of pair.now.old.now fork.now.node.now.old)) (asked_module (rest_of pair.now.new.now fork.now.node.now.new)) ≡ Some fork.now.turn }
+    requires unique { AreUnique nodes.old.ways.items }
+    requires fresh { IsFresh nodes.old.ways.items way.parent way.class }
+    requires class { IsClass pair.now.naming.now.names.items pair.now.naming.now.possible.items
+        (rest_of pair.now.old.now fork.now.node.now.old) (rest_of pair.now.new.now fork.now.node.now.new)
+        fork.now.node.now.held.items fork.now.turn way.code way.class }
     ensures keeps { OnOk result (KeepsNodes nodes.old nodes.new) }
+    ensures unique { OnOk result (AreUnique nodes.new.ways.items) }
+    ensures more { OnOk result (HasOneMore nodes.old.ways.items nodes.new.ways.items way) }
+    ensures walked { OnOk result (AreWalked pair.now.old.now pair.now.new.now pair.now.naming.now nodes.new) }
     ensures nodes { OnOk result (AreNodes pair.now.old.now pair.now.new.now nodes.new) }
     ensures reached { OnOk result (AreReached pair.now.old.now pair.now.new.now pair.now.naming.now.names.items pair.now.naming.now.possible.items nodes.new) }
     ensures met { (a : Assignment) → ((name : ℕ) → a name < 31) → Holds a fork.now.node.now.held.items
@@ -82,6 +96,9 @@ fn codes_at(pair: &Pair<'_>, fork: &Fork<'_>) -> CodeSet
         → IsTrue (is_in c (slice_index_or pair.now.naming.now.possible.items (turn_name pair.now.naming.now.names.items fork.now.turn) all_codes)) }
     ensures left { (i : ℕ) (h : HeldAnswer) → slice_get fork.now.node.now.held.items i ≡ Some h
         → h.name ≡ turn_name pair.now.naming.now.names.items fork.now.turn → (c : ℕ) → IsTrue (is_in c result) → IsTrue (is_in c h.codes) }
+    ensures all { (c : ℕ) → c < 31
+        → IsTrue (is_in c (slice_index_or pair.now.naming.now.possible.items (turn_name pair.now.naming.now.names.items fork.now.turn) all_codes))
+        → IsLeft fork.now.node.now.held.items (turn_name pair.now.naming.now.names.items fork.now.turn) c → IsTrue (is_in c result) }
 {
     let name = turn_name(pair.naming, fork.turn);
     held_codes(
@@ -109,7 +126,15 @@ pub(crate) fn expand(
     requires way { IsWayTo pair.now.old.now pair.now.new.now pair.now.naming.now.names.items pair.now.naming.now.possible.items nodes.old.ways.items
         fork.now.index (rest_of pair.now.old.now fork.now.node.now.old) (rest_of pair.now.new.now fork.now.node.now.new) fork.now.node.now.held.items }
     requires held { AreHeldAt nodes.old fork.now.index fork.now.node.now.held.items }
+    requires walked { AreWalked pair.now.old.now pair.now.new.now pair.now.naming.now nodes.old }
+    requires ordered { AreOrdered nodes.old.ways.items fork.now.index }
+    requires walk { IsWalkTo pair.now.old.now pair.now.new.now pair.now.naming.now nodes.old.ways.items fork.now.index
+        (rest_of pair.now.old.now fork.now.node.now.old) (rest_of pair.now.new.now fork.now.node.now.new) fork.now.node.now.held.items }
+    requires order { turn_of pair.now.naming.now.names.items (first_of pair.now.naming.now.ranks)
+        (asked_module (rest_of pair.now.old.now fork.now.node.now.old)) (asked_module (rest_of pair.now.new.now fork.now.node.now.new)) ≡ Some fork.now.turn }
     ensures keeps { OnOk result (KeepsNodes nodes.old nodes.new) }
+    ensures ordered { OnOk result (AreOrdered nodes.new.ways.items (fork.now.index + 1)) }
+    ensures walked { OnOk result (AreWalked pair.now.old.now pair.now.new.now pair.now.naming.now nodes.new) }
     ensures nodes { OnOk result (AreNodes pair.now.old.now pair.now.new.now nodes.new) }
     ensures reached { OnOk result (AreReached pair.now.old.now pair.now.new.now pair.now.naming.now.names.items pair.now.naming.now.possible.items nodes.new) }
     ensures done { (a : Assignment) → IsPossible pair.now.naming.now.possible.items a → Holds a fork.now.node.now.held.items

@@ -1,13 +1,16 @@
 //! Answers that one stack has had from modules which the other stack has still ahead.
 
-ghost use Rattle.std.specs.Prelude.{◌≡◌, ◌⊎◌, ◌+◌, ◌<◌, ◌≤◌, [], ℕ, false, true, IfOk, IsTrue, OnOk, Some, length, slice_get};
+ghost use Rattle.std.specs.Prelude.{◌≡◌, ◌≢◌, ◌⊎◌, ◌+◌, ◌<◌, ◌≤◌, ◌&&◌, ◌∷◌, ◌++◌, [], ℕ};
+ghost use Rattle.std.specs.Prelude.{false, true, if◌then◌else◌, IfOk, IsTrue, OnOk, Option, Some, length, slice_get};
 ghost use Rattle.pam_codes.specs.Set.{is_in};
 ghost use Rattle.pam_codes.specs.inner.SetBits.{bits_of_codes};
 ghost use Rattle.pam_dispatch.specs.Runs.{Assignment};
 ghost use Rattle.pam_compare.specs.declared.held.HeldAnswer.{HeldAnswer};
 ghost use Rattle.pam_compare.specs.Held.{Holds};
-ghost use Rattle.pam_compare.specs.inner.Held.{held_in, least_of_bits};
+ghost use Rattle.pam_compare.specs.inner.Held.{AreTables, IsNumber, IsStepFrom, held_in, is_wanted, least_of_bits};
+ghost use Rattle.pam_compare.specs.Walks.{IsLeft, held_after, is_ahead, may_ask, tells};
 ghost use Rattle.pam_compare.specs.inner.Naming.{AreLast};
+ghost use Rattle.pam_compare.specs.inner.Turn.{PassesNoOther};
 ghost use Rattle.pam_compare.specs.inner.Nodes.{Keeps};
 ghost use Rattle.pam_compare.specs.inner.Trails.{AreAll, IsHeldAfter, IsPast, IsSettled};
 
@@ -44,7 +47,6 @@ fn least_number(codes: CodeSet) -> u8
 }
 
 impl Hash for HeldAnswer {
-    ghost use Rattle.std.specs.Prelude.{◌++◌};
     ghost use Rattle.std.specs.Cmp.Rules.{hashing};
     ghost use Rattle.std.specs.Hash as fed;
     ghost use Rattle.std.proofs.Common.{rules};
@@ -76,6 +78,7 @@ pub(crate) fn held_codes(held: &[HeldAnswer], name: usize, codes: CodeSet) -> Co
     ensures kept { (a : Assignment) → a name < 31 → Holds a held.now → IsTrue (is_in (a name) codes) → IsTrue (is_in (a name) result) }
     ensures within { (c : ℕ) → IsTrue (is_in c result) → IsTrue (is_in c codes) }
     ensures left { (i : ℕ) (h : HeldAnswer) → slice_get held.now i ≡ Some h → h.name ≡ name → (c : ℕ) → IsTrue (is_in c result) → IsTrue (is_in c h.codes) }
+    ensures all { (c : ℕ) → c < 31 → IsTrue (is_in c codes) → IsLeft held.now name c → IsTrue (is_in c result) }
 {
     let mut left = codes;
     for index in 0..held.len() {
@@ -86,7 +89,8 @@ pub(crate) fn held_codes(held: &[HeldAnswer], name: usize, codes: CodeSet) -> Co
 
 /// Whether a stack that asks the module `next` can still ask the module with this number.
 fn may_ask(next: Option<usize>, number: usize) -> bool
-    ensures { result ≡ false → (i : ℕ) → next ≡ Some i → number < i }
+    ensures past { result ≡ false → (i : ℕ) → next ≡ Some i → number < i }
+    ensures exact { result ≡ may_ask next number }
 {
     match next {
         Some(next) => next <= number,
@@ -96,8 +100,10 @@ fn may_ask(next: Option<usize>, number: usize) -> bool
 
 /// Whether one of the stacks, which ask these modules next, has the module with this name still ahead.
 fn is_ahead(naming: &Naming, name: usize, old: Option<usize>, new: Option<usize>) -> bool
-    ensures { (modules : ℕ) → length naming.now.names.items ≡ modules + 1 → AreLast naming.now.names.items naming.now.last.items
+    ensures past { (modules : ℕ) → length naming.now.names.items ≡ modules + 1 → AreLast naming.now.names.items naming.now.last.items
         → result ≡ false → IsPast naming.now.names.items naming.now.old_modules modules name old new }
+    ensures exact { (modules : ℕ) → AreTables naming.now modules → IsNumber new
+        → result ≡ is_ahead naming.now.names.items naming.now.old_modules modules name old new }
 {
     if name <= naming.old_modules && may_ask(old, name) {
         return true;
@@ -107,7 +113,8 @@ fn is_ahead(naming: &Naming, name: usize, old: Option<usize>, new: Option<usize>
 
 /// Whether these codes leave out one that the module with this name may answer.
 fn tells(naming: &Naming, name: usize, codes: CodeSet) -> bool
-    ensures { result ≡ false → AreAll naming.now.possible.items name codes }
+    ensures all { result ≡ false → AreAll naming.now.possible.items name codes }
+    ensures exact { result ≡ tells naming.now.possible.items (record { name = name; codes = codes }) }
 {
     let possible = possible_at(&naming.possible, name);
     !possible.without(codes).is_empty()
@@ -122,8 +129,11 @@ fn is_needed(
     old: Option<usize>,
     new: Option<usize>,
 ) -> bool
-    ensures { (modules : ℕ) → length naming.now.names.items ≡ modules + 1 → AreLast naming.now.names.items naming.now.last.items → result ≡ false
+    ensures settled { (modules : ℕ) → length naming.now.names.items ≡ modules + 1 → AreLast naming.now.names.items naming.now.last.items → result ≡ false
         → IsSettled naming.now.possible.items naming.now.names.items naming.now.old_modules modules name codes old new }
+    ensures exact { (modules : ℕ) → AreTables naming.now modules → IsNumber new
+        → result ≡ (tells naming.now.possible.items (record { name = name; codes = codes })
+        && is_ahead naming.now.names.items naming.now.old_modules modules name old new) }
 {
     if !tells(naming, name, codes) {
         return false;
@@ -139,8 +149,10 @@ fn is_wanted(
     old: Option<usize>,
     new: Option<usize>,
 ) -> bool
-    ensures { (modules : ℕ) → length naming.now.names.items ≡ modules + 1 → AreLast naming.now.names.items naming.now.last.items
+    ensures past { (modules : ℕ) → length naming.now.names.items ≡ modules + 1 → AreLast naming.now.names.items naming.now.last.items
         → result ≡ false → (name ≡ answered) ⊎ IsPast naming.now.names.items naming.now.old_modules modules name old new }
+    ensures exact { (modules : ℕ) → AreTables naming.now modules → IsNumber new
+        → result ≡ is_wanted naming.now.names.items naming.now.old_modules modules answered old new name }
 {
     if name == answered {
         return false;
@@ -153,6 +165,7 @@ fn push_if(is_wanted: bool, answer: HeldAnswer, held: &mut Vec<HeldAnswer>) -> R
     ensures holds { (a : Assignment) → Holds a held.old.items → IsTrue (is_in (a answer.name) answer.codes) → OnOk result (Holds a held.new.items) }
     ensures keeps { OnOk result (Keeps held.old.items held.new.items) }
     ensures pushed { is_wanted ≡ true → OnOk result ((k : ℕ) × (slice_get held.new.items k ≡ Some answer)) }
+    ensures exact { OnOk result (held.new.items ≡ held.old.items ++ (if is_wanted then answer ∷ [] else [])) }
 {
     if !is_wanted {
         return Ok(());
@@ -180,7 +193,9 @@ pub(crate) struct Step {
 }
 
 /// Whether a stack asks the module after this one next.
-fn goes_on(number: usize, next: Option<usize>) -> bool {
+fn goes_on(number: usize, next: Option<usize>) -> bool
+    ensures { IsTrue result → next ≡ Some (number + 1) }
+{
     match next {
         Some(next) => number < next && next - number == 1,
         None => false,
@@ -189,7 +204,9 @@ fn goes_on(number: usize, next: Option<usize>) -> bool {
 
 /// Whether the stacks have passed only the modules that were asked. All that was held was ahead, and then all of it still is, but for
 /// the answer of the module that was asked.
-fn passes_no_other(step: Step) -> bool {
+fn passes_no_other(step: Step) -> bool
+    ensures { IsTrue result → PassesNoOther step.turn step.old step.new }
+{
     match step.turn {
         Turn::Old(number) => goes_on(number, step.old),
         Turn::New(number) => goes_on(number, step.new),
@@ -199,7 +216,8 @@ fn passes_no_other(step: Step) -> bool {
 
 /// The index from which on none of these answers is that of the module with this name.
 fn without_name(held: &[HeldAnswer], name: usize) -> usize
-    ensures { result ≤ length held.now }
+    ensures within { result ≤ length held.now }
+    ensures others { (i : ℕ) (h : HeldAnswer) → slice_get held.now i ≡ Some h → result ≤ i → h.name ≢ name }
 {
     for back in 0..held.len() {
         let index = held.len() - 1 - back;
@@ -213,7 +231,11 @@ fn without_name(held: &[HeldAnswer], name: usize) -> usize
 
 /// The index from which on all these answers are still held after that of the module with this name.
 fn kept_from(naming: &Naming, held: &[HeldAnswer], name: usize, step: Step) -> usize
-    ensures { result ≤ length held.now }
+    ensures within { result ≤ length held.now }
+    ensures wanted { (modules : ℕ) (old_before new_before : Option ℕ) → AreTables naming.now modules → IsNumber step.new
+        → IsStepFrom naming.now.names.items naming.now.old_modules modules held.now name step.turn old_before new_before step.old step.new
+        → (i : ℕ) (h : HeldAnswer) → slice_get held.now i ≡ Some h → result ≤ i
+        → IsTrue (is_wanted naming.now.names.items naming.now.old_modules modules name step.old step.new h.name) }
 {
     if passes_no_other(step) {
         return without_name(held, name);
@@ -241,6 +263,10 @@ pub(crate) fn held_after(
     ensures told { (modules : ℕ) → length naming.now.names.items ≡ modules + 1 → AreLast naming.now.names.items naming.now.last.items
         → IfOk result (λ after. IsHeldAfter naming.now.possible.items naming.now.names.items naming.now.old_modules modules held.now
         (held_in after held.now) answer step.old step.new) }
+    ensures exact { (modules : ℕ) (old_before new_before : Option ℕ) → AreTables naming.now modules → IsNumber step.new
+        → IsStepFrom naming.now.names.items naming.now.old_modules modules held.now answer.name step.turn old_before new_before step.old step.new
+        → IfOk result (λ after. held_in after held.now ≡ held_after naming.now.names.items naming.now.old_modules modules naming.now.possible.items
+        held.now answer step.old step.new) }
 {
     let name = answer.name;
     let start = kept_from(naming, held, name, step);

@@ -7,6 +7,7 @@ mod comparing;
 mod expanding;
 mod held;
 mod held_lists;
+pub mod laws;
 mod matching;
 mod naming;
 mod node;

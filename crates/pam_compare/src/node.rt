@@ -1,11 +1,12 @@
 //! The nodes of a comparison.
 
-ghost use Rattle.std.specs.Prelude.{◌≡◌, ◌<◌, ℕ, IsSome, IsTrue};
+ghost use Rattle.std.specs.Prelude.{◌≡◌, ◌<◌, ℕ, IsSome, IsTrue, Some};
 ghost use Rattle.pam_codes.specs.Set.{is_in};
 ghost use Rattle.pam_dispatch.specs.Flat.{IsPlaceOf, rest_of};
 ghost use Rattle.pam_dispatch.specs.Runs.{after_answer, asked_module, outcome_in};
 ghost use Rattle.pam_compare.specs.inner.Outcomes.{AreOutcomes};
-ghost use Rattle.pam_compare.specs.inner.Turn.{AreAlike, IsTurn, old_after, new_after};
+ghost use Rattle.pam_compare.specs.Walks.{HaveOneOutcome, old_after, new_after};
+ghost use Rattle.pam_compare.specs.inner.Turn.{AreAlike, IsTurn};
 
 use crate::held::HeldAnswer;
 use crate::naming::Naming;
@@ -64,8 +65,12 @@ fn outcomes_of(pair: &Pair<'_>, node: &Node, turn: Turn, code: Code) -> Outcomes
 fn leads_to(program: &Program, place: &Place, outcome: &Outcome, other: Code) -> bool
     requires place { IsPlaceOf program.now place.now }
     requires asking { IsSome (asked_module (rest_of program.now place.now)) }
-    ensures { (code : ℕ) → outcome_in (rest_of program.now place.now) code ≡ outcome.now → IsTrue result
+    ensures alike { (code : ℕ) → outcome_in (rest_of program.now place.now) code ≡ outcome.now → IsTrue result
         → after_answer (rest_of program.now place.now) code ≡ after_answer (rest_of program.now place.now) other }
+    ensures same { (code : ℕ) → outcome_in (rest_of program.now place.now) code ≡ outcome.now → IsTrue result
+        → outcome_in (rest_of program.now place.now) code ≡ outcome_in (rest_of program.now place.now) other }
+    ensures exact { (code : ℕ) → outcome_in (rest_of program.now place.now) code ≡ outcome.now
+        → outcome_in (rest_of program.now place.now) code ≡ outcome_in (rest_of program.now place.now) other → IsTrue result }
 {
     *outcome == program.outcome(place, other)
 }
@@ -76,8 +81,12 @@ fn are_alike(pair: &Pair<'_>, node: &Node, turn: Turn, outcomes: &Outcomes, othe
     requires new { IsPlaceOf pair.now.new.now node.now.new }
     requires turn { IsTurn pair.now.naming.now.names.items (asked_module (rest_of pair.now.old.now node.now.old))
         (asked_module (rest_of pair.now.new.now node.now.new)) turn }
-    ensures { (code : ℕ) → AreOutcomes turn (rest_of pair.now.old.now node.now.old) (rest_of pair.now.new.now node.now.new) code outcomes.now
+    ensures alike { (code : ℕ) → AreOutcomes turn (rest_of pair.now.old.now node.now.old) (rest_of pair.now.new.now node.now.new) code outcomes.now
         → IsTrue result → AreAlike turn (rest_of pair.now.old.now node.now.old) (rest_of pair.now.new.now node.now.new) code other }
+    ensures same { (code : ℕ) → AreOutcomes turn (rest_of pair.now.old.now node.now.old) (rest_of pair.now.new.now node.now.new) code outcomes.now
+        → IsTrue result → HaveOneOutcome turn (rest_of pair.now.old.now node.now.old) (rest_of pair.now.new.now node.now.new) code other }
+    ensures exact { (code : ℕ) → AreOutcomes turn (rest_of pair.now.old.now node.now.old) (rest_of pair.now.new.now node.now.new) code outcomes.now
+        → HaveOneOutcome turn (rest_of pair.now.old.now node.now.old) (rest_of pair.now.new.now node.now.new) code other → IsTrue result }
 {
     match turn {
         Turn::Old(_) => leads_to(pair.old, &node.old, &outcomes.old, other),
@@ -104,7 +113,15 @@ fn with_alike(
         → ((d : ℕ) → d < 31 → IsTrue (is_in d class)
         → AreAlike turn (rest_of pair.now.old.now node.now.old) (rest_of pair.now.new.now node.now.new) code d)
         → (d : ℕ) → d < 31 → IsTrue (is_in d result) → AreAlike turn (rest_of pair.now.old.now node.now.old) (rest_of pair.now.new.now node.now.new) code d }
+    ensures same { (code : ℕ) → AreOutcomes turn (rest_of pair.now.old.now node.now.old) (rest_of pair.now.new.now node.now.new) code outcomes.now
+        → ((d : ℕ) → d < 31 → IsTrue (is_in d class)
+        → HaveOneOutcome turn (rest_of pair.now.old.now node.now.old) (rest_of pair.now.new.now node.now.new) code d)
+        → (d : ℕ) → d < 31 → IsTrue (is_in d result)
+        → HaveOneOutcome turn (rest_of pair.now.old.now node.now.old) (rest_of pair.now.new.now node.now.new) code d }
     ensures more { (d : ℕ) → d < 31 → IsTrue (is_in d class) → IsTrue (is_in d result) }
+    ensures all { (code d : ℕ) → AreOutcomes turn (rest_of pair.now.old.now node.now.old) (rest_of pair.now.new.now node.now.new) code outcomes.now
+        → other ≡ Some d → d < 31 → HaveOneOutcome turn (rest_of pair.now.old.now node.now.old) (rest_of pair.now.new.now node.now.new) code d
+        → IsTrue (is_in d result) }
 {
     let Some(other) = other else {
         return class;
@@ -118,7 +135,9 @@ fn with_alike(
 }
 
 /// The code with this number, if it is one of these.
-fn member(codes: CodeSet, number: u8) -> Option<Code> {
+fn member(codes: CodeSet, number: u8) -> Option<Code>
+    ensures { number < 31 → IsTrue (is_in number codes) → result ≡ Some number }
+{
     let code = Code::new(number)?;
     if codes.contains(code) {
         Some(code)
@@ -141,6 +160,10 @@ pub(crate) fn class_of(
         (asked_module (rest_of pair.now.new.now node.now.new)) turn }
     ensures alike { (d : ℕ) → d < 31 → IsTrue (is_in d result)
         → AreAlike turn (rest_of pair.now.old.now node.now.old) (rest_of pair.now.new.now node.now.new) code d }
+    ensures same { (d : ℕ) → d < 31 → IsTrue (is_in d result)
+        → HaveOneOutcome turn (rest_of pair.now.old.now node.now.old) (rest_of pair.now.new.now node.now.new) code d }
+    ensures all { (d : ℕ) → d < 31 → IsTrue (is_in d left)
+        → HaveOneOutcome turn (rest_of pair.now.old.now node.now.old) (rest_of pair.now.new.now node.now.new) code d → IsTrue (is_in d result) }
     ensures own { code < 31 → IsTrue (is_in code result) }
 {
     let outcomes = outcomes_of(pair, node, turn, code);

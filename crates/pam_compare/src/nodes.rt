@@ -1,20 +1,22 @@
 //! The nodes found so far.
 
-ghost use Rattle.std.specs.Prelude.{◌≡◌, ◌⊎◌, ◌<◌, ◌∷◌, ◌++◌, [], List, ℕ, IfOk, None, OnOk, Option, Some, length, slice_get};
+ghost use Rattle.std.specs.Prelude.{◌≡◌, ◌≢◌, ◌⊎◌, ◌<◌, ◌∷◌, ◌++◌, [], List, ℕ, if◌then◌else◌, IfNone};
+ghost use Rattle.std.specs.Prelude.{IfOk, IfSome, IsTrue, None, OnOk, Option, Some, length, slice_get};
 ghost use Rattle.pam_dispatch.specs.declared.flat_item.FlatItem.{FlatItem};
 ghost use Rattle.pam_dispatch.specs.declared.place.Place.{Place};
 ghost use Rattle.pam_dispatch.specs.Flat.{IsPlaceOf, rest_of};
-ghost use Rattle.pam_dispatch.specs.Runs.{Assignment};
+ghost use Rattle.pam_dispatch.specs.Runs.{Assignment, asked_module, state_in};
 ghost use Rattle.pam_compare.specs.declared.held.HeldAnswer.{HeldAnswer};
 ghost use Rattle.pam_compare.specs.declared.situation.Situation.{Situation};
 ghost use Rattle.pam_compare.specs.declared.change.Change.{Change};
 ghost use Rattle.pam_compare.specs.Held.{Holds};
 ghost use Rattle.pam_compare.specs.inner.Held.{held_in, same_situation};
 ghost use Rattle.pam_compare.specs.inner.HeldLists.{same_link};
-ghost use Rattle.pam_compare.specs.inner.Ways.{found_at};
+ghost use Rattle.pam_compare.specs.inner.Ways.{HasOneMore, found_at};
 ghost use Rattle.pam_dispatch.specs.Keys.{AreDifferent};
 ghost use Rattle.std.specs.List.{IsDistinct};
-ghost use Rattle.pam_compare.specs.inner.Nodes.{AreAdded, AreHeldAt, AreNodes, ArePlaces, IsAt, IsLeftAt, IsMet, IsNoted, Keeps, KeepsNodes, list_of, stop_of};
+ghost use Rattle.pam_compare.specs.inner.Nodes.{AreAdded, AreEndsOf, AreHeldAt, AreNodes, ArePlaces, IsAt, IsLeftAt};
+ghost use Rattle.pam_compare.specs.inner.Nodes.{IsMet, IsNoted, Keeps, KeepsNodes, list_of, stop_of};
 
 use crate::change::Change;
 use crate::held::HeldAfter;
@@ -41,6 +43,8 @@ pub(crate) struct Way {
 pub(crate) struct Places {
     pub(crate) places: Vec<Place>,
     pub(crate) keys: PlaceTable,
+    /// The indices of the places at the end of a run. In each state there is one.
+    pub(crate) ends: Vec<usize>,
 }
 
 /// The situations found so far, and the way on which each was found first.
@@ -71,31 +75,84 @@ fn push_place(places: &mut Vec<Place>, place: &Place) -> Result<(), Memory>
     }
 }
 
+/// Adds an index at the end, if it is that of a place at the end of a run.
+fn push_end(ends: &mut Vec<usize>, is_end: bool, index: usize) -> Result<(), Memory>
+    ensures { OnOk result (ends.new.items ≡ (if is_end then ends.old.items ++ index ∷ [] else ends.old.items)) }
+{
+    if is_end {
+        ends.push(index)?;
+    }
+    Ok(())
+}
+
 impl Places {
     fn new(alloc: Global) -> Places
-        ensures { (program : List FlatItem) → ArePlaces program result.places.items result.keys }
+        ensures places { (program : List FlatItem) → ArePlaces program result.places.items result.keys }
+        ensures ends { (program : List FlatItem) → AreEndsOf program result.places.items result.ends.items }
     {
         Places {
             places: Vec::new(alloc),
             keys: PlaceTable::new(alloc),
+            ends: Vec::new(alloc),
         }
     }
 
-    /// The index of a place from which the run goes on as from `place`, which is added if there is none.
+    /// Whether the place with this index is in the same state as `place`.
+    fn is_in_state_of(&self, index: usize, place: &Place) -> bool
+        ensures same { (program : List FlatItem) (p : Place) → slice_get self.now.places.items index ≡ Some p → IsPlaceOf program p
+            → IsPlaceOf program place.now → IsTrue result → state_in (rest_of program p) ≡ state_in (rest_of program place.now) }
+        ensures exact { (program : List FlatItem) (p : Place) → slice_get self.now.places.items index ≡ Some p → IsPlaceOf program p
+            → IsPlaceOf program place.now → state_in (rest_of program p) ≡ state_in (rest_of program place.now) → IsTrue result }
+    {
+        index < self.places.len() && self.places[index].state() == place.state()
+    }
+
+    /// The index of a place at the end of a run that is in the same state as `place`.
+    fn end_like(&self, place: &Place) -> Option<usize>
+        ensures found { (program : List FlatItem) → ArePlaces program self.now.places.items self.now.keys
+            → AreEndsOf program self.now.places.items self.now.ends.items → IsPlaceOf program place.now → asked_module (rest_of program place.now) ≡ None
+            → IfSome result (λ k. (p : Place) × (slice_get self.now.places.items k ≡ Some p) × (rest_of program p ≡ rest_of program place.now)) }
+        ensures none { (program : List FlatItem) → ArePlaces program self.now.places.items self.now.keys
+            → AreEndsOf program self.now.places.items self.now.ends.items → IsPlaceOf program place.now
+            → IfNone result ((k : ℕ) (p : Place) → slice_get self.now.places.items k ≡ Some p → asked_module (rest_of program p) ≡ None
+            → rest_of program p ≢ rest_of program place.now) }
+    {
+        for index in 0..self.ends.len() {
+            let end = self.ends[index];
+            if self.is_in_state_of(end, place) {
+                return Some(end);
+            }
+        }
+        None
+    }
+
+    /// The index of a place from which the run goes on as from `place`, which is added if there is none. At the end of a run the
+    /// state alone counts.
     pub(crate) fn index_of(&mut self, place: &Place) -> Result<usize, Memory>
         ensures keeps { OnOk result (Keeps self.old.places.items self.new.places.items) }
         ensures places { (program : List FlatItem) → ArePlaces program self.old.places.items self.old.keys → IsPlaceOf program place.now
             → OnOk result (ArePlaces program self.new.places.items self.new.keys) }
+        ensures ends { (program : List FlatItem) → ArePlaces program self.old.places.items self.old.keys
+            → AreEndsOf program self.old.places.items self.old.ends.items → IsPlaceOf program place.now
+            → OnOk result (AreEndsOf program self.new.places.items self.new.ends.items) }
         ensures found { (program : List FlatItem) → ArePlaces program self.old.places.items self.old.keys
+            → AreEndsOf program self.old.places.items self.old.ends.items → IsPlaceOf program place.now
             → IfOk result (λ k. (p : Place) × (slice_get self.new.places.items k ≡ Some p) × (rest_of program p ≡ rest_of program place.now)) }
     {
         let key = place.key();
         if let Some(index) = self.keys.find(&key) {
             return Ok(index);
         }
+        let is_end = place.module().is_none();
+        if is_end {
+            if let Some(index) = self.end_like(place) {
+                return Ok(index);
+            }
+        }
         let index = self.keys.len();
         self.keys.push(key)?;
         push_place(&mut self.places, place)?;
+        push_end(&mut self.ends, is_end, index)?;
         Ok(index)
     }
 
@@ -144,6 +201,7 @@ impl Nodes {
         ensures lists { OnOk result (self.new.held_lists ≡ self.old.held_lists) }
         ensures keeps { OnOk result (Keeps self.old.situations.keys self.new.situations.keys) }
         ensures ways { OnOk result (Keeps self.old.ways.items self.new.ways.items) }
+        ensures more { OnOk result (HasOneMore self.old.ways.items self.new.ways.items way) }
         ensures count { length self.old.ways.items ≡ length self.old.situations.keys
             → OnOk result (length self.new.ways.items ≡ length self.new.situations.keys) }
         ensures added { OnOk result ((k : ℕ) (s : Situation) → slice_get self.new.situations.keys k ≡ Some s
@@ -182,6 +240,7 @@ impl Nodes {
         ensures nodes { (old new : List FlatItem) (held : List HeldAnswer) → AreNodes old new self.old → AreHeldAt self.old parent held
             → IsPlaceOf old old_place.now → IsPlaceOf new new_place.now → OnOk result (AreNodes old new self.new) }
         ensures at { (old new : List FlatItem) (held : List HeldAnswer) → AreNodes old new self.old → AreHeldAt self.old parent held
+            → IsPlaceOf old old_place.now → IsPlaceOf new new_place.now
             → IfOk result (IsLeftAt old new self.new (rest_of old old_place.now) (rest_of new new_place.now) (held_in after.now held)) }
     {
         let old = self.old_places.index_of(old_place)?;
@@ -202,12 +261,15 @@ impl Nodes {
         ensures keeps { OnOk result (KeepsNodes self.old self.new) }
         ensures nodes { (old new : List FlatItem) (held : List HeldAnswer) → AreNodes old new self.old → AreHeldAt self.old way.parent held
             → IsPlaceOf old old_place.now → IsPlaceOf new new_place.now → OnOk result (AreNodes old new self.new) }
+        ensures more { OnOk result (HasOneMore self.old.ways.items self.new.ways.items way) }
         ensures count { length self.old.ways.items ≡ length self.old.situations.keys
             → OnOk result (length self.new.ways.items ≡ length self.new.situations.keys) }
         ensures added { (old new : List FlatItem) (held : List HeldAnswer) → AreNodes old new self.old → AreHeldAt self.old way.parent held
+            → IsPlaceOf old old_place.now → IsPlaceOf new new_place.now
             → OnOk result (AreAdded old new self.old self.new (rest_of old old_place.now) (rest_of new new_place.now) (held_in after.now held) way) }
         ensures met { (old new : List FlatItem) (held : List HeldAnswer) (a : Assignment) → AreNodes old new self.old
-            → AreHeldAt self.old way.parent held → ((name : ℕ) → a name < 31) → Holds a (held_in after.now held)
+            → AreHeldAt self.old way.parent held → IsPlaceOf old old_place.now → IsPlaceOf new new_place.now
+            → ((name : ℕ) → a name < 31) → Holds a (held_in after.now held)
             → OnOk result (IsMet old new self.new a (rest_of old old_place.now) (rest_of new new_place.now)) }
     {
         let situation = self.situation_of(old_place, new_place, after, way.parent)?;

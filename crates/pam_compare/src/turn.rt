@@ -1,7 +1,8 @@
 //! Whose module is asked next.
 
 ghost use Rattle.std.specs.Prelude.{◌≡◌, IfNone, IfSome, None};
-ghost use Rattle.pam_compare.specs.inner.Turn.{IsTurn, turn_name};
+ghost use Rattle.pam_compare.specs.Walks.{turn_name, turn_of};
+ghost use Rattle.pam_compare.specs.inner.Turn.{IsTurn, first_of};
 
 use crate::naming::{Naming, value_at};
 
@@ -19,6 +20,7 @@ pub(crate) enum Turn {
 /// The turn where the stacks ask these modules next; `None` at the end of both.
 pub(crate) fn next_turn(naming: &Naming, old: Option<usize>, new: Option<usize>) -> Option<Turn>
     ensures turn { IfSome result (λ turn. IsTurn naming.now.names.items old new turn) }
+    ensures exact { result ≡ turn_of naming.now.names.items (first_of naming.now.ranks) old new }
     ensures ends { IfNone result ((old ≡ None) × (new ≡ None)) }
 {
     match old {

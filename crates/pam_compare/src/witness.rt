@@ -7,7 +7,8 @@ ghost use Rattle.pam_paths.specs.Listing.{Allowance};
 ghost use Rattle.pam_compare.specs.declared.change.Change.{Change};
 ghost use Rattle.pam_compare.specs.declared.nodes.Way.{Way};
 ghost use Rattle.pam_compare.specs.Comparison.{IsWitness, decision_in};
-ghost use Rattle.pam_compare.specs.inner.Naming.{AreNames, IsKnown, IsPossible, by_code, by_name};
+ghost use Rattle.pam_compare.specs.Names.{AreNames, by_name};
+ghost use Rattle.pam_compare.specs.inner.Naming.{IsKnown, IsPossible, by_code};
 ghost use Rattle.pam_compare.specs.inner.Trails.{AreAnswers, IsTrail, answers_on};
 ghost use Rattle.pam_compare.specs.inner.Ways.{AreReached, IsEnd, IsNaming};
 

@@ -1,10 +1,15 @@
 -- For private contracts and proofs alone: answers that one stack has had from modules which the other has still ahead.
-use Rattle.std.specs.Prelude.{◌&&◌, ℕ, Bool, List, ◌++◌, drop, nat_eq, slice_get, unwrap_or}
+use Rattle.std.specs.Prelude.{◌≡◌, ◌+◌, ◌<◌, ◌==◌, ◌&&◌, ℕ, Bool, IsTrue, List, ◌++◌, Option, Some, drop, length, nat_eq, not, slice_get, unwrap_or}
 use Rattle.pam_codes.specs.SetBits.{codes_of_bits}
 use Rattle.pam_codes.specs.inner.SetBits.{bits_of_codes}
 use Rattle.pam_compare.specs.declared.held.HeldAfter.{HeldAfter}
 use Rattle.pam_compare.specs.declared.held.HeldAnswer.{HeldAnswer}
+use Rattle.pam_compare.specs.declared.naming.Naming.{Naming}
 use Rattle.pam_compare.specs.declared.situation.Situation.{Situation}
+use Rattle.pam_compare.specs.declared.turn.Turn.{Turn}
+use Rattle.pam_compare.specs.Walks.{is_ahead, turn_name}
+use Rattle.pam_compare.specs.inner.Naming.{AreFound, AreLast}
+use Rattle.pam_compare.specs.inner.Turn.{IsTurn, StaysThere}
 
 -- what is held after an answer, where these answers were held before it
 abbrev pub held_in : HeldAfter → List HeldAnswer → List HeldAnswer
@@ -20,3 +25,30 @@ same_situation a b = nat_eq a.old b.old && (nat_eq a.new b.new && nat_eq a.held 
 -- the least code of a set, by its bits; 31 if there is none
 abbrev pub least_of_bits : ℕ → ℕ
 least_of_bits bits = unwrap_or (slice_get (codes_of_bits bits) 0) 31
+
+-- the tables of the new stack's names, which has this many modules
+pub record AreTables (naming : Naming) (modules : ℕ) : Type 0 where
+  pub names : length naming.names.items ≡ modules + 1
+  pub last : AreLast naming.names.items naming.last.items
+  pub found : AreFound naming.names.items naming.last.items
+
+-- a module that is asked has a number from 1 on
+abbrev pub IsNumber : Option ℕ → Type 0
+IsNumber next = (i : ℕ) → next ≡ Some i → 0 < i
+
+-- an answer that is held is still held after one of the module `answered`
+abbrev pub is_wanted : List ℕ → ℕ → ℕ → ℕ → Option ℕ → Option ℕ → ℕ → Bool
+is_wanted names count modules answered old new name = not (name == answered) && is_ahead names count modules name old new
+
+-- all that is held is of modules that a stack has still ahead
+unfoldable pub AreAhead : List ℕ → ℕ → ℕ → List HeldAnswer → Option ℕ → Option ℕ → Type 0
+AreAhead names count modules held old new =
+    (i : ℕ) (h : HeldAnswer) → slice_get held i ≡ Some h → IsTrue (is_ahead names count modules h.name old new)
+
+-- the stacks come from asking modules that were asked next, where what was held was still ahead
+pub record IsStepFrom (names : List ℕ) (count modules : ℕ) (held : List HeldAnswer) (name : ℕ) (turn : Turn)
+    (old_before new_before old new : Option ℕ) : Type 0 where
+  pub turn_is : IsTurn names old_before new_before turn
+  pub name_is : name ≡ turn_name names turn
+  pub stays : StaysThere turn old_before new_before old new
+  pub ahead : AreAhead names count modules held old_before new_before

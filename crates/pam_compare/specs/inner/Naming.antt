@@ -1,30 +1,18 @@
 -- For private contracts and proofs alone: one assignment for two stacks, in which tied modules have one name.
-use Rattle.std.specs.Prelude.{◌≡◌, ◌⊎◌, ℕ, ◌+◌, ◌<◌, ◌≤◌, true, List, Option, length, slice_index_or, IsTrue}
+use Rattle.std.specs.Prelude.{◌≡◌, ℕ, ◌+◌, ◌<◌, ◌≤◌, true, List, length, slice_index_or, IsTrue}
 use Rattle.pam_codes.specs.Code.{all_codes}
 use Rattle.pam_codes.specs.Set.{is_in}
 use Rattle.pam_dispatch.specs.Runs.{Assignment}
 use Rattle.pam_paths.specs.Listing.{Allowance}
-use Rattle.pam_compare.specs.Agreement.{AreTied}
-
--- the name of a new module: the number of the old one to which it is tied, or else its number after those of the old ones
-pub record IsName (old new : Allowance) (count : ℕ) (partners : List (Option ℕ)) (j name : ℕ) : Type 0 where
-  pub either : ((name ≤ count) × AreTied old new count partners name j) ⊎ (name ≡ count + j)
-  pub tied : (i : ℕ) → AreTied old new count partners i j → name ≡ i
-
-abbrev pub name_of : List ℕ → ℕ → ℕ
-name_of names number = slice_index_or names number 0
-
-unfoldable pub AreNames : Allowance → Allowance → ℕ → ℕ → List (Option ℕ) → List ℕ → Type 0
-AreNames old new count modules partners names =
-    (j : ℕ) → 0 < j → j ≤ modules → IsName old new count partners j (name_of names j)
+use Rattle.pam_compare.specs.Names.{name_of}
 
 -- of each name, a number that is not below those of the new modules that have it
 unfoldable pub AreLast : List ℕ → List ℕ → Type 0
 AreLast names last = (k : ℕ) → 0 < k → k < length names → k ≤ name_of last (name_of names k)
 
--- the new stack's answers where the modules answer by their names
-abbrev pub by_name : List ℕ → Assignment → Assignment
-by_name names a number = a (name_of names number)
+-- a number that is given for a name, but for 0, is that of a new module that has it
+unfoldable pub AreFound : List ℕ → List ℕ → Type 0
+AreFound names last = (name : ℕ) → 0 < name_of last name → (name_of last name < length names) × (name_of names (name_of last name) ≡ name)
 
 -- each name answers its code in a list
 abbrev pub by_code : List ℕ → Assignment

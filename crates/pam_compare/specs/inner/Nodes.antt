@@ -19,8 +19,10 @@ use Rattle.pam_compare.specs.Changes.{change_of}
 use Rattle.pam_compare.specs.Comparison.{decision_in}
 use Rattle.pam_compare.specs.Held.{Holds}
 use Rattle.pam_compare.specs.inner.HeldLists.{AreLinks, IsListed}
-use Rattle.pam_compare.specs.inner.Naming.{IsPossible, by_name}
-use Rattle.pam_compare.specs.inner.Turn.{IsTurn, turn_name, old_after, new_after}
+use Rattle.pam_compare.specs.Names.{by_name}
+use Rattle.pam_compare.specs.inner.Naming.{IsPossible}
+use Rattle.pam_compare.specs.Walks.{turn_name, old_after, new_after}
+use Rattle.pam_compare.specs.inner.Turn.{IsTurn}
 
 -- a place in a table, of this program, with its key
 pub record IsStored (program : List FlatItem) (keys : List KeyValue) (k : ℕ) (p : Place) : Type 0 where
@@ -32,10 +34,19 @@ pub record ArePlaces (program : List FlatItem) (places : List Place) (keys : Lis
   pub count : length places ≡ length keys
   pub stored : (k : ℕ) (p : Place) → slice_get places k ≡ Some p → IsStored program keys k p
 
+-- of the places in a table, those at the end of a run, each of which is in another state
+pub record AreEndsOf (program : List FlatItem) (places : List Place) (ends : List ℕ) : Type 0 where
+  pub sound : (m k : ℕ) → slice_get ends m ≡ Some k → (p : Place) × (slice_get places k ≡ Some p) × (asked_module (rest_of program p) ≡ None)
+  pub listed : (k : ℕ) (p : Place) → slice_get places k ≡ Some p → asked_module (rest_of program p) ≡ None → (m : ℕ) × (slice_get ends m ≡ Some k)
+  pub single : (j k : ℕ) (p q : Place) → slice_get places j ≡ Some p → slice_get places k ≡ Some q → asked_module (rest_of program p) ≡ None →
+      rest_of program p ≡ rest_of program q → j ≡ k
+
 -- the places of two programs, and situations at them
 pub record AreNodes (old new : List FlatItem) (nodes : Nodes) : Type 0 where
   pub of_old : ArePlaces old nodes.old_places.places.items nodes.old_places.keys
   pub of_new : ArePlaces new nodes.new_places.places.items nodes.new_places.keys
+  pub old_ends : AreEndsOf old nodes.old_places.places.items nodes.old_places.ends.items
+  pub new_ends : AreEndsOf new nodes.new_places.places.items nodes.new_places.ends.items
   pub links : AreLinks nodes.held_lists.links.keys
   pub within : (k : ℕ) (s : Situation) → slice_get nodes.situations.keys k ≡ Some s →
       (s.old < length nodes.old_places.places.items) × (s.new < length nodes.new_places.places.items)

@@ -6,8 +6,9 @@ use Rattle.pam_dispatch.specs.Runs.{Assignment, Runs, answers_of, asked_module}
 use Rattle.pam_compare.specs.declared.held.HeldAnswer.{HeldAnswer}
 use Rattle.pam_compare.specs.declared.nodes.Way.{Way}
 use Rattle.pam_compare.specs.declared.turn.Turn.{Turn}
-use Rattle.pam_compare.specs.inner.Naming.{name_of}
-use Rattle.pam_compare.specs.inner.Turn.{AreAlike, IsTurn, turn_name}
+use Rattle.pam_compare.specs.Names.{name_of}
+use Rattle.pam_compare.specs.Walks.{turn_name}
+use Rattle.pam_compare.specs.inner.Turn.{AreAlike, IsTurn}
 
 -- the steps on the way to node k, which has node 0 as its start
 unfoldable pub IsTrail : List Way → ℕ → List Way → Type 0

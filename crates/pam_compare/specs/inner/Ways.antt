@@ -1,5 +1,5 @@
 -- For private contracts and proofs alone: each node of a comparison is reached by answers that agree.
-use Rattle.std.specs.Prelude.{◌≡◌, ◌<◌, ◌≤◌, ◌+◌, ℕ, IsTrue, List, Option, Some, length, slice_get, slice_index_or}
+use Rattle.std.specs.Prelude.{◌≡◌, ◌⊎◌, ◌<◌, ◌≤◌, ◌+◌, ◌++◌, ◌∷◌, [], ℕ, IsTrue, List, Option, Some, length, map, slice_get, slice_index_or}
 use Rattle.std.specs.List.{AllByRecursion}
 use Rattle.pam_codes.specs.Code.{all_codes}
 use Rattle.pam_codes.specs.Set.{is_in}
@@ -18,8 +18,12 @@ use Rattle.pam_compare.specs.declared.situation.Situation.{Situation}
 use Rattle.pam_compare.specs.Changes.{change_of}
 use Rattle.pam_compare.specs.Comparison.{decision_in}
 use Rattle.pam_compare.specs.Held.{Holds}
-use Rattle.pam_compare.specs.inner.Naming.{AreLast, AreNames, IsKnown, IsPossible, by_name, name_of}
+use Rattle.pam_compare.specs.Names.{AreNames, by_name, name_of}
+use Rattle.pam_compare.specs.inner.Naming.{AreFound, AreLast, IsKnown, IsPossible}
+use Rattle.pam_compare.specs.Walks.{IsAfter}
+use Rattle.pam_compare.specs.inner.Held.{AreAhead}
 use Rattle.pam_compare.specs.inner.Nodes.{IsAt, Stop}
+use Rattle.pam_compare.specs.inner.Turn.{first_of}
 use Rattle.pam_compare.specs.Situations.{Comes}
 use Rattle.pam_compare.specs.inner.Trails.{Follows, IsCovered, IsTrail, answers_on}
 
@@ -27,6 +31,7 @@ use Rattle.pam_compare.specs.inner.Trails.{Follows, IsCovered, IsTrail, answers_
 pub record IsNaming (old new : List FlatItem) (naming : Naming) : Type 0 where
   pub names : length naming.names.items ≡ modules_of new + 1
   pub last : AreLast naming.names.items naming.last.items
+  pub found : AreFound naming.names.items naming.last.items
   pub old_modules : naming.old_modules ≡ modules_of old
   pub possible : length naming.possible.items ≡ modules_of old + modules_of new + 1
   pub low : (j : ℕ) → 0 < j → j ≤ modules_of new → name_of naming.names.items j ≤ modules_of old + modules_of new
@@ -71,6 +76,50 @@ pub record IsReachedAt (old new : List FlatItem) (names : List ℕ) (possible : 
 pub record AreReached (old new : List FlatItem) (names : List ℕ) (possible : List (List ℕ)) (nodes : Nodes) : Type 0 where
   pub count : length nodes.ways.items ≡ length nodes.situations.keys
   pub reached : (k : ℕ) (s : Situation) → slice_get nodes.situations.keys k ≡ Some s → IsReachedAt old new names possible nodes k s
+
+-- the answer of a step
+abbrev pub step_of : Way → HeldAnswer
+step_of w = record { name = w.name; codes = w.class }
+
+-- no two steps from one node have one class; the way to the first node has no step
+unfoldable pub AreUnique : List Way → Type 0
+AreUnique ways =
+    (j k : ℕ) (v w : Way) → 0 < j → 0 < k → slice_get ways j ≡ Some v → slice_get ways k ≡ Some w → v.parent ≡ w.parent → v.class ≡ w.class → j ≡ k
+
+-- no step from this node has this class
+unfoldable pub IsFresh : List Way → ℕ → List ℕ → Type 0
+IsFresh ways parent class = (j : ℕ) (w : Way) → 0 < j → slice_get ways j ≡ Some w → w.parent ≡ parent → w.class ≡ class → ⊥
+
+-- all steps are from nodes before this one
+unfoldable pub AreBelow : List Way → ℕ → Type 0
+AreBelow ways index = (j : ℕ) (w : Way) → 0 < j → slice_get ways j ≡ Some w → w.parent < index
+
+pub record AreOrdered (ways : List Way) (index : ℕ) : Type 0 where
+  pub unique : AreUnique ways
+  pub below : AreBelow ways index
+
+-- the steps are these, or one more
+abbrev pub HasOneMore : List Way → List Way → Way → Type 0
+HasOneMore before after way = (after ≡ before) ⊎ (after ≡ before ++ way ∷ [])
+
+-- the steps to node k are those of the walk that leads to these rests, with these answers held, all of them of modules that a stack has
+-- still ahead
+pub record IsWalkTo (old new : List FlatItem) (naming : Naming) (ways : List Way) (k : ℕ) (left right : Runs) (held : List HeldAnswer) : Type 0 where
+  pub trail : List Way
+  pub is_trail : IsTrail ways k trail
+  pub after : (a : Assignment) → Follows a trail →
+      IsAfter old new naming.names.items naming.possible.items (first_of naming.ranks) a (by_name naming.names.items a) (map step_of trail) left right held
+  pub ahead : AreAhead naming.names.items (modules_of old) (modules_of new) held (asked_module left) (asked_module right)
+
+-- the same of a situation that is among the nodes
+pub record IsWalkedAt (old new : List FlatItem) (naming : Naming) (nodes : Nodes) (k : ℕ) (s : Situation) : Type 0 where
+  pub node : Stop
+  pub is_at : IsAt nodes s node
+  pub walk : IsWalkTo old new naming nodes.ways.items k (rest_of old node.old) (rest_of new node.new) node.held
+
+-- each node has its walk
+unfoldable pub AreWalked : List FlatItem → List FlatItem → Naming → Nodes → Type 0
+AreWalked old new naming nodes = (k : ℕ) (s : Situation) → slice_get nodes.situations.keys k ≡ Some s → IsWalkedAt old new naming nodes k s
 
 -- the node that is found for a change
 abbrev pub found_at : Found → Change → Option ℕ

@@ -1,11 +1,14 @@
-use Rattle.std.proofs.Common.{◌≡◌, ◌∙◌, ◌++◌, ℕ, zero, suc, List, [], Option, ap, arith, drop, inl, inr, length, refl, subst, sym}
+use Rattle.std.proofs.Common.{◌≡◌, ◌∙◌, ◌++◌, ◌∷◌, ℕ, zero, suc, List, [], Option, ap, arith, drop, inl, inr, length, refl, subst, sym}
 use Rattle.std.proofs.lemmas.Option.{slice_get_within}
 use Rattle.pam_compare.specs.declared.held.HeldAfter.{HeldAfter}
 use Rattle.pam_compare.specs.declared.held.HeldAnswer.{HeldAnswer}
 use Rattle.pam_compare.specs.declared.nodes.Nodes.{Nodes}
+use Rattle.pam_compare.specs.declared.nodes.Way.{Way}
+use Rattle.pam_compare.proofs.Stepping.{ordered-first}
 use Rattle.pam_compare.specs.declared.situation.Situation.{Situation}
-use Rattle.pam_compare.specs.inner.Ways.{IsWayTo}
+use Rattle.pam_compare.specs.inner.Ways.{AreWalked, IsWalkTo, IsWayTo}
 use Rattle.pam_compare.proofs.Reaching.{way-begun}
+use Rattle.pam_compare.proofs.Walking.{walk-begun}
 use Rattle.pam_dispatch.specs.Flat.{rest_of, runs_of}
 use Rattle.pam_dispatch.specs.Runs.{Runs}
 use Rattle.pam_compare.specs.Held.{Holds}
@@ -44,7 +47,8 @@ returns-clause-begun c a low =
     let old = c.args.pair.now.old.now in
     let new = c.args.pair.now.new.now in
     let none = none-after (record { latest = c.new.result; start = 0 }) c.new.ensures.items in
-    let met = c.in_ok-add.ensures.met old new [] a (c.new-nodes.ensures.nodes old new) (none-held c.new-nodes.result c.new-nodes.ensures.none) low
+    let met = c.in_ok-add.ensures.met old new [] a (c.new-nodes.ensures.nodes old new) (none-held c.new-nodes.result c.new-nodes.ensures.none)
+    c.first-old.ensures.place c.first-new.ensures.place low
     (holds-equal a [] _ (sym none) tt) in
     subst (λ (r : Runs). IsMet old new c.add.new.self a r (runs_of new)) c.first-old.ensures.whole
     (subst (λ (r : Runs). IsMet old new c.add.new.self a (rest_of old c.first-old.result) r) c.first-new.ensures.whole met)
@@ -61,18 +65,49 @@ returns-clause-reached c =
     let none = none-after (record { latest = c.new.result; start = 0 }) c.new.ensures.items in
     record {
       count = step.count (start.ways ∙ sym start.none);
-      reached = λ k s at. elim (step.added old new [] (start.nodes old new) (none-held c.new-nodes.result start.none) k s at) [
-        | inl was ↦ let inside = slice_get_within _ k s was in absurd (omega (arith, inside, start.none))
-        | inr n ↦
-            let begun = way-begun old new names possible more c.first-old.ensures.rise c.first-new.ensures.rise in
-            record {
-              node = n.node;
-              is_at = n.is_at;
-              way = subst (λ (r : Runs). IsWayTo old new names possible more k r (rest_of new n.node.new) n.node.held)
-                  (sym (n.left_is ∙ c.first-old.ensures.whole))
-                  (subst (λ (r : Runs). IsWayTo old new names possible more k (runs_of old) r n.node.held) (sym (n.right_is ∙ c.first-new.ensures.whole))
-                  (subst (λ (l : List HeldAnswer). IsWayTo old new names possible more k (runs_of old) (runs_of new) l) (sym (n.held_is ∙ none))
-                  (subst (λ (m : ℕ). IsWayTo old new names possible more m (runs_of old) (runs_of new) []) (sym (n.index ∙ start.none)) begun)));
-            }
-      ];
+      reached = λ k s at. elim (step.added old new [] (start.nodes old new) (none-held c.new-nodes.result start.none)
+          c.first-old.ensures.place c.first-new.ensures.place k s at) [
+            | inl was ↦ let inside = slice_get_within _ k s was in absurd (omega (arith, inside, start.none))
+            | inr n ↦
+                let begun = way-begun old new names possible more c.first-old.ensures.rise c.first-new.ensures.rise in
+                record {
+                  node = n.node;
+                  is_at = n.is_at;
+                  way = subst (λ (r : Runs). IsWayTo old new names possible more k r (rest_of new n.node.new) n.node.held)
+                      (sym (n.left_is ∙ c.first-old.ensures.whole))
+                      (subst (λ (r : Runs). IsWayTo old new names possible more k (runs_of old) r n.node.held) (sym (n.right_is ∙ c.first-new.ensures.whole))
+                      (subst (λ (l : List HeldAnswer). IsWayTo old new names possible more k (runs_of old) (runs_of new) l) (sym (n.held_is ∙ none))
+                      (subst (λ (m : ℕ). IsWayTo old new names possible more m (runs_of old) (runs_of new) []) (sym (n.index ∙ start.none)) begun)));
+                }
+          ];
     }
+
+pub returns-clause-walked : goal.returns-clause-walked
+unfolding AreWalked
+returns-clause-walked c k s at =
+    let old = c.args.pair.now.old.now in
+    let new = c.args.pair.now.new.now in
+    let naming = c.args.pair.now.naming.now in
+    let start = c.new-nodes.ensures in
+    let more = c.add.new.self.ways.items in
+    let none = none-after (record { latest = c.new.result; start = 0 }) c.new.ensures.items in
+    elim (c.in_ok-add.ensures.added old new [] (start.nodes old new) (none-held c.new-nodes.result start.none)
+    c.first-old.ensures.place c.first-new.ensures.place k s at) [
+      | inl was ↦ let inside = slice_get_within _ k s was in absurd (omega (arith, inside, start.none))
+      | inr n ↦ record {
+        node = n.node;
+        is_at = n.is_at;
+        walk = subst (λ (r : Runs). IsWalkTo old new naming more k r (rest_of new n.node.new) n.node.held) (sym (n.left_is ∙ c.first-old.ensures.whole))
+            (subst (λ (r : Runs). IsWalkTo old new naming more k (runs_of old) r n.node.held) (sym (n.right_is ∙ c.first-new.ensures.whole))
+            (subst (λ (l : List HeldAnswer). IsWalkTo old new naming more k (runs_of old) (runs_of new) l) (sym (n.held_is ∙ none))
+            (subst (λ (m : ℕ). IsWalkTo old new naming more m (runs_of old) (runs_of new) []) (sym (n.index ∙ start.none)) (walk-begun old new naming more))));
+      }
+    ]
+
+no-items : (xs : List Way) → length xs ≡ 0 → xs ≡ []
+no-items [] e = refl
+no-items (x ∷ xs) e = absurd (omega (arith, e))
+
+pub returns-clause-ordered : goal.returns-clause-ordered
+returns-clause-ordered c =
+    ordered-first c.add.new.self.ways.items _ c.new-nodes.result.ways.items (no-items _ c.new-nodes.ensures.ways) c.in_ok-add.ensures.more

@@ -9,8 +9,9 @@ returns-then-len-gt-MAX_SITUATIONS c old_allows new_allows partners told =
     let naming = c.args.pair.now.naming.now in
     let found = c.in_ok-searched.ensures in
     many old_allows new_allows c.args.pair.now.old.now c.args.pair.now.new.now partners
-    naming.names.items naming.possible.items told.names told.exact c.in_ok-searched.searched.nodes (by_code c.args.usual.now) c.requires.usual found.nodes
-    found.reached MAX_SITUATIONS (omega (arith, c.len.ensures.count, c.if-len-gt-MAX_SITUATIONS.true)) c.len.ensures.different c.len.ensures.old_places
+    naming told c.in_ok-searched.searched.nodes (by_code c.args.usual.now) c.requires.usual found.nodes
+    found.reached found.walked found.unique MAX_SITUATIONS (omega (arith, c.len.ensures.count, c.if-len-gt-MAX_SITUATIONS.true))
+    c.len.ensures.different c.len.ensures.old_places
     c.len.ensures.new_places c.len.ensures.held_lists
 
 pub returns : goal.returns

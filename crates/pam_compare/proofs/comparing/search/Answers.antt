@@ -12,6 +12,8 @@ unfolding AreEnds
 loop-index-init c = record {
   nodes = c.in_ok-nodes.ensures.nodes;
   reached = c.in_ok-nodes.ensures.reached;
+  walked = c.in_ok-nodes.ensures.walked;
+  ordered = c.in_ok-nodes.ensures.ordered;
   ends = λ change k is. absurd (nothing k (sym (c.new-found.ensures change) ∙ is));
   begun = c.in_ok-nodes.ensures.begun;
   visited = λ k s below. absurd (omega (arith, below));
@@ -33,6 +35,8 @@ loop-index-preserved c =
     record {
       nodes = step.nodes;
       reached = step.reached;
+      walked = step.walked;
+      ordered = step.ordered;
       ends = step.ends;
       begun = λ a low. met-kept old new _ _ a _ _ step.keeps (inv.begun a low);
       visited = λ k s below at.

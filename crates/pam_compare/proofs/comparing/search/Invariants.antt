@@ -2,7 +2,7 @@ use Rattle.std.proofs.Common.{◌≡◌, ◌<◌, ℕ, Some}
 use Rattle.std.specs.Prelude.{slice_get}
 use Rattle.pam_compare.specs.declared.situation.Situation.{Situation}
 use Rattle.pam_compare.specs.inner.Nodes.{AreNodes, IsBegun, IsVisited}
-use Rattle.pam_compare.specs.inner.Ways.{AreEnds, AreReached}
+use Rattle.pam_compare.specs.inner.Ways.{AreEnds, AreOrdered, AreReached, AreWalked}
 use Rattle.pam_compare.proofs.comparing.search.Given as goal
 
 abbrev pub invariant-loop-index : goal.invariant-loop-index
@@ -13,6 +13,8 @@ invariant-loop-index l =
     record {
       nodes : AreNodes old new l.nodes;
       reached : AreReached old new naming.names.items naming.possible.items l.nodes;
+      ordered : AreOrdered l.nodes.ways.items l.index;
+      walked : AreWalked old new naming l.nodes;
       ends : AreEnds old new l.nodes l.found;
       begun : IsBegun old new l.nodes;
       visited : (k : ℕ) (s : Situation) → k < l.index → slice_get l.nodes.situations.keys k ≡ Some s →

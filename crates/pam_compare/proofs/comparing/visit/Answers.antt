@@ -3,11 +3,13 @@ use Rattle.std.specs.Prelude.{slice_get}
 use Rattle.pam_compare.specs.declared.change.Change.{Change}
 use Rattle.pam_compare.specs.declared.situation.Situation.{Situation}
 use Rattle.pam_compare.specs.inner.HeldLists.{IsListed}
-use Rattle.pam_compare.specs.inner.Naming.{by_name}
+use Rattle.pam_compare.specs.Names.{by_name}
 use Rattle.pam_compare.specs.inner.Nodes.{IsAt, IsDone, IsNoted, list_of, stop_of}
 use Rattle.pam_compare.proofs.Growing.{at-kept, nodes-same, same-some}
-use Rattle.pam_compare.specs.inner.Ways.{AreEnds}
+use Rattle.pam_compare.specs.inner.Ways.{AreEnds, AreWalked}
 use Rattle.pam_compare.proofs.Reaching.{ends-kept, way-at}
+use Rattle.pam_compare.proofs.Stepping.{below-more}
+use Rattle.pam_compare.proofs.Walking.{walk-at}
 use Rattle.pam_compare.proofs.comparing.visit.Goals as goal
 
 pub turn_at-requires-clause-old : goal.turn_at-requires-clause-old
@@ -82,3 +84,14 @@ pub expand-requires-clause-held : goal.expand-requires-clause-held
 expand-requires-clause-held c =
     let n = c.in_ok-node.ensures in
     subst (λ (o : Option Situation). IsListed c.args.nodes.now.held_lists.links.keys (list_of o) c.in_ok-node.node.held.items) (sym n.1) n.2.held
+
+pub expand-requires-clause-walk : goal.expand-requires-clause-walk
+unfolding AreWalked
+expand-requires-clause-walk c =
+    let n = c.in_ok-node.ensures in
+    walk-at c.args.pair.now.old.now c.args.pair.now.new.now c.args.pair.now.naming.now c.args.nodes.now c.args.index n.0 (stop_of c.in_ok-node.node)
+    (c.requires.walked c.args.index n.0 n.1) n.2
+
+pub returns-in_default-clause-ordered : goal.returns-in_default-clause-ordered
+returns-in_default-clause-ordered c =
+    record { unique = c.requires.ordered.unique; below = below-more c.args.nodes.now.ways.items c.args.index c.requires.ordered.below }

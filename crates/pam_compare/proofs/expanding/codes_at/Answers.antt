@@ -27,3 +27,12 @@ returns-clause-within c x h =
 pub returns-clause-left : goal.returns-clause-left
 returns-clause-left c i h at same =
     c.held_codes.ensures.left i h (subst (λ (l : List HeldAnswer). slice_get l i ≡ Some h) (sym c.deref.ensures.value) at) (same ∙ sym c.turn_name-name.ensures)
+
+pub returns-clause-all : goal.returns-clause-all
+returns-clause-all c x low can leaves =
+    let possible = c.args.pair.now.naming.now.possible.items in
+    let is = c.possible_at.ensures ∙ ap (λ (l : List (List ℕ)). get_or l c.turn_name-name.result all_codes) c.deref-2.ensures.value in
+    let member : is_in x c.possible_at.result ≡ true =
+    ap (is_in x) is ∙ subst (λ (n : ℕ). is_in x (get_or possible n all_codes) ≡ true) (sym c.turn_name-name.ensures) can in
+    c.held_codes.ensures.all x low member
+    (λ i h at same. leaves i h (subst (λ (l : List HeldAnswer). slice_get l i ≡ Some h) c.deref.ensures.value at) (same ∙ c.turn_name-name.ensures))

@@ -32,6 +32,7 @@ loop-index-preserved c =
               subst (λ (y : HeldAnswer). is_in x y.codes ≡ true) e (step.left (ap (λ (y : HeldAnswer). y.name) e ∙ same) x member)
         ]
       ];
+      all = λ x low member leaves. step.kept x low (inv.all x low member leaves) (λ same. leaves k answer there same);
     }
 
 pub returns-clause-left : goal.returns-clause-left

@@ -1,7 +1,7 @@
 use Rattle.std.proofs.Common.{◌≡◌, ◌+◌, ◌∙◌, ℕ, List, [], ◌∷◌, ap, arith, inl, inr, length, subst, sym}
 use Rattle.std.proofs.lemmas.Bool.{cases_lt}
 use Rattle.std.proofs.lemmas.List.{get_or_append_left, get_or_push, length_push}
-use Rattle.pam_compare.specs.inner.Naming.{AreNames, IsName, name_of}
+use Rattle.pam_compare.specs.Names.{AreNames, IsName, name_of}
 use Rattle.pam_compare.proofs.naming.names_of.Goals as goal
 
 pub loop-index-preserved : goal.loop-index-preserved

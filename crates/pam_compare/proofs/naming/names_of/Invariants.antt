@@ -1,5 +1,5 @@
 use Rattle.std.proofs.Common.{◌≡◌, ◌+◌, ◌<◌, ◌≤◌, ℕ, length}
-use Rattle.pam_compare.specs.inner.Naming.{IsName, name_of}
+use Rattle.pam_compare.specs.Names.{IsName, name_of}
 use Rattle.pam_compare.proofs.naming.names_of.Given as goal
 
 abbrev pub invariant-loop-index : goal.invariant-loop-index

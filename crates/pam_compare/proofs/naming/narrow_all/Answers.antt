@@ -2,7 +2,7 @@ use Rattle.std.proofs.Common.{◌≡◌, ◌+◌, ◌∙◌, ℕ, ap, arith, inl
 use Rattle.std.proofs.lemmas.Bool.{cases_lt}
 use Rattle.pam_codes.specs.Set.{is_in}
 use Rattle.pam_codes.specs.inner.SetBits.{is_in-codes_where}
-use Rattle.pam_compare.specs.inner.Naming.{name_of}
+use Rattle.pam_compare.specs.Names.{name_of}
 use Rattle.pam_compare.proofs.Holding.{where-passes}
 use Rattle.pam_compare.proofs.naming.narrow_all.Goals as goal
 

@@ -1,6 +1,7 @@
 use Rattle.std.proofs.Common.{◌≡◌, ◌<◌, ◌≤◌, ℕ, length, true}
 use Rattle.pam_dispatch.specs.Runs.{Assignment}
-use Rattle.pam_compare.specs.inner.Naming.{IsPossible, name_of}
+use Rattle.pam_compare.specs.Names.{name_of}
+use Rattle.pam_compare.specs.inner.Naming.{IsPossible}
 use Rattle.pam_compare.proofs.naming.narrow_all.Given as goal
 
 abbrev pub invariant-loop-index : goal.invariant-loop-index

@@ -1,4 +1,5 @@
-use Rattle.pam_compare.specs.inner.Naming.{by_code, by_name}
+use Rattle.pam_compare.specs.Names.{by_name}
+use Rattle.pam_compare.specs.inner.Naming.{by_code}
 use Rattle.pam_compare.specs.inner.Trails.{AreAnswers, answers_on}
 use Rattle.pam_compare.proofs.witness.new_answers.Given as goal
 

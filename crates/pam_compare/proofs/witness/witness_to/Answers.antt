@@ -3,7 +3,8 @@ use Rattle.pam_dispatch.specs.Flat.{modules_of, rest_of, runs_of}
 use Rattle.pam_dispatch.specs.Runs.{Assignment, answers_of}
 use Rattle.pam_compare.specs.declared.nodes.Way.{Way}
 use Rattle.pam_compare.specs.Comparison.{decision_in}
-use Rattle.pam_compare.specs.inner.Naming.{by_code, by_name}
+use Rattle.pam_compare.specs.Names.{by_name}
+use Rattle.pam_compare.specs.inner.Naming.{by_code}
 use Rattle.pam_compare.specs.inner.Trails.{AreAnswers, IsTrail, answers_on}
 use Rattle.pam_compare.proofs.Reaching.{possible-on, way-at}
 use Rattle.pam_compare.proofs.Trails.{one-trail}

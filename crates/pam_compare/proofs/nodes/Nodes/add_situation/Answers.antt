@@ -1,4 +1,4 @@
-use Rattle.std.proofs.Common.{◌∙◌, ◌+◌, List, ap, inl, length, sym}
+use Rattle.std.proofs.Common.{◌∙◌, ◌+◌, List, ap, inl, inr, length, refl, sym}
 use Rattle.std.specs.Prelude.{slice_get}
 use Rattle.std.proofs.lemmas.List.{length_push}
 use Rattle.pam_compare.specs.declared.nodes.Way.{Way}
@@ -56,3 +56,9 @@ pub returns-else-is_new-clause-found : goal.returns-else-is_new-clause-found
 returns-else-is_new-clause-found c =
     let s = c.in_ok-index.ensures.stored in
     (s.0, s.1, same-is s.0 c.args.situation s.2)
+
+pub returns-in_ok-push-clause-more : goal.returns-in_ok-push-clause-more
+returns-in_ok-push-clause-more c = inr c.in_ok-push.ensures.items
+
+pub returns-else-is_new-clause-more : goal.returns-else-is_new-clause-more
+returns-else-is_new-clause-more c = inl refl

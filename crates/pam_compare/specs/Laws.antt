@@ -1,0 +1,29 @@
+-- What the definitions of situations imply.
+use Rattle.std.specs.Prelude.{◌≡◌, ◌≢◌, ◌<◌, ℕ, List, [], ◌∷◌, Option, None}
+use Rattle.std.specs.List.{AllByRecursion}
+use Rattle.pam_dispatch.specs.declared.flat_item.FlatItem.{FlatItem}
+use Rattle.pam_dispatch.specs.Flat.{runs_of}
+use Rattle.pam_dispatch.specs.Runs.{Assignment, Runs, asked_module}
+use Rattle.pam_paths.specs.Listing.{Allowance}
+use Rattle.pam_compare.specs.declared.held.HeldAnswer.{HeldAnswer}
+use Rattle.pam_compare.specs.Situations.{HasMoreSituations}
+use Rattle.pam_compare.specs.Walks.{IsAfter, Order}
+
+-- two stacks that ask no module have no more than one situation
+abbrev pub OneSituation : Type 0
+OneSituation =
+    (old_allows new_allows : Allowance) (old new : List FlatItem) (partners : List (Option ℕ)) (limit : ℕ) →
+    asked_module (runs_of old) ≡ None → asked_module (runs_of new) ≡ None →
+    HasMoreSituations old_allows new_allows old new partners limit → limit < 1
+
+-- no two answers have one name
+unfoldable pub AreOnce : List HeldAnswer → Type 0
+AreOnce [] = Unit {0}
+AreOnce (answer ∷ rest) = AllByRecursion (λ other. other.name ≢ answer.name) rest × AreOnce rest
+
+-- wherever the walk is, it holds one answer of each name at most
+abbrev pub HeldOnce : Type 0
+HeldOnce =
+    (old new : List FlatItem) (names : List ℕ) (possible : List (List ℕ)) (old_first : Order) (old_answers new_answers : Assignment)
+    (answers : List HeldAnswer) (left right : Runs) (held : List HeldAnswer) →
+    IsAfter old new names possible old_first old_answers new_answers answers left right held → AreOnce held

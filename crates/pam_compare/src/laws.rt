@@ -1,0 +1,13 @@
+//! Laws of the definitions that the contracts cite: each is the contract of an empty function.
+
+ghost use Rattle.pam_compare.specs.Laws.{HeldOnce, OneSituation};
+
+/// Two stacks that ask no module have no more than one situation.
+pub fn one_situation()
+    ensures { OneSituation }
+{}
+
+/// Wherever the walk of two stacks is, it holds one answer of each module at most.
+pub fn held_once()
+    ensures { HeldOnce }
+{}
