@@ -9,8 +9,8 @@ use Rattle.pam_drawing.specs.declared.format.Format.TheVariants.{Dot, Mermaid}
 abbrev pub with_front : List ℕ → Option (List ℕ × List ℕ) → Option (List ℕ × List ℕ)
 with_front front read = option_map (λ (p : List ℕ × List ℕ). (front ++ p.0, p.1)) read
 
--- how DOT reads a text in quotes, after the first of them (and a backslash, if so): the characters before the quote that
--- ends it, and what comes after that quote. A backslash makes the next character one of the text
+-- how DOT reads a text in quotes, from after the opening quote on: the characters before the quote that ends it, and what comes
+-- after that quote. `escaped` is true just after a backslash, which makes the next character one of the text
 unfoldable pub dot_text : Bool → List ℕ → Option (List ℕ × List ℕ)
 dot_text escaped [] = None
 dot_text true (c ∷ rest) = with_front (c ∷ []) (dot_text false rest)

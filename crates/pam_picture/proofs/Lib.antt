@@ -1,1 +1,6 @@
 mod Controls
+mod Lanes
+mod Noted
+mod Notes
+mod Ranges
+mod Rooms

@@ -7,6 +7,8 @@ use Rattle.pam_codes.specs.declared.code.TheConstants.{CODES}
 use Rattle.pam_conf.specs.Stack.{Items, ModuleText, module_at, module_count}
 use Rattle.pam_graph.specs.Walks.{GraphValue}
 use Rattle.pam_graph.specs.declared.node.Node.{Node}
+use Rattle.pam_picture.specs.Lanes.{HasLanes}
+use Rattle.pam_picture.specs.Notes.{HasNotes}
 use Rattle.pam_picture.specs.Places.{bytes_of}
 use Rattle.pam_picture.specs.declared.layout.Layout.{Layout}
 use Rattle.pam_picture.specs.declared.layout.shapes.Place.{Place}
@@ -26,8 +28,11 @@ pub record HasPlaces (graph : GraphValue) (layout : Layout) : Type 0 where
   pub nodes : map routes_of layout.places.items ≡ map edges_of graph.nodes
   pub ends : length layout.ends.items ≡ CODES
 
--- A LAYOUT of the picture of a graph of a stack: also each module has a column, and its control as it is written
+-- A LAYOUT of the picture of a graph of a stack: also each module has a column, and its control as it is written; there are the notes
+-- that the labels refer to, and the lanes for the states of the nodes
 pub record IsLayoutOf (items : Items) (graph : GraphValue) (layout : Layout) : Type 0 where
   pub columns : length layout.columns.items ≡ module_count items
   pub controls : map bytes_of layout.controls.items ≡ map (written_control items) (range_with_len 0 (module_count items))
   pub places : HasPlaces graph layout
+  pub notes : HasNotes graph.nodes layout
+  pub lanes : HasLanes graph.nodes layout

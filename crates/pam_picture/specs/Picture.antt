@@ -203,7 +203,7 @@ end_text layout decision =
 unfoldable pub end_if_drawn : Layout → List ℕ → ℕ → List ℕ
 end_if_drawn layout drawn code = if is_in code drawn then end_text layout code else []
 
--- each decision to which edges lead
+-- each decision to which an edge leads, or at which a run begins
 abbrev pub ends_text : Layout → GraphValue → List ℕ
 ends_text layout graph = flat_map (end_if_drawn layout (drawn_ends graph)) all_codes
 

@@ -1,2 +1,4 @@
 -- What no public contract cites.
+pub mod Laned
 pub mod Marks
+pub mod Noted

@@ -1,9 +1,13 @@
 //! Where the shapes of a picture are.
 
-ghost use Rattle.std.specs.Prelude.{◌≡◌, ◌<◌, IfOk, length};
+ghost use Rattle.std.specs.Prelude.{◌≡◌, ◌<◌, IfOk, length, map};
 ghost use Rattle.pam_codes.specs.declared.code.TheConstants.{CODES};
 ghost use Rattle.pam_conf.specs.Stack.{module_count};
+ghost use Rattle.pam_picture.specs.Lanes.{HasLanes};
 ghost use Rattle.pam_picture.specs.Layouts.{HasPlaces};
+ghost use Rattle.pam_picture.specs.Notes.{HasNotes};
+ghost use Rattle.pam_picture.specs.inner.Laned.{AreLaid, lane_at};
+ghost use Rattle.pam_picture.specs.Notes.{noted_classes};
 
 mod aims;
 mod brackets;
@@ -93,7 +97,9 @@ pub struct Layout {
     pub notes: Vec<Note>,
 }
 
-fn lanes_of(alloc: Global, heights: &[Heights]) -> Result<Vec<Lane>, AllocError> {
+fn lanes_of(alloc: Global, heights: &[Heights]) -> Result<Vec<Lane>, AllocError>
+    ensures { IfOk result (λ lanes. lanes.items ≡ map lane_at heights.now) }
+{
     let mut lanes = Vec::new(alloc);
     for height in heights {
         lanes.push(height.lane)?;
@@ -224,7 +230,11 @@ fn layout_by(
     spans: &[Span],
     controls: Vec<Vec<u8>>,
 ) -> Result<Layout, AllocError>
-    ensures { IfOk result (λ layout. (layout.controls ≡ controls) × (length layout.columns.items ≡ area.columns) × HasPlaces graph.now layout) }
+    requires noted { measures.now.noted.now ≡ noted_classes graph.now.nodes }
+    requires laid { AreLaid graph.now.nodes measures.now.grid.now.lanes measures.now.all.now measures.now.heights.now }
+    ensures places { IfOk result (λ layout. (layout.controls ≡ controls) × (length layout.columns.items ≡ area.columns) × HasPlaces graph.now layout) }
+    ensures notes { IfOk result (HasNotes graph.now.nodes) }
+    ensures lanes { IfOk result (HasLanes graph.now.nodes) }
 {
     let columns = columns_of(alloc, measures, area.columns)?;
     let brackets = brackets_of(alloc, measures, spans, BRACKETS)?;

@@ -14,8 +14,8 @@ use Rattle.pam_words.specs.declared.wanted.GraphFormat.{GraphFormat}
 use Rattle.pam_words.specs.declared.wanted.GraphFormat.TheVariants.{Dot, Mermaid, Svg}
 use Rattle.pam_print.specs.Header.{kind_name}
 
--- a text is the drawing of a graph of a stack in a format, with a title. Where the shapes of a picture are is left open, and so
--- is nothing else
+-- a text is the drawing of a graph of a stack in a format, with a title. Left open are where the shapes of a picture are, and how
+-- many lanes and brackets it has, and nothing else
 abbrev pub IsDrawnIn : GraphFormat → List ℕ → Items → GraphValue → List ℕ → Type 0
 IsDrawnIn Dot title items graph text = text ≡ dot_drawing title items graph
 IsDrawnIn Mermaid title items graph text = text ≡ mermaid_drawing title items graph

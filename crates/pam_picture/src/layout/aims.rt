@@ -29,6 +29,9 @@ pub(super) struct Grid {
 }
 
 impl Grid {
+    ghost use Rattle.std.specs.Prelude.{◌≡◌, IfOk};
+    ghost use Rattle.pam_picture.specs.inner.Laned.{AreInLanes};
+
     /// Returns the lane and column of a target, with no track.
     fn spot(&self, nodes: &[Node], target: Target) -> Aim {
         match target {
@@ -71,7 +74,9 @@ impl Grid {
     }
 
     /// Marks where the nodes and ends are.
-    fn mark_all(&mut self, graph: &Graph) {
+    fn mark_all(&mut self, graph: &Graph)
+        ensures { self.new.lanes ≡ self.old.lanes }
+    {
         for (index, node) in graph.nodes().iter().enumerate() {
             let lane = number_at(&self.lanes.of_nodes, index);
             self.taken.set(lane, node.module_number, 1);
@@ -110,7 +115,9 @@ impl Grid {
     }
 
     /// Gives the targets in a lane the lowest tracks that are free where edges to them pass.
-    fn lay_tracks(&mut self, passed: &Table, lane: usize) {
+    fn lay_tracks(&mut self, passed: &Table, lane: usize)
+        ensures { self.new.lanes ≡ self.old.lanes }
+    {
         for column in 0..self.last.saturating_add(1) {
             let first = passed.get(lane, column);
             if first > 0 {
@@ -140,7 +147,9 @@ impl Grid {
     }
 
     /// Returns the grid of the graph of a stack with this many modules.
-    pub fn of(alloc: Global, graph: &Graph, modules: usize) -> Result<Grid, AllocError> {
+    pub fn of(alloc: Global, graph: &Graph, modules: usize) -> Result<Grid, AllocError>
+        ensures { IfOk result (λ grid. AreInLanes graph.now.nodes grid.lanes) }
+    {
         let lanes = Lanes::of(alloc, graph)?;
         let rows = lanes.states.len();
         let last = modules.saturating_add(1);

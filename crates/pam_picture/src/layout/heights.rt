@@ -1,8 +1,13 @@
 //! The heights of lanes, tracks and rows.
 
+ghost use Rattle.std.specs.Prelude.{◌≡◌, IfOk, if◌then◌else◌, length, map, None, Some};
+ghost use Rattle.std.specs.List.{list_any, range_with_len};
+ghost use Rattle.pam_picture.specs.inner.Laned.{leaves, middle_in, state_at, state_in};
+
 use super::aims::{Aim, Grid};
 use super::ports::{Port, Ports};
 use super::shapes::Lane;
+use pam_dispatch::State;
 use std::alloc::{AllocError, Global};
 
 /// The height of a row of edges, or of a track.
@@ -42,7 +47,9 @@ fn rows_of_lane(all: &[Ports], lane: usize) -> (usize, usize) {
 }
 
 /// Whether a node is in a lane.
-fn has_node(all: &[Ports], lane: usize) -> bool {
+fn has_node(all: &[Ports], lane: usize) -> bool
+    ensures { result ≡ list_any (leaves lane) all.now }
+{
     for ports in all {
         if ports.lane == lane {
             return true;
@@ -51,13 +58,27 @@ fn has_node(all: &[Ports], lane: usize) -> bool {
     false
 }
 
+/// Returns a state, if a node is in the lane for it.
+fn state_if_used(all: &[Ports], lane: usize, state: State) -> Option<State>
+    ensures { result ≡ (if list_any (leaves lane) all.now then Some state else None) }
+{
+    if has_node(all, lane) {
+        Some(state)
+    } else {
+        None
+    }
+}
+
 /// Returns the lanes, from a height on, and the height at which they end.
 pub(super) fn all_heights(
     alloc: Global,
     grid: &Grid,
     all: &[Ports],
     first: usize,
-) -> Result<(Vec<Heights>, usize), AllocError> {
+) -> Result<(Vec<Heights>, usize), AllocError>
+    ensures { IfOk result (λ found. map state_at found.0.items
+        ≡ map (state_in all.now grid.now.lanes.states.items) (range_with_len 0 (length grid.now.lanes.states.items))) }
+{
     let mut heights = Vec::new(alloc);
     let mut top = first;
     for (lane, state) in grid.lanes.states.iter().enumerate() {
@@ -65,11 +86,7 @@ pub(super) fn all_heights(
         let over = rows(grid.tracks_over(lane).saturating_add(above)).saturating_add(MARGIN);
         let middle = top.saturating_add(over);
         let lane = Lane {
-            state: if has_node(all, lane) {
-                Some(*state)
-            } else {
-                None
-            },
+            state: state_if_used(all, lane, *state),
             top,
             middle,
         };
@@ -84,7 +101,9 @@ pub(super) fn all_heights(
     Ok((heights, top))
 }
 
-fn lane_at(heights: &[Heights], lane: usize) -> (usize, usize) {
+fn lane_at(heights: &[Heights], lane: usize) -> (usize, usize)
+    ensures { result.0 ≡ middle_in heights.now lane }
+{
     match heights.get(lane) {
         Some(found) => (found.lane.middle, found.raised),
         None => (0, 0),
@@ -92,7 +111,9 @@ fn lane_at(heights: &[Heights], lane: usize) -> (usize, usize) {
 }
 
 /// Returns the height of the nodes in a lane.
-pub(super) fn middle_of(heights: &[Heights], lane: usize) -> usize {
+pub(super) fn middle_of(heights: &[Heights], lane: usize) -> usize
+    ensures { result ≡ middle_in heights.now lane }
+{
     lane_at(heights, lane).0
 }
 

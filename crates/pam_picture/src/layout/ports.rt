@@ -1,5 +1,9 @@
 //! The rows in which edges leave their nodes: in the order of the heights to which they lead, so that none crosses another.
 
+ghost use Rattle.std.specs.Prelude.{◌≡◌, IfOk, length, map};
+ghost use Rattle.std.specs.List.{range_with_len};
+ghost use Rattle.pam_picture.specs.inner.Laned.{lane_of, number_at};
+
 use super::aims::{Aim, Grid};
 use super::table::number_at;
 use pam_graph::{Edge, Node};
@@ -121,7 +125,9 @@ fn ports_of(
     nodes: &[Node],
     index: usize,
     node: &Node,
-) -> Result<Ports, AllocError> {
+) -> Result<Ports, AllocError>
+    ensures { IfOk result (λ ports. lane_of ports ≡ number_at grid.now.lanes.of_nodes.items index) }
+{
     let lane = number_at(&grid.lanes.of_nodes, index);
     let aims = aims_of(alloc, grid, nodes, node)?;
     let ports = ranked(alloc, &aims)?;
@@ -138,7 +144,9 @@ pub(super) fn all_ports(
     alloc: Global,
     grid: &Grid,
     nodes: &[Node],
-) -> Result<Vec<Ports>, AllocError> {
+) -> Result<Vec<Ports>, AllocError>
+    ensures { IfOk result (λ all. map lane_of all.items ≡ map (number_at grid.now.lanes.of_nodes.items) (range_with_len 0 (length nodes.now))) }
+{
     let mut all = Vec::new(alloc);
     for (index, node) in nodes.iter().enumerate() {
         all.push(ports_of(alloc, grid, nodes, index, node)?)?;

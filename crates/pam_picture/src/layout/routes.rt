@@ -38,6 +38,11 @@ fn bend(from: usize, to: usize, height: usize) -> Bend {
 impl Measures<'_> {
     ghost use Rattle.std.specs.Prelude.{◌≡◌, IfOk, map};
     ghost use Rattle.pam_picture.specs.Layouts.{edges_of, routes_of};
+    ghost use Rattle.std.specs.Prelude.{length};
+    ghost use Rattle.std.specs.List.{range_with_len};
+    ghost use Rattle.pam_picture.specs.inner.Laned.{height_in, height_of};
+    ghost use Rattle.pam_picture.specs.Notes.{number_from};
+    ghost use Rattle.pam_picture.specs.inner.Noted.{notes_of, numbers_in};
 
     fn gutter(&self, column: usize) -> Gutter {
         gutter_after(self.gutters, column, self.first)
@@ -53,7 +58,9 @@ impl Measures<'_> {
     }
 
     /// Returns the way of an edge from a column, which turns after as many others.
-    fn route(&self, column: usize, row: usize, aim: Aim, before: usize, note: usize) -> Route {
+    fn route(&self, column: usize, row: usize, aim: Aim, before: usize, note: usize) -> Route
+        ensures { result.note ≡ note }
+    {
         let gutter = self.gutter(column);
         let end = self.at(aim.column);
         let turns = gutter.turns.saturating_add(before.saturating_mul(STEP));
@@ -70,7 +77,9 @@ impl Measures<'_> {
     }
 
     /// Returns the way of the edge of a node at a position.
-    fn route_of(&self, index: usize, node: &Node, position: usize, edge: &Edge) -> Route {
+    fn route_of(&self, index: usize, node: &Node, position: usize, edge: &Edge) -> Route
+        ensures { result.note ≡ number_from 1 self.now.noted.now edge.now.class }
+    {
         let before = self.turns.before.get(index, position);
         let note = number_of(self.noted, edge.class);
         let (row, aim) = leaving(self.all, self.heights, index, position);
@@ -78,7 +87,9 @@ impl Measures<'_> {
     }
 
     fn place(&self, alloc: Global, index: usize, node: &Node) -> Result<Place, AllocError>
-        ensures { IfOk result (λ place. routes_of place ≡ edges_of node.now) }
+        ensures routes { IfOk result (λ place. routes_of place ≡ edges_of node.now) }
+        ensures notes { IfOk result (λ place. notes_of place ≡ numbers_in self.now.noted.now node.now) }
+        ensures height { IfOk result (λ place. height_of place ≡ height_in self.now.heights.now self.now.grid.now.lanes.of_nodes.items index) }
     {
         let mut routes = Vec::new(alloc);
         for (position, edge) in node.edges.iter().enumerate() {
@@ -93,7 +104,10 @@ impl Measures<'_> {
 
     /// Returns where the nodes are, with the ways of their edges.
     pub fn places(&self, alloc: Global, nodes: &[Node]) -> Result<Vec<Place>, AllocError>
-        ensures { IfOk result (λ places. map routes_of places.items ≡ map edges_of nodes.now) }
+        ensures routes { IfOk result (λ places. map routes_of places.items ≡ map edges_of nodes.now) }
+        ensures notes { IfOk result (λ places. map notes_of places.items ≡ map (numbers_in self.now.noted.now) nodes.now) }
+        ensures heights { IfOk result (λ places. map height_of places.items
+            ≡ map (height_in self.now.heights.now self.now.grid.now.lanes.of_nodes.items) (range_with_len 0 (length nodes.now))) }
     {
         let mut places = Vec::new(alloc);
         for (index, node) in nodes.iter().enumerate() {

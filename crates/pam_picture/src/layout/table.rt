@@ -1,5 +1,8 @@
 //! Tables of numbers.
 
+ghost use Rattle.std.specs.Prelude.{◌≡◌};
+ghost use Rattle.pam_picture.specs.inner.Laned.{number_at};
+
 use std::alloc::{AllocError, Global};
 
 /// Numbers in rows and columns. One that was never set is 0, and so is one outside the table.
@@ -37,7 +40,9 @@ impl Table {
 }
 
 /// Returns a number of a list; 0 past its end.
-pub(super) fn number_at(numbers: &[usize], index: usize) -> usize {
+pub(super) fn number_at(numbers: &[usize], index: usize) -> usize
+    ensures { result ≡ number_at numbers.now index }
+{
     match numbers.get(index) {
         Some(number) => *number,
         None => 0,

@@ -1,0 +1,6 @@
+-- the lanes stay the same
+use Rattle.std.proofs.Common.{◌≡◌}
+use Rattle.pam_picture.proofs.layout.aims.Grid.lay_tracks.Given as goal
+
+abbrev pub invariant-loop-column : goal.invariant-loop-column
+invariant-loop-column l = l.self.lanes ≡ l.fn.self.lanes
