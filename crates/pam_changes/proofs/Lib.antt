@@ -3,3 +3,4 @@ pub mod Listing
 pub mod Merging
 pub mod Sameness
 pub mod Stacked
+pub mod Told

@@ -1,11 +1,12 @@
 -- Stacks that are compared, one after another.
-use Rattle.std.proofs.Common.{◌≡◌, ◌∙◌, ℕ, ◌+◌, List, [], ◌∷◌, ◌++◌, length, map, subst, true, sym, ap, refl, suc, zero}
+use Rattle.std.proofs.Common.{◌≡◌, ◌∙◌, ℕ, ◌+◌, List, [], ◌∷◌, ◌++◌, length, map, subst, false, true, inl, inr, sym, ap, refl, suc, zero}
 use Rattle.std.proofs.Common.{Option, Some, None, slice_get}
 use Rattle.std.proofs.Common.{append-nil, append_assoc, arith}
+use Rattle.std.proofs.lemmas.Bool.{cases_Bool, eqb-true}
 use Rattle.std.proofs.lemmas.List.{length-map, map-append}
 use Rattle.std.proofs.lemmas.List.Elements.{All-append, All-from_recursion, All-nil, All-weaker}
 use Rattle.std.specs.List.{All}
-use Rattle.std.specs.Prelude.{Result, Ok, Err, unwrap_or}
+use Rattle.std.specs.Prelude.{◌==◌, Result, Ok, Err, unwrap_or}
 use Rattle.pam_conf.specs.Files.{Folder}
 use Rattle.pam_conf.specs.Laws.{IsSound, StackIsSoundSurvey}
 use Rattle.pam_conf.specs.Resolution.{resolved}
@@ -13,8 +14,8 @@ use Rattle.pam_conf.specs.Stack.{Items}
 use Rattle.pam_conf.specs.Survey.{SurveyText, surveyed}
 use Rattle.pam_conf.specs.declared.conf_error.ConfError.{ConfError}
 use Rattle.pam_conf.specs.declared.rule.Kind.{Kind}
-use Rattle.pam_changes.specs.Changes.{AreChanges, AreEqual, IsChange, IsOfPair, IsStack, fault_in, kinds_asked, stacks_asked}
-use Rattle.pam_changes.specs.inner.Finding.{AddsPairs, HasItemsAt, IsFound, KeepsPairs, asked_of}
+use Rattle.pam_changes.specs.Changes.{AreChanges, AreEqual, AreToldFirst, IsChange, IsOfPair, IsStack, fault_in, is_of_pair, kinds_asked, stacks_asked}
+use Rattle.pam_changes.specs.inner.Finding.{AddsPairs, HasItemsAt, IsFound, KeepsPairs, TellsNew, asked_of}
 use Rattle.pam_changes.specs.Pairs.{IsPair}
 use Rattle.pam_changes.specs.Same.{same_items}
 use Rattle.pam_changes.specs.Services.{ServiceText, compared_names, compared_services, presence_in, service_text, services_of}
@@ -27,12 +28,7 @@ use Rattle.pam_changes.specs.declared.stacks.Found.{Found}
 use Rattle.pam_changes.specs.declared.stacks.StackChange.{StackChange}
 use Rattle.pam_changes.specs.declared.stacks.StackChange.TheVariants as changes
 use Rattle.pam_changes.proofs.Sameness.{same-self}
-
-some-is : {X : Type 0} (x y : X) → Some x ≡ Some y → x ≡ y
-some-is x y e = cc
-
-none-is : {X : Type 0} (x : X) → None ≡ Some x → ⊥
-none-is x e = cc
+use Rattle.pam_changes.proofs.Told.{none-is, some-is, told-more, told-nothing}
 
 -- THE STACK OF A SURVEY without a fault
 pub sound-stack : StackIsSoundSurvey → (rules folder : Folder) → rules ≡ folder →
@@ -56,9 +52,16 @@ keeps-more [] pair k p at = absurd (none-is p at)
 keeps-more (q ∷ pairs) pair zero p at = at
 keeps-more (q ∷ pairs) pair (suc k) p at = keeps-more pairs pair k p at
 
-pub last-there : (pairs : List StackPair) (pair : StackPair) → slice_get (pairs ++ pair ∷ []) (length pairs) ≡ Some pair
+last-there : (pairs : List StackPair) (pair : StackPair) → slice_get (pairs ++ pair ∷ []) (length pairs) ≡ Some pair
 last-there [] pair = refl
 last-there (q ∷ pairs) pair = last-there pairs pair
+
+pub last-at : (before after : List StackPair) (pair : StackPair) (k : ℕ) → after ≡ before ++ pair ∷ [] → k ≡ length before →
+    slice_get after k ≡ Some pair
+last-at before after pair k pushed end =
+    ap (λ (l : List StackPair). slice_get l k) pushed
+    ∙ ap (slice_get (before ++ pair ∷ [])) end
+    ∙ last-there before pair
 
 pub adds-none : (sides : SidesText) (found : Found) → AddsPairs sides found found
 unfolding KeepsPairs
@@ -117,13 +120,35 @@ kept-stack sides names before after keeps s h =
     let name = unwrap_or (slice_get names s.service) [] in
     kept-change sides before after keeps s.kind (resolved sides.old.folder name s.kind) (resolved sides.new.folder name s.kind) s.change h
 
+-- no stack is of a pair that is not there
+not-of-pair : (sides : SidesText) (pairs : List StackPair) (k : ℕ) → slice_get pairs k ≡ None → (kind : Kind) (one other : Result Items ConfError)
+    (change : StackChange) → IsChange sides pairs kind one other change → is_of_pair k change ≡ false
+not-of-pair sides pairs k gone kind one other changes.NoStack h = refl
+not-of-pair sides pairs k gone kind one other (changes.Refused old new) h = refl
+not-of-pair sides pairs k gone kind one other changes.Same h = refl
+not-of-pair sides pairs k gone kind one other (changes.Differs j) h = elim (cases_Bool (j == k)) [
+  | inl t ↦
+      absurd (subst (λ (o : Option StackPair). IsOfPair sides kind o h.old h.new) (ap (slice_get pairs) (eqb-true j k t) ∙ gone) h.holds)
+  | inr f ↦ f
+]
+
+none-of-pair : (sides : SidesText) (names : List (List ℕ)) (pairs : List StackPair) (stacks : List ComparedStack) →
+    All (IsStack sides names pairs) stacks → (k : ℕ) → slice_get pairs k ≡ None → All (λ s. is_of_pair k s.change ≡ false) stacks
+none-of-pair sides names pairs stacks all k gone =
+    All-weaker (IsStack sides names pairs) (λ s. is_of_pair k s.change ≡ false)
+    (λ s h.
+    let name = unwrap_or (slice_get names s.service) [] in
+    not-of-pair sides pairs k gone s.kind (resolved sides.old.folder name s.kind) (resolved sides.new.folder name s.kind) s.change h)
+    stacks all
+
 -- one more stack
 pub found-more : (sides : SidesText) (names : List (List ℕ)) (asked : List (ℕ × Kind)) (before middle after : Found) (s : ComparedStack) (name : List ℕ) →
     slice_get names s.service ≡ Some name → AddsPairs sides before middle →
     IsChange sides middle.pairs.items s.kind (resolved sides.old.folder name s.kind) (resolved sides.new.folder name s.kind) s.change →
-    after.pairs.items ≡ middle.pairs.items → after.stacks.items ≡ middle.stacks.items ++ s ∷ [] → IsFound sides names asked before →
+    TellsNew before.pairs.items s.service s.change middle.pairs.items → after.pairs.items ≡ middle.pairs.items →
+    after.stacks.items ≡ middle.stacks.items ++ s ∷ [] → IsFound sides names asked before →
     IsFound sides names (asked ++ asked_of s ∷ []) after
-found-more sides names asked before middle after s name there adds is pairs pushed found =
+found-more sides names asked before middle after s name there adds is tells pairs pushed found =
     let stacks : after.stacks.items ≡ before.stacks.items ++ s ∷ [] = pushed ∙ ap (λ (l : List ComparedStack). l ++ s ∷ []) adds.stacks in
     let this : IsStack sides names middle.pairs.items s =
     subst (λ (n : List ℕ). IsChange sides middle.pairs.items s.kind (resolved sides.old.folder n s.kind) (resolved sides.new.folder n s.kind) s.change)
@@ -138,6 +163,10 @@ found-more sides names asked before middle after s name there adds is pairs push
       order = ap (map asked_of) stacks ∙ map-append asked_of before.stacks.items (s ∷ []) ∙ ap (λ (l : List (ℕ × Kind)). l ++ asked_of s ∷ []) found.order;
       stacks = subst (λ (l : List StackPair). All (IsStack sides names l) after.stacks.items) (sym pairs) (subst (All P) (sym stacks) all);
       pairs = subst (All (IsPair sides)) (sym pairs) (adds.pairs found.pairs);
+      told = subst (λ (l : List ComparedStack). AreToldFirst l after.pairs.items) (sym stacks)
+          (subst (AreToldFirst (before.stacks.items ++ s ∷ [])) (sym pairs)
+          (told-more before.stacks.items before.pairs.items middle.pairs.items s
+          (none-of-pair sides names before.pairs.items before.stacks.items found.stacks) found.told tells));
     }
 
 pub four-more : (xs : List (ℕ × Kind)) (a b c d : ℕ × Kind) → (((xs ++ a ∷ []) ++ b ∷ []) ++ c ∷ []) ++ d ∷ [] ≡ xs ++ a ∷ b ∷ c ∷ d ∷ []
@@ -151,6 +180,7 @@ found-none sides names kind found none no-pairs = record {
   order = ap (map asked_of) none;
   stacks = subst (All (IsStack sides names found.pairs.items)) (sym none) (All-nil (IsStack sides names found.pairs.items));
   pairs = subst (All (IsPair sides)) (sym no-pairs) (All-nil (IsPair sides));
+  told = told-nothing found.stacks.items found.pairs.items no-pairs;
 }
 
 asked-more : (kind : Option Kind) (first n : ℕ) →
@@ -206,4 +236,6 @@ are-changes sides named kind services found changes e is s t p =
           (subst (λ (l : List StackPair). All (IsStack sides (compared_names sides named) l) found.stacks.items) (sym p)
           (subst (λ (l : List (List ℕ)). All (IsStack sides l found.pairs.items) found.stacks.items) names is.stacks));
       pairs = subst (All (IsPair sides)) (sym p) is.pairs;
+      told = subst (λ (l : List ComparedStack). AreToldFirst l changes.pairs.items) (sym t)
+          (subst (AreToldFirst found.stacks.items) (sym p) is.told);
     }

@@ -1,5 +1,8 @@
 -- What changes from one configuration to another: pam.conf(5).
-use Rattle.std.specs.Prelude.{◌≡◌, ℕ, zero, suc, ◌+◌, ◌++◌, List, [], ◌∷◌, All, length, map, slice_get, unwrap_or, Option, Some, None, Result, Ok, Err}
+use Rattle.std.specs.Prelude.{◌≡◌, ◌==◌, ℕ, zero, suc, ◌+◌, ◌++◌, Bool, false, List, [], ◌∷◌, All, length, map, slice_get, unwrap_or}
+use Rattle.std.specs.Prelude.{Option, Some, None, Result, Ok, Err}
+use Rattle.std.specs.List.{find}
+use Rattle.std.specs.Option.{option_map}
 use Rattle.pam_conf.specs.Resolution.{resolved}
 use Rattle.pam_conf.specs.Stack.{Items}
 use Rattle.pam_conf.specs.declared.conf_error.ConfError.{ConfError}
@@ -73,9 +76,24 @@ IsStack sides names pairs stack =
     let name = unwrap_or (slice_get names stack.service) [] in
     IsChange sides pairs stack.kind (resolved sides.old.folder name stack.kind) (resolved sides.new.folder name stack.kind) stack.change
 
+-- whether a change is what the pair at this position says
+abbrev pub is_of_pair : ℕ → StackChange → Bool
+is_of_pair position (changes.Differs other) = other == position
+is_of_pair position change = false
+
+-- the service of the first stack that has the pair at this position
+abbrev pub first_service : ℕ → List ComparedStack → Option ℕ
+first_service position stacks = option_map (λ s. s.service) (find (λ s. is_of_pair position s.change) stacks)
+
+-- EACH PAIR IS TOLD AT THE FIRST STACK THAT HAS IT: its service is the service of that stack
+unfoldable pub AreToldFirst : List ComparedStack → List StackPair → Type 0
+AreToldFirst stacks pairs =
+    (position : ℕ) (pair : StackPair) → slice_get pairs position ≡ Some pair → first_service position stacks ≡ Some pair.service
+
 -- THE CHANGES: what is said of each service and kind, in order, and of each pair of stacks
 pub record AreChanges (sides : SidesText) (named : List (List ℕ)) (kind : Option Kind) (changes : HostChanges) : Type 0 where
   pub services : map service_text changes.services.items ≡ compared_services sides named
   pub order : map (λ s. (s.service, s.kind)) changes.stacks.items ≡ stacks_asked 0 (length (compared_names sides named)) kind
   pub stacks : All (IsStack sides (compared_names sides named) changes.pairs.items) changes.stacks.items
   pub pairs : All (IsPair sides) changes.pairs.items
+  pub told : AreToldFirst changes.stacks.items changes.pairs.items

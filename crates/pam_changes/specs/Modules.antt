@@ -26,10 +26,11 @@ pair_of partners number = option_map (λ partner. record { old = partner; new = 
 unfoldable pub pairs_of : List (Option ℕ) → Items → List MatchedPair
 pairs_of partners new = filter_map (pair_of partners) (numbers_in new)
 
--- a module comes after one that it came before; before one that it came after
+-- a module now comes after one that it came before
 abbrev pub comes_later : List MatchedPair → MatchedPair → Bool
 comes_later pairs pair = list_any (λ other. nat_lt other.new pair.new && nat_lt pair.old other.old) pairs
 
+-- a module now comes before one that it came after
 abbrev pub comes_sooner : List MatchedPair → MatchedPair → Bool
 comes_sooner pairs pair = list_any (λ other. nat_lt pair.new other.new && nat_lt other.old pair.old) pairs
 

@@ -7,7 +7,7 @@ ghost use Rattle.pam_changes.specs.Sides.{sides_view};
 
 use crate::sides::Sides;
 use pam_conf::RuleFiles;
-use pam_host::{add_name, has_name, named_services, services_in};
+use pam_host::{NameList, named_services, services_in};
 use pam_text::Texts;
 use std::alloc::{AllocError, Global};
 
@@ -25,19 +25,19 @@ pub struct ComparedService {
 /// The services of either configuration.
 #[derive(Drop)]
 struct Present {
-    old: Texts,
-    new: Texts,
+    old: NameList,
+    new: NameList,
 }
 
 /// The services of the old configuration, and then those that only the new one has.
 fn both_names(alloc: Global, present: &Present) -> Result<Texts, AllocError>
     ensures { IfOk result (λ names. names ≡ fold with_name present.now.old present.now.new) }
 {
-    let mut names = copied(alloc, &present.old)?;
-    for name in present.new.iter() {
-        add_name(&mut names, name)?;
+    let mut names = NameList::of(alloc, copied(alloc, present.old.names())?)?;
+    for name in present.new.names().iter() {
+        names.add(alloc, name)?;
     }
-    Ok(names)
+    Ok(names.into_names())
 }
 
 /// All services, or `other` if there is none.
@@ -77,8 +77,8 @@ fn service_of(alloc: Global, name: &[u8], present: &Present) -> Result<ComparedS
     ensures { IfOk result (λ service. service_text service ≡ presence_in present.now.old present.now.new name.now) }
 {
     Ok(ComparedService {
-        in_old: has_name(&present.old, name),
-        in_new: has_name(&present.new, name),
+        in_old: present.old.has(name),
+        in_new: present.new.has(name),
         name: Vec::from_slice(alloc, name)?,
     })
 }
@@ -112,7 +112,10 @@ fn present_in(
 {
     let old = services_in(alloc, sides.old.files, old_rules)?;
     let new = services_in(alloc, sides.new.files, new_rules)?;
-    Ok(Present { old, new })
+    Ok(Present {
+        old: NameList::of(alloc, old)?,
+        new: NameList::of(alloc, new)?,
+    })
 }
 
 /// The services that are compared, of these: those that are named, or else all.

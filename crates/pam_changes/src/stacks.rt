@@ -1,13 +1,14 @@
 //! The stacks that are compared.
 
-ghost use Rattle.std.specs.Prelude.{◌≡◌, ◌↔◌, ◌∷◌, ◌++◌, [], IfOk, IfSome, IsTrue, List, None, OnOk, Ok, Result, Some, map, slice_get, ℕ};
+ghost use Rattle.std.specs.Prelude.{◌≡◌, ◌↔◌, ◌∷◌, ◌++◌, [], IfOk, IfSome, IsTrue, List, None, OnOk, Ok, Result, Some, length, map, slice_get, ℕ};
 ghost use Rattle.pam_conf.specs.Resolution.{resolved};
 ghost use Rattle.pam_conf.specs.Stack.{Items};
 ghost use Rattle.pam_conf.specs.declared.conf_error.ConfError.{ConfError as ConfErrorText};
 ghost use Rattle.pam_changes.specs.Changes.{HasItems, IsChange, fault_in, kinds_asked, no_service};
-ghost use Rattle.pam_changes.specs.inner.Finding.{AddsPairs, HasItemsAt, IsFound};
+ghost use Rattle.pam_changes.specs.inner.Finding.{AddsPairs, HasItemsAt, IsFound, TellsNew};
 ghost use Rattle.pam_changes.specs.Sides.{SidesText, sides_view};
 ghost use Rattle.pam_changes.specs.declared.pair.StackPair.{StackPair as PairText};
+ghost use Rattle.pam_changes.specs.declared.stacks.StackChange.TheVariants as changes;
 ghost use Rattle.pam_conf.specs.declared.rule.Kind.{Kind as KindText};
 
 use crate::digest::digest_of;
@@ -33,7 +34,8 @@ pub enum StackChange {
     },
     /// Nothing: the stacks have the same items, and each module is there in both configurations or in neither.
     Same,
-    /// What the pair at this position of `pairs` says. It is of the same kind, and its stacks have the same items.
+    /// What the pair at this position of `pairs` says: it is of the same kind, its old stack has the items of the old stack here, and
+    /// its new one those of the new.
     Differs(usize),
 }
 
@@ -174,7 +176,7 @@ impl Found {
     fn push(&mut self, pair: StackPair, digest: u64) -> Result<usize, AllocError>
         ensures pairs { OnOk result (self.new.pairs.items ≡ self.old.pairs.items ++ pair ∷ []) }
         ensures stacks { OnOk result (self.new.stacks.items ≡ self.old.stacks.items) }
-        ensures position { IfOk result (λ k. slice_get self.new.pairs.items k ≡ Some pair) }
+        ensures position { IfOk result (λ k. k ≡ length self.old.pairs.items) }
     {
         let position = self.pairs.len();
         self.pairs.push(pair)?;
@@ -195,6 +197,7 @@ impl Comparer<'_, '_> {
     fn position(&self, found: &mut Found, stacks: BothStacks) -> Result<usize, AllocError>
         ensures adds { OnOk result (AddsPairs (sides_view self.now.sides.now) found.old found.new) }
         ensures pair { IfOk result (λ k. HasItemsAt stacks.kind stacks.old stacks.new (slice_get found.new.pairs.items k)) }
+        ensures told { IfOk result (λ k. TellsNew found.old.pairs.items stacks.service (changes.Differs k) found.new.pairs.items) }
     {
         let digest = digest_of(&stacks);
         if let Some(position) = found.find(&stacks, digest) {
@@ -209,6 +212,7 @@ impl Comparer<'_, '_> {
     fn change(&self, found: &mut Found, stacks: BothStacks) -> Result<StackChange, AllocError>
         ensures adds { OnOk result (AddsPairs (sides_view self.now.sides.now) found.old found.new) }
         ensures change { IfOk result (IsChange (sides_view self.now.sides.now) found.new.pairs.items stacks.kind (Ok stacks.old) (Ok stacks.new)) }
+        ensures told { IfOk result (λ change. TellsNew found.old.pairs.items stacks.service change found.new.pairs.items) }
     {
         if are_same(&stacks.old, &stacks.new) && are_there_alike(self.sides, &stacks.old) {
             return Ok(StackChange::Same);
@@ -228,6 +232,7 @@ impl Comparer<'_, '_> {
     ) -> Result<StackChange, AllocError>
         ensures adds { OnOk result (AddsPairs (sides_view self.now.sides.now) found.old found.new) }
         ensures change { IfOk result (IsChange (sides_view self.now.sides.now) found.new.pairs.items kind old new) }
+        ensures told { IfOk result (λ change. TellsNew found.old.pairs.items service change found.new.pairs.items) }
     {
         match old {
             Ok(old) => match new {
@@ -257,6 +262,7 @@ impl Comparer<'_, '_> {
         ensures adds { OnOk result (AddsPairs (sides_view self.now.sides.now) found.old found.new) }
         ensures change { IfOk result (IsChange (sides_view self.now.sides.now) found.new.pairs.items kind
             (resolved self.now.sides.now.old.files.now name.now kind) (resolved self.now.sides.now.new.files.now name.now kind)) }
+        ensures told { IfOk result (λ change. TellsNew found.old.pairs.items service change found.new.pairs.items) }
     {
         let old = stack_of(self.alloc, &self.sides.old, self.old_rules, name, kind)?;
         let new = stack_of(self.alloc, &self.sides.new, self.new_rules, name, kind)?;

@@ -5,6 +5,7 @@ pub mod Foldered
 pub mod Jumping
 pub mod Listed
 pub mod Meeting
+pub mod NameSteps
 pub mod OneService
 pub mod Others
 pub mod Owned

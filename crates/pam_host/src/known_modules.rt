@@ -1,15 +1,12 @@
 //! What is known of the modules of a host.
 
 ghost use Rattle.std.specs.Prelude.{◌≡◌};
-ghost use Rattle.std.specs.List.{list_any};
 ghost use Rattle.std.specs.Option.{option_map};
-ghost use Rattle.std.specs.Str.{bytes_eq};
 ghost use Rattle.pam_conf.specs.ItemsOf.{module_text};
-ghost use Rattle.pam_facts.specs.Answers.{is_there};
 ghost use Rattle.pam_host.specs.Verdicts.{IsFailing, IsFree, has_no_function, is_missing};
 
 use pam_conf::{Kind, Module, Stack};
-use pam_facts::Facts;
+use pam_facts::{Facts, is_there};
 use pam_paths::Known;
 use pam_text::Texts;
 use std::marker::Model;
@@ -19,12 +16,6 @@ use std::marker::Model;
 pub(crate) struct Modules<'x, 'f> {
     facts: &'x Facts<'f>,
     there: Option<&'x Texts>,
-}
-
-fn has_path(paths: &Texts, path: &[u8]) -> bool
-    ensures { result ≡ list_any (λ known. bytes_eq known path.now) paths.now }
-{
-    paths.iter().any(|known| known == path)
 }
 
 impl<'x, 'f> Model for Modules<'x, 'f> {
@@ -43,21 +34,11 @@ impl<'x, 'f> Modules<'x, 'f> {
         Modules { facts, there }
     }
 
-    /// Whether there is a module at a path.
-    fn is_there(&self, path: &[u8]) -> bool
-        ensures { result ≡ is_there self.now.there path.now }
-    {
-        match self.there {
-            Some(paths) => has_path(paths, path),
-            None => true,
-        }
-    }
-
     /// Whether a module is not there, as far as it is known which are.
     pub(crate) fn is_missing(&self, module: &Module) -> bool
         ensures { result ≡ is_missing self.now (module_text «module».now) }
     {
-        !self.is_there(&module.path)
+        !is_there(self.there, &module.path)
     }
 
     /// Whether a module has no function in a kind.

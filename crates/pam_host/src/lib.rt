@@ -11,6 +11,7 @@ pub mod laws;
 mod level;
 mod met;
 mod modules;
+mod name_list;
 mod names;
 mod own;
 mod problem;
@@ -25,8 +26,9 @@ mod way_in;
 
 pub use level::Level;
 pub use met::Met;
+pub use name_list::NameList;
 pub use problem::{Place, Problem, Spot};
 pub use report::{Finding, HostReport};
-pub use services::{add_name, has_name, named_services, services_in};
+pub use services::{named_services, services_in};
 pub use stacks::is_sound;
 pub use way_in::{Answered, WayIn};

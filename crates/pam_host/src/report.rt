@@ -43,7 +43,7 @@ impl HostReport {
     ///
     /// In a folder each file is a service, but for those whose names have a capital letter (S7) or are left over (S11). In
     /// pam.conf each service that a rule names is one. If there is none, `other` is checked. Each file is read once. Takes
-    /// time in proportion to the files and to the rules that the stacks walk.
+    /// time in proportion to the files, and for each rule that the stacks walk to the facts and to `there`.
     ///
     /// `there` has the paths at which a module is there, as rules write them. A module that is not there (S5) answers
     /// `module_unknown` alone. With `None` that is not known, and each is taken to be there.

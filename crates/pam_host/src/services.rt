@@ -2,32 +2,14 @@
 
 ghost use Rattle.std.specs.Prelude.{◌≡◌, ◌++◌, IfOk, OnOk, filter, filter_map, map, unwrap_or, [], ◌∷◌, codes, if◌then◌else◌};
 ghost use Rattle.std.specs.Char.{to_ascii_lowercase};
-ghost use Rattle.std.specs.List.{list_any};
-ghost use Rattle.std.specs.Str.{bytes_eq};
 ghost use Rattle.pam_conf.specs.Rule.{rule_view};
-ghost use Rattle.pam_host.specs.Services.{checked_services, each_once, is_service, or_other, services_in, with_name};
+ghost use Rattle.pam_host.specs.Services.{checked_services, each_once, is_service, or_other, services_in};
 
+use crate::name_list::NameList;
 use crate::names::is_service;
 use pam_conf::{Files, Form, Rule, RuleFiles};
 use pam_text::Texts;
 use std::alloc::{AllocError, Global};
-
-/// Whether a name is among these.
-pub fn has_name(names: &Texts, name: &[u8]) -> bool
-    ensures { result ≡ list_any (bytes_eq name.now) names.now }
-{
-    names.iter().any(|known| name == known)
-}
-
-/// Adds a name, if it is not there yet.
-pub fn add_name(names: &mut Texts, name: &[u8]) -> Result<(), AllocError>
-    ensures { OnOk result (names.new ≡ with_name names.old name.now) }
-{
-    if has_name(names, name) {
-        return Ok(());
-    }
-    names.push(name)
-}
 
 /// Appends the name of a file, if it is a service.
 fn push_service(names: &mut Texts, name: &[u8]) -> Result<(), AllocError>
@@ -55,13 +37,13 @@ fn services_of_folder(alloc: Global, files: &Files) -> Result<Texts, AllocError>
 fn services_of_rules(alloc: Global, rules: &[Rule]) -> Result<Texts, AllocError>
     ensures { IfOk result (λ names. names ≡ each_once (filter_map (λ rule. rule.service) (map rule_view rules.now))) }
 {
-    let mut names = Texts::new(alloc);
+    let mut names = NameList::new(alloc);
     for rule in rules {
         if let Some(service) = &rule.service {
-            add_name(&mut names, service)?;
+            names.add(alloc, service)?;
         }
     }
-    Ok(names)
+    Ok(names.into_names())
 }
 
 /// The services that pam.conf names.
@@ -114,12 +96,12 @@ fn lower_case(alloc: Global, name: &[u8]) -> Result<Vec<u8>, AllocError>
 pub fn named_services(alloc: Global, named: &Texts) -> Result<Texts, AllocError>
     ensures { IfOk result (λ names. names ≡ each_once (map (λ n. map to_ascii_lowercase n) named.now)) }
 {
-    let mut names = Texts::new(alloc);
+    let mut names = NameList::new(alloc);
     for name in named.iter() {
         let lower = lower_case(alloc, name)?;
-        add_name(&mut names, &lower)?;
+        names.add(alloc, &lower)?;
     }
-    Ok(names)
+    Ok(names.into_names())
 }
 
 /// The services that are checked: those that are named, or else all.

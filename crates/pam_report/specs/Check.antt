@@ -47,8 +47,8 @@ module _ (services : List (List ℕ)) (fail_on : LevelName) (named : CheckFiles)
     pub tables_not_accepted : value.tables ≡ tables_not_accepted lines value.table_paths (table_findings all_tables)
     pub unused : value.unused ≡ lines_without (all_keys files value.services all.entries value.table_paths (table_findings all_tables)) lines
     -- where no line accepts a finding, and all that are listed are notes, each stack that is checked is sound
-    pub silence : lines ≡ [] → All (λ entry. level_of entry.1.problem ≡ Note) value.found → (service : ℕ) (kind : Kind) → service < length value.services →
-        IsSoundStack (host_of files services facts (there_given inputs)) service kind
+    pub silence : value.found ≡ all.entries → All (λ entry. level_of entry.1.problem ≡ Note) value.found →
+        (service : ℕ) (kind : Kind) → service < length value.services → IsSoundStack (host_of files services facts (there_given inputs)) service kind
 
   -- a fault of the facts file comes before one of the accept file
   abbrev pub IsChecked : Result (List Row) FactsError → Result (List Accepted) AcceptError → Answer → Type 0

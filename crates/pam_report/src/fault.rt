@@ -60,8 +60,8 @@ pub enum Fault {
     /// The stack has no module with the number that paths are to ask.
     #[error("the stack has no such module")]
     NoSuchModule,
-    /// The stack has no module with a key for which codes are set.
-    #[error("a key names no module of the stack")]
+    /// A key for which codes are set names no module, or the codes that are set for it are none.
+    #[error("a key names no module, or has no codes")]
     NoSuchKey,
     /// No fault or finding has the number that is to be explained.
     #[error("there is no such number")]

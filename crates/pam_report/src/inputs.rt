@@ -89,7 +89,7 @@ pub struct SideInputs {
     pub there: Option<Texts>,
 }
 
-/// The contents of the files that a request names. A group file, or a table of `paths`, that is not named is `None`.
+/// The contents of the files that a request names, and of the tables of a root. Where neither gives a file, it is `None`.
 #[derive(Drop)]
 pub enum Inputs {
     /// For `check`. The first path is that of the whole configuration, and each other one that under which a file was

@@ -1,9 +1,7 @@
 //! The findings that are meant to be, by an accept file.
 
 ghost use Rattle.std.specs.Prelude.{◌≡◌, ◌++◌, IfOk, List, OnOk, Some, filter, map, not, ℕ};
-ghost use Rattle.std.specs.List.{list_any};
 ghost use Rattle.std.specs.Option.{option_map};
-ghost use Rattle.std.specs.Str.{bytes_eq};
 ghost use Rattle.pam_report.specs.Accepting as spec;
 ghost use Rattle.pam_report.specs.inner.Accepting as inner;
 ghost use Rattle.pam_report.specs.Fault.{file_at};
@@ -16,7 +14,7 @@ use crate::tables::TablePaths;
 use pam_accept::AcceptFile;
 use pam_codes::Piece;
 use pam_conf::{Files, Kind};
-use pam_host::{Finding, HostReport, Place};
+use pam_host::{Finding, HostReport, NameList, Place};
 use pam_table_check::{TableFinding, TableReport};
 use pam_text::{Texts, cut};
 use std::alloc::{AllocError, Global};
@@ -178,20 +176,13 @@ fn not_accepted<T: Copy, K: Keys<T>>(
     Ok(kept)
 }
 
-/// Whether a finding has this key.
-fn has_key(keys: &Texts, key: &[u8]) -> bool
-    ensures { result ≡ list_any (λ known. bytes_eq key.now known) keys.now }
-{
-    keys.iter().any(|known| key == known)
-}
-
 /// Returns the numbers of the lines with other keys than these.
-fn unused(alloc: Global, keys: &Texts, accept: &AcceptFile) -> Result<Vec<u32>, AllocError>
+fn unused(alloc: Global, keys: &NameList, accept: &AcceptFile) -> Result<Vec<u32>, AllocError>
     ensures { IfOk result (λ unused. unused.items ≡ spec.lines_without keys.now accept.now) }
 {
     let mut unused = Vec::new(alloc);
     for line in accept.lines() {
-        if !has_key(keys, &line.key) {
+        if !keys.has(&line.key) {
             unused.push(line.number)?;
         }
     }
@@ -222,6 +213,7 @@ fn unused_lines(
     let mut keys = Texts::new(alloc);
     push_keys(alloc, &mut keys, names, reported.found)?;
     push_keys(alloc, &mut keys, &reported.paths, reported.tables)?;
+    let keys = NameList::of(alloc, keys)?;
     unused(alloc, &keys, accept)
 }
 

@@ -47,7 +47,7 @@ fn has_module(alloc: Global, rules: &RuleFiles<'_>, name: &[u8]) -> Result<bool,
     Ok(false)
 }
 
-/// Whether a setting names a module of either configuration.
+/// Whether a setting has codes, and names a module of either configuration.
 fn names_module(
     alloc: Global,
     old: &RuleFiles<'_>,

@@ -85,7 +85,7 @@ impl<'a> PathsPage<'a> {
     /// Opens the listing from which the page is taken, the first of its paths up to the limit, and lets the renderer write it.
     /// Returns `Cursor` for a cursor that is that of no path of the stack, and `Memory` if an allocation of the listing fails; then
     /// nothing is written.
-    // The listing, of 27 kB, stays in the frame in which it is opened: to return it takes room for it in each caller too.
+    // The listing, of 31 kB, stays in the frame in which it is opened: to return it takes room for it in each caller too.
     pub fn render<T, R: PageRenderer<T>>(
         &self,
         alloc: Global,

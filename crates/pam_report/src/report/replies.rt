@@ -52,8 +52,9 @@ pub enum Reply<'a> {
 }
 
 impl Reply<'_> {
-    /// Returns whether this is a success: a decision of `success`, a login that is granted, a check that finds nothing that
-    /// counts, a comparison without a change, or any answer of the other commands.
+    /// Returns how the answer ended: `Success` for a decision of `success`, a login that is granted, a check that finds nothing
+    /// that counts, a comparison without a change, and any answer of the other commands; `Faulty` for a comparison with a stack
+    /// that is refused; else `Refusal`.
     pub fn status(&self) -> Status
         ensures { result ≡ status_of (reply_view self.now) }
     {

@@ -30,5 +30,5 @@ returns-clause-answer c =
       tables_not_accepted = listed.tables_found;
       unused = listed.unused;
       silence = silent-check c.a_silent_host_is_sound.ensures c.args.files.now c.args.asked.services.now reported.facts _ c.in_ok-report.report.found
-          c.in_ok-report.report.ways_in.items reported.is_report c.in_ok-report.report.services reported.are_services _ _ listed.found;
+          c.in_ok-report.report.ways_in.items reported.is_report c.in_ok-report.report.services reported.are_services _;
     }
