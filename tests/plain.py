@@ -235,8 +235,8 @@ class Request:
 
     def learn(self, source, tree):
         """Looks for the modules, and reads the tables of the system that tell of the login."""
-        folders, files = self.folders(tree), source.files.files.values()
-        self.there = plain_given.there(self.options.get(b"--root"), folders, files, lambda path: found(tree, path))
+        folders = self.folders(tree)
+        self.there = plain_given.there(self.options.get(b"--root"), folders, source.files, lambda path: found(tree, path))
         told = (["group", "access"] + ["time"] * (self.moment_words() != [])) * bool(self.options.get(b"--user"))
         options = {table: option for table, option, _ in plain_given.TABLES}
         self.tables = {options[table]: data for table, (_, data) in plain_given.tables(self.options, tree, told).items()}
@@ -249,7 +249,7 @@ class Request:
         facts = plain_given.facts(data[b"--facts"])
         accepted = plain_given.accepted(data[b"--accept"])
         form, files = source.files.form, source.files.files
-        there = plain_given.there(self.options.get(b"--root"), folders, files.values(), lambda path: found(tree, path))
+        there = plain_given.there(self.options.get(b"--root"), folders, source.files, lambda path: found(tree, path))
         host = plain_host.Host(form, files, self.arguments, there, facts)
         accept = self.options.get(b"--accept", b""), accepted
         status = plain_host.status(plain_host.levels_of(*plain_host.unaccepted(host, accept, given)), self.options.get(b"--fail-on", b"warning"))
@@ -262,7 +262,7 @@ class Request:
         form = b"--conf" if b"--conf" in self.options else b"--root" if b"--root" in self.options else b"--dir"
         files = plain_sources.Source({form: name}, tree).files
         folders = self.folders(tree)
-        return files, plain_given.there(name if form == b"--root" else None, folders, files.files.values(), lambda path: found(tree, path))
+        return files, plain_given.there(name if form == b"--root" else None, folders, files, lambda path: found(tree, path))
 
     def comparison(self, tree):
         """What changes from one configuration to another."""

@@ -96,19 +96,42 @@ def tables(options, tree, of_root=("group", "access", "time")):
 
 def there(root, folders, files, found):
     """The paths at which a module is there, in order, or `None` if there is no folder of modules. `found` is what is at a path, or `None`."""
-    known = []
+    inner = []
     if root is not None:
         for library in LIBRARIES:
             path = joined(root, library)
             names = found(path) if isinstance(found(path), dict) else {}
-            inner = [path] + [joined(path, name.encode()) for name in sorted(names) if "-linux-gnu" in name]
-            known += [found(joined(folder, b"security")) for folder in inner]
-    known = [folder for folder in known + [found(folder) for folder in folders] if isinstance(folder, dict)]
+            inner += [path] + [joined(path, name.encode()) for name in sorted(names) if "-linux-gnu" in name]
+    known = [folder for folder in [joined(folder, b"security") for folder in inner] + list(folders) if isinstance(found(folder), dict)]
     if not known:
         return None
-    paths = [name for folder in known for name in sorted(name.encode() for name in folder)]
-    words = dict.fromkeys(word for data in files for word in re.split(rb"[ \t\r\n]", data) if word.startswith(b"/"))
-    return dict.fromkeys(paths + [word for word in words if is_at(root, word, found)])
+    named = dict.fromkeys(path for data in files.files.values() for path in paths_with_folder(files.form, data))
+    paths = []
+    for folder in known:
+        paths += sorted(name.encode() for name in found(folder))
+        paths += [path for path in named if not path.startswith(b"/") and is_below(path, lambda path: found(joined(folder, path)) is not None)]
+    return dict.fromkeys(paths + [path for path in named if path.startswith(b"/") and is_below(path, lambda path: is_at(root, path, found))])
+
+
+def paths_with_folder(form, data):
+    """What the lines of a file have where a rule has the path of its module, if it has a folder."""
+    if b"\0" in data or len(data) > plain_faults.MOST_BYTES:
+        return
+    for _, line in stacks.logical_lines(data):
+        try:
+            texts = [text for _, text in stacks.words_of(line)]
+        except LineFault:
+            continue
+        yield from (path for path in texts[2 + (form == stacks.SINGLE):][:1] if b"/" in path)
+
+
+def is_below(path, looked_at):
+    """Whether something is at a path that is looked at; one that is not UTF-8 cannot be, and counts as there."""
+    try:
+        path.decode()
+    except UnicodeDecodeError:
+        return True
+    return looked_at(path)
 
 
 def is_at(root, path, found):

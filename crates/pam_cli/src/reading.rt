@@ -10,6 +10,7 @@ ghost use Rattle.pam_words.specs.Wanted.{candidate_view};
 
 mod files;
 mod inside;
+mod module_paths;
 mod modules;
 mod sources;
 mod tables;

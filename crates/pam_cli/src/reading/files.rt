@@ -65,7 +65,7 @@ fn is_link<R: std::rt::Files>(rt: &R, path: Path<'_>) -> bool {
     }
 }
 
-/// Whether this error, met at a link, says that its target is none.
+/// Whether this error says that nothing can be at a path: a circle of links, a way through a file, or a name that is too long.
 pub(super) fn is_of_target(error: &io::Error) -> bool {
     match error.kind() {
         ErrorKind::FilesystemLoop | ErrorKind::NotADirectory | ErrorKind::InvalidFilename => true,

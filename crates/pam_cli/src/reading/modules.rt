@@ -4,8 +4,9 @@ ghost use Rattle.std.specs.Prelude.{◌≡◌, ◌⊎◌, IfErr, map};
 ghost use Rattle.pam_paths.specs.Classes.{Member};
 ghost use Rattle.pam_cli.specs.Sources.{IsInSource, IsUnread};
 
-use crate::reading::files::{entry_names, find_folder, found_at, unread};
+use crate::reading::files::{entry_names, find_folder, found_at, is_of_target, unread};
 use crate::reading::inside::Folder;
+use crate::reading::module_paths::ModulePaths;
 use indexmap::IndexSet;
 use pam_conf::Files;
 use pam_report::InputError;
@@ -15,22 +16,58 @@ use std::alloc::{AllocError, Global};
 use std::io::ErrorKind;
 use std::path::Path;
 
-/// The folders of a system that have a folder of modules, or folders that do.
+/// The folders of libraries of a system. A folder of modules is in one of these, or in a folder for one machine in one of these.
 const LIBRARIES: [&str; 4] = ["lib", "lib64", "usr/lib", "usr/lib64"];
 
 /// The name of a folder of modules.
 const SECURITY: &str = "security";
 
-/// The paths at which a module is there so far, as rules write them, and whether any folder of modules was read.
+/// Whether something is at a path below a folder. What may not be looked at counts as there, and so does a path that is not UTF-8,
+/// which `std::path` cannot name.
+fn is_below<R: std::rt::Files>(
+    rt: &R,
+    alloc: Global,
+    folder: Folder<'_>,
+    path: &[u8],
+) -> Result<bool, AllocError> {
+    let Ok(path) = std::str::from_utf8(path) else {
+        return Ok(true);
+    };
+    match found_at(rt, alloc, folder, path.trim_start_matches('/')) {
+        Ok(found) => Ok(found.is_some()),
+        Err(error) if error.kind() == ErrorKind::OutOfMemory => Err(AllocError),
+        Err(error) => Ok(!is_of_target(&error)),
+    }
+}
+
+/// The modules of a configuration that are looked for, and the paths at which a module is there so far, as rules write them.
 #[derive(Drop)]
 struct Found {
+    named: ModulePaths,
     paths: IndexSet<Vec<u8>>,
+    /// Whether any folder of modules was read.
     is_known: bool,
 }
 
 impl Found {
     fn put(&mut self, alloc: Global, path: &[u8]) -> Result<(), AllocError> {
         self.paths.insert(Vec::from_slice(alloc, path)?)?;
+        Ok(())
+    }
+
+    /// Adds the paths that the rules name at which something is below a folder: the absolute ones, or the others.
+    fn put_named<R: std::rt::Files>(
+        &mut self,
+        rt: &R,
+        alloc: Global,
+        folder: Folder<'_>,
+        are_absolute: bool,
+    ) -> Result<(), AllocError> {
+        for path in &self.named.paths {
+            if path.starts_with(b"/") == are_absolute && is_below(rt, alloc, folder, path)? {
+                self.paths.insert(Vec::from_slice(alloc, path)?)?;
+            }
+        }
         Ok(())
     }
 
@@ -47,7 +84,7 @@ impl Found {
     }
 }
 
-/// Adds the names of the entries of a folder of modules.
+/// Adds the names of the entries of a folder of modules, and the paths with a folder at which something is below it.
 fn put_folder<R: std::rt::Files + AllocGlobal + Clone + Drop>(
     rt: &R,
     alloc: Global,
@@ -64,7 +101,7 @@ fn put_folder<R: std::rt::Files + AllocGlobal + Clone + Drop>(
     for name in names {
         found.put(alloc, name.as_bytes())?;
     }
-    Ok(())
+    Ok(found.put_named(rt, alloc, folder, false)?)
 }
 
 /// Adds the names of the entries of these folders of modules.
@@ -150,62 +187,6 @@ fn put_system<R: std::rt::Files + AllocGlobal + Clone + Drop>(
     Ok(())
 }
 
-/// Whether something is at an absolute path of the system whose root is this folder. What may not be looked at counts as there.
-fn is_at_root<R: std::rt::Files>(
-    rt: &R,
-    alloc: Global,
-    root: Folder<'_>,
-    path: &str,
-) -> Result<bool, AllocError> {
-    match found_at(rt, alloc, root, path.trim_start_matches('/')) {
-        Ok(found) => Ok(found.is_some()),
-        Err(error) if error.kind() == ErrorKind::OutOfMemory => Err(AllocError),
-        Err(_) => Ok(true),
-    }
-}
-
-fn is_blank(byte: &u8) -> bool {
-    *byte == b' ' || *byte == b'\t' || *byte == b'\n' || *byte == b'\r'
-}
-
-/// Adds each word of a file that is an absolute path at which something is there. Such a word may be a module.
-fn put_absolute<R: std::rt::Files>(
-    rt: &R,
-    alloc: Global,
-    root: Folder<'_>,
-    bytes: &[u8],
-    found: &mut Found,
-) -> Result<(), AllocError> {
-    for word in bytes.split(is_blank) {
-        let Ok(path) = std::str::from_utf8(word) else {
-            continue;
-        };
-        if path.starts_with('/')
-            && !found.paths.contains(word)
-            && is_at_root(rt, alloc, root, path)?
-        {
-            found.put(alloc, word)?;
-        }
-    }
-    Ok(())
-}
-
-/// Adds the absolute paths in the files of a configuration at which something is there.
-fn put_all_absolute<R: std::rt::Files>(
-    rt: &R,
-    alloc: Global,
-    root: Folder<'_>,
-    files: &Files,
-    found: &mut Found,
-) -> Result<(), AllocError> {
-    for position in 0..files.len() {
-        if let Some(bytes) = files.bytes(position) {
-            put_absolute(rt, alloc, root, bytes, found)?;
-        }
-    }
-    Ok(())
-}
-
 /// Returns the folder below which the modules of a source are: that of the system for `--root`, else that of the running one.
 fn root_of<'a>(source: ConfSource<'a>) -> Folder<'a> {
     match source {
@@ -230,7 +211,8 @@ fn put_source<R: std::rt::Files + AllocGlobal + Clone + Drop>(
 }
 
 /// Returns the paths at which a module is there, as rules write them: the names of the entries of these folders of modules and of
-/// those of the system, if the source is one, and the absolute paths that the files have. Returns `None` if there is no such folder.
+/// those of the system, if the source is one, and the paths with a folder, where rules have that of their module, at which something
+/// is. Returns `None` if there is no such folder.
 pub(super) fn modules_there<R: std::rt::Files + AllocGlobal + Clone + Drop>(
     rt: &R,
     alloc: Global,
@@ -241,13 +223,14 @@ pub(super) fn modules_there<R: std::rt::Files + AllocGlobal + Clone + Drop>(
     ensures { IfErr result (IsUnread (λ n. IsInSource source.entry n ⊎ Member n (map (λ f. f.now) folders.now))) }
 {
     let mut found = Found {
+        named: ModulePaths::of(alloc, files)?,
         paths: IndexSet::new(alloc),
         is_known: false,
     };
     put_source(rt, alloc, source, &mut found)?;
     put_folders(rt, alloc, folders, &mut found)?;
     if found.is_known {
-        put_all_absolute(rt, alloc, root_of(source), files, &mut found)?;
+        found.put_named(rt, alloc, root_of(source), true)?;
     }
     Ok(found.into_texts(alloc)?)
 }

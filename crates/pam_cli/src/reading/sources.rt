@@ -95,7 +95,7 @@ fn put_entry<R: std::rt::Files>(
     }
 }
 
-/// Adds the regular files of a folder, after links are followed, but those of whose names a file is there.
+/// Adds the regular files of a folder, after links are followed, except those whose names are there already.
 fn add_folder<R: std::rt::Files + AllocGlobal + Clone + Drop>(
     rt: &R,
     alloc: Global,
@@ -270,7 +270,7 @@ fn root_files<R: std::rt::Files + AllocGlobal + Clone + Drop>(
     }
 }
 
-/// Reads the configuration of a source with its candidates, which the one file of `--conf` has none of.
+/// Reads the configuration of a source with its candidates. Beside `--conf` there are none.
 pub(super) fn source_files<R: std::rt::Files + AllocGlobal + Clone + Drop>(
     rt: &R,
     alloc: Global,
