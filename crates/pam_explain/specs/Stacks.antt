@@ -116,8 +116,8 @@ missing_and_long_files =
       level = Error;
       meaning =
           codes "A rule includes a file that is not there; often its name is misspelled.\n"
-          ++ codes "Without a line number, neither the service nor other has rules of this kind,\n"
-          ++ codes "so there is no stack that could let anybody in.";
+          ++ codes "Without a line number, neither the service nor other has a file, or in\n"
+          ++ codes "pam.conf a rule, so there is no stack that could let anybody in.";
       example =
           codes "# login"
           ∷ codes "auth include common-auht"
@@ -126,7 +126,7 @@ missing_and_long_files =
           codes "it reads all four kinds of a service, and of other, whenever a\n"
           ++ codes "program starts, so a fault in one of them stops all.";
       mending =
-          codes "correct the name, or make the file.";
+          codes "correct the name, or make the file; in pam.conf, write the rules.";
     }
     ∷ record {
       number = codes "E16";

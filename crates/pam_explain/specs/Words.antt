@@ -35,7 +35,8 @@ sources_and_names =
           ++ codes "/etc/pam.d.";
       mending =
           codes "give one of --dir, --conf and --root. --vendor-dir may stand\n"
-          ++ codes "beside --dir. Only check may go without.";
+          ++ codes "beside --dir. check may go without. compare takes two words, and\n"
+          ++ codes "--conf or --root beside them, or neither.";
     }
     ∷ record {
       number = codes "U3";
@@ -148,7 +149,8 @@ filters_and_forms =
       level = Error;
       meaning =
           codes "The KEY of a --set names no module: it is not the name of a module of the\n"
-          ++ codes "stack, nor its number, nor FILE:LINE of its rule. compare takes names alone.";
+          ++ codes "stack, nor its number, nor FILE:LINE of its rule; or CODES leave no code.\n"
+          ++ codes "compare takes names alone.";
       example =
           codes "# login"
           ∷ codes "auth required pam_unix.so"
@@ -181,8 +183,8 @@ filters_and_forms =
           ∷ [];
       linux_pam = fault_of_words;
       mending =
-          codes "write dot or mermaid, in small letters. Graphviz makes a picture\n"
-          ++ codes "of the first: dot -Tpng.";
+          codes "write dot, mermaid or svg, in small letters. svg is a picture; of\n"
+          ++ codes "dot, Graphviz makes one: dot -Tpng.";
     }
     ∷ []
 

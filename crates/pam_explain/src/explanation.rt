@@ -1,6 +1,6 @@
 //! What is said of a fault or a finding.
 
-/// How grave a fault or a finding is. A greater level is a graver one.
+/// How grave a fault or a finding is, from the least to the most.
 #[derive(Clone, Copy, Debug, PartialEq, Eq)]
 pub enum Level {
     /// Nothing is wrong with the host, but it is good to know.

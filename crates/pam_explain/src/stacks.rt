@@ -113,15 +113,15 @@ static MISSING_AND_LONG_FILES: [Explanation; 4] = [
         level: Level::Error,
         meaning: concat!(
             "A rule includes a file that is not there; often its name is misspelled.\n",
-            "Without a line number, neither the service nor other has rules of this kind,\n",
-            "so there is no stack that could let anybody in."
+            "Without a line number, neither the service nor other has a file, or in\n",
+            "pam.conf a rule, so there is no stack that could let anybody in."
         ),
         example: &["# login", "auth include common-auht"],
         linux_pam: concat!(
             "it reads all four kinds of a service, and of other, whenever a\n",
             "program starts, so a fault in one of them stops all."
         ),
-        mending: "correct the name, or make the file.",
+        mending: "correct the name, or make the file; in pam.conf, write the rules.",
     },
     Explanation {
         number: "E16",

@@ -32,7 +32,8 @@ static SOURCES_AND_NAMES: [Explanation; 4] = [
         ),
         mending: concat!(
             "give one of --dir, --conf and --root. --vendor-dir may stand\n",
-            "beside --dir. Only check may go without."
+            "beside --dir. check may go without. compare takes two words, and\n",
+            "--conf or --root beside them, or neither."
         ),
     },
     Explanation {
@@ -143,7 +144,8 @@ static FILTERS_AND_FORMS: [Explanation; 4] = [
         level: Level::Error,
         meaning: concat!(
             "The KEY of a --set names no module: it is not the name of a module of the\n",
-            "stack, nor its number, nor FILE:LINE of its rule. compare takes names alone."
+            "stack, nor its number, nor FILE:LINE of its rule; or CODES leave no code.\n",
+            "compare takes names alone."
         ),
         example: &[
             "# login",
@@ -170,8 +172,8 @@ static FILTERS_AND_FORMS: [Explanation; 4] = [
         example: &["$ pamcheck graph login auth --dir . --format png"],
         linux_pam: FAULT_OF_WORDS,
         mending: concat!(
-            "write dot or mermaid, in small letters. Graphviz makes a picture\n",
-            "of the first: dot -Tpng."
+            "write dot, mermaid or svg, in small letters. svg is a picture; of\n",
+            "dot, Graphviz makes one: dot -Tpng."
         ),
     },
 ];

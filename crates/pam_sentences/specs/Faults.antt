@@ -36,7 +36,7 @@ fault_sentence faults.TooManyFollowed = codes "more than 256 includes and substa
 
 -- for a fault at no line: neither the service nor `other` has rules
 abbrev pub no_rules_sentence : List ℕ
-no_rules_sentence = codes "neither the service nor other has rules, so every login is refused; make one of the files"
+no_rules_sentence = codes "neither the service nor other has rules, so every login is refused; write rules for one of them"
 
 -- a missing file that is named at a line, or a service without rules
 abbrev pub plain_sentence : ℕ → FaultKind → List ℕ

@@ -78,7 +78,7 @@ pub fn plain_sentence(line: usize, fault: FaultKind) -> &'static str
 {
     match fault {
         FaultKind::NoService if line == 0 => {
-            "neither the service nor other has rules, so every login is refused; make one of the files"
+            "neither the service nor other has rules, so every login is refused; write rules for one of them"
         }
         _ => fault_sentence(fault),
     }

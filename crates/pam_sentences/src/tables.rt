@@ -31,7 +31,7 @@ pub fn table_fault_sentence(fault: TableFault) -> &'static str
             "the mask is neither a number of bits nor an address of the same family; write one of them"
         }
         TableFault::BadGroup => {
-            "the line is not name, password, number and members, between :; mend it"
+            "the line is not name, password, number and members; write these four, and three : between them"
         }
         TableFault::NulByte => "the table has a NUL byte; remove it",
         TableFault::Memory => "an allocation failed",
@@ -55,7 +55,8 @@ pub fn time_fault_sentence(fault: TimeFault) -> &'static str
             "the times are not days and a range; write them as MoTuWeThFr0800-1800"
         }
         TimeFault::TwoWildcards => "a name has more than one *; leave one",
-        TimeFault::BadLogic => "the field is not a list of names with &, | and !; mend it",
+        TimeFault::BadLogic =>
+            "the field is not a list of names; write one & or | between two names, and at most one ! before each",
         TimeFault::NulByte => "the table has a NUL byte; remove it",
         TimeFault::Memory => "an allocation failed",
         TimeFault::TooLong => "the table is longer than 1,048,576 bytes; shorten it",

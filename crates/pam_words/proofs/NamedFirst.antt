@@ -9,7 +9,7 @@ use Rattle.clap.specs.Faults.{built_fault, other_fault, walk_fault}
 use Rattle.clap.specs.Walk.{Names, Rule, Text, Walk, answers_to, nothing_held, walk, walk_from, walked}
 use Rattle.pam_words.specs.inner.Building.{is_named}
 
--- where a walk stands that met a command, with the words after it
+-- a walk after it met a command, with the words that follow the command's name
 abbrev pub met : Text → List Text → Walk
 met name after = record (walk_from nothing_held) { stopped = Some (name, after) }
 
@@ -95,32 +95,31 @@ pub entered-met : (a : App) (word : Text) (rest : List Text) (s : Shape) → Mee
     → entered a (walk a.top.rules (names_of a) nothing_held (word ∷ rest)).stopped ≡ Some (rows_at s rest)
 entered-met a word rest s m = rw (stops a word rest s m, m.found) refl
 
--- two built command lines that differ in no more than their other commands take the same words
-pub takes-alike : (a b : App) (word : Text) (rest : List Text) (s : Shape) → a.top ≡ b.top → Meets a word s → Meets b word s
-    → built_takes a nothing_held (word ∷ rest) ≡ built_takes b nothing_held (word ∷ rest)
-takes-alike a b word rest s top m n =
-    rw (
-      stops a word rest s m,
-      stops b word rest s n,
-      m.found,
-      n.found,
-      passes-met a.top (names_of a) word rest (label_of s) (find-label word a.subs s m.found) m.name,
-      passes-met b.top (names_of b) word rest (label_of s) (find-label word b.subs s n.found) n.name,
-      top,
-    ) refl
+-- two built command lines that differ in no more than their other commands
+module _ (a b : App) (word : Text) (rest : List Text) (s : Shape) (top : a.top ≡ b.top) (m : Meets a word s) (n : Meets b word s) where
+  in-a : find (answers_to word) (names_of a) ≡ Some (label_of s)
+  in-a = find-label word a.subs s m.found
 
-pub faults-alike : (a b : App) (word : Text) (rest : List Text) (s : Shape) → a.top ≡ b.top → Meets a word s → Meets b word s
-    → built_fault a nothing_held (word ∷ rest) ≡ built_fault b nothing_held (word ∷ rest)
-faults-alike a b word rest s top m n =
-    rw (
-      stops a word rest s m,
-      stops b word rest s n,
-      m.found,
-      n.found,
-      fault-met a.top (names_of a) word rest (label_of s) (find-label word a.subs s m.found) m.name,
-      fault-met b.top (names_of b) word rest (label_of s) (find-label word b.subs s n.found) n.name,
-      top,
-    ) refl
+  in-b : find (answers_to word) (names_of b) ≡ Some (label_of s)
+  in-b = find-label word b.subs s n.found
+
+  stops-a : walk a.top.rules (names_of a) nothing_held (word ∷ rest) ≡ met word rest
+  stops-a = stops a word rest s m
+
+  stops-b : walk b.top.rules (names_of b) nothing_held (word ∷ rest) ≡ met word rest
+  stops-b = stops b word rest s n
+
+  pub same-taken : built_takes a nothing_held (word ∷ rest) ≡ built_takes b nothing_held (word ∷ rest)
+  same-taken =
+      let first = passes-met a.top (names_of a) word rest _ in-a m.name in
+      let second = passes-met b.top (names_of b) word rest _ in-b n.name in
+      rw (stops-a, stops-b, m.found, n.found, first, second, top) refl
+
+  pub same-faults : built_fault a nothing_held (word ∷ rest) ≡ built_fault b nothing_held (word ∷ rest)
+  same-faults =
+      let first = fault-met a.top (names_of a) word rest _ in-a m.name in
+      let second = fault-met b.top (names_of b) word rest _ in-b n.name in
+      rw (stops-a, stops-b, m.found, n.found, first, second, top) refl
 
 -- ---- what building leaves as it is
 
@@ -172,7 +171,7 @@ find-leaf above word (x ∷ xs) ys s none e =
     by true false same h again = cc
     by false true same h again = cc
 
--- what is found is named so, and has what all have
+-- the command that is found has this name, and whatever holds of all
 pub found-named : (word : Text) (xs : List Shape) (s : Shape) → find (is_named word) xs ≡ Some s → is_named word s ≡ true
 found-named word [] s e = cc
 found-named word (x ∷ xs) s e = by (is_named word x) refl e (found-named word xs s)

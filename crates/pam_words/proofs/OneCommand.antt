@@ -12,13 +12,13 @@ use Rattle.pam_words.specs.Words.{paths_app, show_app, time_app, version_app}
 use Rattle.pam_words.specs.inner.Building.{app_for, app_of_one, is_named}
 use Rattle.clap.specs.declared.builder.Command.{Command}
 use Rattle.pam_words.proofs.Subcommand.{is_simple-pamcheck, is_simple_and_free-pamcheck}
-use Rattle.pam_words.proofs.NamedFirst.{Meets, both-true, entered-met, faults-alike, find-leaf, found-has, found-named, has_no_alias, label-leaf, takes-alike}
+use Rattle.pam_words.proofs.NamedFirst.{Meets, both-true, entered-met, find-leaf, found-has, found-named, has_no_alias, label-leaf, same-faults, same-taken}
 
 abbrev above : Shape
 above = with_leaf_noted (marked_built (record bare_app.top { is_leaf = false }))
 
--- a command line that reads these words as the whole one does
-pub record StandsFor (a : App) (words : List Text) : Type 0 where
+-- a command line reads these words as the whole one does
+pub record ReadsAlike (a : App) (words : List Text) : Type 0 where
   pub simple : is_simple a ≡ true
   pub free : is_simple_and_free a ≡ true
   pub command : subcommand_of a words ≡ subcommand_of pamcheck_app words
@@ -80,34 +80,34 @@ module _ (word : Text) (s : Shape) (found : find (is_named word) pamcheck_app.su
     unfolding pamcheck_app bare_app
     same-command = entered-met (built pamcheck_app) word rest _ meets-all ∙ sym (entered-met (built (app_of_one s)) word rest _ meets-one)
 
-    same-faults : fault_of pamcheck_app all ≡ fault_of (app_of_one s) all
+    same-fault : fault_of pamcheck_app all ≡ fault_of (app_of_one s) all
     unfolding pamcheck_app bare_app
-    same-faults = faults-alike (built pamcheck_app) (built (app_of_one s)) word rest _ top meets-all meets-one
+    same-fault = same-faults (built pamcheck_app) (built (app_of_one s)) word rest _ top meets-all meets-one
 
-    same-takes : takes pamcheck_app all ≡ true → takes (app_of_one s) all ≡ true
+    takes-too : takes pamcheck_app all ≡ true → takes (app_of_one s) all ≡ true
     unfolding pamcheck_app bare_app
-    same-takes e =
-        let taken = takes-alike (built pamcheck_app) (built (app_of_one s)) word rest _ top meets-all meets-one in
+    takes-too e =
+        let taken = same-taken (built pamcheck_app) (built (app_of_one s)) word rest _ top meets-all meets-one in
         let parts = both-true (is_simple pamcheck_app) (built_takes (built pamcheck_app) nothing_held (word ∷ rest)) e in
         ap₂ {A = Bool} {B = Bool} {C = Bool} (λ a b. a && b) simple.0 (sym taken ∙ parts.1)
 
-    one-stands : StandsFor (app_of_one s) all
-    one-stands = record { simple = simple.0; free = simple.1; command = sym same-command; faults = sym same-faults; taken = same-takes }
+    one-reads : ReadsAlike (app_of_one s) all
+    one-reads = record { simple = simple.0; free = simple.1; command = sym same-command; faults = sym same-fault; taken = takes-too }
 
-whole-stands : (words : List Text) → StandsFor pamcheck_app words
-whole-stands words = record { simple = is_simple-pamcheck; free = is_simple_and_free-pamcheck; command = refl; faults = refl; taken = λ e. e }
+whole-reads : (words : List Text) → ReadsAlike pamcheck_app words
+whole-reads words = record { simple = is_simple-pamcheck; free = is_simple_and_free-pamcheck; command = refl; faults = refl; taken = λ e. e }
 
 -- the command line for words reads them as the whole one does
-stands_for : (words : List Text) → StandsFor (app_for (slice_get words 1)) words
-stands_for [] = whole-stands []
-stands_for (program ∷ []) = whole-stands (program ∷ [])
-stands_for (program ∷ word ∷ rest) = by (find (is_named word) pamcheck_app.subs) refl
+any-reads : (words : List Text) → ReadsAlike (app_for (slice_get words 1)) words
+any-reads [] = whole-reads []
+any-reads (program ∷ []) = whole-reads (program ∷ [])
+any-reads (program ∷ word ∷ rest) = by (find (is_named word) pamcheck_app.subs) refl
   where
-    by : (o : Option Shape) → find (is_named word) pamcheck_app.subs ≡ o → StandsFor (option_map_or app_of_one o pamcheck_app) (program ∷ word ∷ rest)
-    by None e = whole-stands (program ∷ word ∷ rest)
-    by (Some s) e = one-stands word s e program rest
+    by : (o : Option Shape) → find (is_named word) pamcheck_app.subs ≡ o → ReadsAlike (option_map_or app_of_one o pamcheck_app) (program ∷ word ∷ rest)
+    by None e = whole-reads (program ∷ word ∷ rest)
+    by (Some s) e = one-reads word s e program rest
 
-pub built-stands : (command : Command) (name : Option Text) (words : List Text) → app_of command ≡ app_for name → name ≡ slice_get words 1
-    → StandsFor (app_of command) words
-built-stands command name words built named =
-    subst (λ (a : App). StandsFor a words) (sym (built ∙ ap app_for named)) (stands_for words)
+pub built-reads : (command : Command) (name : Option Text) (words : List Text) → app_of command ≡ app_for name → name ≡ slice_get words 1
+    → ReadsAlike (app_of command) words
+built-reads command name words built named =
+    subst (λ (a : App). ReadsAlike a words) (sym (built ∙ ap app_for named)) (any-reads words)

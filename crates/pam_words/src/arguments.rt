@@ -283,6 +283,13 @@ pub(crate) const SET: ArgRow = ArgRow {
     help: "The codes that a module can return, named by its name, its number or FILE:LINE; may be repeated",
 };
 
+pub(crate) const SET_BY_NAME: ArgRow = ArgRow {
+    form: ArgForm::RepeatedOption,
+    id: "set",
+    name: "KEY=CODES",
+    help: "The codes that the modules of this name can return, in both configurations; may be repeated",
+};
+
 pub(crate) const AT: ArgRow = ArgRow {
     form: ArgForm::Optional,
     id: "at",

@@ -234,7 +234,8 @@ pub struct Request<'a> {
     pub output: OutputForm,
 }
 
-/// Why the words are refused. If several reasons apply, the first in this order is returned.
+/// Why the words are refused. If several reasons apply, the first in this order is returned. A `SettingForm`, and a `CodeName` of a
+/// value of `--set`, share one place in it: there the first value that is wrong decides.
 #[derive(Debug, Drop, Error)]
 pub enum Usage {
     /// Help or the version was requested. The text of the `clap` error goes to standard output.
@@ -262,6 +263,9 @@ pub enum Usage {
     /// U13: the value of `--fail-on` is not the name of a level.
     #[error("unknown level")]
     LevelName,
+    /// U17: a value of `--set` is not KEY=CODES.
+    #[error("a setting that is not KEY=CODES")]
+    SettingForm,
     /// U5: an access or time table is given without a user.
     #[error("a table without a user")]
     Login,
@@ -281,9 +285,6 @@ pub enum Usage {
     /// U15: a value of `--with` is not NAME=FILE, or one is given beside `--conf`.
     #[error("a candidate that is not NAME=FILE, or beside --conf")]
     CandidateForm,
-    /// U17: a value of `--set` is not KEY=CODES.
-    #[error("a setting that is not KEY=CODES")]
-    SettingForm,
     /// U7: an allocation failed.
     #[error("out of memory")]
     Memory,
