@@ -95,7 +95,7 @@ fn in_root(path: &[u8]) -> Option<&[u8]>
 
 /// The name of the module at a path, without folder and `.so`. A path is that of a module of the system if it is the name of
 /// a file alone, or of a file in a `security` folder of `/lib*`, `/usr/lib*` or a folder as `x86_64-linux-gnu` in one of these.
-/// At another path may be anything of that name, so that nothing is known of it.
+/// At any other path there may be any module of that name, so nothing is known of it.
 #[tactic(auto, unfolding(crate::specs::Paths::module_name))]
 pub fn module_name(path: &[u8]) -> Option<&[u8]>
     ensures { option_map (λ n. n.now) result ≡ module_name path.now }

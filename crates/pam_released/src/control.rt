@@ -13,7 +13,7 @@ ghost use Rattle.pam_released.specs.inner.Pair.{code_after, pair_at};
 
 use pam_codes::{Action, CODES, Code, Control, Subject};
 
-/// The number of a jump that is told of longer ones too: no list has as many items.
+/// The longest jump that is kept. A longer one is kept as this one, since no list has so many items.
 const MOST_ITEMS: u64 = 999_999_999;
 
 /// `isspace`.
@@ -126,7 +126,7 @@ fn jump_value(digits: &[u8]) -> u64
     value
 }
 
-/// A jump over as many items as the digits say with which the text begins, and the bytes after them.
+/// The jump whose digits the text begins with, and the bytes after them; `None` for a jump over no items.
 #[tactic(auto, unfolding(crate::specs::Control::jump_at))]
 fn jump_at(text: &[u8]) -> Option<(Action, &[u8])>
     ensures value { option_map (λ p. (p.0, p.1.now)) result ≡ jump_at text.now }
