@@ -114,7 +114,7 @@ def there(root, folders, files, found):
 
 
 def paths_with_folder(form, data):
-    """What the lines of a file have where a rule has the path of its module, if it has a folder."""
+    """The module paths of the lines of a file that contain a slash."""
     if b"\0" in data or len(data) > plain_faults.MOST_BYTES:
         return
     for _, line in stacks.logical_lines(data):

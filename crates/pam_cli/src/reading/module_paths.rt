@@ -1,17 +1,18 @@
-//! The paths with a folder that stand where rules have the path of their module: pam.conf(5), module-path.
+//! The module paths that contain a slash: pam.conf(5), module-path.
 
 use indexmap::IndexSet;
 use pam_conf::{Files, Form, Words, text_of};
 use pam_text::{Source, Text};
 use std::alloc::{AllocError, Global};
 
-/// The paths with a folder that stand where the rules of a configuration have the path of their module, each once.
+/// The module paths of a configuration that contain a slash, each once. The word after the control is taken for one, even if it is
+/// the target of an include.
 #[derive(Drop)]
 pub(super) struct ModulePaths {
     pub(super) paths: IndexSet<Vec<u8>>,
 }
 
-/// The number of words that a rule has before the path of its module.
+/// The number of words before the module path of a rule.
 fn words_before_path(form: Form) -> usize {
     match form {
         Form::Dir => 2,
@@ -19,7 +20,7 @@ fn words_before_path(form: Form) -> usize {
     }
 }
 
-/// Returns the word of a line where a rule has the path of its module, as it is written.
+/// Returns the module path of a line, as it is written.
 fn path_word(form: Form, line: &[u8]) -> Option<&[u8]> {
     let Ok(mut words) = Words::of(line) else {
         return None;
@@ -33,9 +34,9 @@ fn path_word(form: Form, line: &[u8]) -> Option<&[u8]> {
 }
 
 impl ModulePaths {
-    /// Adds what stands where the rule of a line has the path of its module, if it has a folder.
+    /// Adds the module path of a line, if it contains a slash.
     fn put_line(&mut self, alloc: Global, form: Form, line: &[u8]) -> Result<(), AllocError> {
-        // Most lines have no `/`, and need no search for their words.
+        // Most lines contain no slash, so their words need not be found.
         if !line.contains(&b'/') {
             return Ok(());
         }
@@ -50,7 +51,7 @@ impl ModulePaths {
         Ok(())
     }
 
-    /// Adds those of a file.
+    /// Adds the module paths of a file that contain a slash.
     fn put_file(&mut self, alloc: Global, form: Form, bytes: &[u8]) -> Result<(), AllocError> {
         // A file that is too long or has a NUL byte has no rules.
         let Ok(source) = Source::of(bytes) else {
@@ -64,7 +65,7 @@ impl ModulePaths {
         Ok(())
     }
 
-    /// Reads those of a configuration.
+    /// Reads the module paths of a configuration.
     pub(super) fn of(alloc: Global, files: &Files) -> Result<ModulePaths, AllocError> {
         let mut found = ModulePaths {
             paths: IndexSet::new(alloc),

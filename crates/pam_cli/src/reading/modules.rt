@@ -40,7 +40,7 @@ fn is_below<R: std::rt::Files>(
     }
 }
 
-/// The modules of a configuration that are looked for, and the paths at which a module is there so far, as rules write them.
+/// The module paths to look for, and the paths at which a module is there so far, as rules write them.
 #[derive(Drop)]
 struct Found {
     named: ModulePaths,
@@ -55,7 +55,7 @@ impl Found {
         Ok(())
     }
 
-    /// Adds the paths that the rules name at which something is below a folder: the absolute ones, or the others.
+    /// Adds the module paths at which there is something below a folder: the absolute ones, or the relative ones.
     fn put_named<R: std::rt::Files>(
         &mut self,
         rt: &R,
@@ -84,7 +84,7 @@ impl Found {
     }
 }
 
-/// Adds the names of the entries of a folder of modules, and the paths with a folder at which something is below it.
+/// Adds the names of the entries of a folder of modules, and the relative module paths at which there is something below it.
 fn put_folder<R: std::rt::Files + AllocGlobal + Clone + Drop>(
     rt: &R,
     alloc: Global,
@@ -210,9 +210,9 @@ fn put_source<R: std::rt::Files + AllocGlobal + Clone + Drop>(
     }
 }
 
-/// Returns the paths at which a module is there, as rules write them: the names of the entries of these folders of modules and of
-/// those of the system, if the source is one, and the paths with a folder, where rules have that of their module, at which something
-/// is. Returns `None` if there is no such folder.
+/// Returns the paths at which a module is there, as rules write them: the names of the entries of these folders of modules, and of
+/// the system's if the source is one, and the module paths with a slash at which there is something. Returns `None` if there is no
+/// folder of modules.
 pub(super) fn modules_there<R: std::rt::Files + AllocGlobal + Clone + Drop>(
     rt: &R,
     alloc: Global,
