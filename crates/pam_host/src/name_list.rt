@@ -1,4 +1,4 @@
-//! Names among which one is found without going through them.
+//! A list of names with an index.
 
 ghost use Rattle.std.specs.Prelude.{◌≡◌, ◌++◌, ◌∷◌, [], IfOk, IsOk, if◌then◌else◌, is_ok, map, true};
 ghost use Rattle.std.specs.List.{list_any};
@@ -11,7 +11,7 @@ use pam_text::Texts;
 use std::alloc::{AllocError, Global};
 use std::marker::Model;
 
-/// A list of names. To find whether a name is among them takes the same time, however many there are.
+/// A list of names with an index, so that a search takes constant time.
 #[derive(Drop)]
 pub struct NameList {
     names: Texts,
@@ -68,7 +68,7 @@ impl NameList {
         &self.names
     }
 
-    /// Returns the names, and frees what finds one among them.
+    /// Returns the names without their index.
     pub fn into_names(self) -> Texts
         ensures { result ≡ self }
     {
@@ -82,7 +82,7 @@ impl NameList {
         self.known.contains(name)
     }
 
-    /// Adds a name at the end.
+    /// Appends a name.
     fn push(&mut self, alloc: Global, name: &[u8]) -> Result<(), AllocError>
         ensures { self.new ≡ (if is_ok result then self.old ++ name.now ∷ [] else self.old) }
     {
@@ -94,7 +94,7 @@ impl NameList {
         Ok(())
     }
 
-    /// Adds a name at the end, if it is not there yet; if it fails, the names are unchanged. A name that is there takes no memory.
+    /// Appends a name, unless it is there already, which takes no memory. If an allocation fails, the names are unchanged.
     pub fn add(&mut self, alloc: Global, name: &[u8]) -> Result<(), AllocError>
         ensures there { list_any (bytes_eq name.now) self.old ≡ true → IsOk result }
         ensures names { self.new ≡ (if is_ok result then with_name self.old name.now else self.old) }

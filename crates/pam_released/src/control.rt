@@ -13,7 +13,7 @@ ghost use Rattle.pam_released.specs.inner.Pair.{code_after, pair_at};
 
 use pam_codes::{Action, CODES, Code, Control, Subject};
 
-/// The longest jump that is kept. A longer one is kept as this one, since no list has so many items.
+/// The longest jump that is stored. A longer one is stored as this one, since no list has as many items.
 const MOST_ITEMS: u64 = 999_999_999;
 
 /// `isspace`.
@@ -126,7 +126,7 @@ fn jump_value(digits: &[u8]) -> u64
     value
 }
 
-/// The jump whose digits the text begins with, and the bytes after them; `None` for a jump over no items.
+/// The jump at the start of the text, and the remaining bytes; `None` for a jump over no items.
 #[tactic(auto, unfolding(crate::specs::Control::jump_at))]
 fn jump_at(text: &[u8]) -> Option<(Action, &[u8])>
     ensures value { option_map (λ p. (p.0, p.1.now)) result ≡ jump_at text.now }
