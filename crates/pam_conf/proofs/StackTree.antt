@@ -1,10 +1,11 @@
 use Rattle.std.proofs.Common.{◌≡◌, ℕ, ◌+◌, ◌<◌, ◌≤◌, max, List, [], ◌∷◌, ◌++◌, Option, Some, None, IsSome, is_some, ◌↔◌, option_map, eqb, zero, suc, refl, sym}
 use Rattle.std.proofs.Common.{◌∙◌, ap, inl, inr, ◌⊎◌, ⊎_elim, arith, take, drop, length, get_or, append_assoc, add-one, eq-or-lt_of_le, drop-cons, eqb-true}
-use Rattle.std.proofs.Common.{eq-eqb}
+use Rattle.std.proofs.Common.{eq-eqb, subst, take-append-drop, Bor}
+use Rattle.std.specs.Slice.{IsItemAt}
 use Rattle.std.proofs.Math.Seq.{take-append_seam, drop-append_seam}
 use Rattle.std.proofs.lemmas.List.{length-append}
 use Rattle.std.proofs.lemmas.List.FromFn.{length-range_with_len}
-use Rattle.std.proofs.lemmas.Bool.{cases_lt, cond_both, false≢true}
+use Rattle.std.proofs.lemmas.Bool.{cases_lt, cond-true, cond_both, false≢true}
 use Rattle.std.specs.List.{range_with_len}
 use Rattle.pam_conf.specs.declared.stack.Module.{Module}
 use Rattle.pam_conf.specs.declared.stack.Item.{Item}
@@ -209,3 +210,45 @@ pub found_iff : {A : Type 0} (view : A → ModuleText) (found : Option A) (numbe
 found_iff view found number items h e =
     let same : is_some found ≡ is_some (module_at number items) = sym (mapped_some view found) ∙ ap is_some e in
     ((λ some. module_at-bounds number items h (sym same ∙ some)), (λ within. same ∙ module_at-found number items h within))
+
+-- A MODULE AT ITS OWN PLACE
+
+none_unless : (o : Option ModuleText) → ¬ (IsSome o) → o ≡ None
+none_unless None h = refl
+none_unless (Some m) h = absurd (h refl)
+
+-- the number of a module is the number of no other
+module_at-own : (first : ℕ) (front : Items) (m : ModuleText) (rest : Items) → IsNumberedFrom first (joined front (ThenModule m rest)) →
+    module_at m.number (joined front (ThenModule m rest)) ≡ Some m
+module_at-own first End m rest h = cond-true (eqb m.number m.number) (Some m) (module_at m.number rest) (eq-eqb m.number m.number refl)
+module_at-own first (ThenModule a r) m rest h =
+    let parts = numbered-module_parts first a (joined r (ThenModule m rest)) h in
+    let own = module_at-own (first + 1) r m rest parts.1 in
+    let range = module_at-range (first + 1) m.number (joined r (ThenModule m rest)) parts.1 (ap is_some own) in
+    cond_both (eqb a.number m.number) (Some a) (module_at m.number (joined r (ThenModule m rest))) (λ (o : Option ModuleText). o ≡ Some m)
+    (λ same. absurd (omega (arith, eqb-true a.number m.number same, parts.0, range.0)))
+    (λ _. own)
+module_at-own first (ThenSub s inner r) m rest h =
+    let parts = numbered-sub_parts first s inner (joined r (ThenModule m rest)) h in
+    let own = module_at-own (first + module_count inner) r m rest parts.1 in
+    let range = module_at-range (first + module_count inner) m.number (joined r (ThenModule m rest)) parts.1 (ap is_some own) in
+    let none : module_at m.number inner ≡ None =
+    none_unless (module_at m.number inner) (λ some. let within = module_at-range first m.number inner parts.0 some in
+    omega (arith, within.1, range.0)) in
+    ap (λ (o : Option ModuleText). first_there o (module_at m.number (joined r (ThenModule m rest)))) none ∙ own
+
+module_at-place : (xs : List Item) (i : ℕ) (d : Item) (m : Module) → IsNumberedFrom 1 (items_of xs) → i < length xs → get_or xs i d ≡ ModuleItem m →
+    module_at m.number (items_of xs) ≡ Some (module_text m)
+module_at-place xs i d m h within e =
+    let whole : items_of xs ≡ joined (items_of (take i xs)) (ThenModule (module_text m) (items_of (drop (suc i) xs))) =
+    sym (ap items_of (take-append-drop i xs)) ∙ items_of-append (take i xs) (drop i xs)
+    ∙ ap (joined (items_of (take i xs))) (items_of-drop_module xs i d m within e) in
+    ap (module_at m.number) whole
+    ∙ module_at-own 1 (items_of (take i xs)) (module_text m) (items_of (drop (suc i) xs)) (subst (IsNumberedFrom 1) whole h)
+
+-- a module that a list lends is the module of its number
+pub module_at-lent : (xs slice : List Item) (i : ℕ) (item : Bor Item) (m : Module) (number : ℕ) → IsNumberedFrom 1 (items_of xs) → slice ≡ xs →
+    IsItemAt slice i (Some item) → item.now ≡ ModuleItem m → m.number ≡ number → Some (module_text m) ≡ module_at number (items_of xs)
+module_at-lent xs slice i item m number h same lends is own =
+    let there = subst (λ (ys : List Item). IsItemAt ys i (Some item)) same lends in
+    sym (module_at-place xs i item.now m h there.3.0 (sym there.1 ∙ is)) ∙ ap (λ (n : ℕ). module_at n (items_of xs)) own
