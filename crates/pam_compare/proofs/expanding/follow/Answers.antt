@@ -88,12 +88,14 @@ returns-clause-met c a low holds member =
 pub returns-clause-walked : goal.returns-clause-walked
 unfolding AreWalked
 returns-clause-walked c k s at =
-    let old = c.args.pair.now.old.now in
-    let new = c.args.pair.now.new.now in
-    let naming = c.args.pair.now.naming.now in
+    let pair = c.args.pair.now in
+    let old = pair.old.now in
+    let new = pair.new.now in
+    let naming = pair.naming.now in
     let names = naming.names.items in
-    let node = c.args.fork.now.node.now in
-    let turn = c.args.fork.now.turn in
+    let fork = c.args.fork.now in
+    let node = fork.node.now in
+    let turn = fork.turn in
     let left = rest_of old node.old in
     let right = rest_of new node.new in
     let way = c.args.way in
