@@ -85,10 +85,9 @@ returns-clause-reached c =
 pub returns-clause-walked : goal.returns-clause-walked
 unfolding AreWalked
 returns-clause-walked c k s at =
-    let pair = c.args.pair.now in
-    let old = pair.old.now in
-    let new = pair.new.now in
-    let naming = pair.naming.now in
+    let old = c.args.pair.now.old.now in
+    let new = c.args.pair.now.new.now in
+    let naming = c.args.pair.now.naming.now in
     let start = c.new-nodes.ensures in
     let more = c.add.new.self.ways.items in
     let none = none-after (record { latest = c.new.result; start = 0 }) c.new.ensures.items in
