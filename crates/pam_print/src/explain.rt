@@ -38,13 +38,13 @@ fn put_head<W: Write>(explanation: &Explanation, out: &mut Out<W>) -> Result<(),
     ])
 }
 
-fn put_lines<W: Write>(lines: &[&str], out: &mut Out<W>) -> Result<(), Device>
-    ensures { Writes W.contents out.old out.new result (flat_map example_line (map (λ line. line.now) lines.now)) }
+fn put_lines<W: Write>(text: &[u8], out: &mut Out<W>) -> Result<(), Device>
+    ensures { Writes W.contents out.old out.new result (flat_map example_line (lines_of text.now)) }
 {
-    for line in lines {
+    for line in text.split(|byte| *byte == b'\n') {
         out.put_line(&[
             Piece::Bytes(b"    "),
-            Piece::Bytes(line.as_bytes()),
+            Piece::Bytes(line),
             Piece::Bytes(b"\n"),
         ])?;
     }
@@ -53,14 +53,14 @@ fn put_lines<W: Write>(lines: &[&str], out: &mut Out<W>) -> Result<(), Device>
 
 /// Writes the lines of an example, indented, if there are any.
 #[tactic(auto, unfolding(crate::specs::Explain::example_text))]
-fn put_example<W: Write>(lines: &[&str], out: &mut Out<W>) -> Result<(), Device>
-    ensures { Writes W.contents out.old out.new result (example_text (map (λ line. line.now) lines.now)) }
+fn put_example<W: Write>(example: &str, out: &mut Out<W>) -> Result<(), Device>
+    ensures { Writes W.contents out.old out.new result (example_text example.now) }
 {
-    let Some((_first, _others)) = lines.split_first() else {
+    if example.is_empty() {
         return Ok(());
-    };
+    }
     out.put(b"\nExample:\n")?;
-    put_lines(lines, out)
+    put_lines(example.as_bytes(), out)
 }
 
 /// Writes what Linux-PAM does, and what to do.
@@ -109,7 +109,7 @@ fn put_rows<W: Write>(out: &mut Out<W>) -> Result<(), Device>
     ensures { Writes W.contents out.old out.new result explanations_text }
 {
     for explanation in explanations() {
-        put_row(explanation, out)?;
+        put_row(&explanation, out)?;
     }
     Ok(())
 }
