@@ -1,54 +1,61 @@
--- The rows that are left after those of a family.
-use Rattle.std.proofs.Common.{◌≡◌, ◌∙◌, sym, ap, subst, refl, ℕ, zero, suc, ◌+◌, ◌<◌, Bool, true, false}
-use Rattle.std.proofs.Common.{List, [], ◌∷◌, ◌++◌, drop, get_or, length, map, min, arith}
+-- The rows that are left after a row of a family.
+use Rattle.std.proofs.Common.{◌≡◌, ◌∙◌, sym, ap, subst, refl, ℕ, zero, suc, ◌+◌, ◌<◌, ◌≤◌, Bool, true, false, Option, Some, None, slice_get}
+use Rattle.std.proofs.Common.{List, [], ◌∷◌, ◌++◌, drop, get_or, length, min, arith, ⊎_elim}
+use Rattle.std.proofs.lemmas.Bool.{cases_lt}
+use Rattle.std.proofs.lemmas.List.{get_or_past}
+use Rattle.std.proofs.lemmas.List.{length-append}
 use Rattle.std.specs.List.{list_all}
+use Rattle.std.specs.Option.{option_map}
 use Rattle.pam_explain.specs.Explanation.{Explanation}
+use Rattle.pam_explain.specs.Explanations.{explanations, families, rows_of}
 use Rattle.pam_explain.specs.Views.{explanation_view}
 use Rattle.pam_explain.specs.declared.explanation.Explanation.{Explanation as Declared}
-use Rattle.pam_explain.specs.Explanations.{families, rows_of}
-use Rattle.pam_explain.specs.Hosts.{limits_and_rules, modules_and_files, whole_stacks}
-use Rattle.pam_explain.specs.OldTables.{access_lines, access_masks, time_lines}
-use Rattle.pam_explain.specs.Paths.{cursors, moments}
-use Rattle.pam_explain.specs.Released.{continued_lines, controls_and_lengths, names_and_blanks}
-use Rattle.pam_explain.specs.Rules.{broken_controls, broken_rules}
-use Rattle.pam_explain.specs.Stacks.{broken_includes, limits, missing_and_long_files}
-use Rattle.pam_explain.specs.Tables.{accept_and_facts_files, lists_and_groups, returns_files, table_lines, table_words}
-use Rattle.pam_explain.specs.Words.{filters_and_forms, names_and_candidates, questions, settings_and_files, sources_and_names}
+
+-- ---- a row of a list
+
+row_there : {X : Type 0} (xs : List X) (i : ℕ) (x : X) → slice_get xs i ≡ Some x → (drop i xs ≡ x ∷ drop (suc i) xs) × (i < length xs)
+row_there [] i x e = absurd (let no : None ≡ Some x = e in cc)
+row_there (y ∷ ys) zero x e = ((let same : Some y ≡ Some x = e in cc), omega arith)
+row_there (y ∷ ys) (suc i) x e =
+    let there = row_there ys i x e in
+    (there.0, omega (arith, there.1))
+
+row_past : {X : Type 0} (xs : List X) (i : ℕ) → slice_get xs i ≡ None → drop i xs ≡ []
+row_past [] zero e = refl
+row_past [] (suc i) e = refl
+row_past (y ∷ ys) zero e = absurd (let no : Some y ≡ None = e in cc)
+row_past (y ∷ ys) (suc i) e = row_past ys i e
+
+-- ---- the families
 
 abbrev pub has_rows : List Explanation → Bool
 has_rows [] = false
 has_rows (row ∷ rows) = true
 
-pub all_have_rows : list_all has_rows families ≡ true
-unfolding families broken_controls broken_rules broken_includes limits missing_and_long_files lists_and_groups returns_files table_lines table_words
-    cursors moments filters_and_forms questions settings_and_files sources_and_names continued_lines controls_and_lengths names_and_blanks
-    limits_and_rules modules_and_files whole_stacks accept_and_facts_files names_and_candidates access_lines access_masks time_lines
+all_have_rows : list_all has_rows families ≡ true
+unfolding families
 all_have_rows = refl
 
-pub are_few : length families ≡ 26
+count : length explanations ≡ 96
+unfolding families
+count = refl
+
+are_few : length families ≡ 8
 unfolding families
 are_few = refl
 
--- a family that has a row is one of them
-is_family : (xs : List (List Explanation)) (n : ℕ) (row : Explanation) (rows : List Explanation) → get_or xs n [] ≡ row ∷ rows → n < length xs
-is_family [] n row rows e = absurd (let no : [] ≡ row ∷ rows = e in cc)
-is_family (x ∷ xs) zero row rows e = omega arith
-is_family (x ∷ xs) (suc n) row rows e = let lt = is_family xs n row rows e in omega arith
+short_at : (xs : List (List Explanation)) (n : ℕ) → length (get_or xs n []) ≤ length (rows_of xs)
+short_at [] n = omega arith
+short_at (x ∷ xs) zero = omega (arith, length-append x (rows_of xs))
+short_at (x ∷ xs) (suc n) = omega (arith, length-append x (rows_of xs), short_at xs n)
 
-first_of : (xs : List (List Explanation)) (n : ℕ) (row : Explanation) (rows : List Explanation) → get_or xs n [] ≡ row ∷ rows →
-    rows_of (drop n xs) ≡ row ∷ (rows ++ rows_of (drop (suc n) xs))
-first_of [] n row rows e = absurd (let no : [] ≡ row ∷ rows = e in cc)
-first_of (x ∷ xs) zero row rows e = ap (λ (family : List Explanation). family ++ rows_of xs) e
-first_of (x ∷ xs) (suc n) row rows e = first_of xs n row rows e
-
--- the rows that are left, where the next family has a row; the number of the family after it does not pass 255
-pub first_of_family : (n m : ℕ) (row : Explanation) (rows : List Explanation) → get_or families n [] ≡ row ∷ rows → m ≡ min (n + 1) 255 →
-    rows_of (drop n families) ≡ row ∷ (rows ++ rows_of (drop m families))
-first_of_family n m row rows e next =
-    let lt = is_family families n row rows e in
-    let few = are_few in
-    let one : suc n ≡ m = omega (arith, next) in
-    first_of families n row rows e ∙ ap (λ k. row ∷ (rows ++ rows_of (drop k families))) one
+rows_at : (xs : List (List Explanation)) (n : ℕ) (row : Explanation) (rows : List Explanation) → get_or xs n [] ≡ row ∷ rows →
+    (n < length xs) × (rows_of (drop n xs) ≡ row ∷ (rows ++ rows_of (drop (suc n) xs)))
+rows_at [] n row rows e = absurd (let no : [] ≡ row ∷ rows = e in cc)
+rows_at (x ∷ xs) zero row rows e = (omega arith, ap (λ (family : List Explanation). family ++ rows_of xs) e)
+rows_at (x ∷ xs) (suc n) row rows e =
+    let there = rows_at xs n row rows e in
+    (omega (arith, there.0), there.1)
 
 none_left : (xs : List (List Explanation)) (n : ℕ) → list_all has_rows xs ≡ true → get_or xs n [] ≡ [] → rows_of (drop n xs) ≡ []
 none_left [] zero h e = refl
@@ -57,28 +64,55 @@ none_left ([] ∷ xs) n h e = absurd (let no : false ≡ true = h in cc)
 none_left ((r ∷ rs) ∷ xs) zero h e = absurd (let no : (r ∷ rs) ≡ [] = e in cc)
 none_left ((r ∷ rs) ∷ xs) (suc n) h e = none_left xs n h e
 
--- no rows are left, where the next family has none
-pub no_family : (n : ℕ) → get_or families n [] ≡ [] → rows_of (drop n families) ≡ []
-no_family n e = none_left families n all_have_rows e
+-- ---- the steps of the iterator
 
--- ---- the steps of the iterator, whose family has no more rows
+-- the rows after those of the first `row` rows of a family
+abbrev pub rows_after : ℕ → ℕ → List Explanation
+rows_after family row = drop row (get_or families family []) ++ rows_of (drop (family + 1) families)
 
-empty : (rest : List Declared) → length rest ≡ 0 → rest ≡ []
-empty [] e = refl
-empty (row ∷ rows) e = absurd (omega (arith, e))
+module _ (family row next : ℕ) (found : Option Declared) (is : option_map explanation_view found ≡ slice_get (get_or families family []) row) where
+  -- the family has one more row
+  pub same_family : (first : Declared) → found ≡ Some first → next ≡ min (row + 1) 18446744073709551615 →
+      rows_after family row ≡ explanation_view first ∷ rows_after family next
+  same_family first some step =
+      let there = row_there (get_or families family []) row (explanation_view first) (sym is ∙ ap (option_map explanation_view) some) in
+      let short = short_at families family in
+      let few = count in
+      let one : suc row ≡ next = omega (arith, step, there.1, short, few) in
+      ap (λ (rows : List Explanation). rows ++ rows_of (drop (family + 1) families)) there.0
+      ∙ ap (λ (k : ℕ). explanation_view first ∷ rows_after family k) one
 
-pub no_row : (rest family : List Declared) (n : ℕ) → length rest ≡ 0 → length family ≡ 0 → map explanation_view family ≡ get_or families n [] →
-    map explanation_view rest ++ rows_of (drop n families) ≡ []
-no_row rest family n none no_rows e =
-    ap (λ (rows : List Declared). map explanation_view rows ++ rows_of (drop n families)) (empty rest none)
-    ∙ no_family n (sym e ∙ ap (map explanation_view) (empty family no_rows))
+  none_here : found ≡ None → rows_after family row ≡ rows_of (drop (family + 1) families)
+  none_here none =
+      ap (λ (rows : List Explanation). rows ++ rows_of (drop (family + 1) families))
+      (row_past (get_or families family []) row (sym is ∙ ap (option_map explanation_view) none))
 
-pub next_row : (rest family : List Declared) (n m : ℕ) (first : Declared) (others : List Declared) →
-    length rest ≡ 0 → family ≡ first ∷ others → map explanation_view family ≡ get_or families n [] → m ≡ min (n + 1) 255 →
-    map explanation_view rest ++ rows_of (drop n families) ≡ explanation_view first ∷ (map explanation_view others ++ rows_of (drop m families))
-next_row rest family n m first others none is e next =
-    ap (λ (rows : List Declared). map explanation_view rows ++ rows_of (drop n families)) (empty rest none)
-    ∙ first_of_family n m (explanation_view first) (map explanation_view others) (sym e ∙ ap (map explanation_view) is) next
+  module _ (later : Option Declared) (then : option_map explanation_view later ≡ slice_get (get_or families next []) 0) (none : found ≡ None)
+      (step : next ≡ min (family + 1) 255) where
+    -- it has none, and the next one has a row
+    pub next_family : (first : Declared) → later ≡ Some first → rows_after family row ≡ explanation_view first ∷ rows_after next 1
+    next_family first some =
+        let rows = drop 1 (get_or families next []) in
+        let there : get_or families next [] ≡ explanation_view first ∷ rows =
+        (row_there (get_or families next []) 0 (explanation_view first) (sym then ∙ ap (option_map explanation_view) some)).0 in
+        let more = rows_at families next (explanation_view first) rows there in
+        let few = are_few in
+        let one : family + 1 ≡ next = omega (arith, step, few, more.0) in
+        let after : suc next ≡ next + 1 = omega arith in
+        none_here none
+        ∙ ap (λ (k : ℕ). rows_of (drop k families)) one
+        ∙ more.1
+        ∙ ap (λ (k : ℕ). explanation_view first ∷ (rows ++ rows_of (drop k families))) after
+
+    -- it has none, and there is no other
+    pub no_family : later ≡ None → rows_after family row ≡ []
+    no_family past =
+        let few = are_few in
+        let last : get_or families (family + 1) [] ≡ [] =
+        ⊎_elim (λ less. let one : family + 1 ≡ next = omega (arith, step, less) in
+        ap (λ (k : ℕ). get_or families k []) one ∙ row_past (get_or families next []) 0 (sym then ∙ ap (option_map explanation_view) past))
+        (λ more. get_or_past families (family + 1) [] (omega (arith, few, more))) (cases_lt (family + 1) 255) in
+        none_here none ∙ none_left families (family + 1) all_have_rows last
 
 pub shorter : (old : List Explanation) (first : Explanation) (new : List Explanation) → old ≡ first ∷ new → length new < length old
 shorter old first new e = subst (λ (l : List Explanation). length new < length l) (sym e) (omega arith)

@@ -8,8 +8,8 @@ pub record Explanation : Type 0 where
   pub level : Level
   -- what is wrong, and why it matters
   pub meaning : List ℕ
-  -- the lines of an example
-  pub example : List (List ℕ)
+  -- the lines of an example, with line feeds between them
+  pub example : List ℕ
   -- what releases of Linux-PAM do
   pub linux_pam : List ℕ
   -- what to do

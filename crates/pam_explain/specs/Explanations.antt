@@ -2,27 +2,18 @@
 use Rattle.std.specs.Prelude.{ℕ, Bool, List, [], ◌∷◌, ◌++◌, bytes_eq, find, map, Option}
 use Rattle.std.specs.Char.{to_ascii_lowercase}
 use Rattle.pam_explain.specs.Explanation.{Explanation}
-use Rattle.pam_explain.specs.Hosts.{limits_and_rules, modules_and_files, whole_stacks}
-use Rattle.pam_explain.specs.OldTables.{access_lines, access_masks, time_lines}
-use Rattle.pam_explain.specs.Paths.{cursors, moments}
-use Rattle.pam_explain.specs.Released.{continued_lines, controls_and_lengths, names_and_blanks}
-use Rattle.pam_explain.specs.Rules.{broken_controls, broken_rules}
-use Rattle.pam_explain.specs.Stacks.{broken_includes, limits, missing_and_long_files}
-use Rattle.pam_explain.specs.Tables.{accept_and_facts_files, lists_and_groups, returns_files, table_lines, table_words}
-use Rattle.pam_explain.specs.Words.{filters_and_forms, names_and_candidates, questions, settings_and_files, sources_and_names}
+use Rattle.pam_explain.specs.Hosts.{of_hosts}
+use Rattle.pam_explain.specs.OldTables.{of_old_tables}
+use Rattle.pam_explain.specs.Paths.{of_paths}
+use Rattle.pam_explain.specs.Released.{of_released}
+use Rattle.pam_explain.specs.Rules.{of_rules}
+use Rattle.pam_explain.specs.Stacks.{of_stacks}
+use Rattle.pam_explain.specs.Tables.{of_tables}
+use Rattle.pam_explain.specs.Words.{of_words}
 
 -- in the order of the numbers
 unfoldable pub families : List (List Explanation)
-families =
-    broken_rules ∷ broken_controls
-    ∷ broken_includes ∷ missing_and_long_files ∷ limits
-    ∷ table_lines ∷ table_words ∷ lists_and_groups ∷ returns_files ∷ accept_and_facts_files
-    ∷ cursors ∷ moments
-    ∷ sources_and_names ∷ questions ∷ filters_and_forms ∷ names_and_candidates ∷ settings_and_files
-    ∷ continued_lines ∷ controls_and_lengths ∷ names_and_blanks
-    ∷ access_lines ∷ access_masks ∷ time_lines
-    ∷ whole_stacks ∷ modules_and_files ∷ limits_and_rules
-    ∷ []
+families = of_rules ∷ of_stacks ∷ of_tables ∷ of_paths ∷ of_words ∷ of_released ∷ of_old_tables ∷ of_hosts ∷ []
 
 -- the rows of families, one family after the other
 abbrev pub rows_of : List (List Explanation) → List Explanation

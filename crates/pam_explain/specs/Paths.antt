@@ -4,9 +4,10 @@ use Rattle.pam_explain.specs.Explanation.{Explanation}
 use Rattle.pam_explain.specs.Shared.{fault_of_words, own_cursor, take_cursor}
 use Rattle.pam_explain.specs.declared.explanation.Level.TheVariants.{Error}
 
--- cursors
-unfoldable pub cursors : List Explanation
-cursors =
+-- CURSORS
+
+unfoldable pub cursor_syntax : Explanation
+cursor_syntax =
     record {
       number = codes "C1";
       name = codes "Syntax";
@@ -15,15 +16,17 @@ cursors =
           codes "The word after --after or --before is not a cursor: numbers from 0 to 30\n"
           ++ codes "joined by dots, without leading zeros, or - for none.";
       example =
-          codes "# login"
-          ∷ codes "auth required pam_unix.so"
-          ∷ codes "$ pamcheck paths login auth --dir . --after 1,2"
-          ∷ [];
+          codes "# login\n"
+          ++ codes "auth required pam_unix.so\n"
+          ++ codes "$ pamcheck paths login auth --dir . --after 1,2";
       linux_pam = own_cursor;
       mending =
           codes "copy the cursor from the last line of a page.";
     }
-    ∷ record {
+
+unfoldable pub not_least : Explanation
+not_least =
+    record {
       number = codes "C2";
       name = codes "NotLeast";
       level = Error;
@@ -32,14 +35,16 @@ cursors =
           ++ codes "alike are one path, which has the number of the least of them. The cursor was\n"
           ++ codes "written by hand, or the stack is not the one that it came from.";
       example =
-          codes "# login"
-          ∷ codes "auth optional pam_unix.so"
-          ∷ codes "$ pamcheck paths login auth --dir . --after 3"
-          ∷ [];
+          codes "# login\n"
+          ++ codes "auth optional pam_unix.so\n"
+          ++ codes "$ pamcheck paths login auth --dir . --after 3";
       linux_pam = own_cursor;
       mending = take_cursor;
     }
-    ∷ record {
+
+unfoldable pub too_short : Explanation
+too_short =
+    record {
       number = codes "C3";
       name = codes "TooShort";
       level = Error;
@@ -47,15 +52,17 @@ cursors =
           codes "The cursor ends while a module is still asked. It was cut, or the stack has\n"
           ++ codes "more modules than the one that it came from.";
       example =
-          codes "# login"
-          ∷ codes "auth required pam_unix.so"
-          ∷ codes "auth required pam_unix.so"
-          ∷ codes "$ pamcheck paths login auth --dir . --after 0"
-          ∷ [];
+          codes "# login\n"
+          ++ codes "auth required pam_unix.so\n"
+          ++ codes "auth required pam_unix.so\n"
+          ++ codes "$ pamcheck paths login auth --dir . --after 0";
       linux_pam = own_cursor;
       mending = take_cursor;
     }
-    ∷ record {
+
+unfoldable pub too_long : Explanation
+too_long =
+    record {
       number = codes "C4";
       name = codes "TooLong";
       level = Error;
@@ -63,18 +70,17 @@ cursors =
           codes "The run ends before the cursor does. The stack has fewer modules than the one\n"
           ++ codes "that the cursor came from.";
       example =
-          codes "# login"
-          ∷ codes "auth required pam_unix.so"
-          ∷ codes "$ pamcheck paths login auth --dir . --after 0.0"
-          ∷ [];
+          codes "# login\n"
+          ++ codes "auth required pam_unix.so\n"
+          ++ codes "$ pamcheck paths login auth --dir . --after 0.0";
       linux_pam = own_cursor;
       mending = take_cursor;
     }
-    ∷ []
 
--- moments
-unfoldable pub moments : List Explanation
-moments =
+-- MOMENTS
+
+unfoldable pub range : Explanation
+range =
     record {
       number = codes "M1";
       name = codes "Range";
@@ -83,15 +89,17 @@ moments =
           codes "The seconds of --at-unix are past 9999-12-30T22:00:00Z, the last instant of\n"
           ++ codes "which every clock can show a date.";
       example =
-          codes "$ echo 'login;*;*;Al0800-1800' >time.conf"
-          ∷ codes "$ pamcheck time login --time time.conf --user alice --at-unix 253402207201"
-          ∷ [];
+          codes "$ echo 'login;*;*;Al0800-1800' >time.conf\n"
+          ++ codes "$ pamcheck time login --time time.conf --user alice --at-unix 253402207201";
       linux_pam = fault_of_words;
       mending =
           codes "count the seconds since 1970-01-01 00:00 UTC. A time in\n"
           ++ codes "milliseconds has three digits too many.";
     }
-    ∷ record {
+
+unfoldable pub rule : Explanation
+rule =
+    record {
       number = codes "M2";
       name = codes "Rule";
       level = Error;
@@ -99,26 +107,31 @@ moments =
           codes "The text of --zone is not a POSIX rule for a time zone: a name alone, such as\n"
           ++ codes "CET, does not say how far it is from UTC.";
       example =
-          codes "$ echo 'login;*;*;Al0800-1800' >time.conf"
-          ∷ codes "$ pamcheck time login --time time.conf --user alice --at-unix 0 --zone CET"
-          ∷ [];
+          codes "$ echo 'login;*;*;Al0800-1800' >time.conf\n"
+          ++ codes "$ pamcheck time login --time time.conf --user alice --at-unix 0 --zone CET";
       linux_pam = fault_of_words;
       mending =
           codes "write a rule such as CET-1CEST,M3.5.0,M10.5.0/3. The last line of\n"
           ++ codes "a file in /usr/share/zoneinfo is one.";
     }
-    ∷ record {
+
+unfoldable pub moment_syntax : Explanation
+moment_syntax =
+    record {
       number = codes "M4";
       name = codes "Syntax";
       level = Error;
       meaning =
           codes "The text of --at is not a date and a time that exist, as in 2024-05-11T07:59.";
       example =
-          codes "$ echo 'login;*;*;Al0800-1800' >time.conf"
-          ∷ codes "$ pamcheck time login --time time.conf --user alice --at 2024-02-30T07:59"
-          ∷ [];
+          codes "$ echo 'login;*;*;Al0800-1800' >time.conf\n"
+          ++ codes "$ pamcheck time login --time time.conf --user alice --at 2024-02-30T07:59";
       linux_pam = fault_of_words;
       mending =
           codes "write YYYY-MM-DDTHH:MM, or the same with :SS.";
     }
-    ∷ []
+
+-- THE ROWS, in the order of their numbers
+abbrev pub of_paths : List Explanation
+of_paths =
+    cursor_syntax ∷ not_least ∷ too_short ∷ too_long ∷ range ∷ rule ∷ moment_syntax ∷ []

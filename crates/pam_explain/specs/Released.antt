@@ -3,9 +3,10 @@ use Rattle.std.specs.Prelude.{List, [], ◌∷◌, ◌++◌, codes}
 use Rattle.pam_explain.specs.Explanation.{Explanation}
 use Rattle.pam_explain.specs.declared.explanation.Level.TheVariants.{Note, Warning}
 
--- lines that go on
-unfoldable pub continued_lines : List Explanation
-continued_lines =
+-- LINES THAT GO ON
+
+unfoldable pub carriage_return : Explanation
+carriage_return =
     record {
       number = codes "L1";
       name = codes "CarriageReturn";
@@ -14,8 +15,7 @@ continued_lines =
           codes "A line has a carriage return, as files from other systems have at the end of\n"
           ++ codes "each. It is a blank here.";
       example =
-          codes "$ printf 'auth required pam_unix.so\\r\\n' >login"
-          ∷ [];
+          codes "$ printf 'auth required pam_unix.so\\r\\n' >login";
       linux_pam =
           codes "1.5.2 and 1.7.0 take it as a part of the word before it. A module's\n"
           ++ codes "path that ends in it is the path of a module that is not there, which locks\n"
@@ -23,7 +23,10 @@ continued_lines =
       mending =
           codes "end each line with a line feed alone: sed -i 's/\\r$//' FILE.";
     }
-    ∷ record {
+
+unfoldable pub continued_over_blank : Explanation
+continued_over_blank =
+    record {
       number = codes "L2";
       name = codes "ContinuedOverBlank";
       level = Warning;
@@ -31,11 +34,10 @@ continued_lines =
           codes "A line ends in a backslash, and the next is blank or a comment. The rule ends\n"
           ++ codes "there, and the line after that is a rule of its own.";
       example =
-          codes "# login"
-          ∷ codes "auth required pam_env.so \\"
-          ∷ codes "# the password"
-          ∷ codes "auth required pam_unix.so"
-          ∷ [];
+          codes "# login\n"
+          ++ codes "auth required pam_env.so \\\n"
+          ++ codes "# the password\n"
+          ++ codes "auth required pam_unix.so";
       linux_pam =
           codes "1.5.2 goes on over blank lines and comments, so the next rule\n"
           ++ codes "becomes arguments of this one. A module that was to check somebody is then not\n"
@@ -43,7 +45,10 @@ continued_lines =
       mending =
           codes "remove the backslash, or the blank lines and comments after it.";
     }
-    ∷ record {
+
+unfoldable pub backslash_blank : Explanation
+backslash_blank =
+    record {
       number = codes "L3";
       name = codes "BackslashBlank";
       level = Warning;
@@ -51,9 +56,8 @@ continued_lines =
           codes "A line ends in a backslash with blanks after it. It does not go on with the\n"
           ++ codes "next line: the backslash is an argument.";
       example =
-          codes "$ printf 'auth required pam_env.so \\\\ \\n' >login"
-          ∷ codes "$ echo 'auth required pam_unix.so' >>login"
-          ∷ [];
+          codes "$ printf 'auth required pam_env.so \\\\ \\n' >login\n"
+          ++ codes "$ echo 'auth required pam_unix.so' >>login";
       linux_pam =
           codes "1.5.2 and 1.7.0 go on with the next line, so the next rule becomes\n"
           ++ codes "arguments of this one. A module that was to check somebody is then not asked,\n"
@@ -61,7 +65,10 @@ continued_lines =
       mending =
           codes "remove the blanks after the backslash, or the backslash.";
     }
-    ∷ record {
+
+unfoldable pub backslash_comment : Explanation
+backslash_comment =
+    record {
       number = codes "L4";
       name = codes "BackslashComment";
       level = Warning;
@@ -69,21 +76,20 @@ continued_lines =
           codes "A backslash is directly before a comment. Without the comment it is the last\n"
           ++ codes "byte of the line, which goes on with the next one.";
       example =
-          codes "# login"
-          ∷ codes "auth required pam_unix.so \\# and its arguments"
-          ∷ codes "    nullok"
-          ∷ [];
+          codes "# login\n"
+          ++ codes "auth required pam_unix.so \\# and its arguments\n"
+          ++ codes "    nullok";
       linux_pam =
           codes "1.5.2 and 1.7.0 do not go on with the next line. What stands there\n"
           ++ codes "is a line of its own.";
       mending =
           codes "remove the comment, or the backslash.";
     }
-    ∷ []
 
--- ends of files, controls and long lines
-unfoldable pub controls_and_lengths : List Explanation
-controls_and_lengths =
+-- ENDS OF FILES, CONTROLS AND LONG LINES
+
+unfoldable pub ends_in_continuation : Explanation
+ends_in_continuation =
     record {
       number = codes "L5";
       name = codes "EndsInContinuation";
@@ -92,9 +98,8 @@ controls_and_lengths =
           codes "The last line of a file ends in a backslash, so it goes on where nothing\n"
           ++ codes "follows.";
       example =
-          codes "# login"
-          ∷ codes "auth required pam_unix.so \\"
-          ∷ [];
+          codes "# login\n"
+          ++ codes "auth required pam_unix.so \\";
       linux_pam =
           codes "1.5.2 and 1.7.0 refuse the whole file, and with it each service\n"
           ++ codes "that needs it, which locks out. 1.5.2 does so too where only blank lines and\n"
@@ -102,7 +107,10 @@ controls_and_lengths =
       mending =
           codes "remove the backslash.";
     }
-    ∷ record {
+
+unfoldable pub capital_in_brackets : Explanation
+capital_in_brackets =
+    record {
       number = codes "L6";
       name = codes "CapitalInBrackets";
       level = Warning;
@@ -110,9 +118,8 @@ controls_and_lengths =
           codes "A control in brackets has a capital letter. Case does not matter here, as in\n"
           ++ codes "the keywords.";
       example =
-          codes "# login"
-          ∷ codes "auth [Success=ok Default=bad] pam_unix.so"
-          ∷ [];
+          codes "# login\n"
+          ++ codes "auth [Success=ok Default=bad] pam_unix.so";
       linux_pam =
           codes "1.5.2 and 1.7.0 compare what is in brackets with case. Where they\n"
           ++ codes "do not know a name, each answer of the module counts as a failure (bad),\n"
@@ -120,15 +127,17 @@ controls_and_lengths =
       mending =
           codes "write what is in brackets in small letters.";
     }
-    ∷ record {
+
+unfoldable pub long_line : Explanation
+long_line =
+    record {
       number = codes "L7";
       name = codes "LongLine";
       level = Note;
       meaning =
           codes "The lines of a rule have together more than 1,023 bytes.";
       example =
-          codes "$ printf 'auth required pam_unix.so %1000s\\n' nullok >login"
-          ∷ [];
+          codes "$ printf 'auth required pam_unix.so %1000s\\n' nullok >login";
       linux_pam =
           codes "1.5.2 cuts the line there, and takes the rest as a rule that fails.\n"
           ++ codes "Where exactly 1,023 bytes go on with the next line, it reads for ever. 1.7.0\n"
@@ -136,11 +145,11 @@ controls_and_lengths =
       mending =
           codes "shorten the rule.";
     }
-    ∷ []
 
--- names of modules, and blanks in brackets
-unfoldable pub names_and_blanks : List Explanation
-names_and_blanks =
+-- NAMES OF MODULES, AND BLANKS IN BRACKETS
+
+unfoldable pub empty_module_name : Explanation
+empty_module_name =
     record {
       number = codes "L8";
       name = codes "EmptyModuleName";
@@ -149,15 +158,17 @@ names_and_blanks =
           codes "The path of a module has no name: nothing, or only a question mark, is after\n"
           ++ codes "its last / and before its last dot.";
       example =
-          codes "# login"
-          ∷ codes "auth required /lib/security/.so"
-          ∷ [];
+          codes "# login\n"
+          ++ codes "auth required /lib/security/.so";
       linux_pam =
           codes "1.5.2 and 1.7.0 refuse the whole configuration, which locks out.";
       mending =
           codes "name the file of the module.";
     }
-    ∷ record {
+
+unfoldable pub dropped_blank : Explanation
+dropped_blank =
+    record {
       number = codes "L9";
       name = codes "DroppedBlank";
       level = Note;
@@ -165,15 +176,19 @@ names_and_blanks =
           codes "A word in brackets goes on to the next line, and that line begins with blanks.\n"
           ++ codes "They belong to the word.";
       example =
-          codes "# login"
-          ∷ codes "auth required pam_unix.so"
-          ∷ codes "auth optional pam_exec.so [say \"a\\"
-          ∷ codes "     b\"]"
-          ∷ [];
+          codes "# login\n"
+          ++ codes "auth required pam_unix.so\n"
+          ++ codes "auth optional pam_exec.so [say \"a\\\n"
+          ++ codes "     b\"]";
       linux_pam =
           codes "1.7.0 drops the blanks that a line begins with, so the word has\n"
           ++ codes "another text there. No control changes by it.";
       mending =
           codes "write the word in brackets on one line.";
     }
-    ∷ []
+
+-- THE ROWS, in the order of their numbers
+abbrev pub of_released : List Explanation
+of_released =
+    carriage_return ∷ continued_over_blank ∷ backslash_blank ∷ backslash_comment ∷
+    ends_in_continuation ∷ capital_in_brackets ∷ long_line ∷ empty_module_name ∷ dropped_blank ∷ []

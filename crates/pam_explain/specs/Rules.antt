@@ -4,9 +4,10 @@ use Rattle.pam_explain.specs.Explanation.{Explanation}
 use Rattle.pam_explain.specs.Shared.{control_fails, restore_file, rule_fails}
 use Rattle.pam_explain.specs.declared.explanation.Level.TheVariants.{Error}
 
--- files that are no text, and rules of which a part is missing or wrong
-unfoldable pub broken_rules : List Explanation
-broken_rules =
+-- FILES THAT ARE NO TEXT, AND RULES OF WHICH A PART IS MISSING OR WRONG
+
+unfoldable pub nul_byte : Explanation
+nul_byte =
     record {
       number = codes "E1";
       name = codes "NulByte";
@@ -15,13 +16,15 @@ broken_rules =
           codes "A configuration file has a NUL byte, so it is no text: it was damaged, or is\n"
           ++ codes "no configuration. None of its rules is looked at.";
       example =
-          codes "$ printf 'auth required pam_unix.so\\0\\n' >login"
-          ∷ [];
+          codes "$ printf 'auth required pam_unix.so\\0\\n' >login";
       linux_pam =
           codes "it does not refuse such a file, and reads on.";
       mending = restore_file;
     }
-    ∷ record {
+
+unfoldable pub missing_field : Explanation
+missing_field =
+    record {
       number = codes "E2";
       name = codes "MissingField";
       level = Error;
@@ -29,14 +32,16 @@ broken_rules =
           codes "A rule ends before its kind, its control or the path of its module. It needs\n"
           ++ codes "all three, and in pam.conf the service before them.";
       example =
-          codes "# login"
-          ∷ codes "auth required"
-          ∷ [];
+          codes "# login\n"
+          ++ codes "auth required";
       linux_pam = rule_fails;
       mending =
           codes "write the words that are missing, or remove the line.";
     }
-    ∷ record {
+
+unfoldable pub bad_kind : Explanation
+bad_kind =
+    record {
       number = codes "E3";
       name = codes "BadKind";
       level = Error;
@@ -44,15 +49,17 @@ broken_rules =
           codes "The kind of a rule is not auth, account, password or session. So the rule is\n"
           ++ codes "in no stack, and what it was to check is not checked.";
       example =
-          codes "# login"
-          ∷ codes "auht required pam_unix.so"
-          ∷ [];
+          codes "# login\n"
+          ++ codes "auht required pam_unix.so";
       linux_pam = rule_fails;
       mending =
           codes "correct the word. A - before it is allowed: it only keeps a\n"
           ++ codes "missing module out of the system log.";
     }
-    ∷ record {
+
+unfoldable pub bad_control : Explanation
+bad_control =
+    record {
       number = codes "E4";
       name = codes "BadControl";
       level = Error;
@@ -60,19 +67,18 @@ broken_rules =
           codes "The control of a rule says what an answer of its module does to the stack.\n"
           ++ codes "This one is not a keyword, and not pairs CODE=ACTION in one pair of brackets.";
       example =
-          codes "# login"
-          ∷ codes "auth requird pam_unix.so"
-          ∷ [];
+          codes "# login\n"
+          ++ codes "auth requird pam_unix.so";
       linux_pam = control_fails;
       mending =
           codes "write required, requisite, sufficient, optional, include or\n"
           ++ codes "substack, or pairs such as [success=1 default=ignore].";
     }
-    ∷ []
 
--- controls in brackets
-unfoldable pub broken_controls : List Explanation
-broken_controls =
+-- CONTROLS IN BRACKETS
+
+unfoldable pub bad_value : Explanation
+bad_value =
     record {
       number = codes "E5";
       name = codes "BadValue";
@@ -81,32 +87,36 @@ broken_controls =
           codes "In a control in brackets, the word before = is not the name of a return code.\n"
           ++ codes "The answers that were meant there get another action.";
       example =
-          codes "# login"
-          ∷ codes "auth [succes=1 default=ignore] pam_unix.so"
-          ∷ codes "auth requisite pam_deny.so"
-          ∷ codes "auth required pam_permit.so"
-          ∷ [];
+          codes "# login\n"
+          ++ codes "auth [succes=1 default=ignore] pam_unix.so\n"
+          ++ codes "auth requisite pam_deny.so\n"
+          ++ codes "auth required pam_permit.so";
       linux_pam = control_fails;
       mending =
           codes "correct the name; pam.conf(5) lists them all. default stands for\n"
           ++ codes "each code that is not named.";
     }
-    ∷ record {
+
+unfoldable pub bad_action : Explanation
+bad_action =
+    record {
       number = codes "E6";
       name = codes "BadAction";
       level = Error;
       meaning =
           codes "In a control in brackets, the word after = is not an action.";
       example =
-          codes "# login"
-          ∷ codes "auth [success=don default=die] pam_unix.so"
-          ∷ [];
+          codes "# login\n"
+          ++ codes "auth [success=don default=die] pam_unix.so";
       linux_pam = control_fails;
       mending =
           codes "write ignore, bad, die, ok, done, reset, or the number of items to\n"
           ++ codes "jump over, which has at most 9 digits.";
     }
-    ∷ record {
+
+unfoldable pub zero_jump : Explanation
+zero_jump =
+    record {
       number = codes "E7";
       name = codes "ZeroJump";
       level = Error;
@@ -114,9 +124,8 @@ broken_controls =
           codes "A control jumps over 0 items. Often a line below it was removed, and the\n"
           ++ codes "number lowered once too often.";
       example =
-          codes "# login"
-          ∷ codes "auth [success=0 default=bad] pam_unix.so"
-          ∷ [];
+          codes "# login\n"
+          ++ codes "auth [success=0 default=bad] pam_unix.so";
       linux_pam =
           codes "pam.conf(5) does not allow it, and where 1.5.2 and 1.7.0 cannot\n"
           ++ codes "read a control, each answer of the module counts as a failure (bad), success\n"
@@ -124,7 +133,10 @@ broken_controls =
       mending =
           codes "write ok or ignore, or the number of items to jump over.";
     }
-    ∷ record {
+
+unfoldable pub open_bracket : Explanation
+open_bracket =
+    record {
       number = codes "E8";
       name = codes "OpenBracket";
       level = Error;
@@ -132,14 +144,18 @@ broken_controls =
           codes "A word of a rule begins with [, and no ] closes it on the same line. A ] with\n"
           ++ codes "a backslash before it does not close it.";
       example =
-          codes "# login"
-          ∷ codes "auth [success=1 default=ignore pam_unix.so"
-          ∷ codes "auth requisite pam_deny.so"
-          ∷ codes "auth required pam_permit.so"
-          ∷ [];
+          codes "# login\n"
+          ++ codes "auth [success=1 default=ignore pam_unix.so\n"
+          ++ codes "auth requisite pam_deny.so\n"
+          ++ codes "auth required pam_permit.so";
       linux_pam =
           codes "1.5.2 and 1.7.0 take all up to the end of the line as one word.";
       mending =
           codes "write ] after the last word that belongs in the brackets.";
     }
-    ∷ []
+
+-- THE ROWS, in the order of their numbers
+abbrev pub of_rules : List Explanation
+of_rules =
+    nul_byte ∷ missing_field ∷ bad_kind ∷ bad_control ∷ bad_value ∷ bad_action ∷ zero_jump ∷
+    open_bracket ∷ []

@@ -4,9 +4,10 @@ use Rattle.pam_explain.specs.Explanation.{Explanation}
 use Rattle.pam_explain.specs.Shared.{deep_substacks, fault_of_run, fault_of_words, free_memory, no_limit, own_limit, rule_fails}
 use Rattle.pam_explain.specs.declared.explanation.Level.TheVariants.{Error, Warning}
 
--- files that rules name
-unfoldable pub broken_includes : List Explanation
-broken_includes =
+-- FILES THAT RULES NAME
+
+unfoldable pub missing_target : Explanation
+missing_target =
     record {
       number = codes "E9";
       name = codes "MissingTarget";
@@ -15,14 +16,16 @@ broken_includes =
           codes "No file is named after include, substack or @include. The rules that were\n"
           ++ codes "meant are not in the stack.";
       example =
-          codes "# login"
-          ∷ codes "auth include"
-          ∷ [];
+          codes "# login\n"
+          ++ codes "auth include";
       linux_pam = rule_fails;
       mending =
           codes "write the name of the file, or remove the line.";
     }
-    ∷ record {
+
+unfoldable pub bad_target : Explanation
+bad_target =
+    record {
       number = codes "E10";
       name = codes "BadTarget";
       level = Warning;
@@ -32,16 +35,18 @@ broken_includes =
           ++ codes "stack, and does not say whether it is sound. check reports this as a warning;\n"
           ++ codes "the commands for one stack refuse the stack.";
       example =
-          codes "# login"
-          ∷ codes "auth include /etc/security/common-auth"
-          ∷ [];
+          codes "# login\n"
+          ++ codes "auth include /etc/security/common-auth";
       linux_pam =
           codes "Debian's opens the file.";
       mending =
           codes "move the file beside the others, and write its name alone. The\n"
           ++ codes "prefix /etc/pam.d/ may stay.";
     }
-    ∷ record {
+
+unfoldable pub cycle : Explanation
+cycle =
+    record {
       number = codes "E11";
       name = codes "Cycle";
       level = Error;
@@ -49,16 +54,18 @@ broken_includes =
           codes "A file includes itself, or files include one another in a circle. It would be\n"
           ++ codes "read without end.";
       example =
-          codes "# login"
-          ∷ codes "auth required pam_unix.so"
-          ∷ codes "auth include login"
-          ∷ [];
+          codes "# login\n"
+          ++ codes "auth required pam_unix.so\n"
+          ++ codes "auth include login";
       linux_pam =
           codes "pam.conf(5) does not say what happens then.";
       mending =
           codes "remove the line, or the one that leads back to this file.";
     }
-    ∷ record {
+
+unfoldable pub too_deep : Explanation
+too_deep =
+    record {
       number = codes "E12";
       name = codes "TooDeep";
       level = Error;
@@ -66,18 +73,17 @@ broken_includes =
           codes "More than 16 files would be open at once, since each includes the next. The\n"
           ++ codes "first is that of the service.";
       example =
-          codes "$ for n in $(seq 1 16); do echo \"auth include f$((n+1))\" >f$n; done"
-          ∷ codes "$ echo 'auth required pam_unix.so' >f17"
-          ∷ [];
+          codes "$ for n in $(seq 1 16); do echo \"auth include f$((n+1))\" >f$n; done\n"
+          ++ codes "$ echo 'auth required pam_unix.so' >f17";
       linux_pam = no_limit;
       mending =
           codes "include fewer files in one another.";
     }
-    ∷ []
 
--- files that are not there, or not read
-unfoldable pub missing_and_long_files : List Explanation
-missing_and_long_files =
+-- FILES THAT ARE NOT THERE, OR NOT READ
+
+unfoldable pub too_many_modules : Explanation
+too_many_modules =
     record {
       number = codes "E13";
       name = codes "TooManyModules";
@@ -85,13 +91,15 @@ missing_and_long_files =
       meaning =
           codes "A stack has more than 256 modules, those of included files among them.";
       example =
-          codes "$ yes 'auth required pam_unix.so' | head -n 257 >login"
-          ∷ [];
+          codes "$ yes 'auth required pam_unix.so' | head -n 257 >login";
       linux_pam = no_limit;
       mending =
           codes "remove rules, or files that are included more than once.";
     }
-    ∷ record {
+
+unfoldable pub include_in_single_file : Explanation
+include_in_single_file =
+    record {
       number = codes "E14";
       name = codes "IncludeInSingleFile";
       level = Error;
@@ -99,10 +107,9 @@ missing_and_long_files =
           codes "A rule of pam.conf includes another file. pamcheck reads pam.conf alone, so it\n"
           ++ codes "does not know the stack.";
       example =
-          codes "# pam.conf"
-          ∷ codes "login auth include common-auth"
-          ∷ codes "$ pamcheck show login auth --conf pam.conf"
-          ∷ [];
+          codes "# pam.conf\n"
+          ++ codes "login auth include common-auth\n"
+          ++ codes "$ pamcheck show login auth --conf pam.conf";
       linux_pam =
           codes "1.5.2 and 1.7.0 take such a rule as an include. pam.conf(5) does\n"
           ++ codes "not say in which folder they look for the file.";
@@ -110,7 +117,10 @@ missing_and_long_files =
           codes "write the rules themselves, or a folder with a file for each\n"
           ++ codes "service.";
     }
-    ∷ record {
+
+unfoldable pub no_service : Explanation
+no_service =
+    record {
       number = codes "E15";
       name = codes "NoService";
       level = Error;
@@ -119,16 +129,18 @@ missing_and_long_files =
           ++ codes "Without a line number, neither the service nor other has a file, or in\n"
           ++ codes "pam.conf a rule, so there is no stack that could let anybody in.";
       example =
-          codes "# login"
-          ∷ codes "auth include common-auht"
-          ∷ [];
+          codes "# login\n"
+          ++ codes "auth include common-auht";
       linux_pam =
           codes "it reads all four kinds of a service, and of other, whenever a\n"
           ++ codes "program starts, so a fault in one of them stops all.";
       mending =
           codes "correct the name, or make the file; in pam.conf, write the rules.";
     }
-    ∷ record {
+
+unfoldable pub file_too_long : Explanation
+file_too_long =
+    record {
       number = codes "E16";
       name = codes "FileTooLong";
       level = Error;
@@ -136,31 +148,32 @@ missing_and_long_files =
           codes "A configuration file has more than 1,048,576 bytes. It is not read: a file of\n"
           ++ codes "that size is hardly one of rules.";
       example =
-          codes "$ yes '# comment' | head -c 1048577 >login"
-          ∷ [];
+          codes "$ yes '# comment' | head -c 1048577 >login";
       linux_pam =
           codes "it reads on. This limit is pamcheck's.";
       mending =
           codes "shorten the file, or put a part of it into a file that it\n"
           ++ codes "includes.";
     }
-    ∷ []
 
--- limits of a run
-unfoldable pub limits : List Explanation
-limits =
+-- LIMITS OF A RUN
+
+unfoldable pub memory : Explanation
+memory =
     record {
       number = codes "E17";
       name = codes "Memory";
       level = Error;
       meaning =
           codes "The system gave no memory. This says nothing of the configuration.";
-      example =
-          [];
+      example = [];
       linux_pam = fault_of_run;
       mending = free_memory;
     }
-    ∷ record {
+
+unfoldable pub too_many_followed : Explanation
+too_many_followed =
+    record {
       number = codes "E18";
       name = codes "TooManyFollowed";
       level = Error;
@@ -168,14 +181,16 @@ limits =
           codes "More than 256 includes and substacks are followed for one stack. Files that\n"
           ++ codes "include others twice double their number with each level.";
       example =
-          codes "$ yes 'auth include common' | head -n 257 >login"
-          ∷ codes "$ echo '# no rules yet' >common"
-          ∷ [];
+          codes "$ yes 'auth include common' | head -n 257 >login\n"
+          ++ codes "$ echo '# no rules yet' >common";
       linux_pam = no_limit;
       mending =
           codes "include fewer files.";
     }
-    ∷ record {
+
+unfoldable pub too_many_states : Explanation
+too_many_states =
+    record {
       number = codes "E19";
       name = codes "TooManyStates";
       level = Error;
@@ -184,13 +199,16 @@ limits =
           ++ codes "there, and the states in which the open substacks began. outcomes, graph, and\n"
           ++ codes "paths with --decision or --asks look at each of them. paths without these has\n"
           ++ codes "no such limit. A picture, graph --format svg, has 400 places at most.";
-      example = deep_substacks (codes "$ pamcheck outcomes f1 auth --dir ." ∷ []);
+      example = deep_substacks ++ codes "\n$ pamcheck outcomes f1 auth --dir .";
       linux_pam = own_limit;
       mending =
           codes "give a returns file with what the modules can answer (--returns),\n"
           ++ codes "or use fewer substacks in one another.";
     }
-    ∷ record {
+
+unfoldable pub wrong_count : Explanation
+wrong_count =
+    record {
       number = codes "DE1";
       name = codes "WrongCount";
       level = Error;
@@ -198,13 +216,17 @@ limits =
           codes "decide was given too few or too many codes. It takes one for each module of\n"
           ++ codes "the stack, even for one that is not asked.";
       example =
-          codes "# login"
-          ∷ codes "auth required pam_unix.so"
-          ∷ codes "$ pamcheck decide login auth success success --dir ."
-          ∷ [];
+          codes "# login\n"
+          ++ codes "auth required pam_unix.so\n"
+          ++ codes "$ pamcheck decide login auth success success --dir .";
       linux_pam = fault_of_words;
       mending =
           codes "give a code for each module, in the order of their numbers. show\n"
           ++ codes "prints these numbers.";
     }
-    ∷ []
+
+-- THE ROWS, in the order of their numbers
+abbrev pub of_stacks : List Explanation
+of_stacks =
+    missing_target ∷ bad_target ∷ cycle ∷ too_deep ∷ too_many_modules ∷ include_in_single_file ∷
+    no_service ∷ file_too_long ∷ memory ∷ too_many_followed ∷ too_many_states ∷ wrong_count ∷ []

@@ -13,8 +13,9 @@ pub enum Level {
 
 /// What a fault or a finding means. All texts are ASCII.
 ///
-/// The paragraphs `meaning`, `linux_pam` and `mending` have lines of at most 78 bytes, with line feeds between them. The
-/// last two are meant to stand after `Linux-PAM: ` and `To mend it: `, for which their first lines leave room.
+/// All texts but the number and the name are lines with line feeds between them. The lines of `meaning`, `linux_pam` and
+/// `mending` have at most 78 bytes. The last two are meant to stand after `Linux-PAM: ` and `To mend it: `, for which their
+/// first lines leave room.
 #[derive(Clone, Copy, Debug)]
 pub struct Explanation {
     /// The number, as `E15`.
@@ -27,9 +28,9 @@ pub struct Explanation {
     pub meaning: &'static str,
     /// An example that has it, in lines of at most 74 bytes. A line `# NAME` begins the file of this name, and is its first
     /// line. A line `$ COMMAND` is for a shell, in the folder of these files; lines `> TEXT` belong to the command before
-    /// them. If there is no command with `pamcheck`, it is `pamcheck check --dir .` that reports it. There are no lines if it
-    /// depends on the machine.
-    pub example: &'static [&'static str],
+    /// them. If there is no command with `pamcheck`, it is `pamcheck check --dir .` that reports it. It is empty if it depends
+    /// on the machine.
+    pub example: &'static str,
     /// What releases of Linux-PAM do.
     pub linux_pam: &'static str,
     /// What to do.

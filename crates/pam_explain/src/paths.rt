@@ -1,13 +1,18 @@
 //! Faults of cursors and moments.
 
-ghost use Rattle.std.specs.Prelude.{◌≡◌, map};
+ghost use Rattle.std.specs.Prelude.{◌≡◌};
+ghost use Rattle.std.specs.List.{slice_get};
+ghost use Rattle.std.specs.Option.{option_map};
 ghost use Rattle.pam_explain.specs.Paths as spec;
 ghost use Rattle.pam_explain.specs.Views.{explanation_view};
 
 use crate::explanation::{Explanation, Level};
 use crate::shared::{FAULT_OF_WORDS, OWN_CURSOR, TAKE_CURSOR};
 
-static CURSORS: [Explanation; 4] = [
+#[tactic(auto, unfolding(crate::specs::Paths::cursor_syntax))]
+fn cursor_syntax() -> Explanation
+    ensures { explanation_view result ≡ spec.cursor_syntax }
+{
     Explanation {
         number: "C1",
         name: "Syntax",
@@ -16,14 +21,20 @@ static CURSORS: [Explanation; 4] = [
             "The word after --after or --before is not a cursor: numbers from 0 to 30\n",
             "joined by dots, without leading zeros, or - for none."
         ),
-        example: &[
-            "# login",
-            "auth required pam_unix.so",
-            "$ pamcheck paths login auth --dir . --after 1,2",
-        ],
+        example: concat!(
+            "# login\n",
+            "auth required pam_unix.so\n",
+            "$ pamcheck paths login auth --dir . --after 1,2"
+        ),
         linux_pam: OWN_CURSOR,
         mending: "copy the cursor from the last line of a page.",
-    },
+    }
+}
+
+#[tactic(auto, unfolding(crate::specs::Paths::not_least))]
+fn not_least() -> Explanation
+    ensures { explanation_view result ≡ spec.not_least }
+{
     Explanation {
         number: "C2",
         name: "NotLeast",
@@ -33,14 +44,20 @@ static CURSORS: [Explanation; 4] = [
             "alike are one path, which has the number of the least of them. The cursor was\n",
             "written by hand, or the stack is not the one that it came from."
         ),
-        example: &[
-            "# login",
-            "auth optional pam_unix.so",
-            "$ pamcheck paths login auth --dir . --after 3",
-        ],
+        example: concat!(
+            "# login\n",
+            "auth optional pam_unix.so\n",
+            "$ pamcheck paths login auth --dir . --after 3"
+        ),
         linux_pam: OWN_CURSOR,
         mending: TAKE_CURSOR,
-    },
+    }
+}
+
+#[tactic(auto, unfolding(crate::specs::Paths::too_short))]
+fn too_short() -> Explanation
+    ensures { explanation_view result ≡ spec.too_short }
+{
     Explanation {
         number: "C3",
         name: "TooShort",
@@ -49,15 +66,21 @@ static CURSORS: [Explanation; 4] = [
             "The cursor ends while a module is still asked. It was cut, or the stack has\n",
             "more modules than the one that it came from."
         ),
-        example: &[
-            "# login",
-            "auth required pam_unix.so",
-            "auth required pam_unix.so",
-            "$ pamcheck paths login auth --dir . --after 0",
-        ],
+        example: concat!(
+            "# login\n",
+            "auth required pam_unix.so\n",
+            "auth required pam_unix.so\n",
+            "$ pamcheck paths login auth --dir . --after 0"
+        ),
         linux_pam: OWN_CURSOR,
         mending: TAKE_CURSOR,
-    },
+    }
+}
+
+#[tactic(auto, unfolding(crate::specs::Paths::too_long))]
+fn too_long() -> Explanation
+    ensures { explanation_view result ≡ spec.too_long }
+{
     Explanation {
         number: "C4",
         name: "TooLong",
@@ -66,24 +89,20 @@ static CURSORS: [Explanation; 4] = [
             "The run ends before the cursor does. The stack has fewer modules than the one\n",
             "that the cursor came from."
         ),
-        example: &[
-            "# login",
-            "auth required pam_unix.so",
-            "$ pamcheck paths login auth --dir . --after 0.0",
-        ],
+        example: concat!(
+            "# login\n",
+            "auth required pam_unix.so\n",
+            "$ pamcheck paths login auth --dir . --after 0.0"
+        ),
         linux_pam: OWN_CURSOR,
         mending: TAKE_CURSOR,
-    },
-];
-
-#[tactic(auto, unfolding(crate::specs::Paths::cursors))]
-pub(crate) fn cursors() -> &'static [Explanation]
-    ensures { map explanation_view result.now ≡ spec.cursors }
-{
-    &CURSORS
+    }
 }
 
-static MOMENTS: [Explanation; 3] = [
+#[tactic(auto, unfolding(crate::specs::Paths::range))]
+fn range() -> Explanation
+    ensures { explanation_view result ≡ spec.range }
+{
     Explanation {
         number: "M1",
         name: "Range",
@@ -92,16 +111,22 @@ static MOMENTS: [Explanation; 3] = [
             "The seconds of --at-unix are past 9999-12-30T22:00:00Z, the last instant of\n",
             "which every clock can show a date."
         ),
-        example: &[
-            "$ echo 'login;*;*;Al0800-1800' >time.conf",
-            "$ pamcheck time login --time time.conf --user alice --at-unix 253402207201",
-        ],
+        example: concat!(
+            "$ echo 'login;*;*;Al0800-1800' >time.conf\n",
+            "$ pamcheck time login --time time.conf --user alice --at-unix 253402207201"
+        ),
         linux_pam: FAULT_OF_WORDS,
         mending: concat!(
             "count the seconds since 1970-01-01 00:00 UTC. A time in\n",
             "milliseconds has three digits too many."
         ),
-    },
+    }
+}
+
+#[tactic(auto, unfolding(crate::specs::Paths::rule))]
+fn rule() -> Explanation
+    ensures { explanation_view result ≡ spec.rule }
+{
     Explanation {
         number: "M2",
         name: "Rule",
@@ -110,33 +135,48 @@ static MOMENTS: [Explanation; 3] = [
             "The text of --zone is not a POSIX rule for a time zone: a name alone, such as\n",
             "CET, does not say how far it is from UTC."
         ),
-        example: &[
-            "$ echo 'login;*;*;Al0800-1800' >time.conf",
-            "$ pamcheck time login --time time.conf --user alice --at-unix 0 --zone CET",
-        ],
+        example: concat!(
+            "$ echo 'login;*;*;Al0800-1800' >time.conf\n",
+            "$ pamcheck time login --time time.conf --user alice --at-unix 0 --zone CET"
+        ),
         linux_pam: FAULT_OF_WORDS,
         mending: concat!(
             "write a rule such as CET-1CEST,M3.5.0,M10.5.0/3. The last line of\n",
             "a file in /usr/share/zoneinfo is one."
         ),
-    },
+    }
+}
+
+#[tactic(auto, unfolding(crate::specs::Paths::moment_syntax))]
+fn moment_syntax() -> Explanation
+    ensures { explanation_view result ≡ spec.moment_syntax }
+{
     Explanation {
         number: "M4",
         name: "Syntax",
         level: Level::Error,
         meaning: "The text of --at is not a date and a time that exist, as in 2024-05-11T07:59.",
-        example: &[
-            "$ echo 'login;*;*;Al0800-1800' >time.conf",
-            "$ pamcheck time login --time time.conf --user alice --at 2024-02-30T07:59",
-        ],
+        example: concat!(
+            "$ echo 'login;*;*;Al0800-1800' >time.conf\n",
+            "$ pamcheck time login --time time.conf --user alice --at 2024-02-30T07:59"
+        ),
         linux_pam: FAULT_OF_WORDS,
         mending: "write YYYY-MM-DDTHH:MM, or the same with :SS.",
-    },
-];
+    }
+}
 
-#[tactic(auto, unfolding(crate::specs::Paths::moments))]
-pub(crate) fn moments() -> &'static [Explanation]
-    ensures { map explanation_view result.now ≡ spec.moments }
+/// Returns the explanation of this row, counted from 0. The rows are in the order of their numbers.
+pub(crate) fn of_paths(row: usize) -> Option<Explanation>
+    ensures { option_map explanation_view result ≡ slice_get spec.of_paths row }
 {
-    &MOMENTS
+    Some(match row {
+        0 => cursor_syntax(),
+        1 => not_least(),
+        2 => too_short(),
+        3 => too_long(),
+        4 => range(),
+        5 => rule(),
+        6 => moment_syntax(),
+        _ => return None,
+    })
 }

@@ -1,12 +1,17 @@
 //! What released Linux-PAM reads otherwise than the manual pages say.
 
-ghost use Rattle.std.specs.Prelude.{◌≡◌, map};
+ghost use Rattle.std.specs.Prelude.{◌≡◌};
+ghost use Rattle.std.specs.List.{slice_get};
+ghost use Rattle.std.specs.Option.{option_map};
 ghost use Rattle.pam_explain.specs.Released as spec;
 ghost use Rattle.pam_explain.specs.Views.{explanation_view};
 
 use crate::explanation::{Explanation, Level};
 
-static CONTINUED_LINES: [Explanation; 4] = [
+#[tactic(auto, unfolding(crate::specs::Released::carriage_return))]
+fn carriage_return() -> Explanation
+    ensures { explanation_view result ≡ spec.carriage_return }
+{
     Explanation {
         number: "L1",
         name: "CarriageReturn",
@@ -15,14 +20,20 @@ static CONTINUED_LINES: [Explanation; 4] = [
             "A line has a carriage return, as files from other systems have at the end of\n",
             "each. It is a blank here."
         ),
-        example: &["$ printf 'auth required pam_unix.so\\r\\n' >login"],
+        example: "$ printf 'auth required pam_unix.so\\r\\n' >login",
         linux_pam: concat!(
             "1.5.2 and 1.7.0 take it as a part of the word before it. A module's\n",
             "path that ends in it is the path of a module that is not there, which locks\n",
             "out. A line of it alone is a rule that fails."
         ),
         mending: "end each line with a line feed alone: sed -i 's/\\r$//' FILE.",
-    },
+    }
+}
+
+#[tactic(auto, unfolding(crate::specs::Released::continued_over_blank))]
+fn continued_over_blank() -> Explanation
+    ensures { explanation_view result ≡ spec.continued_over_blank }
+{
     Explanation {
         number: "L2",
         name: "ContinuedOverBlank",
@@ -31,19 +42,25 @@ static CONTINUED_LINES: [Explanation; 4] = [
             "A line ends in a backslash, and the next is blank or a comment. The rule ends\n",
             "there, and the line after that is a rule of its own."
         ),
-        example: &[
-            "# login",
-            "auth required pam_env.so \\",
-            "# the password",
-            "auth required pam_unix.so",
-        ],
+        example: concat!(
+            "# login\n",
+            "auth required pam_env.so \\\n",
+            "# the password\n",
+            "auth required pam_unix.so"
+        ),
         linux_pam: concat!(
             "1.5.2 goes on over blank lines and comments, so the next rule\n",
             "becomes arguments of this one. A module that was to check somebody is then not\n",
             "asked, which lets in."
         ),
         mending: "remove the backslash, or the blank lines and comments after it.",
-    },
+    }
+}
+
+#[tactic(auto, unfolding(crate::specs::Released::backslash_blank))]
+fn backslash_blank() -> Explanation
+    ensures { explanation_view result ≡ spec.backslash_blank }
+{
     Explanation {
         number: "L3",
         name: "BackslashBlank",
@@ -52,17 +69,23 @@ static CONTINUED_LINES: [Explanation; 4] = [
             "A line ends in a backslash with blanks after it. It does not go on with the\n",
             "next line: the backslash is an argument."
         ),
-        example: &[
-            "$ printf 'auth required pam_env.so \\\\ \\n' >login",
-            "$ echo 'auth required pam_unix.so' >>login",
-        ],
+        example: concat!(
+            "$ printf 'auth required pam_env.so \\\\ \\n' >login\n",
+            "$ echo 'auth required pam_unix.so' >>login"
+        ),
         linux_pam: concat!(
             "1.5.2 and 1.7.0 go on with the next line, so the next rule becomes\n",
             "arguments of this one. A module that was to check somebody is then not asked,\n",
             "which lets in."
         ),
         mending: "remove the blanks after the backslash, or the backslash.",
-    },
+    }
+}
+
+#[tactic(auto, unfolding(crate::specs::Released::backslash_comment))]
+fn backslash_comment() -> Explanation
+    ensures { explanation_view result ≡ spec.backslash_comment }
+{
     Explanation {
         number: "L4",
         name: "BackslashComment",
@@ -71,27 +94,23 @@ static CONTINUED_LINES: [Explanation; 4] = [
             "A backslash is directly before a comment. Without the comment it is the last\n",
             "byte of the line, which goes on with the next one."
         ),
-        example: &[
-            "# login",
-            "auth required pam_unix.so \\# and its arguments",
-            "    nullok",
-        ],
+        example: concat!(
+            "# login\n",
+            "auth required pam_unix.so \\# and its arguments\n",
+            "    nullok"
+        ),
         linux_pam: concat!(
             "1.5.2 and 1.7.0 do not go on with the next line. What stands there\n",
             "is a line of its own."
         ),
         mending: "remove the comment, or the backslash.",
-    },
-];
-
-#[tactic(auto, unfolding(crate::specs::Released::continued_lines))]
-pub(crate) fn continued_lines() -> &'static [Explanation]
-    ensures { map explanation_view result.now ≡ spec.continued_lines }
-{
-    &CONTINUED_LINES
+    }
 }
 
-static CONTROLS_AND_LENGTHS: [Explanation; 3] = [
+#[tactic(auto, unfolding(crate::specs::Released::ends_in_continuation))]
+fn ends_in_continuation() -> Explanation
+    ensures { explanation_view result ≡ spec.ends_in_continuation }
+{
     Explanation {
         number: "L5",
         name: "EndsInContinuation",
@@ -100,14 +119,20 @@ static CONTROLS_AND_LENGTHS: [Explanation; 3] = [
             "The last line of a file ends in a backslash, so it goes on where nothing\n",
             "follows."
         ),
-        example: &["# login", "auth required pam_unix.so \\"],
+        example: concat!("# login\n", "auth required pam_unix.so \\"),
         linux_pam: concat!(
             "1.5.2 and 1.7.0 refuse the whole file, and with it each service\n",
             "that needs it, which locks out. 1.5.2 does so too where only blank lines and\n",
             "comments follow."
         ),
         mending: "remove the backslash.",
-    },
+    }
+}
+
+#[tactic(auto, unfolding(crate::specs::Released::capital_in_brackets))]
+fn capital_in_brackets() -> Explanation
+    ensures { explanation_view result ≡ spec.capital_in_brackets }
+{
     Explanation {
         number: "L6",
         name: "CapitalInBrackets",
@@ -116,37 +141,39 @@ static CONTROLS_AND_LENGTHS: [Explanation; 3] = [
             "A control in brackets has a capital letter. Case does not matter here, as in\n",
             "the keywords."
         ),
-        example: &["# login", "auth [Success=ok Default=bad] pam_unix.so"],
+        example: concat!("# login\n", "auth [Success=ok Default=bad] pam_unix.so"),
         linux_pam: concat!(
             "1.5.2 and 1.7.0 compare what is in brackets with case. Where they\n",
             "do not know a name, each answer of the module counts as a failure (bad),\n",
             "success too, which locks out."
         ),
         mending: "write what is in brackets in small letters.",
-    },
+    }
+}
+
+#[tactic(auto, unfolding(crate::specs::Released::long_line))]
+fn long_line() -> Explanation
+    ensures { explanation_view result ≡ spec.long_line }
+{
     Explanation {
         number: "L7",
         name: "LongLine",
         level: Level::Note,
         meaning: "The lines of a rule have together more than 1,023 bytes.",
-        example: &["$ printf 'auth required pam_unix.so %1000s\\n' nullok >login"],
+        example: "$ printf 'auth required pam_unix.so %1000s\\n' nullok >login",
         linux_pam: concat!(
             "1.5.2 cuts the line there, and takes the rest as a rule that fails.\n",
             "Where exactly 1,023 bytes go on with the next line, it reads for ever. 1.7.0\n",
             "has no such limit."
         ),
         mending: "shorten the rule.",
-    },
-];
-
-#[tactic(auto, unfolding(crate::specs::Released::controls_and_lengths))]
-pub(crate) fn controls_and_lengths() -> &'static [Explanation]
-    ensures { map explanation_view result.now ≡ spec.controls_and_lengths }
-{
-    &CONTROLS_AND_LENGTHS
+    }
 }
 
-static NAMES_AND_BLANKS: [Explanation; 2] = [
+#[tactic(auto, unfolding(crate::specs::Released::empty_module_name))]
+fn empty_module_name() -> Explanation
+    ensures { explanation_view result ≡ spec.empty_module_name }
+{
     Explanation {
         number: "L8",
         name: "EmptyModuleName",
@@ -155,10 +182,16 @@ static NAMES_AND_BLANKS: [Explanation; 2] = [
             "The path of a module has no name: nothing, or only a question mark, is after\n",
             "its last / and before its last dot."
         ),
-        example: &["# login", "auth required /lib/security/.so"],
+        example: concat!("# login\n", "auth required /lib/security/.so"),
         linux_pam: "1.5.2 and 1.7.0 refuse the whole configuration, which locks out.",
         mending: "name the file of the module.",
-    },
+    }
+}
+
+#[tactic(auto, unfolding(crate::specs::Released::dropped_blank))]
+fn dropped_blank() -> Explanation
+    ensures { explanation_view result ≡ spec.dropped_blank }
+{
     Explanation {
         number: "L9",
         name: "DroppedBlank",
@@ -167,23 +200,34 @@ static NAMES_AND_BLANKS: [Explanation; 2] = [
             "A word in brackets goes on to the next line, and that line begins with blanks.\n",
             "They belong to the word."
         ),
-        example: &[
-            "# login",
-            "auth required pam_unix.so",
-            "auth optional pam_exec.so [say \"a\\",
-            "     b\"]",
-        ],
+        example: concat!(
+            "# login\n",
+            "auth required pam_unix.so\n",
+            "auth optional pam_exec.so [say \"a\\\n",
+            "     b\"]"
+        ),
         linux_pam: concat!(
             "1.7.0 drops the blanks that a line begins with, so the word has\n",
             "another text there. No control changes by it."
         ),
         mending: "write the word in brackets on one line.",
-    },
-];
+    }
+}
 
-#[tactic(auto, unfolding(crate::specs::Released::names_and_blanks))]
-pub(crate) fn names_and_blanks() -> &'static [Explanation]
-    ensures { map explanation_view result.now ≡ spec.names_and_blanks }
+/// Returns the explanation of this row, counted from 0. The rows are in the order of their numbers.
+pub(crate) fn of_released(row: usize) -> Option<Explanation>
+    ensures { option_map explanation_view result ≡ slice_get spec.of_released row }
 {
-    &NAMES_AND_BLANKS
+    Some(match row {
+        0 => carriage_return(),
+        1 => continued_over_blank(),
+        2 => backslash_blank(),
+        3 => backslash_comment(),
+        4 => ends_in_continuation(),
+        5 => capital_in_brackets(),
+        6 => long_line(),
+        7 => empty_module_name(),
+        8 => dropped_blank(),
+        _ => return None,
+    })
 }

@@ -58,15 +58,15 @@ pub(crate) const GIVE_ONE: &str = "give one of the two.";
 
 /// An example of files whose substacks nest so deep that a run can be at too many places, and the lines after them.
 macro_rules! deep_substacks {
-    ($($line:expr),*) => {
-        &[
-            "$ for n in $(seq 1 15); do",
-            "> printf 'auth required pam_unix.so\\nauth substack f%d\\n' $((n+1)) >f$n",
-            "> echo 'auth [success=ok ignore=reset default=bad] pam_ldap.so' >>f$n",
-            "> done",
-            "$ echo 'auth required pam_unix.so' >f16",
-            $($line),*
-        ]
+    ($($line:literal),*) => {
+        concat!(
+            "$ for n in $(seq 1 15); do\n",
+            "> printf 'auth required pam_unix.so\\nauth substack f%d\\n' $((n+1)) >f$n\n",
+            "> echo 'auth [success=ok ignore=reset default=bad] pam_ldap.so' >>f$n\n",
+            "> done\n",
+            "$ echo 'auth required pam_unix.so' >f16"
+            $(, "\n", $line)*
+        )
     };
 }
 

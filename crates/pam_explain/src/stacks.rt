@@ -1,6 +1,8 @@
 //! Faults of a stack: files that rules name, and limits.
 
-ghost use Rattle.std.specs.Prelude.{◌≡◌, map};
+ghost use Rattle.std.specs.Prelude.{◌≡◌};
+ghost use Rattle.std.specs.List.{slice_get};
+ghost use Rattle.std.specs.Option.{option_map};
 ghost use Rattle.pam_explain.specs.Stacks as spec;
 ghost use Rattle.pam_explain.specs.Views.{explanation_view};
 
@@ -9,7 +11,10 @@ use crate::shared::{
     FAULT_OF_RUN, FAULT_OF_WORDS, FREE_MEMORY, NO_LIMIT, OWN_LIMIT, RULE_FAILS, deep_substacks,
 };
 
-static BROKEN_INCLUDES: [Explanation; 4] = [
+#[tactic(auto, unfolding(crate::specs::Stacks::missing_target))]
+fn missing_target() -> Explanation
+    ensures { explanation_view result ≡ spec.missing_target }
+{
     Explanation {
         number: "E9",
         name: "MissingTarget",
@@ -18,10 +23,16 @@ static BROKEN_INCLUDES: [Explanation; 4] = [
             "No file is named after include, substack or @include. The rules that were\n",
             "meant are not in the stack."
         ),
-        example: &["# login", "auth include"],
+        example: concat!("# login\n", "auth include"),
         linux_pam: RULE_FAILS,
         mending: "write the name of the file, or remove the line.",
-    },
+    }
+}
+
+#[tactic(auto, unfolding(crate::specs::Stacks::bad_target))]
+fn bad_target() -> Explanation
+    ensures { explanation_view result ≡ spec.bad_target }
+{
     Explanation {
         number: "E10",
         name: "BadTarget",
@@ -32,13 +43,19 @@ static BROKEN_INCLUDES: [Explanation; 4] = [
             "stack, and does not say whether it is sound. check reports this as a warning;\n",
             "the commands for one stack refuse the stack."
         ),
-        example: &["# login", "auth include /etc/security/common-auth"],
+        example: concat!("# login\n", "auth include /etc/security/common-auth"),
         linux_pam: "Debian's opens the file.",
         mending: concat!(
             "move the file beside the others, and write its name alone. The\n",
             "prefix /etc/pam.d/ may stay."
         ),
-    },
+    }
+}
+
+#[tactic(auto, unfolding(crate::specs::Stacks::cycle))]
+fn cycle() -> Explanation
+    ensures { explanation_view result ≡ spec.cycle }
+{
     Explanation {
         number: "E11",
         name: "Cycle",
@@ -47,10 +64,20 @@ static BROKEN_INCLUDES: [Explanation; 4] = [
             "A file includes itself, or files include one another in a circle. It would be\n",
             "read without end."
         ),
-        example: &["# login", "auth required pam_unix.so", "auth include login"],
+        example: concat!(
+            "# login\n",
+            "auth required pam_unix.so\n",
+            "auth include login"
+        ),
         linux_pam: "pam.conf(5) does not say what happens then.",
         mending: "remove the line, or the one that leads back to this file.",
-    },
+    }
+}
+
+#[tactic(auto, unfolding(crate::specs::Stacks::too_deep))]
+fn too_deep() -> Explanation
+    ensures { explanation_view result ≡ spec.too_deep }
+{
     Explanation {
         number: "E12",
         name: "TooDeep",
@@ -59,32 +86,34 @@ static BROKEN_INCLUDES: [Explanation; 4] = [
             "More than 16 files would be open at once, since each includes the next. The\n",
             "first is that of the service."
         ),
-        example: &[
-            "$ for n in $(seq 1 16); do echo \"auth include f$((n+1))\" >f$n; done",
-            "$ echo 'auth required pam_unix.so' >f17",
-        ],
+        example: concat!(
+            "$ for n in $(seq 1 16); do echo \"auth include f$((n+1))\" >f$n; done\n",
+            "$ echo 'auth required pam_unix.so' >f17"
+        ),
         linux_pam: NO_LIMIT,
         mending: "include fewer files in one another.",
-    },
-];
-
-#[tactic(auto, unfolding(crate::specs::Stacks::broken_includes))]
-pub(crate) fn broken_includes() -> &'static [Explanation]
-    ensures { map explanation_view result.now ≡ spec.broken_includes }
-{
-    &BROKEN_INCLUDES
+    }
 }
 
-static MISSING_AND_LONG_FILES: [Explanation; 4] = [
+#[tactic(auto, unfolding(crate::specs::Stacks::too_many_modules))]
+fn too_many_modules() -> Explanation
+    ensures { explanation_view result ≡ spec.too_many_modules }
+{
     Explanation {
         number: "E13",
         name: "TooManyModules",
         level: Level::Error,
         meaning: "A stack has more than 256 modules, those of included files among them.",
-        example: &["$ yes 'auth required pam_unix.so' | head -n 257 >login"],
+        example: "$ yes 'auth required pam_unix.so' | head -n 257 >login",
         linux_pam: NO_LIMIT,
         mending: "remove rules, or files that are included more than once.",
-    },
+    }
+}
+
+#[tactic(auto, unfolding(crate::specs::Stacks::include_in_single_file))]
+fn include_in_single_file() -> Explanation
+    ensures { explanation_view result ≡ spec.include_in_single_file }
+{
     Explanation {
         number: "E14",
         name: "IncludeInSingleFile",
@@ -93,11 +122,11 @@ static MISSING_AND_LONG_FILES: [Explanation; 4] = [
             "A rule of pam.conf includes another file. pamcheck reads pam.conf alone, so it\n",
             "does not know the stack."
         ),
-        example: &[
-            "# pam.conf",
-            "login auth include common-auth",
-            "$ pamcheck show login auth --conf pam.conf",
-        ],
+        example: concat!(
+            "# pam.conf\n",
+            "login auth include common-auth\n",
+            "$ pamcheck show login auth --conf pam.conf"
+        ),
         linux_pam: concat!(
             "1.5.2 and 1.7.0 take such a rule as an include. pam.conf(5) does\n",
             "not say in which folder they look for the file."
@@ -106,7 +135,13 @@ static MISSING_AND_LONG_FILES: [Explanation; 4] = [
             "write the rules themselves, or a folder with a file for each\n",
             "service."
         ),
-    },
+    }
+}
+
+#[tactic(auto, unfolding(crate::specs::Stacks::no_service))]
+fn no_service() -> Explanation
+    ensures { explanation_view result ≡ spec.no_service }
+{
     Explanation {
         number: "E15",
         name: "NoService",
@@ -116,13 +151,19 @@ static MISSING_AND_LONG_FILES: [Explanation; 4] = [
             "Without a line number, neither the service nor other has a file, or in\n",
             "pam.conf a rule, so there is no stack that could let anybody in."
         ),
-        example: &["# login", "auth include common-auht"],
+        example: concat!("# login\n", "auth include common-auht"),
         linux_pam: concat!(
             "it reads all four kinds of a service, and of other, whenever a\n",
             "program starts, so a fault in one of them stops all."
         ),
         mending: "correct the name, or make the file; in pam.conf, write the rules.",
-    },
+    }
+}
+
+#[tactic(auto, unfolding(crate::specs::Stacks::file_too_long))]
+fn file_too_long() -> Explanation
+    ensures { explanation_view result ≡ spec.file_too_long }
+{
     Explanation {
         number: "E16",
         name: "FileTooLong",
@@ -131,32 +172,34 @@ static MISSING_AND_LONG_FILES: [Explanation; 4] = [
             "A configuration file has more than 1,048,576 bytes. It is not read: a file of\n",
             "that size is hardly one of rules."
         ),
-        example: &["$ yes '# comment' | head -c 1048577 >login"],
+        example: "$ yes '# comment' | head -c 1048577 >login",
         linux_pam: "it reads on. This limit is pamcheck's.",
         mending: concat!(
             "shorten the file, or put a part of it into a file that it\n",
             "includes."
         ),
-    },
-];
-
-#[tactic(auto, unfolding(crate::specs::Stacks::missing_and_long_files))]
-pub(crate) fn missing_and_long_files() -> &'static [Explanation]
-    ensures { map explanation_view result.now ≡ spec.missing_and_long_files }
-{
-    &MISSING_AND_LONG_FILES
+    }
 }
 
-static LIMITS: [Explanation; 4] = [
+#[tactic(auto, unfolding(crate::specs::Stacks::memory))]
+fn memory() -> Explanation
+    ensures { explanation_view result ≡ spec.memory }
+{
     Explanation {
         number: "E17",
         name: "Memory",
         level: Level::Error,
         meaning: "The system gave no memory. This says nothing of the configuration.",
-        example: &[],
+        example: "",
         linux_pam: FAULT_OF_RUN,
         mending: FREE_MEMORY,
-    },
+    }
+}
+
+#[tactic(auto, unfolding(crate::specs::Stacks::too_many_followed))]
+fn too_many_followed() -> Explanation
+    ensures { explanation_view result ≡ spec.too_many_followed }
+{
     Explanation {
         number: "E18",
         name: "TooManyFollowed",
@@ -165,13 +208,19 @@ static LIMITS: [Explanation; 4] = [
             "More than 256 includes and substacks are followed for one stack. Files that\n",
             "include others twice double their number with each level."
         ),
-        example: &[
-            "$ yes 'auth include common' | head -n 257 >login",
-            "$ echo '# no rules yet' >common",
-        ],
+        example: concat!(
+            "$ yes 'auth include common' | head -n 257 >login\n",
+            "$ echo '# no rules yet' >common"
+        ),
         linux_pam: NO_LIMIT,
         mending: "include fewer files.",
-    },
+    }
+}
+
+#[tactic(auto, unfolding(crate::specs::Stacks::too_many_states))]
+fn too_many_states() -> Explanation
+    ensures { explanation_view result ≡ spec.too_many_states }
+{
     Explanation {
         number: "E19",
         name: "TooManyStates",
@@ -182,13 +231,19 @@ static LIMITS: [Explanation; 4] = [
             "paths with --decision or --asks look at each of them. paths without these has\n",
             "no such limit. A picture, graph --format svg, has 400 places at most."
         ),
-        example: deep_substacks!["$ pamcheck outcomes f1 auth --dir ."],
+        example: deep_substacks!("$ pamcheck outcomes f1 auth --dir ."),
         linux_pam: OWN_LIMIT,
         mending: concat!(
             "give a returns file with what the modules can answer (--returns),\n",
             "or use fewer substacks in one another."
         ),
-    },
+    }
+}
+
+#[tactic(auto, unfolding(crate::specs::Stacks::wrong_count))]
+fn wrong_count() -> Explanation
+    ensures { explanation_view result ≡ spec.wrong_count }
+{
     Explanation {
         number: "DE1",
         name: "WrongCount",
@@ -197,22 +252,36 @@ static LIMITS: [Explanation; 4] = [
             "decide was given too few or too many codes. It takes one for each module of\n",
             "the stack, even for one that is not asked."
         ),
-        example: &[
-            "# login",
-            "auth required pam_unix.so",
-            "$ pamcheck decide login auth success success --dir .",
-        ],
+        example: concat!(
+            "# login\n",
+            "auth required pam_unix.so\n",
+            "$ pamcheck decide login auth success success --dir ."
+        ),
         linux_pam: FAULT_OF_WORDS,
         mending: concat!(
             "give a code for each module, in the order of their numbers. show\n",
             "prints these numbers."
         ),
-    },
-];
+    }
+}
 
-#[tactic(auto, unfolding(crate::specs::Stacks::limits))]
-pub(crate) fn limits() -> &'static [Explanation]
-    ensures { map explanation_view result.now ≡ spec.limits }
+/// Returns the explanation of this row, counted from 0. The rows are in the order of their numbers.
+pub(crate) fn of_stacks(row: usize) -> Option<Explanation>
+    ensures { option_map explanation_view result ≡ slice_get spec.of_stacks row }
 {
-    &LIMITS
+    Some(match row {
+        0 => missing_target(),
+        1 => bad_target(),
+        2 => cycle(),
+        3 => too_deep(),
+        4 => too_many_modules(),
+        5 => include_in_single_file(),
+        6 => no_service(),
+        7 => file_too_long(),
+        8 => memory(),
+        9 => too_many_followed(),
+        10 => too_many_states(),
+        11 => wrong_count(),
+        _ => return None,
+    })
 }

@@ -1,13 +1,18 @@
 //! Faults of the words of the command line, and of reads and writes.
 
-ghost use Rattle.std.specs.Prelude.{◌≡◌, map};
+ghost use Rattle.std.specs.Prelude.{◌≡◌};
+ghost use Rattle.std.specs.List.{slice_get};
+ghost use Rattle.std.specs.Option.{option_map};
 ghost use Rattle.pam_explain.specs.Words as spec;
 ghost use Rattle.pam_explain.specs.Views.{explanation_view};
 
 use crate::explanation::{Explanation, Level};
 use crate::shared::{FAULT_OF_RUN, FAULT_OF_WORDS, FREE_MEMORY, GIVE_ONE};
 
-static SOURCES_AND_NAMES: [Explanation; 4] = [
+#[tactic(auto, unfolding(crate::specs::Words::not_utf8))]
+fn not_utf8() -> Explanation
+    ensures { explanation_view result ≡ spec.not_utf8 }
+{
     Explanation {
         number: "U1",
         name: "NotUtf8",
@@ -16,16 +21,22 @@ static SOURCES_AND_NAMES: [Explanation; 4] = [
             "A word of the command line is not UTF-8. Other words that are wrong get the\n",
             "text of the parser, which names them."
         ),
-        example: &["$ pamcheck show \"$(printf '\\377')\" auth --dir ."],
+        example: "$ pamcheck show \"$(printf '\\377')\" auth --dir .",
         linux_pam: FAULT_OF_WORDS,
         mending: "write the word in UTF-8, or rename the file that it names.",
-    },
+    }
+}
+
+#[tactic(auto, unfolding(crate::specs::Words::source))]
+fn source() -> Explanation
+    ensures { explanation_view result ≡ spec.source }
+{
     Explanation {
         number: "U2",
         name: "Source",
         level: Level::Error,
         meaning: "It is not said what is to be read, or it is said twice.",
-        example: &["$ pamcheck show login auth"],
+        example: "$ pamcheck show login auth",
         linux_pam: concat!(
             "by pam.conf(5) it ignores /etc/pam.conf where there is a folder\n",
             "/etc/pam.d."
@@ -35,38 +46,46 @@ static SOURCES_AND_NAMES: [Explanation; 4] = [
             "beside --dir. check may go without. compare takes two words, and\n",
             "--conf or --root beside them, or neither."
         ),
-    },
+    }
+}
+
+#[tactic(auto, unfolding(crate::specs::Words::kind_name))]
+fn kind_name() -> Explanation
+    ensures { explanation_view result ≡ spec.kind_name }
+{
     Explanation {
         number: "U3",
         name: "KindName",
         level: Level::Error,
         meaning: "The word after the service is not a kind.",
-        example: &["$ pamcheck show login atuh --dir ."],
+        example: "$ pamcheck show login atuh --dir .",
         linux_pam: FAULT_OF_WORDS,
         mending: "write auth, account, password or session.",
-    },
+    }
+}
+
+#[tactic(auto, unfolding(crate::specs::Words::code_name))]
+fn code_name() -> Explanation
+    ensures { explanation_view result ≡ spec.code_name }
+{
     Explanation {
         number: "U4",
         name: "CodeName",
         level: Level::Error,
         meaning: "A word is not the name of a return code.",
-        example: &["$ pamcheck decide login auth succes --dir ."],
+        example: "$ pamcheck decide login auth succes --dir .",
         linux_pam: FAULT_OF_WORDS,
         mending: concat!(
             "write success, auth_err or another code of pam(3), without the\n",
             "prefix PAM_."
         ),
-    },
-];
-
-#[tactic(auto, unfolding(crate::specs::Words::sources_and_names))]
-pub(crate) fn sources_and_names() -> &'static [Explanation]
-    ensures { map explanation_view result.now ≡ spec.sources_and_names }
-{
-    &SOURCES_AND_NAMES
+    }
 }
 
-static QUESTIONS: [Explanation; 4] = [
+#[tactic(auto, unfolding(crate::specs::Words::login))]
+fn login() -> Explanation
+    ensures { explanation_view result ≡ spec.login }
+{
     Explanation {
         number: "U5",
         name: "Login",
@@ -75,10 +94,16 @@ static QUESTIONS: [Explanation; 4] = [
             "An access table or a time table is given, and no user. What these tables say\n",
             "depends on who logs in."
         ),
-        example: &["$ pamcheck paths login auth --dir . --access access.conf"],
+        example: "$ pamcheck paths login auth --dir . --access access.conf",
         linux_pam: FAULT_OF_WORDS,
         mending: "add --user, and where the table asks for them --rhost and --tty.",
-    },
+    }
+}
+
+#[tactic(auto, unfolding(crate::specs::Words::moment))]
+fn moment() -> Explanation
+    ensures { explanation_view result ≡ spec.moment }
+{
     Explanation {
         number: "U6",
         name: "Moment",
@@ -87,22 +112,34 @@ static QUESTIONS: [Explanation; 4] = [
             "A time table is given and no moment, or a moment is given twice or in parts\n",
             "that do not fit."
         ),
-        example: &["$ pamcheck time login --time time.conf --user alice"],
+        example: "$ pamcheck time login --time time.conf --user alice",
         linux_pam: FAULT_OF_WORDS,
         mending: concat!(
             "give --at 2024-05-11T07:59, or --at-unix with the seconds and, if\n",
             "it is not UTC, --zone."
         ),
-    },
+    }
+}
+
+#[tactic(auto, unfolding(crate::specs::Words::memory))]
+fn memory() -> Explanation
+    ensures { explanation_view result ≡ spec.memory }
+{
     Explanation {
         number: "U7",
         name: "Memory",
         level: Level::Error,
         meaning: "The system gave no memory while the words of the command line were read.",
-        example: &[],
+        example: "",
         linux_pam: FAULT_OF_RUN,
         mending: FREE_MEMORY,
-    },
+    }
+}
+
+#[tactic(auto, unfolding(crate::specs::Words::both_ends))]
+fn both_ends() -> Explanation
+    ensures { explanation_view result ≡ spec.both_ends }
+{
     Explanation {
         number: "U8",
         name: "BothEnds",
@@ -111,33 +148,35 @@ static QUESTIONS: [Explanation; 4] = [
             "Both --after and --before are given. A page has the paths after one cursor, or\n",
             "those before one."
         ),
-        example: &["$ pamcheck paths login auth --dir . --after 0 --before 1"],
+        example: "$ pamcheck paths login auth --dir . --after 0 --before 1",
         linux_pam: FAULT_OF_WORDS,
         mending: GIVE_ONE,
-    },
-];
-
-#[tactic(auto, unfolding(crate::specs::Words::questions))]
-pub(crate) fn questions() -> &'static [Explanation]
-    ensures { map explanation_view result.now ≡ spec.questions }
-{
-    &QUESTIONS
+    }
 }
 
-static FILTERS_AND_FORMS: [Explanation; 4] = [
+#[tactic(auto, unfolding(crate::specs::Words::no_such_module))]
+fn no_such_module() -> Explanation
+    ensures { explanation_view result ≡ spec.no_such_module }
+{
     Explanation {
         number: "U9",
         name: "NoSuchModule",
         level: Level::Error,
         meaning: "The number of --asks is greater than the number of modules in the stack.",
-        example: &[
-            "# login",
-            "auth required pam_unix.so",
-            "$ pamcheck paths login auth --dir . --asks 2",
-        ],
+        example: concat!(
+            "# login\n",
+            "auth required pam_unix.so\n",
+            "$ pamcheck paths login auth --dir . --asks 2"
+        ),
         linux_pam: FAULT_OF_WORDS,
         mending: "take the number from the lines that show prints.",
-    },
+    }
+}
+
+#[tactic(auto, unfolding(crate::specs::Words::no_such_key))]
+fn no_such_key() -> Explanation
+    ensures { explanation_view result ≡ spec.no_such_key }
+{
     Explanation {
         number: "U10",
         name: "NoSuchKey",
@@ -147,54 +186,68 @@ static FILTERS_AND_FORMS: [Explanation; 4] = [
             "stack, nor its number, nor FILE:LINE of its rule; or CODES leave no code.\n",
             "compare takes names alone."
         ),
-        example: &[
-            "# login",
-            "auth required pam_unix.so",
-            "$ pamcheck paths login auth --dir . --set pam_unx.so=success",
-        ],
+        example: concat!(
+            "# login\n",
+            "auth required pam_unix.so\n",
+            "$ pamcheck paths login auth --dir . --set pam_unx.so=success"
+        ),
         linux_pam: FAULT_OF_WORDS,
         mending: "take the name, number or place from the lines that show prints.",
-    },
+    }
+}
+
+#[tactic(auto, unfolding(crate::specs::Words::both_filters))]
+fn both_filters() -> Explanation
+    ensures { explanation_view result ≡ spec.both_filters }
+{
     Explanation {
         number: "U11",
         name: "BothFilters",
         level: Level::Error,
         meaning: "Both --decision and --asks are given.",
-        example: &["$ pamcheck paths login auth --dir . --decision success --asks 1"],
+        example: "$ pamcheck paths login auth --dir . --decision success --asks 1",
         linux_pam: FAULT_OF_WORDS,
         mending: GIVE_ONE,
-    },
+    }
+}
+
+#[tactic(auto, unfolding(crate::specs::Words::format_name))]
+fn format_name() -> Explanation
+    ensures { explanation_view result ≡ spec.format_name }
+{
     Explanation {
         number: "U12",
         name: "FormatName",
         level: Level::Error,
         meaning: "The word after --format is not a format that graph can draw.",
-        example: &["$ pamcheck graph login auth --dir . --format png"],
+        example: "$ pamcheck graph login auth --dir . --format png",
         linux_pam: FAULT_OF_WORDS,
         mending: concat!(
             "write dot, mermaid or svg, in small letters. svg is a picture; of\n",
             "dot, Graphviz makes one: dot -Tpng."
         ),
-    },
-];
-
-#[tactic(auto, unfolding(crate::specs::Words::filters_and_forms))]
-pub(crate) fn filters_and_forms() -> &'static [Explanation]
-    ensures { map explanation_view result.now ≡ spec.filters_and_forms }
-{
-    &FILTERS_AND_FORMS
+    }
 }
 
-static SETTINGS_AND_FILES: [Explanation; 3] = [
+#[tactic(auto, unfolding(crate::specs::Words::setting_form))]
+fn setting_form() -> Explanation
+    ensures { explanation_view result ≡ spec.setting_form }
+{
     Explanation {
         number: "U17",
         name: "SettingForm",
         level: Level::Error,
         meaning: "A value of --set does not have the form KEY=CODES.",
-        example: &["$ pamcheck paths login auth --dir . --set pam_unix.so"],
+        example: "$ pamcheck paths login auth --dir . --set pam_unix.so",
         linux_pam: FAULT_OF_WORDS,
         mending: "write --set KEY=CODES, as --set pam_unix.so=success,auth_err.",
-    },
+    }
+}
+
+#[tactic(auto, unfolding(crate::specs::Words::read))]
+fn read() -> Explanation
+    ensures { explanation_view result ≡ spec.read }
+{
     Explanation {
         number: "V1",
         name: "Read",
@@ -204,10 +257,16 @@ static SETTINGS_AND_FILES: [Explanation; 3] = [
             "then says nothing at all, since a report on a part of a host could be silent\n",
             "where the host is not sound."
         ),
-        example: &["$ pamcheck check --dir no-such-folder"],
+        example: "$ pamcheck check --dir no-such-folder",
         linux_pam: FAULT_OF_RUN,
         mending: "correct the name, or run pamcheck as a user who may read it.",
-    },
+    }
+}
+
+#[tactic(auto, unfolding(crate::specs::Words::write))]
+fn write() -> Explanation
+    ensures { explanation_view result ≡ spec.write }
+{
     Explanation {
         number: "V2",
         name: "Write",
@@ -216,42 +275,50 @@ static SETTINGS_AND_FILES: [Explanation; 3] = [
             "A write to standard output failed, as on a full disk. What was written by then\n",
             "is the beginning of the answer."
         ),
-        example: &[
-            "# login",
-            "auth required pam_unix.so",
-            "$ pamcheck show login auth --dir . >/dev/full",
-        ],
+        example: concat!(
+            "# login\n",
+            "auth required pam_unix.so\n",
+            "$ pamcheck show login auth --dir . >/dev/full"
+        ),
         linux_pam: FAULT_OF_RUN,
         mending: "make room, and run pamcheck again.",
-    },
-];
-
-#[tactic(auto, unfolding(crate::specs::Words::settings_and_files))]
-pub(crate) fn settings_and_files() -> &'static [Explanation]
-    ensures { map explanation_view result.now ≡ spec.settings_and_files }
-{
-    &SETTINGS_AND_FILES
+    }
 }
 
-static NAMES_AND_CANDIDATES: [Explanation; 4] = [
+#[tactic(auto, unfolding(crate::specs::Words::level_name))]
+fn level_name() -> Explanation
+    ensures { explanation_view result ≡ spec.level_name }
+{
     Explanation {
         number: "U13",
         name: "LevelName",
         level: Level::Error,
         meaning: "The word after --fail-on is not a level.",
-        example: &["$ pamcheck check --dir . --fail-on fatal"],
+        example: "$ pamcheck check --dir . --fail-on fatal",
         linux_pam: FAULT_OF_WORDS,
         mending: "write error, warning or note, in small letters.",
-    },
+    }
+}
+
+#[tactic(auto, unfolding(crate::specs::Words::no_such_number))]
+fn no_such_number() -> Explanation
+    ensures { explanation_view result ≡ spec.no_such_number }
+{
     Explanation {
         number: "U14",
         name: "NoSuchNumber",
         level: Level::Error,
         meaning: "No fault or finding has the number that explain was given.",
-        example: &["$ pamcheck explain E20"],
+        example: "$ pamcheck explain E20",
         linux_pam: FAULT_OF_WORDS,
         mending: "write a number as E15. The command explain alone lists all.",
-    },
+    }
+}
+
+#[tactic(auto, unfolding(crate::specs::Words::candidate_form))]
+fn candidate_form() -> Explanation
+    ensures { explanation_view result ≡ spec.candidate_form }
+{
     Explanation {
         number: "U15",
         name: "CandidateForm",
@@ -260,13 +327,19 @@ static NAMES_AND_CANDIDATES: [Explanation; 4] = [
             "A value of --with does not have the form NAME=FILE, or --with is given beside\n",
             "--conf, whose one file is for all services and has no NAME."
         ),
-        example: &["$ pamcheck show login auth --dir . --with login"],
+        example: "$ pamcheck show login auth --dir . --with login",
         linux_pam: FAULT_OF_WORDS,
         mending: concat!(
             "write --with NAME=FILE, as --with sshd=/tmp/sshd, beside --dir or\n",
             "--root."
         ),
-    },
+    }
+}
+
+#[tactic(auto, unfolding(crate::specs::Words::release_form))]
+fn release_form() -> Explanation
+    ensures { explanation_view result ≡ spec.release_form }
+{
     Explanation {
         number: "U16",
         name: "ReleaseForm",
@@ -275,15 +348,36 @@ static NAMES_AND_CANDIDATES: [Explanation; 4] = [
             "The value of --as is not the name of a release of Linux-PAM, or it\n",
             "stands beside --json: these rules have no JSON."
         ),
-        example: &["$ pamcheck show login auth --dir . --as linux-pam-1.6"],
+        example: "$ pamcheck show login auth --dir . --as linux-pam-1.6",
         linux_pam: FAULT_OF_WORDS,
         mending: "write linux-pam-1.5 or linux-pam-1.7, without --json.",
-    },
-];
+    }
+}
 
-#[tactic(auto, unfolding(crate::specs::Words::names_and_candidates))]
-pub(crate) fn names_and_candidates() -> &'static [Explanation]
-    ensures { map explanation_view result.now ≡ spec.names_and_candidates }
+/// Returns the explanation of this row, counted from 0. The rows are in the order of their numbers.
+pub(crate) fn of_words(row: usize) -> Option<Explanation>
+    ensures { option_map explanation_view result ≡ slice_get spec.of_words row }
 {
-    &NAMES_AND_CANDIDATES
+    Some(match row {
+        0 => not_utf8(),
+        1 => source(),
+        2 => kind_name(),
+        3 => code_name(),
+        4 => login(),
+        5 => moment(),
+        6 => memory(),
+        7 => both_ends(),
+        8 => no_such_module(),
+        9 => no_such_key(),
+        10 => both_filters(),
+        11 => format_name(),
+        12 => level_name(),
+        13 => no_such_number(),
+        14 => candidate_form(),
+        15 => release_form(),
+        16 => setting_form(),
+        17 => read(),
+        18 => write(),
+        _ => return None,
+    })
 }

@@ -1,10 +1,11 @@
 -- The text of `explain`, part by part.
-use Rattle.std.proofs.Common.{◌≡◌, ◌∙◌, ℕ, List, [], ◌∷◌, ◌++◌, ap, append-nil, append_assoc, Bor, codes, map, refl}
+use Rattle.std.proofs.Common.{◌≡◌, ◌∙◌, ℕ, true, false, List, [], ◌∷◌, ◌++◌, ap, append-nil, append_assoc, arith, codes, eqb, length, refl, sym}
+use Rattle.std.proofs.lemmas.Bool.{eqb-true, false≢true}
 use Rattle.std.specs.List.{concat, flat_map}
 use Rattle.pam_explain.specs.Explanation.{Explanation}
 use Rattle.pam_words.specs.Words.{version}
 use Rattle.pam_print.specs.About.{version_text}
-use Rattle.pam_print.specs.Explain.{example_line, example_text, head_text, level_text, rest_text, row_text}
+use Rattle.pam_print.specs.Explain.{example_line, example_text, head_text, level_text, lines_of, rest_text, row_text}
 
 head_parts : (number name level meaning : List ℕ)
     → concat (number ∷ codes " " ∷ name ∷ codes " (" ∷ level ∷ codes ")\n" ∷ meaning ∷ codes "\n" ∷ [])
@@ -37,11 +38,11 @@ row-is e number name level a b c = row_parts number name level ∙ rw (a, b, c) 
 pub line-is : (line bytes : List ℕ) → bytes ≡ line → concat (codes "    " ∷ bytes ∷ codes "\n" ∷ []) ≡ example_line line
 line-is line bytes a = rw (a) (simp (append_assoc, append-nil))
 
--- an example with a line
-pub example-some : (lines : List (Bor (List ℕ))) (first : Bor (List ℕ)) (others : List (Bor (List ℕ))) → lines ≡ first ∷ others
-    → codes "\nExample:\n" ++ flat_map example_line (map (λ line. line.now) lines) ≡ example_text (map (λ line. line.now) lines)
+-- an example that is there
+pub example-some : (text : List ℕ) → eqb (length text) 0 ≡ false → codes "\nExample:\n" ++ flat_map example_line (lines_of text) ≡ example_text text
 unfolding example_text
-example-some lines first others e = rw e refl
+example-some [] h = absurd (false≢true (sym h))
+example-some (byte ∷ bytes) h = refl
 
 -- the version
 version_parts : (before after : List ℕ) → concat (before ∷ after ∷ codes "\n" ∷ []) ≡ before ++ after ++ codes "\n"

@@ -1,8 +1,8 @@
 -- The texts of the items of an iterator, one after another.
-use Rattle.std.proofs.Common.{◌≡◌, ◌∙◌, ℕ, List, [], ◌∷◌, ◌++◌, ap, append-nil, append_assoc, Option, sym}
+use Rattle.std.proofs.Common.{◌≡◌, ◌∙◌, ℕ, List, [], ◌∷◌, ◌++◌, ap, append-nil, append_assoc, Option, Result, sym}
 use Rattle.std.specs.List.{flat_map}
-use Rattle.pam_codes.proofs.Writing.{all-is, all-none, all-then, front-is, front-longer, front-then}
-use Rattle.pam_codes.specs.Out.{Out, TookAll, TookFront}
+use Rattle.pam_codes.proofs.Writing.{all-is, all-none, all-then, front-is, front-longer, front-then, writes-is, writes-then}
+use Rattle.pam_codes.specs.Out.{Device, Out, TookAll, TookFront, Writes}
 
 -- the lines of a list are written, but for those that are left
 pub record Partly {W A : Type 0} (contents : W → Option (List ℕ)) (line : A → List ℕ) (old new : Out W) (all left : List A) : Type 0 where
@@ -32,3 +32,9 @@ module _ {W A : Type 0} {contents : W → Option (List ℕ)} (line : A → List 
   -- no line is left
   pub partly-all : {old new : Out W} {all left : List A} → Partly contents line old new all left → left ≡ [] → TookAll contents old new (flat_map line all)
   partly-all p e = all-is p.took (sym (append-nil p.front) ∙ ap (λ (xs : List A). p.front ++ flat_map line xs) (sym e) ∙ p.parts)
+
+  -- the last line
+  pub partly-last : {old mid : Out W} {all left : List A} (new : Out W) (result : Result (Unit {0}) Device) (x : A) → Partly contents line old mid all left → left ≡ x ∷ []
+      → Writes contents mid new result (line x) → Writes contents old new result (flat_map line all)
+  partly-last new result x p e w =
+      writes-is _ _ _ _ _ _ (writes-then _ _ _ p.took w) (sym (append-nil (p.front ++ line x)) ∙ parts-more x p e)

@@ -1,6 +1,7 @@
 -- The text of `explain`: what a fault or a finding means.
 use Rattle.std.specs.Prelude.{ℕ, List, [], ◌∷◌, ◌++◌, codes}
-use Rattle.std.specs.List.{flat_map}
+use Rattle.std.specs.List.{flat_map, slice_split}
+use Rattle.pam_text.specs.Cut.{is_among}
 use Rattle.pam_explain.specs.Explanation.{Explanation}
 use Rattle.pam_explain.specs.Explanations.{explanations}
 use Rattle.pam_explain.specs.declared.explanation.Level.{Level}
@@ -19,9 +20,13 @@ head_text e = e.number ++ codes " " ++ e.name ++ codes " (" ++ level_text e.leve
 abbrev pub example_line : List ℕ → List ℕ
 example_line line = codes "    " ++ line ++ codes "\n"
 
-unfoldable pub example_text : List (List ℕ) → List ℕ
+-- the lines of a text, which have line feeds between them
+abbrev pub lines_of : List ℕ → List (List ℕ)
+lines_of text = slice_split (is_among (codes "\n")) text
+
+unfoldable pub example_text : List ℕ → List ℕ
 example_text [] = []
-example_text (line ∷ lines) = codes "\nExample:\n" ++ flat_map example_line (line ∷ lines)
+example_text (byte ∷ bytes) = codes "\nExample:\n" ++ flat_map example_line (lines_of (byte ∷ bytes))
 
 -- what Linux-PAM does, and what to do
 unfoldable pub rest_text : Explanation → List ℕ

@@ -1,14 +1,15 @@
 //! The text of `explain`: what a fault or a finding means.
 
-ghost use Rattle.std.specs.Prelude.{◌≡◌, map};
+ghost use Rattle.std.specs.Prelude.{◌≡◌};
 ghost use Rattle.std.specs.List.{flat_map};
 ghost use Rattle.pam_codes.specs.Out.{Writes, WritesAndFlushes};
 ghost use Rattle.pam_explain.specs.Views.{explanation_view};
-ghost use Rattle.pam_print.specs.Explain.{example_line, example_text, explanation_text, explanations_text, head_text, level_text, rest_text};
-ghost use Rattle.pam_print.specs.Explain.{row_text};
+ghost use Rattle.pam_print.specs.Explain.{example_line, example_text, explanation_text, explanations_text, head_text, level_text, lines_of};
+ghost use Rattle.pam_print.specs.Explain.{rest_text, row_text};
 
 use pam_codes::{Device, Out, Piece};
 use pam_explain::{Explanation, Level, explanations};
+use pam_text::cut;
 use std::io::Write;
 
 fn level_text(level: Level) -> &'static str
@@ -38,29 +39,37 @@ fn put_head<W: Write>(explanation: &Explanation, out: &mut Out<W>) -> Result<(),
     ])
 }
 
-fn put_lines<W: Write>(lines: &[&str], out: &mut Out<W>) -> Result<(), Device>
-    ensures { Writes W.contents out.old out.new result (flat_map example_line (map (λ line. line.now) lines.now)) }
+fn put_example_line<W: Write>(line: &[u8], out: &mut Out<W>) -> Result<(), Device>
+    ensures { Writes W.contents out.old out.new result (example_line line.now) }
 {
-    for line in lines {
-        out.put_line(&[
-            Piece::Bytes(b"    "),
-            Piece::Bytes(line.as_bytes()),
-            Piece::Bytes(b"\n"),
-        ])?;
+    out.put_line(&[
+        Piece::Bytes(b"    "),
+        Piece::Bytes(line),
+        Piece::Bytes(b"\n"),
+    ])
+}
+
+fn put_example_lines<W: Write>(text: &[u8], out: &mut Out<W>) -> Result<(), Device>
+    ensures { Writes W.contents out.old out.new result (flat_map example_line (lines_of text.now)) }
+{
+    let mut rest = text;
+    while let Some((line, after)) = cut(rest, b'\n') {
+        put_example_line(line, out)?;
+        rest = after;
     }
-    Ok(())
+    put_example_line(rest, out)
 }
 
 /// Writes the lines of an example, indented, if there are any.
 #[tactic(auto, unfolding(crate::specs::Explain::example_text))]
-fn put_example<W: Write>(lines: &[&str], out: &mut Out<W>) -> Result<(), Device>
-    ensures { Writes W.contents out.old out.new result (example_text (map (λ line. line.now) lines.now)) }
+fn put_example<W: Write>(example: &str, out: &mut Out<W>) -> Result<(), Device>
+    ensures { Writes W.contents out.old out.new result (example_text example.now) }
 {
-    let Some((_first, _others)) = lines.split_first() else {
+    if example.is_empty() {
         return Ok(());
-    };
+    }
     out.put(b"\nExample:\n")?;
-    put_lines(lines, out)
+    put_example_lines(example.as_bytes(), out)
 }
 
 /// Writes what Linux-PAM does, and what to do.
@@ -109,7 +118,7 @@ fn put_rows<W: Write>(out: &mut Out<W>) -> Result<(), Device>
     ensures { Writes W.contents out.old out.new result explanations_text }
 {
     for explanation in explanations() {
-        put_row(explanation, out)?;
+        put_row(&explanation, out)?;
     }
     Ok(())
 }

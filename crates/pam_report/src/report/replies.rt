@@ -42,7 +42,7 @@ pub enum Reply<'a> {
     /// Of `compare`.
     Compared(CompareReply<'a>),
     /// Of `explain` with a number.
-    Explained(&'static Explanation),
+    Explained(Explanation),
     /// Of `explain` without one: a list of all explanations.
     Explanations,
     /// Of `facts`.

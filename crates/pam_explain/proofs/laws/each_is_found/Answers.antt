@@ -1,17 +1,32 @@
 use Rattle.std.proofs.Common.{refl}
 use Rattle.pam_explain.specs.Explanations.{families}
-use Rattle.pam_explain.specs.Hosts.{limits_and_rules, modules_and_files, whole_stacks}
-use Rattle.pam_explain.specs.OldTables.{access_lines, access_masks, time_lines}
-use Rattle.pam_explain.specs.Paths.{cursors, moments}
-use Rattle.pam_explain.specs.Released.{continued_lines, controls_and_lengths, names_and_blanks}
-use Rattle.pam_explain.specs.Rules.{broken_controls, broken_rules}
-use Rattle.pam_explain.specs.Stacks.{broken_includes, limits, missing_and_long_files}
-use Rattle.pam_explain.specs.Tables.{accept_and_facts_files, lists_and_groups, returns_files, table_lines, table_words}
-use Rattle.pam_explain.specs.Words.{filters_and_forms, names_and_candidates, questions, settings_and_files, sources_and_names}
+use Rattle.pam_explain.specs.Hosts.{caller_is_root, jump_into_include, jump_past_end, left_over, lets_anybody_in, lets_nobody_in, never_asked}
+use Rattle.pam_explain.specs.Hosts.{no_function, no_module, no_other, nothing_accepted, other_answers, too_large, unreachable_name}
+use Rattle.pam_explain.specs.OldTables.{blank_in_token, empty_separator, finish_minute, leading_blank, long_field, loopback, mask_digits}
+use Rattle.pam_explain.specs.OldTables.{no_line_feed_in_access, no_line_feed_in_time, odd_bytes, zero_mask}
+use Rattle.pam_explain.specs.Paths.{cursor_syntax, moment_syntax, not_least, range, rule, too_long, too_short}
+use Rattle.pam_explain.specs.Released.{backslash_blank, backslash_comment, capital_in_brackets, carriage_return, continued_over_blank, dropped_blank}
+use Rattle.pam_explain.specs.Released.{empty_module_name, ends_in_continuation, long_line}
+use Rattle.pam_explain.specs.Rules.{bad_action, bad_control, bad_kind, bad_value, missing_field as missing_field_of_rules}
+use Rattle.pam_explain.specs.Rules.{nul_byte as nul_byte_of_rules, open_bracket, zero_jump}
+use Rattle.pam_explain.specs.Stacks.{bad_target, cycle, file_too_long, include_in_single_file, memory as memory_of_stacks, missing_target}
+use Rattle.pam_explain.specs.Stacks.{no_service, too_deep, too_many_followed, too_many_modules, too_many_states, wrong_count}
+use Rattle.pam_explain.specs.Tables.{bad_accept, bad_code, bad_fact, bad_group, bad_logic, bad_mask, bad_module, bad_permission, bad_times}
+use Rattle.pam_explain.specs.Tables.{memory as memory_of_tables, missing_field as missing_field_of_tables, netgroup, nul_byte as nul_byte_of_tables}
+use Rattle.pam_explain.specs.Tables.{table_too_long, two_wildcards, user_at_host}
+use Rattle.pam_explain.specs.Words.{both_ends, both_filters, candidate_form, code_name, format_name, kind_name, level_name, login}
+use Rattle.pam_explain.specs.Words.{memory as memory_of_words, moment, no_such_key, no_such_module, no_such_number, not_utf8, read, release_form}
+use Rattle.pam_explain.specs.Words.{setting_form, source, write}
 use Rattle.pam_explain.proofs.laws.each_is_found.Goals as goal
 
 pub returns : goal.returns
-unfolding families broken_controls broken_rules broken_includes limits missing_and_long_files lists_and_groups returns_files table_lines table_words
-    cursors moments filters_and_forms questions settings_and_files sources_and_names continued_lines controls_and_lengths names_and_blanks
-    limits_and_rules modules_and_files whole_stacks accept_and_facts_files names_and_candidates access_lines access_masks time_lines
+unfolding families caller_is_root jump_into_include jump_past_end left_over lets_anybody_in lets_nobody_in never_asked no_function no_module no_other
+    nothing_accepted other_answers too_large unreachable_name blank_in_token empty_separator finish_minute leading_blank long_field loopback
+    mask_digits no_line_feed_in_access no_line_feed_in_time odd_bytes zero_mask cursor_syntax moment_syntax not_least range rule too_long too_short
+    backslash_blank backslash_comment capital_in_brackets carriage_return continued_over_blank dropped_blank empty_module_name ends_in_continuation
+    long_line bad_action bad_control bad_kind bad_value missing_field_of_rules nul_byte_of_rules open_bracket zero_jump bad_target cycle file_too_long
+    include_in_single_file memory_of_stacks missing_target no_service too_deep too_many_followed too_many_modules too_many_states wrong_count
+    bad_accept bad_code bad_fact bad_group bad_logic bad_mask bad_module bad_permission bad_times memory_of_tables missing_field_of_tables netgroup
+    nul_byte_of_tables table_too_long two_wildcards user_at_host both_ends both_filters candidate_form code_name format_name kind_name level_name
+    login memory_of_words moment no_such_key no_such_module no_such_number not_utf8 read release_form setting_form source write
 returns c = refl
