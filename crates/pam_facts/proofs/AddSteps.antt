@@ -1,13 +1,11 @@
 -- The rows of files and of the table, as lines are added.
-use Rattle.std.proofs.Common.{◌≡◌, ◌∙◌, ◌++◌, ◌≤◌, ℕ, zero, suc, List, [], ◌∷◌, Option, Some, None, Result, Ok, Err, refl, sym, ap, append-nil}
-use Rattle.std.proofs.Common.{Bor, arith, drop, length, map}
+use Rattle.std.proofs.Common.{◌≡◌, ◌∙◌, ◌++◌, ℕ, List, [], ◌∷◌, Option, Some, None, Result, Ok, Err, refl, sym, ap, append-nil}
 use Rattle.std.specs.Prelude.{OnOk}
 use Rattle.pam_facts.specs.Error.{TellsFault, error_at}
 use Rattle.pam_facts.specs.inner.Error.{FailsIn}
-use Rattle.pam_facts.specs.Reading.{after_rows, rows_from, rows_in, table_rows}
+use Rattle.pam_facts.specs.Reading.{after_rows, rows_from, rows_in}
 use Rattle.pam_facts.specs.inner.Reading.{unless_memory, with_row}
 use Rattle.pam_facts.specs.Rows.{Row, row_of}
-use Rattle.pam_facts.specs.Table.{table}
 use Rattle.pam_facts.specs.declared.error.FactsError.{FactsError}
 use Rattle.pam_facts.specs.declared.error.FactsFault.{FactsFault}
 use Rattle.pam_facts.specs.declared.error.FactsFault.TheVariants.{BadFact, Memory, NulByte, TooLong}
@@ -60,16 +58,3 @@ table_line_passed known new line BadFact h same = passed known new line BadFact 
 table_line_passed known new line NulByte h same = passed known new line NulByte (row_fault known (row_of line) NulByte h) same
 table_line_passed known new line Memory h same = tt
 table_line_passed known new line TooLong h same = passed known new line TooLong (row_fault known (row_of line) TooLong h) same
-
-past_end : {A : Type 0} (xs : List A) (i : ℕ) → length xs ≤ i → drop i xs ≡ []
-past_end [] zero h = refl
-past_end [] (suc i) h = refl
-past_end (x ∷ xs) zero h = absurd (omega arith)
-past_end (x ∷ xs) (suc i) h = past_end xs i (omega arith)
-
--- all lines of the table are read
-pub table_end : (known new : List Row) (lines : List (Bor (List ℕ))) (i : ℕ) → length lines ≤ i →
-    new ++ rows_in (map (λ (t : Bor (List ℕ)). t.now) (drop i lines)) ≡ known ++ rows_in table → new ≡ known ++ table_rows
-unfolding table_rows
-table_end known new lines i end h =
-    sym (append-nil new) ∙ ap (λ (ls : List (Bor (List ℕ))). new ++ rows_in (map (λ (t : Bor (List ℕ)). t.now) ls)) (sym (past_end lines i end)) ∙ h

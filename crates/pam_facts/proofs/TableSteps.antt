@@ -1,48 +1,49 @@
--- The text of the table, row by row.
-use Rattle.std.proofs.Common.{◌≡◌, ◌∙◌, ◌+◌, ◌++◌, ◌<◌, ◌≤◌, ℕ, zero, suc, List, [], ◌∷◌}
-use Rattle.std.proofs.Common.{Bor, codes, map, take, drop, get_or, length, refl, sym, ap, append_assoc, append-nil, arith}
-use Rattle.std.specs.List.{concat}
-use Rattle.std.proofs.lemmas.List.{take-append-drop, take_more}
+-- The lines of the table's text, and their rows.
+use Rattle.std.proofs.Common.{◌≡◌, ◌∙◌, ◌==◌, ◌++◌, ℕ, Bool, List, [], ◌∷◌, Bor, map, refl, sym, ap, append_assoc, append-nil}
+use Rattle.std.proofs.lemmas.List.{map-append}
+use Rattle.std.proofs.lemmas.List.Elements.{filter_map-append}
+use Rattle.std.specs.List.{slice_split}
+use Rattle.pam_facts.specs.Reading.{row_if_any, rows_in, table_rows}
+use Rattle.pam_facts.specs.Rows.{Row, row_of}
 use Rattle.pam_facts.specs.Table.{table, table_text}
+use Rattle.pam_facts.specs.Words.{words_of}
 
-abbrev pub row_bytes : Bor (List ℕ) → List ℕ
-row_bytes row = row.now ++ codes "\n"
+-- the byte that ends a line
+abbrev pub is_feed : ℕ → Bool
+is_feed b = b == 10
 
-abbrev pub rows_text : List (Bor (List ℕ)) → List ℕ
-rows_text rows = concat (map row_bytes rows)
+abbrev pub texts : List (Bor (List ℕ)) → List (List ℕ)
+texts lines = map (λ t. t.now) lines
 
-text-append : (xs ys : List (Bor (List ℕ))) → rows_text (xs ++ ys) ≡ rows_text xs ++ rows_text ys
-text-append [] ys = refl
-text-append (x ∷ xs) ys = ap (λ (l : List ℕ). row_bytes x ++ l) (text-append xs ys) ∙ sym (append_assoc (row_bytes x) (rows_text xs) (rows_text ys))
+rows-append : (lines others : List (List ℕ)) → rows_in (lines ++ others) ≡ rows_in lines ++ rows_in others
+rows-append lines others = filter_map-append (λ (line : List ℕ). row_if_any (row_of line)) lines others
 
--- one more row
-pub text-take : (xs : List (Bor (List ℕ))) (i : ℕ) (d : Bor (List ℕ)) → i < length xs →
-    rows_text (take (i + 1) xs) ≡ rows_text (take i xs) ++ row_bytes (get_or xs i d)
-text-take xs i d h =
-    ap rows_text (take_more xs i d h) ∙ text-append (take i xs) (get_or xs i d ∷ [])
-    ∙ ap (λ (l : List ℕ). rows_text (take i xs) ++ l) (append-nil (row_bytes (get_or xs i d)))
+-- the row of one more line is added
+pub row_more : (known old new : List Row) (lines : List (Bor (List ℕ))) (line : Bor (List ℕ)) →
+    old ≡ known ++ rows_in (texts lines) → new ≡ old ++ rows_in (line.now ∷ []) → new ≡ known ++ rows_in (texts (lines ++ line ∷ []))
+row_more known old new lines line before added =
+    added
+    ∙ ap (λ (rows : List Row). rows ++ rows_in (line.now ∷ [])) before
+    ∙ append_assoc known (rows_in (texts lines)) (rows_in (line.now ∷ []))
+    ∙ ap (λ (rows : List Row). known ++ rows) (sym (rows-append (texts lines) (line.now ∷ [])))
+    ∙ ap (λ (ls : List (List ℕ)). known ++ rows_in ls) (sym (map-append (λ (t : Bor (List ℕ)). t.now) lines (line ∷ [])))
 
--- the rows before the i-th, that row and the others
-pub text-at : (xs : List (Bor (List ℕ))) (i : ℕ) (d : Bor (List ℕ)) → i < length xs →
-    (rows_text (take i xs) ++ row_bytes (get_or xs i d)) ++ rows_text (drop (i + 1) xs) ≡ rows_text xs
-text-at xs i d h =
-    ap (λ (l : List ℕ). l ++ rows_text (drop (i + 1) xs)) (sym (text-take xs i d h))
-    ∙ sym (text-append (take (i + 1) xs) (drop (i + 1) xs))
-    ∙ ap rows_text (take-append-drop (i + 1) xs)
+-- the lines are the rows, and an empty one after the last line feed
+lines_are : slice_split is_feed table_text ≡ table ++ [] ∷ []
+unfolding table table_text
+lines_are = refl
 
-whole : {A : Type 0} (xs : List A) (i : ℕ) → length xs ≤ i → take i xs ≡ xs
-whole [] zero h = refl
-whole [] (suc i) h = refl
-whole (x ∷ xs) zero h = absurd (omega arith)
-whole (x ∷ xs) (suc i) h = ap (λ (ys : List _). x ∷ ys) (whole xs i (omega arith))
+empty_line : rows_in ([] ∷ []) ≡ []
+unfolding row_of words_of
+empty_line = refl
 
-pub all_rows : (xs : List (Bor (List ℕ))) (i : ℕ) → length xs ≤ i → rows_text (take i xs) ≡ rows_text xs
-all_rows xs i h = ap rows_text (whole xs i h)
+rows_are : rows_in (slice_split is_feed table_text) ≡ table_rows
+unfolding table_rows
+rows_are =
+    ap rows_in lines_are ∙ rows-append table ([] ∷ []) ∙ ap (λ (rows : List Row). rows_in table ++ rows) empty_line ∙ append-nil (rows_in table)
 
-by_texts : (xs : List (Bor (List ℕ))) → rows_text xs ≡ concat (map (λ (row : List ℕ). row ++ codes "\n") (map (λ (t : Bor (List ℕ)). t.now) xs))
-by_texts [] = refl
-by_texts (x ∷ xs) = ap (λ (l : List ℕ). row_bytes x ++ l) (by_texts xs)
-
-pub is_table : (xs : List (Bor (List ℕ))) → map (λ (t : Bor (List ℕ)). t.now) xs ≡ table → rows_text xs ≡ table_text
-unfolding table_text
-is_table xs e = by_texts xs ∙ ap (λ (rows : List (List ℕ)). concat (map (λ (row : List ℕ). row ++ codes "\n") rows)) e
+-- all lines are read
+pub all_rows : (known new : List Row) (lines : List (Bor (List ℕ))) →
+    new ≡ known ++ rows_in (texts lines) → texts lines ≡ slice_split is_feed table_text → new ≡ known ++ table_rows
+all_rows known new lines read all =
+    read ∙ ap (λ (ls : List (List ℕ)). known ++ rows_in ls) all ∙ ap (λ (rows : List Row). known ++ rows) rows_are
