@@ -1,13 +1,14 @@
 -- Files that are added to those of a source.
-use Rattle.std.proofs.Common.{◌≡◌, ◌∙◌, ◌++◌, ◌||◌, Bool, true, false, cond, List, [], ◌∷◌, ℕ, append_assoc, append-nil, ap, ap₂, map, refl, sym}
+use Rattle.std.proofs.Common.{◌≡◌, ◌∙◌, ◌++◌, ◌||◌, ◌+◌, Bool, true, false, not, cond, List, [], ◌∷◌, ℕ, suc, append_assoc, append-nil, ap, map, refl, sym}
+use Rattle.std.proofs.Common.{Some, None, arith, is_some, length, nat_lt}
+use Rattle.std.proofs.lemmas.Bool.Decides.{nat_tests}
 use Rattle.std.proofs.lemmas.List.{map-append}
 use Rattle.std.proofs.lemmas.List.Folds.{list_any-append}
-use Rattle.std.specs.List.{list_any}
+use Rattle.std.specs.List.{list_any, position_or_len}
 use Rattle.std.specs.Str.{bytes_eq}
-use Rattle.indexmap.specs.IndexSet.{insert_key}
-use Rattle.pam_conf.specs.Files.{Folder, Named, put_file}
+use Rattle.pam_conf.specs.Files.{Folder, Named, position_of, put_file}
 use Rattle.pam_cli.specs.Sources.{IsThen, is_given, path_in}
-use Rattle.pam_cli.specs.inner.Sources.{AddsFile, AddsFiles, HasNames}
+use Rattle.pam_cli.specs.inner.Sources.{AddsFile, AddsFiles}
 use Rattle.pam_cli.specs.declared.reading.sources.SourceFiles.{SourceFiles}
 
 any-map : {A : Type 0} (text : A → List ℕ) (name : List ℕ) (xs : List A) → list_any (λ x. bytes_eq name (text x)) xs ≡ list_any (bytes_eq name) (map text xs)
@@ -29,24 +30,33 @@ put_new name bytes (f ∷ files) new =
       | false ↦ λ g. ap (λ fs. f ∷ fs) (put_new name bytes files g)
     ] new
 
--- the same, for a call that found whether it is
-pub as_found : {A : Type 0} (text : A → List ℕ) (name given : List ℕ) (names : List A) (files : List Named) (found answer : Bool)
-    → map text names ≡ map (λ f. f.0) files → found ≡ list_any (λ n. bytes_eq given (text n)) names → given ≡ name → found ≡ answer
+-- what a call found of a name holds of an equal one
+pub as_found : (name given : List ℕ) (files : List Named) (found answer : Bool) → found ≡ is_given given files → given ≡ name → found ≡ answer
     → is_given name files ≡ answer
-as_found text name given names files found answer same is equal answered =
-    sym (among_names text name names files same) ∙ ap (λ n. list_any (λ m. bytes_eq n (text m)) names) (sym equal) ∙ sym is ∙ answered
+as_found name given files found answer is equal answered = ap (λ n. is_given n files) (sym equal) ∙ sym is ∙ answered
 
--- a new name comes last, as its file does
-pub names_with : {A : Type 0} (text : A → List ℕ) (one : A) (name bytes : List ℕ) (names new : List A) (files : List Named)
-    → map text names ≡ map (λ f. f.0) files → is_given name files ≡ false → text one ≡ name
-    → new ≡ insert_key (λ a b. bytes_eq (text a) (text b)) names one → map text new ≡ map (λ f. f.0) (files ++ (name, bytes) ∷ [])
-names_with text one name bytes names new files same lacked is inserted =
-    let absent : list_any (λ n. bytes_eq (text one) (text n)) names ≡ false =
-    ap (λ n. list_any (λ m. bytes_eq n (text m)) names) is ∙ among_names text name names files same ∙ lacked in
-    ap (map text) (inserted ∙ ap (λ t. cond t names (names ++ one ∷ [])) absent)
-    ∙ map-append text names (one ∷ [])
-    ∙ ap₂ (λ (a b : List (List ℕ)). a ++ b) same (ap (λ n. n ∷ []) is)
-    ∙ sym (map-append (λ f. f.0) files ((name, bytes) ∷ []))
+none_less : (n : ℕ) → nat_lt 0 (suc n) ≡ true
+none_less n = grind (arith, nat_tests)
+
+less_next : (n m : ℕ) → nat_lt (1 + n) (suc m) ≡ nat_lt n m
+less_next n m = grind (arith, nat_tests)
+
+-- an element is found before the end if and only if one passes
+found_before : {A : Type 0} (p : A → Bool) (xs : List A) → nat_lt (position_or_len p xs) (length xs) ≡ list_any p xs
+found_before p [] = refl
+found_before p (x ∷ xs) =
+    elim (p x) as (λ (t : Bool). nat_lt (cond (not t) (1 + position_or_len p xs) 0) (suc (length xs)) ≡ (t || list_any p xs)) [
+      | true ↦ none_less (length xs)
+      | false ↦ less_next (position_or_len p xs) (length xs) ∙ found_before p xs
+    ]
+
+some_if : {A : Type 0} (x : A) (t : Bool) → is_some (cond t (Some x) None) ≡ t
+some_if x true = refl
+some_if x false = refl
+
+-- a file has a name if and only if it is found by it
+pub is_given_found : (name : List ℕ) (files : List Named) → is_some (position_of name files) ≡ is_given name files
+is_given_found name files = some_if _ _ ∙ found_before (λ f. bytes_eq name f.0) files
 
 first_of_none : (a b : Bool) → (a || b) ≡ false → a ≡ false
 first_of_none true b none = cc
@@ -69,29 +79,23 @@ lacked_by_fewer few more (f ∷ files) lacked =
     (first_of_none (is_given f.0 few) (is_given f.0 more) (sym (list_any-append (λ g. bytes_eq f.0 g.0) few more) ∙ here))
     (lacked_by_fewer few more files (second_of_none all (list_any (λ g. is_given g.0 (few ++ more)) files) lacked))
 
-pub no_more : (folder : List ℕ) (found : SourceFiles) → HasNames found → AddsFiles folder found found
-no_more folder found names = record {
-  read = record {
-    more = [];
-    form = refl;
-    entries = sym (append-nil found.files.entries);
-    paths = sym (append-nil found.paths);
-    lacked = refl;
-  };
-  names = names;
+pub no_more : (folder : List ℕ) (found : SourceFiles) → AddsFiles folder found found
+no_more folder found = record {
+  more = [];
+  form = refl;
+  entries = sym (append-nil found.files.entries);
+  paths = sym (append-nil found.paths);
+  lacked = refl;
 }
 
 pub one_more : (folder name bytes path : List ℕ) (old new : SourceFiles) → is_given name old.files.entries ≡ false → path ≡ path_in folder (name, bytes)
     → AddsFile name bytes path old new → AddsFiles folder old new
 one_more folder name bytes path old new lacked at added = record {
-  read = record {
-    more = (name, bytes) ∷ [];
-    form = ap (λ f. f.form) added.files;
-    entries = ap (λ f. f.entries) added.files;
-    paths = added.paths ∙ ap (λ p. old.paths ++ p ∷ []) at;
-    lacked = neither _ _ lacked refl;
-  };
-  names = added.names;
+  more = (name, bytes) ∷ [];
+  form = ap (λ f. f.form) added.files;
+  entries = ap (λ f. f.entries) added.files;
+  paths = added.paths ∙ ap (λ p. old.paths ++ p ∷ []) at;
+  lacked = neither _ _ lacked refl;
 }
 
 -- more files of a folder, and then more of it
@@ -111,7 +115,4 @@ then_read folder first mid last first_places mid_places last_places before after
 }
 
 pub then_more : (folder : List ℕ) (old mid new : SourceFiles) → AddsFiles folder old mid → AddsFiles folder mid new → AddsFiles folder old new
-then_more folder old mid new before after = record {
-  read = then_read folder old.files mid.files new.files old.paths mid.paths new.paths before.read after.read;
-  names = after.names;
-}
+then_more folder old mid new before after = then_read folder old.files mid.files new.files old.paths mid.paths new.paths before after

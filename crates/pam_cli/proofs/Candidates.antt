@@ -8,8 +8,8 @@ use Rattle.std.proofs.lemmas.List.Elements.{filter-append}
 use Rattle.std.proofs.lemmas.Slice.Eq.{bytes_eq-Decides}
 use Rattle.std.specs.List.{filter, list_any}
 use Rattle.std.specs.Str.{bytes_eq}
-use Rattle.pam_cli.specs.Sources.{firsts_of, is_given}
-use Rattle.pam_cli.specs.inner.Sources.{AddsCandidate, AddsFile, HasCandidates, HasNames}
+use Rattle.pam_cli.specs.Sources.{IsOfCandidates, firsts_of, is_given}
+use Rattle.pam_cli.specs.inner.Sources.{AddsCandidate, AddsFile}
 use Rattle.pam_cli.specs.declared.reading.sources.SourceFiles.{SourceFiles}
 use Rattle.pam_cli.proofs.Added.{among_names}
 
@@ -71,13 +71,12 @@ map_unless f true x = refl
 map_unless f false x = refl
 
 module _ (name file : List ℕ) (old : SourceFiles) where
-  pub none_added : HasNames old → is_given name old.files.entries ≡ true → AddsCandidate (name, file) old old
-  none_added names given = record {
+  pub none_added : is_given name old.files.entries ≡ true → AddsCandidate (name, file) old old
+  none_added given = record {
     form = refl;
     entries = sym (append-nil (map (λ f. f.0) old.files.entries))
         ∙ ap (λ t. map (λ f. f.0) old.files.entries ++ unless t name) (sym given);
     paths = sym (append-nil old.paths) ∙ ap (λ t. old.paths ++ unless t file) (sym given);
-    names = names;
   }
 
   pub one_added : (bytes : List ℕ) (new : SourceFiles) → is_given name old.files.entries ≡ false → AddsFile name bytes file old new
@@ -88,39 +87,37 @@ module _ (name file : List ℕ) (old : SourceFiles) where
         ∙ map-append (λ e. e.0) old.files.entries ((name, bytes) ∷ [])
         ∙ ap (λ t. map (λ f. f.0) old.files.entries ++ unless t name) (sym lacked);
     paths = added.paths ∙ ap (λ t. old.paths ++ unless t file) (sym lacked);
-    names = added.names;
   }
 
 -- one more candidate
-one_more : (cs : List Pair) (c : Pair) (folder : List ℕ) (old new : SourceFiles) → HasCandidates cs folder old → AddsCandidate c old new
-    → HasCandidates (cs ++ c ∷ []) folder new
+one_more : (cs : List Pair) (c : Pair) (folder : List ℕ) (old new : SourceFiles) → IsOfCandidates cs folder old.files old.paths
+    → AddsCandidate c old new → IsOfCandidates (cs ++ c ∷ []) folder new.files new.paths
 one_more cs c folder old new before added =
     let here : is_given c.0 old.files.entries ≡ has c.0 cs =
-    sym (among_names (λ (d : Pair). d.0) c.0 (firsts_of cs) old.files.entries (sym before.read.names)) ∙ has_firsts c.0 cs in
+    sym (among_names (λ (d : Pair). d.0) c.0 (firsts_of cs) old.files.entries (sym before.names)) ∙ has_firsts c.0 cs in
     record {
-      read = record {
-        form = added.form ∙ before.read.form;
-        names = added.entries ∙ ap (λ ns. ns ++ unless (is_given c.0 old.files.entries) c.0) before.read.names
-            ∙ ap (λ t. map (λ d. d.0) (firsts_of cs) ++ unless t c.0) here
-            ∙ ap (λ l. map (λ d. d.0) (firsts_of cs) ++ l) (sym (map_unless (λ (d : Pair). d.0) (has c.0 cs) c))
-            ∙ sym (map-append (λ d. d.0) (firsts_of cs) (unless (has c.0 cs) c))
-            ∙ sym (ap (map (λ d. d.0)) (firsts_with cs c));
-        paths = added.paths ∙ ap (λ ps. ps ++ unless (is_given c.0 old.files.entries) c.1) before.read.paths
-            ∙ ap (λ t. folder ∷ (map (λ d. d.1) (firsts_of cs) ++ unless t c.1)) here
-            ∙ ap (λ l. folder ∷ (map (λ d. d.1) (firsts_of cs) ++ l)) (sym (map_unless (λ (d : Pair). d.1) (has c.0 cs) c))
-            ∙ ap (λ l. folder ∷ l) (sym (map-append (λ d. d.1) (firsts_of cs) (unless (has c.0 cs) c)))
-            ∙ sym (ap (λ l. folder ∷ map (λ d. d.1) l) (firsts_with cs c));
-      };
-      names = added.names;
+      form = added.form ∙ before.form;
+      names = added.entries ∙ ap (λ ns. ns ++ unless (is_given c.0 old.files.entries) c.0) before.names
+          ∙ ap (λ t. map (λ d. d.0) (firsts_of cs) ++ unless t c.0) here
+          ∙ ap (λ l. map (λ d. d.0) (firsts_of cs) ++ l) (sym (map_unless (λ (d : Pair). d.0) (has c.0 cs) c))
+          ∙ sym (map-append (λ d. d.0) (firsts_of cs) (unless (has c.0 cs) c))
+          ∙ sym (ap (map (λ d. d.0)) (firsts_with cs c));
+      paths = added.paths ∙ ap (λ ps. ps ++ unless (is_given c.0 old.files.entries) c.1) before.paths
+          ∙ ap (λ t. folder ∷ (map (λ d. d.1) (firsts_of cs) ++ unless t c.1)) here
+          ∙ ap (λ l. folder ∷ (map (λ d. d.1) (firsts_of cs) ++ l)) (sym (map_unless (λ (d : Pair). d.1) (has c.0 cs) c))
+          ∙ ap (λ l. folder ∷ l) (sym (map-append (λ d. d.1) (firsts_of cs) (unless (has c.0 cs) c)))
+          ∙ sym (ap (λ l. folder ∷ map (λ d. d.1) l) (firsts_with cs c));
     }
 
 -- the next candidate of a list
 pub next_one : {A : Type 0} (view : A → Pair) (cs : List A) (i : ℕ) (d : A) → i < length cs → (folder : List ℕ) (old new : SourceFiles)
-    → HasCandidates (map view (take i cs)) folder old → AddsCandidate (view (get_or cs i d)) old new → HasCandidates (map view (take (i + 1) cs)) folder new
+    → IsOfCandidates (map view (take i cs)) folder old.files old.paths → AddsCandidate (view (get_or cs i d)) old new
+    → IsOfCandidates (map view (take (i + 1) cs)) folder new.files new.paths
 next_one view cs i d low folder old new before added =
     let same : map view (take (i + 1) cs) ≡ map view (take i cs) ++ view (get_or cs i d) ∷ [] =
     rw add-one (ap (map view) (take-suc cs i d low) ∙ map-append view (take i cs) (get_or cs i d ∷ [])) in
-    subst (λ (l : List Pair). HasCandidates l folder new) (sym same) (one_more (map view (take i cs)) (view (get_or cs i d)) folder old new before added)
+    subst (λ (l : List Pair). IsOfCandidates l folder new.files new.paths) (sym same)
+    (one_more (map view (take i cs)) (view (get_or cs i d)) folder old new before added)
 
 pub none_given : {A : Type 0} (view : A → Pair) (cs : List A) → (length cs == 0) ≡ true → map view cs ≡ []
 none_given view [] e = refl

@@ -2,15 +2,14 @@
 
 ghost use Rattle.std.specs.Prelude.{◌≡◌, codes, false, IfErr, IfOk, IsOkUnless, MatchResult, OnOk, map, string_bytes};
 ghost use Rattle.std.specs.Path.{path_join};
-ghost use Rattle.pam_cli.specs.Sources.{IsInSource, IsOfFolder, IsOfRoot, IsOneFile, IsOver, IsRead, IsRootFile, IsUnread, is_given};
-ghost use Rattle.pam_cli.specs.inner.Sources.{AddsCandidate, AddsFile, AddsFiles, HasCandidates, HasNames, IsStart};
+ghost use Rattle.pam_cli.specs.Sources.{IsInSource, IsOfCandidates, IsOfFolder, IsOfRoot, IsOneFile, IsOver, IsRead, IsRootFile, IsUnread, is_given};
+ghost use Rattle.pam_cli.specs.inner.Sources.{AddsCandidate, AddsFile, AddsFiles, IsStart};
 ghost use Rattle.pam_words.specs.Wanted.{candidate_view};
 
 use crate::reading::files::{
     bytes_if_there, entry_names, find_folder, found_at, named_file, regular_bytes, unread,
 };
 use crate::reading::inside::Folder;
-use indexmap::IndexSet;
 use pam_conf::{Files, Form};
 use pam_report::InputError;
 use pam_text::Texts;
@@ -35,8 +34,6 @@ const FILE: &str = "etc/pam.conf";
 pub(super) struct SourceFiles {
     pub(super) files: Files,
     pub(super) paths: Texts,
-    /// The names of the files.
-    names: IndexSet<Vec<u8>>,
 }
 
 impl SourceFiles {
@@ -49,25 +46,23 @@ impl SourceFiles {
         Ok(SourceFiles {
             files: Files::new(alloc, form),
             paths,
-            names: IndexSet::new(alloc),
         })
     }
 
+    /// Whether a file has this name.
+    fn has(&self, name: &[u8]) -> bool
+        ensures { result ≡ is_given name.now self.now.files.entries }
+    {
+        self.files.find(name).is_some()
+    }
+
     /// Adds a file of a new name.
-    fn put(
-        &mut self,
-        alloc: Global,
-        name: Vec<u8>,
-        path: &str,
-        bytes: Vec<u8>,
-    ) -> Result<(), InputError>
-        requires names { HasNames self.old }
-        requires new { is_given name.items self.old.files.entries ≡ false }
+    fn put(&mut self, name: Vec<u8>, path: &str, bytes: Vec<u8>) -> Result<(), InputError>
+        requires { is_given name.items self.old.files.entries ≡ false }
         ensures ok { OnOk result (AddsFile name.items bytes.items path.now self.old self.new) }
         ensures error { IsOkUnless result InputError.Memory }
     {
         self.paths.push(path.as_bytes())?;
-        self.names.insert(Vec::from_slice(alloc, &name)?)?;
         Ok(self.files.put(name, bytes)?)
     }
 }
@@ -80,17 +75,18 @@ fn put_entry<R: std::rt::Files>(
     name: String,
     found: &mut SourceFiles,
 ) -> Result<(), InputError>
-    requires { HasNames found.old }
     ensures ok { OnOk result (AddsFiles folder.entry.shown.now found.old found.new) }
     ensures error { IfErr result (IsUnread (λ n. n ≡ string_bytes name)) }
 {
-    if found.names.contains(name.as_bytes()) {
+    if found.has(name.as_bytes()) {
         return Ok(());
     }
-    let path = Path::new(folder.shown).join(alloc, name.as_str())?;
     match regular_bytes(rt, alloc, folder, name.as_str()) {
         Ok(None) => Ok(()),
-        Ok(Some(bytes)) => found.put(alloc, name.into_bytes(), path.as_str(), bytes),
+        Ok(Some(bytes)) => {
+            let path = Path::new(folder.shown).join(alloc, name.as_str())?;
+            found.put(name.into_bytes(), path.as_str(), bytes)
+        }
         Err(error) => Err(unread(alloc, name.as_str(), &error)),
     }
 }
@@ -102,7 +98,6 @@ fn add_folder<R: std::rt::Files + AllocGlobal + Clone + Drop>(
     folder: Folder<'_>,
     found: &mut SourceFiles,
 ) -> Result<(), InputError>
-    requires { HasNames found.old }
     ensures { OnOk result (AddsFiles folder.entry.shown.now found.old found.new) }
 {
     let names = match entry_names(rt, alloc, folder.path) {
@@ -122,15 +117,14 @@ fn put_candidate<R: std::rt::Files>(
     candidate: Candidate<'_>,
     found: &mut SourceFiles,
 ) -> Result<(), InputError>
-    requires { HasNames found.old }
     ensures { OnOk result (AddsCandidate (candidate_view candidate.entry) found.old found.new) }
 {
-    if found.names.contains(candidate.name.as_bytes()) {
+    if found.has(candidate.name.as_bytes()) {
         return Ok(());
     }
     let bytes = named_file(rt, alloc, candidate.file)?;
     let name = Vec::from_slice(alloc, candidate.name.as_bytes())?;
-    found.put(alloc, name, candidate.file, bytes)
+    found.put(name, candidate.file, bytes)
 }
 
 /// Reads the files of the candidates for a folder, the first of each name.
@@ -140,7 +134,7 @@ fn candidate_files<R: std::rt::Files>(
     folder: &str,
     candidates: &[Candidate<'_>],
 ) -> Result<SourceFiles, InputError>
-    ensures { IfOk result (HasCandidates (map candidate_view candidates.now) folder.now) }
+    ensures { IfOk result (λ found. IsOfCandidates (map candidate_view candidates.now) folder.now found.files found.paths) }
 {
     let mut found = SourceFiles::new(alloc, Form::Dir, folder)?;
     for candidate in candidates {
@@ -156,8 +150,7 @@ fn folder_files<R: std::rt::Files + AllocGlobal + Clone + Drop>(
     folder: Folder<'_>,
     candidates: &[Candidate<'_>],
 ) -> Result<SourceFiles, InputError>
-    ensures names { IfOk result HasNames }
-    ensures files { IfOk result (λ found. IsOfFolder (map candidate_view candidates.now) folder.entry.shown.now found.files found.paths) }
+    ensures { IfOk result (λ found. IsOfFolder (map candidate_view candidates.now) folder.entry.shown.now found.files found.paths) }
 {
     let mut found = candidate_files(rt, alloc, folder.shown, candidates)?;
     add_folder(rt, alloc, folder, &mut found)?;
@@ -198,7 +191,7 @@ fn one_file(alloc: Global, path: &str, bytes: Vec<u8>) -> Result<SourceFiles, In
 {
     let mut found = SourceFiles::new(alloc, Form::Single, path)?;
     let name = Vec::from_slice(alloc, b"pam.conf")?;
-    found.put(alloc, name, path, bytes)?;
+    found.put(name, path, bytes)?;
     Ok(found)
 }
 

@@ -5,20 +5,18 @@ use Rattle.pam_cli.proofs.Added.{as_found}
 use Rattle.pam_cli.proofs.Candidates.{none_added, one_added}
 use Rattle.pam_cli.proofs.reading.sources.put_candidate.Goals as goal
 
-pub returns-then-contains : goal.returns-then-contains
-returns-then-contains g c =
+pub returns-then-has : goal.returns-then-has
+returns-then-has g c =
     let found = c.args.found.now in
     let name = c.args.candidate.name.now in
-    none_added name c.args.candidate.file.now found c.requires
-    (as_found (λ n. n.items) name _ found.names.keys found.files.entries c.contains.result true c.requires c.contains.ensures
-    c.as_bytes.ensures.value c.if-contains.true)
+    none_added name c.args.candidate.file.now found
+    (as_found name _ found.files.entries c.has.result true c.has.ensures c.as_bytes.ensures.value c.if-has.true)
 
-pub put-requires-clause-new : goal.put-requires-clause-new
-put-requires-clause-new g c =
-    let found = c.args.found.now in
+pub put-requires : goal.put-requires
+put-requires g c =
     let spelled = c.in_ok-name.ensures.items ∙ c.as_bytes-2.ensures.value in
-    as_found (λ n. n.items) c.in_ok-name.name.items _ found.names.keys found.files.entries c.contains.result false c.requires c.contains.ensures
-    (c.as_bytes.ensures.value ∙ sym spelled) c.if-contains.false
+    as_found c.in_ok-name.name.items _ c.args.found.now.files.entries c.has.result false c.has.ensures
+    (c.as_bytes.ensures.value ∙ sym spelled) c.if-has.false
 
 pub returns : goal.returns
 returns g c =
@@ -26,8 +24,7 @@ returns g c =
     let name = c.in_ok-name.name.items in
     let file = c.args.candidate.file.now in
     let spelled = c.in_ok-name.ensures.items ∙ c.as_bytes-2.ensures.value in
-    let lacked = as_found (λ n. n.items) name _ found.names.keys found.files.entries c.contains.result false c.requires c.contains.ensures
-    (c.as_bytes.ensures.value ∙ sym spelled) c.if-contains.false in
+    let lacked = as_found name _ found.files.entries c.has.result false c.has.ensures (c.as_bytes.ensures.value ∙ sym spelled) c.if-has.false in
     on_ok_weaker c.put.result
     (λ added. subst (λ (n : List ℕ). AddsCandidate (n, file) found c.put.new.self) spelled
     (one_added name file found c.in_ok-bytes.bytes.items c.put.new.self lacked added))
