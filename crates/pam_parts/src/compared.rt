@@ -110,6 +110,8 @@ fn put_stacks<L: CompareLines, W: Write>(
 }
 
 /// Writes what changes, in the order of the stacks, and the last line, and flushes.
+// Never inlined, else each command has room for what it has.
+#[inline(never)]
 pub fn write_compared<L: CompareLines, W: Write>(
     lines: &L,
     reply: &CompareReply<'_>,

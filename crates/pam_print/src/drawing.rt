@@ -91,6 +91,8 @@ fn write_graph<W: Write>(
 }
 
 /// Writes a drawing. Allocates its title and its layout before the first byte.
+// Never inlined, else each command has room for what it has.
+#[inline(never)]
 pub(crate) fn write_drawing<W: Write>(
     alloc: Global,
     reply: &GraphReply<'_>,

@@ -179,6 +179,8 @@ fn accept_name<'a>(given: &CheckFiles<'a>) -> &'a str
 }
 
 /// Returns the findings of the services that are named, or of all.
+// Never inlined, else each command has room for what it has.
+#[inline(never)]
 pub(super) fn checked<'a>(
     alloc: Global,
     asked: CheckRequest<'_, 'a>,

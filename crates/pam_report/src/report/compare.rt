@@ -169,6 +169,8 @@ fn files_of<'a>(side: Option<&'a SideInputs>) -> Option<&'a Files>
 }
 
 /// Returns what changes for the service and the kind that are named, or for all.
+// Never inlined, else each command has room for what it has.
+#[inline(never)]
 pub(super) fn compared<'a>(
     alloc: Global,
     asked: CompareRequest<'_>,

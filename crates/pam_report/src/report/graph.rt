@@ -90,6 +90,8 @@ fn answer_known<'a>(
 }
 
 /// Returns the graph of the stack that is asked for.
+// Never inlined, else each command has room for what it has.
+#[inline(never)]
 pub(super) fn answer_graph<'a>(
     sources: &Sources<'_, '_>,
     request: &DrawingRequest<'a>,

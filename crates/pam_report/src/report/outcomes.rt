@@ -136,6 +136,8 @@ fn answer_known<'a>(
 }
 
 /// Returns the outcomes of the stack that is asked for.
+// Never inlined, else each command has room for what it has.
+#[inline(never)]
 pub(super) fn answer_outcomes<'a>(
     sources: &Sources<'_, '_>,
     request: &StackRequest<'a>,

@@ -233,6 +233,8 @@ fn answer_known<'a>(
 }
 
 /// Returns the page of the stack that is asked for.
+// Never inlined, else each command has room for what it has.
+#[inline(never)]
 pub(super) fn answer_paths<'a>(
     sources: &Sources<'_, '_>,
     request: &PageRequest<'a>,
