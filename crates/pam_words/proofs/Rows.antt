@@ -4,15 +4,15 @@ use Rattle.std.proofs.Common.{bytes_eq, find, if◌then◌else◌, map, option_m
 use Rattle.std.specs.Option.{option_or}
 use Rattle.std.specs.Borrow.{Bor}
 use Rattle.clap.specs.Words.{App, Shape, Text}
-use Rattle.pam_words.specs.inner.Building.{IsRowOf, is_named, rule_of_row, shape_of_row, with_args}
-use Rattle.pam_words.specs.declared.arguments.ArgRow.{ArgRow}
-use Rattle.pam_words.specs.declared.words.CommandRow.{CommandRow}
+use Rattle.pam_words.specs.inner.Building.{IsRowOf, is_named, rule_of_argument, shape_of_row, with_args}
+use Rattle.pam_words.specs.declared.arguments.Argument.{Argument}
+use Rattle.pam_words.specs.declared.commands.CommandRow.{CommandRow}
 use Rattle.clap.specs.Words.{with_rule}
 
 -- arguments leave the name of a command as it is
-args-name : (app : App) (rows : List ArgRow) → (with_args app rows).top.name ≡ app.top.name
+args-name : (app : App) (args : List Argument) → (with_args app args).top.name ≡ app.top.name
 args-name app [] = refl
-args-name app (row ∷ rows) = args-name (with_rule app (rule_of_row row)) rows
+args-name app (arg ∷ args) = args-name (with_rule app (rule_of_argument arg)) args
 
 abbrev pub has_name : Text → CommandRow → Bool
 has_name name row = bytes_eq row.name.now name

@@ -6,9 +6,9 @@ use Rattle.clap.specs.Words.{AddsArg, AddsSubcommand, App, Rule, app_of, rule_of
 use Rattle.clap.specs.declared.builder.Arg.{Arg}
 use Rattle.clap.specs.declared.builder.Command.{Command}
 use Rattle.clap.specs.declared.builder.Command.TheViews.{out-Command}
-use Rattle.pam_words.specs.inner.Building.{IsBuilt, app_of_row, rule_of_row, with_args, with_commands}
-use Rattle.pam_words.specs.declared.arguments.ArgRow.{ArgRow}
-use Rattle.pam_words.specs.declared.words.CommandRow.{CommandRow}
+use Rattle.pam_words.specs.inner.Building.{IsBuilt, app_of_row, rule_of_argument, with_args, with_commands}
+use Rattle.pam_words.specs.declared.arguments.Argument.{Argument}
+use Rattle.pam_words.specs.declared.commands.CommandRow.{CommandRow}
 
 pub add-app : (old sub new : Command) (a b : App) → AddsSubcommand old sub new → (out-Command sub).has_globals ≡ false → app_of old ≡ a → app_of sub ≡ b
     → app_of new ≡ with_subcommand a b.top
@@ -35,13 +35,13 @@ pub add-rule-local : (old new : Command) (arg : Arg) → AddsArg old arg new →
 add-rule-local old new arg h local e = h.globals ∙ neither _ _ e local
 
 -- a command with the argument at an index has the others still to come
-pub add-arg : {all : App} (rows : List ArgRow) (i : ℕ) (row : ArgRow) (old new : App) → i < length rows
-    → new ≡ with_rule old (rule_of_row (get_or rows i row)) → with_args old (drop i rows) ≡ all → with_args new (drop (i + 1) rows) ≡ all
-add-arg rows i row old new h e before = rw (e, add-one) (rw (drop-cons rows i row) at before)
+pub add-arg : {all : App} (args : List Argument) (i : ℕ) (arg : Argument) (old new : App) → i < length args
+    → new ≡ with_rule old (rule_of_argument (get_or args i arg)) → with_args old (drop i args) ≡ all → with_args new (drop (i + 1) args) ≡ all
+add-arg args i arg old new h e before = rw (e, add-one) (rw (drop-cons args i arg) at before)
 
 -- a command to which no argument is left to add has them all
-pub no-arg : {all : App} (rows : List ArgRow) (i : ℕ) (app : App) → length rows ≤ i → with_args app (drop i rows) ≡ all → app ≡ all
-no-arg rows i app none same = rw (drop_all i rows none) at same
+pub no-arg : {all : App} (args : List Argument) (i : ℕ) (app : App) → length args ≤ i → with_args app (drop i args) ≡ all → app ≡ all
+no-arg args i app none same = rw (drop_all i args none) at same
 
 -- a command with the row at an index has the others still to come
 pub add-command : {all : App} (rows : List CommandRow) (i : ℕ) (row : CommandRow) (old new : App) → i < length rows

@@ -2,7 +2,9 @@
 //! Wrong words are refused with a `Usage`.
 #![tactic(auto)]
 
+mod argument_rows;
 mod arguments;
+mod commands;
 mod examples;
 mod number;
 mod reading;

@@ -9,14 +9,8 @@ ghost use Rattle.pam_words.specs.inner.Building.{IsRowOf, app_for, app_of_one, i
 ghost use Rattle.pam_words.specs.Words.{with_graphs, with_hosts, with_listings, with_lookups, with_stacks};
 ghost use Rattle.pam_words.specs.Words.{bare_app, pamcheck_app, version};
 
-use crate::arguments::{
-    ACCEPT, ACCESS, ACCESS_TABLE, AFTER, ARE_FILES, ARE_ROOTS, ARGUMENTS, ASKS, AT, AT_UNIX,
-    ArgForm, ArgRow, BEFORE, CODES, CONF, DECISION, DIR, FACTS, FAIL_ON, FORMAT, GROUP,
-    HOST_ACCESS, HOST_TIME, JSON, KIND, KIND_IF_NAMED, LIMIT, MODULES, NEW, NUMBER, OLD, RELEASE,
-    RETURNS, RHOST, ROOT, SERVICE, SERVICE_IF_NAMED, SERVICES, SET, SET_BY_NAME, TABLE_USER, TIME,
-    TIME_TABLE, TTY, USER, VENDOR_DIR, WITH, ZONE,
-};
-use crate::examples;
+use crate::arguments::{ArgForm, ArgRow, Argument};
+use crate::commands::{CommandRow, GRAPHS, HOSTS, LISTINGS, LOOKUPS, PAGES, STACKS};
 use crate::number::number_parser;
 use clap::{Arg, ArgAction, Command};
 use std::alloc::{AllocError, Global};
@@ -28,164 +22,8 @@ pub fn version() -> &'static str
     "1.0.0 (proved with rattle, logic dac8208d650f15bf)"
 }
 
-/// A command with its arguments.
-#[derive(Clone, Copy)]
-struct CommandRow {
-    name: &'static str,
-    about: &'static str,
-    examples: &'static str,
-    args: &'static [ArgRow],
-}
-
-// The commands stand in several tables, since what it costs to prove a static grows with the square of its size.
-
-/// The commands about whole configurations.
-static HOSTS: [CommandRow; 2] = [
-    CommandRow {
-        name: "check",
-        about: "Checks all services for faults, and for stacks that let nobody or anybody in",
-        examples: examples::CHECK,
-        args: &[
-            DIR,
-            VENDOR_DIR,
-            CONF,
-            ROOT,
-            WITH,
-            MODULES,
-            HOST_ACCESS,
-            HOST_TIME,
-            GROUP,
-            FACTS,
-            ACCEPT,
-            FAIL_ON,
-            JSON,
-            SERVICES,
-        ],
-    },
-    CommandRow {
-        name: "compare",
-        about: "Compares what two configurations decide",
-        examples: examples::COMPARE,
-        args: &[
-            OLD,
-            NEW,
-            SERVICE_IF_NAMED,
-            KIND_IF_NAMED,
-            ARE_FILES,
-            ARE_ROOTS,
-            JSON,
-            MODULES,
-            FACTS,
-            RETURNS,
-            SET_BY_NAME,
-        ],
-    },
-];
-
-/// The commands about a stack as it is.
-static STACKS: [CommandRow; 2] = [
-    CommandRow {
-        name: "show",
-        about: "Shows the modules of a stack",
-        examples: examples::SHOW,
-        args: &[
-            SERVICE, KIND, DIR, VENDOR_DIR, CONF, ROOT, WITH, RELEASE, JSON,
-        ],
-    },
-    CommandRow {
-        name: "decide",
-        about: "Runs a stack with given return codes",
-        examples: examples::DECIDE,
-        args: &[
-            SERVICE, KIND, DIR, VENDOR_DIR, CONF, ROOT, WITH, JSON, CODES,
-        ],
-    },
-];
-
-/// The commands that list paths.
-static LISTINGS: [CommandRow; 1] = [CommandRow {
-    name: "paths",
-    about: "Lists the paths through a stack",
-    examples: examples::PATHS,
-    args: &[
-        SERVICE, KIND, DIR, VENDOR_DIR, CONF, ROOT, WITH, JSON, LIMIT, AFTER, BEFORE, DECISION,
-        ASKS, MODULES, USER, RHOST, TTY, ACCESS, TIME, GROUP, RETURNS, SET, AT, AT_UNIX, ZONE,
-    ],
-}];
-
-/// The commands about all runs of a stack.
-static GRAPHS: [CommandRow; 2] = [
-    CommandRow {
-        name: "outcomes",
-        about: "Counts the paths through a stack by their decisions",
-        examples: examples::OUTCOMES,
-        args: &[
-            SERVICE, KIND, DIR, VENDOR_DIR, CONF, ROOT, WITH, JSON, MODULES, USER, RHOST, TTY,
-            ACCESS, TIME, GROUP, RETURNS, SET, AT, AT_UNIX, ZONE,
-        ],
-    },
-    CommandRow {
-        name: "graph",
-        about: "Draws the graph of a stack",
-        examples: examples::GRAPH,
-        args: &[
-            SERVICE, KIND, DIR, VENDOR_DIR, CONF, ROOT, WITH, FORMAT, MODULES, USER, RHOST, TTY,
-            ACCESS, TIME, GROUP, RETURNS, SET, AT, AT_UNIX, ZONE,
-        ],
-    },
-];
-
-/// The commands that look a login up.
-static LOOKUPS: [CommandRow; 2] = [
-    CommandRow {
-        name: "access",
-        about: "Looks a login up in an access table",
-        examples: examples::ACCESS,
-        args: &[
-            SERVICE,
-            ACCESS_TABLE,
-            TABLE_USER,
-            TTY,
-            GROUP,
-            RHOST,
-            JSON,
-            ARGUMENTS,
-        ],
-    },
-    CommandRow {
-        name: "time",
-        about: "Looks a login up in a time table",
-        examples: examples::TIME,
-        args: &[
-            SERVICE, TIME_TABLE, TABLE_USER, TTY, AT, AT_UNIX, ZONE, JSON,
-        ],
-    },
-];
-
-/// The commands about the program itself.
-static PAGES: [CommandRow; 3] = [
-    CommandRow {
-        name: "explain",
-        about: "Explains a fault or finding, and how to mend it",
-        examples: examples::EXPLAIN,
-        args: &[NUMBER],
-    },
-    CommandRow {
-        name: "facts",
-        about: "Lists what is known of modules",
-        examples: examples::FACTS,
-        args: &[],
-    },
-    CommandRow {
-        name: "version",
-        about: "Shows the version of the program",
-        examples: examples::VERSION,
-        args: &[],
-    },
-];
-
-fn arg<'a>(alloc: Global, row: &ArgRow) -> Arg<'a>
-    ensures rule { rule_of result ≡ rule_of_row row.now }
+fn arg<'a>(alloc: Global, row: ArgRow) -> Arg<'a>
+    ensures rule { rule_of result ≡ rule_of_row row }
     ensures local { result.global ≡ false }
 {
     let arg = Arg::new(alloc, row.id).value_name(row.name).help(row.help);
@@ -205,14 +43,14 @@ fn arg<'a>(alloc: Global, row: &ArgRow) -> Arg<'a>
 fn with_args<'a>(
     alloc: Global,
     command: Command<'a>,
-    rows: &[ArgRow],
+    arguments: &[Argument],
 ) -> Result<Command<'a>, AllocError>
     requires { (fields_of command).has_globals ≡ false }
-    ensures { IsBuilt result (with_rules (app_of command.entry) rows.now) }
+    ensures { IsBuilt result (with_rules (app_of command.entry) arguments.now) }
 {
     let mut command = command;
-    for row in rows {
-        command = command.arg(arg(alloc, row))?;
+    for argument in arguments {
+        command = command.arg(arg(alloc, argument.row()))?;
     }
     Ok(command)
 }

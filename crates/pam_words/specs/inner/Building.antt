@@ -1,5 +1,5 @@
 -- For private contracts and proofs alone: a command that is being built.
-use Rattle.std.specs.Prelude.{◌≡◌, Bool, List, [], ◌∷◌, IfOk, Option, Some, None, Result, bytes_eq, false, find, option_map}
+use Rattle.std.specs.Prelude.{◌≡◌, Bool, List, [], ◌∷◌, IfOk, Option, Some, None, Result, bytes_eq, codes, false, find, option_map}
 use Rattle.std.specs.Borrow.{Bor}
 use Rattle.std.specs.Option.{option_map_or}
 use Rattle.std.specs.declared.alloc.AllocError.{AllocError}
@@ -11,7 +11,11 @@ use Rattle.pam_words.specs.Words.{pamcheck_app, required_option_rule, required_r
 use Rattle.pam_words.specs.declared.arguments.ArgForm.{ArgForm}
 use Rattle.pam_words.specs.declared.arguments.ArgForm.TheVariants.{Positional, OptionalPositional, Repeated, Optional, RepeatedOption, Required, Number, Flag}
 use Rattle.pam_words.specs.declared.arguments.ArgRow.{ArgRow}
-use Rattle.pam_words.specs.declared.words.CommandRow.{CommandRow}
+use Rattle.pam_words.specs.declared.arguments.Argument.{Argument}
+use Rattle.pam_words.specs.declared.arguments.Argument.TheVariants as argument
+use Rattle.pam_words.specs.declared.arguments.Word.{Word}
+use Rattle.pam_words.specs.declared.arguments.Word.TheVariants as word
+use Rattle.pam_words.specs.declared.commands.CommandRow.{CommandRow}
 
 -- a command that accepts these words, unless an allocation failed. None of its options is passed on to its commands
 abbrev pub IsBuilt : Result Command AllocError → App → Type 0
@@ -30,10 +34,63 @@ rule_in_form Flag id = flag_rule id
 abbrev pub rule_of_row : ArgRow → Rule
 rule_of_row row = rule_in_form row.form row.id.now
 
--- with the arguments of these rows
-abbrev pub with_args : App → List ArgRow → App
+-- the rule of a word
+abbrev pub rule_of_word : Word → Rule
+rule_of_word word.Service = required_rule (codes "service")
+rule_of_word word.Kind = required_rule (codes "kind")
+rule_of_word word.Old = required_rule (codes "old")
+rule_of_word word.New = required_rule (codes "new")
+rule_of_word word.ServiceIfNamed = optional_rule (codes "service")
+rule_of_word word.KindIfNamed = optional_rule (codes "kind")
+rule_of_word word.Services = repeated_rule (codes "name")
+rule_of_word word.Codes = repeated_rule (codes "code")
+rule_of_word word.Arguments = repeated_rule (codes "argument")
+rule_of_word word.Number = optional_rule (codes "number")
+
+-- the rule of an argument
+abbrev pub rule_of_argument : Argument → Rule
+rule_of_argument (argument.Word w) = rule_of_word w
+rule_of_argument argument.AreFiles = flag_rule (codes "conf")
+rule_of_argument argument.AreRoots = flag_rule (codes "root")
+rule_of_argument argument.Dir = option_rule (codes "dir")
+rule_of_argument argument.VendorDir = option_rule (codes "vendor-dir")
+rule_of_argument argument.Conf = option_rule (codes "conf")
+rule_of_argument argument.Root = option_rule (codes "root")
+rule_of_argument argument.With = repeated_option_rule (codes "with")
+rule_of_argument argument.Release = option_rule (codes "as")
+rule_of_argument argument.Modules = repeated_option_rule (codes "modules")
+rule_of_argument argument.HostAccess = option_rule (codes "access")
+rule_of_argument argument.HostTime = option_rule (codes "time")
+rule_of_argument argument.Facts = option_rule (codes "facts")
+rule_of_argument argument.Accept = option_rule (codes "accept")
+rule_of_argument argument.FailOn = option_rule (codes "fail-on")
+rule_of_argument argument.Limit = number_rule (codes "limit")
+rule_of_argument argument.After = option_rule (codes "after")
+rule_of_argument argument.Before = option_rule (codes "before")
+rule_of_argument argument.Decision = option_rule (codes "decision")
+rule_of_argument argument.Asks = number_rule (codes "asks")
+rule_of_argument argument.Format = option_rule (codes "format")
+rule_of_argument argument.User = option_rule (codes "user")
+rule_of_argument argument.Rhost = option_rule (codes "rhost")
+rule_of_argument argument.Tty = option_rule (codes "tty")
+rule_of_argument argument.Access = option_rule (codes "access")
+rule_of_argument argument.Time = option_rule (codes "time")
+rule_of_argument argument.Group = option_rule (codes "group")
+rule_of_argument argument.Returns = option_rule (codes "returns")
+rule_of_argument argument.Set = repeated_option_rule (codes "set")
+rule_of_argument argument.SetByName = repeated_option_rule (codes "set")
+rule_of_argument argument.At = option_rule (codes "at")
+rule_of_argument argument.AtUnix = option_rule (codes "at-unix")
+rule_of_argument argument.Zone = option_rule (codes "zone")
+rule_of_argument argument.AccessTable = required_option_rule (codes "access")
+rule_of_argument argument.TimeTable = required_option_rule (codes "time")
+rule_of_argument argument.TableUser = required_option_rule (codes "user")
+rule_of_argument argument.Json = flag_rule (codes "json")
+
+-- with these arguments
+abbrev pub with_args : App → List Argument → App
 with_args app [] = app
-with_args app (row ∷ rows) = with_args (with_rule app (rule_of_row row)) rows
+with_args app (arg ∷ args) = with_args (with_rule app (rule_of_argument arg)) args
 
 abbrev pub app_of_row : CommandRow → App
 app_of_row row = with_args (new_app row.name.now) row.args.now

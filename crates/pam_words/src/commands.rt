@@ -1,0 +1,250 @@
+//! The commands and their arguments, with their help.
+
+use crate::arguments::Argument::{
+    self, Accept, Access, AccessTable, After, AreFiles, AreRoots, Asks, At, AtUnix, Before, Conf,
+    Decision, Dir, Facts, FailOn, Format, Group, HostAccess, HostTime, Json, Limit, Modules,
+    Release, Returns, Rhost, Root, Set, SetByName, TableUser, Time, TimeTable, Tty, User,
+    VendorDir, With, Word, Zone,
+};
+use crate::arguments::Word::{
+    Arguments, Codes, Kind, KindIfNamed, New, Number, Old, Service, ServiceIfNamed, Services,
+};
+use crate::examples;
+
+/// A command with its arguments.
+#[derive(Clone, Copy)]
+pub(crate) struct CommandRow {
+    pub(crate) name: &'static str,
+    pub(crate) about: &'static str,
+    pub(crate) examples: &'static str,
+    pub(crate) args: &'static [Argument],
+}
+
+// The commands stand in several tables, since what it costs to prove a static grows with the square of its size.
+
+/// The commands about whole configurations.
+pub(crate) static HOSTS: [CommandRow; 2] = [
+    CommandRow {
+        name: "check",
+        about: "Checks all services for faults, and for stacks that let nobody or anybody in",
+        examples: examples::CHECK,
+        args: &[
+            Dir,
+            VendorDir,
+            Conf,
+            Root,
+            With,
+            Modules,
+            HostAccess,
+            HostTime,
+            Group,
+            Facts,
+            Accept,
+            FailOn,
+            Json,
+            Word(Services),
+        ],
+    },
+    CommandRow {
+        name: "compare",
+        about: "Compares what two configurations decide",
+        examples: examples::COMPARE,
+        args: &[
+            Word(Old),
+            Word(New),
+            Word(ServiceIfNamed),
+            Word(KindIfNamed),
+            AreFiles,
+            AreRoots,
+            Json,
+            Modules,
+            Facts,
+            Returns,
+            SetByName,
+        ],
+    },
+];
+
+/// The commands about a stack as it is.
+pub(crate) static STACKS: [CommandRow; 2] = [
+    CommandRow {
+        name: "show",
+        about: "Shows the modules of a stack",
+        examples: examples::SHOW,
+        args: &[
+            Word(Service),
+            Word(Kind),
+            Dir,
+            VendorDir,
+            Conf,
+            Root,
+            With,
+            Release,
+            Json,
+        ],
+    },
+    CommandRow {
+        name: "decide",
+        about: "Runs a stack with given return codes",
+        examples: examples::DECIDE,
+        args: &[
+            Word(Service),
+            Word(Kind),
+            Dir,
+            VendorDir,
+            Conf,
+            Root,
+            With,
+            Json,
+            Word(Codes),
+        ],
+    },
+];
+
+/// The commands that list paths.
+pub(crate) static LISTINGS: [CommandRow; 1] = [CommandRow {
+    name: "paths",
+    about: "Lists the paths through a stack",
+    examples: examples::PATHS,
+    args: &[
+        Word(Service),
+        Word(Kind),
+        Dir,
+        VendorDir,
+        Conf,
+        Root,
+        With,
+        Json,
+        Limit,
+        After,
+        Before,
+        Decision,
+        Asks,
+        Modules,
+        User,
+        Rhost,
+        Tty,
+        Access,
+        Time,
+        Group,
+        Returns,
+        Set,
+        At,
+        AtUnix,
+        Zone,
+    ],
+}];
+
+/// The commands about all runs of a stack.
+pub(crate) static GRAPHS: [CommandRow; 2] = [
+    CommandRow {
+        name: "outcomes",
+        about: "Counts the paths through a stack by their decisions",
+        examples: examples::OUTCOMES,
+        args: &[
+            Word(Service),
+            Word(Kind),
+            Dir,
+            VendorDir,
+            Conf,
+            Root,
+            With,
+            Json,
+            Modules,
+            User,
+            Rhost,
+            Tty,
+            Access,
+            Time,
+            Group,
+            Returns,
+            Set,
+            At,
+            AtUnix,
+            Zone,
+        ],
+    },
+    CommandRow {
+        name: "graph",
+        about: "Draws the graph of a stack",
+        examples: examples::GRAPH,
+        args: &[
+            Word(Service),
+            Word(Kind),
+            Dir,
+            VendorDir,
+            Conf,
+            Root,
+            With,
+            Format,
+            Modules,
+            User,
+            Rhost,
+            Tty,
+            Access,
+            Time,
+            Group,
+            Returns,
+            Set,
+            At,
+            AtUnix,
+            Zone,
+        ],
+    },
+];
+
+/// The commands that look a login up.
+pub(crate) static LOOKUPS: [CommandRow; 2] = [
+    CommandRow {
+        name: "access",
+        about: "Looks a login up in an access table",
+        examples: examples::ACCESS,
+        args: &[
+            Word(Service),
+            AccessTable,
+            TableUser,
+            Tty,
+            Group,
+            Rhost,
+            Json,
+            Word(Arguments),
+        ],
+    },
+    CommandRow {
+        name: "time",
+        about: "Looks a login up in a time table",
+        examples: examples::TIME,
+        args: &[
+            Word(Service),
+            TimeTable,
+            TableUser,
+            Tty,
+            At,
+            AtUnix,
+            Zone,
+            Json,
+        ],
+    },
+];
+
+/// The commands about the program itself.
+pub(crate) static PAGES: [CommandRow; 3] = [
+    CommandRow {
+        name: "explain",
+        about: "Explains a fault or finding, and how to mend it",
+        examples: examples::EXPLAIN,
+        args: &[Word(Number)],
+    },
+    CommandRow {
+        name: "facts",
+        about: "Lists what is known of modules",
+        examples: examples::FACTS,
+        args: &[],
+    },
+    CommandRow {
+        name: "version",
+        about: "Shows the version of the program",
+        examples: examples::VERSION,
+        args: &[],
+    },
+];
