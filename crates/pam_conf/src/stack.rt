@@ -130,7 +130,7 @@ impl Stack {
         ensures module { option_map (λ m. module_text m.now) result ≡ module_at number self.now }
         ensures range { IsSome result ↔ (1 ≤ number) × (number ≤ module_count self.now) }
     {
-        // with no substack before it, a module stands at the place that its number says
+        // With no substack before it or around it, a module's number is its position in the outermost list, from 1.
         match self.items.get(number.wrapping_sub(1)) {
             Some(Item::Module(module)) if module.number == number => Some(module),
             _ => module_in(&self.items, number),

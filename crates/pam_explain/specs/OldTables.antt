@@ -28,8 +28,8 @@ zero_mask =
           codes "write ALL, or the addresses.";
     }
 
-unfoldable pub no_line_feed_in_access : Explanation
-no_line_feed_in_access =
+unfoldable pub no_line_feed_in_access_table : Explanation
+no_line_feed_in_access_table =
     record {
       number = codes "A2";
       name = codes "NoLineFeed";
@@ -156,8 +156,8 @@ loopback =
 
 -- LINES OF A TIME TABLE
 
-unfoldable pub no_line_feed_in_time : Explanation
-no_line_feed_in_time =
+unfoldable pub no_line_feed_in_time_table : Explanation
+no_line_feed_in_time_table =
     record {
       number = codes "T1";
       name = codes "NoLineFeed";
@@ -242,5 +242,5 @@ finish_minute =
 -- THE ROWS, in the order of their numbers
 abbrev pub of_old_tables : List Explanation
 of_old_tables =
-    zero_mask ∷ no_line_feed_in_access ∷ leading_blank ∷ blank_in_token ∷ empty_separator ∷
-    mask_digits ∷ loopback ∷ no_line_feed_in_time ∷ odd_bytes ∷ long_field ∷ finish_minute ∷ []
+    zero_mask ∷ no_line_feed_in_access_table ∷ leading_blank ∷ blank_in_token ∷ empty_separator ∷
+    mask_digits ∷ loopback ∷ no_line_feed_in_time_table ∷ odd_bytes ∷ long_field ∷ finish_minute ∷ []

@@ -79,8 +79,8 @@ too_long =
 
 -- MOMENTS
 
-unfoldable pub range : Explanation
-range =
+unfoldable pub moment_range : Explanation
+moment_range =
     record {
       number = codes "M1";
       name = codes "Range";
@@ -97,8 +97,8 @@ range =
           ++ codes "milliseconds has three digits too many.";
     }
 
-unfoldable pub rule : Explanation
-rule =
+unfoldable pub zone_rule : Explanation
+zone_rule =
     record {
       number = codes "M2";
       name = codes "Rule";
@@ -134,4 +134,4 @@ moment_syntax =
 -- THE ROWS, in the order of their numbers
 abbrev pub of_paths : List Explanation
 of_paths =
-    cursor_syntax ∷ not_least ∷ too_short ∷ too_long ∷ range ∷ rule ∷ moment_syntax ∷ []
+    cursor_syntax ∷ not_least ∷ too_short ∷ too_long ∷ moment_range ∷ zone_rule ∷ moment_syntax ∷ []

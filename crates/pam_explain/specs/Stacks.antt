@@ -4,7 +4,7 @@ use Rattle.pam_explain.specs.Explanation.{Explanation}
 use Rattle.pam_explain.specs.Shared.{deep_substacks, fault_of_run, fault_of_words, free_memory, no_limit, own_limit, rule_fails}
 use Rattle.pam_explain.specs.declared.explanation.Level.TheVariants.{Error, Warning}
 
--- FILES THAT RULES NAME
+-- FILES THAT RULES NAME, AND THEIR LIMITS
 
 unfoldable pub missing_target : Explanation
 missing_target =
@@ -80,8 +80,6 @@ too_deep =
           codes "include fewer files in one another.";
     }
 
--- FILES THAT ARE NOT THERE, OR NOT READ
-
 unfoldable pub too_many_modules : Explanation
 too_many_modules =
     record {
@@ -96,6 +94,8 @@ too_many_modules =
       mending =
           codes "remove rules, or files that are included more than once.";
     }
+
+-- FILES THAT ARE NOT THERE, OR NOT READ
 
 unfoldable pub include_in_single_file : Explanation
 include_in_single_file =
@@ -156,7 +156,7 @@ file_too_long =
           ++ codes "includes.";
     }
 
--- LIMITS OF A RUN
+-- MEMORY, MORE LIMITS, AND CODES FOR A RUN
 
 unfoldable pub memory : Explanation
 memory =

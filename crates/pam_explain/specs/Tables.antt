@@ -219,8 +219,6 @@ memory =
       mending = free_memory;
     }
 
--- RETURNS FILES
-
 unfoldable pub table_too_long : Explanation
 table_too_long =
     record {
@@ -237,6 +235,8 @@ table_too_long =
       mending =
           codes "shorten the table, for example by groups in place of users.";
     }
+
+-- RETURNS FILES
 
 unfoldable pub bad_code : Explanation
 bad_code =

@@ -203,7 +203,7 @@ format_name =
           ++ codes "dot, Graphviz makes one: dot -Tpng.";
     }
 
--- A NUMBER TO EXPLAIN, AND CANDIDATES
+-- A LEVEL, A NUMBER TO EXPLAIN, CANDIDATES AND SETTINGS
 
 unfoldable pub level_name : Explanation
 level_name =
@@ -268,8 +268,6 @@ release_form =
           codes "write linux-pam-1.5 or linux-pam-1.7, without --json.";
     }
 
--- READS AND WRITES
-
 unfoldable pub setting_form : Explanation
 setting_form =
     record {
@@ -285,8 +283,10 @@ setting_form =
           codes "write --set KEY=CODES, as --set pam_unix.so=success,auth_err.";
     }
 
-unfoldable pub read : Explanation
-read =
+-- READS AND WRITES
+
+unfoldable pub failed_read : Explanation
+failed_read =
     record {
       number = codes "V1";
       name = codes "Read";
@@ -302,8 +302,8 @@ read =
           codes "correct the name, or run pamcheck as a user who may read it.";
     }
 
-unfoldable pub write : Explanation
-write =
+unfoldable pub failed_write : Explanation
+failed_write =
     record {
       number = codes "V2";
       name = codes "Write";
@@ -325,4 +325,4 @@ abbrev pub of_words : List Explanation
 of_words =
     not_utf8 ∷ source ∷ kind_name ∷ code_name ∷ login ∷ moment ∷ memory ∷ both_ends ∷
     no_such_module ∷ no_such_key ∷ both_filters ∷ format_name ∷ level_name ∷ no_such_number ∷
-    candidate_form ∷ release_form ∷ setting_form ∷ read ∷ write ∷ []
+    candidate_form ∷ release_form ∷ setting_form ∷ failed_read ∷ failed_write ∷ []

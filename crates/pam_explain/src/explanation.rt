@@ -28,8 +28,8 @@ pub struct Explanation {
     pub meaning: &'static str,
     /// An example that has it, in lines of at most 74 bytes. A line `# NAME` begins the file of this name, and is its first
     /// line. A line `$ COMMAND` is for a shell, in the folder of these files; lines `> TEXT` belong to the command before
-    /// them. If there is no command with `pamcheck`, it is `pamcheck check --dir .` that reports it. It is empty if it depends
-    /// on the machine.
+    /// them. If there is no command with `pamcheck`, it is `pamcheck check --dir .` that reports it. The example is empty
+    /// where the fault depends on the machine.
     pub example: &'static str,
     /// What releases of Linux-PAM do.
     pub linux_pam: &'static str,

@@ -36,9 +36,9 @@ fn zero_mask() -> Explanation
     }
 }
 
-#[tactic(auto, unfolding(crate::specs::OldTables::no_line_feed_in_access))]
-fn no_line_feed_in_access() -> Explanation
-    ensures { explanation_view result ≡ spec.no_line_feed_in_access }
+#[tactic(auto, unfolding(crate::specs::OldTables::no_line_feed_in_access_table))]
+fn no_line_feed_in_access_table() -> Explanation
+    ensures { explanation_view result ≡ spec.no_line_feed_in_access_table }
 {
     Explanation {
         number: "A2",
@@ -182,9 +182,9 @@ fn loopback() -> Explanation
     }
 }
 
-#[tactic(auto, unfolding(crate::specs::OldTables::no_line_feed_in_time))]
-fn no_line_feed_in_time() -> Explanation
-    ensures { explanation_view result ≡ spec.no_line_feed_in_time }
+#[tactic(auto, unfolding(crate::specs::OldTables::no_line_feed_in_time_table))]
+fn no_line_feed_in_time_table() -> Explanation
+    ensures { explanation_view result ≡ spec.no_line_feed_in_time_table }
 {
     Explanation {
         number: "T1",
@@ -282,19 +282,19 @@ fn finish_minute() -> Explanation
     }
 }
 
-/// Returns the explanation of this row, counted from 0. The rows are in the order of their numbers.
+/// Returns the explanation at this index, or `None` past the last one. They are in the order of their numbers.
 pub(crate) fn of_old_tables(row: usize) -> Option<Explanation>
     ensures { option_map explanation_view result ≡ slice_get spec.of_old_tables row }
 {
     Some(match row {
         0 => zero_mask(),
-        1 => no_line_feed_in_access(),
+        1 => no_line_feed_in_access_table(),
         2 => leading_blank(),
         3 => blank_in_token(),
         4 => empty_separator(),
         5 => mask_digits(),
         6 => loopback(),
-        7 => no_line_feed_in_time(),
+        7 => no_line_feed_in_time_table(),
         8 => odd_bytes(),
         9 => long_field(),
         10 => finish_minute(),

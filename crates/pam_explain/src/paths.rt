@@ -99,9 +99,9 @@ fn too_long() -> Explanation
     }
 }
 
-#[tactic(auto, unfolding(crate::specs::Paths::range))]
-fn range() -> Explanation
-    ensures { explanation_view result ≡ spec.range }
+#[tactic(auto, unfolding(crate::specs::Paths::moment_range))]
+fn moment_range() -> Explanation
+    ensures { explanation_view result ≡ spec.moment_range }
 {
     Explanation {
         number: "M1",
@@ -123,9 +123,9 @@ fn range() -> Explanation
     }
 }
 
-#[tactic(auto, unfolding(crate::specs::Paths::rule))]
-fn rule() -> Explanation
-    ensures { explanation_view result ≡ spec.rule }
+#[tactic(auto, unfolding(crate::specs::Paths::zone_rule))]
+fn zone_rule() -> Explanation
+    ensures { explanation_view result ≡ spec.zone_rule }
 {
     Explanation {
         number: "M2",
@@ -165,7 +165,7 @@ fn moment_syntax() -> Explanation
     }
 }
 
-/// Returns the explanation of this row, counted from 0. The rows are in the order of their numbers.
+/// Returns the explanation at this index, or `None` past the last one. They are in the order of their numbers.
 pub(crate) fn of_paths(row: usize) -> Option<Explanation>
     ensures { option_map explanation_view result ≡ slice_get spec.of_paths row }
 {
@@ -174,8 +174,8 @@ pub(crate) fn of_paths(row: usize) -> Option<Explanation>
         1 => not_least(),
         2 => too_short(),
         3 => too_long(),
-        4 => range(),
-        5 => rule(),
+        4 => moment_range(),
+        5 => zone_rule(),
         6 => moment_syntax(),
         _ => return None,
     })

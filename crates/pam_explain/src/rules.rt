@@ -176,7 +176,7 @@ fn open_bracket() -> Explanation
     }
 }
 
-/// Returns the explanation of this row, counted from 0. The rows are in the order of their numbers.
+/// Returns the explanation at this index, or `None` past the last one. They are in the order of their numbers.
 pub(crate) fn of_rules(row: usize) -> Option<Explanation>
     ensures { option_map explanation_view result ≡ slice_get spec.of_rules row }
 {

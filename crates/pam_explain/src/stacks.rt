@@ -265,7 +265,7 @@ fn wrong_count() -> Explanation
     }
 }
 
-/// Returns the explanation of this row, counted from 0. The rows are in the order of their numbers.
+/// Returns the explanation at this index, or `None` past the last one. They are in the order of their numbers.
 pub(crate) fn of_stacks(row: usize) -> Option<Explanation>
     ensures { option_map explanation_view result ≡ slice_get spec.of_stacks row }
 {

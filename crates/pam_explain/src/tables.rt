@@ -27,10 +27,7 @@ fn missing_field() -> Explanation
             "-:ALL\n",
             "$ pamcheck access login --access access.conf --user alice"
         ),
-        linux_pam: concat!(
-            "access.conf(5) wants three fields in each line, and time.conf(5)\n",
-            "four."
-        ),
+        linux_pam: "access.conf(5) wants three fields in each line, and time.conf(5)\nfour.",
         mending: concat!(
             "write the field that is missing. ALL, or * in a time table, stands\n",
             "for everything."
@@ -376,7 +373,7 @@ fn bad_fact() -> Explanation
     }
 }
 
-/// Returns the explanation of this row, counted from 0. The rows are in the order of their numbers.
+/// Returns the explanation at this index, or `None` past the last one. They are in the order of their numbers.
 pub(crate) fn of_tables(row: usize) -> Option<Explanation>
     ensures { option_map explanation_view result ≡ slice_get spec.of_tables row }
 {

@@ -229,62 +229,6 @@ fn format_name() -> Explanation
     }
 }
 
-#[tactic(auto, unfolding(crate::specs::Words::setting_form))]
-fn setting_form() -> Explanation
-    ensures { explanation_view result ≡ spec.setting_form }
-{
-    Explanation {
-        number: "U17",
-        name: "SettingForm",
-        level: Level::Error,
-        meaning: "A value of --set does not have the form KEY=CODES.",
-        example: "$ pamcheck paths login auth --dir . --set pam_unix.so",
-        linux_pam: FAULT_OF_WORDS,
-        mending: "write --set KEY=CODES, as --set pam_unix.so=success,auth_err.",
-    }
-}
-
-#[tactic(auto, unfolding(crate::specs::Words::read))]
-fn read() -> Explanation
-    ensures { explanation_view result ≡ spec.read }
-{
-    Explanation {
-        number: "V1",
-        name: "Read",
-        level: Level::Error,
-        meaning: concat!(
-            "A file or folder cannot be read: it is not there, or may not be read. check\n",
-            "then says nothing at all, since a report on a part of a host could be silent\n",
-            "where the host is not sound."
-        ),
-        example: "$ pamcheck check --dir no-such-folder",
-        linux_pam: FAULT_OF_RUN,
-        mending: "correct the name, or run pamcheck as a user who may read it.",
-    }
-}
-
-#[tactic(auto, unfolding(crate::specs::Words::write))]
-fn write() -> Explanation
-    ensures { explanation_view result ≡ spec.write }
-{
-    Explanation {
-        number: "V2",
-        name: "Write",
-        level: Level::Error,
-        meaning: concat!(
-            "A write to standard output failed, as on a full disk. What was written by then\n",
-            "is the beginning of the answer."
-        ),
-        example: concat!(
-            "# login\n",
-            "auth required pam_unix.so\n",
-            "$ pamcheck show login auth --dir . >/dev/full"
-        ),
-        linux_pam: FAULT_OF_RUN,
-        mending: "make room, and run pamcheck again.",
-    }
-}
-
 #[tactic(auto, unfolding(crate::specs::Words::level_name))]
 fn level_name() -> Explanation
     ensures { explanation_view result ≡ spec.level_name }
@@ -354,7 +298,63 @@ fn release_form() -> Explanation
     }
 }
 
-/// Returns the explanation of this row, counted from 0. The rows are in the order of their numbers.
+#[tactic(auto, unfolding(crate::specs::Words::setting_form))]
+fn setting_form() -> Explanation
+    ensures { explanation_view result ≡ spec.setting_form }
+{
+    Explanation {
+        number: "U17",
+        name: "SettingForm",
+        level: Level::Error,
+        meaning: "A value of --set does not have the form KEY=CODES.",
+        example: "$ pamcheck paths login auth --dir . --set pam_unix.so",
+        linux_pam: FAULT_OF_WORDS,
+        mending: "write --set KEY=CODES, as --set pam_unix.so=success,auth_err.",
+    }
+}
+
+#[tactic(auto, unfolding(crate::specs::Words::failed_read))]
+fn failed_read() -> Explanation
+    ensures { explanation_view result ≡ spec.failed_read }
+{
+    Explanation {
+        number: "V1",
+        name: "Read",
+        level: Level::Error,
+        meaning: concat!(
+            "A file or folder cannot be read: it is not there, or may not be read. check\n",
+            "then says nothing at all, since a report on a part of a host could be silent\n",
+            "where the host is not sound."
+        ),
+        example: "$ pamcheck check --dir no-such-folder",
+        linux_pam: FAULT_OF_RUN,
+        mending: "correct the name, or run pamcheck as a user who may read it.",
+    }
+}
+
+#[tactic(auto, unfolding(crate::specs::Words::failed_write))]
+fn failed_write() -> Explanation
+    ensures { explanation_view result ≡ spec.failed_write }
+{
+    Explanation {
+        number: "V2",
+        name: "Write",
+        level: Level::Error,
+        meaning: concat!(
+            "A write to standard output failed, as on a full disk. What was written by then\n",
+            "is the beginning of the answer."
+        ),
+        example: concat!(
+            "# login\n",
+            "auth required pam_unix.so\n",
+            "$ pamcheck show login auth --dir . >/dev/full"
+        ),
+        linux_pam: FAULT_OF_RUN,
+        mending: "make room, and run pamcheck again.",
+    }
+}
+
+/// Returns the explanation at this index, or `None` past the last one. They are in the order of their numbers.
 pub(crate) fn of_words(row: usize) -> Option<Explanation>
     ensures { option_map explanation_view result ≡ slice_get spec.of_words row }
 {
@@ -376,8 +376,8 @@ pub(crate) fn of_words(row: usize) -> Option<Explanation>
         14 => candidate_form(),
         15 => release_form(),
         16 => setting_form(),
-        17 => read(),
-        18 => write(),
+        17 => failed_read(),
+        18 => failed_write(),
         _ => return None,
     })
 }

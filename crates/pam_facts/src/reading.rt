@@ -148,6 +148,7 @@ pub(crate) fn add_table(rows: &mut Vec<Row<'_>>) -> Result<(), FactsError>
     ensures memory { IfErr result (λ e. e ≡ no_memory) }
     ensures rows { OnOk result (map row_view rows.new.items ≡ map row_view rows.old.items ++ table_rows) }
 {
+    // What is after the last line feed is an empty line, which has no row.
     for line in table().split(|byte| *byte == b'\n') {
         add_table_line(line, rows)?;
     }

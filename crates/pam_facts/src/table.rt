@@ -7,8 +7,8 @@ ghost use Rattle.pam_text.specs.Out.{Writes};
 use pam_text::{Device, Out};
 use std::io::Write;
 
-/// The rows, in the order of names, a row a line; `docs/FACTS.md` has the sources. They are one text: one text has no addresses,
-/// which the system would have to set whenever the program starts.
+/// The rows, in the order of names, a row a line; `docs/FACTS.md` has the sources. They are one text and not a list of
+/// texts, whose addresses the system would have to set whenever the program starts.
 const TABLE: &[u8] = b"\
     pam_abl passes account,password,session module_unknown\n\
     pam_access passes auth,account,password,session success perm_denied user_unknown abort\n\

@@ -110,7 +110,7 @@ fn put_stacks<L: CompareLines, W: Write>(
 }
 
 /// Writes what changes, in the order of the stacks, and the last line, and flushes.
-// Never inlined, else each command has room for what it has.
+// Never inlined, else the stack has room for its values under every command.
 #[inline(never)]
 pub fn write_compared<L: CompareLines, W: Write>(
     lines: &L,

@@ -34,7 +34,8 @@ module _ {W A : Type 0} {contents : W → Option (List ℕ)} (line : A → List 
   partly-all p e = all-is p.took (sym (append-nil p.front) ∙ ap (λ (xs : List A). p.front ++ flat_map line xs) (sym e) ∙ p.parts)
 
   -- the last line
-  pub partly-last : {old mid : Out W} {all left : List A} (new : Out W) (result : Result (Unit {0}) Device) (x : A) → Partly contents line old mid all left → left ≡ x ∷ []
+  pub partly-last : {old mid : Out W} {all left : List A} (new : Out W) (result : Result (Unit {0}) Device) (x : A)
+      → Partly contents line old mid all left → left ≡ x ∷ []
       → Writes contents mid new result (line x) → Writes contents old new result (flat_map line all)
   partly-last new result x p e w =
       writes-is _ _ _ _ _ _ (writes-then _ _ _ p.took w) (sym (append-nil (p.front ++ line x)) ∙ parts-more x p e)

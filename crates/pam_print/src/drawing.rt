@@ -91,7 +91,7 @@ fn write_graph<W: Write>(
 }
 
 /// Writes a drawing. Allocates its title and its layout before the first byte.
-// Never inlined, else each command has room for what it has.
+// Never inlined, else the stack has room for its values under every command.
 #[inline(never)]
 pub(crate) fn write_drawing<W: Write>(
     alloc: Global,

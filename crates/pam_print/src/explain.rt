@@ -60,7 +60,7 @@ fn put_example_lines<W: Write>(text: &[u8], out: &mut Out<W>) -> Result<(), Devi
     put_example_line(rest, out)
 }
 
-/// Writes the lines of an example, indented, if there are any.
+/// Writes the heading and the lines of an example, indented, unless it is empty.
 #[tactic(auto, unfolding(crate::specs::Explain::example_text))]
 fn put_example<W: Write>(example: &str, out: &mut Out<W>) -> Result<(), Device>
     ensures { Writes W.contents out.old out.new result (example_text example.now) }

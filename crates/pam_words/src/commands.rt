@@ -4,12 +4,31 @@ use crate::arguments::Argument::{
     self, Accept, Access, AccessTable, After, AreFiles, AreRoots, Asks, At, AtUnix, Before, Conf,
     Decision, Dir, Facts, FailOn, Format, Group, HostAccess, HostTime, Json, Limit, Modules,
     Release, Returns, Rhost, Root, Set, SetByName, TableUser, Time, TimeTable, Tty, User,
-    VendorDir, With, Word, Zone,
+    VendorDir, With, Zone,
 };
-use crate::arguments::Word::{
-    Arguments, Codes, Kind, KindIfNamed, New, Number, Old, Service, ServiceIfNamed, Services,
-};
+use crate::arguments::Word;
 use crate::examples;
+
+// The words, as arguments.
+const SERVICE: Argument = Argument::Word(Word::Service);
+
+const KIND: Argument = Argument::Word(Word::Kind);
+
+const OLD: Argument = Argument::Word(Word::Old);
+
+const NEW: Argument = Argument::Word(Word::New);
+
+const SERVICE_IF_NAMED: Argument = Argument::Word(Word::ServiceIfNamed);
+
+const KIND_IF_NAMED: Argument = Argument::Word(Word::KindIfNamed);
+
+const SERVICES: Argument = Argument::Word(Word::Services);
+
+const CODES: Argument = Argument::Word(Word::Codes);
+
+const ARGUMENTS: Argument = Argument::Word(Word::Arguments);
+
+const NUMBER: Argument = Argument::Word(Word::Number);
 
 /// A command with its arguments.
 #[derive(Clone, Copy)]
@@ -29,20 +48,8 @@ pub(crate) static HOSTS: [CommandRow; 2] = [
         about: "Checks all services for faults, and for stacks that let nobody or anybody in",
         examples: examples::CHECK,
         args: &[
-            Dir,
-            VendorDir,
-            Conf,
-            Root,
-            With,
-            Modules,
-            HostAccess,
-            HostTime,
-            Group,
-            Facts,
-            Accept,
-            FailOn,
-            Json,
-            Word(Services),
+            Dir, VendorDir, Conf, Root, With, Modules, HostAccess, HostTime, Group, Facts, Accept,
+            FailOn, Json, SERVICES,
         ],
     },
     CommandRow {
@@ -50,10 +57,10 @@ pub(crate) static HOSTS: [CommandRow; 2] = [
         about: "Compares what two configurations decide",
         examples: examples::COMPARE,
         args: &[
-            Word(Old),
-            Word(New),
-            Word(ServiceIfNamed),
-            Word(KindIfNamed),
+            OLD,
+            NEW,
+            SERVICE_IF_NAMED,
+            KIND_IF_NAMED,
             AreFiles,
             AreRoots,
             Json,
@@ -72,32 +79,14 @@ pub(crate) static STACKS: [CommandRow; 2] = [
         about: "Shows the modules of a stack",
         examples: examples::SHOW,
         args: &[
-            Word(Service),
-            Word(Kind),
-            Dir,
-            VendorDir,
-            Conf,
-            Root,
-            With,
-            Release,
-            Json,
+            SERVICE, KIND, Dir, VendorDir, Conf, Root, With, Release, Json,
         ],
     },
     CommandRow {
         name: "decide",
         about: "Runs a stack with given return codes",
         examples: examples::DECIDE,
-        args: &[
-            Word(Service),
-            Word(Kind),
-            Dir,
-            VendorDir,
-            Conf,
-            Root,
-            With,
-            Json,
-            Word(Codes),
-        ],
+        args: &[SERVICE, KIND, Dir, VendorDir, Conf, Root, With, Json, CODES],
     },
 ];
 
@@ -107,31 +96,8 @@ pub(crate) static LISTINGS: [CommandRow; 1] = [CommandRow {
     about: "Lists the paths through a stack",
     examples: examples::PATHS,
     args: &[
-        Word(Service),
-        Word(Kind),
-        Dir,
-        VendorDir,
-        Conf,
-        Root,
-        With,
-        Json,
-        Limit,
-        After,
-        Before,
-        Decision,
-        Asks,
-        Modules,
-        User,
-        Rhost,
-        Tty,
-        Access,
-        Time,
-        Group,
-        Returns,
-        Set,
-        At,
-        AtUnix,
-        Zone,
+        SERVICE, KIND, Dir, VendorDir, Conf, Root, With, Json, Limit, After, Before, Decision,
+        Asks, Modules, User, Rhost, Tty, Access, Time, Group, Returns, Set, At, AtUnix, Zone,
     ],
 }];
 
@@ -142,26 +108,8 @@ pub(crate) static GRAPHS: [CommandRow; 2] = [
         about: "Counts the paths through a stack by their decisions",
         examples: examples::OUTCOMES,
         args: &[
-            Word(Service),
-            Word(Kind),
-            Dir,
-            VendorDir,
-            Conf,
-            Root,
-            With,
-            Json,
-            Modules,
-            User,
-            Rhost,
-            Tty,
-            Access,
-            Time,
-            Group,
-            Returns,
-            Set,
-            At,
-            AtUnix,
-            Zone,
+            SERVICE, KIND, Dir, VendorDir, Conf, Root, With, Json, Modules, User, Rhost, Tty,
+            Access, Time, Group, Returns, Set, At, AtUnix, Zone,
         ],
     },
     CommandRow {
@@ -169,26 +117,8 @@ pub(crate) static GRAPHS: [CommandRow; 2] = [
         about: "Draws the graph of a stack",
         examples: examples::GRAPH,
         args: &[
-            Word(Service),
-            Word(Kind),
-            Dir,
-            VendorDir,
-            Conf,
-            Root,
-            With,
-            Format,
-            Modules,
-            User,
-            Rhost,
-            Tty,
-            Access,
-            Time,
-            Group,
-            Returns,
-            Set,
-            At,
-            AtUnix,
-            Zone,
+            SERVICE, KIND, Dir, VendorDir, Conf, Root, With, Format, Modules, User, Rhost, Tty,
+            Access, Time, Group, Returns, Set, At, AtUnix, Zone,
         ],
     },
 ];
@@ -200,30 +130,21 @@ pub(crate) static LOOKUPS: [CommandRow; 2] = [
         about: "Looks a login up in an access table",
         examples: examples::ACCESS,
         args: &[
-            Word(Service),
+            SERVICE,
             AccessTable,
             TableUser,
             Tty,
             Group,
             Rhost,
             Json,
-            Word(Arguments),
+            ARGUMENTS,
         ],
     },
     CommandRow {
         name: "time",
         about: "Looks a login up in a time table",
         examples: examples::TIME,
-        args: &[
-            Word(Service),
-            TimeTable,
-            TableUser,
-            Tty,
-            At,
-            AtUnix,
-            Zone,
-            Json,
-        ],
+        args: &[SERVICE, TimeTable, TableUser, Tty, At, AtUnix, Zone, Json],
     },
 ];
 
@@ -233,7 +154,7 @@ pub(crate) static PAGES: [CommandRow; 3] = [
         name: "explain",
         about: "Explains a fault or finding, and how to mend it",
         examples: examples::EXPLAIN,
-        args: &[Word(Number)],
+        args: &[NUMBER],
     },
     CommandRow {
         name: "facts",

@@ -136,7 +136,7 @@ fn answer_known<'a>(
 }
 
 /// Returns the outcomes of the stack that is asked for.
-// Never inlined, else each command has room for what it has.
+// Never inlined, else the stack has room for its values under every command.
 #[inline(never)]
 pub(super) fn answer_outcomes<'a>(
     sources: &Sources<'_, '_>,

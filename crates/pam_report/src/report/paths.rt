@@ -233,7 +233,7 @@ fn answer_known<'a>(
 }
 
 /// Returns the page of the stack that is asked for.
-// Never inlined, else each command has room for what it has.
+// Never inlined, else the stack has room for its values under every command.
 #[inline(never)]
 pub(super) fn answer_paths<'a>(
     sources: &Sources<'_, '_>,
