@@ -149,16 +149,17 @@ pub(super) fn entry_names<R: std::rt::Files + AllocGlobal + Clone + Drop>(
     Ok(names)
 }
 
-/// Reads what was found, if it is a regular file.
+/// Reads what was found at a path, if it is a regular file.
 fn bytes_found<R: std::rt::Files>(
     rt: &R,
     alloc: Global,
-    found: &Found,
+    path: Path<'_>,
+    found: &Metadata,
 ) -> io::Result<Option<Vec<u8>>> {
-    if !found.metadata.is_file() {
+    if !found.is_file() {
         return Ok(None);
     }
-    let file = fs::open(rt, found.reached.path.as_path())?;
+    let file = fs::open(rt, path)?;
     // What is open may be another file than the one that was looked at.
     let metadata = file.metadata()?;
     if !metadata.is_file() {
@@ -167,15 +168,31 @@ fn bytes_found<R: std::rt::Files>(
     Ok(Some(bytes_of(alloc, file, metadata.len())?))
 }
 
-/// Reads what is at a path below a folder, after links are followed, if it is a regular file.
-pub(super) fn regular_bytes<R: std::rt::Files>(
+/// Reads what is at a path after links are followed by the system, if it is a regular file.
+fn regular_bytes<R: std::rt::Files>(
+    rt: &R,
+    alloc: Global,
+    path: Path<'_>,
+) -> io::Result<Option<Vec<u8>>> {
+    match metadata_at(rt, path)? {
+        Some(found) => bytes_found(rt, alloc, path, &found),
+        None => Ok(None),
+    }
+}
+
+/// Reads the entry of a folder that has this name and is shown by this path, after links are followed, if it is a regular file.
+pub(super) fn entry_bytes<R: std::rt::Files>(
     rt: &R,
     alloc: Global,
     folder: Folder<'_>,
-    path: &str,
+    name: &str,
+    shown: Path<'_>,
 ) -> io::Result<Option<Vec<u8>>> {
-    match found_at(rt, alloc, folder, path)? {
-        Some(found) => bytes_found(rt, alloc, &found),
+    if folder.is_of_system() {
+        return regular_bytes(rt, alloc, shown);
+    }
+    match folder.find(rt, alloc, name)? {
+        Some(reached) => regular_bytes(rt, alloc, reached.path.as_path()),
         None => Ok(None),
     }
 }
@@ -190,7 +207,7 @@ pub(super) fn bytes_if_there<R: std::rt::Files>(
     let Some(found) = found_at(rt, alloc, folder, path)? else {
         return Ok(None);
     };
-    match bytes_found(rt, alloc, &found)? {
+    match bytes_found(rt, alloc, found.reached.path.as_path(), &found.metadata)? {
         Some(bytes) => Ok(Some(bytes)),
         None => Err(io::Error::from(ErrorKind::InvalidInput)),
     }

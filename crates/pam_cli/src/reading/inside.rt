@@ -79,6 +79,11 @@ impl<'a> Folder<'a> {
         }
     }
 
+    /// Whether links below this folder are followed by the system. What is below it is then reached by the path that is shown.
+    pub(super) fn is_of_system(self) -> bool {
+        self.root.is_none()
+    }
+
     /// Follows the links of a relative path below this folder, if there is a root. Returns `None` if they lead nowhere inside it.
     pub(super) fn find<R: std::rt::Files>(
         self,

@@ -7,7 +7,7 @@ ghost use Rattle.pam_cli.specs.inner.Sources.{AddsCandidate, AddsFile, AddsFiles
 ghost use Rattle.pam_words.specs.Wanted.{candidate_view};
 
 use crate::reading::files::{
-    bytes_if_there, entry_names, find_folder, found_at, named_file, regular_bytes, unread,
+    bytes_if_there, entry_bytes, entry_names, find_folder, found_at, named_file, unread,
 };
 use crate::reading::inside::Folder;
 use pam_conf::{Files, Form};
@@ -81,12 +81,10 @@ fn put_entry<R: std::rt::Files>(
     if found.has(name.as_bytes()) {
         return Ok(());
     }
-    match regular_bytes(rt, alloc, folder, name.as_str()) {
+    let path = Path::new(folder.shown).join(alloc, name.as_str())?;
+    match entry_bytes(rt, alloc, folder, name.as_str(), path.as_path()) {
         Ok(None) => Ok(()),
-        Ok(Some(bytes)) => {
-            let path = Path::new(folder.shown).join(alloc, name.as_str())?;
-            found.put(name.into_bytes(), path.as_str(), bytes)
-        }
+        Ok(Some(bytes)) => found.put(name.into_bytes(), path.as_str(), bytes),
         Err(error) => Err(unread(alloc, name.as_str(), &error)),
     }
 }

@@ -10,12 +10,12 @@ put-requires g c =
     as_found c.into_bytes.result.items _ c.args.found.now.files.entries c.has.result false c.has.ensures
     (c.as_bytes.ensures.value ∙ spelled) c.if-has.false
 
-pub returns-in_ok-path-in-Ok-Some-clause-ok : goal.returns-in_ok-path-in-Ok-Some-clause-ok
-returns-in_ok-path-in-Ok-Some-clause-ok g c =
+pub returns-in-Ok-Some-clause-ok : goal.returns-in-Ok-Some-clause-ok
+returns-in-Ok-Some-clause-ok g c =
     let found = c.args.found.now in
     let name = c.into_bytes.result.items in
     let spelled = sym (ap (λ v. v.items) c.into_bytes.ensures.value) in
     let lacked = as_found name _ found.files.entries c.has.result false c.has.ensures (c.as_bytes.ensures.value ∙ spelled) c.if-has.false in
-    let place = c.as_str-in-Ok-Some-2.ensures ∙ c.in_ok-path-in-Ok-Some.ensures ∙ ap₂ path_join c.new.ensures (c.as_str-in-Ok-Some.ensures.value ∙ spelled) in
+    let place = c.as_str-in-Ok-Some.ensures ∙ c.in_ok-path.ensures ∙ ap₂ path_join c.new.ensures (c.as_str.ensures.value ∙ spelled) in
     on_ok_weaker c.put.result
-    (one_more c.args.folder.shown.now name c.in-Ok-Some.bytes.items _ found c.put.new.self lacked place) c.put.ensures.ok
+    (one_more c.args.folder.shown.now name _ _ found c.put.new.self lacked place) c.put.ensures.ok
