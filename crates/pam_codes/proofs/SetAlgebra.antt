@@ -60,6 +60,13 @@ codes_of_bits-or a b = codes_where-same _ _ (λ code low.
     ∙ ap (λ (t : Bool). t || has b code) (has-is_in a code low)
     ∙ ap (λ (t : Bool). is_in code (codes_of_bits a) || t) (has-is_in b code low))
 
+pub codes_of_bits-and : (a b : ℕ) → codes_of_bits (bit_and a b) ≡ codes_where (λ c. is_in c (codes_of_bits a) && is_in c (codes_of_bits b))
+unfolding codes_of_bits
+codes_of_bits-and a b = codes_where-same _ _ (λ code low.
+    has-and a b code
+    ∙ ap (λ (t : Bool). t && has b code) (has-is_in a code low)
+    ∙ ap (λ (t : Bool). is_in code (codes_of_bits a) && t) (has-is_in b code low))
+
 pub codes_of_bits-without : (a b : ℕ) → b < 2 ^ 32 →
     codes_of_bits (bit_and a (bit_not w32 b)) ≡ codes_where (λ c. is_in c (codes_of_bits a) && not (is_in c (codes_of_bits b)))
 unfolding codes_of_bits

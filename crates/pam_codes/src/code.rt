@@ -43,11 +43,17 @@ impl Code {
     /// Permission is denied.
     pub const PERM_DENIED: Code = Code { number: 6 };
 
+    /// The user is not who they say they are.
+    pub const AUTH_ERR: Code = Code { number: 7 };
+
     /// The user must choose a new password.
     pub const NEW_AUTHTOK_REQD: Code = Code { number: 12 };
 
     /// The module is to be ignored.
     pub const IGNORE: Code = Code { number: 25 };
+
+    /// The module is not there, or has no function of the kind.
+    pub const MODULE_UNKNOWN: Code = Code { number: 28 };
 
     /// The conversation has no data yet.
     pub const CONV_AGAIN: Code = Code { number: 30 };

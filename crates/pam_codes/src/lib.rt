@@ -20,4 +20,4 @@ pub use pam_text::{Device, Out, Piece};
 pub use parts::{Part, Parts};
 pub use set::CodeSet;
 pub use subject::Subject;
-pub use tokens::{first_token, is_blank_byte};
+pub use tokens::first_token;

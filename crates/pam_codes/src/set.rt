@@ -81,6 +81,15 @@ impl CodeSet {
         }
     }
 
+    /// The codes in both `self` and `other`.
+    pub fn intersection(self, other: CodeSet) -> CodeSet
+        ensures { result ≡ codes_where (λ c. is_in c self && is_in c other) }
+    {
+        CodeSet {
+            bits: self.bits & other.bits,
+        }
+    }
+
     /// The codes in `self` but not in `other`.
     pub fn without(self, other: CodeSet) -> CodeSet
         ensures { result ≡ codes_where (λ c. is_in c self && not (is_in c other)) }

@@ -21,8 +21,7 @@ use crate::kept::{KeptRule, whole_rules};
 use crate::rule::{Form, Rule, line_rule};
 use crate::wanted::{Wanted, is_unwanted, is_wanted};
 use crate::words::Words;
-use pam_codes::is_blank_byte;
-use pam_text::{Line, Source, SourceFault, Text};
+use pam_text::{Line, Source, SourceFault, Text, is_text_blank};
 use std::alloc::{AllocError, AllocFailed, Global};
 
 /// Reads the rules of a file in the order of its lines: pam.conf(5). Fails with the first fault: `FileTooLong` (E16)
@@ -120,7 +119,7 @@ fn keep(
 pub(crate) fn is_blank_line(bytes: &[u8]) -> bool
     ensures { result ≡ list_all is_blank bytes.now }
 {
-    bytes.iter().all(|byte| is_blank_byte(*byte))
+    bytes.iter().all(|byte| is_text_blank(*byte))
 }
 
 /// Whether a line certainly has no fault, and no rule that is wanted. Does not allocate.

@@ -9,8 +9,8 @@ ghost use Rattle.pam_conf.specs.inner.FirstWord.{words_from};
 ghost use Rattle.pam_conf.specs.Words.{unescaped, text_of_word};
 
 use crate::error::FaultKind;
-use pam_codes::{ControlError, closing_bracket, is_blank_byte};
-use pam_text::Texts;
+use pam_codes::{ControlError, closing_bracket};
+use pam_text::{Texts, is_text_blank};
 use std::alloc::{AllocError, Global};
 
 /// The number of leading blanks.
@@ -18,7 +18,7 @@ fn blank_len(bytes: &[u8]) -> usize
     ensures value { result ≡ prefix_len is_blank bytes.now }
     ensures bound { result ≤ length bytes.now }
 {
-    bytes.iter().take_while(|b| is_blank_byte(**b)).count()
+    bytes.iter().take_while(|b| is_text_blank(**b)).count()
 }
 
 /// The number of bytes before the first blank.
@@ -26,7 +26,7 @@ fn plain_len(bytes: &[u8]) -> usize
     ensures value { result ≡ prefix_len (λ b. not (is_blank b)) bytes.now }
     ensures bound { result ≤ length bytes.now }
 {
-    bytes.iter().take_while(|b| !is_blank_byte(**b)).count()
+    bytes.iter().take_while(|b| !is_text_blank(**b)).count()
 }
 
 /// The number of bytes up to the closing bracket, this one included; `None` if no bracket closes.
@@ -96,7 +96,7 @@ pub(crate) fn after_word<'a>(line: &'a [u8], word: &[u8]) -> Option<&'a [u8]>
 {
     let len = word.len();
     // The byte after the word rules out most other words.
-    if line.len() <= len || !is_blank_byte(line[len]) {
+    if line.len() <= len || !is_text_blank(line[len]) {
         return None;
     }
     if !line.starts_with(word) {

@@ -6,7 +6,8 @@ ghost use Rattle.pam_codes.specs.Out.{Writes};
 ghost use Rattle.pam_codes.specs.Tokens.{is_blank};
 ghost use Rattle.pam_print.specs.WordText.{escaped, is_plain, word_text};
 
-use pam_codes::{Device, Out, is_blank_byte};
+use pam_codes::{Device, Out};
+use pam_text::is_text_blank;
 use std::io::Write;
 
 fn is_plain(text: &[u8]) -> bool
@@ -22,7 +23,7 @@ fn is_plain(text: &[u8]) -> bool
 fn has_blank(text: &[u8]) -> bool
     ensures { result ≡ list_any is_blank text.now }
 {
-    text.iter().any(|byte| is_blank_byte(*byte))
+    text.iter().any(|byte| is_text_blank(*byte))
 }
 
 /// Writes a text, with `\]` for each `]`.

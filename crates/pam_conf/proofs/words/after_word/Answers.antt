@@ -7,4 +7,4 @@ use Rattle.pam_conf.proofs.words.after_word.Goals as goal
 pub returns : goal.returns
 returns c = after_first c.args.line.now c.args.word.now _ c.requires.something c.requires.plain c.requires.bare
     ((starts_is Decides-eqb c.args.line.now c.args.word.now c.starts_with.result c.starts_with.ensures.value).0 c.if-not-starts_with.false)
-    (omega (arith, c.if-line-len.false)) (sym c.is_blank_byte.ensures ∙ c.if-not-is_blank_byte.false) c.split_at.ensures.back
+    (omega (arith, c.if-line-len.false)) (sym c.is_text_blank.ensures ∙ c.if-not-is_text_blank.false) c.split_at.ensures.back
