@@ -1,6 +1,7 @@
 -- The fields of a line, a line, and the table.
-use Rattle.std.proofs.Common.{◌≡◌, ◌∙◌, ◌&&◌, ℕ, Bool, true, false, List, [], ◌∷◌, Option, Some, None, IfSome, Result, Ok, Err, map, refl, sym, ap, ap₂}
+use Rattle.std.proofs.Common.{◌≡◌, ◌∙◌, ◌&&◌, ◌⊎◌, ◌==◌, inl, inr, subst, ℕ, Bool, true, false, List, [], ◌∷◌, Option, Some, None, IfSome, Result, Ok, Err, map, refl, sym, ap, ap₂}
 use Rattle.std.proofs.Common.{if◌then◌else◌}
+use Rattle.std.proofs.lemmas.Bool.{eqb-true}
 use Rattle.std.specs.Option.{option_map_or}
 use Rattle.pam_tables.specs.Access.{LineText, permission_of, is_passed_over, has_tokens, line_of_fields, fields_of, some_line, access_line}
 use Rattle.pam_tables.specs.Access.{◌>>=◌, lines_of, table_lines, table_with, table_of, users_match, line_matches, answer_with, first_answer}
@@ -19,12 +20,55 @@ use Rattle.pam_tables.specs.declared.access.AccessAnswer.{AccessAnswer}
 use Rattle.pam_tables.specs.declared.access.AccessAnswer.TheVariants.{Granted}
 use Rattle.pam_tables.specs.declared.address.Address.{Address}
 use Rattle.pam_tables.specs.declared.access.Permission.{Permission}
+use Rattle.pam_tables.specs.declared.access.Permission.TheVariants.{Grant, Deny}
 use Rattle.pam_tables.specs.declared.error.TableFault.{TableFault}
-use Rattle.pam_tables.specs.declared.error.TableFault.TheVariants.{MissingField}
+use Rattle.pam_tables.specs.declared.error.TableFault.TheVariants.{BadPermission, MissingField}
 use Rattle.pam_tables.specs.declared.lists.Mark.{Mark}
 use Rattle.pam_tables.specs.declared.login.Origin.{Origin}
 use Rattle.pam_tables.specs.declared.login.Origin.TheVariants as places
 use Rattle.pam_tables.proofs.ReadSteps.{checked_passes}
+
+-- ---- a permission
+
+no_minus : (t : Bool) (p : Permission) → Ok p ≡ (if t && false then Ok Deny else Err BadPermission) → ⊥
+no_minus true p e = cc
+no_minus false p e = cc
+
+neither_sign : (b : ℕ) (p : Permission) → (b == 43) ≡ false → (b == 45) ≡ false → Ok p ≡ permission_of (b ∷ []) → ⊥
+unfolding permission_of
+neither_sign b p e f h =
+    let read : Ok p ≡ (if false && true then Ok Grant else if false && true then Ok Deny else Err BadPermission) = rw (e, f) at h in cc
+
+-- a permission has no blanks at its ends
+plus_or_minus : (b : ℕ) (more : List ℕ) (p : Permission) → Ok p ≡ permission_of (b ∷ more) → (more ≡ []) × ((b ≡ 43) ⊎ (b ≡ 45))
+unfolding permission_of
+plus_or_minus b (c ∷ more) p h =
+    elim (b == 43) as (λ (t : Bool).
+    Ok p ≡ (if t && false then Ok Grant else if (b == 45) && false then Ok Deny else Err BadPermission) → (c ∷ more ≡ []) × ((b ≡ 43) ⊎ (b ≡ 45))) [
+      | true ↦ λ e. absurd (no_minus (b == 45) p e)
+      | false ↦ λ e. absurd (no_minus (b == 45) p e)
+    ] h
+plus_or_minus b [] p h = (
+  refl,
+  elim (b == 43) as (λ (t : Bool). (b == 43) ≡ t → (b ≡ 43) ⊎ (b ≡ 45)) [
+    | true ↦ λ e. inl (eqb-true b 43 e)
+    | false ↦ λ e. elim (b == 45) as (λ (t : Bool). (b == 45) ≡ t → (b ≡ 43) ⊎ (b ≡ 45)) [
+      | true ↦ λ f. inr (eqb-true b 45 f)
+      | false ↦ λ f. absurd (neither_sign b p e f h)
+    ] refl
+  ] refl,
+)
+
+pub permission_kept : (text : List ℕ) (p : Permission) → Ok p ≡ permission_of text → Ok p ≡ permission_of (trimmed text)
+permission_kept [] p h = h
+permission_kept (b ∷ more) p h =
+    let sign = plus_or_minus b more p h in
+    elim sign.1 [
+      | inl plus ↦ subst (λ (x : ℕ). Ok p ≡ permission_of (x ∷ more) → Ok p ≡ permission_of (trimmed (x ∷ more))) (sym plus)
+          (subst (λ (xs : List ℕ). Ok p ≡ permission_of (43 ∷ xs) → Ok p ≡ permission_of (trimmed (43 ∷ xs))) (sym sign.0) (λ e. e)) h
+      | inr minus ↦ subst (λ (x : ℕ). Ok p ≡ permission_of (x ∷ more) → Ok p ≡ permission_of (trimmed (x ∷ more))) (sym minus)
+          (subst (λ (xs : List ℕ). Ok p ≡ permission_of (45 ∷ xs) → Ok p ≡ permission_of (trimmed (45 ∷ xs))) (sym sign.0) (λ e. e)) h
+    ]
 
 -- ---- a line of three fields
 

@@ -1,8 +1,9 @@
 -- Lists without bytes that a fault needs.
 use Rattle.std.proofs.Common.{◌≡◌, ◌∙◌, ◌||◌, ◌==◌, ℕ, zero, suc, length, arith, one-add, Bool, true, false, List, [], ◌∷◌, take, drop, map, filter, cond}
-use Rattle.std.proofs.Common.{codes, nat_eq, Option, Some, None, Result, Ok, refl, ap}
+use Rattle.std.proofs.Common.{codes, nat_eq, Option, Some, None, Result, Ok, refl, ap, sym}
 use Rattle.std.proofs.lemmas.Bool.{eqb-true, le-ltb}
 use Rattle.std.specs.List.{list_any, position_or_len, slice_split, onto_first, starts_with}
+use Rattle.pam_text.proofs.Cutting.{or_false}
 use Rattle.pam_text.proofs.Searching.{same_byte}
 use Rattle.pam_tables.specs.Error.{verdict}
 use Rattle.pam_tables.specs.Lines.{has_bytes, is_among, trimmed, trimmed_start}
@@ -12,6 +13,14 @@ use Rattle.pam_tables.specs.declared.error.TableFault.{TableFault}
 use Rattle.pam_tables.proofs.Cutting.{FirstPart, split_parts}
 use Rattle.pam_tables.proofs.MarkSteps.{group_passes, plain_passes}
 use Rattle.pam_tables.proofs.TokenSteps.{neither, passes}
+
+-- of two tests the other one, where none passes the second
+pub any_other : (p q : ℕ → Bool) (text : List ℕ) → list_any q text ≡ false → list_any p text ≡ list_any (λ b. p b || q b) text
+any_other p q [] h = refl
+any_other p q (b ∷ bs) h =
+    let both = neither (q b) (list_any q bs) h in
+    ap (λ (t : Bool). p b || t) (any_other p q bs both.1)
+    ∙ ap (λ (t : Bool). t || list_any (λ c. p c || q c) bs) (sym (ap (λ (t : Bool). p b || t) both.0 ∙ or_false (p b)))
 
 module _ (bad : ℕ → Bool) where
   -- a text without such bytes

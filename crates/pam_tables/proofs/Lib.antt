@@ -11,6 +11,7 @@ pub mod LineSteps
 pub mod ListSteps
 pub mod MarkSteps
 pub mod NamedSteps
+pub mod NetworkSteps
 pub mod OptionSteps
 pub mod PieceSteps
 pub mod ReadSteps

@@ -6,7 +6,7 @@ ghost use Rattle.pam_tables.specs.Access.{LineText, permission_of, is_passed_ove
 ghost use Rattle.pam_tables.specs.Access.{access_line, lines_of, table_of, answer_with, access_answer};
 ghost use Rattle.pam_tables.specs.inner.Access.{permission_for};
 ghost use Rattle.pam_tables.specs.Error.{Gives, verdict};
-ghost use Rattle.pam_tables.specs.Lines.{cut_at, is_among};
+ghost use Rattle.pam_tables.specs.Lines.{cut_at, is_among, trimmed};
 ghost use Rattle.pam_tables.specs.Login.{login_view};
 ghost use Rattle.pam_tables.specs.inner.Tokens.{known_mark};
 
@@ -51,6 +51,16 @@ impl Permission {
             Ok(Permission::Deny)
         } else {
             Err(TableFault::BadPermission)
+        }
+    }
+
+    /// Reads the first field of a line. Most have no blanks around the permission, so that is tried first.
+    fn of_field(text: &[u8]) -> Result<Permission, TableFault>
+        ensures { result ≡ permission_of (trimmed text.now) }
+    {
+        match Permission::read(text) {
+            Ok(permission) => Ok(permission),
+            Err(_) => Permission::read(trim(text)),
         }
     }
 
@@ -140,7 +150,7 @@ fn check_fields(fields: AccessFields<'_>, separators: &ByteSet<'_>) -> Result<()
     if !has_token(fields.origins, separators) {
         return Err(TableFault::MissingField);
     }
-    Permission::read(trim(fields.permission))?;
+    Permission::of_field(fields.permission)?;
     check_users(fields.users, separators)?;
     check_origins(fields.origins, separators)
 }
@@ -190,7 +200,7 @@ fn matching(
     if !list_matches(origin, fields.origins, &separators.tokens) {
         return None;
     }
-    Permission::read(trim(fields.permission)).ok()
+    Permission::of_field(fields.permission).ok()
 }
 
 /// An access table of pam_access(8), as in access.conf(5). Borrows the bytes it was read from.

@@ -2,6 +2,7 @@
 
 ghost use Rattle.std.specs.Prelude.{◌≡◌, ◌≤◌, ◌-◌, ◌^◌, IsSome, IsTrue};
 ghost use Rattle.pam_tables.specs.Error.{verdict};
+ghost use Rattle.pam_tables.specs.Address.{v4_of};
 ghost use Rattle.pam_tables.specs.Network.{ones, v4_mask_of, v6_mask_of, is_in_network, network_of, bits_agree};
 
 use crate::address::{Address, numeral, v4};
@@ -84,13 +85,14 @@ fn v6_agree(first: u128, second: u128, mask: u128) -> bool
     first & mask == second & mask
 }
 
-/// Whether a text is a mask of both families: a number of bits up to 32.
-fn is_any_mask(text: &[u8]) -> bool
-    ensures v4 { IsTrue result → IsSome (v4_mask_of text.now) }
-    ensures v6 { IsTrue result → IsSome (v6_mask_of text.now) }
+/// Whether a mask is a number of bits that is no fault after `address`. An IPv6 address, which takes long to read, is not
+/// read for this.
+fn is_bits_of(mask: &[u8], address: &[u8]) -> bool
+    ensures v4 { IsTrue result → IsSome (v4_of address.now) → IsSome (v4_mask_of mask.now) }
+    ensures v6 { IsTrue result → IsSome (v6_mask_of mask.now) }
 {
-    match numeral(10, 3, text) {
-        Some(count) => count <= 32,
+    match numeral(10, 3, mask) {
+        Some(count) => count <= 32 || (count <= 128 && v4(address).is_none()),
         None => false,
     }
 }
@@ -125,11 +127,11 @@ impl Network {
     pub(crate) fn check(text: &[u8]) -> Result<(), TableFault>
         ensures { result ≡ verdict (network_of text.now) }
     {
-        let (_, mask) = match cut(text, b'/') {
+        let (address, mask) = match cut(text, b'/') {
             Some(parts) => parts,
             None => return Ok(()),
         };
-        if is_any_mask(mask) {
+        if is_bits_of(mask, address) {
             return Ok(());
         }
         match Network::read(text) {

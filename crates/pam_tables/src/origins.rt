@@ -16,7 +16,6 @@ use crate::lists::Mark;
 use crate::login::Origin;
 use crate::network::Network;
 use crate::tokens::{Matcher, check_tokens};
-use memchr::memchr2;
 use pam_codes::is_name;
 use pam_text::ByteSet;
 
@@ -138,7 +137,7 @@ fn place_mark(token: &[u8], place: &[u8]) -> Mark
 fn has_at_or_slash(text: &[u8]) -> bool
     ensures { result ≡ list_any (λ b. b == 64 || b == 47) text.now }
 {
-    memchr2(b'@', b'/', text).is_some()
+    text.contains(&b'/') || text.contains(&b'@')
 }
 
 /// Checks a list of origins. Only a token with an `@` or a slash can have a fault.

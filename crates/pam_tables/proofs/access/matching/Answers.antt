@@ -1,6 +1,5 @@
 use Rattle.std.proofs.Common.{◌∙◌, sym, ap}
 use Rattle.std.specs.Result.{result_ok}
-use Rattle.pam_tables.specs.Access.{permission_of}
 use Rattle.pam_tables.specs.inner.Access.{permission_for}
 use Rattle.pam_tables.proofs.AccessSteps.{passed_entry, no_entry, line_read, users_miss, origins_miss, line_decides}
 use Rattle.pam_tables.proofs.access.matching.Goals as goal
@@ -27,6 +26,6 @@ returns-then-not-list_matches-2 c = λ n entry h.
 pub returns : goal.returns
 returns c = λ n entry h.
     let line = line_read _ _ n _ (sym c.is_passed_over.ensures ∙ c.if-is_passed_over.false) _ _ _ c.in_ok-fields.ensures entry h in
-    c.ok.ensures.value ∙ ap result_ok (c.read.ensures ∙ ap permission_of c.trim.ensures ∙ line.whole.permission)
+    c.ok.ensures.value ∙ ap result_ok (c.of_field.ensures ∙ line.whole.permission)
     ∙ line_decides _ _ _ _ _ _ _ _ entry line (λ us k. sym c.if-not-list_matches.false ∙ c.list_matches.ensures us k)
     (λ os k. sym c.if-not-list_matches-2.false ∙ c.list_matches-2.ensures os k)
