@@ -144,7 +144,7 @@ pub(crate) struct PageJson<'p> {
 
 impl PageJson<'_> {
     /// Writes the page. Finds a cursor that is refused before the first byte.
-    // Never inlined, else the stack has room for its values under every command.
+    // Not inlined, so that a command uses no stack for the values of the others.
     #[inline(never)]
     pub(crate) fn write<W: Write>(&self, alloc: Global, out: &mut Out<W>) -> Result<(), Fault>
         ensures { PrintsBy W.contents IsJson out.old out.new result (Page (page_value self.now.page.now)) }

@@ -110,7 +110,7 @@ fn put_stacks<L: CompareLines, W: Write>(
 }
 
 /// Writes what changes, in the order of the stacks, and the last line, and flushes.
-// Never inlined, else the stack has room for its values under every command.
+// Not inlined, so that a command uses no stack for the values of the others.
 #[inline(never)]
 pub fn write_compared<L: CompareLines, W: Write>(
     lines: &L,

@@ -91,7 +91,7 @@ fn write_graph<W: Write>(
 }
 
 /// Writes a drawing. Allocates its title and its layout before the first byte.
-// Never inlined, else the stack has room for its values under every command.
+// Not inlined, so that a command uses no stack for the values of the others.
 #[inline(never)]
 pub(crate) fn write_drawing<W: Write>(
     alloc: Global,

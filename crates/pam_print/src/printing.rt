@@ -43,7 +43,7 @@ pub fn print<W: Write>(
 }
 
 /// Writes the JSON of a reply, or its text if it has none.
-// Never inlined, else the stack has room for its values under every command.
+// Not inlined, so that a command uses no stack for the values of the others.
 #[inline(never)]
 fn print_json<W: Write>(alloc: Global, reply: &Reply<'_>, out: &mut Out<W>) -> Result<(), Fault>
     ensures { PrintsBy W.contents (IsTextIn Json) out.old out.new result (reply_view reply.now) }

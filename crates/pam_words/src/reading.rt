@@ -353,7 +353,7 @@ fn command_name<S: AsStr>(words: &[S]) -> Option<&str>
 }
 
 /// Reads the words of the command line, the first of which is the name of the program. Borrows them.
-// Never inlined: else its caller has room for the commands and options, of 15 kB, while it answers.
+// Not inlined, so that the 15 kB of commands and options are off the stack while its caller answers.
 #[inline(never)]
 pub fn request<'a, S: AsStr>(alloc: Global, words: &'a [S]) -> Result<Request<'a>, Usage>
     ensures reads { MatchOption (subcommand_of pamcheck_app (map S.text words.entry.now)) (IsRefusal result) (λ p. Reads (request_of p.0 p.1) result) }

@@ -179,7 +179,7 @@ fn accept_name<'a>(given: &CheckFiles<'a>) -> &'a str
 }
 
 /// Returns the findings of the services that are named, or of all.
-// Never inlined, else the stack has room for its values under every command.
+// Not inlined, so that a command uses no stack for the values of the others.
 #[inline(never)]
 pub(super) fn checked<'a>(
     alloc: Global,

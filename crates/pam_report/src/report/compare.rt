@@ -169,7 +169,7 @@ fn files_of<'a>(side: Option<&'a SideInputs>) -> Option<&'a Files>
 }
 
 /// Returns what changes for the service and the kind that are named, or for all.
-// Never inlined, else the stack has room for its values under every command.
+// Not inlined, so that a command uses no stack for the values of the others.
 #[inline(never)]
 pub(super) fn compared<'a>(
     alloc: Global,

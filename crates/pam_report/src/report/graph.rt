@@ -90,7 +90,7 @@ fn answer_known<'a>(
 }
 
 /// Returns the graph of the stack that is asked for.
-// Never inlined, else the stack has room for its values under every command.
+// Not inlined, so that a command uses no stack for the values of the others.
 #[inline(never)]
 pub(super) fn answer_graph<'a>(
     sources: &Sources<'_, '_>,

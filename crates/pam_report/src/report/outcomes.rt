@@ -136,7 +136,7 @@ fn answer_known<'a>(
 }
 
 /// Returns the outcomes of the stack that is asked for.
-// Never inlined, else the stack has room for its values under every command.
+// Not inlined, so that a command uses no stack for the values of the others.
 #[inline(never)]
 pub(super) fn answer_outcomes<'a>(
     sources: &Sources<'_, '_>,

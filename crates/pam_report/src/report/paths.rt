@@ -107,7 +107,7 @@ impl<'a> PathsPage<'a> {
 }
 
 /// Renders all paths.
-// Never inlined, as the next two: else the stack has room for the explorers of all three.
+// Not inlined, like the next two, so that the stack holds the explorer of one of them at a time.
 #[inline(never)]
 fn render_all<T, R: PageRenderer<T>>(
     paging: &Paging<'_>,
@@ -233,7 +233,7 @@ fn answer_known<'a>(
 }
 
 /// Returns the page of the stack that is asked for.
-// Never inlined, else the stack has room for its values under every command.
+// Not inlined, so that a command uses no stack for the values of the others.
 #[inline(never)]
 pub(super) fn answer_paths<'a>(
     sources: &Sources<'_, '_>,
