@@ -1,7 +1,7 @@
 -- The rows that are left after a row of a family.
 use Rattle.std.proofs.Common.{◌≡◌, ◌∙◌, sym, ap, subst, refl, ℕ, zero, suc, ◌+◌, ◌<◌, ◌≤◌, Bool, true, false, Option, Some, None, slice_get}
 use Rattle.std.proofs.Common.{List, [], ◌∷◌, ◌++◌, drop, get_or, length, min, arith, ⊎_elim}
-use Rattle.std.proofs.lemmas.Bool.{cases_lt}
+use Rattle.std.proofs.lemmas.Bool.{cases_lt, leb-true}
 use Rattle.std.proofs.lemmas.List.{get_or_past, length-append}
 use Rattle.std.specs.List.{list_all}
 use Rattle.std.specs.Option.{option_map}
@@ -35,9 +35,10 @@ all_have_rows : list_all has_rows families ≡ true
 unfolding families
 all_have_rows = refl
 
-count : length explanations ≡ 96
+-- any bound below 2^64 will do
+all_are_few : length explanations ≤ 1000
 unfolding families
-count = refl
+all_are_few = leb-true (length explanations) 1000 refl
 
 are_few : length families ≡ 8
 unfolding families
@@ -76,7 +77,7 @@ module _ (family row next : ℕ) (found : Option Declared) (is : option_map expl
   same_family first some step =
       let there = row_there (get_or families family []) row (explanation_view first) (sym is ∙ ap (option_map explanation_view) some) in
       let short = short_at families family in
-      let few = count in
+      let few = all_are_few in
       let one : suc row ≡ next = omega (arith, step, there.1, short, few) in
       ap (λ (rows : List Explanation). rows ++ rows_of (drop (family + 1) families)) there.0
       ∙ ap (λ (k : ℕ). explanation_view first ∷ rows_after family k) one
