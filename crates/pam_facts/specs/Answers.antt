@@ -3,13 +3,13 @@ use Rattle.std.specs.Prelude.{◌≡◌, ℕ, ◌<◌, ◌≤◌, ◌&&◌, Bool
 use Rattle.std.specs.List.{list_any}
 use Rattle.std.specs.Option.{option_map_or}
 use Rattle.std.specs.Str.{bytes_eq}
-use Rattle.pam_codes.specs.Code.{all_codes, ignored, new_authtok_reqd, success}
+use Rattle.pam_codes.specs.Code.{all_codes, auth_err, ignored, module_unknown, new_authtok_reqd, success}
 use Rattle.pam_codes.specs.Set.{codes_where, is_in}
 use Rattle.pam_conf.specs.Stack.{Items, ModuleText, module_at}
 use Rattle.pam_conf.specs.declared.rule.Kind.{Kind}
 use Rattle.pam_paths.specs.Known.{may_answer}
 use Rattle.pam_paths.specs.declared.knowledge.Known.{Known}
-use Rattle.pam_facts.specs.Facts.{codes_in, module_unknown}
+use Rattle.pam_facts.specs.Facts.{codes_in}
 use Rattle.pam_facts.specs.Fitting.{fact_of}
 use Rattle.pam_facts.specs.Rows.{Row}
 use Rattle.pam_facts.specs.declared.answers.Checks.{Checks}
@@ -17,9 +17,6 @@ use Rattle.pam_facts.specs.declared.answers.Checks.TheVariants.{Fail, MaySucceed
 use Rattle.pam_facts.specs.declared.row.Class.{Class}
 use Rattle.pam_facts.specs.declared.row.Class.TheVariants as classes
 use Rattle.pam_facts.specs.declared.row.Fact.{Fact}
-
-abbrev pub auth_err : ℕ
-auth_err = 7
 
 -- the answers with which a required module lets go on
 abbrev pub successes : List ℕ

@@ -1,6 +1,6 @@
 -- What is known of a module.
 use Rattle.std.specs.Prelude.{ℕ, ◌==◌, Bool, false, List, [], ◌∷◌, not}
-use Rattle.pam_codes.specs.Code.{all_codes}
+use Rattle.pam_codes.specs.Code.{all_codes, module_unknown}
 use Rattle.pam_conf.specs.declared.rule.Kind.{Kind}
 use Rattle.pam_conf.specs.declared.rule.Kind.TheVariants.{Auth, Account, Password, Session}
 use Rattle.pam_facts.specs.declared.row.Class.TheVariants.{Checks}
@@ -29,9 +29,6 @@ or_all (code ∷ codes) = code ∷ codes
 -- THE CODES that a module can answer in a kind
 abbrev pub codes_in : Kind → Fact → List ℕ
 codes_in kind fact = or_all (codes_of kind fact.codes)
-
-abbrev pub module_unknown : ℕ
-module_unknown = 28
 
 abbrev pub is_unknown_alone : List ℕ → Bool
 is_unknown_alone (code ∷ []) = code == module_unknown

@@ -1,11 +1,11 @@
 -- Laws of facts.
 use Rattle.std.specs.Prelude.{◌≡◌, ℕ, Bool, false, List, [], ◌∷◌, ◌++◌, if◌then◌else◌, Option}
-use Rattle.pam_codes.specs.Code.{ignored, new_authtok_reqd, success}
+use Rattle.pam_codes.specs.Code.{ignored, module_unknown, new_authtok_reqd, success}
 use Rattle.pam_codes.specs.Set.{is_in}
 use Rattle.pam_conf.specs.Stack.{ModuleText}
 use Rattle.pam_conf.specs.declared.rule.Kind.{Kind}
 use Rattle.pam_facts.specs.Answers.{is_there, module_answers}
-use Rattle.pam_facts.specs.Facts.{has_function, module_unknown}
+use Rattle.pam_facts.specs.Facts.{has_function}
 use Rattle.pam_facts.specs.Fitting.{fact_of, last_fact}
 use Rattle.pam_facts.specs.Rows.{Row}
 use Rattle.pam_facts.specs.declared.answers.Checks.{Checks}

@@ -1,9 +1,9 @@
 -- The codes of modules that are not there: pam.conf(5), module-path.
 use Rattle.std.specs.Prelude.{ℕ, List, [], ◌∷◌, if◌then◌else◌, Option, Some, None, unwrap_or}
 use Rattle.std.specs.Option.{option_map_or}
+use Rattle.pam_codes.specs.Code.{module_unknown}
 use Rattle.pam_conf.specs.Stack.{Items, ModuleText, module_at}
 use Rattle.pam_facts.specs.Answers.{is_there}
-use Rattle.pam_facts.specs.Facts.{module_unknown}
 
 abbrev pub if_missing : Option (List (List ℕ)) → ModuleText → Option (List ℕ)
 if_missing there m = if is_there there m.path then None else Some (module_unknown ∷ [])

@@ -4,24 +4,20 @@ ghost use Rattle.std.specs.Prelude.{◌≡◌, ◌≢◌, ◌∷◌, ◌≤◌, 
 ghost use Rattle.std.specs.List.{list_any};
 ghost use Rattle.std.specs.Option.{option_map};
 ghost use Rattle.std.specs.Str.{bytes_eq};
-ghost use Rattle.pam_codes.specs.Code.{ignored, new_authtok_reqd, success};
+ghost use Rattle.pam_codes.specs.Code.{auth_err, ignored, module_unknown, new_authtok_reqd, success};
 ghost use Rattle.pam_codes.specs.Set.{codes_where};
 ghost use Rattle.pam_conf.specs.ItemsOf.{module_text};
 ghost use Rattle.pam_conf.specs.Stack.{module_count};
 ghost use Rattle.pam_paths.specs.Known.{set_for};
-ghost use Rattle.pam_facts.specs.Answers.{Allows, answers_at, answers_of, auth_err, is_there, left_out, module_answers, successes};
-ghost use Rattle.pam_facts.specs.Facts.{module_unknown};
+ghost use Rattle.pam_facts.specs.Answers.{Allows, answers_at, answers_of, is_there, left_out, module_answers, successes};
 ghost use Rattle.pam_facts.specs.declared.answers.Checks.TheVariants.{Fail, MaySucceed};
 
 use crate::facts::Facts;
-use crate::row::{Class, Fact, MODULE_UNKNOWN};
+use crate::row::{Class, Fact};
 use pam_codes::{Code, CodeSet};
 use pam_conf::{Kind, Module, Stack};
 use pam_paths::Known;
 use pam_text::Texts;
-
-/// The number of the code of a module that fails and has no other code.
-const AUTH_ERR: u8 = 7;
 
 /// Whether modules that check who logs in may succeed.
 #[derive(Clone, Copy)]
@@ -34,20 +30,14 @@ enum Checks {
 pub(crate) fn module_unknown() -> CodeSet
     ensures { result ≡ module_unknown ∷ [] }
 {
-    match Code::new(MODULE_UNKNOWN) {
-        Some(code) => CodeSet::single(code),
-        None => unreachable!(),
-    }
+    CodeSet::single(Code::MODULE_UNKNOWN)
 }
 
 /// The failure of a module whose other codes are all left out.
 fn failure() -> CodeSet
     ensures { result ≡ auth_err ∷ [] }
 {
-    match Code::new(AUTH_ERR) {
-        Some(code) => CodeSet::single(code),
-        None => unreachable!(),
-    }
+    CodeSet::single(Code::AUTH_ERR)
 }
 
 fn successes() -> CodeSet

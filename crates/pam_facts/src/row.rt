@@ -9,9 +9,6 @@ use crate::kinds::Kinds;
 use pam_codes::{Code, CodeSet};
 use pam_conf::Kind;
 
-/// The number of the code that libpam answers for a module that is not there or has no function.
-pub(crate) const MODULE_UNKNOWN: u8 = 28;
-
 /// What the success of a module in `auth` says.
 #[derive(Clone, Copy, Debug, PartialEq, Eq)]
 pub enum Class {
@@ -97,7 +94,7 @@ fn is_unknown_alone(codes: CodeSet) -> bool
     ensures { result ≡ is_unknown_alone codes }
 {
     match codes.least() {
-        Some(code) => codes.len() == 1 && code.number() == MODULE_UNKNOWN,
+        Some(code) => codes.len() == 1 && code == Code::MODULE_UNKNOWN,
         None => false,
     }
 }
