@@ -1,30 +1,15 @@
 -- The codes that are possible for names.
 use Rattle.std.proofs.Common.{◌≡◌, ◌<◌, ◌∙◌, ◌&&◌, ℕ, Bool, true, false, List, [], ◌∷◌, ◌++◌, get_or, length, ap, arith, inl, inr, refl, subst, sym}
-use Rattle.std.specs.Prelude.{not}
 use Rattle.std.proofs.Math.ListN.{set}
 use Rattle.std.proofs.lemmas.Bool.{and_from, and_parts, cases_eq, cases_lt}
 use Rattle.std.proofs.lemmas.List.{get_or-set_other, get_or-set_same, get_or_append_left, get_or_past, get_or_push, length_push}
 use Rattle.pam_codes.specs.Code.{all_codes}
 use Rattle.pam_codes.specs.Set.{codes_where, is_in}
-use Rattle.pam_codes.specs.inner.SetBits.{codes_where-same, is_in-codes_where}
+use Rattle.pam_codes.specs.inner.SetBits.{is_in-codes_where}
 use Rattle.pam_dispatch.specs.Runs.{Assignment}
 use Rattle.pam_compare.specs.inner.Naming.{IsPossible}
 
 -- COMMON CODES
-
-both : (a b : Bool) → (a && not (a && not b)) ≡ (a && b)
-both true true = refl
-both true false = refl
-both false b = refl
-
-pub common-is : (one other r s : List ℕ) → r ≡ codes_where (λ c. is_in c one && not (is_in c other)) →
-    s ≡ codes_where (λ c. is_in c one && not (is_in c r)) → s ≡ codes_where (λ c. is_in c one && is_in c other)
-common-is one other r s first second =
-    second
-    ∙ codes_where-same _ _ (λ code low.
-    ap (λ (t : Bool). is_in code one && not t)
-    (ap (is_in code) first ∙ is_in-codes_where (λ c. is_in c one && not (is_in c other)) code low)
-    ∙ both (is_in code one) (is_in code other))
 
 pub in-common : (one other : List ℕ) (code : ℕ) → code < 31 → is_in code one ≡ true → is_in code other ≡ true →
     is_in code (codes_where (λ c. is_in c one && is_in c other)) ≡ true

@@ -15,7 +15,7 @@ ghost use Rattle.pam_compare.specs.inner.Turn.{IsTurn, first_of};
 ghost use Rattle.pam_compare.specs.inner.Ways.{AreOrdered, AreReached, AreUnique, AreWalked, HasOneMore, IsFresh, IsNaming, IsWalkTo, IsWayTo};
 
 use crate::held::{HeldAnswer, Step, held_after, held_codes};
-use crate::naming::{common, possible_at};
+use crate::naming::possible_at;
 use crate::node::{Node, Pair, class_of, places_after};
 use crate::nodes::{Nodes, Way};
 use crate::turn::{Turn, turn_name};
@@ -144,7 +144,7 @@ pub(crate) fn expand(
     let name = turn_name(pair.naming, fork.turn);
     let mut left = codes_at(pair, fork);
     while let Some(code) = first_usual(left) {
-        let class = common(class_of(pair, fork.node, fork.turn, code, left), left);
+        let class = class_of(pair, fork.node, fork.turn, code, left).intersection(left);
         let way = Way {
             parent: fork.index,
             name,

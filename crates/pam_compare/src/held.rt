@@ -14,7 +14,7 @@ ghost use Rattle.pam_compare.specs.inner.Turn.{PassesNoOther};
 ghost use Rattle.pam_compare.specs.inner.Nodes.{Keeps};
 ghost use Rattle.pam_compare.specs.inner.Trails.{AreAll, IsHeldAfter, IsPast, IsSettled};
 
-use crate::naming::{Naming, common, possible_at, value_at};
+use crate::naming::{Naming, possible_at, value_at};
 use crate::turn::Turn;
 use pam_codes::{CODES, CodeSet};
 use pam_dispatch::Memory;
@@ -70,7 +70,7 @@ fn codes_left(answer: HeldAnswer, name: usize, codes: CodeSet) -> CodeSet
     if answer.name != name {
         return codes;
     }
-    common(codes, answer.codes)
+    codes.intersection(answer.codes)
 }
 
 /// Of these codes, those that what is held leaves to the module with this name.

@@ -55,14 +55,14 @@ follow-requires-clause-step c =
     let member = c.in-Some.ensures.member in
     let test : ℕ → Bool = λ x. is_in x c.class_of.result && is_in x c.loop-code.left in
     let name = c.turn_name-name.ensures in
-    let listed : (d : ℕ) → is_in d c.common-class.result ≡ true → is_in d (codes_where test) ≡ true = λ d h. sym (ap (is_in d) c.common-class.ensures) ∙ h in
-    let parts : (d : ℕ) → is_in d c.common-class.result ≡ true → (is_in d c.class_of.result ≡ true) × (is_in d c.loop-code.left ≡ true) =
+    let listed : (d : ℕ) → is_in d c.intersection-class.result ≡ true → is_in d (codes_where test) ≡ true = λ d h. sym (ap (is_in d) c.intersection-class.ensures) ∙ h in
+    let parts : (d : ℕ) → is_in d c.intersection-class.result ≡ true → (is_in d c.class_of.result ≡ true) × (is_in d c.loop-code.left ≡ true) =
     λ d h. and_parts (is_in d c.class_of.result) (is_in d c.loop-code.left) (where-passes test d (listed d h)) in
     let possible = c.args.pair.now.naming.now.possible.items in
     record {
       turn_is = c.requires.turn;
       name = name;
-      member = ap (is_in code) c.common-class.ensures ∙ in-common c.class_of.result c.loop-code.left code low (c.class_of.ensures.own low) member;
+      member = ap (is_in code) c.intersection-class.ensures ∙ in-common c.class_of.result c.loop-code.left code low (c.class_of.ensures.own low) member;
       low = λ d h. where-low test d (listed d h);
       within = λ d h. subst (λ (n : ℕ). is_in d (get_or possible n all_codes) ≡ true) (sym name)
           (c.codes_at-left.ensures.within d (c.loop-code.invariant.within d (parts d h).1));
@@ -75,8 +75,8 @@ loop-code-smaller c =
     let code = c.in-Some.code in
     let low = c.in-Some.ensures.low in
     let member = c.in-Some.ensures.member in
-    fewer-left c.loop-code.left c.common-class.result _ code low member
-    (ap (is_in code) c.common-class.ensures ∙ in-common c.class_of.result c.loop-code.left code low (c.class_of.ensures.own low) member)
+    fewer-left c.loop-code.left c.intersection-class.result _ code low member
+    (ap (is_in code) c.intersection-class.ensures ∙ in-common c.class_of.result c.loop-code.left code low (c.class_of.ensures.own low) member)
     c.without-left.ensures
 
 pub loop-code-preserved : goal.loop-code-preserved
@@ -90,8 +90,8 @@ loop-code-preserved c =
     let left = rest_of old c.args.fork.now.node.now.old in
     let right = rest_of new c.args.fork.now.node.now.new in
     let code = c.in-Some.code in
-    let test : ℕ → Bool = λ x. is_in x c.loop-code.left && not (is_in x c.common-class.result) in
-    let way : Way = record { parent = c.args.fork.now.index; name = c.turn_name-name.result; code = code; class = c.common-class.result } in
+    let test : ℕ → Bool = λ x. is_in x c.loop-code.left && not (is_in x c.intersection-class.result) in
+    let way : Way = record { parent = c.args.fork.now.index; name = c.turn_name-name.result; code = code; class = c.intersection-class.result } in
     record {
       keeps = nodes-both _ _ _ inv.keeps step.keeps;
       nodes = step.nodes;
@@ -110,22 +110,22 @@ loop-code-preserved c =
             (and_parts (is_in d c.loop-code.left) _ (where-passes test d (sym (ap (is_in d) c.without-left.ensures) ∙ here))).0 member
         | inr new ↦
             let out = (and_parts (is_in d c.loop-code.left) _ (where-passes test d (sym (ap (is_in d) c.without-left.ensures) ∙ here))).1 in
-            false≢true (sym (not-in (is_in d c.common-class.result) out) ∙ ap (λ (x : Way). is_in d x.class) new ∙ member)
+            false≢true (sym (not-in (is_in d c.intersection-class.result) out) ∙ ap (λ (x : Way). is_in d x.class) new ∙ member)
       ];
       closed = λ x d low here member one.
           let parts = and_parts (is_in x c.loop-code.left) _ (where-passes test x (sym (ap (is_in x) c.without-left.ensures) ∙ here)) in
           let small : x < 31 = where-low test x (sym (ap (is_in x) c.without-left.ensures) ∙ here) in
           let stays : is_in d c.loop-code.left ≡ true = inv.closed x d low parts.0 member one in
           let class : ℕ → Bool = λ y. is_in y c.class_of.result && is_in y c.loop-code.left in
-          elim (is_in d c.common-class.result) as (λ (b : Bool). is_in d c.common-class.result ≡ b → is_in d c.without-left.result ≡ true) [
+          elim (is_in d c.intersection-class.result) as (λ (b : Bool). is_in d c.intersection-class.result ≡ b → is_in d c.without-left.result ≡ true) [
             | true ↦ λ e.
                 let own : is_in d c.class_of.result ≡ true =
-                (and_parts (is_in d c.class_of.result) (is_in d c.loop-code.left) (where-passes class d (sym (ap (is_in d) c.common-class.ensures) ∙ e))).0 in
+                (and_parts (is_in d c.class_of.result) (is_in d c.loop-code.left) (where-passes class d (sym (ap (is_in d) c.intersection-class.ensures) ∙ e))).0 in
                 let same = one-through turn left right code d x (c.class_of.ensures.same d low own) (one-back turn left right x d one) in
-                let too : is_in x c.common-class.result ≡ true =
-                ap (is_in x) c.common-class.ensures
+                let too : is_in x c.intersection-class.result ≡ true =
+                ap (is_in x) c.intersection-class.ensures
                 ∙ in-common c.class_of.result c.loop-code.left x small (c.class_of.ensures.all x small parts.0 same) parts.0 in
-                absurd (false≢true (sym (not-in (is_in x c.common-class.result) parts.1) ∙ too))
+                absurd (false≢true (sym (not-in (is_in x c.intersection-class.result) parts.1) ∙ too))
             | false ↦ λ e.
                 ap (is_in d) c.without-left.ensures ∙ is_in-codes_where test d low ∙ and_from (is_in d c.loop-code.left) _ stays (ap not e)
           ] refl;
@@ -136,7 +136,7 @@ loop-code-preserved c =
           let fails = sym (is_in-codes_where test (a name) low) ∙ sym (ap (is_in (a name)) c.without-left.ensures) ∙ out in
           elim (is_in (a name) c.loop-code.left) as (λ (b : Bool).
           is_in (a name) c.loop-code.left ≡ b → IsMet old new c.follow.new.nodes a (old_after turn left (a name)) (new_after turn right (a name))) [
-            | true ↦ λ e. step.met a (λ n. (can n).0) holds (taken-out (is_in (a name) c.loop-code.left) (is_in (a name) c.common-class.result) e fails)
+            | true ↦ λ e. step.met a (λ n. (can n).0) holds (taken-out (is_in (a name) c.loop-code.left) (is_in (a name) c.intersection-class.result) e fails)
             | false ↦ λ e. met-kept old new _ _ a _ _ step.keeps (inv.met a can holds e)
           ] refl;
     }
@@ -151,18 +151,18 @@ follow-requires-clause-class c =
     let member = c.in-Some.ensures.member in
     let inv = c.loop-code.invariant in
     let test : ℕ → Bool = λ x. is_in x c.class_of.result && is_in x c.loop-code.left in
-    let listed : (d : ℕ) → is_in d c.common-class.result ≡ true → is_in d (codes_where test) ≡ true = λ d h. sym (ap (is_in d) c.common-class.ensures) ∙ h in
-    let parts : (d : ℕ) → is_in d c.common-class.result ≡ true → (is_in d c.class_of.result ≡ true) × (is_in d c.loop-code.left ≡ true) =
+    let listed : (d : ℕ) → is_in d c.intersection-class.result ≡ true → is_in d (codes_where test) ≡ true = λ d h. sym (ap (is_in d) c.intersection-class.ensures) ∙ h in
+    let parts : (d : ℕ) → is_in d c.intersection-class.result ≡ true → (is_in d c.class_of.result ≡ true) × (is_in d c.loop-code.left ≡ true) =
     λ d h. and_parts (is_in d c.class_of.result) (is_in d c.loop-code.left) (where-passes test d (listed d h)) in
     record {
-      set = subst IsCodeSet (sym c.common-class.ensures) (where-is_set test);
+      set = subst IsCodeSet (sym c.intersection-class.ensures) (where-is_set test);
       within = λ d h. c.codes_at-left.ensures.within d (inv.within d (parts d h).1);
       kept = λ d h i x at same. c.codes_at-left.ensures.left i x at same d (inv.within d (parts d h).1);
       alike = λ d h. c.class_of.ensures.same d (where-low test d (listed d h)) (parts d h).0;
       all = λ d small can leaves one.
           let first : is_in d c.codes_at-left.result ≡ true = c.codes_at-left.ensures.all d small can leaves in
           let stays : is_in d c.loop-code.left ≡ true = inv.closed code d small member first one in
-          ap (is_in d) c.common-class.ensures ∙ in-common c.class_of.result c.loop-code.left d small (c.class_of.ensures.all d small stays one) stays;
+          ap (is_in d) c.intersection-class.ensures ∙ in-common c.class_of.result c.loop-code.left d small (c.class_of.ensures.all d small stays one) stays;
     }
 
 pub follow-requires-clause-fresh : goal.follow-requires-clause-fresh
@@ -171,6 +171,6 @@ follow-requires-clause-fresh c j w first at parent class =
     let code = c.in-Some.code in
     let low = c.in-Some.ensures.low in
     let member = c.in-Some.ensures.member in
-    let own : is_in code c.common-class.result ≡ true =
-    ap (is_in code) c.common-class.ensures ∙ in-common c.class_of.result c.loop-code.left code low (c.class_of.ensures.own low) member in
+    let own : is_in code c.intersection-class.result ≡ true =
+    ap (is_in code) c.intersection-class.ensures ∙ in-common c.class_of.result c.loop-code.left code low (c.class_of.ensures.own low) member in
     c.loop-code.invariant.apart j w first at parent code member (ap (is_in code) class ∙ own)
