@@ -1,9 +1,9 @@
 -- Modules that a stack has still ahead, and what is held of them.
-use Rattle.std.proofs.Common.{◌≡◌, ◌≢◌, ◌<◌, ◌≤◌, ◌+◌, ◌⊎◌, ◌∙◌, ◌&&◌, ◌||◌, inl, inr, ℕ, zero, suc, Bool, true, false, cond, eqb, eq-eqb}
+use Rattle.std.proofs.Common.{◌≡◌, ◌≢◌, ◌<◌, ◌≤◌, ◌+◌, ◌⊎◌, ◌∙◌, ◌&&◌, inl, inr, ℕ, zero, suc, Bool, true, false, cond, eqb, eq-eqb}
 use Rattle.std.proofs.Common.{List, [], ◌∷◌, ◌++◌, Option, Some, None, drop, filter, length, ap, arith, refl, sym}
 use Rattle.std.specs.List.{list_any, range_with_len}
 use Rattle.std.specs.Prelude.{nat_le, not, slice_get, take}
-use Rattle.std.proofs.lemmas.Bool.{and_from, and_parts, cases_eq, eqb-true, false≢true}
+use Rattle.std.proofs.lemmas.Bool.{and_from, and_parts, cases_eq, eqb-true, false≢true, le-leb, leb-true, or_cases, or_left, or_right}
 use Rattle.pam_compare.specs.declared.held.HeldAnswer.{HeldAnswer}
 use Rattle.pam_compare.specs.declared.turn.Turn.{Turn}
 use Rattle.pam_compare.specs.declared.turn.Turn.TheVariants.{Old, New, Both}
@@ -15,40 +15,12 @@ use Rattle.pam_compare.specs.inner.Turn.{IsTurn, PassesNoOther, StaysThere}
 
 -- TESTS
 
-pub same-tests : (s t : Bool) → (s ≡ true → t ≡ true) → (t ≡ true → s ≡ true) → s ≡ t
-same-tests true true f g = refl
-same-tests true false f g = sym (f refl)
-same-tests false true f g = g refl
-same-tests false false f g = refl
-
-or-left : (s t : Bool) → s ≡ true → (s || t) ≡ true
-or-left true t e = refl
-or-left false t e = absurd (false≢true e)
-
-or-other : (s t : Bool) → t ≡ true → (s || t) ≡ true
-or-other true t e = refl
-or-other false t e = e
-
-either-of : (s t : Bool) → (s || t) ≡ true → (s ≡ true) ⊎ (t ≡ true)
-either-of true t e = inl refl
-either-of false t e = inr e
-
-le-true : (m n : ℕ) → m ≤ n → nat_le m n ≡ true
-le-true m n h = search (arith, h)
-
-le-from : (m n : ℕ) → nat_le m n ≡ true → m ≤ n
-le-from m n e = search (arith, e)
-
-not-true : (b : Bool) → not b ≡ true → b ≡ false
-not-true true e = absurd (false≢true e)
-not-true false e = refl
-
 any-in : (test : ℕ → Bool) (a n j : ℕ) → a ≤ j → j < a + n → test j ≡ true → list_any test (range_with_len a n) ≡ true
 any-in test a zero j low high t = absurd (omega (arith, low, high))
 any-in test a (suc n) j low high t =
     elim (cases_eq a j) [
-      | inl same ↦ or-left (test a) _ (ap test same ∙ t)
-      | inr other ↦ or-other (test a) _ (any-in test (a + 1) n j (omega (arith, low, other)) (omega (arith, high)) t)
+      | inl same ↦ or_left (test a) _ (ap test same ∙ t)
+      | inr other ↦ or_right (test a) _ (any-in test (a + 1) n j (omega (arith, low, other)) (omega (arith, high)) t)
     ]
 
 pub record IsIn (test : ℕ → Bool) (a n : ℕ) : Type 0 where
@@ -60,7 +32,7 @@ pub record IsIn (test : ℕ → Bool) (a n : ℕ) : Type 0 where
 any-from : (test : ℕ → Bool) (a n : ℕ) → list_any test (range_with_len a n) ≡ true → IsIn test a n
 any-from test a zero e = absurd (false≢true e)
 any-from test a (suc n) e =
-    elim (either-of (test a) _ e) [
+    elim (or_cases (test a) _ e) [
       | inl here ↦ record { number = a; low = omega arith; high = omega arith; passes = here }
       | inr later ↦
           let r = any-from test (a + 1) n later in
@@ -76,10 +48,10 @@ some-is i j e = cc
 
 may-ask : (next : Option ℕ) (number : ℕ) → may_ask next number ≡ true → (i : ℕ) × (next ≡ Some i) × (i ≤ number)
 may-ask None number e = absurd (false≢true e)
-may-ask (Some i) number e = (i, refl, le-from i number e)
+may-ask (Some i) number e = (i, refl, leb-true i number e)
 
 asks-later : (next : Option ℕ) (i number : ℕ) → next ≡ Some i → i ≤ number → may_ask next number ≡ true
-asks-later next i number e low = ap (λ (o : Option ℕ). may_ask o number) e ∙ le-true i number low
+asks-later next i number e low = ap (λ (o : Option ℕ). may_ask o number) e ∙ le-leb i number low
 
 module _ (names : List ℕ) (count modules : ℕ) where
   -- a module of the old stack, or one of the new one, that is still ahead
@@ -96,8 +68,8 @@ module _ (names : List ℕ) (count modules : ℕ) where
   pub ahead-cases : (name : ℕ) (old new : Option ℕ) → is_ahead names count modules name old new ≡ true → IsOldAhead name old ⊎ IsNewAhead name new
   unfolding is_ahead
   ahead-cases name old new e =
-      elim (either-of (nat_le name count && may_ask old name) _ e) [
-        | inl here ↦ let parts = and_parts (nat_le name count) (may_ask old name) here in inl (le-from name count parts.0, parts.1)
+      elim (or_cases (nat_le name count && may_ask old name) _ e) [
+        | inl here ↦ let parts = and_parts (nat_le name count) (may_ask old name) here in inl (leb-true name count parts.0, parts.1)
         | inr there ↦
             let r = any-from (λ j. eqb (name_of names j) name && may_ask new j) 1 modules there in
             let low = r.low in
@@ -109,13 +81,13 @@ module _ (names : List ℕ) (count modules : ℕ) where
   pub old-ahead : (name : ℕ) (old new : Option ℕ) → name ≤ count → may_ask old name ≡ true → is_ahead names count modules name old new ≡ true
   unfolding is_ahead
   old-ahead name old new most ahead =
-      or-left (nat_le name count && may_ask old name) _ (and_from (nat_le name count) (may_ask old name) (le-true name count most) ahead)
+      or_left (nat_le name count && may_ask old name) _ (and_from (nat_le name count) (may_ask old name) (le-leb name count most) ahead)
 
   pub new-ahead : (name : ℕ) (old new : Option ℕ) (j : ℕ) → 1 ≤ j → j ≤ modules → name_of names j ≡ name → may_ask new j ≡ true →
       is_ahead names count modules name old new ≡ true
   unfolding is_ahead
   new-ahead name old new j low high is ahead =
-      or-other (nat_le name count && may_ask old name) _
+      or_right (nat_le name count && may_ask old name) _
       (any-in (λ j. eqb (name_of names j) name && may_ask new j) 1 modules j low (omega (arith, high))
       (and_from (eqb (name_of names j) name) (may_ask new j) (eq-eqb (name_of names j) name is) ahead))
 

@@ -1,9 +1,10 @@
 use Rattle.std.proofs.Common.{◌≡◌, ◌∙◌, ℕ, List, ap, arith, inl, inr, sym}
+use Rattle.std.specs.Cmp.{both_ways}
 use Rattle.std.proofs.lemmas.Bool.{false≢true}
 use Rattle.pam_compare.specs.Names.{name_of}
 use Rattle.pam_compare.specs.Walks.{is_ahead, may_ask}
 use Rattle.pam_compare.specs.inner.Naming.{AreLast}
-use Rattle.pam_compare.proofs.Ahead.{ahead-cases, ahead-last, last-ahead, old-ahead, same-tests}
+use Rattle.pam_compare.proofs.Ahead.{ahead-cases, ahead-last, last-ahead, old-ahead}
 use Rattle.pam_compare.proofs.held.is_ahead.Goals as goal
 use Rattle.pam_compare.proofs.held.is_ahead.Goals.{else-name-naming-via-then-name-naming+else-may_ask, else-name-naming-via-else-name-naming}
 
@@ -36,7 +37,7 @@ returns-clause-exact c modules are positive =
     let name = c.args.name in
     let is : c.may_ask-2.result ≡ may_ask c.args.new (name_of last name) =
     c.may_ask-2.ensures.exact ∙ ap (may_ask c.args.new) (c.value_at.ensures ∙ ap (λ (l : List ℕ). name_of l name) c.deref.ensures.value) in
-    same-tests c.may_ask-2.result (is_ahead names naming.old_modules modules name c.args.old c.args.new)
+    both_ways c.may_ask-2.result (is_ahead names naming.old_modules modules name c.args.old c.args.new)
     (λ e. ahead-last names naming.old_modules modules last name c.args.old c.args.new are.names are.found positive (sym is ∙ e))
     (λ e. elim (ahead-cases names naming.old_modules modules name c.args.old c.args.new e) [
       | inl here ↦ absurd (elim c.else-name-naming.branch [
