@@ -1,9 +1,11 @@
 -- Different situations.
 use Rattle.std.proofs.Common.{◌≡◌, ◌≢◌, ◌<◌, ◌∙◌, ◌&&◌, ℕ, zero, suc, false, eqb, eq-eqb, List, [], ◌∷◌, Option, Some, None}
 use Rattle.std.proofs.Common.{get_or, length, map, ap, arith, refl, subst, sym}
-use Rattle.std.specs.List.{AllByRecursion, IsDistinct}
+use Rattle.std.specs.List.{AllByRecursion, AllPairs, IsDistinct}
 use Rattle.std.specs.Prelude.{slice_get}
 use Rattle.std.proofs.lemmas.Bool.{and_from, false≢true}
+use Rattle.std.proofs.lemmas.List.Elements.{All-from_recursion}
+use Rattle.std.proofs.lemmas.List.Kept.{AllPairs-cons}
 use Rattle.std.proofs.lemmas.Map.Keys.{IsDistinct-head, IsDistinct-tail}
 use Rattle.pam_dispatch.specs.declared.flat_item.FlatItem.{FlatItem}
 use Rattle.pam_dispatch.specs.Keys.{AreDifferent, DiffersFrom, KeyValue, rest_at}
@@ -11,7 +13,7 @@ use Rattle.pam_dispatch.specs.Runs.{asked_module}
 use Rattle.pam_compare.specs.declared.held.HeldAnswer.{HeldAnswer}
 use Rattle.pam_compare.specs.declared.held_lists.Link.{Link}
 use Rattle.pam_compare.specs.declared.situation.Situation.{Situation}
-use Rattle.pam_compare.specs.Situations.{AreApart, Standing}
+use Rattle.pam_compare.specs.Situations.{Standing}
 use Rattle.pam_compare.specs.inner.Held.{same_situation}
 use Rattle.pam_compare.specs.inner.HeldLists.{IsListed, same_link}
 use Rattle.pam_compare.proofs.Placing.{asking-key, key_in, same-rest}
@@ -95,10 +97,10 @@ module _ (old new : List FlatItem) (olds news : List KeyValue) (links : List Lin
     each-apart s (t ∷ rest) first inside apart =
         (stand-apart s t first inside.0 apart.0, each-apart s rest first inside.1 apart.1)
 
-    pub are-apart : (situations : List Situation) → AllByRecursion IsInside situations → IsDistinct same_situation situations → AreApart (map stand situations)
-    unfolding AreApart
-    are-apart [] inside distinct = tt
-    are-apart (s ∷ rest) inside distinct = (
-      each-apart s rest inside.0 inside.1 (IsDistinct-head same_situation s rest distinct),
-      are-apart rest inside.1 (IsDistinct-tail same_situation s rest distinct),
-    )
+    pub are-apart : (situations : List Situation) → AllByRecursion IsInside situations → IsDistinct same_situation situations →
+        AllPairs (λ one other. one ≢ other) (map stand situations)
+    are-apart [] inside distinct = λ i j d before within. absurd (omega (arith, within))
+    are-apart (s ∷ rest) inside distinct =
+        AllPairs-cons (λ one other. one ≢ other) (stand s) (map stand rest)
+        (All-from_recursion (λ x. stand s ≢ x) (map stand rest) (each-apart s rest inside.0 inside.1 (IsDistinct-head same_situation s rest distinct)))
+        (are-apart rest inside.1 (IsDistinct-tail same_situation s rest distinct))

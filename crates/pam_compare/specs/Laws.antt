@@ -1,6 +1,6 @@
 -- What the definitions of situations imply.
-use Rattle.std.specs.Prelude.{◌≡◌, ◌≢◌, ◌<◌, ℕ, List, [], ◌∷◌, Option, None}
-use Rattle.std.specs.List.{AllByRecursion}
+use Rattle.std.specs.Prelude.{◌≡◌, ◌≢◌, ◌<◌, ℕ, List, Option, None}
+use Rattle.std.specs.List.{AllPairs}
 use Rattle.pam_dispatch.specs.declared.flat_item.FlatItem.{FlatItem}
 use Rattle.pam_dispatch.specs.Flat.{runs_of}
 use Rattle.pam_dispatch.specs.Runs.{Assignment, Runs, asked_module}
@@ -16,14 +16,10 @@ OneSituation =
     asked_module (runs_of old) ≡ None → asked_module (runs_of new) ≡ None →
     HasMoreSituations old_allows new_allows old new partners limit → limit < 1
 
--- no two answers have one name
-unfoldable pub AreOnce : List HeldAnswer → Type 0
-AreOnce [] = Unit {0}
-AreOnce (answer ∷ rest) = AllByRecursion (λ other. other.name ≢ answer.name) rest × AreOnce rest
-
 -- wherever the walk is, it holds one answer of each name at most
 abbrev pub HeldOnce : Type 0
 HeldOnce =
     (old new : List FlatItem) (names : List ℕ) (possible : List (List ℕ)) (old_first : Order) (old_answers new_answers : Assignment)
     (answers : List HeldAnswer) (left right : Runs) (held : List HeldAnswer) →
-    IsAfter old new names possible old_first old_answers new_answers answers left right held → AreOnce held
+    IsAfter old new names possible old_first old_answers new_answers answers left right held →
+    AllPairs (λ one other. one.name ≢ other.name) held

@@ -1,6 +1,6 @@
 -- The situations that two stacks can be in, where their runs are made beside each other: pam.conf(5).
 use Rattle.std.specs.Prelude.{◌≡◌, ◌≢◌, ◌<◌, ◌≤◌, ◌+◌, ℕ, zero, suc, List, [], ◌∷◌, Option, Some, drop, length, slice_get}
-use Rattle.std.specs.List.{AllByRecursion}
+use Rattle.std.specs.List.{AllPairs}
 use Rattle.pam_dispatch.specs.declared.flat_item.FlatItem.{FlatItem}
 use Rattle.pam_dispatch.specs.declared.flat_item.FlatItem.TheVariants.{Module, Substack}
 use Rattle.pam_dispatch.specs.Flat.{modules_of, runs_of}
@@ -28,11 +28,6 @@ pub record Standing : Type 0 where
   pub old : KeyValue
   pub new : KeyValue
   pub held : List HeldAnswer
-
--- no two are equal
-unfoldable pub AreApart : List Standing → Type 0
-AreApart [] = Unit {0}
-AreApart (s ∷ rest) = AllByRecursion (λ t. s ≢ t) rest × AreApart rest
 
 -- a key that a place has: that of a module, with no more entry states than lists are open; or the one of the end
 unfoldable pub IsKeyAt : List FlatItem → List FlatItem → KeyValue → Type 0
@@ -69,7 +64,7 @@ module _ (old_allows new_allows : Allowance) (old new : List FlatItem) (partners
     pub are_possible : ArePossible old_allows new_allows (modules_of old) (modules_of new) names possible
     pub standings : List Standing
     pub more : limit < length standings
-    pub apart : AreApart standings
+    pub apart : AllPairs (λ one other. one ≢ other) standings
     pub reached : (k : ℕ) (s : Standing) → slice_get standings k ≡ Some s → IsReached names possible old_first s
     pub by_others : (j k : ℕ) (s t : Standing) (at : slice_get standings j ≡ Some s) (there : slice_get standings k ≡ Some t) →
         (reached j s at).answers ≡ (reached k t there).answers → j ≡ k
